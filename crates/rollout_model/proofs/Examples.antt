@@ -1,0 +1,34 @@
+-- The rules at their borders.
+use Rattle.rollout_model.specs.Rules.{is_word, is_token, is_filename, is_text, is_value, is_detail, is_number, is_digest}
+use Rattle.std.proofs.Common.{◌≡◌, true, false, [], ◌∷◌, refl}
+use Rattle.std.specs.Prelude.{map, replicate, codes}
+use Rattle.std.specs.Str.{is_utf8, chars}
+use lib.Utf8.{encode}
+
+words : map is_word (codes "" ∷ codes "aZ09._-" ∷ codes "a b" ∷ codes "a*" ∷ replicate 64 97 ∷ replicate 65 97 ∷ []) ≡ false ∷ true ∷ false ∷ false ∷ true ∷ false ∷ []
+words = refl
+
+tokens : map is_token (codes "1234567" ∷ codes "12345678" ∷ replicate 64 97 ∷ replicate 65 97 ∷ []) ≡ false ∷ true ∷ true ∷ false ∷ []
+tokens = refl
+
+filenames : map is_filename (codes "" ∷ codes "app-1.0_x.bin" ∷ codes "a/b" ∷ replicate 128 97 ∷ replicate 129 97 ∷ []) ≡ false ∷ true ∷ false ∷ true ∷ false ∷ []
+filenames = refl
+
+-- control characters are no part of texts; bytes that aren't UTF-8 are none
+texts : map is_text ([] ∷ codes "a b*\"" ∷ (9 ∷ []) ∷ (127 ∷ []) ∷ (31 ∷ []) ∷ (32 ∷ []) ∷ (195 ∷ 164 ∷ []) ∷ (195 ∷ []) ∷ replicate 128 97 ∷ replicate 129 97 ∷ []) ≡ false ∷ true ∷ false ∷ false ∷ false ∷ true ∷ true ∷ false ∷ true ∷ false ∷ []
+unfolding is_utf8 chars encode
+texts = refl
+
+values : map is_value ([] ∷ replicate 128 97 ∷ replicate 129 97 ∷ []) ≡ true ∷ true ∷ false ∷ []
+unfolding is_utf8 chars encode
+values = refl
+
+details : map is_detail ([] ∷ replicate 256 97 ∷ replicate 257 97 ∷ (10 ∷ []) ∷ []) ≡ true ∷ true ∷ false ∷ false ∷ []
+unfolding is_utf8 chars encode
+details = refl
+
+item_numbers : map is_number (0 ∷ 1 ∷ 2147483647 ∷ 2147483648 ∷ []) ≡ false ∷ true ∷ true ∷ false ∷ []
+item_numbers = refl
+
+digests : map is_digest (replicate 31 1 ∷ replicate 32 255 ∷ replicate 33 1 ∷ replicate 32 256 ∷ []) ≡ false ∷ true ∷ false ∷ false ∷ []
+digests = refl

@@ -1,0 +1,3 @@
+pub mod PaddedLemmas
+pub mod RuleLemmas
+pub mod Examples

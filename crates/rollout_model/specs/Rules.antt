@@ -1,0 +1,74 @@
+-- The rules of the short texts and the numbers: which letters, how long, in which range.
+use Rattle.rollout_model.specs.Limits.{word_length_limit, filename_length_limit, text_length_limit, detail_length_limit, digest_length, number_limit, token_length_least, token_length_limit}
+use Rattle.std.specs.Prelude.{ℕ, Bool, ◌&&◌, ◌||◌, not, nat_eq, nat_le, List, length, codes, Option, Some, None, if◌then◌else◌}
+use Rattle.std.specs.List.{list_any, list_all}
+use Rattle.std.specs.Char.{is_ascii_alphanumeric}
+use Rattle.std.specs.Str.{is_utf8}
+
+abbrev pub is_between : ℕ → ℕ → ℕ → Bool
+is_between low high n = nat_le low n && nat_le n high
+
+-- a letter of words, filenames and tokens: A-Z a-z 0-9 . _ -
+abbrev pub is_word_letter : ℕ → Bool
+is_word_letter b = is_ascii_alphanumeric b || list_any (λ c. nat_eq c b) (codes "._-")
+
+-- a byte of texts. The control characters U+0000 to U+001F and U+007F are single bytes in UTF-8, which stand for nothing else there
+abbrev pub is_text_letter : ℕ → Bool
+is_text_letter b = nat_le 32 b && (not (nat_eq b 127) && nat_le b 255)
+
+-- low to high such letters
+abbrev pub is_spelled : (ℕ → Bool) → ℕ → ℕ → List ℕ → Bool
+is_spelled letter low high bs = is_between low high (length bs) && list_all letter bs
+
+-- the id of a target, a tag, the key of an attribute
+abbrev pub is_word : List ℕ → Bool
+is_word bs = is_spelled is_word_letter 1 word_length_limit bs
+
+abbrev pub is_token : List ℕ → Bool
+is_token bs = is_spelled is_word_letter token_length_least token_length_limit bs
+
+abbrev pub is_filename : List ℕ → Bool
+is_filename bs = is_spelled is_word_letter 1 filename_length_limit bs
+
+-- a name, a kind or a version
+abbrev pub is_text : List ℕ → Bool
+is_text bs = is_spelled is_text_letter 1 text_length_limit bs && is_utf8 bs
+
+-- the value of an attribute
+abbrev pub is_value : List ℕ → Bool
+is_value bs = is_spelled is_text_letter 0 text_length_limit bs && is_utf8 bs
+
+-- a line that a device adds to its feedback
+abbrev pub is_detail : List ℕ → Bool
+is_detail bs = is_spelled is_text_letter 0 detail_length_limit bs && is_utf8 bs
+
+abbrev pub is_byte : ℕ → Bool
+is_byte b = nat_le b 255
+
+-- a SHA-256 digest
+abbrev pub is_digest : List ℕ → Bool
+is_digest bs = nat_eq (length bs) digest_length && list_all is_byte bs
+
+-- a number of a module, set, rollout or action
+abbrev pub is_number : ℕ → Bool
+is_number n = is_between 1 number_limit n
+
+-- ---- what the readers answer
+
+abbrev pub word_of : List ℕ → Option (List ℕ)
+word_of bs = if is_word bs then Some bs else None
+
+abbrev pub filename_of : List ℕ → Option (List ℕ)
+filename_of bs = if is_filename bs then Some bs else None
+
+abbrev pub text_of : List ℕ → Option (List ℕ)
+text_of bs = if is_text bs then Some bs else None
+
+abbrev pub value_of : List ℕ → Option (List ℕ)
+value_of bs = if is_value bs then Some bs else None
+
+abbrev pub number_of : ℕ → Option ℕ
+number_of n = if is_number n then Some n else None
+
+abbrev pub sha256_digest_of : List ℕ → Option (List ℕ)
+sha256_digest_of bs = if is_digest bs then Some bs else None

@@ -1,0 +1,98 @@
+//! Tags and the keys of attributes.
+
+ghost use Rattle.std.specs.Prelude.{◌≡◌, true, refl, nat_eq, Some};
+ghost use Rattle.std.specs.Ordering.{nat_cmp};
+ghost use Rattle.std.specs.Cmp.{on_per, partial_equiv_from_equiv};
+ghost use Rattle.std.specs.Cmp.Lexicographic.{pointwise, slice_cmp, nat_list_eq_equiv, nat_list_cmp_total, texts_po, texts_ties};
+ghost use Rattle.rollout_model.specs.Rules.{is_word, word_of};
+
+use crate::inline_bytes::InlineBytes;
+use crate::letters;
+use std::cmp::Ordering;
+use std::marker::Model;
+use std::str;
+
+/// A tag or the key of an attribute: 1 to 64 bytes of `A-Z a-z 0-9 . _ -`. Words stand in byte order.
+#[derive(Clone, Copy, Debug)]
+pub struct Word {
+    letters: InlineBytes<64>,
+}
+
+impl Model for Word {
+    ghost use Rattle.std.specs.Prelude.{◌≡◌, List, ℕ, true};
+    ghost use Rattle.rollout_model.specs.Rules.{is_word};
+
+    ghost Value = { List ℕ };
+
+    ghost view = { λ s. s.letters };
+
+    ghost invariant = { λ s. is_word s.letters ≡ true };
+
+    ghost inverse = { λ v. record { letters = v } };
+}
+
+impl Word {
+    /// The text, where it is a word. Takes no memory.
+    pub fn read(text: &str) -> Option<Word>
+        ensures { result ≡ word_of text.now }
+    {
+        if !letters::is_word_spelled(text.as_bytes(), 1, 64) {
+            return None;
+        }
+        Some(Word {
+            letters: InlineBytes::of(text.as_bytes()),
+        })
+    }
+
+    pub fn as_bytes(&self) -> &[u8]
+        ensures value { result.now ≡ self.now }
+        ensures word { is_word result.now ≡ true }
+    {
+        self.letters.as_slice()
+    }
+
+    pub fn as_str(&self) -> &str
+        ensures value { result.now ≡ self.now }
+        ensures word { is_word result.now ≡ true }
+    {
+        str::from_utf8(self.as_bytes()).unwrap()
+    }
+}
+
+impl PartialEq for Word {
+    ghost eq = { λ s t. pointwise nat_eq s t };
+
+    ghost laws = { on_per (λ s. s) (partial_equiv_from_equiv nat_list_eq_equiv) };
+
+    fn eq(&self, other: &Self) -> bool {
+        self.as_bytes() == other.as_bytes()
+    }
+}
+
+impl Eq for Word {
+    ghost laws = { nat_list_eq_equiv };
+}
+
+impl PartialOrd for Word {
+    ghost partial_cmp = { λ s t. Some (slice_cmp nat_cmp s t) };
+
+    ghost laws = { texts_po };
+
+    fn partial_cmp(&self, other: &Self) -> Option<Ordering> {
+        Some(self.cmp(other))
+    }
+}
+
+impl Ord for Word {
+    ghost cmp = { λ s t. slice_cmp nat_cmp s t };
+
+    ghost total = { nat_list_cmp_total };
+
+    ghost matches_partial_cmp = { λ s t. refl };
+
+    ghost matches_eq = { λ s t. texts_ties s t };
+
+    fn cmp(&self, other: &Self) -> Ordering {
+        self.as_bytes().cmp(other.as_bytes())
+    }
+}
