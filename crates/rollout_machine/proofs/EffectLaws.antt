@@ -10,8 +10,8 @@ use Rattle.rollout_machine.specs.Effects.{IsLast, HasSoundPlan, StartedOnly, Get
 use Rattle.rollout_machine.specs.Progress.{is_group_started, next_started, is_paused, error_begins_at, is_trigger_of}
 use Rattle.rollout_machine.specs.Ranges.{some_up_to}
 use Rattle.rollout_machine.specs.Rollouts.{Rollout, size_in}
-use Rattle.rollout_machine.specs.declared.RolloutView.{RolloutView}
-use Rattle.rollout_machine.specs.declared.Effects.{Effects}
+use Rattle.rollout_machine.specs.declared.view.RolloutView.{RolloutView}
+use Rattle.rollout_machine.specs.declared.view.Effects.{Effects}
 use Rattle.rollout_machine.proofs.Starts.{starts_one_more, last_after}
 use Rattle.rollout_machine.proofs.Tallies.{untouched, no_success, tally_same, tally_gains, tally_elsewhere, quiet, paused_after_outcome, no_error_begins}
 

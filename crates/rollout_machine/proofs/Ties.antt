@@ -15,11 +15,11 @@ use Rattle.rollout_machine.specs.RecordSteps.{is_item_number, start_group, count
 use Rattle.rollout_machine.specs.Records.{Approval, Given, GroupRecord, RolloutRecord, group_in, rollout_in, approval_of, approval_by, decided, decision_on, needs_approval}
 use Rattle.rollout_machine.specs.Rollouts.{Rollout, size_in, bounds_in, size_of}
 use Rattle.rollout_machine.specs.StateWords.{group_holding, group_numbered}
-use Rattle.rollout_machine.specs.declared.Bounds.{Bounds}
+use Rattle.rollout_machine.specs.declared.bounds.Bounds.{Bounds}
 use Rattle.std.specs.Prelude.{nat_le}
 use Rattle.rollout_machine.proofs.Cuts.{last_grows}
 use Rattle.std.proofs.lemmas.Bool.{le-leb, lt-leb}
-use Rattle.rollout_machine.specs.declared.Effects.{Effects}
+use Rattle.rollout_machine.specs.declared.view.Effects.{Effects}
 use Rattle.rollout_machine.proofs.Starts.{starts_one_more, last_after}
 use Rattle.rollout_machine.proofs.Tallies.{no_success, tally_same, tally_gains, tally_elsewhere, quiet, no_error_begins, outcomes_after}
 use Rattle.rollout_machine.proofs.EffectLaws.{feedback_follows, resume_follows, trigger_follows, settled, calm_on, calm_outcome, calm_errors}

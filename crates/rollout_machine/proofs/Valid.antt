@@ -11,7 +11,7 @@ use Rattle.rollout_machine.specs.Effects.{IsInGroup, HasSoundPlan, StartedOnly}
 use Rattle.rollout_machine.specs.Progress.{is_group_started}
 use Rattle.rollout_machine.specs.Ranges.{each_from}
 use Rattle.rollout_machine.specs.Records.{group_in, action_in, records}
-use Rattle.rollout_machine.specs.Refusals.{Refusal}
+use Rattle.rollout_model.specs.declared.refusal.Refusal.{Refusal}
 use Rattle.rollout_machine.specs.Rollouts.{Rollout, rollout_at, size_of}
 use Rattle.rollout_machine.specs.StateWords.{has_started, is_started_in, group_is_started, group_holding, is_for}
 use Rattle.rollout_machine.specs.Verdicts.{first_refusal, verdict_row, verdict, is_device_action, on_action}

@@ -1,49 +1,11 @@
--- The rules that the parts of a command keep: letters, lengths, ranges, pairs and the limits of lists.
+-- The rules that the parts of a command keep: those of the words and numbers, ranges, and the limits of lists.
+use Rattle.rollout_model.specs.Rules.{is_between, is_word, is_filename, is_text, is_value, is_detail, is_byte, is_digest, is_number}
 use Rattle.rollout_machine.specs.ByteStrings.{contains_word}
 use Rattle.rollout_machine.specs.Commands.{AddArtifact, Cancel, CancelFeedback, RolloutPlan, Start, Command, Attribute, Pause, CreateRollout, SetLabel, PutTargets, Untag, Deny, Approve, AddModule, Feedback, PutAttributes, Tag, Resume, TriggerNext, TargetRow, AddSet, Upload, Bytes, Credential}
-use Rattle.rollout_machine.specs.Limits.{word_length_limit, detail_length_limit, artifact_size_limit, group_limit, percentage_limit, filename_length_limit, attribute_limit, set_module_limit, detail_limit, tag_limit, number_limit, text_length_limit, digest_length}
-use Rattle.std.specs.Prelude.{◌≡◌, ℕ, Bool, true, ◌&&◌, ◌||◌, not, nat_eq, nat_le, List, [], ◌∷◌, length, codes, Option, Some, None}
+use Rattle.rollout_model.specs.Limits.{artifact_size_limit, group_limit, percentage_limit, attribute_limit, set_module_limit, detail_limit, tag_limit}
+use Rattle.std.specs.Prelude.{◌≡◌, ℕ, Bool, true, ◌&&◌, not, nat_eq, nat_le, List, [], ◌∷◌, length, Option, Some, None}
 use Rattle.std.specs.List.{list_any, list_all}
-use Rattle.std.specs.Char.{is_ascii_alphanumeric}
 use Rattle.std.specs.Str.{is_utf8}
-
-abbrev pub is_between : ℕ → ℕ → ℕ → Bool
-is_between low high n = nat_le low n && nat_le n high
-
--- letters
-abbrev pub is_word_letter : ℕ → Bool
-is_word_letter b = is_ascii_alphanumeric b || list_any (λ c. nat_eq c b) (codes "._-")
-
-abbrev pub is_text_letter : ℕ → Bool
-is_text_letter b = nat_le 32 b && (not (nat_eq b 127) && nat_le b 255)
-
-abbrev pub is_spelled : (ℕ → Bool) → ℕ → ℕ → Bytes → Bool
-is_spelled letter low high bs = is_between low high (length bs) && list_all letter bs
-
-abbrev pub is_word : Bytes → Bool
-is_word bs = is_spelled is_word_letter 1 word_length_limit bs
-
-abbrev pub is_filename : Bytes → Bool
-is_filename bs = is_spelled is_word_letter 1 filename_length_limit bs
-
-abbrev pub is_text : Bytes → Bool
-is_text bs = is_spelled is_text_letter 1 text_length_limit bs && is_utf8 bs
-
-abbrev pub is_value : Bytes → Bool
-is_value bs = is_spelled is_text_letter 0 text_length_limit bs && is_utf8 bs
-
-abbrev pub is_detail : Bytes → Bool
-is_detail bs = is_spelled is_text_letter 0 detail_length_limit bs && is_utf8 bs
-
-abbrev pub is_byte : ℕ → Bool
-is_byte b = nat_le b 255
-
-abbrev pub is_digest : Bytes → Bool
-is_digest bs = nat_eq (length bs) digest_length && list_all is_byte bs
-
--- a number of a module, set, rollout or action
-abbrev pub is_number : ℕ → Bool
-is_number n = is_between 1 number_limit n
 
 abbrev pub are_distinct : List Bytes → Bool
 are_distinct [] = true

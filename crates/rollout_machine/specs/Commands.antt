@@ -1,7 +1,9 @@
 -- The commands of a desk as pure values.
 use Rattle.std.specs.Prelude.{ℕ, Bool, List, Option}
-pub use Rattle.rollout_machine.specs.declared.Outcome.{Outcome}
-pub use Rattle.rollout_machine.specs.declared.Outcome.TheVariants.{Good, Bad, Gone}
+pub use Rattle.rollout_model.specs.declared.module.ModuleLabel.{ModuleLabel}
+pub use Rattle.rollout_model.specs.declared.target.Attribute.{Attribute}
+pub use Rattle.rollout_machine.specs.declared.outcome.Outcome.{Outcome}
+pub use Rattle.rollout_machine.specs.declared.outcome.Outcome.TheVariants.{Good, Bad, Gone}
 
 -- a text, a word, a token's digest or a file, by its bytes
 abbrev pub Bytes : Type 0
@@ -17,15 +19,6 @@ pub record TargetRow : Type 0 where
   pub name : Bytes
   pub digest : Bytes
   pub tags : List Bytes
-
-pub record Attribute : Type 0 where
-  pub key : Bytes
-  pub value : Bytes
-
-pub record ModuleLabel : Type 0 where
-  pub name : Bytes
-  pub kind : Bytes
-  pub version : Bytes
 
 pub record Upload : Type 0 where
   pub module_number : ℕ

@@ -7,9 +7,9 @@ use Rattle.rollout_machine.specs.Commands.{Command, Resume, TriggerNext, Outcome
 use Rattle.rollout_machine.specs.Counts.{tally, reaches, is_outcome}
 use Rattle.rollout_machine.specs.Progress.{is_group_started, is_paused}
 use Rattle.rollout_machine.specs.Rollouts.{success_at, error_at, Rollout, first_of, size_in, size_of}
-use Rattle.rollout_machine.specs.declared.GroupView.{GroupView}
-use Rattle.rollout_machine.specs.declared.RolloutView.{RolloutView}
-use Rattle.rollout_machine.specs.declared.Effects.{Effects}
+use Rattle.rollout_machine.specs.declared.view.GroupView.{GroupView}
+use Rattle.rollout_machine.specs.declared.view.RolloutView.{RolloutView}
+use Rattle.rollout_machine.specs.declared.view.Effects.{Effects}
 
 -- l is the last started group, 0 before the start
 pub record IsLast (x : Rollout) (r : ℕ) (h : CommandList) (l : ℕ) : Type 0 where

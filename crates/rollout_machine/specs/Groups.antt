@@ -1,6 +1,6 @@
 -- How members are cut into groups.
 use Rattle.std.specs.Prelude.{Bool, ◌&&◌, nat_le, ℕ, ◌+◌, ◌-◌, ◌*◌, ◌/◌, List}
-use Rattle.rollout_machine.specs.declared.Bounds.{Bounds}
+use Rattle.rollout_machine.specs.declared.bounds.Bounds.{Bounds}
 use Rattle.rollout_machine.specs.Ranges.{each_from}
 
 -- the last position of group i of m members in n groups

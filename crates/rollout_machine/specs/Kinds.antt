@@ -5,7 +5,7 @@ use Rattle.rollout_machine.specs.Records.{ArtifactRecord, GroupRecord, Approval,
 use Rattle.rollout_machine.specs.Targets.{Target}
 use Rattle.rollout_machine.specs.Verdicts.{notes_of}
 use Rattle.std.specs.Prelude.{ℕ, Bool, List, [], ◌∷◌, ◌++◌, map, Option, Some, None}
-use Rattle.rollout_machine.specs.declared.Bounds.{Bounds}
+use Rattle.rollout_machine.specs.declared.bounds.Bounds.{Bounds}
 
 pub record StoredGroup : Type 0 where
   pub number : ℕ

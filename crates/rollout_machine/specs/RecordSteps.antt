@@ -12,8 +12,8 @@ use Rattle.rollout_machine.specs.Records.{artifact_from, Waiting, Denied, Given,
 use Rattle.rollout_machine.specs.Rollouts.{success_at, error_at, bounds_at, chosen}
 use Rattle.rollout_machine.specs.StateWords.{size_of_group, group_numbered, group_number_of}
 use Rattle.rollout_machine.specs.Targets.{Target, with_attributes}
-use Rattle.rollout_machine.specs.declared.GroupView.{GroupView}
-use Rattle.rollout_machine.specs.declared.RolloutView.{RolloutView}
+use Rattle.rollout_machine.specs.declared.view.GroupView.{GroupView}
+use Rattle.rollout_machine.specs.declared.view.RolloutView.{RolloutView}
 
 -- ---- targets
 

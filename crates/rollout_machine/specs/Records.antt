@@ -10,7 +10,7 @@ use Rattle.rollout_machine.specs.Progress.{is_paused, is_group_started, is_rollo
 use Rattle.rollout_machine.specs.Ranges.{each_from}
 use Rattle.rollout_machine.specs.Rollouts.{Rollout, rollouts, bounds_in}
 use Rattle.rollout_machine.specs.Targets.{Target, targets}
-use Rattle.rollout_machine.specs.declared.Bounds.{Bounds}
+use Rattle.rollout_machine.specs.declared.bounds.Bounds.{Bounds}
 
 pub data Approval : Type 0 where
   Waiting : Approval

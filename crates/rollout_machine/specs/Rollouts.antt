@@ -6,7 +6,7 @@ use Rattle.rollout_machine.specs.Commands.{Bytes, RolloutPlan, Command, CreateRo
 use Rattle.rollout_machine.specs.Filters.{Filter, matches, filter_of}
 use Rattle.rollout_machine.specs.Groups.{bounds_of, size_of_bounds}
 use Rattle.rollout_machine.specs.Targets.{Target, targets}
-use Rattle.rollout_machine.specs.declared.Bounds.{Bounds}
+use Rattle.rollout_machine.specs.declared.bounds.Bounds.{Bounds}
 
 pub record Rollout : Type 0 where
   pub plan : RolloutPlan

@@ -8,9 +8,10 @@ use Rattle.rollout_machine.specs.Commands.{Bytes, Credential, TargetRow, Attribu
 use Rattle.rollout_machine.specs.Counts.{is_outcome}
 use Rattle.rollout_machine.specs.Digests.{digest_of}
 use Rattle.rollout_machine.specs.Filters.{filter_of}
-use Rattle.rollout_machine.specs.Limits.{rollout_limit, module_limit, set_limit, module_artifact_limit, artifact_limit, target_limit, tag_limit, attribute_limit, note_limit}
+use Rattle.rollout_model.specs.Limits.{rollout_limit, module_limit, set_limit, module_artifact_limit, artifact_limit, target_limit, tag_limit, attribute_limit, note_limit}
 use Rattle.rollout_machine.specs.Records.{ArtifactRecord, GroupRecord, RolloutRecord, ActionRecord, Records, records}
-use Rattle.rollout_machine.specs.Refusals.{Refusal, Unauthorized, NotFound, Exists, Locked, WrongState, ClosedAction, Quota, BadFilter, TooFewTargets, WrongDigest}
+use Rattle.rollout_model.specs.declared.refusal.Refusal.{Refusal}
+use Rattle.rollout_model.specs.declared.refusal.Refusal.TheVariants.{Unauthorized, NotFound, Exists, Locked, WrongState, ClosedAction, Quota, BadFilter, TooFewTargets, WrongDigest}
 use Rattle.rollout_machine.specs.Rollouts.{chosen}
 use Rattle.rollout_machine.specs.StateWords.{rollout_word, has_started, is_for, WaitingForApproval, ReadyRollout, PausedRollout, RunningRollout, RolloutWord}
 use Rattle.rollout_machine.specs.Targets.{Target}
@@ -90,6 +91,10 @@ plan_row rs plan =
     ∷ (nat_lt (length (chosen (filter_of plan.filter_text) rs.targets)) plan.groups, TooFewTargets)
     ∷ (nat_le rollout_limit (length rs.rollouts), Quota) ∷ []
 
+-- a set names the module
+abbrev pub is_named_by_set : List SetLabel → ℕ → Bool
+is_named_by_set sets m = list_any (λ (s : SetLabel). list_any (λ n. nat_eq n m) s.modules) sets
+
 abbrev pub wrong_digest : Upload → Bool
 wrong_digest u = elim u.expected [ None ↦ false | Some d ↦ not (same_bytes d (digest_of u.contents)) ]
 
@@ -99,7 +104,7 @@ verdict_row rs (AddModule label) =
     ∷ (nat_le module_limit (length rs.modules), Quota) ∷ []
 verdict_row rs (AddArtifact u) =
     (is_none (item_numbered rs.modules u.module_number), NotFound)
-    ∷ (list_any (λ (s : SetLabel). list_any (λ m. nat_eq m u.module_number) s.modules) rs.sets, Locked)
+    ∷ (is_named_by_set rs.sets u.module_number, Locked)
     ∷ (list_any (λ (v : ArtifactRecord). nat_eq v.module_number u.module_number && same_bytes v.filename u.filename) rs.artifacts, Exists)
     ∷ (nat_le module_artifact_limit (length (filter (λ (v : ArtifactRecord). nat_eq v.module_number u.module_number) rs.artifacts)) || nat_le artifact_limit (length rs.artifacts), Quota)
     ∷ (wrong_digest u, WrongDigest) ∷ []

@@ -2,6 +2,12 @@
 
 ghost use Rattle.rollout_machine.specs.Meanings.{NumbersActions, NumbersDiffer, RowIsLast, TagsAreSaid, PatternIsFilled, OutcomeIsFirst, CancelingIsLast, PausedIs, FirstStartedIs, StartedIs, FinalIsAll, OfferIsLeast, TargetsAreNamed, ValueIsLast};
 ghost use Rattle.rollout_machine.specs.Repeats.{RepeatsLeaveNoTrace};
+ghost use Rattle.rollout_machine.specs.Validity.{StepsRecords};
+
+/// The records of a list of accepted commands change by one step a command.
+pub fn records_follow()
+    ensures { StepsRecords }
+{}
 
 /// An action's number is its member's position plus the sizes of the rollouts started before.
 pub fn numbers_actions()

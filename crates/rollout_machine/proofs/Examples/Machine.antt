@@ -6,7 +6,7 @@ use Rattle.rollout_machine.specs.Digests.{digest_of}
 use Rattle.rollout_machine.specs.Filters.{matches, IsNot, ByAttribute, pattern_matches, pattern_of}
 use Rattle.rollout_machine.specs.RecordSteps.{step_records}
 use Rattle.rollout_machine.specs.Records.{records, Records}
-use Rattle.rollout_machine.specs.Refusals.{NotFound, Unauthorized, ClosedAction, WrongState, Quota}
+use Rattle.rollout_model.specs.declared.refusal.Refusal.TheVariants.{NotFound, Unauthorized, ClosedAction, WrongState, Quota}
 use Rattle.rollout_machine.specs.StateWords.{target_word, InError}
 use Rattle.rollout_machine.specs.Targets.{target_in, target_ids}
 use Rattle.rollout_machine.specs.Verdicts.{verdict, check}

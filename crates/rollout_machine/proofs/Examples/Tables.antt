@@ -1,15 +1,16 @@
 -- Each test of each row of the table of verdicts at its border, and the order of the tests.
 use Rattle.rollout_machine.specs.Commands.{Bytes, ModuleLabel, Upload, SetLabel, Command, AddModule, AddArtifact, AddSet, PutTargets, Tag, Untag, PutAttributes, CreateRollout, Approve, Deny, Start, Pause, Resume, TriggerNext, Cancel}
-use Rattle.rollout_machine.specs.Limits.{artifact_limit, note_limit, set_limit, target_limit, word_length_limit, filename_length_limit, artifact_size_limit, tag_limit, module_limit, module_artifact_limit, detail_limit, number_limit, set_module_limit, percentage_limit, group_limit, text_length_limit, detail_length_limit, rollout_limit, filter_depth_limit, filter_length_limit, attribute_limit, digest_length}
 use Rattle.rollout_machine.specs.Ranges.{each_from}
 use Rattle.rollout_machine.specs.RecordSteps.{no_records, step_records, run_records}
 use Rattle.rollout_machine.specs.Records.{ArtifactRecord, Records, RolloutRecord, GroupRecord, Given, Waiting, Denied}
-use Rattle.rollout_machine.specs.Refusals.{Refusal, Unauthorized, NotFound, Exists, Locked, WrongState, ClosedAction, Quota, BadFilter, TooFewTargets, WrongDigest, BadImportLine, BadCoding, all_refusals, BadRequest, refusal_row, HeadTooLarge}
+use Rattle.rollout_model.specs.Refusals.{refusal_row}
+use Rattle.rollout_model.specs.declared.refusal.Refusal.{Refusal}
+use Rattle.rollout_model.specs.declared.refusal.Refusal.TheVariants.{Unauthorized, NotFound, Exists, Locked, WrongState, ClosedAction, Quota, BadFilter, TooFewTargets, WrongDigest}
 use Rattle.rollout_machine.specs.StateWords.{rollout_word, group_word, FinishedRollout, PausedRollout, ApprovalDenied, WaitingForApproval, ReadyGroup, FinishedGroup, ErrorGroup, RunningGroup, target_word, Unknown, Pending}
 use Rattle.rollout_machine.specs.Verdicts.{check}
 use Rattle.std.proofs.Common.{◌≡◌, ℕ, ◌/◌, ◌%◌, Bool, true, false, List, [], ◌∷◌, ◌++◌, Option, Some, None, refl}
 use Rattle.sha2.specs.Sha256.{sha256, digest_bytes}
-use Rattle.std.specs.Prelude.{filter, codes, map, replicate}
+use Rattle.std.specs.Prelude.{map, replicate}
 use Rattle.rollout_machine.proofs.Examples.Fleet.{token, device, plan_for, only, everyone, set_up, rolled_out, by, succeeds, fails, run_of}
 
 abbrev base : Records
@@ -266,26 +267,7 @@ k5 = refl
 k6 : check running (Cancel (device 4) 4 true) ≡ Some WrongState
 k6 = refl
 
--- ---- refusals: the numbers in order, and those that end the connection
-numbers : map (λ f. (refusal_row f).number) all_refusals ≡ each_from (λ n. n) 1 21
-numbers = refl
-
-statuses : map (λ f. (refusal_row f).status) all_refusals ≡ 400 ∷ 401 ∷ 404 ∷ 405 ∷ 409 ∷ 409 ∷ 409 ∷ 410 ∷ 413 ∷ 403 ∷ 400 ∷ 400 ∷ 400 ∷ 400 ∷ 503 ∷ 500 ∷ 503 ∷ 400 ∷ 400 ∷ 431 ∷ 501 ∷ []
-statuses = refl
-
-ending : map (λ f. (refusal_row f).number) (filter (λ f. (refusal_row f).ends) all_refusals) ≡ 9 ∷ 18 ∷ 19 ∷ 20 ∷ 21 ∷ []
-ending = refl
-
-names : map (λ f. (refusal_row f).name) (BadRequest ∷ WrongState ∷ BadFilter ∷ WrongDigest ∷ BadImportLine 7 ∷ HeadTooLarge ∷ BadCoding ∷ []) ≡ codes "bad_request" ∷ codes "wrong_state" ∷ codes "filter" ∷ codes "digest" ∷ codes "import_line" ∷ codes "head_size" ∷ codes "coding" ∷ []
-names = refl
-
 -- the refusals of verdicts have the numbers of the table of verdicts
 verdict_numbers : map (λ f. (refusal_row f).number) (Unauthorized ∷ NotFound ∷ Exists ∷ Locked ∷ WrongState ∷ ClosedAction ∷ Quota ∷ BadFilter ∷ TooFewTargets ∷ WrongDigest ∷ []) ≡ 2 ∷ 3 ∷ 5 ∷ 6 ∷ 7 ∷ 8 ∷ 10 ∷ 11 ∷ 12 ∷ 13 ∷ []
 verdict_numbers = refl
 
--- ---- limits
-limits : (module_limit ≡ 1000) × (module_artifact_limit ≡ 8) × (artifact_limit ≡ 256) × (artifact_size_limit ≡ 1048576) × (set_limit ≡ 1000) × (set_module_limit ≡ 8) × (target_limit ≡ 10000) × (tag_limit ≡ 16) × (attribute_limit ≡ 32) × (rollout_limit ≡ 1000) × (group_limit ≡ 50) × (note_limit ≡ 100)
-limits = (refl, refl, refl, refl, refl, refl, refl, refl, refl, refl, refl, refl)
-
-lengths : (word_length_limit ≡ 64) × (filename_length_limit ≡ 128) × (text_length_limit ≡ 128) × (detail_length_limit ≡ 256) × (detail_limit ≡ 8) × (digest_length ≡ 32) × (number_limit ≡ 2147483647) × (filter_length_limit ≡ 512) × (filter_depth_limit ≡ 16) × (percentage_limit ≡ 100)
-lengths = (refl, refl, refl, refl, refl, refl, refl, refl, refl, refl)
