@@ -1,0 +1,204 @@
+-- A feedback on an action that has its outcome changes no record, and neither does an import that comes twice.
+use Rattle.rollout_machine.specs.Actions.{ActionPlace, action_of, is_on_action, is_action_place, outcome, action_places, action_place, history}
+use Rattle.rollout_machine.specs.ByteStrings.{contains_word, with_words, same_bytes, bytes_below, with_word}
+use Rattle.rollout_machine.specs.CommandList.{CommandList, ◌▸◌, Make}
+use Rattle.rollout_machine.specs.Commands.{Report, DeploymentWord, Command, Feedback, Outcome, CancelWord, Bytes, PutTargets, TargetRow, CancelFeedback}
+use Rattle.rollout_machine.specs.RecordSteps.{step_records}
+use Rattle.rollout_machine.specs.Records.{rollouts_in, rollout_in, action_in, needs_approval, modules, artifacts, sets, records}
+use Rattle.rollout_machine.specs.Repeats.{calm, is_doubled, same_rows, same_row, IsTraceless, same_words, has_outcome, RepeatsLeaveNoTrace, is_repeat}
+use Rattle.rollout_machine.specs.Rollouts.{rollouts}
+use Rattle.rollout_machine.specs.Targets.{target_in, last_row_of, tags_in, target_ids, targets, attributes_in, Target, last_row_for, tags_by_row}
+use Rattle.rollout_machine.specs.Validity.{IsValid}
+use Rattle.rollout_machine.specs.Verdicts.{verdict, check}
+use Rattle.std.proofs.Common.{List, [], ◌∷◌, ◌||◌, cond, Option, None, subst, inl, inr}
+use Rattle.std.specs.Prelude.{map, is_some, ⊤}
+use Rattle.std.specs.Option.{option_or, unwrap_or}
+use Rattle.std.proofs.lemmas.Bool.{false≢true, cases_Bool}
+use Rattle.rollout_machine.proofs.Imports.{IsSorted, sorted_ids, not_above, above_more, never_with}
+use Rattle.rollout_machine.proofs.TargetTies.{same_refl, same_true, has_with}
+use Rattle.rollout_machine.proofs.EffectLaws.{calm_outcome}
+use Rattle.rollout_machine.proofs.Actions.{calm_actions}
+use Rattle.rollout_machine.proofs.Whole.{calm_everywhere}
+use Rattle.rollout_machine.proofs.Induction.{accepted}
+use Rattle.rollout_machine.proofs.Main.{records_step}
+use Rattle.std.proofs.Common.{◌≡◌, Bool, true, false, ◌&&◌, refl, sym, ◌∙◌, ap, Some}
+use Rattle.std.specs.Prelude.{nat_eq}
+use Rattle.rollout_machine.proofs.Tallies.{closed_stays}
+use Rattle.rollout_machine.proofs.Actions.{same_action, append_none, map_same, off_action}
+use Rattle.rollout_machine.proofs.Whole.{IsAccepted, keeps, kept, from_numbers, same_outcomes, same_records, bare}
+use Rattle.std.proofs.lemmas.Bool.{and_parts, eqb-true}
+
+closed_action : (h : CommandList) (c : Command) (p : ActionPlace) (o : Outcome) → is_on_action h c p.rollout p.position ≡ true → outcome h p.rollout p.position ≡ Some o → action_in (h ▸ c) p ≡ action_in h p
+closed_action h c p o on e = same_action p _ _ _ _ _ _ (rw e refl) (rw e refl) (rw (on, e) (append_none (history h p.rollout p.position)))
+
+any_action : (h : CommandList) (c : Command) (q : ActionPlace) (o : Outcome) → action_of h c ≡ Some q → outcome h q.rollout q.position ≡ Some o → (p : ActionPlace) → action_in (h ▸ c) p ≡ action_in h p
+any_action h c q o t e p = go (is_on_action h c p.rollout p.position) refl
+  where
+    go : (b : Bool) → is_on_action h c p.rollout p.position ≡ b → action_in (h ▸ c) p ≡ action_in h p
+    go false f = off_action h c p f
+    go true f =
+        let both : (nat_eq q.rollout p.rollout && nat_eq q.position p.position) ≡ true = sym (ap (λ s. is_action_place s p.rollout p.position) t) ∙ f in
+        let parts : (nat_eq q.rollout p.rollout ≡ true) × (nat_eq q.position p.position ≡ true) = and_parts _ _ both in
+        let er : q.rollout ≡ p.rollout = eqb-true _ _ parts.0 in
+        let ej : q.position ≡ p.position = eqb-true _ _ parts.1 in
+        closed_action h c p o f (sym (ap (λ i. outcome h i p.position) er) ∙ sym (ap (λ i. outcome h q.rollout i) ej) ∙ e)
+
+-- the records after a repeated feedback are those before it
+pub repeat_changes_nothing : (h : CommandList) (report : Report DeploymentWord) (q : ActionPlace) (o : Outcome) → IsAccepted h (Feedback report) → action_place h report.action ≡ Some q → outcome h q.rollout q.position ≡ Some o → records (h ▸ Feedback report) ≡ records h
+repeat_changes_nothing h report q o w t e =
+    let c : Command = Feedback report in
+    bare h c _ _ _ _ _ (append_none (modules h)) (append_none (artifacts h)) (append_none (sets h)) (append_none (rollouts h)) (append_none (action_places h))
+    ∙ same_records (needs_approval h) _ _ _ _ _ _ _ _ _ _ _ _ refl refl refl refl
+    (kept h (h ▸ c) 1 (rollouts h) (from_numbers (λ r y. rollout_in (h ▸ c) r y ≡ rollout_in h r y) (rollouts h) (λ r y d.
+    keeps h c q w t r y d (same_outcomes h c q t (closed_stays h c q.rollout q.position o e ∙ sym e) r))))
+    (map_same (action_in (h ▸ c)) (action_in h) (any_action h c q o t e) (action_places h))
+
+-- the records after a repeated feedback of a cancel are those before it
+pub cancel_repeat_changes_nothing : (h : CommandList) (report : Report CancelWord) (q : ActionPlace) (o : Outcome) → IsAccepted h (CancelFeedback report) → action_place h report.action ≡ Some q → outcome h q.rollout q.position ≡ Some o → records (h ▸ CancelFeedback report) ≡ records h
+cancel_repeat_changes_nothing h report q o w t e =
+    let c : Command = CancelFeedback report in
+    bare h c _ _ _ _ _ (append_none (modules h)) (append_none (artifacts h)) (append_none (sets h)) (append_none (rollouts h)) (append_none (action_places h))
+    ∙ same_records (needs_approval h) _ _ _ _ _ _ _ _ _ _ _ _ refl refl refl refl
+    (kept h (h ▸ c) 1 (rollouts h) (from_numbers (λ r y. rollout_in (h ▸ c) r y ≡ rollout_in h r y) (rollouts h) (λ r y d.
+    keeps h c q w t r y d (same_outcomes h c q t (closed_stays h c q.rollout q.position o e ∙ sym e) r))))
+    (map_same (action_in (h ▸ c)) (action_in h) (any_action h c q o t e) (action_places h))
+
+-- ---- an import that comes twice
+
+same_with : (w : Bytes) (vs : List Bytes) → IsSorted vs → contains_word w vs ≡ true → with_word w vs ≡ vs
+same_with w [] s e = cc
+same_with w (v ∷ vs) s e = go (same_bytes w v) (bytes_below w v) refl refl e (same_with w vs s.1)
+  where
+    go : (a b : Bool) → same_bytes w v ≡ a → bytes_below w v ≡ b → (a || contains_word w vs) ≡ true → (contains_word w vs ≡ true → with_word w vs ≡ vs) → cond a (v ∷ vs) (cond b (w ∷ v ∷ vs) (v ∷ with_word w vs)) ≡ v ∷ vs
+    go true b d k e ih = refl
+    go false true d k e ih = absurd (false≢true (sym (not_above w vs (above_more w v vs k s.0)) ∙ e))
+    go false false d k e ih = ap (λ xs. v ∷ xs) (ih e)
+
+abbrev AllIn : List Bytes → List Bytes → Type 0
+AllIn [] vs = ⊤
+AllIn (w ∷ ws) vs = (contains_word w vs ≡ true) × AllIn ws vs
+
+same_with_all : (ws vs : List Bytes) → IsSorted vs → AllIn ws vs → with_words ws vs ≡ vs
+same_with_all [] vs s a = refl
+same_with_all (w ∷ ws) vs s a = ap (with_words ws) (same_with w vs s a.0) ∙ same_with_all ws vs s a.1
+
+stays_in : (w : Bytes) (ws vs : List Bytes) → contains_word w vs ≡ true → contains_word w (with_words ws vs) ≡ true
+stays_in w ws vs e = elim (cases_Bool (contains_word w (with_words ws vs))) [ inl t ↦ t | inr f ↦ absurd (false≢true (sym (never_with w ws vs f) ∙ e)) ]
+
+all_in : (ws vs : List Bytes) → AllIn ws (with_words ws vs)
+all_in [] vs = tt
+all_in (w ∷ ws) vs = (stays_in w ws (with_word w vs) (has_with w w vs ∙ rw (same_refl w) refl), all_in ws (with_word w vs))
+
+abbrev target_by : CommandList → Bytes → Option TargetRow → Option TargetRow → List Bytes → Target
+target_by h t o r ws = record {
+  id = t;
+  name = unwrap_or (elim (option_or o r) [ None ↦ None | Some row ↦ Some row.name ]) [];
+  digest = unwrap_or (elim (option_or o r) [ None ↦ None | Some row ↦ Some row.digest ]) [];
+  tags = tags_by_row o ws;
+  attributes = attributes_in t h;
+}
+
+twice_same : (h : CommandList) (t : Bytes) (o r : Option TargetRow) (ws : List Bytes) → target_by h t o (option_or o r) (tags_by_row o ws) ≡ target_by h t o r ws
+twice_same h t None r ws = refl
+twice_same h t (Some row) r ws = refl
+
+targets_twice : (h : CommandList) (rows : List TargetRow) → targets (h ▸ PutTargets rows ▸ PutTargets rows) ≡ targets (h ▸ PutTargets rows)
+targets_twice h rows =
+    let ids : List Bytes = map (λ (row : TargetRow). row.id) rows in
+    map_same (target_in (h ▸ PutTargets rows ▸ PutTargets rows)) (target_in (h ▸ PutTargets rows)) (λ t. twice_same h t (last_row_for t rows) (last_row_of t h) (tags_in t h)) (with_words ids (with_words ids (target_ids h)))
+    ∙ ap (map (target_in (h ▸ PutTargets rows))) (same_with_all ids (with_words ids (target_ids h)) (sorted_ids (h ▸ PutTargets rows)) (all_in ids (target_ids h)))
+
+import_twice : (h : CommandList) (rows : List TargetRow) → IsValid (h ▸ PutTargets rows) → verdict (h ▸ PutTargets rows) (PutTargets rows) ≡ None → records (h ▸ PutTargets rows ▸ PutTargets rows) ≡ records (h ▸ PutTargets rows)
+import_twice g rows v e =
+    let h : CommandList = g ▸ PutTargets rows in
+    let c : Command = PutTargets rows in
+    same_records (needs_approval h) _ _ _ _ _ _ _ _ _ _ _ _ (append_none (modules h)) (append_none (artifacts h)) (append_none (sets h))
+    (targets_twice g rows)
+    (ap (rollouts_in (h ▸ c) 1) (append_none (rollouts h)) ∙ calm_everywhere h c (accepted h c v e) (λ r. record { outcomes = λ j. calm_outcome h c r j refl; pauses = refl; resumes = refl; triggers = refl; starts = refl }) (λ r. refl))
+    (ap (map (action_in (h ▸ c))) (append_none (action_places h)) ∙ calm_actions h c refl (action_places h))
+
+-- ---- equality by tests
+
+words_same : (ws vs : List Bytes) → same_words ws vs ≡ true → ws ≡ vs
+words_same [] [] e = refl
+words_same [] (v ∷ vs) e = cc
+words_same (w ∷ ws) [] e = cc
+words_same (w ∷ ws) (v ∷ vs) e =
+    let parts : (same_bytes w v ≡ true) × (same_words ws vs ≡ true) = and_parts _ _ e in
+    let head : w ≡ v = same_true w v parts.0 in
+    let tail : ws ≡ vs = words_same ws vs parts.1 in
+    rw (head, tail) refl
+
+abbrev row_from : Bytes → Bytes → Bytes → List Bytes → TargetRow
+row_from i n d ts = record { id = i; name = n; digest = d; tags = ts }
+
+row_same : (a b : TargetRow) → same_row a b ≡ true → a ≡ b
+row_same a b e =
+    let one : (same_bytes a.id b.id ≡ true) × ((same_bytes a.name b.name && (same_bytes a.digest b.digest && same_words a.tags b.tags)) ≡ true) = and_parts _ _ e in
+    let more : (same_bytes a.name b.name ≡ true) × ((same_bytes a.digest b.digest && same_words a.tags b.tags) ≡ true) = and_parts _ _ one.1 in
+    let rest : (same_bytes a.digest b.digest ≡ true) × (same_words a.tags b.tags ≡ true) = and_parts _ _ more.1 in
+    parts _ _ _ _ _ _ _ _ (same_true _ _ one.0) (same_true _ _ more.0) (same_true _ _ rest.0) (words_same _ _ rest.1)
+  where
+    parts : (i i' n n' d d' : Bytes) (ts ts' : List Bytes) → i ≡ i' → n ≡ n' → d ≡ d' → ts ≡ ts' → row_from i n d ts ≡ row_from i' n' d' ts'
+    parts i i' n n' d d' ts ts' e f g k = rw (e, f, g, k) refl
+
+rows_same : (as' bs : List TargetRow) → same_rows as' bs ≡ true → as' ≡ bs
+rows_same [] [] e = refl
+rows_same [] (b ∷ bs) e = cc
+rows_same (a ∷ as') [] e = cc
+rows_same (a ∷ as') (b ∷ bs) e =
+    let parts : (same_row a b ≡ true) × (same_rows as' bs ≡ true) = and_parts _ _ e in
+    let head : a ≡ b = row_same a b parts.0 in
+    let tail : as' ≡ bs = rows_same as' bs parts.1 in
+    ap (λ (x : TargetRow). x ∷ as') head ∙ ap (λ xs. b ∷ xs) tail
+
+-- ---- the list without them
+
+repeat_same : (h : CommandList) (c : Command) → IsValid h → verdict h c ≡ None → is_repeat h c ≡ true → records (h ▸ c) ≡ records h
+repeat_same h (Feedback report) v e d = go (action_place h report.action) refl d
+  where
+    go : (p : Option ActionPlace) → action_place h report.action ≡ p → has_outcome h p ≡ true → records (h ▸ Feedback report) ≡ records h
+    go None k d = cc
+    go (Some q) k d = had (outcome h q.rollout q.position) refl d
+      where
+        had : (o : Option Outcome) → outcome h q.rollout q.position ≡ o → is_some o ≡ true → records (h ▸ Feedback report) ≡ records h
+        had None j d = cc
+        had (Some o) j d = repeat_changes_nothing h report q o (accepted h (Feedback report) v e) k j
+repeat_same h (CancelFeedback report) v e d = go (action_place h report.action) refl d
+  where
+    go : (p : Option ActionPlace) → action_place h report.action ≡ p → has_outcome h p ≡ true → records (h ▸ CancelFeedback report) ≡ records h
+    go None k d = cc
+    go (Some q) k d = had (outcome h q.rollout q.position) refl d
+      where
+        had : (o : Option Outcome) → outcome h q.rollout q.position ≡ o → is_some o ≡ true → records (h ▸ CancelFeedback report) ≡ records h
+        had None j d = cc
+        had (Some o) j d = cancel_repeat_changes_nothing h report q o (accepted h (CancelFeedback report) v e) k j
+repeat_same h _ v e d = cc
+
+doubled_same : (h : CommandList) (c : Command) → IsValid h → verdict h c ≡ None → is_doubled h c ≡ true → records (h ▸ c) ≡ records h
+doubled_same (Make approval) c v e d = cc
+doubled_same (h ▸ PutTargets rows) (PutTargets more) v e d =
+    let same : rows ≡ more = rows_same rows more d in
+    let P : List TargetRow → Type 0 = λ xs. verdict (h ▸ PutTargets rows) (PutTargets xs) ≡ None → records (h ▸ PutTargets rows ▸ PutTargets xs) ≡ records (h ▸ PutTargets rows) in
+    let here : P rows = λ k. import_twice h rows v k in
+    subst P same here e
+doubled_same (h ▸ PutTargets rows) _ v e d = cc
+doubled_same (h ▸ _) c v e d = cc
+
+pub repeats_leave_no_trace : RepeatsLeaveNoTrace
+repeats_leave_no_trace (Make approval) v = record { valid = tt; same = refl; verdicts = λ c. refl }
+repeats_leave_no_trace (h ▸ c) v = go (is_repeat h c) (is_doubled h c) refl refl (repeats_leave_no_trace h v.0)
+  where
+    traceless : (k : CommandList) → calm (h ▸ c) ≡ k → IsValid k → records (h ▸ c) ≡ records k → IsTraceless (h ▸ c)
+    traceless k e w s = record { valid = subst IsValid (sym e) w; same = s ∙ sym (ap records e); verdicts = λ d. ap (λ rs. check rs d) (s ∙ sym (ap records e)) }
+
+    test : (a b : Bool) (x y : CommandList) → is_repeat h c ≡ a → is_doubled h c ≡ b → cond (is_repeat h c || is_doubled h c) x y ≡ cond (a || b) x y
+    test a b x y e f = rw (e, f) refl
+
+    go : (a b : Bool) → is_repeat h c ≡ a → is_doubled h c ≡ b → IsTraceless h → IsTraceless (h ▸ c)
+    go true b e f ih = traceless (calm h) (test true b (calm h) (calm h ▸ c) e f) ih.valid (repeat_same h c v.0 v.2 e ∙ ih.same)
+    go false true e f ih = traceless (calm h) (test false true (calm h) (calm h ▸ c) e f) ih.valid (doubled_same h c v.0 v.2 f ∙ ih.same)
+    go false false e f ih =
+        let here : verdict (calm h) c ≡ None = sym (ih.verdicts c) ∙ v.2 in
+        traceless (calm h ▸ c) (test false false (calm h) (calm h ▸ c) e f) (ih.valid, v.1, here)
+        (records_step h c v.0 v.2 ∙ ap (λ rs. step_records rs c) ih.same ∙ sym (records_step (calm h) c ih.valid here))

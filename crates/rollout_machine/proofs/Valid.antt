@@ -1,0 +1,126 @@
+-- What the verdict on a command gives: it is only on actions of started groups.
+use Rattle.std.proofs.Common.{◌≡◌, ℕ, ◌≤◌, Bool, true, false, ◌||◌, ◌&&◌, not, List, [], ◌∷◌, refl, sym, ◌∙◌, ap, subst, arith, Option, Some, None}
+use Rattle.std.specs.Prelude.{nat_eq}
+use Rattle.std.specs.Option.{option_map}
+use Rattle.std.proofs.lemmas.Bool.{eqb-true, false≢true, and_parts, or_parts, not-false}
+use Rattle.rollout_machine.specs.Actions.{ActionPlace, action_of, is_action_place, action_places, action_place}
+use Rattle.rollout_machine.specs.ByteStrings.{item_numbered}
+use Rattle.rollout_machine.specs.CommandList.{CommandList}
+use Rattle.rollout_machine.specs.Commands.{Report, DeploymentWord, CancelWord, Command, Cancel, Feedback, CancelFeedback}
+use Rattle.rollout_machine.specs.Effects.{IsInGroup, HasSoundPlan, StartedOnly}
+use Rattle.rollout_machine.specs.Progress.{is_group_started}
+use Rattle.rollout_machine.specs.Ranges.{each_from}
+use Rattle.rollout_machine.specs.Records.{group_in, action_in, records}
+use Rattle.rollout_model.specs.declared.refusal.Refusal.{Refusal}
+use Rattle.rollout_machine.specs.Rollouts.{Rollout, rollout_at, size_of}
+use Rattle.rollout_machine.specs.StateWords.{has_started, is_started_in, group_is_started, group_holding, is_for}
+use Rattle.rollout_machine.specs.Verdicts.{first_refusal, verdict_row, verdict, is_device_action, on_action}
+use Rattle.rollout_machine.proofs.Cuts.{group_of}
+use Rattle.rollout_machine.proofs.Cuts.{in_its_group, ends_at, one_group}
+use Rattle.rollout_machine.proofs.Ties.{find_holding}
+use Rattle.rollout_machine.proofs.Actions.{numbered_map}
+use Rattle.rollout_machine.proofs.Whole.{rollout_numbered}
+
+-- where a row refuses nothing, none of its tests holds
+abbrev pub NoneHolds : List (Bool × Refusal) → Type 0
+NoneHolds [] = Unit {0}
+NoneHolds ((t, f) ∷ row) = (t ≡ false) × (NoneHolds row)
+
+pub none_holds : (row : List (Bool × Refusal)) → first_refusal row ≡ None → NoneHolds row
+none_holds [] e = tt
+none_holds ((true, f) ∷ row) e = cc
+none_holds ((false, f) ∷ row) e = (refl, none_holds row e)
+
+-- an action's place is that of a member of a rollout that is there
+pub record IsPlace (h : CommandList) (p : ActionPlace) : Type 0 where
+  pub rollout : Rollout
+  pub there : rollout_at h p.rollout ≡ Some rollout
+  pub sound : HasSoundPlan rollout
+  pub low : 1 ≤ p.position
+  pub high : p.position ≤ size_of rollout
+
+-- the record's word on an action's group is the history's
+pub started_here : (h : CommandList) (p : ActionPlace) (w : IsPlace h p) → has_started (records h) (action_in h p) ≡ true → is_group_started w.rollout p.rollout (group_of (size_of w.rollout) w.rollout.plan.groups p.position) h ≡ true
+started_here h p w e =
+    let x = w.rollout in
+    let place : _ = in_its_group (size_of x) x.plan.groups p.position w.sound.some_groups w.sound.enough w.low w.high in
+    let found : group_holding p.position (each_from (group_in x p.rollout h) 1 x.plan.groups) ≡ Some (group_in x p.rollout h (group_of (size_of x) x.plan.groups p.position)) =
+    find_holding x p.rollout h 1 x.plan.groups (group_of (size_of x) x.plan.groups p.position) p.position w.sound.some_groups place.2 (omega (arith, place.3)) place.0 place.1 in
+    sym (ap (λ o. is_started_in o (action_in h p)) (rollout_numbered h p.rollout x w.there) ∙ ap group_is_started found) ∙ e
+
+-- so the command is on actions of started groups alone
+only_started : (h : CommandList) (c : Command) (p : ActionPlace) (w : IsPlace h p) → action_of h c ≡ Some p → has_started (records h) (action_in h p) ≡ true → (r : ℕ) (x : Rollout) → rollout_at h r ≡ Some x → StartedOnly x r h c
+only_started h c p w t e r x d = record { started = λ i j a v on. go i j a v (sym (ap (λ o. is_action_place o r j) t) ∙ on) }
+  where
+    go : (i j : ℕ) → 1 ≤ i → IsInGroup x i j → (nat_eq p.rollout r && nat_eq p.position j) ≡ true → is_group_started x r i h ≡ true
+    go i j a v both =
+        let parts : (nat_eq p.rollout r ≡ true) × (nat_eq p.position j ≡ true) = and_parts _ _ both in
+        let er : p.rollout ≡ r = eqb-true _ _ parts.0 in
+        let ej : p.position ≡ j = eqb-true _ _ parts.1 in
+        let options : Some w.rollout ≡ Some x = sym w.there ∙ ap (rollout_at h) er ∙ d in
+        let same : w.rollout ≡ x = cc in
+        let P : ℕ → Rollout → Type 0 = λ s y. (1 ≤ i) → IsInGroup y i p.position → is_group_started y s i h ≡ true in
+        let here : P p.rollout w.rollout = λ b u. at_group i b u in
+        let moved : P r x = subst (λ (s : ℕ). P s x) er (subst (λ (y : Rollout). P p.rollout y) same here) in
+        moved a (subst (λ (k : ℕ). IsInGroup x i k) (sym ej) v)
+      where
+        at_group : (i : ℕ) → 1 ≤ i → IsInGroup w.rollout i p.position → is_group_started w.rollout p.rollout i h ≡ true
+        at_group i b u =
+            let y = w.rollout in
+            let g = group_of (size_of y) y.plan.groups p.position in
+            let place : _ = in_its_group (size_of y) y.plan.groups p.position w.sound.some_groups w.sound.enough w.low w.high in
+            let ends : _ = ends_at (size_of y) y.plan.groups g w.sound.some_groups place.2 in
+            let same : i ≡ g = one_group (size_of y) y.plan.groups g i p.position w.sound.some_groups place.2 b place.0 (omega (arith, place.1, ends)) u.low u.high in
+            subst (λ (k : ℕ). is_group_started y p.rollout k h ≡ true) (sym same) (started_here h p w e)
+
+-- ---- the rows
+
+pub found_action : (h : CommandList) (k : ℕ) (o : Option ActionPlace) → action_place h k ≡ o → item_numbered (records h).actions k ≡ option_map (action_in h) o
+found_action h k o e = numbered_map (action_in h) (action_places h) k ∙ ap (option_map (action_in h)) e
+
+device_action : (h : CommandList) (t : List ℕ) (o : Option ActionPlace) → is_device_action (records h) t (option_map (action_in h) o) ≡ true → (p : ActionPlace) × (o ≡ Some p) × (has_started (records h) (action_in h p) ≡ true)
+device_action h t None e = absurd (false≢true e)
+device_action h t (Some p) e = (p, refl, (and_parts _ _ e).1)
+
+-- accepted feedback is on an action whose group is started
+pub feedback_place : (h : CommandList) (report : Report DeploymentWord) → verdict h (Feedback report) ≡ None → (p : ActionPlace) × (action_place h report.action ≡ Some p) × (has_started (records h) (action_in h p) ≡ true)
+feedback_place h report e =
+    let device : is_device_action (records h) report.credential.id (item_numbered (records h).actions report.action) ≡ true = not-false _ (none_holds (verdict_row (records h) (Feedback report)) e).1.0 in
+    device_action h report.credential.id (action_place h report.action) (sym (ap (is_device_action (records h) report.credential.id) (found_action h report.action (action_place h report.action) refl)) ∙ device)
+
+pub cancel_feedback_place : (h : CommandList) (report : Report CancelWord) → verdict h (CancelFeedback report) ≡ None → (p : ActionPlace) × (action_place h report.action ≡ Some p) × (has_started (records h) (action_in h p) ≡ true)
+cancel_feedback_place h report e =
+    let device : is_device_action (records h) report.credential.id (item_numbered (records h).actions report.action) ≡ true = not-false _ (none_holds (verdict_row (records h) (CancelFeedback report)) e).1.0 in
+    device_action h report.credential.id (action_place h report.action) (sym (ap (is_device_action (records h) report.credential.id) (found_action h report.action (action_place h report.action) refl)) ∙ device)
+
+pub feedback_started : (h : CommandList) (report : Report DeploymentWord) → ((p : ActionPlace) → action_place h report.action ≡ Some p → IsPlace h p) → verdict h (Feedback report) ≡ None → (r : ℕ) (x : Rollout) → rollout_at h r ≡ Some x → StartedOnly x r h (Feedback report)
+feedback_started h report placed e =
+    let (p, at, started) = feedback_place h report e in
+    only_started h (Feedback report) p (placed p at) at started
+
+pub cancel_feedback_started : (h : CommandList) (report : Report CancelWord) → ((p : ActionPlace) → action_place h report.action ≡ Some p → IsPlace h p) → verdict h (CancelFeedback report) ≡ None → (r : ℕ) (x : Rollout) → rollout_at h r ≡ Some x → StartedOnly x r h (CancelFeedback report)
+cancel_feedback_started h report placed e =
+    let (p, at, started) = cancel_feedback_place h report e in
+    only_started h (CancelFeedback report) p (placed p at) at started
+
+or_left_false : (a b : Bool) → (a || b) ≡ false → a ≡ false
+or_left_false true b e = cc
+or_left_false false b e = refl
+
+cancel_action : (h : CommandList) (t : List ℕ) (force : Bool) (o : Option ActionPlace) → not (on_action (is_for (records h) t) (option_map (action_in h) o)) ≡ false → on_action (λ a. not (has_started (records h) a) || (a.canceling && not force)) (option_map (action_in h) o) ≡ false → (p : ActionPlace) × (o ≡ Some p) × (has_started (records h) (action_in h p) ≡ true)
+cancel_action h t force None a b = cc
+cancel_action h t force (Some p) a b = (p, refl, not-false _ (or_left_false _ _ b))
+
+pub cancel_place : (h : CommandList) (t : List ℕ) (k : ℕ) (force : Bool) → verdict h (Cancel t k force) ≡ None → (p : ActionPlace) × (action_place h k ≡ Some p) × (has_started (records h) (action_in h p) ≡ true)
+cancel_place h t k force e =
+    let row : NoneHolds (verdict_row (records h) (Cancel t k force)) = none_holds (verdict_row (records h) (Cancel t k force)) e in
+    let found : item_numbered (records h).actions k ≡ option_map (action_in h) (action_place h k) = found_action h k (action_place h k) refl in
+    let there : not (on_action (is_for (records h) t) (option_map (action_in h) (action_place h k))) ≡ false = sym (ap (λ o. not (on_action (is_for (records h) t) o)) found) ∙ (or_parts _ _ row.0).1 in
+    let open' : on_action (λ a. not (has_started (records h) a) || (a.canceling && not force)) (option_map (action_in h) (action_place h k)) ≡ false = sym (ap (on_action (λ a. not (has_started (records h) a) || (a.canceling && not force))) found) ∙ row.1.1.0 in
+    cancel_action h t force (action_place h k) there open'
+
+-- an accepted cancel too
+pub cancel_started : (h : CommandList) (t : List ℕ) (k : ℕ) (force : Bool) → ((p : ActionPlace) → action_place h k ≡ Some p → IsPlace h p) → verdict h (Cancel t k force) ≡ None → (r : ℕ) (x : Rollout) → rollout_at h r ≡ Some x → StartedOnly x r h (Cancel t k force)
+cancel_started h t k force placed e =
+    let (p, at, started) = cancel_place h t k force e in
+    only_started h (Cancel t k force) p (placed p at) at started

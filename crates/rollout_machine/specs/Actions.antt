@@ -1,0 +1,99 @@
+-- The actions of a command list: their numbers, outcomes and cancels.
+use Rattle.std.specs.Prelude.{ℕ, zero, suc, Bool, true, false, ◌&&◌, cond, nat_eq, List, [], ◌∷◌, ◌++◌, Option, Some, None, is_some, is_none}
+use Rattle.std.specs.Option.{option_or}
+use Rattle.rollout_machine.specs.ByteStrings.{item_numbered}
+use Rattle.rollout_machine.specs.CommandList.{CommandList, Make, ◌▸◌}
+use Rattle.rollout_machine.specs.Commands.{Bytes, DeploymentWord, CancelWord, Succeeded, Failed, Rejected, Noted, ClosedCancel, CanceledCancel, RejectedCancel, NotedCancel, Command, Start, Cancel, Feedback, CancelFeedback, Outcome, Good, Bad, Gone}
+use Rattle.rollout_machine.specs.Rollouts.{Rollout, rollout_at, size_of}
+
+-- an action, by its rollout and its member's position, from 1
+pub record ActionPlace : Type 0 where
+  pub rollout : ℕ
+  pub position : ℕ
+
+abbrev pub places_from : ℕ → ℕ → ℕ → List ActionPlace
+places_from r first zero = []
+places_from r first (suc n) = record { rollout = r; position = first } ∷ places_from r (suc first) n
+
+abbrev pub places_of : ℕ → Option Rollout → List ActionPlace
+places_of r None = []
+places_of r (Some x) = places_from r 1 (size_of x)
+
+abbrev pub new_places : CommandList → Command → List ActionPlace
+new_places h (Start r) = places_of r (rollout_at h r)
+new_places h _ = []
+
+-- the actions in the order of their numbers: each start numbers its members on from the last action
+abbrev pub action_places : CommandList → List ActionPlace
+action_places (Make approval) = []
+action_places (h ▸ c) = action_places h ++ new_places h c
+
+abbrev pub action_place : CommandList → ℕ → Option ActionPlace
+action_place h a = item_numbered (action_places h) a
+
+-- the action that a command is on
+abbrev pub action_of : CommandList → Command → Option ActionPlace
+action_of h (Cancel t a force) = action_place h a
+action_of h (Feedback report) = action_place h report.action
+action_of h (CancelFeedback report) = action_place h report.action
+action_of h _ = None
+
+abbrev pub is_action_place : Option ActionPlace → ℕ → ℕ → Bool
+is_action_place None r j = false
+is_action_place (Some p) r j = nat_eq p.rollout r && nat_eq p.position j
+
+abbrev pub is_on_action : CommandList → Command → ℕ → ℕ → Bool
+is_on_action h c r j = is_action_place (action_of h c) r j
+
+abbrev pub outcome_of_deployment : DeploymentWord → Option Outcome
+outcome_of_deployment Succeeded = Some Good
+outcome_of_deployment Failed = Some Bad
+outcome_of_deployment Rejected = None
+outcome_of_deployment (Noted p) = None
+
+abbrev pub outcome_of_cancel : CancelWord → Option Outcome
+outcome_of_cancel ClosedCancel = Some Gone
+outcome_of_cancel CanceledCancel = Some Gone
+outcome_of_cancel RejectedCancel = None
+outcome_of_cancel (NotedCancel p) = None
+
+-- the outcome that a command on an open action gives it, where it is canceling or not
+abbrev pub outcome_given : Command → Bool → Option Outcome
+outcome_given (Feedback report) canceling = outcome_of_deployment report.word
+outcome_given (CancelFeedback report) canceling = outcome_of_cancel report.word
+outcome_given (Cancel t a force) canceling = cond (force && canceling) (Some Gone) None
+outcome_given _ canceling = None
+
+-- what a command on an action says of its canceling
+abbrev pub cancel_standing_said : Command → Option Bool
+cancel_standing_said (Cancel t a force) = Some true
+cancel_standing_said (CancelFeedback report) = elim (report.word) [ RejectedCancel ↦ Some false | _ ↦ None ]
+cancel_standing_said _ = None
+
+-- the last among the action's cancels and its rejections of one is a cancel
+abbrev pub cancel_stands : CommandList → ℕ → ℕ → Bool
+cancel_stands (Make approval) r j = false
+cancel_stands (h ▸ c) r j = cond (is_on_action h c r j && is_some (cancel_standing_said c)) (elim (cancel_standing_said c) [ None ↦ false | Some b ↦ b ]) (cancel_stands h r j)
+
+-- the outcome by the first command on the action that gives one
+abbrev pub outcome : CommandList → ℕ → ℕ → Option Outcome
+outcome (Make approval) r j = None
+outcome (h ▸ c) r j = option_or (outcome h r j) (cond (is_on_action h c r j) (outcome_given c (is_none (outcome h r j) && cancel_stands h r j)) None)
+
+abbrev pub is_canceling : CommandList → ℕ → ℕ → Bool
+is_canceling h r j = is_none (outcome h r j) && cancel_stands h r j
+
+-- an entry of an action's history
+pub data HistoryEntry : Type 0 where
+  DeploymentEntry : DeploymentWord → List Bytes → HistoryEntry
+  CancelEntry : CancelWord → List Bytes → HistoryEntry
+
+abbrev pub entries_of : Command → List HistoryEntry
+entries_of (Feedback report) = DeploymentEntry report.word report.details ∷ []
+entries_of (CancelFeedback report) = CancelEntry report.word report.details ∷ []
+entries_of _ = []
+
+-- the feedback on the action up to and with the one that gave the outcome
+abbrev pub history : CommandList → ℕ → ℕ → List HistoryEntry
+history (Make approval) r j = []
+history (h ▸ c) r j = history h r j ++ cond (is_on_action h c r j && is_none (outcome h r j)) (entries_of c) []

@@ -1,0 +1,70 @@
+-- The rules that the parts of a command keep: those of the words and numbers, ranges, and the limits of lists.
+use Rattle.rollout_model.specs.Rules.{is_between, is_word, is_filename, is_text, is_value, is_detail, is_byte, is_digest, is_number}
+use Rattle.rollout_machine.specs.ByteStrings.{contains_word}
+use Rattle.rollout_machine.specs.Commands.{AddArtifact, Cancel, CancelFeedback, RolloutPlan, Start, Command, Attribute, Pause, CreateRollout, SetLabel, PutTargets, Untag, Deny, Approve, AddModule, Feedback, PutAttributes, Tag, Resume, TriggerNext, TargetRow, AddSet, Upload, Bytes, Credential}
+use Rattle.rollout_model.specs.Limits.{artifact_size_limit, group_limit, percentage_limit, attribute_limit, set_module_limit, detail_limit, tag_limit}
+use Rattle.std.specs.Prelude.{◌≡◌, ℕ, Bool, true, ◌&&◌, not, nat_eq, nat_le, List, [], ◌∷◌, length, Option, Some, None}
+use Rattle.std.specs.List.{list_any, list_all}
+use Rattle.std.specs.Str.{is_utf8}
+
+abbrev pub are_distinct : List Bytes → Bool
+are_distinct [] = true
+are_distinct (w ∷ ws) = not (contains_word w ws) && are_distinct ws
+
+abbrev pub are_distinct_numbers : List ℕ → Bool
+are_distinct_numbers [] = true
+are_distinct_numbers (n ∷ ns) = not (list_any (λ m. nat_eq m n) ns) && are_distinct_numbers ns
+
+-- ---- parts
+
+abbrev pub is_credential : Credential → Bool
+is_credential device = is_word device.id && is_digest device.digest
+
+abbrev pub is_target_row : TargetRow → Bool
+is_target_row row = is_word row.id && (is_text row.name && (is_digest row.digest && (nat_le (length row.tags) tag_limit && (list_all is_word row.tags && are_distinct row.tags))))
+
+abbrev pub is_attribute : Attribute → Bool
+is_attribute a = is_word a.key && is_value a.value
+
+abbrev pub is_digest_or_none : Option Bytes → Bool
+is_digest_or_none None = true
+is_digest_or_none (Some d) = is_digest d
+
+abbrev pub is_upload : Upload → Bool
+is_upload u = is_number u.module_number && (is_filename u.filename && (is_digest_or_none u.expected && (nat_le (length u.contents) artifact_size_limit && list_all is_byte u.contents)))
+
+abbrev pub is_set_label : SetLabel → Bool
+is_set_label s = is_text s.name && (is_text s.version && (is_between 1 set_module_limit (length s.modules) && (list_all is_number s.modules && are_distinct_numbers s.modules)))
+
+abbrev pub is_percentage : ℕ → Bool
+is_percentage p = is_between 1 percentage_limit p
+
+-- the filter is any text: the verdict looks at it
+abbrev pub is_plan : RolloutPlan → Bool
+is_plan plan = is_between 1 group_limit plan.groups && (is_percentage plan.success && (is_percentage plan.error && (is_text plan.name && (is_number plan.set_number && is_utf8 plan.filter_text))))
+
+abbrev pub are_details : List Bytes → Bool
+are_details details = nat_le (length details) detail_limit && list_all is_detail details
+
+-- ---- commands. An import has any number of rows and may name a target twice
+abbrev pub is_well_formed : Command → Bool
+is_well_formed (AddModule label) = is_text label.name && (is_text label.kind && is_text label.version)
+is_well_formed (AddArtifact u) = is_upload u
+is_well_formed (AddSet s) = is_set_label s
+is_well_formed (PutTargets rows) = list_all is_target_row rows
+is_well_formed (Tag t x) = is_word t && is_word x
+is_well_formed (Untag t x) = is_word t && is_word x
+is_well_formed (PutAttributes device attributes) = is_credential device && (nat_le (length attributes) attribute_limit && list_all is_attribute attributes)
+is_well_formed (CreateRollout plan) = is_plan plan
+is_well_formed (Approve r) = is_number r
+is_well_formed (Deny r) = is_number r
+is_well_formed (Start r) = is_number r
+is_well_formed (Pause r) = is_number r
+is_well_formed (Resume r) = is_number r
+is_well_formed (TriggerNext r) = is_number r
+is_well_formed (Cancel t k force) = is_word t && is_number k
+is_well_formed (Feedback report) = is_credential report.credential && (is_number report.action && are_details report.details)
+is_well_formed (CancelFeedback report) = is_credential report.credential && (is_number report.action && are_details report.details)
+
+abbrev pub IsWellFormed : Command → Type 0
+IsWellFormed c = is_well_formed c ≡ true

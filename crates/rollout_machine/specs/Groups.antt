@@ -1,0 +1,27 @@
+-- How members are cut into groups.
+use Rattle.std.specs.Prelude.{Bool, ◌&&◌, nat_le, ℕ, ◌+◌, ◌-◌, ◌*◌, ◌/◌, List}
+use Rattle.rollout_machine.specs.declared.bounds.Bounds.{Bounds}
+use Rattle.rollout_machine.specs.Ranges.{each_from}
+
+-- the last position of group i of m members in n groups
+abbrev pub last_position : ℕ → ℕ → ℕ → ℕ
+last_position m n i = (i * m) / n
+
+abbrev pub first_position : ℕ → ℕ → ℕ → ℕ
+first_position m n i = last_position m n (i - 1) + 1
+
+abbrev pub bounds_of : ℕ → ℕ → ℕ → Bounds
+bounds_of m n i = record { first = first_position m n i; last = last_position m n i }
+
+abbrev pub size_of_bounds : Bounds → ℕ
+size_of_bounds b = (b.last + 1) - b.first
+
+abbrev pub group_size : ℕ → ℕ → ℕ → ℕ
+group_size m n i = size_of_bounds (bounds_of m n i)
+
+abbrev pub holds_position : ℕ → Bounds → Bool
+holds_position j b = nat_le b.first j && nat_le j b.last
+
+-- the bounds of all groups
+abbrev pub cut : ℕ → ℕ → List Bounds
+cut m n = each_from (bounds_of m n) 1 n

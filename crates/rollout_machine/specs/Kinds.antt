@@ -1,0 +1,77 @@
+-- The kinds of records: those that are stored at every schema, and the derived ones.
+use Rattle.rollout_machine.specs.Commands.{Bytes, RolloutPlan, SetLabel, ModuleLabel}
+use Rattle.rollout_machine.specs.Offers.{Offer, offer}
+use Rattle.rollout_machine.specs.Records.{ArtifactRecord, GroupRecord, Approval, ActionRecord, Records, RolloutRecord}
+use Rattle.rollout_machine.specs.Targets.{Target}
+use Rattle.rollout_machine.specs.Verdicts.{notes_of}
+use Rattle.std.specs.Prelude.{ℕ, Bool, List, [], ◌∷◌, ◌++◌, map, Option, Some, None}
+use Rattle.rollout_machine.specs.declared.bounds.Bounds.{Bounds}
+
+pub record StoredGroup : Type 0 where
+  pub number : ℕ
+  pub bounds : Bounds
+  pub started : Bool
+
+pub record StoredRollout : Type 0 where
+  pub number : ℕ
+  pub plan : RolloutPlan
+  pub members : List Bytes
+  pub approval : Approval
+  pub started : Bool
+  pub paused : Bool
+  pub groups : List StoredGroup
+
+pub record StoredRecords : Type 0 where
+  pub approval : Bool
+  pub modules : List ModuleLabel
+  pub artifacts : List ArtifactRecord
+  pub sets : List SetLabel
+  pub targets : List Target
+  pub rollouts : List StoredRollout
+  pub actions : List ActionRecord
+
+abbrev pub stored_group : GroupRecord → StoredGroup
+stored_group g = record { number = g.number; bounds = g.bounds; started = g.started }
+
+abbrev pub stored_rollout : RolloutRecord → StoredRollout
+stored_rollout x = record { number = x.number; plan = x.plan; members = x.members; approval = x.approval; started = x.started; paused = x.paused; groups = map stored_group x.groups }
+
+-- the records without the counts of groups. They alone are what a desk of version 0 holds
+abbrev pub stored : Records → StoredRecords
+stored rs = record { approval = rs.approval; modules = rs.modules; artifacts = rs.artifacts; sets = rs.sets; targets = rs.targets; rollouts = map stored_rollout rs.rollouts; actions = rs.actions }
+
+-- ---- derived kinds: counts of groups, numbers of notes by action, offers by target
+
+pub record GroupCounts : Type 0 where
+  pub rollout : ℕ
+  pub group : ℕ
+  pub ok : ℕ
+  pub bad : ℕ
+  pub gone : ℕ
+
+abbrev pub counts_of : RolloutRecord → List GroupCounts
+counts_of x = map (λ (g : GroupRecord). record { rollout = x.number; group = g.number; ok = g.ok; bad = g.bad; gone = g.gone }) x.groups
+
+abbrev pub counts_of_all : List RolloutRecord → List GroupCounts
+counts_of_all [] = []
+counts_of_all (x ∷ xs) = counts_of x ++ counts_of_all xs
+
+pub record TargetOffer : Type 0 where
+  pub target : Bytes
+  pub offer : Offer
+
+abbrev pub offer_to : Bytes → Option Offer → List TargetOffer
+offer_to t None = []
+offer_to t (Some o) = record { target = t; offer = o } ∷ []
+
+abbrev pub offers_to : Records → List Target → List TargetOffer
+offers_to rs [] = []
+offers_to rs (t ∷ ts) = offer_to t.id (offer rs t.id) ++ offers_to rs ts
+
+pub record DerivedRecords : Type 0 where
+  pub counts : List GroupCounts
+  pub notes : List ℕ
+  pub offers : List TargetOffer
+
+abbrev pub derived : Records → DerivedRecords
+derived rs = record { counts = counts_of_all rs.rollouts; notes = map notes_of rs.actions; offers = offers_to rs rs.targets }

@@ -1,0 +1,154 @@
+-- The records of a desk as one finite value, and what they are at a command list.
+use Rattle.std.specs.Prelude.{ℕ, suc, Bool, true, false, cond, nat_eq, List, [], ◌∷◌, ◌++◌, map, length, Option, Some, None}
+use Rattle.std.specs.Option.{option_or}
+use Rattle.rollout_machine.specs.Actions.{ActionPlace, action_places, HistoryEntry, outcome, is_canceling, history}
+use Rattle.rollout_machine.specs.CommandList.{CommandList, Make, ◌▸◌}
+use Rattle.rollout_machine.specs.Commands.{Bytes, ModuleLabel, SetLabel, Upload, RolloutPlan, Command, AddModule, AddArtifact, AddSet, Approve, Deny, Outcome, Good, Bad, Gone}
+use Rattle.rollout_machine.specs.Counts.{tally}
+use Rattle.rollout_machine.specs.Digests.{digest_of}
+use Rattle.rollout_machine.specs.Progress.{is_paused, is_group_started, is_rollout_started}
+use Rattle.rollout_machine.specs.Ranges.{each_from}
+use Rattle.rollout_machine.specs.Rollouts.{Rollout, rollouts, bounds_in}
+use Rattle.rollout_machine.specs.Targets.{Target, targets}
+use Rattle.rollout_machine.specs.declared.bounds.Bounds.{Bounds}
+
+pub data Approval : Type 0 where
+  Waiting : Approval
+  Denied : Approval
+  Given : Approval
+
+-- what is kept of an artifact: whether its request named a digest, and which, is no part of it
+pub record ArtifactRecord : Type 0 where
+  pub module_number : ℕ
+  pub filename : Bytes
+  pub size : ℕ
+  pub digest : Bytes
+  pub contents : Bytes
+
+pub record GroupRecord : Type 0 where
+  pub number : ℕ
+  pub bounds : Bounds
+  pub started : Bool
+  pub ok : ℕ
+  pub bad : ℕ
+  pub gone : ℕ
+
+pub record RolloutRecord : Type 0 where
+  pub number : ℕ
+  pub plan : RolloutPlan
+  pub members : List Bytes
+  pub approval : Approval
+  pub started : Bool
+  pub paused : Bool
+  pub groups : List GroupRecord
+
+pub record ActionRecord : Type 0 where
+  pub rollout : ℕ
+  pub position : ℕ
+  pub canceling : Bool
+  pub outcome : Option Outcome
+  pub history : List HistoryEntry
+
+pub record Records : Type 0 where
+  pub approval : Bool
+  pub modules : List ModuleLabel
+  pub artifacts : List ArtifactRecord
+  pub sets : List SetLabel
+  pub targets : List Target
+  pub rollouts : List RolloutRecord
+  pub actions : List ActionRecord
+
+-- ---- the records of a command list
+
+abbrev pub needs_approval : CommandList → Bool
+needs_approval (Make approval) = approval
+needs_approval (h ▸ c) = needs_approval h
+
+abbrev pub added_modules : Command → List ModuleLabel
+added_modules (AddModule label) = label ∷ []
+added_modules _ = []
+
+abbrev pub modules : CommandList → List ModuleLabel
+modules (Make approval) = []
+modules (h ▸ c) = modules h ++ added_modules c
+
+abbrev pub artifact_from : Upload → ArtifactRecord
+artifact_from u = record { module_number = u.module_number; filename = u.filename; size = length u.contents; digest = digest_of u.contents; contents = u.contents }
+
+abbrev pub added_artifacts : Command → List ArtifactRecord
+added_artifacts (AddArtifact upload) = artifact_from upload ∷ []
+added_artifacts _ = []
+
+abbrev pub artifacts : CommandList → List ArtifactRecord
+artifacts (Make approval) = []
+artifacts (h ▸ c) = artifacts h ++ added_artifacts c
+
+abbrev pub added_sets : Command → List SetLabel
+added_sets (AddSet label) = label ∷ []
+added_sets _ = []
+
+abbrev pub sets : CommandList → List SetLabel
+sets (Make approval) = []
+sets (h ▸ c) = sets h ++ added_sets c
+
+-- approved or denied by the command
+abbrev pub decision_on : ℕ → Command → Option Bool
+decision_on r (Approve q) = cond (nat_eq q r) (Some true) None
+decision_on r (Deny q) = cond (nat_eq q r) (Some false) None
+decision_on r _ = None
+
+abbrev pub decided : ℕ → CommandList → Option Bool
+decided r (Make approval) = None
+decided r (h ▸ c) = option_or (decided r h) (decision_on r c)
+
+abbrev pub approval_by : Option Bool → Approval
+approval_by None = Waiting
+approval_by (Some b) = cond b Given Denied
+
+abbrev pub approval_of : ℕ → CommandList → Approval
+approval_of r h = cond (needs_approval h) (approval_by (decided r h)) Given
+
+abbrev pub group_in : Rollout → ℕ → CommandList → ℕ → GroupRecord
+group_in x r h i = record {
+  number = i;
+  bounds = bounds_in x i;
+  started = is_group_started x r i h;
+  ok = tally Good x r i h;
+  bad = tally Bad x r i h;
+  gone = tally Gone x r i h;
+}
+
+abbrev pub rollout_in : CommandList → ℕ → Rollout → RolloutRecord
+rollout_in h r x = record {
+  number = r;
+  plan = x.plan;
+  members = x.members;
+  approval = approval_of r h;
+  started = is_rollout_started r h;
+  paused = is_paused x r h;
+  groups = each_from (group_in x r h) 1 x.plan.groups;
+}
+
+abbrev pub rollouts_in : CommandList → ℕ → List Rollout → List RolloutRecord
+rollouts_in h r [] = []
+rollouts_in h r (x ∷ xs) = rollout_in h r x ∷ rollouts_in h (suc r) xs
+
+abbrev pub action_in : CommandList → ActionPlace → ActionRecord
+action_in h p = record {
+  rollout = p.rollout;
+  position = p.position;
+  canceling = is_canceling h p.rollout p.position;
+  outcome = outcome h p.rollout p.position;
+  history = history h p.rollout p.position;
+}
+
+abbrev pub records : CommandList → Records
+records h = record {
+  approval = needs_approval h;
+  modules = modules h;
+  artifacts = artifacts h;
+  sets = sets h;
+  targets = targets h;
+  rollouts = rollouts_in h 1 (rollouts h);
+  actions = map (action_in h) (action_places h);
+}

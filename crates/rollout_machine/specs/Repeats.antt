@@ -1,0 +1,64 @@
+-- Repeats, imports that come twice, and the command list without them.
+use Rattle.rollout_machine.specs.Actions.{ActionPlace, action_place, outcome}
+use Rattle.rollout_machine.specs.ByteStrings.{same_bytes}
+use Rattle.rollout_machine.specs.CommandList.{◌▸◌, Make, CommandList}
+use Rattle.rollout_machine.specs.Commands.{PutTargets, TargetRow, Feedback, CancelFeedback, Bytes, Command}
+use Rattle.rollout_machine.specs.Records.{records}
+use Rattle.rollout_machine.specs.Validity.{IsValid}
+use Rattle.rollout_machine.specs.Verdicts.{verdict}
+use Rattle.std.specs.Prelude.{◌≡◌, Bool, true, false, ◌&&◌, ◌||◌, cond, List, [], ◌∷◌, Option, Some, None, is_some}
+
+abbrev pub has_outcome : CommandList → Option ActionPlace → Bool
+has_outcome h None = false
+has_outcome h (Some p) = is_some (outcome h p.rollout p.position)
+
+-- a feedback on an action that has an outcome before it
+abbrev pub is_repeat : CommandList → Command → Bool
+is_repeat h (Feedback report) = has_outcome h (action_place h report.action)
+is_repeat h (CancelFeedback report) = has_outcome h (action_place h report.action)
+is_repeat h _ = false
+
+abbrev pub same_words : List Bytes → List Bytes → Bool
+same_words [] [] = true
+same_words [] (v ∷ vs) = false
+same_words (w ∷ ws) [] = false
+same_words (w ∷ ws) (v ∷ vs) = same_bytes w v && same_words ws vs
+
+abbrev pub same_row : TargetRow → TargetRow → Bool
+same_row a b = same_bytes a.id b.id && (same_bytes a.name b.name && (same_bytes a.digest b.digest && same_words a.tags b.tags))
+
+abbrev pub same_rows : List TargetRow → List TargetRow → Bool
+same_rows [] [] = true
+same_rows [] (b ∷ bs) = false
+same_rows (a ∷ as') [] = false
+same_rows (a ∷ as') (b ∷ bs) = same_row a b && same_rows as' bs
+
+abbrev pub imported : Command → Option (List TargetRow)
+imported (PutTargets rows) = Some rows
+imported _ = None
+
+abbrev pub imported_last : CommandList → Option (List TargetRow)
+imported_last (Make approval) = None
+imported_last (h ▸ c) = imported c
+
+abbrev pub both_same : Option (List TargetRow) → Option (List TargetRow) → Bool
+both_same (Some rows) (Some more) = same_rows rows more
+both_same _ _ = false
+
+-- a PutTargets that directly follows an equal one
+abbrev pub is_doubled : CommandList → Command → Bool
+is_doubled h c = both_same (imported_last h) (imported c)
+
+-- the list without its repeats and doubled imports
+abbrev pub calm : CommandList → CommandList
+calm (Make approval) = Make approval
+calm (h ▸ c) = cond (is_repeat h c || is_doubled h c) (calm h) (calm h ▸ c)
+
+-- repeats and doubled imports leave no trace: in the records, and so in the verdict on every command
+pub record IsTraceless (h : CommandList) : Type 0 where
+  pub valid : IsValid (calm h)
+  pub same : records h ≡ records (calm h)
+  pub verdicts : (c : Command) → verdict h c ≡ verdict (calm h) c
+
+abbrev pub RepeatsLeaveNoTrace : Type 0
+RepeatsLeaveNoTrace = (h : CommandList) → IsValid h → IsTraceless h

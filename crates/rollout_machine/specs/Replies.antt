@@ -1,0 +1,109 @@
+-- The replies of a desk as pure values, with the objects that they show.
+use Rattle.std.specs.Prelude.{ℕ, List, Option}
+use Rattle.rollout_machine.specs.Actions.{HistoryEntry}
+use Rattle.rollout_machine.specs.Commands.{Bytes, ModuleLabel, SetLabel, Attribute}
+use Rattle.rollout_machine.specs.Offers.{Offer}
+use Rattle.rollout_model.specs.declared.refusal.Refusal.{Refusal}
+pub use Rattle.rollout_model.specs.declared.module.Module.{Module}
+use Rattle.rollout_machine.specs.StateWords.{RolloutWord, GroupWord, ActionWord, TargetWord}
+
+pub record Artifact : Type 0 where
+  pub number : ℕ
+  pub filename : Bytes
+  pub size : ℕ
+  pub digest : Bytes
+
+pub record DistributionSet : Type 0 where
+  pub number : ℕ
+  pub label : SetLabel
+
+-- a target without its token's digest
+pub record ShownTarget : Type 0 where
+  pub id : Bytes
+  pub name : Bytes
+  pub tags : List Bytes
+  pub attributes : List Attribute
+  pub word : TargetWord
+
+pub record ShownRollout : Type 0 where
+  pub number : ℕ
+  pub name : Bytes
+  pub set_number : ℕ
+  pub filter_text : Bytes
+  pub word : RolloutWord
+  pub groups : ℕ
+  pub targets : ℕ
+
+pub record ShownGroup : Type 0 where
+  pub number : ℕ
+  pub size : ℕ
+  pub ok : ℕ
+  pub bad : ℕ
+  pub gone : ℕ
+  pub word : GroupWord
+
+pub record ShownAction : Type 0 where
+  pub number : ℕ
+  pub rollout : ℕ
+  pub group : ℕ
+  pub target : Bytes
+  pub word : ActionWord
+
+-- an entry with its number within the action, from 1
+pub record ShownEntry : Type 0 where
+  pub number : ℕ
+  pub entry : HistoryEntry
+
+-- a module of a deployment with its artifacts
+pub record Chunk : Type 0 where
+  pub module_number : ℕ
+  pub label : ModuleLabel
+  pub artifacts : List Artifact
+
+-- what a target is to install, by which action
+pub record Deployment : Type 0 where
+  pub target : Bytes
+  pub action : ℕ
+  pub chunks : List Chunk
+
+-- a part of a list, and how many entries the whole has
+pub record PageOf (X : Type 0) : Type 0 where
+  pub content : List X
+  pub total : ℕ
+
+-- a rollout with all its groups
+pub record Report : Type 0 where
+  pub rollout : ShownRollout
+  pub groups : List ShownGroup
+
+pub data Reply : Type 0 where
+  Refused : Refusal → Reply
+  -- of commands: those that name no other reply are done
+  Done : Reply
+  ModuleAdded : Module → Reply
+  ArtifactAdded : Artifact → Reply
+  SetAdded : DistributionSet → Reply
+  TargetsPut : (accepted : ℕ) → Reply
+  RolloutAdded : ShownRollout → Reply
+  -- of queries
+  PollShown : (target : Bytes) → Option Offer → Reply
+  DeploymentShown : Deployment → Reply
+  CancelShown : (action : ℕ) → Reply
+  ContentsShown : Bytes → Reply
+  TargetsShown : PageOf ShownTarget → Reply
+  TargetShown : ShownTarget → Reply
+  ActionsShown : PageOf ShownAction → Reply
+  ActionShown : ShownAction → Reply
+  HistoryShown : PageOf ShownEntry → Reply
+  ModulesShown : PageOf Module → Reply
+  ModuleShown : Module → Reply
+  ArtifactsShown : PageOf Artifact → Reply
+  ArtifactShown : Artifact → Reply
+  SetsShown : PageOf DistributionSet → Reply
+  SetShown : DistributionSet → Reply
+  RolloutsShown : PageOf ShownRollout → Reply
+  RolloutShown : ShownRollout → Reply
+  GroupsShown : PageOf ShownGroup → Reply
+  GroupShown : ShownGroup → Reply
+  ReportShown : Report → Reply
+  ActionsTableShown : List ShownAction → Reply

@@ -1,0 +1,54 @@
+-- The rollouts of a command list with their members.
+use Rattle.std.specs.Prelude.{ℕ, List, [], ◌∷◌, ◌++◌, map, filter, length, Option, Some, None}
+use Rattle.rollout_machine.specs.ByteStrings.{item_numbered}
+use Rattle.rollout_machine.specs.CommandList.{CommandList, Make, ◌▸◌}
+use Rattle.rollout_machine.specs.Commands.{Bytes, RolloutPlan, Command, CreateRollout}
+use Rattle.rollout_machine.specs.Filters.{Filter, matches, filter_of}
+use Rattle.rollout_machine.specs.Groups.{bounds_of, size_of_bounds}
+use Rattle.rollout_machine.specs.Targets.{Target, targets}
+use Rattle.rollout_machine.specs.declared.bounds.Bounds.{Bounds}
+
+pub record Rollout : Type 0 where
+  pub plan : RolloutPlan
+  pub members : List Bytes
+
+abbrev pub chosen : Option Filter → List Target → List Bytes
+chosen None ts = []
+chosen (Some f) ts = map (λ (t : Target). t.id) (filter (matches f) ts)
+
+abbrev pub members_of : Bytes → CommandList → List Bytes
+members_of text h = chosen (filter_of text) (targets h)
+
+abbrev pub created : CommandList → Command → List Rollout
+created h (CreateRollout plan) = record { plan = plan; members = members_of plan.filter_text h } ∷ []
+created h _ = []
+
+-- the rollouts in the order of their numbers
+abbrev pub rollouts : CommandList → List Rollout
+rollouts (Make approval) = []
+rollouts (h ▸ c) = rollouts h ++ created h c
+
+abbrev pub rollout_at : CommandList → ℕ → Option Rollout
+rollout_at h r = item_numbered (rollouts h) r
+
+abbrev pub size_of : Rollout → ℕ
+size_of x = length x.members
+
+-- what a plan says of group i: its bounds among m members, and its thresholds
+abbrev pub bounds_at : RolloutPlan → ℕ → ℕ → Bounds
+bounds_at plan m i = bounds_of m plan.groups i
+
+abbrev pub success_at : RolloutPlan → ℕ → ℕ
+success_at plan i = plan.success
+
+abbrev pub error_at : RolloutPlan → ℕ → ℕ
+error_at plan i = plan.error
+
+abbrev pub bounds_in : Rollout → ℕ → Bounds
+bounds_in x i = bounds_at x.plan (size_of x) i
+
+abbrev pub first_of : Rollout → ℕ → ℕ
+first_of x i = (bounds_in x i).first
+
+abbrev pub size_in : Rollout → ℕ → ℕ
+size_in x i = size_of_bounds (bounds_in x i)

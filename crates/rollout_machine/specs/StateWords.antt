@@ -1,0 +1,110 @@
+-- The state words of rollouts, groups, actions and targets, read from the records.
+use Rattle.std.specs.Prelude.{ℕ, ◌+◌, Bool, false, ◌&&◌, not, cond, nat_eq, List, [], ◌∷◌, filter, Option, Some, None, is_none}
+use Rattle.std.specs.Option.{unwrap_or}
+use Rattle.std.specs.List.{list_any, list_all, find}
+use Rattle.rollout_machine.specs.ByteStrings.{item_numbered, same_bytes}
+use Rattle.rollout_machine.specs.Commands.{Bytes, Good, Bad, Gone}
+use Rattle.rollout_machine.specs.Counts.{reaches}
+use Rattle.rollout_machine.specs.Groups.{size_of_bounds, holds_position}
+use Rattle.rollout_machine.specs.Records.{Approval, Waiting, Denied, Given, GroupRecord, RolloutRecord, ActionRecord, Records}
+use Rattle.rollout_machine.specs.Rollouts.{error_at}
+
+pub data RolloutWord : Type 0 where
+  ApprovalDenied : RolloutWord
+  WaitingForApproval : RolloutWord
+  ReadyRollout : RolloutWord
+  FinishedRollout : RolloutWord
+  PausedRollout : RolloutWord
+  RunningRollout : RolloutWord
+
+pub data GroupWord : Type 0 where
+  ReadyGroup : GroupWord
+  ScheduledGroup : GroupWord
+  FinishedGroup : GroupWord
+  ErrorGroup : GroupWord
+  RunningGroup : GroupWord
+
+pub data ActionWord : Type 0 where
+  FinishedAction : ActionWord
+  ErrorAction : ActionWord
+  CanceledAction : ActionWord
+  ScheduledAction : ActionWord
+  CancelingAction : ActionWord
+  RunningAction : ActionWord
+
+pub data TargetWord : Type 0 where
+  Unknown : TargetWord
+  Pending : TargetWord
+  InSync : TargetWord
+  InError : TargetWord
+
+abbrev pub size_of_group : GroupRecord → ℕ
+size_of_group g = size_of_bounds g.bounds
+
+abbrev pub all_final : GroupRecord → Bool
+all_final g = nat_eq (g.ok + g.bad + g.gone) (size_of_group g)
+
+abbrev pub is_finished : RolloutRecord → Bool
+is_finished x = list_all (λ (g : GroupRecord). g.started && all_final g) x.groups
+
+-- the first that applies, by approval, whether it was started, finished and paused
+abbrev pub word_from : Approval → Bool → Bool → Bool → RolloutWord
+word_from Denied started finished paused = ApprovalDenied
+word_from Waiting started finished paused = WaitingForApproval
+word_from Given started finished paused = cond (not started) ReadyRollout (cond finished FinishedRollout (cond paused PausedRollout RunningRollout))
+
+abbrev pub rollout_word : RolloutRecord → RolloutWord
+rollout_word x = word_from x.approval x.started (is_finished x) x.paused
+
+abbrev pub group_word : RolloutRecord → GroupRecord → GroupWord
+group_word x g =
+    cond (not x.started) ReadyGroup (cond (not g.started) ScheduledGroup (cond (all_final g) FinishedGroup (cond (reaches g.bad (size_of_group g) (error_at x.plan g.number)) ErrorGroup RunningGroup)))
+
+abbrev pub group_numbered : ℕ → List GroupRecord → Option GroupRecord
+group_numbered i gs = find (λ (g : GroupRecord). nat_eq g.number i) gs
+
+abbrev pub group_is_started : Option GroupRecord → Bool
+group_is_started None = false
+group_is_started (Some g) = g.started
+
+-- the group of an action in its rollout: the one whose bounds hold the member's position
+abbrev pub group_holding : ℕ → List GroupRecord → Option GroupRecord
+group_holding j gs = find (λ (g : GroupRecord). holds_position j g.bounds) gs
+
+abbrev pub number_of_group : Option GroupRecord → ℕ
+number_of_group None = 0
+number_of_group (Some g) = g.number
+
+abbrev pub group_number_of : RolloutRecord → ActionRecord → ℕ
+group_number_of x a = number_of_group (group_holding a.position x.groups)
+
+abbrev pub is_started_in : Option RolloutRecord → ActionRecord → Bool
+is_started_in None a = false
+is_started_in (Some x) a = group_is_started (group_holding a.position x.groups)
+
+abbrev pub has_started : Records → ActionRecord → Bool
+has_started rs a = is_started_in (item_numbered rs.rollouts a.rollout) a
+
+abbrev pub action_word : Records → ActionRecord → ActionWord
+action_word rs a = elim a.outcome [
+  | Some o ↦ elim o [ Good ↦ FinishedAction | Bad ↦ ErrorAction | Gone ↦ CanceledAction ]
+  | None ↦ cond (not (has_started rs a)) ScheduledAction (cond a.canceling CancelingAction RunningAction)
+]
+
+abbrev pub member_at : Option RolloutRecord → ℕ → Bytes
+member_at None j = []
+member_at (Some x) j = unwrap_or (item_numbered x.members j) []
+
+abbrev pub is_for : Records → Bytes → ActionRecord → Bool
+is_for rs t a = same_bytes (member_at (item_numbered rs.rollouts a.rollout) a.position) t
+
+abbrev pub started_actions_of : Records → Bytes → List ActionRecord
+started_actions_of rs t = filter (λ a. is_for rs t a && has_started rs a) rs.actions
+
+abbrev pub word_by_last : TargetWord → List ActionRecord → TargetWord
+word_by_last w [] = w
+word_by_last w (a ∷ as') = word_by_last (elim a.outcome [ None ↦ Pending | Some o ↦ elim o [ Good ↦ InSync | Bad ↦ InError | Gone ↦ Unknown ] ]) as'
+
+abbrev pub target_word : Records → Bytes → TargetWord
+target_word rs t =
+    cond (list_any (λ (a : ActionRecord). is_none a.outcome) (started_actions_of rs t)) Pending (word_by_last Unknown (started_actions_of rs t))

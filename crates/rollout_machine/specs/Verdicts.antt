@@ -1,0 +1,151 @@
+-- The verdict on a command: the first test of its row that holds.
+use Rattle.std.specs.Prelude.{ℕ, Bool, true, false, ◌&&◌, ◌||◌, not, cond, nat_eq, nat_lt, nat_le, List, [], ◌∷◌, ◌++◌, map, filter, length, Option, Some, None, is_none, is_some}
+use Rattle.std.specs.List.{list_any, find}
+use Rattle.rollout_machine.specs.Actions.{HistoryEntry, DeploymentEntry, CancelEntry, outcome_of_deployment, outcome_of_cancel}
+use Rattle.rollout_machine.specs.ByteStrings.{item_numbered, same_bytes, contains_word, with_words}
+use Rattle.rollout_machine.specs.CommandList.{CommandList}
+use Rattle.rollout_machine.specs.Commands.{Bytes, Credential, TargetRow, Attribute, ModuleLabel, SetLabel, Upload, RolloutPlan, NotedCancel, Command, AddModule, AddArtifact, AddSet, PutTargets, Tag, Untag, PutAttributes, CreateRollout, Approve, Deny, Start, Pause, Resume, TriggerNext, Cancel, Feedback, CancelFeedback, Outcome}
+use Rattle.rollout_machine.specs.Counts.{is_outcome}
+use Rattle.rollout_machine.specs.Digests.{digest_of}
+use Rattle.rollout_machine.specs.Filters.{filter_of}
+use Rattle.rollout_model.specs.Limits.{rollout_limit, module_limit, set_limit, module_artifact_limit, artifact_limit, target_limit, tag_limit, attribute_limit, note_limit}
+use Rattle.rollout_machine.specs.Records.{ArtifactRecord, GroupRecord, RolloutRecord, ActionRecord, Records, records}
+use Rattle.rollout_model.specs.declared.refusal.Refusal.{Refusal}
+use Rattle.rollout_model.specs.declared.refusal.Refusal.TheVariants.{Unauthorized, NotFound, Exists, Locked, WrongState, ClosedAction, Quota, BadFilter, TooFewTargets, WrongDigest}
+use Rattle.rollout_machine.specs.Rollouts.{chosen}
+use Rattle.rollout_machine.specs.StateWords.{rollout_word, has_started, is_for, WaitingForApproval, ReadyRollout, PausedRollout, RunningRollout, RolloutWord}
+use Rattle.rollout_machine.specs.Targets.{Target}
+
+-- a row of the table: tests in their order, and what each refuses with
+abbrev pub first_refusal : List (Bool × Refusal) → Option Refusal
+first_refusal [] = None
+first_refusal ((t, refusal) ∷ row) = cond t (Some refusal) (first_refusal row)
+
+abbrev pub target_of : Records → Bytes → Option Target
+target_of rs t = find (λ (x : Target). same_bytes x.id t) rs.targets
+
+abbrev pub is_known : Records → Credential → Bool
+is_known rs device = list_any (λ (x : Target). same_bytes x.id device.id && same_bytes x.digest device.digest) rs.targets
+
+abbrev pub tags_of : Option Target → List Bytes
+tags_of None = []
+tags_of (Some x) = x.tags
+
+abbrev pub keys_of : Option Target → List Bytes
+keys_of None = []
+keys_of (Some x) = map (λ (a : Attribute). a.key) x.attributes
+
+abbrev pub word_is : (RolloutWord → Bool) → Option RolloutRecord → Bool
+word_is p None = false
+word_is p (Some x) = p (rollout_word x)
+
+abbrev pub is_waiting : RolloutWord → Bool
+is_waiting WaitingForApproval = true
+is_waiting _ = false
+
+abbrev pub is_ready : RolloutWord → Bool
+is_ready ReadyRollout = true
+is_ready _ = false
+
+abbrev pub is_running : RolloutWord → Bool
+is_running RunningRollout = true
+is_running _ = false
+
+abbrev pub is_at_pause : RolloutWord → Bool
+is_at_pause PausedRollout = true
+is_at_pause _ = false
+
+abbrev pub has_next : Option RolloutRecord → Bool
+has_next None = false
+has_next (Some x) = list_any (λ (g : GroupRecord). not g.started) x.groups
+
+-- a command on a rollout: it is there, and the test holds
+abbrev pub rollout_row : Records → ℕ → (RolloutWord → Bool) → List (Bool × Refusal)
+rollout_row rs r p = (is_none (item_numbered rs.rollouts r), NotFound) ∷ (not (word_is p (item_numbered rs.rollouts r)), WrongState) ∷ []
+
+abbrev pub is_note : HistoryEntry → Bool
+is_note (DeploymentEntry word details) = is_none (outcome_of_deployment word)
+is_note (CancelEntry (NotedCancel p) details) = true
+is_note (CancelEntry _ details) = false
+
+abbrev pub notes_of : ActionRecord → ℕ
+notes_of a = length (filter is_note a.history)
+
+abbrev pub same_outcome : Option Outcome → Option Outcome → Bool
+same_outcome (Some o) p = is_outcome o p
+same_outcome None p = false
+
+abbrev pub is_device_action : Records → Bytes → Option ActionRecord → Bool
+is_device_action rs t None = false
+is_device_action rs t (Some a) = is_for rs t a && has_started rs a
+
+abbrev pub on_action : (ActionRecord → Bool) → Option ActionRecord → Bool
+on_action p None = false
+on_action p (Some a) = p a
+
+abbrev pub plan_row : Records → RolloutPlan → List (Bool × Refusal)
+plan_row rs plan =
+    (is_none (filter_of plan.filter_text), BadFilter)
+    ∷ (is_none (item_numbered rs.sets plan.set_number), NotFound)
+    ∷ (list_any (λ (x : RolloutRecord). same_bytes x.plan.name plan.name) rs.rollouts, Exists)
+    ∷ (nat_lt (length (chosen (filter_of plan.filter_text) rs.targets)) plan.groups, TooFewTargets)
+    ∷ (nat_le rollout_limit (length rs.rollouts), Quota) ∷ []
+
+-- a set names the module
+abbrev pub is_named_by_set : List SetLabel → ℕ → Bool
+is_named_by_set sets m = list_any (λ (s : SetLabel). list_any (λ n. nat_eq n m) s.modules) sets
+
+abbrev pub wrong_digest : Upload → Bool
+wrong_digest u = elim u.expected [ None ↦ false | Some d ↦ not (same_bytes d (digest_of u.contents)) ]
+
+abbrev pub verdict_row : Records → Command → List (Bool × Refusal)
+verdict_row rs (AddModule label) =
+    (list_any (λ (m : ModuleLabel). same_bytes m.name label.name && (same_bytes m.kind label.kind && same_bytes m.version label.version)) rs.modules, Exists)
+    ∷ (nat_le module_limit (length rs.modules), Quota) ∷ []
+verdict_row rs (AddArtifact u) =
+    (is_none (item_numbered rs.modules u.module_number), NotFound)
+    ∷ (is_named_by_set rs.sets u.module_number, Locked)
+    ∷ (list_any (λ (v : ArtifactRecord). nat_eq v.module_number u.module_number && same_bytes v.filename u.filename) rs.artifacts, Exists)
+    ∷ (nat_le module_artifact_limit (length (filter (λ (v : ArtifactRecord). nat_eq v.module_number u.module_number) rs.artifacts)) || nat_le artifact_limit (length rs.artifacts), Quota)
+    ∷ (wrong_digest u, WrongDigest) ∷ []
+verdict_row rs (AddSet s) =
+    (list_any (λ m. is_none (item_numbered rs.modules m)) s.modules, NotFound)
+    ∷ (list_any (λ (v : SetLabel). same_bytes v.name s.name && same_bytes v.version s.version) rs.sets, Exists)
+    ∷ (nat_le set_limit (length rs.sets), Quota) ∷ []
+verdict_row rs (PutTargets rows) =
+    (nat_lt target_limit (length (with_words (map (λ (row : TargetRow). row.id) rows) (map (λ (t : Target). t.id) rs.targets))), Quota) ∷ []
+verdict_row rs (Tag t x) =
+    (is_none (target_of rs t), NotFound) ∷ (not (contains_word x (tags_of (target_of rs t))) && nat_le tag_limit (length (tags_of (target_of rs t))), Quota) ∷ []
+verdict_row rs (Untag t x) = (is_none (target_of rs t), NotFound) ∷ []
+verdict_row rs (PutAttributes device attributes) =
+    (not (is_known rs device), Unauthorized)
+    ∷ (nat_lt attribute_limit (length (with_words (map (λ (a : Attribute). a.key) attributes) (keys_of (target_of rs device.id)))), Quota) ∷ []
+verdict_row rs (CreateRollout plan) = plan_row rs plan
+verdict_row rs (Approve r) = rollout_row rs r is_waiting
+verdict_row rs (Deny r) = rollout_row rs r is_waiting
+verdict_row rs (Start r) = rollout_row rs r is_ready
+verdict_row rs (Pause r) = rollout_row rs r is_running
+verdict_row rs (Resume r) = rollout_row rs r is_at_pause
+verdict_row rs (TriggerNext r) = rollout_row rs r is_running ++ (not (has_next (item_numbered rs.rollouts r)), WrongState) ∷ []
+verdict_row rs (Cancel t k force) =
+    (is_none (target_of rs t) || not (on_action (is_for rs t) (item_numbered rs.actions k)), NotFound)
+    ∷ (on_action (λ a. is_some a.outcome) (item_numbered rs.actions k), ClosedAction)
+    ∷ (on_action (λ a. not (has_started rs a) || (a.canceling && not force)) (item_numbered rs.actions k), WrongState) ∷ []
+verdict_row rs (Feedback report) =
+    (not (is_known rs report.credential), Unauthorized)
+    ∷ (not (is_device_action rs report.credential.id (item_numbered rs.actions report.action)), NotFound)
+    ∷ (on_action (λ a. is_some a.outcome && not (same_outcome (outcome_of_deployment report.word) a.outcome)) (item_numbered rs.actions report.action), ClosedAction)
+    ∷ (on_action (λ a. is_none a.outcome && (is_note (DeploymentEntry report.word report.details) && nat_le note_limit (notes_of a))) (item_numbered rs.actions report.action), Quota) ∷ []
+verdict_row rs (CancelFeedback report) =
+    (not (is_known rs report.credential), Unauthorized)
+    ∷ (not (is_device_action rs report.credential.id (item_numbered rs.actions report.action)), NotFound)
+    ∷ (on_action (λ a. is_some a.outcome && not (same_outcome (outcome_of_cancel report.word) a.outcome)) (item_numbered rs.actions report.action), ClosedAction)
+    ∷ (on_action (λ a. is_none a.outcome && not a.canceling) (item_numbered rs.actions report.action), WrongState)
+    ∷ (on_action (λ a. is_none a.outcome && (is_note (CancelEntry report.word report.details) && nat_le note_limit (notes_of a))) (item_numbered rs.actions report.action), Quota) ∷ []
+
+-- the first refusal of the row that applies
+abbrev pub check : Records → Command → Option Refusal
+check rs c = first_refusal (verdict_row rs c)
+
+abbrev pub verdict : CommandList → Command → Option Refusal
+verdict h c = check (records h) c

@@ -1,0 +1,85 @@
+//! What the definitions of the machine mean: laws of all command lists.
+
+ghost use Rattle.rollout_machine.specs.Meanings.{NumbersActions, NumbersDiffer, RowIsLast, TagsAreSaid, PatternIsFilled, OutcomeIsFirst, CancelingIsLast, PausedIs, FirstStartedIs, StartedIs, FinalIsAll, OfferIsLeast, TargetsAreNamed, ValueIsLast};
+ghost use Rattle.rollout_machine.specs.Repeats.{RepeatsLeaveNoTrace};
+ghost use Rattle.rollout_machine.specs.Validity.{StepsRecords};
+
+/// The records of a list of accepted commands change by one step a command.
+pub fn records_follow()
+    ensures { StepsRecords }
+{}
+
+/// An action's number is its member's position plus the sizes of the rollouts started before.
+pub fn numbers_actions()
+    ensures { NumbersActions }
+{}
+
+/// No two numbers have one action.
+pub fn numbers_differ()
+    ensures { NumbersDiffer }
+{}
+
+/// The row of a target is the last that names it.
+pub fn row_is_last()
+    ensures { RowIsLast }
+{}
+
+/// A target is there where some row names it.
+pub fn targets_are_named()
+    ensures { TargetsAreNamed }
+{}
+
+/// The value of an attribute is the last that was given to its key.
+pub fn value_is_last()
+    ensures { ValueIsLast }
+{}
+
+/// A tag is listed where the last command that spoke of it says so.
+pub fn tags_are_said()
+    ensures { TagsAreSaid }
+{}
+
+/// A pattern matches the texts that are its pieces in order with some text in each place of a star.
+pub fn pattern_is_filled()
+    ensures { PatternIsFilled }
+{}
+
+/// An action's outcome is that of the first command that gives it one.
+pub fn outcome_is_first()
+    ensures { OutcomeIsFirst }
+{}
+
+/// An action is canceling where it is open and the last among its cancels and rejections is a cancel.
+pub fn canceling_is_last()
+    ensures { CancelingIsLast }
+{}
+
+/// A rollout is paused where some prefix began a pause and no resume follows.
+pub fn paused_is()
+    ensures { PausedIs }
+{}
+
+/// The first group is started where the start is in the list.
+pub fn first_started_is()
+    ensures { FirstStartedIs }
+{}
+
+/// A further group is started at some prefix, by success without a pause or by a trigger.
+pub fn started_is()
+    ensures { StartedIs }
+{}
+
+/// The offer is the least open action of a started group.
+pub fn offer_is_least()
+    ensures { OfferIsLeast }
+{}
+
+/// Repeated feedback and doubled imports leave no trace.
+pub fn repeats_leave_no_trace()
+    ensures { RepeatsLeaveNoTrace }
+{}
+
+/// A group's counts add up to its size where each of its members has an outcome.
+pub fn final_is_all()
+    ensures { FinalIsAll }
+{}

@@ -1,0 +1,16 @@
+//! The definitions of a staged firmware rollout: what a desk answers, said over nothing but the list of the commands that it
+//! accepted, the records that such a list amounts to, and the laws that tie the two. All stand in `specs/`; the functions here
+//! state the laws, so that the check proves them, and the types are those that the definitions share with the code above.
+#![tactic(auto)]
+
+pub mod laws;
+
+mod bounds;
+mod outcome;
+mod view;
+mod well_formed;
+
+pub use bounds::Bounds;
+pub use outcome::Outcome;
+pub use view::{Effects, GroupView, RolloutView};
+pub use well_formed::command_is_well_formed;

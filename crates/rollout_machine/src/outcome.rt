@@ -1,0 +1,9 @@
+//! How actions end.
+
+/// How an action ended: installed, failed, or gone without either.
+#[derive(Clone, Copy, Debug, PartialEq, Eq)]
+pub enum Outcome {
+    Good,
+    Bad,
+    Gone,
+}
