@@ -1,0 +1,96 @@
+-- A plain expression is lowered alike under two contexts that find the same columns.
+use Rattle.std.proofs.Common.{◌≡◌, refl, sym, ◌∙◌, ℕ, zero, suc, false, Option, Some, None}
+use Rattle.std.specs.Bool.{⊤}
+use Rattle.sqlite_sql.specs.Term.{Term, lit, col, op1, op2, case}
+use Rattle.sqlite_sql.specs.declared.ops.BinaryOp.{BinaryOp}
+use Rattle.sqlite_sql.specs.declared.ops.BinaryOp.TheVariants as by
+use Rattle.sqlite_value.specs.declared.keys.Collation.{Collation}
+use Rattle.sqlite_ast.specs.declared.Expr.{Expr, out-Expr}
+use Rattle.sqlite_ast.specs.declared.Binary.{Binary}
+use Rattle.sqlite_ast.specs.Layer.{Layer}
+use Rattle.sqlite_ast.specs.declared.Expr.TheOpen.{Expr-F}
+use Rattle.sqlite_resolve.specs.Expr.{operator, applied, both, operation, node_at, between, bounded, is_identity, tests_truth, tests_alias, wanted_truth}
+use Rattle.sqlite_resolve.specs.Lowering.{again}
+use Rattle.sqlite_sql.specs.declared.ops.CompareOp.{CompareOp}
+use Rattle.sqlite_sql.specs.declared.ops.CompareOp.TheVariants as compare
+use Rattle.sqlite_resolve.specs.declared.state.Carried.{Carried}
+use Rattle.sqlite_resolve.specs.Scope.{Name, Context, column}
+use Rattle.sqlite_resolve.specs.Compare.{compared, affinity_of, of_column, converted}
+use Rattle.sqlite_resolve.specs.Lowering.{Lowering, ◌>>=◌, ◌>>◌, pure, last, spend, begin, finish, chosen}
+use Rattle.sqlite_resolve.specs.Expr.{lower_to, node, opened, combine, passes}
+
+pub record Same (a b : Context) : Type 0 where
+  pub columns : (table : Option Name) (name : Name) → column a table name ≡ column b table name
+  pub affinities : (slot at : ℕ) → of_column a slot at ≡ of_column b slot at
+
+-- the operators that are neither IS, IS NOT nor ||
+abbrev pub IsSimple : Binary → Type 0
+IsSimple op = (is_identity op ≡ false) × ((cx : Context) (how : Collation) (x y : Term) → combine cx op how x y ≡ applied cx (operator how op) x y)
+
+-- literals, parameters, columns, simple operators and BETWEEN
+abbrev pub PlainLayer : (Expr → Type 0) → Layer → Type 0
+PlainLayer P Expr-F.Null = ⊤
+PlainLayer P (Expr-F.Integer text) = ⊤
+PlainLayer P (Expr-F.Text text) = ⊤
+PlainLayer P (Expr-F.Parameter k) = ⊤
+PlainLayer P (Expr-F.Column table name) = ⊤
+PlainLayer P (Expr-F.Binary op x y) = IsSimple op × P x × P y
+PlainLayer P (Expr-F.Between x low high) = P x × P low × P high
+PlainLayer P _ = ⊥
+
+abbrev pub IsPlain : ℕ → Expr → Type 0
+IsPlain zero e = ⊤
+IsPlain (suc n) e = PlainLayer (IsPlain n) (out-Expr e)
+
+module _ (a b : Context) (same : Same a b) where
+  affinity_same : (t : Term) → affinity_of a t ≡ affinity_of b t
+  unfolding affinity_of
+  affinity_same (lit v) = refl
+  affinity_same (col slot at) = same.affinities slot at
+  affinity_same (op1 op x) = refl
+  affinity_same (op2 op x y) = refl
+  affinity_same (case t x y) = refl
+
+  compared_same : (op : BinaryOp) (x y : Term) → compared a op x y ≡ compared b op x y
+  unfolding compared
+  compared_same op x y = λ i. op2 op (converted (affinity_same x i) (affinity_same y i) x) (converted (affinity_same y i) (affinity_same x i) y)
+
+  abbrev two_sides : (Context → Expr → Lowering Term) → Context → Binary → Expr → Expr → Lowering Term
+  two_sides low cx op x y = low cx x >>= (λ t. last >>= (λ p. low cx y >>= (λ u. last >>= (λ q. applied cx (operator (chosen p q) op) t u))))
+
+  is_two_sides : (low : Context → Expr → Lowering Term) (cx : Context) (op : Binary) (x y : Expr) → IsSimple op → operation low cx op x y ≡ two_sides low cx op x y
+  unfolding operation both wanted_truth tests_truth tests_alias
+  is_two_sides low cx op x y simple = rw simple.0 (rw simple.0 (λ i. low cx x >>= (λ t. last >>= (λ p. low cx y >>= (λ u. last >>= (λ q. simple.1 cx (chosen p q) t u i))))))
+
+  bounded_same : (low : Context → Expr → Lowering Term) (op : CompareOp) (x : Term) (p : Carried) (e : Expr) → low a e ≡ low b e → bounded low a op x p e ≡ bounded low b op x p e
+  unfolding bounded
+  bounded_same low op x p e h = λ i. h i >>= (λ t. last >>= (λ q. pure (compared_same (by.Compare op (chosen p q)) x t i)))
+
+  applied_same : (o : Option BinaryOp) (x y : Term) → applied a o x y ≡ applied b o x y
+  applied_same None x y = refl
+  applied_same (Some (by.Compare c k)) x y = λ i. pure (compared_same (by.Compare c k) x y i)
+  applied_same (Some (by.Is k)) x y = λ i. pure (compared_same (by.Is k) x y i)
+  applied_same (Some o) x y = refl
+
+  layer_same : (low : Context → Expr → Lowering Term) (P : Expr → Type 0) → ((e : Expr) → P e → low a e ≡ low b e) → (l : Layer) → PlainLayer P l → node_at low a l ≡ node_at low b l
+  unfolding between
+  layer_same low P below Expr-F.Null h = refl
+  layer_same low P below (Expr-F.Integer text) h = refl
+  layer_same low P below (Expr-F.Text text) h = refl
+  layer_same low P below (Expr-F.Parameter k) h = refl
+  layer_same low P below (Expr-F.Column table name) h = same.columns table name
+  layer_same low P below (Expr-F.Binary op x y) h =
+      is_two_sides low a op x y h.0
+      ∙ (λ i. below x h.1 i >>= (λ t. last >>= (λ p. below y h.2 i >>= (λ u. last >>= (λ q. applied_same (operator (chosen p q) op) t u i)))))
+      ∙ sym (is_two_sides low b op x y h.0)
+  layer_same low P below (Expr-F.Between x lo hi) h =
+      λ i. below x h.0 i >>= (λ t. last >>= (λ p. again t >>= (λ t'. bounded_same low compare.Ge t' p lo (below lo h.1) i >>= (λ above. bounded_same low compare.Le t p hi (below hi h.2) i >>= (λ under. pure (op2 by.And above under))))))
+  layer_same low P below _ h = absurd h
+
+  -- whatever the schemas are, and wherever the tables stand in them
+  pub lower_same : (n : ℕ) (e : Expr) → IsPlain n e → lower_to n a e ≡ lower_to n b e
+  unfolding lower_to node opened
+  lower_same zero e h = refl
+  lower_same (suc n) e h =
+      let inner = layer_same (lower_to n) (IsPlain n) (lower_same n) (out-Expr e) h in
+      λ i. spend 1 >> (begin >>= (λ outer. inner i >>= (λ t. finish outer (passes e) >> pure t)))
