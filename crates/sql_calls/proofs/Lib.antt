@@ -1,0 +1,15 @@
+pub mod Means
+pub mod Ends
+pub mod Leavings
+pub mod Changes
+pub mod TypedCalls
+pub mod Selects
+pub mod Inserts
+pub mod Updates
+pub mod Upserts
+pub mod Creates
+pub mod KeyedRows
+pub mod NumberedRows
+pub mod KeyedTables
+pub mod NumberedTables
+pub mod Schemas

@@ -1,0 +1,83 @@
+-- Trees list one schema alone.
+use Rattle.std.proofs.Common.{◌≡◌, true, false, filter, slice_get, Some, ◌+◌, pos, List, [], ◌∷◌, Ok, refl, sym, ap, subst, ◌∙◌, arith}
+use Rattle.std.specs.List.{AllZip}
+use Rattle.sqlite_value.specs.declared.value.Value.{Value}
+use Rattle.sqlite_value.specs.declared.value.Value.TheVariants.{Null, Int, Real, Text, Blob}
+use Rattle.sqlite_value.specs.Order.{Row, column}
+use Rattle.sqlite.specs.Tree.{Trees}
+use Rattle.sqlite.specs.Schema.{Schema}
+use Rattle.sqlite.specs.Table.{Table}
+use Rattle.sqlite_schema.specs.declared.schema.Index.{Index}
+use Rattle.sqlite_schema.specs.Names.{same_name}
+use Rattle.sqlite_trees.specs.Objects.{catalog_tree}
+use Rattle.sqlite_trees.specs.Tree.{IsAscending}
+use Rattle.sqlite_catalog.specs.Listing.{IsSound, IsTableRow, IsIndexRow, IsViewRow, IsDefined, automatic, is_index_row, is_view_row}
+use Rattle.sqlite_catalog.proofs.StepLemmas.{same_itself, named_once}
+use Rattle.sqlite_catalog.proofs.AlterLemmas.{numbers_differ}
+
+zip_same : {A B : Type 0} (R : A → B → Type 0) → ((a : A) (x y : B) → R a x → R a y → x ≡ y) → (rs : List A) (xs ys : List B) → AllZip R rs xs → AllZip R rs ys → xs ≡ ys
+zip_same R one [] [] [] h k = refl
+zip_same R one [] [] (y ∷ ys) h k = absurd k
+zip_same R one [] (x ∷ xs) ys h k = absurd h
+zip_same R one (a ∷ rs) [] ys h k = absurd h
+zip_same R one (a ∷ rs) (x ∷ xs) [] h k = absurd k
+zip_same R one (a ∷ rs) (x ∷ xs) (y ∷ ys) h k = let same = one a x y h.0 k.0 in let more = zip_same R one rs xs ys h.1 k.1 in cc
+
+zip_none : {A B C : Type 0} (R : A → B → Type 0) (S : A → C → Type 0) (rs : List A) (xs : List C) → AllZip R rs [] → AllZip S rs xs → xs ≡ []
+zip_none R S [] [] h k = refl
+zip_none R S [] (x ∷ xs) h k = absurd k
+zip_none R S (a ∷ rs) xs h k = absurd h
+
+one_table : (row : Row) (s t : Table) → IsTableRow row s → IsTableRow row t → s ≡ t
+one_table row s t h k =
+    let texts : Text h.sql ≡ Text k.sql = sym h.sql_is ∙ k.sql_is in
+    let sql : h.sql ≡ k.sql = cc in
+    let ids : Int (pos (s.tree + 1)) ≡ Int (pos (t.tree + 1)) = sym h.described.id ∙ k.described.id in
+    let up : s.tree + 1 ≡ t.tree + 1 = cc in
+    let tree : s.tree ≡ t.tree = omega arith in
+    let made : Ok h.defined.0 ≡ Ok k.defined.0 = sym h.defined.1 ∙ ap (λ x. Rattle.sqlite_resolve.specs.Compile.table_defined_by x) sql ∙ k.defined.1 in
+    let same : h.defined.0 ≡ k.defined.0 = cc in
+    h.defined.2 ∙ ap (λ (m : Table). record m { tree = s.tree }) same ∙ ap (λ n. let it : Table = record k.defined.0 { tree = n } in it) tree ∙ sym k.defined.2
+
+-- ---- indexes
+
+one_defined : (t : Table) (i j : Index) (sql : Value) → i.name ≡ j.name → i.tree ≡ j.tree → IsDefined t i sql → IsDefined t j sql → i ≡ j
+one_defined t i j Null names trees h k =
+    let first : i.name ≡ (automatic t h.0 [] 0).name = ap (λ (x : Index). x.name) h.3 in
+    let second : j.name ≡ (automatic t k.0 [] 0).name = ap (λ (x : Index). x.name) k.3 in
+    let alike : same_name (automatic t h.0 [] 0).name (automatic t k.0 [] 0).name ≡ true = ap (λ x. same_name x (automatic t k.0 [] 0).name) (sym first ∙ names ∙ second) ∙ same_itself (automatic t k.0 [] 0).name in
+    let places : h.0 ≡ k.0 = numbers_differ t h.0 k.0 h.4 k.4 alike in
+    let keys : Some h.1 ≡ Some k.1 = sym h.2 ∙ ap (slice_get t.uniques) places ∙ k.2 in
+    let key : h.1 ≡ k.1 = cc in
+    h.3 ∙ ap (λ n. automatic t n h.1 i.tree) places ∙ ap (λ x. automatic t k.0 x i.tree) key ∙ ap (automatic t k.0 k.1) trees ∙ sym k.3
+one_defined t i j (Int n) names trees h k = absurd h
+one_defined t i j (Real x) names trees h k = absurd h
+one_defined t i j (Text sql) names trees h k =
+    let made : Ok h.0 ≡ Ok k.0 = sym h.1 ∙ k.1 in
+    let same : h.0 ≡ k.0 = cc in
+    h.2 ∙ ap (λ (m : Index). record m { tree = i.tree; table = t.tree }) same ∙ ap (λ n. let it : Index = record k.0 { tree = n; table = t.tree } in it) trees ∙ sym k.2
+one_defined t i j (Blob b) names trees h k = absurd h
+
+one_index : (tables : List Table) → IsAscending (λ (a b : Table). same_name a.name b.name ≡ false) tables → (row : Row) (i j : Index) → IsIndexRow tables row i → IsIndexRow tables row j → i ≡ j
+one_index tables named row i j h k =
+    let owners : Text k.table.name ≡ Text h.table.name = sym k.described.owner_is ∙ h.described.owner_is in
+    let owner : k.table.name ≡ h.table.name = cc in
+    let table : k.table ≡ h.table = named_once tables k.table h.table named k.listed h.listed (ap (λ x. same_name x h.table.name) owner ∙ same_itself h.table.name) in
+    let texts : Text i.name ≡ Text j.name = sym h.described.name_is ∙ k.described.name_is in
+    let names : i.name ≡ j.name = cc in
+    let ids : Int (pos (i.tree + 1)) ≡ Int (pos (j.tree + 1)) = sym h.described.id ∙ k.described.id in
+    let up : i.tree + 1 ≡ j.tree + 1 = cc in
+    let trees : i.tree ≡ j.tree = omega arith in
+    one_defined h.table i j (column row 4) names trees h.defined (subst (λ t. IsDefined t j (column row 4)) table k.defined)
+
+-- Trees list one schema alone, with whatever indexes, where there is no view.
+pub one_schema : (schema s : Schema) (db : Trees) → schema.views ≡ [] → IsSound schema db → IsSound s db → s ≡ schema
+one_schema schema s db no_view own other =
+    let mine = own.lists.listed in
+    let found = other.lists.listed in
+    let tables : s.tables ≡ schema.tables = zip_same IsTableRow one_table _ s.tables schema.tables found.tables mine.tables in
+    let here = subst (λ ts. AllZip (IsIndexRow ts) (filter is_index_row (db catalog_tree)) s.indexes) tables found.indexes in
+    let indexes : s.indexes ≡ schema.indexes = zip_same (IsIndexRow schema.tables) (one_index schema.tables mine.named) _ s.indexes schema.indexes here mine.indexes in
+    let views : s.views ≡ [] = zip_none _ _ _ s.views (subst (AllZip IsViewRow (filter is_view_row (db catalog_tree))) no_view mine.views) found.views in
+    ap (λ ts. let it : Schema = record s { tables = ts } in it) tables ∙ ap (λ is. let it : Schema = record { tables = schema.tables; indexes = is; views = s.views } in it) indexes
+    ∙ ap (λ vs. let it : Schema = record { tables = schema.tables; indexes = schema.indexes; views = vs } in it) (views ∙ sym no_view)

@@ -1,0 +1,73 @@
+-- What one call leaves of the connection, and what it adds to the work.
+use Rattle.std.specs.Prelude.{◌≡◌, ℕ, ◌+◌, ◌-◌, ◌^◌, min, Bool, true, false, List, length, Vec, Option, Some, None, Result, Ok, Err, IsTrue, is_ok}
+use Rattle.std.specs.declared.alloc.Global.{Global}
+use Rattle.sqlite.specs.Order.{Row}
+use Rattle.sqlite.specs.Listing.{understood}
+use Rattle.sqlite.specs.declared.error.Error.{Error}
+use Rattle.sqlite.specs.declared.error.Error.TheVariants.{QueryReturnedNoRows}
+use Rattle.sqlite.specs.State.{State, HasCleanDisk, IsUnchanged, IsNotRun, Survives, Shown, Executes, FailsToQuery, QueriesRow, CommitsShowing, CommitsBy}
+use Rattle.sql_calls.specs.declared.calls.Work.{Work}
+use Rattle.sql_calls.specs.declared.fault.Fault.{Fault}
+use Rattle.sql_calls.specs.Faults.{fault_named}
+
+-- ---- the work
+
+abbrev pub no_work : Work
+no_work = record { statements = 0; rows = 0 }
+
+-- a number that stays at the greatest that it can be
+abbrev pub capped : ℕ → ℕ
+capped n = min n (2 ^ 64 - 1)
+
+-- one statement more, and so many rows
+abbrev pub counts : Work → ℕ → Work
+counts w rows = record { statements = capped (w.statements + 1); rows = capped (w.rows + rows) }
+
+abbrev pub rows_in : Result (Vec Row Global) Fault → ℕ
+rows_in (Ok rows) = length rows.items
+rows_in (Err fault) = 0
+
+abbrev pub row_in : Result (Option Row) Fault → ℕ
+row_in (Ok (Some row)) = 1
+row_in (Ok None) = 0
+row_in (Err fault) = 0
+
+-- ---- the connection
+
+abbrev pub RunsTo : State → State → List ℕ → Row → Result (Unit {0}) Fault → Type 0
+RunsTo old new sql params (Ok _) = (count : ℕ) × Executes sql params old new (Ok count)
+RunsTo old new sql params (Err fault) = (error : Error) × (fault ≡ fault_named error) × Executes sql params old new (Err error)
+
+-- a statement that is no query
+pub record RunsText (old new : State) (sql : List ℕ) (params : Row) (result : Result (Unit {0}) Fault) : Type 0 where
+  pub runs : HasCleanDisk new → RunsTo old new sql params result
+  pub survives : Survives old new (CommitsBy sql params old)
+
+abbrev pub AsksTo : State → State → List ℕ → Row → Result (Vec Row Global) Fault → Type 0
+AsksTo old new sql params (Ok rows) = Shown sql params old new rows.items
+AsksTo old new sql params (Err fault) = (error : Error) × (fault ≡ fault_named error) × FailsToQuery sql params old new error
+
+-- a query, and all its rows
+pub record AsksText (old new : State) (sql : List ℕ) (params : Row) (result : Result (Vec Row Global) Fault) : Type 0 where
+  pub answers : HasCleanDisk new → AsksTo old new sql params result
+  pub survives : Survives old new (CommitsShowing sql params old)
+
+abbrev pub TakesTo : State → State → List ℕ → Row → Result (Option Row) Fault → Type 0
+TakesTo old new sql params (Ok (Some row)) = QueriesRow sql params old new (Ok row)
+TakesTo old new sql params (Ok None) = QueriesRow sql params old new (Err QueryReturnedNoRows)
+TakesTo old new sql params (Err fault) = (error : Error) × (fault ≡ fault_named error) × QueriesRow sql params old new (Err error)
+
+-- a query, and its first row
+pub record TakesFirst (old new : State) (sql : List ℕ) (params : Row) (result : Result (Option Row) Fault) : Type 0 where
+  pub answers : HasCleanDisk new → TakesTo old new sql params result
+  pub survives : Survives old new (CommitsShowing sql params old)
+
+abbrev pub TriesTo : State → State → List ℕ → Result Bool Fault → Type 0
+TriesTo old new sql (Ok true) = IsTrue (is_ok (understood old.now.schema sql)) × IsUnchanged old new
+TriesTo old new sql (Ok false) = (error : Error) × ((params : Row) → IsNotRun old new sql params error)
+TriesTo old new sql (Err fault) = (error : Error) × (fault ≡ fault_named error) × ((params : Row) → IsNotRun old new sql params error)
+
+-- a text that is compiled and not run
+pub record TriesText (old new : State) (sql : List ℕ) (result : Result Bool Fault) : Type 0 where
+  pub tries : HasCleanDisk new → TriesTo old new sql result
+  pub survives : Survives old new (λ _. ⊥)

@@ -1,0 +1,10 @@
+-- The fault that an error is.
+use Rattle.sqlite.specs.declared.error.Error.{Error}
+use Rattle.sqlite.specs.declared.error.Error.TheVariants.{SqliteFailure}
+use Rattle.sqlite.specs.declared.error.ErrorCode.TheVariants.{OutOfMemory}
+use Rattle.sql_calls.specs.declared.fault.Fault.{Fault}
+use Rattle.sql_calls.specs.declared.fault.Fault.TheVariants.{Memory, Store}
+
+abbrev pub fault_named : Error → Fault
+fault_named (SqliteFailure OutOfMemory) = Memory
+fault_named _ = Store

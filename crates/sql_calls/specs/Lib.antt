@@ -1,0 +1,5 @@
+pub mod Tables
+pub mod Keyed
+pub mod Faults
+pub mod Calls
+pub mod Standing

@@ -1,0 +1,221 @@
+//! The one owner of a connection.
+
+ghost use Rattle.std.specs.Prelude.{◌≡◌, not, []};
+ghost use Rattle.sqlite.specs.Held.{state};
+ghost use Rattle.sqlite.specs.Values.{bound};
+ghost use Rattle.sql_calls.specs.Calls.{RunsText, AsksText, TakesFirst, TriesText, counts, no_work, rows_in, row_in};
+
+use crate::fault::{Fault, fault_of};
+use sqlite::types::ValueRef;
+use sqlite::{Alter, Connection, Error, Row};
+
+const BEGIN: &str = "BEGIN";
+
+const COMMIT: &str = "COMMIT";
+
+const ROLLBACK: &str = "ROLLBACK";
+
+/// What was run and taken. Each number stays at 2^64 - 1 once it is there.
+#[derive(Clone, Copy, Debug, PartialEq, Eq)]
+pub struct Work {
+    /// Statements that were handed in, whether or not they succeeded. BEGIN, COMMIT and ROLLBACK are not counted.
+    pub statements: u64,
+    /// Rows that queries answered.
+    pub rows: u64,
+}
+
+/// The one owner of a connection: each call hands in at most one statement, and counts it.
+#[derive(Drop)]
+pub struct Calls<S: Alter> {
+    conn: Connection<S>,
+    work: Work,
+}
+
+impl<S: Alter> Calls<S> {
+    /// Takes over a connection, with nothing counted.
+    pub fn new(conn: Connection<S>) -> Calls<S>
+        ensures conn { result.conn ≡ conn }
+        ensures work { result.work ≡ no_work }
+    {
+        Calls {
+            conn,
+            work: Work {
+                statements: 0,
+                rows: 0,
+            },
+        }
+    }
+
+    /// Hands the connection back.
+    pub fn into_connection(self) -> Connection<S>
+        ensures { result ≡ self.conn }
+    {
+        let Calls { conn, .. } = self;
+        conn
+    }
+
+    /// What was run and taken since the last reset.
+    pub fn work(&self) -> Work
+        ensures { result ≡ self.now.work }
+    {
+        self.work
+    }
+
+    /// Counts from nothing again.
+    pub fn reset_work(&mut self)
+        ensures work { self.new.work ≡ no_work }
+        ensures conn { self.new.conn ≡ self.old.conn }
+    {
+        self.work = Work {
+            statements: 0,
+            rows: 0,
+        };
+    }
+
+    /// Whether no transaction is open.
+    pub fn is_autocommit(&self) -> bool
+        ensures { result ≡ not (state S.Store self.now.conn).in_transaction }
+    {
+        self.conn.is_autocommit()
+    }
+
+    /// Runs one statement that is no query.
+    pub fn run(&mut self, sql: &str, params: &[ValueRef<'_>]) -> Result<(), Fault>
+        ensures runs { RunsText (state S.Store self.old.conn) (state S.Store self.new.conn) sql.now (bound params.now) result }
+        ensures work { self.new.work ≡ counts self.old.work 0 }
+    {
+        self.count(0);
+        run_on(&mut self.conn, sql, params)
+    }
+
+    /// Runs one query, and takes all its rows.
+    pub fn ask(&mut self, sql: &str, params: &[ValueRef<'_>]) -> Result<Vec<Row>, Fault>
+        ensures asks { AsksText (state S.Store self.old.conn) (state S.Store self.new.conn) sql.now (bound params.now) result }
+        ensures work { self.new.work ≡ counts self.old.work (rows_in result) }
+    {
+        match ask_on(&mut self.conn, sql, params) {
+            Ok(rows) => {
+                self.count(rows.len() as u64);
+                Ok(rows)
+            }
+            Err(fault) => {
+                self.count(0);
+                Err(fault)
+            }
+        }
+    }
+
+    /// Runs one query, and takes its first row, if there is one.
+    pub fn first(&mut self, sql: &str, params: &[ValueRef<'_>]) -> Result<Option<Row>, Fault>
+        ensures takes { TakesFirst (state S.Store self.old.conn) (state S.Store self.new.conn) sql.now (bound params.now) result }
+        ensures work { self.new.work ≡ counts self.old.work (row_in result) }
+    {
+        match first_on(&mut self.conn, sql, params) {
+            Ok(Some(row)) => {
+                self.count(1);
+                Ok(Some(row))
+            }
+            Ok(None) => {
+                self.count(0);
+                Ok(None)
+            }
+            Err(fault) => {
+                self.count(0);
+                Err(fault)
+            }
+        }
+    }
+
+    /// Compiles a text and runs nothing: whether its tables and columns are there.
+    pub fn compiles(&mut self, sql: &str) -> Result<bool, Fault>
+        ensures tries { TriesText (state S.Store self.old.conn) (state S.Store self.new.conn) sql.now result }
+        ensures work { self.new.work ≡ self.old.work }
+    {
+        compiles_on(&mut self.conn, sql)
+    }
+
+    /// Begins a transaction.
+    pub fn begin(&mut self) -> Result<(), Fault>
+        ensures runs { RunsText (state S.Store self.old.conn) (state S.Store self.new.conn) BEGIN.now [] result }
+        ensures work { self.new.work ≡ self.old.work }
+    {
+        run_on(&mut self.conn, BEGIN, &[])
+    }
+
+    /// Commits the transaction.
+    pub fn commit(&mut self) -> Result<(), Fault>
+        ensures runs { RunsText (state S.Store self.old.conn) (state S.Store self.new.conn) COMMIT.now [] result }
+        ensures work { self.new.work ≡ self.old.work }
+    {
+        run_on(&mut self.conn, COMMIT, &[])
+    }
+
+    /// Rolls the transaction back.
+    pub fn roll_back(&mut self) -> Result<(), Fault>
+        ensures runs { RunsText (state S.Store self.old.conn) (state S.Store self.new.conn) ROLLBACK.now [] result }
+        ensures work { self.new.work ≡ self.old.work }
+    {
+        run_on(&mut self.conn, ROLLBACK, &[])
+    }
+
+    fn count(&mut self, rows: u64)
+        ensures work { self.new.work ≡ counts self.old.work rows }
+        ensures conn { self.new.conn ≡ self.old.conn }
+    {
+        self.work.statements = self.work.statements.saturating_add(1);
+        self.work.rows = self.work.rows.saturating_add(rows);
+    }
+}
+
+fn run_on<S: Alter>(
+    conn: &mut Connection<S>,
+    sql: &str,
+    params: &[ValueRef<'_>],
+) -> Result<(), Fault>
+    ensures { RunsText (state S.Store conn.old) (state S.Store conn.new) sql.now (bound params.now) result }
+{
+    match conn.execute(sql, params) {
+        Ok(_) => Ok(()),
+        Err(error) => Err(fault_of(error)),
+    }
+}
+
+fn ask_on<S: Alter>(
+    conn: &mut Connection<S>,
+    sql: &str,
+    params: &[ValueRef<'_>],
+) -> Result<Vec<Row>, Fault>
+    ensures { AsksText (state S.Store conn.old) (state S.Store conn.new) sql.now (bound params.now) result }
+{
+    match conn.query_all(sql, params) {
+        Ok(rows) => Ok(rows),
+        Err(error) => Err(fault_of(error)),
+    }
+}
+
+fn first_on<S: Alter>(
+    conn: &mut Connection<S>,
+    sql: &str,
+    params: &[ValueRef<'_>],
+) -> Result<Option<Row>, Fault>
+    ensures { TakesFirst (state S.Store conn.old) (state S.Store conn.new) sql.now (bound params.now) result }
+{
+    match conn.query_row(sql, params) {
+        Ok(row) => Ok(Some(row)),
+        Err(Error::QueryReturnedNoRows) => Ok(None),
+        Err(error) => Err(fault_of(error)),
+    }
+}
+
+fn compiles_on<S: Alter>(conn: &mut Connection<S>, sql: &str) -> Result<bool, Fault>
+    ensures { TriesText (state S.Store conn.old) (state S.Store conn.new) sql.now result }
+{
+    match conn.prepare(sql) {
+        Ok(statement) => {
+            drop(statement);
+            Ok(true)
+        }
+        Err(Error::SqlInputError(_)) => Ok(false),
+        Err(error) => Err(fault_of(error)),
+    }
+}

@@ -1,0 +1,10 @@
+//! What a connection runs, counted, and what it leaves of whatever its database holds. No table is named here.
+#![tactic(auto)]
+
+mod calls;
+mod fault;
+#[cfg(test)]
+mod tests;
+
+pub use crate::calls::{Calls, Work};
+pub use crate::fault::{Fault, fault_of};
