@@ -46,6 +46,7 @@ calm_about : (h : CommandList) (q r : ℕ) (c : Command) → action_of h c ≡ N
 calm_about h q r c t = record { outcomes = λ j. calm_outcome h (Approve q) r j refl; pauses = refl; resumes = refl; triggers = refl; starts = refl }
 
 pub approve_is_step : (h : CommandList) (q : ℕ) → IsValid h → verdict h (Approve q) ≡ None → records (h ▸ Approve q) ≡ step_records (records h) (Approve q)
+unfolding records
 approve_is_step h q v e =
     let row : NoneHolds (verdict_row (records h) (Approve q)) = none_holds (verdict_row (records h) (Approve q)) e in
     let (x, d) = found_rollout h q row.0 in
@@ -58,6 +59,7 @@ approve_is_step h q v e =
     (λ r ne. calm_about h q r (Approve q) refl) (λ r ne. rw (ne_eqb q r (λ s. ne (sym s))) refl))
 
 pub deny_is_step : (h : CommandList) (q : ℕ) → IsValid h → verdict h (Deny q) ≡ None → records (h ▸ Deny q) ≡ step_records (records h) (Deny q)
+unfolding records
 deny_is_step h q v e =
     let row : NoneHolds (verdict_row (records h) (Deny q)) = none_holds (verdict_row (records h) (Deny q)) e in
     let (x, d) = found_rollout h q row.0 in
@@ -75,11 +77,13 @@ deny_is_step h q v e =
 -- ---- artifacts and sets
 
 pub artifact_is_step : (h : CommandList) (u : Upload) → IsValid h → verdict h (AddArtifact u) ≡ None → records (h ▸ AddArtifact u) ≡ step_records (records h) (AddArtifact u)
+unfolding records
 artifact_is_step h u v e = same_records (needs_approval h) _ _ _ _ _ _ _ _ _ _ _ _ (append_none (modules h)) refl (append_none (sets h)) refl
     (ap (rollouts_in (h ▸ AddArtifact u) 1) (append_none (rollouts h)) ∙ calm_everywhere h (AddArtifact u) (accepted h (AddArtifact u) v e) (λ r. record { outcomes = λ j. calm_outcome h (AddArtifact u) r j refl; pauses = refl; resumes = refl; triggers = refl; starts = refl }) (λ r. refl))
     (ap (map (action_in (h ▸ AddArtifact u))) (append_none (action_places h)) ∙ calm_actions h (AddArtifact u) refl (action_places h))
 
 pub set_is_step : (h : CommandList) (s : SetLabel) → IsValid h → verdict h (AddSet s) ≡ None → records (h ▸ AddSet s) ≡ step_records (records h) (AddSet s)
+unfolding records
 set_is_step h s v e = same_records (needs_approval h) _ _ _ _ _ _ _ _ _ _ _ _ (append_none (modules h)) (append_none (artifacts h)) refl refl
     (ap (rollouts_in (h ▸ AddSet s) 1) (append_none (rollouts h)) ∙ calm_everywhere h (AddSet s) (accepted h (AddSet s) v e) (λ r. record { outcomes = λ j. calm_outcome h (AddSet s) r j refl; pauses = refl; resumes = refl; triggers = refl; starts = refl }) (λ r. refl))
     (ap (map (action_in (h ▸ AddSet s))) (append_none (action_places h)) ∙ calm_actions h (AddSet s) refl (action_places h))
@@ -119,6 +123,7 @@ made_new h plan r w none =
     same_group i (bounds_in x i) _ _ _ _ _ _ _ _ (never_started x r i (h ▸ c) still) (no_tally Good x r i (h ▸ c) quiet) (no_tally Bad x r i (h ▸ c) quiet) (no_tally Gone x r i (h ▸ c) quiet)))
 
 pub create_is_step : (h : CommandList) (plan : RolloutPlan) → IsValid h → verdict h (CreateRollout plan) ≡ None → records (h ▸ CreateRollout plan) ≡ step_records (records h) (CreateRollout plan)
+unfolding records
 create_is_step h plan v e =
     let c : Command = CreateRollout plan in
     let x : Rollout = record { plan = plan; members = members_of plan.filter_text h } in

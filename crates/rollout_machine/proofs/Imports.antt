@@ -267,6 +267,7 @@ known_there h device (t ∷ ts) e = go (split _ _ e) (known_there h device ts)
     go (inr p) ih = either _ _ (ih p)
 
 no_attributes : (h : CommandList) → IsValid h → MissingAreBare (target_in h) (target_ids h)
+unfolding records
 no_attributes (Make approval) v t e = refl
 no_attributes (h ▸ PutTargets rows) v t e = no_attributes h v.0 t (never_with t (map (λ (row : TargetRow). row.id) rows) (target_ids h) e)
 no_attributes (h ▸ PutAttributes device new) v t e = go (same_bytes t device.id) refl (no_attributes h v.0 t e)
@@ -282,6 +283,7 @@ no_attributes (h ▸ _) v t e = no_attributes h v.0 t e
 -- ---- the whole records
 
 pub import_is_step : (h : CommandList) (rows : List TargetRow) → IsValid h → verdict h (PutTargets rows) ≡ None → records (h ▸ PutTargets rows) ≡ step_records (records h) (PutTargets rows)
+unfolding records
 import_is_step h rows v e =
     let c : Command = PutTargets rows in
     same_records (needs_approval h) _ _ _ _ _ _ _ _ _ _ _ _ (append_none (modules h)) (append_none (artifacts h)) (append_none (sets h))

@@ -258,6 +258,7 @@ no_record h (suc i) e = no_rollout h 1 i (rollouts h) e
 
 -- a rollout that the verdict found is there
 pub found_rollout : (h : CommandList) (r : ℕ) → is_none (item_numbered (records h).rollouts r) ≡ false → (x : Rollout) × (rollout_at h r ≡ Some x)
+unfolding records
 found_rollout h r e = elim (is_there h r) [
   | inr some ↦ some
   | inl none ↦ (let t : is_none (item_numbered (records h).rollouts r) ≡ true = ap is_none (no_record h r none) in absurd (false≢true (sym e ∙ t)))
@@ -283,6 +284,7 @@ started_in h (Resume q) w e r x d = calm_on x r h (Resume q) refl
 started_in h (TriggerNext q) w e r x d = calm_on x r h (TriggerNext q) refl
 
 sound_in : (h : CommandList) (c : Command) → IsWellFormed c → verdict h c ≡ None → (i : ℕ) (x : Rollout) → slice_get (created h c) i ≡ Some x → HasSoundPlan x
+unfolding records
 sound_in h (CreateRollout plan) m e zero x d =
     let row : NoneHolds (verdict_row (records h) (CreateRollout plan)) = none_holds (verdict_row (records h) (CreateRollout plan)) e in
     let few : plan.groups ≤ length (members_of plan.filter_text h) = ltb-false _ _ row.1.1.1.0 in
@@ -396,6 +398,7 @@ some_started x r zero h f e = absurd (false≢true (sym (f.is_last.beyond 1 (ome
 some_started x r (suc l) h f e = omega arith
 
 pub word_at : (h : CommandList) (r : ℕ) (test : RolloutWord → Bool) (x : Rollout) → rollout_at h r ≡ Some x → not (word_is test (item_numbered (records h).rollouts r)) ≡ false → test (rollout_word (rollout_in h r x)) ≡ true
+unfolding records
 word_at h r test x d e = sym (ap (word_is test) (rollout_numbered h r x d)) ∙ not-false _ e
 
 pub resume_is_step : (h : CommandList) (q : ℕ) → IsValid h → verdict h (Resume q) ≡ None → records (h ▸ Resume q) ≡ step_records (records h) (Resume q)

@@ -68,6 +68,7 @@ is_open_of (Some o) e = cc
 
 -- what is for a target is of its member
 member_is : (h : CommandList) (t : Bytes) (p : ActionPlace) (w : IsPlace h p) → is_for (records h) t (action_in h p) ≡ true → item_numbered w.rollout.members p.position ≡ Some t
+unfolding records
 member_is h t p w e =
     let (m, there) = some_item w.rollout.members p.position w.low w.high in
     let named : same_bytes (unwrap_or (item_numbered w.rollout.members p.position) []) t ≡ true = sym (ap (λ o. same_bytes (member_at o p.position) t) (rollout_numbered h p.rollout w.rollout w.there)) ∙ e in
@@ -104,6 +105,7 @@ within_groups x r (suc zero) h s e = s
 within_groups x r (suc (suc i)) h s e = let parts : _ = and_parts _ _ e in let less : suc i < x.plan.groups = ltb-true _ _ parts.0 in omega (arith, less)
 
 candidate : (h : CommandList) (t : Bytes) (k : ℕ) (p : ActionPlace) → IsValid h → IsOfferable h t k p → is_candidate (records h) t (action_in h p) ≡ true
+unfolding records
 candidate h t k p v w =
     let x : Rollout = w.rollout in
     let s : HasSoundPlan x = ((invariant_of h v).follows p.rollout x w.there).sound in
@@ -121,6 +123,7 @@ candidate h t k p v w =
     last_of s n l j e u = omega arith
 
 pub offer_is_least : OfferIsLeast
+unfolding records
 offer_is_least h t v = (λ o e. one o e, λ e k p w. false≢true (sym (nothing e k p w) ∙ candidate h t k p v w))
   where
     nothing : offer (records h) t ≡ None → (k : ℕ) (p : ActionPlace) → IsOfferable h t k p → is_candidate (records h) t (action_in h p) ≡ false

@@ -45,6 +45,7 @@ any_action h c q o t e p = go (is_on_action h c p.rollout p.position) refl
 
 -- the records after a repeated feedback are those before it
 pub repeat_changes_nothing : (h : CommandList) (report : Report DeploymentWord) (q : ActionPlace) (o : Outcome) → IsAccepted h (Feedback report) → action_place h report.action ≡ Some q → outcome h q.rollout q.position ≡ Some o → records (h ▸ Feedback report) ≡ records h
+unfolding records
 repeat_changes_nothing h report q o w t e =
     let c : Command = Feedback report in
     bare h c _ _ _ _ _ (append_none (modules h)) (append_none (artifacts h)) (append_none (sets h)) (append_none (rollouts h)) (append_none (action_places h))
@@ -55,6 +56,7 @@ repeat_changes_nothing h report q o w t e =
 
 -- the records after a repeated feedback of a cancel are those before it
 pub cancel_repeat_changes_nothing : (h : CommandList) (report : Report CancelWord) (q : ActionPlace) (o : Outcome) → IsAccepted h (CancelFeedback report) → action_place h report.action ≡ Some q → outcome h q.rollout q.position ≡ Some o → records (h ▸ CancelFeedback report) ≡ records h
+unfolding records
 cancel_repeat_changes_nothing h report q o w t e =
     let c : Command = CancelFeedback report in
     bare h c _ _ _ _ _ (append_none (modules h)) (append_none (artifacts h)) (append_none (sets h)) (append_none (rollouts h)) (append_none (action_places h))
@@ -109,6 +111,7 @@ targets_twice h rows =
     ∙ ap (map (target_in (h ▸ PutTargets rows))) (same_with_all ids (with_words ids (target_ids h)) (sorted_ids (h ▸ PutTargets rows)) (all_in ids (target_ids h)))
 
 import_twice : (h : CommandList) (rows : List TargetRow) → IsValid (h ▸ PutTargets rows) → verdict (h ▸ PutTargets rows) (PutTargets rows) ≡ None → records (h ▸ PutTargets rows ▸ PutTargets rows) ≡ records (h ▸ PutTargets rows)
+unfolding records
 import_twice g rows v e =
     let h : CommandList = g ▸ PutTargets rows in
     let c : Command = PutTargets rows in

@@ -47,18 +47,21 @@ attributes_of h device new t = go (same_bytes t device.id)
     go false = refl
 
 pub tag_is_step : (h : CommandList) (u x : Bytes) → IsValid h → verdict h (Tag u x) ≡ None → records (h ▸ Tag u x) ≡ step_records (records h) (Tag u x)
+unfolding records
 tag_is_step h u x v e = same_records (needs_approval h) _ _ _ _ _ _ _ _ _ _ _ _ (append_none (modules h)) (append_none (artifacts h)) (append_none (sets h))
     (changed_targets h (Tag u x) u (λ (t : Target). record t { tags = with_word x t.tags }) (tag_in h u x) (target_ids h))
     (ap (rollouts_in (h ▸ Tag u x) 1) (append_none (rollouts h)) ∙ calm_everywhere h (Tag u x) (accepted h (Tag u x) v e) (λ r. record { outcomes = λ j. calm_outcome h (Tag u x) r j refl; pauses = refl; resumes = refl; triggers = refl; starts = refl }) (λ r. refl))
     (ap (map (action_in (h ▸ Tag u x))) (append_none (action_places h)) ∙ calm_actions h (Tag u x) refl (action_places h))
 
 pub untag_is_step : (h : CommandList) (u x : Bytes) → IsValid h → verdict h (Untag u x) ≡ None → records (h ▸ Untag u x) ≡ step_records (records h) (Untag u x)
+unfolding records
 untag_is_step h u x v e = same_records (needs_approval h) _ _ _ _ _ _ _ _ _ _ _ _ (append_none (modules h)) (append_none (artifacts h)) (append_none (sets h))
     (changed_targets h (Untag u x) u (λ (t : Target). record t { tags = without_word x t.tags }) (untag_in h u x) (target_ids h))
     (ap (rollouts_in (h ▸ Untag u x) 1) (append_none (rollouts h)) ∙ calm_everywhere h (Untag u x) (accepted h (Untag u x) v e) (λ r. record { outcomes = λ j. calm_outcome h (Untag u x) r j refl; pauses = refl; resumes = refl; triggers = refl; starts = refl }) (λ r. refl))
     (ap (map (action_in (h ▸ Untag u x))) (append_none (action_places h)) ∙ calm_actions h (Untag u x) refl (action_places h))
 
 pub attributes_is_step : (h : CommandList) (device : Credential) (new : List Attribute) → IsValid h → verdict h (PutAttributes device new) ≡ None → records (h ▸ PutAttributes device new) ≡ step_records (records h) (PutAttributes device new)
+unfolding records
 attributes_is_step h device new v e =
     let c : Command = PutAttributes device new in
     same_records (needs_approval h) _ _ _ _ _ _ _ _ _ _ _ _ (append_none (modules h)) (append_none (artifacts h)) (append_none (sets h))

@@ -41,6 +41,7 @@ pub record IsPlace (h : CommandList) (p : ActionPlace) : Type 0 where
 
 -- the record's word on an action's group is the history's
 pub started_here : (h : CommandList) (p : ActionPlace) (w : IsPlace h p) → has_started (records h) (action_in h p) ≡ true → is_group_started w.rollout p.rollout (group_of (size_of w.rollout) w.rollout.plan.groups p.position) h ≡ true
+unfolding records
 started_here h p w e =
     let x = w.rollout in
     let place : _ = in_its_group (size_of x) x.plan.groups p.position w.sound.some_groups w.sound.enough w.low w.high in
@@ -76,6 +77,7 @@ only_started h c p w t e r x d = record { started = λ i j a v on. go i j a v (s
 -- ---- the rows
 
 pub found_action : (h : CommandList) (k : ℕ) (o : Option ActionPlace) → action_place h k ≡ o → item_numbered (records h).actions k ≡ option_map (action_in h) o
+unfolding records
 found_action h k o e = numbered_map (action_in h) (action_places h) k ∙ ap (option_map (action_in h)) e
 
 device_action : (h : CommandList) (t : List ℕ) (o : Option ActionPlace) → is_device_action (records h) t (option_map (action_in h) o) ≡ true → (p : ActionPlace) × (o ≡ Some p) × (has_started (records h) (action_in h p) ≡ true)

@@ -168,6 +168,7 @@ pub record IsPlaced (h : CommandList) (c : Command) (k : ℕ) : Type 0 where
 
 act_is : (h : CommandList) (c : Command) (k : ℕ) → IsAccepted h c → (p : IsPlaced h c k) → action_of h c ≡ Some p.place
     → records_from (needs_approval h) (modules h) (artifacts h) (sets h) (targets h) (rollouts_in (h ▸ c) 1 (rollouts h)) (map (action_in (h ▸ c)) (action_places h)) ≡ step_action (records h) c (item_numbered (map (action_in h) (action_places h)) k)
+unfolding records
 act_is h c k w p t =
     let found : item_numbered (map (action_in h) (action_places h)) k ≡ Some (action_in h p.place) = numbered_map (action_in h) (action_places h) k ∙ ap (option_map (action_in h)) p.numbered in
     same_records (needs_approval h) _ _ _ _ _ _ _ _ _ _ _ _ refl refl refl refl (act_rollouts h c p.place p.rollout w t p.there p.low p.high) (all_actions h c p.place t (action_places h))
@@ -179,12 +180,15 @@ pub bare : (h : CommandList) (c : Command) → (ms : List ModuleLabel) (us : Lis
 bare h c ms us ss xs ps e1 e2 e3 e4 e5 = rw (e1, e2, e3, e4, e5) refl
 
 pub cancel_step : (h : CommandList) (t : List ℕ) (k : ℕ) (force : Bool) → IsAccepted h (Cancel t k force) → IsPlaced h (Cancel t k force) k → records (h ▸ Cancel t k force) ≡ step_records (records h) (Cancel t k force)
+unfolding records
 cancel_step h t k force w p = bare h (Cancel t k force) _ _ _ _ _ (append_none (modules h)) (append_none (artifacts h)) (append_none (sets h)) (append_none (rollouts h)) (append_none (action_places h)) ∙ act_is h (Cancel t k force) k w p p.numbered
 
 pub feedback_step : (h : CommandList) (report : Report DeploymentWord) → IsAccepted h (Feedback report) → IsPlaced h (Feedback report) report.action → records (h ▸ Feedback report) ≡ step_records (records h) (Feedback report)
+unfolding records
 feedback_step h report w p = bare h (Feedback report) _ _ _ _ _ (append_none (modules h)) (append_none (artifacts h)) (append_none (sets h)) (append_none (rollouts h)) (append_none (action_places h)) ∙ act_is h (Feedback report) report.action w p p.numbered
 
 pub cancel_feedback_step : (h : CommandList) (report : Report CancelWord) → IsAccepted h (CancelFeedback report) → IsPlaced h (CancelFeedback report) report.action → records (h ▸ CancelFeedback report) ≡ step_records (records h) (CancelFeedback report)
+unfolding records
 cancel_feedback_step h report w p = bare h (CancelFeedback report) _ _ _ _ _ (append_none (modules h)) (append_none (artifacts h)) (append_none (sets h)) (append_none (rollouts h)) (append_none (action_places h)) ∙ act_is h (CancelFeedback report) report.action w p p.numbered
 
 -- ---- a command on a rollout
@@ -209,16 +213,19 @@ pub rollout_step : (h : CommandList) (c : Command) (xs : List RolloutRecord) →
 rollout_step h c xs t e = same_records (needs_approval h) _ _ _ _ _ _ _ _ _ _ _ _ refl refl refl refl e (calm_actions h c t (action_places h))
 
 pub resume_step : (h : CommandList) (q : ℕ) (x : Rollout) → (w : IsAccepted h (Resume q)) → rollout_at h q ≡ Some x → 1 ≤ w.last q → records (h ▸ Resume q) ≡ step_records (records h) (Resume q)
+unfolding records
 resume_step h q x w e pos = bare h (Resume q) _ _ _ _ _ (append_none (modules h)) (append_none (artifacts h)) (append_none (sets h)) (append_none (rollouts h)) (append_none (action_places h))
     ∙ rollout_step h (Resume q) _ refl (on_rollout h (Resume q) q x resumed w e (resume_rollout x q (w.last q) h (w.follows q x e) pos)
     (λ r ne. record { outcomes = λ j. calm_outcome h (Resume q) r j refl; pauses = refl; resumes = ne_eqb q r (λ s. ne (sym s)); triggers = refl; starts = refl }) (λ r ne. refl))
 
 pub trigger_step : (h : CommandList) (q : ℕ) (x : Rollout) → (w : IsAccepted h (TriggerNext q)) → rollout_at h q ≡ Some x → 1 ≤ w.last q → records (h ▸ TriggerNext q) ≡ step_records (records h) (TriggerNext q)
+unfolding records
 trigger_step h q x w e pos = bare h (TriggerNext q) _ _ _ _ _ (append_none (modules h)) (append_none (artifacts h)) (append_none (sets h)) (append_none (rollouts h)) (append_none (action_places h))
     ∙ rollout_step h (TriggerNext q) _ refl (on_rollout h (TriggerNext q) q x triggered w e (trigger_rollout x q (w.last q) h (w.follows q x e) pos)
     (λ r ne. record { outcomes = λ j. calm_outcome h (TriggerNext q) r j refl; pauses = refl; resumes = refl; triggers = ne_eqb q r (λ s. ne (sym s)); starts = refl }) (λ r ne. refl))
 
 pub pause_step : (h : CommandList) (q : ℕ) (x : Rollout) → (w : IsAccepted h (Pause q)) → rollout_at h q ≡ Some x → records (h ▸ Pause q) ≡ step_records (records h) (Pause q)
+unfolding records
 pause_step h q x w e = bare h (Pause q) _ _ _ _ _ (append_none (modules h)) (append_none (artifacts h)) (append_none (sets h)) (append_none (rollouts h)) (append_none (action_places h))
     ∙ rollout_step h (Pause q) _ refl (on_rollout h (Pause q) q x (λ (y : RolloutRecord). record y { paused = true }) w e (pause_rollout x q (w.last q) h (w.follows q x e))
     (λ r ne. record { outcomes = λ j. calm_outcome h (Pause q) r j refl; pauses = ne_eqb q r (λ s. ne (sym s)); resumes = refl; triggers = refl; starts = refl }) (λ r ne. refl))
@@ -228,6 +235,7 @@ calm_everywhere h c w calm quiet' = kept h (h ▸ c) 1 (rollouts h) (from_number
     calm_rollout y r (w.last r) h c (approval_of r h) (w.follows r y d) (w.started r y d) (calm r) (same_approval r h c (quiet' r))))
 
 pub module_step : (h : CommandList) (label : ModuleLabel) → IsAccepted h (AddModule label) → records (h ▸ AddModule label) ≡ step_records (records h) (AddModule label)
+unfolding records
 module_step h label w = same_records (needs_approval h) _ _ _ _ _ _ _ _ _ _ _ _ refl (append_none (artifacts h)) (append_none (sets h)) refl
     (ap (rollouts_in (h ▸ AddModule label) 1) (append_none (rollouts h)) ∙ calm_everywhere h (AddModule label) w (λ r. record { outcomes = λ j. calm_outcome h (AddModule label) r j refl; pauses = refl; resumes = refl; triggers = refl; starts = refl }) (λ r. refl))
     (ap (map (action_in (h ▸ AddModule label))) (append_none (action_places h)) ∙ calm_actions h (AddModule label) refl (action_places h))
@@ -257,6 +265,7 @@ start_actions h q x f e =
     ∙ sym (ap new_actions (rollout_numbered h q x e)))
 
 pub start_step : (h : CommandList) (q : ℕ) (x : Rollout) → (w : IsAccepted h (Start q)) → rollout_at h q ≡ Some x → IsFresh q h → IsFollowed x q h 0 → records (h ▸ Start q) ≡ step_records (records h) (Start q)
+unfolding records
 start_step h q x w e fresh f =
     ap (λ xs. records_from (needs_approval h) (modules h ++ []) (artifacts h ++ []) (sets h ++ []) (targets h) (rollouts_in (h ▸ Start q) 1 xs) (map (action_in (h ▸ Start q)) (action_places h ++ new_places h (Start q)))) (append_none (rollouts h))
     ∙ same_records (needs_approval h) _ _ _ _ _ _ _ _ _ _ _ _ (append_none (modules h)) (append_none (artifacts h)) (append_none (sets h)) refl

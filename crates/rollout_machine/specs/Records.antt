@@ -142,7 +142,7 @@ action_in h p = record {
   history = history h p.rollout p.position;
 }
 
-abbrev pub records : CommandList → Records
+unfoldable pub records : CommandList → Records
 records h = record {
   approval = needs_approval h;
   modules = modules h;

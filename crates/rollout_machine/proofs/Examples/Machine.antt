@@ -43,6 +43,7 @@ attrs : (target_in attr (device 1)).attributes ≡ record { key = 1 ∷ []; valu
 attrs = refl
 
 attrs_step : step_records (records (Make false ▸ PutTargets (row_for 2 ∷ row_for 1 ∷ []))) (PutTargets (row_for 3 ∷ row_for 1 ∷ [])) ≡ records (Make false ▸ PutTargets (row_for 2 ∷ row_for 1 ∷ []) ▸ PutTargets (row_for 3 ∷ row_for 1 ∷ []))
+unfolding records
 attrs_step = refl
 
 -- what the request said of the digest decides whether the artifact is taken
@@ -56,10 +57,12 @@ abbrev without_digest : CommandList
 without_digest = one_module ▸ AddArtifact (record { module_number = 1; filename = 1 ∷ []; expected = None; contents = 5 ∷ [] })
 
 both_accepted : (verdict one_module (AddArtifact (record { module_number = 1; filename = 1 ∷ []; expected = Some (digest_of (5 ∷ [])); contents = 5 ∷ [] }))) ≡ None
+unfolding records
 both_accepted = rw (same_refl (digest_of (5 ∷ []))) refl
 
 -- so what it said is no part of the artifact's record
 same_artifact : (records with_digest).artifacts ≡ (records without_digest).artifacts
+unfolding records
 same_artifact = refl
 
 -- D6: force first time is no outcome, second time gone; feedback in between stands
@@ -77,39 +80,51 @@ first_counts = refl
 
 -- verdicts of feedback: 2 before 3 before 8 before 10
 v_unknown : verdict (history_of (rolled_out (only 1) 1 50 100)) (Feedback (record { credential = record { id = device 1; digest = device 2 }; action = 77; word = Succeeded; details = [] })) ≡ Some Unauthorized
+unfolding records
 v_unknown = refl
 
 v_other : verdict (history_of (rolled_out (only 1) 1 50 100)) (succeeds 2 1) ≡ Some NotFound
+unfolding records
 v_other = refl
 
 v_zero : verdict (history_of (rolled_out (only 1) 1 50 100)) (succeeds 1 0) ≡ Some NotFound
+unfolding records
 v_zero = refl
 
 v_closed : verdict (history_of (rolled_out (only 1) 1 50 100 ++ succeeds 1 1 ∷ [])) (fails 1 1) ≡ Some ClosedAction
+unfolding records
 v_closed = refl
 
 v_repeat : verdict (history_of (rolled_out (only 1) 1 50 100 ++ succeeds 1 1 ∷ [])) (succeeds 1 1) ≡ None
+unfolding records
 v_repeat = refl
 
 v_note_closed : verdict (history_of (rolled_out (only 1) 1 50 100 ++ succeeds 1 1 ∷ [])) (Feedback (record { credential = by 1; action = 1; word = Noted Proceeding; details = [] })) ≡ Some ClosedAction
+unfolding records
 v_note_closed = refl
 
 v_cancel_scheduled : verdict (history_of (rolled_out everyone 3 50 100)) (Cancel (device 5) 5 true) ≡ Some WrongState
+unfolding records
 v_cancel_scheduled = refl
 
 v_feedback_scheduled : verdict (history_of (rolled_out everyone 3 50 100)) (succeeds 5 5) ≡ Some NotFound
+unfolding records
 v_feedback_scheduled = refl
 
 v_gone : verdict (history_of (rolled_out (only 1) 1 50 100 ++ Cancel (device 1) 1 true ∷ Cancel (device 1) 1 true ∷ [])) (CancelFeedback (record { credential = by 1; action = 1; word = CanceledCancel; details = [] })) ≡ None
+unfolding records
 v_gone = refl
 
 v_gone_reject : verdict (history_of (rolled_out (only 1) 1 50 100 ++ Cancel (device 1) 1 true ∷ Cancel (device 1) 1 true ∷ [])) (rejects 1 1) ≡ Some ClosedAction
+unfolding records
 v_gone_reject = refl
 
 v_not_canceling : verdict (history_of (rolled_out (only 1) 1 50 100)) (rejects 1 1) ≡ Some WrongState
+unfolding records
 v_not_canceling = refl
 
 v_pause_finished : verdict (history_of (rolled_out (only 1) 1 50 100 ++ succeeds 1 1 ∷ [])) (Pause 1) ≡ Some WrongState
+unfolding records
 v_pause_finished = refl
 
 -- notes: 100 are taken, the next is refused, whatever its kind; a final one isn't
@@ -139,6 +154,7 @@ n_order = refl
 
 -- the word of the target by its last started action
 tw : target_word (records (history_of (rolled_out (only 1) 1 50 100 ++ CreateRollout (plan_for (only 1) 2 1 50 100) ∷ Start 2 ∷ succeeds 1 1 ∷ fails 1 2 ∷ []))) (device 1) ≡ InError
+unfolding records
 tw = refl
 
 -- D4

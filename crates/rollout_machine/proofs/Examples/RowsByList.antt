@@ -12,15 +12,19 @@ abbrev R : ℕ → ℕ → ℕ → List Command
 R groups success error = rolled_out everyone groups success error
 
 row22 : shown (records (history_of (rolled_out (only 1) 1 100 100 ++ fails 1 1 ∷ []))) 1 ≡ Some (FinishedRollout, (true, 0, 1, 0) ∷ [])
+unfolding records
 row22 = refl
 
 row8 : shown (records (history_of (R 3 50 100 ++ succeeds 1 1 ∷ succeeds 2 2 ∷ []))) 1 ≡ Some (RunningRollout, (true, 2, 0, 0) ∷ (true, 0, 0, 0) ∷ (false, 0, 0, 0) ∷ [])
+unfolding records
 row8 = refl
 
 row10 : offered (records (history_of (R 3 50 100 ++ Pause 1 ∷ succeeds 1 1 ∷ succeeds 2 2 ∷ Resume 1 ∷ []))) 4 ≡ Some (4, false)
+unfolding records
 row10 = refl
 
 row15_forced : offered (records (history_of (rolled_out (only 1) 1 50 100 ++ CreateRollout (plan_for (only 1) 2 1 50 100) ∷ Start 2 ∷ Cancel (device 1) 1 false ∷ rejects 1 1 ∷ Cancel (device 1) 1 false ∷ Cancel (device 1) 1 true ∷ []))) 1 ≡ Some (2, false)
+unfolding records
 row15_forced = refl
 
 -- twenty commands
@@ -28,9 +32,10 @@ abbrev long : List Command
 long = R 3 50 100 ++ succeeds 1 1 ∷ Pause 1 ∷ fails 3 3 ∷ succeeds 2 2 ∷ Resume 1 ∷ succeeds 4 4 ∷ succeeds 4 4 ∷ Cancel (device 5) 5 false ∷ rejects 5 5 ∷ fails 5 5 ∷ Pause 1 ∷ Resume 1 ∷ TriggerNext 1 ∷ succeeds 7 7 ∷ succeeds 8 8 ∷ []
 
 twenty : shown (records (history_of long)) 1 ≡ Some (RunningRollout, (true, 2, 1, 0) ∷ (true, 1, 1, 0) ∷ (true, 2, 0, 0) ∷ [])
+unfolding records
 twenty = refl
 
 -- such histories are valid
 valid8 : IsValid (history_of (R 3 50 100 ++ succeeds 1 1 ∷ succeeds 2 2 ∷ []))
-unfolding is_utf8 chars encode
+unfolding is_utf8 chars encode records
 valid8 = (((((((tt, refl, refl), refl, refl), refl, refl), refl, refl), refl, refl), refl, refl), refl, refl)
