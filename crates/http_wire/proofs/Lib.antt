@@ -1,0 +1,5 @@
+pub mod RegionLemmas
+pub mod HeadLemmas
+pub mod MessageLemmas
+pub mod LineLemmas
+pub mod ReplyLemmas

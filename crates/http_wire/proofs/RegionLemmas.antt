@@ -1,0 +1,108 @@
+-- The head region by places, and that more bytes leave it as it is.
+use Rattle.std.proofs.Common.{◌≡◌, ℕ, zero, suc, ◌+◌, ◌-◌, ◌<◌, ◌≤◌, List, ◌++◌, length, take, drop, get_or, refl, sym, ap, ◌∙◌, subst, arith, append_assoc, inl, inr}
+use Rattle.std.proofs.lemmas.Bool.{cases_order, cases_lt}
+use Rattle.std.proofs.lemmas.List.{get_or-take, get_or_append_left, length-take-le, length-append, take-append-drop, take_at, drop_at}
+use Rattle.rollout_model.specs.Limits.{head_length_limit}
+use Rattle.http_wire.specs.Regions.{IsHeadEndAt, HasRegion, HasNoRegion}
+
+-- four places of one list are those of another
+same_end : (a b : List ℕ) (k : ℕ) → ((i : ℕ) → i < k + 4 → get_or a i 0 ≡ get_or b i 0) → IsHeadEndAt a k → IsHeadEndAt b k
+same_end a b k same h = (
+  (sym (same k (omega arith)) ∙ h.0.0, sym (same (k + 1) (omega arith)) ∙ h.0.1),
+  (sym (same (k + 2) (omega arith)) ∙ h.1.0, sym (same (k + 2 + 1) (omega arith)) ∙ h.1.1),
+)
+
+pub end_in_take : (bytes : List ℕ) (n k : ℕ) → k + 4 ≤ n → IsHeadEndAt (take n bytes) k → IsHeadEndAt bytes k
+end_in_take bytes n k le = same_end (take n bytes) bytes k (λ i l. get_or-take n bytes i 0 (omega arith))
+
+pub take_of_end : (bytes : List ℕ) (n k : ℕ) → k + 4 ≤ n → IsHeadEndAt bytes k → IsHeadEndAt (take n bytes) k
+take_of_end bytes n k le = same_end bytes (take n bytes) k (λ i l. sym (get_or-take n bytes i 0 (omega arith)))
+
+pub end_in_front : (a b : List ℕ) (k : ℕ) → k + 4 ≤ length a → IsHeadEndAt (a ++ b) k → IsHeadEndAt a k
+end_in_front a b k le = same_end (a ++ b) a k (λ i l. get_or_append_left a b 0 i (omega arith))
+
+pub front_of_end : (a b : List ℕ) (k : ℕ) → k + 4 ≤ length a → IsHeadEndAt a k → IsHeadEndAt (a ++ b) k
+front_of_end a b k le = same_end a (a ++ b) k (λ i l. sym (get_or_append_left a b 0 i (omega arith)))
+
+-- the first place of CR LF CR LF gives the region
+pub region_at : (bytes : List ℕ) (k : ℕ) → k + 4 ≤ length bytes → k + 4 ≤ head_length_limit → IsHeadEndAt bytes k
+    → ((j : ℕ) → j < k → IsHeadEndAt bytes j → ⊥) → HasRegion bytes (take (k + 4) bytes) (drop (k + 4) bytes)
+region_at bytes k fits limit here before =
+    let size : length (take (k + 4) bytes) ≡ k + 4 = length-take-le (k + 4) bytes fits in
+    let back : length (take (k + 4) bytes) - 4 ≡ k = omega arith in
+    record {
+      split = sym (take-append-drop (k + 4) bytes);
+      limit = omega arith;
+      size = omega arith;
+      ends = subst (IsHeadEndAt (take (k + 4) bytes)) (sym back) (take_of_end bytes (k + 4) k (omega arith) here);
+      first = λ j l h. before j (omega arith) (end_in_take bytes (k + 4) j (omega arith) h);
+    }
+
+-- a region has its end at a place of the bytes
+pub end_of_region : (bytes region after : List ℕ) → HasRegion bytes region after
+    → (k : ℕ) × (length region ≡ k + 4) × (k + 4 ≤ length bytes) × (k + 4 ≤ head_length_limit) × IsHeadEndAt bytes k
+end_of_region bytes region after h =
+    let k = length region - 4 in
+    let size : length region ≡ k + 4 = omega (arith, h.size) in (
+      k,
+      size,
+      omega (arith, h.size, ap length h.split, length-append region after),
+      omega (arith, h.size, h.limit),
+      subst (λ (b : List ℕ). IsHeadEndAt b k) (sym h.split) (front_of_end region after k (omega (arith, h.size)) h.ends),
+    )
+
+-- no place gives no region
+pub no_region : (bytes : List ℕ) → ((k : ℕ) → k + 4 ≤ length bytes → k + 4 ≤ head_length_limit → IsHeadEndAt bytes k → ⊥) → HasNoRegion bytes
+no_region bytes none region after h =
+    let at = end_of_region bytes region after h in none at.0 at.2 at.3 at.4
+
+-- two regions of the same bytes are one
+region_shorter : (bytes r s a b : List ℕ) → HasRegion bytes r a → HasRegion bytes s b → length r < length s → ⊥
+region_shorter bytes r s a b h g shorter =
+    let at = end_of_region bytes r a h in
+    g.first at.0 (omega (arith, at.1)) (end_in_front s b at.0 (omega (arith, at.1)) (subst (λ (t : List ℕ). IsHeadEndAt t at.0) g.split at.4))
+
+pub region_unique : (bytes r s a b : List ℕ) → HasRegion bytes r a → HasRegion bytes s b → (r ≡ s) × (a ≡ b)
+region_unique bytes r s a b h g = same (elim (cases_order (length r) (length s)) as (λ _. length r ≡ length s) [
+  | inl e ↦ e
+  | inr (inl l) ↦ absurd (region_shorter bytes r s a b h g l)
+  | inr (inr l) ↦ absurd (region_shorter bytes s r b a g h l)
+])
+  where
+    same : length r ≡ length s → (r ≡ s) × (a ≡ b)
+    same e =
+        let joined : r ++ a ≡ s ++ b = sym h.split ∙ g.split in
+        let one : r ≡ s = sym (take_at r a (length r) refl) ∙ ap (take (length r)) joined ∙ take_at s b (length r) (sym e) in
+        let two : a ≡ b = sym (drop_at r a (length r) refl) ∙ ap (drop (length r)) joined ∙ drop_at s b (length r) (sym e) in
+        (one, two)
+
+-- more bytes after it
+pub region_append : (bytes region after more : List ℕ) → HasRegion bytes region after → HasRegion (bytes ++ more) region (after ++ more)
+region_append bytes region after more h = record {
+  split = ap (λ (b : List ℕ). b ++ more) h.split ∙ append_assoc region after more;
+  limit = h.limit;
+  size = h.size;
+  ends = h.ends;
+  first = h.first;
+}
+
+-- without a region no place ends one
+pub no_end_below : (bytes : List ℕ) → HasNoRegion bytes → (n : ℕ) → n + 3 ≤ length bytes → n + 3 ≤ head_length_limit
+    → (k : ℕ) → k < n → IsHeadEndAt bytes k → ⊥
+no_end_below bytes none zero fits limit k l here = absurd (omega arith)
+no_end_below bytes none (suc n) fits limit k l here =
+    let before : (j : ℕ) → j < n → IsHeadEndAt bytes j → ⊥ = no_end_below bytes none n (omega arith) (omega arith) in
+    elim (cases_lt k n) [
+      | inl below ↦ before k below here
+      | inr above ↦
+          let same : k ≡ n = omega arith in
+          none _ _ (region_at bytes k (omega arith) (omega arith) here (λ j lt. before j (omega arith)))
+    ]
+
+pub no_end : (bytes : List ℕ) → HasNoRegion bytes → (k : ℕ) → k + 4 ≤ length bytes → k + 4 ≤ head_length_limit → IsHeadEndAt bytes k → ⊥
+no_end bytes none k fits limit = no_end_below bytes none (suc k) (omega arith) (omega arith) k (omega arith)
+
+-- with as many bytes as the limit, more bytes make no region
+pub no_region_append : (bytes more : List ℕ) → head_length_limit ≤ length bytes → HasNoRegion bytes → HasNoRegion (bytes ++ more)
+no_region_append bytes more long none = no_region (bytes ++ more) (λ k fits limit h.
+    no_end bytes none k (omega arith) limit (end_in_front bytes more k (omega arith) h))

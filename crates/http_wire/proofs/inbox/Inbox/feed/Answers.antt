@@ -1,0 +1,22 @@
+use Rattle.std.proofs.Common.{◌≡◌, ◌++◌, List, ℕ, subst, rules, arith}
+use Rattle.std.proofs.lemmas.Grind.{common_steps}
+use Rattle.http_wire.specs.Streams.{Begins}
+use Rattle.http_wire.specs.Messages.{IsFault}
+use Rattle.http_wire.proofs.MessageLemmas.{begins_append, fault_append}
+use Rattle.http_wire.proofs.inbox.Inbox.feed.Goals as goal
+
+pub returns-clause-so_far : goal.returns-clause-so_far
+returns-clause-so_far c fed given b =
+    let longer : c.args.self.now ++ c.args.piece.now ≡ c.extend_from_slice.new.self.items = first_of (search rules, grind (arith, common_steps)) in
+    subst (λ (x : List ℕ). Begins (fed ++ c.args.piece.now) given x) longer (begins_append fed given c.args.self.now c.args.piece.now b)
+
+pub returns-clause-fault : goal.returns-clause-fault
+returns-clause-fault c fault f =
+    let longer : c.args.self.now ++ c.args.piece.now ≡ c.extend_from_slice.new.self.items = first_of (search rules, grind (arith, common_steps)) in
+    subst (λ (x : List ℕ). IsFault x fault) longer (fault_append c.args.self.now c.args.piece.now fault f)
+
+pub returns-clause-first : goal.returns-clause-first
+returns-clause-first c fed given b = begins_append fed given c.args.self.now c.args.piece.now b
+
+pub returns-in_err-extend_from_slice-clause-first : goal.returns-in_err-extend_from_slice-clause-first
+returns-in_err-extend_from_slice-clause-first c fed given b = begins_append fed given c.args.self.now c.args.piece.now b

@@ -1,0 +1,12 @@
+use Rattle.std.proofs.Common.{◌≡◌, length, map, take}
+use Rattle.httparse.specs.Spans.{header_bytes}
+use Rattle.http_wire.specs.Inbox.{field_view}
+use Rattle.rollout_model.specs.Limits.{field_limit}
+use Rattle.http_wire.proofs.message.fields_of.Given as goal
+
+-- the fields so far
+abbrev pub invariant-loop-i : goal.invariant-loop-i
+invariant-loop-i l = record {
+  size : length l.fields ≡ field_limit;
+  same : map field_view (take l.i l.fields) ≡ map (header_bytes l.region) (take l.i l.spans.fields);
+}

@@ -1,0 +1,8 @@
+use Rattle.std.proofs.Common.{sym, ap, ◌∙◌}
+use Rattle.http_wire.specs.BodyLengths.{body_length}
+use Rattle.http_wire.proofs.MessageLemmas.{body_fault}
+use Rattle.http_wire.proofs.message.read_region.Goals as goal
+
+pub returns-in-Err-clause-fault : goal.returns-in-Err-clause-fault
+returns-in-Err-clause-fault c =
+    body_fault c.args.region.now _ _ _ c.in-Err.fault c.in-Some.ensures.found.head (ap body_length (sym c.fields_of-fields.ensures) ∙ sym c.in-Err.ensures)

@@ -1,0 +1,25 @@
+-- Fields by their names.
+use Rattle.std.specs.Prelude.{ℕ, Bool, List, [], ◌∷◌, map, filter, bytes_eq, Option, Some, None}
+use Rattle.std.specs.Char.{to_ascii_lowercase}
+use Rattle.http_wire.specs.Heads.{NameAndValue}
+
+abbrev pub lowercase : List ℕ → List ℕ
+lowercase text = map to_ascii_lowercase text
+
+-- the field has the name, whatever the case of ASCII letters
+abbrev pub is_named : List ℕ → NameAndValue → Bool
+is_named name f = bytes_eq (lowercase f.0) (lowercase name)
+
+-- the fields that have the name, in order
+abbrev pub fields_named : List ℕ → List NameAndValue → List NameAndValue
+fields_named name fields = filter (is_named name) fields
+
+-- the value of the one field, where there is exactly one
+abbrev pub value_of_one : List NameAndValue → Option (List ℕ)
+value_of_one [] = None
+value_of_one (f ∷ []) = Some f.1
+value_of_one (f ∷ g ∷ fs) = None
+
+-- the value of the one field that has the name
+abbrev pub sole_value : List ℕ → List NameAndValue → Option (List ℕ)
+sole_value name fields = value_of_one (fields_named name fields)

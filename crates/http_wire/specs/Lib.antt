@@ -1,0 +1,12 @@
+pub mod Faults
+pub mod Regions
+pub mod Heads
+pub mod BodyLengths
+pub mod Messages
+pub mod Streams
+pub mod Targets
+pub mod Fields
+pub mod Inbox
+pub mod Replies
+pub mod Watched
+pub mod Parse

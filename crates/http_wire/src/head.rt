@@ -1,0 +1,90 @@
+//! The head of a message, in its one strict form (RFC 9112, sections 3 and 5).
+ghost use Rattle.std.specs.Prelude.{◌≡◌, ℕ, ◌≤◌, ◌↔◌, ◌&&◌, List, length, slice_index, IsTrue, IfSome, IfNone};
+ghost use Rattle.http_wire.specs.Regions.{HasFewFields};
+ghost use Rattle.http_wire.specs.Heads.{HeadParts, IsOriginForm, SpellsHead, is_target_byte};
+ghost use Rattle.http_wire.specs.Parse.{lf_follows_cr, is_no_line_break, IsStrict, IsHeadAt};
+ghost use Rattle.httparse.specs.Spans.{IsWithin};
+
+use crate::limits::FIELD_LIMIT;
+use httparse::Status;
+use httparse::spans::{EMPTY_HEADER_SPAN, HeaderSpan, RequestSpans, Span, parse_request};
+
+/// Where the parts of a head are.
+#[derive(Clone, Copy, Debug)]
+pub(crate) struct HeadSpans {
+    pub(crate) method: Span,
+    pub(crate) target: Span,
+    pub(crate) fields: [HeaderSpan; FIELD_LIMIT],
+    pub(crate) field_count: usize,
+}
+
+/// Whether each LF follows a CR.
+fn has_no_bare_line_feed(bytes: &[u8]) -> bool
+    ensures { result ≡ lf_follows_cr 0 bytes.now }
+{
+    let mut previous = 0;
+    for b in bytes {
+        if *b == b'\n' && previous != b'\r' {
+            return false;
+        }
+        previous = *b;
+    }
+    true
+}
+
+#[tactic(auto, unfolding(crate::specs::Heads::is_target_byte))]
+fn is_target_byte(b: u8) -> bool
+    ensures { result ≡ is_target_byte b }
+{
+    b.is_ascii_alphanumeric() || b"/?:@-._~!$&'()*+,;=%".contains(&b)
+}
+
+fn is_origin_form(target: &[u8]) -> bool
+    ensures { IsTrue result ↔ IsOriginForm target.now }
+{
+    target.first() == Some(&b'/') && target.iter().all(|b| is_target_byte(*b))
+}
+
+/// Whether no empty line comes first and each LF follows a CR.
+fn has_strict_lines(region: &[u8]) -> bool
+    ensures { result ≡ (is_no_line_break (slice_index region.now 0) && lf_follows_cr 0 region.now) }
+{
+    match region.first() {
+        Some(first) => *first != b'\r' && *first != b'\n' && has_no_bare_line_feed(region),
+        None => true,
+    }
+}
+
+/// Whether the head is all of the region, in HTTP/1.1 and with a target in origin form.
+fn is_strict(region: &[u8], head: &RequestSpans) -> bool
+    requires { IsWithin (length region.now) head.now.path }
+    ensures { IsTrue result ↔ IsStrict region.now head.now }
+{
+    head.len == region.len() && head.version == 1 && is_origin_form(head.path.of(region))
+}
+
+/// The parts of the head, if the region has the form of one.
+pub(crate) fn parse_head(region: &[u8]) -> Option<HeadSpans>
+    requires { HasFewFields region.now }
+    ensures found { IfSome result (IsHeadAt region.now) }
+    ensures none { IfNone result ((h : HeadParts) → SpellsHead region.now h → ⊥) }
+{
+    if !has_strict_lines(region) {
+        return None;
+    }
+    let mut fields = [EMPTY_HEADER_SPAN; FIELD_LIMIT];
+    let head = match parse_request(region, &mut fields) {
+        Ok(Status::Complete(head)) => head,
+        Ok(Status::Partial) => return None,
+        Err(_) => return None,
+    };
+    if !is_strict(region, &head) {
+        return None;
+    }
+    Some(HeadSpans {
+        method: head.method,
+        target: head.path,
+        fields,
+        field_count: head.headers,
+    })
+}

@@ -1,0 +1,86 @@
+//! What has come of a stream, and the messages in it.
+ghost use Rattle.std.specs.Prelude.{IsTrue, ◌↔◌, length, ◌≡◌, ℕ, List, [], ◌++◌, OnOk, OnErr, IfErr};
+ghost use Rattle.std.specs.Borrow.{sem};
+ghost use Rattle.std.specs.Io.BufRead.{Rests};
+
+use crate::fault::WireFault;
+use crate::message::{Message, read_front};
+use rollout_model::Refusal;
+use std::alloc::Global;
+use std::marker::Model;
+
+/// The bytes of a stream that are not yet handed out.
+#[derive(Drop)]
+pub struct Inbox {
+    bytes: Vec<u8>,
+    start: usize,
+}
+
+impl Model for Inbox {
+    ghost use Rattle.std.specs.Prelude.{ℕ, ◌≤◌, List, drop, vec_len};
+
+    ghost Value = { List ℕ };
+
+    ghost view = { λ inbox. drop inbox.start inbox.bytes.items };
+
+    ghost invariant = { λ inbox. inbox.start ≤ vec_len inbox.bytes };
+}
+
+impl Inbox {
+    ghost use Rattle.http_wire.specs.Inbox.{HandsOut};
+    ghost use Rattle.http_wire.specs.Messages.{WireMessage, IsFault};
+    ghost use Rattle.http_wire.specs.Streams.{Begins};
+    ghost use Rattle.rollout_model.specs.declared.Refusal.TheVariants.{NoMemory};
+    ghost use Rattle.http_wire.specs.contracts.inbox.Inbox.{the_row};
+
+    /// Nothing has come yet. It takes no memory.
+    pub fn new(alloc: Global) -> Inbox
+        ensures { result ≡ [] }
+    {
+        Inbox {
+            bytes: Vec::new(alloc),
+            start: 0,
+        }
+    }
+
+    /// Whether everything that came was handed out.
+    pub fn is_empty(&self) -> bool
+        ensures { IsTrue result ↔ (length self.now ≡ 0) }
+    {
+        self.start == self.bytes.len()
+    }
+
+    /// Takes the next piece of the stream, of any length.
+    pub fn feed(&mut self, piece: &[u8]) -> Result<(), Refusal>
+        ensures ok { OnOk result (self.new ≡ self.old ++ piece.now) }
+        ensures memory { IfErr result (λ refusal. refusal ≡ NoMemory) }
+        ensures unchanged { OnErr result (self.new ≡ self.old) }
+
+        // Messages that begin a stream begin the longer one.
+        ensures first { (fed : List ℕ) (given : List WireMessage) → Begins fed given self.old → Begins (fed ++ piece.now) given (self.old ++ piece.now) }
+
+        // The messages that were handed out stay the first ones, and a fault stays.
+        ensures so_far { OnOk result ((fed : List ℕ) (given : List WireMessage) → Begins fed given self.old → Begins (fed ++ piece.now) given self.new) }
+        ensures fault { OnOk result ((fault : WireFault) → IsFault self.old fault → IsFault self.new fault) }
+    {
+        let _ = self.bytes.drain(..self.start);
+        self.start = 0;
+        self.bytes.extend_from_slice(piece)?;
+        Ok(())
+    }
+
+    /// The next whole message, or the fault that stands in its place, which later calls answer again. It takes no memory.
+    pub fn next(&mut self) -> Option<Result<Message<'_>, WireFault>>
+        ensures* after_borrow { sem 𝓛 (Rests the_row self.entry (λ left. HandsOut self.old result left)) }
+    {
+        let at = self.start;
+        match read_front(&self.bytes[at..]) {
+            None => None,
+            Some(Err(fault)) => Some(Err(fault)),
+            Some(Ok((message, len))) => {
+                self.start = at + len;
+                Some(Ok(message))
+            }
+        }
+    }
+}

@@ -1,0 +1,29 @@
+//! Path and query of a target.
+ghost use Rattle.std.specs.Prelude.{◌≡◌, position};
+ghost use Rattle.http_wire.specs.Targets.{is_question_mark, path_of, query_of};
+
+fn first_question_mark(target: &[u8]) -> Option<usize>
+    ensures { result ≡ position is_question_mark target.now }
+{
+    target.iter().position(|b| *b == b'?')
+}
+
+/// The target up to its first `?`, or all of it.
+pub fn path_of(target: &[u8]) -> &[u8]
+    ensures { result.now ≡ path_of target.now }
+{
+    match first_question_mark(target) {
+        Some(place) => &target[..place],
+        None => target,
+    }
+}
+
+/// What follows the first `?` of the target, or nothing.
+pub fn query_of(target: &[u8]) -> &[u8]
+    ensures { result.now ≡ query_of target.now }
+{
+    match first_question_mark(target) {
+        Some(place) => &target[place + 1..],
+        None => b"",
+    }
+}
