@@ -1,0 +1,39 @@
+-- What answers are, by what is asked, and which refusals they can have.
+use Rattle.rollout_machine.specs.Answers.{answer, query_reply, command_reply}
+use Rattle.rollout_machine.specs.CommandList.{CommandList, Make, ◌▸◌}
+use Rattle.rollout_machine.specs.Commands.{Command}
+use Rattle.rollout_machine.specs.RecordSteps.{step_records, no_records}
+use Rattle.rollout_machine.specs.Records.{records, Records}
+use Rattle.rollout_machine.specs.Replies.{Refused}
+use Rattle.rollout_machine.specs.Requests.{Query, Do, Ask, Rejected, Asks}
+use Rattle.rollout_machine.specs.Validity.{IsValid}
+use Rattle.rollout_machine.specs.Verdicts.{verdict}
+use Rattle.rollout_model.specs.declared.refusal.Refusal.{Refusal}
+use Rattle.std.proofs.Common.{◌≡◌, Bool, Some, None, refl, ap, ◌∙◌}
+use Rattle.rollout_machine.proofs.Main.{records_step}
+
+-- ---- what is asked, one by one
+
+pub rejected_answer : (h : CommandList) (refusal : Refusal) → answer h (Rejected refusal) ≡ record { reply = Refused refusal; accepted = None }
+unfolding answer
+rejected_answer h refusal = refl
+
+pub query_answer : (h : CommandList) (query : Query) → answer h (Asks (Ask query)) ≡ record { reply = query_reply (records h) query; accepted = None }
+unfolding answer
+query_answer h query = refl
+
+pub refused_answer : (h : CommandList) (c : Command) (refusal : Refusal) → verdict h c ≡ Some refusal → answer h (Asks (Do c)) ≡ record { reply = Refused refusal; accepted = None }
+unfolding answer
+refused_answer h c refusal refused = rw refused
+
+pub accepted_answer : (h : CommandList) (c : Command) → verdict h c ≡ None → answer h (Asks (Do c)) ≡ record { reply = command_reply c (records (h ▸ c)); accepted = Some c }
+unfolding answer
+accepted_answer h c accepted = rw accepted
+
+-- the reply by one step of the records
+pub accepted_step : (h : CommandList) (c : Command) → IsValid h → verdict h c ≡ None → answer h (Asks (Do c)) ≡ record { reply = command_reply c (step_records (records h) c); accepted = Some c }
+accepted_step h c valid accepted = accepted_answer h c accepted ∙ ap (λ (rs : Records). record { reply = command_reply c rs; accepted = Some c }) (records_step h c valid accepted)
+
+pub made_records : (approval : Bool) → records (Make approval) ≡ no_records approval
+unfolding records
+made_records approval = refl

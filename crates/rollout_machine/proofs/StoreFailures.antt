@@ -1,0 +1,158 @@
+-- No answer is a failed store: verdicts and queries have other refusals.
+use Rattle.rollout_machine.specs.Answers.{answer, query_reply, command_reply, command_answer, if_found, for_device, download, targets_reply, targets_matching, is_offer_of, added_artifact, added_rollout, modules_offered, artifact_named, action_of_target, artifact_of_module}
+use Rattle.rollout_machine.specs.ByteStrings.{item_numbered}
+use Rattle.rollout_machine.specs.CommandList.{CommandList, ◌▸◌}
+use Rattle.rollout_machine.specs.Commands.{Bytes, Credential, Command, AddModule, AddArtifact, AddSet, PutTargets, Tag, Untag, PutAttributes, CreateRollout, Approve, Deny, Start, Pause, Resume, TriggerNext, Cancel, Feedback, CancelFeedback}
+use Rattle.rollout_machine.specs.Filters.{Filter, filter_of}
+use Rattle.rollout_machine.specs.Objects.{deployment_shown}
+use Rattle.rollout_machine.specs.Offers.{offer}
+use Rattle.rollout_machine.specs.Records.{records, Records, ArtifactRecord, RolloutRecord}
+use Rattle.rollout_machine.specs.Replies.{Reply, Refused, PollShown, DeploymentShown, CancelShown, ContentsShown}
+use Rattle.rollout_machine.specs.Requests.{Page, Query, Poll, ShowDeployment, ShowCancel, Download, ShowTargets, ShowTarget, ShowTargetActions, ShowAction, ShowHistory, ShowModules, ShowModule, ShowArtifacts, ShowArtifact, ShowContents, ShowSets, ShowSet, ShowRollouts, ShowRollout, ShowGroups, ShowGroup, ShowGroupTargets, ShowReport, ShowActionsTable, Request, Do, Ask, Asks}
+use Rattle.rollout_machine.specs.StateWords.{group_numbered}
+use Rattle.rollout_machine.specs.Verdicts.{verdict, check, verdict_row, first_refusal, is_known, target_of}
+use Rattle.rollout_model.specs.declared.refusal.Refusal.{Refusal}
+use Rattle.rollout_model.specs.declared.refusal.Refusal.TheVariants.{StoreFailed, NotFound, Unauthorized}
+use Rattle.std.proofs.Common.{◌≡◌, ◌≢◌, ◌⊎◌, inl, inr, Bool, true, false, List, [], ◌∷◌, ℕ, Option, Some, None, refl, ap, sym, subst, length, ◌∙◌}
+use Rattle.std.specs.Prelude.{cond, not, ◌&&◌, nat_eq}
+use Rattle.std.specs.List.{list_any}
+use Rattle.std.proofs.lemmas.Bool.{false≢true, and_parts}
+
+abbrev pub is_store : Refusal → Bool
+is_store StoreFailed = true
+is_store _ = false
+
+abbrev pub is_store_reply : Reply → Bool
+is_store_reply (Refused refusal) = is_store refusal
+is_store_reply _ = false
+
+is_store_true : (refusal : Refusal) → is_store refusal ≡ true → refusal ≡ StoreFailed
+is_store_true StoreFailed e = refl
+is_store_true _ e = absurd (false≢true e)
+
+is_store_reply_true : (reply : Reply) → is_store_reply reply ≡ true → reply ≡ Refused StoreFailed
+is_store_reply_true (Refused refusal) e = ap Refused (is_store_true refusal e)
+is_store_reply_true _ e = absurd (false≢true e)
+
+-- a reply by the test
+pub no_store_reply : (reply : Reply) → is_store_reply reply ≡ false → reply ≢ Refused StoreFailed
+no_store_reply reply never e = false≢true (sym never ∙ ap is_store_reply e)
+
+-- a reply is a failed store, or it isn't
+pub store_or_not : (reply : Reply) → (reply ≡ Refused StoreFailed) ⊎ (reply ≢ Refused StoreFailed)
+store_or_not reply = go (is_store_reply reply) refl where
+  go : (b : Bool) → is_store_reply reply ≡ b → (reply ≡ Refused StoreFailed) ⊎ (reply ≢ Refused StoreFailed)
+  go true e = inl (is_store_reply_true reply e)
+  go false e = inr (no_store_reply reply e)
+
+-- ---- verdicts
+
+abbrev never_stores : List (Bool × Refusal) → Bool
+never_stores [] = true
+never_stores ((t, refusal) ∷ row) = not (is_store refusal) && never_stores row
+
+rows_never_store : (rs : Records) (c : Command) → never_stores (verdict_row rs c) ≡ true
+rows_never_store rs (AddModule label) = refl
+rows_never_store rs (AddArtifact upload) = refl
+rows_never_store rs (AddSet label) = refl
+rows_never_store rs (PutTargets rows) = refl
+rows_never_store rs (Tag t x) = refl
+rows_never_store rs (Untag t x) = refl
+rows_never_store rs (PutAttributes device attributes) = refl
+rows_never_store rs (CreateRollout plan) = refl
+rows_never_store rs (Approve r) = refl
+rows_never_store rs (Deny r) = refl
+rows_never_store rs (Start r) = refl
+rows_never_store rs (Pause r) = refl
+rows_never_store rs (Resume r) = refl
+rows_never_store rs (TriggerNext r) = refl
+rows_never_store rs (Cancel t k force) = refl
+rows_never_store rs (Feedback report) = refl
+rows_never_store rs (CancelFeedback report) = refl
+
+not_true : (b : Bool) → not b ≡ true → b ≡ false
+not_true true e = absurd (false≢true e)
+not_true false e = refl
+
+first_never_stores : (row : List (Bool × Refusal)) (refusal : Refusal) → never_stores row ≡ true → first_refusal row ≡ Some refusal → is_store refusal ≡ false
+first_never_stores [] refusal never e = absurd (cc)
+first_never_stores ((t, other) ∷ row) refusal never e = go t e (first_never_stores row refusal (and_parts _ _ never).1) where
+  go : (b : Bool) → cond b (Some other) (first_refusal row) ≡ Some refusal → (first_refusal row ≡ Some refusal → is_store refusal ≡ false) → is_store refusal ≡ false
+  go true f later = let same : other ≡ refusal = cc in subst (λ (r : Refusal). is_store r ≡ false) same (not_true _ (and_parts _ _ never).0)
+  go false f later = later f
+
+pub check_never_stores : (rs : Records) (c : Command) (refusal : Refusal) → check rs c ≡ Some refusal → is_store refusal ≡ false
+check_never_stores rs c refusal e = first_never_stores (verdict_row rs c) refusal (rows_never_store rs c) e
+
+-- ---- queries
+
+found_never : {X : Type 0} (reply : X → Reply) (o : Option X) → ((x : X) → is_store_reply (reply x) ≡ false) → is_store_reply (if_found reply o) ≡ false
+found_never reply None never = refl
+found_never reply (Some x) never = never x
+
+one_of_two : (b : Bool) (x y : Reply) → is_store_reply x ≡ false → is_store_reply y ≡ false → is_store_reply (cond b x y) ≡ false
+one_of_two true x y ex ey = ex
+one_of_two false x y ex ey = ey
+
+device_never : (rs : Records) (device : Credential) (reply : Reply) → is_store_reply reply ≡ false → is_store_reply (for_device rs device reply) ≡ false
+device_never rs device reply never = one_of_two (is_known rs device) reply (Refused Unauthorized) never refl
+
+targets_never : (rs : Records) (page : Page) (o : Option Bytes) → is_store_reply (targets_reply rs page o) ≡ false
+targets_never rs page None = refl
+targets_never rs page (Some text) = go (filter_of text) where
+  go : (o : Option Filter) → is_store_reply (targets_matching rs page o) ≡ false
+  go None = refl
+  go (Some f) = refl
+
+query_never_stores : (rs : Records) (query : Query) → is_store_reply (query_reply rs query) ≡ false
+query_never_stores rs (Poll device) = device_never rs device (PollShown device.id (offer rs device.id)) refl
+query_never_stores rs (ShowDeployment device k) = device_never rs device _ (one_of_two (is_offer_of k false (offer rs device.id)) (DeploymentShown (deployment_shown rs device.id k)) (Refused NotFound) refl refl)
+query_never_stores rs (ShowCancel device k) = device_never rs device _ (one_of_two (is_offer_of k true (offer rs device.id)) (CancelShown k) (Refused NotFound) refl refl)
+query_never_stores rs (Download device m filename) =
+    device_never rs device (download rs device.id m filename) (one_of_two (list_any (λ n. nat_eq n m) (modules_offered rs (offer rs device.id)))
+      (if_found (λ (a : ArtifactRecord). ContentsShown a.contents) (artifact_named m filename rs.artifacts)) (Refused NotFound)
+      (found_never (λ (a : ArtifactRecord). ContentsShown a.contents) (artifact_named m filename rs.artifacts) (λ a. refl)) refl)
+query_never_stores rs (ShowTargets filter_text page) = targets_never rs page filter_text
+query_never_stores rs (ShowTarget t) = found_never _ (target_of rs t) (λ x. refl)
+query_never_stores rs (ShowTargetActions t page) = found_never _ (target_of rs t) (λ x. refl)
+query_never_stores rs (ShowAction t k) = found_never _ (action_of_target rs t k) (λ a. refl)
+query_never_stores rs (ShowHistory t k page) = found_never _ (action_of_target rs t k) (λ a. refl)
+query_never_stores rs (ShowModules page) = refl
+query_never_stores rs (ShowModule k) = found_never _ (item_numbered rs.modules k) (λ label. refl)
+query_never_stores rs (ShowArtifacts m page) = found_never _ (item_numbered rs.modules m) (λ label. refl)
+query_never_stores rs (ShowArtifact m k) = found_never _ (artifact_of_module rs m k) (λ a. refl)
+query_never_stores rs (ShowContents m k) = found_never _ (artifact_of_module rs m k) (λ a. refl)
+query_never_stores rs (ShowSets page) = refl
+query_never_stores rs (ShowSet k) = found_never _ (item_numbered rs.sets k) (λ label. refl)
+query_never_stores rs (ShowRollouts page) = refl
+query_never_stores rs (ShowRollout r) = found_never _ (item_numbered rs.rollouts r) (λ x. refl)
+query_never_stores rs (ShowGroups r page) = found_never _ (item_numbered rs.rollouts r) (λ x. refl)
+query_never_stores rs (ShowGroup r i) = found_never _ (item_numbered rs.rollouts r) (λ x. found_never _ (group_numbered i x.groups) (λ g. refl))
+query_never_stores rs (ShowGroupTargets r i page) = found_never _ (item_numbered rs.rollouts r) (λ x. found_never _ (group_numbered i x.groups) (λ g. refl))
+query_never_stores rs (ShowReport r) = found_never _ (item_numbered rs.rollouts r) (λ x. refl)
+query_never_stores rs (ShowActionsTable r) = found_never _ (item_numbered rs.rollouts r) (λ x. refl)
+
+-- ---- commands
+
+artifact_never : (k : ℕ) (o : Option ArtifactRecord) → is_store_reply (added_artifact k o) ≡ false
+artifact_never k None = refl
+artifact_never k (Some a) = refl
+
+rollout_never : (o : Option RolloutRecord) → is_store_reply (added_rollout o) ≡ false
+rollout_never None = refl
+rollout_never (Some x) = refl
+
+done_never_stores : (c : Command) (rs : Records) → is_store_reply (command_reply c rs) ≡ false
+done_never_stores (AddArtifact upload) rs = artifact_never _ (item_numbered rs.artifacts (length rs.artifacts))
+done_never_stores (CreateRollout plan) rs = rollout_never (item_numbered rs.rollouts (length rs.rollouts))
+done_never_stores _ rs = refl
+
+command_never_stores : (h : CommandList) (c : Command) (o : Option Refusal) → verdict h c ≡ o → is_store_reply (command_answer h c o).reply ≡ false
+command_never_stores h c None e = done_never_stores c (records (h ▸ c))
+command_never_stores h c (Some refusal) e = check_never_stores (records h) c refusal e
+
+-- a desk's own answer to a request is no failed store
+pub answer_never_stores : (h : CommandList) (request : Request) → (answer h (Asks request)).reply ≢ Refused StoreFailed
+unfolding answer
+answer_never_stores h (Do c) = no_store_reply _ (command_never_stores h c (verdict h c) refl)
+answer_never_stores h (Ask query) = no_store_reply _ (query_never_stores (records h) query)
