@@ -28,3 +28,6 @@ pub use target::{Attribute, Attributes, Tags, Target};
 pub use text::Text;
 pub use value::Value;
 pub use word::Word;
+
+#[cfg(test)]
+mod tests;

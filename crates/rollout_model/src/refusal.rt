@@ -1,39 +1,59 @@
-//! The refusals, with their numbers, names and statuses.
+//! Why a request is refused.
 
 ghost use Rattle.std.specs.Prelude.{◌≡◌};
 ghost use Rattle.rollout_model.specs.Refusals.{refusal_row, NoMemory};
 
 use std::alloc::{AllocError, AllocFailed};
 
-/// Why a request is refused.
+/// Why a request is refused. After each but `StoreFailed` the records are what they were before the request.
 #[derive(Clone, Copy, Debug, PartialEq, Eq)]
 pub enum Refusal {
+    /// A body, a query or a member of it breaks its rule.
     BadRequest,
+    /// The device is unknown, or its token is another.
     Unauthorized,
+    /// There is no such route or object.
     NotFound,
+    /// The route has no such method.
     BadMethod,
+    /// An object of the same name is there.
     Exists,
+    /// A distribution set names the module, so it takes no further artifact.
     Locked,
+    /// The rollout or action is in a state that does not allow it.
     WrongState,
+    /// The action has its outcome.
     ClosedAction,
+    /// The body is longer than the limit.
     TooLarge,
+    /// A limit of the desk is reached.
     Quota,
+    /// The text is no target filter.
     BadFilter,
+    /// A rollout has fewer targets than groups.
     TooFewTargets,
+    /// The contents have another digest than was named.
     WrongDigest,
-    /// The line of the import, the header being 1.
+    /// This line of an import breaks its rule, the header being line 1.
     BadImportLine(u64),
+    /// Memory was refused.
     NoMemory,
+    /// The store failed: the command may or may not be kept, and the desk is stopped.
     StoreFailed,
+    /// The store failed before: the desk answers nothing until it is reopened.
     Stopped,
+    /// The message's head has not the form of RFC 9112.
     BadHead,
+    /// The length of the body is given twice, or is no number.
     BadLength,
+    /// The head has too many bytes or fields.
     HeadTooLarge,
+    /// The body has a transfer coding.
     BadCoding,
 }
 
 impl Refusal {
-    /// The number of the refusal.
+    /// Its number, from 1 to 21.
     pub fn number(&self) -> u8
         ensures { result ≡ (refusal_row self.now).number }
     {
@@ -91,32 +111,29 @@ impl Refusal {
         }
     }
 
-    /// The status of its reply.
+    /// The HTTP status of its reply.
     pub fn status(&self) -> u16
         ensures { result ≡ (refusal_row self.now).status }
     {
         match self {
-            Refusal::BadRequest => 400,
+            Refusal::BadRequest
+            | Refusal::BadFilter
+            | Refusal::TooFewTargets
+            | Refusal::WrongDigest
+            | Refusal::BadImportLine(_)
+            | Refusal::BadHead
+            | Refusal::BadLength => 400,
             Refusal::Unauthorized => 401,
+            Refusal::Quota => 403,
             Refusal::NotFound => 404,
             Refusal::BadMethod => 405,
-            Refusal::Exists => 409,
-            Refusal::Locked => 409,
-            Refusal::WrongState => 409,
+            Refusal::Exists | Refusal::Locked | Refusal::WrongState => 409,
             Refusal::ClosedAction => 410,
             Refusal::TooLarge => 413,
-            Refusal::Quota => 403,
-            Refusal::BadFilter => 400,
-            Refusal::TooFewTargets => 400,
-            Refusal::WrongDigest => 400,
-            Refusal::BadImportLine(_) => 400,
-            Refusal::NoMemory => 503,
-            Refusal::StoreFailed => 500,
-            Refusal::Stopped => 503,
-            Refusal::BadHead => 400,
-            Refusal::BadLength => 400,
             Refusal::HeadTooLarge => 431,
+            Refusal::StoreFailed => 500,
             Refusal::BadCoding => 501,
+            Refusal::NoMemory | Refusal::Stopped => 503,
         }
     }
 
@@ -124,29 +141,14 @@ impl Refusal {
     pub fn ends(&self) -> bool
         ensures { result ≡ (refusal_row self.now).ends }
     {
-        match self {
-            Refusal::BadRequest => false,
-            Refusal::Unauthorized => false,
-            Refusal::NotFound => false,
-            Refusal::BadMethod => false,
-            Refusal::Exists => false,
-            Refusal::Locked => false,
-            Refusal::WrongState => false,
-            Refusal::ClosedAction => false,
-            Refusal::TooLarge => true,
-            Refusal::Quota => false,
-            Refusal::BadFilter => false,
-            Refusal::TooFewTargets => false,
-            Refusal::WrongDigest => false,
-            Refusal::BadImportLine(_) => false,
-            Refusal::NoMemory => false,
-            Refusal::StoreFailed => false,
-            Refusal::Stopped => false,
-            Refusal::BadHead => true,
-            Refusal::BadLength => true,
-            Refusal::HeadTooLarge => true,
-            Refusal::BadCoding => true,
-        }
+        matches!(
+            self,
+            Refusal::TooLarge
+                | Refusal::BadHead
+                | Refusal::BadLength
+                | Refusal::HeadTooLarge
+                | Refusal::BadCoding
+        )
     }
 }
 

@@ -1,0 +1,108 @@
+//! What no clause says: that the calls which take memory succeed, and that the table of refusals is the one agreed on.
+
+use crate::{
+    Attribute, Attributes, ControllerId, Digest, Filename, ModuleLabel, ModuleNo, Refusal, Tags,
+    Text, Value, Word,
+};
+use std::test::Fail;
+
+#[test]
+fn refusals(rt: HostRuntime) {
+    let table = [
+        (Refusal::BadRequest, 1, "bad_request", 400, false),
+        (Refusal::Unauthorized, 2, "unauthorized", 401, false),
+        (Refusal::NotFound, 3, "not_found", 404, false),
+        (Refusal::BadMethod, 4, "method", 405, false),
+        (Refusal::Exists, 5, "exists", 409, false),
+        (Refusal::Locked, 6, "locked", 409, false),
+        (Refusal::WrongState, 7, "wrong_state", 409, false),
+        (Refusal::ClosedAction, 8, "closed_action", 410, false),
+        (Refusal::TooLarge, 9, "too_large", 413, true),
+        (Refusal::Quota, 10, "quota", 403, false),
+        (Refusal::BadFilter, 11, "filter", 400, false),
+        (Refusal::TooFewTargets, 12, "too_few_targets", 400, false),
+        (Refusal::WrongDigest, 13, "digest", 400, false),
+        (Refusal::BadImportLine(3), 14, "import_line", 400, false),
+        (Refusal::NoMemory, 15, "memory", 503, false),
+        (Refusal::StoreFailed, 16, "store", 500, false),
+        (Refusal::Stopped, 17, "stopped", 503, false),
+        (Refusal::BadHead, 18, "head", 400, true),
+        (Refusal::BadLength, 19, "length", 400, true),
+        (Refusal::HeadTooLarge, 20, "head_size", 431, true),
+        (Refusal::BadCoding, 21, "coding", 501, true),
+    ];
+    for (refusal, number, name, status, ends) in table {
+        assert_eq!(rt; refusal.number(), number);
+        assert_eq!(rt; refusal.name(), name);
+        assert_eq!(rt; refusal.status(), status);
+        assert_eq!(rt; refusal.ends(), ends);
+    }
+}
+
+#[test]
+fn texts_in_place(rt: HostRuntime) {
+    for (text, is_word) in [
+        ("dev-01", true),
+        ("", false),
+        ("a b", false),
+        ("\u{e4}", false),
+    ] {
+        assert_eq!(rt; ControllerId::read(text).is_some(), is_word, "{text}");
+        assert_eq!(rt; Word::read(text).is_some(), is_word, "{text}");
+        assert_eq!(rt; Filename::read(text).is_some(), is_word, "{text}");
+    }
+    assert!(rt; ControllerId::read("a") < ControllerId::read("aa"));
+    assert_eq!(rt; ModuleNo::new(0), None);
+    assert_eq!(rt; ModuleNo::new(7).map(|n| n.get()), Some(7));
+    assert_eq!(rt; Digest::read(&[1; 31]), None);
+    assert_eq!(rt; Digest::read(&[1; 32]), Some(Digest::new([1; 32])));
+}
+
+#[test]
+fn texts_in_memory(rt: HostRuntime) -> Result<(), Fail> {
+    let alloc = rt.alloc();
+    for (text, is_text, is_value) in [
+        ("a \u{e4}", true, true),
+        ("", false, true),
+        ("a\tb", false, false),
+        ("\u{7f}", false, false),
+    ] {
+        assert_eq!(rt; Text::read(alloc, text)?.is_some(), is_text, "{text}");
+        assert_eq!(rt; Value::read(alloc, text)?.is_some(), is_value, "{text}");
+    }
+    Ok(())
+}
+
+#[test]
+fn copies(rt: HostRuntime) -> Result<(), Fail> {
+    let alloc = rt.alloc();
+    let (Some(name), Some(kind), Some(version)) = (
+        Text::read(alloc, "app")?,
+        Text::read(alloc, "os")?,
+        Text::read(alloc, "1.0")?,
+    ) else {
+        return Err(Fail::from("a text that keeps its rule was refused"));
+    };
+    let label = ModuleLabel {
+        name,
+        kind,
+        version,
+    };
+    assert_eq!(rt; label.copy(alloc)?, label);
+    Ok(())
+}
+
+#[test]
+fn lists_of_a_target(rt: HostRuntime) -> Result<(), Fail> {
+    let alloc = rt.alloc();
+    let (Some(key), Some(value)) = (Word::read("hw"), Value::read(alloc, "rev2")?) else {
+        return Err(Fail::from("a text that keeps its rule was refused"));
+    };
+    let mut tags = Tags::new(alloc);
+    tags.push(key)?;
+    assert_eq!(rt; tags.as_slice().len(), 1);
+    let mut attributes = Attributes::new(alloc);
+    attributes.push(Attribute { key, value })?;
+    assert_eq!(rt; attributes.as_slice().len(), 1);
+    Ok(())
+}
