@@ -3,3 +3,4 @@ pub mod HeadLemmas
 pub mod MessageLemmas
 pub mod LineLemmas
 pub mod ReplyLemmas
+mod Examples

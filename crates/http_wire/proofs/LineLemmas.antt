@@ -1,6 +1,6 @@
 -- The number of line ends is the number of lines: the parts between the CR LF pairs.
 use Rattle.std.proofs.Common.{◌≡◌, ℕ, ◌+◌, Bool, true, false, ◌&&◌, List, [], ◌∷◌, ◌++◌, refl, arith, ap}
-use Rattle.std.specs.Prelude.{length, ⊤, if◌then◌else◌, ◌==◌, slice_index}
+use Rattle.std.specs.Prelude.{length, if◌then◌else◌, ◌==◌}
 use Rattle.std.specs.List.{flat_map}
 use Rattle.httparse.specs.Ascii.{crlf_bytes}
 use Rattle.http_wire.specs.Regions.{line_ends, AreLines, HasLines}

@@ -23,7 +23,7 @@ pub enum ContentType {
 }
 
 /// What answers a message that isn't refused.
-#[derive(Drop)]
+#[derive(Debug, Drop)]
 pub struct Answer {
     pub status: StatusCode,
     pub content_type: ContentType,
@@ -131,7 +131,12 @@ pub fn refusal_bytes(refusal: Refusal) -> FixedText
 {
     let body = refusal_body(refusal);
     let size = body.as_bytes().len() as u64;
-    let mut bytes = reply_head(refusal_status(refusal), ContentType::Json, refusal.ends(), size);
+    let mut bytes = reply_head(
+        refusal_status(refusal),
+        ContentType::Json,
+        refusal.ends(),
+        size,
+    );
     bytes.push(body.as_bytes());
     bytes
 }

@@ -34,15 +34,24 @@ pub fn reading_of(stream: &[u8]) -> Reading
     let mut rest = stream;
     while !rest.is_empty() {
         match read_front(rest) {
-            None => return Reading { messages, end: End::Cut },
-            Some(Err(fault)) => return Reading { messages, end: End::Fault(fault) },
+            None => return Reading {
+                messages,
+                end: End::Cut,
+            },
+            Some(Err(fault)) => return Reading {
+                messages,
+                end: End::Fault(fault),
+            },
             Some(Ok((_, len))) => {
                 messages += 1;
                 rest = rest.split_at(len).1;
             }
         }
     }
-    Reading { messages, end: End::Input }
+    Reading {
+        messages,
+        end: End::Input,
+    }
 }
 
 /// A stream has one reading, however it comes: the same messages and the same end.
