@@ -1,0 +1,12 @@
+pub mod Readings
+pub mod Shown
+pub mod Moves
+pub mod Longest
+pub mod Stopped
+pub mod Greed
+pub mod Refusals
+pub mod Parses
+pub mod Runs
+pub mod Profiles
+pub mod Meanings
+pub mod Descent

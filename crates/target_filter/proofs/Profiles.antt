@@ -1,0 +1,80 @@
+-- What `filter_of` computes is the tree of a text of the profile.
+use Rattle.std.proofs.Common.{◌≡◌, ◌⊎◌, inl, inr, ℕ, ◌+◌, ◌*◌, ◌≤◌, List, [], length, Bool, true, false, cond, ◌&&◌, Option, Some, None, refl, ◌∙◌, ap, subst, arith}
+use Rattle.std.specs.Prelude.{nat_le, nat_eq}
+use Rattle.std.specs.Option.{option_and_then}
+use Rattle.std.specs.Cmp.Lexicographic.{pointwise}
+use Rattle.std.proofs.lemmas.Bool.{false≢true}
+use Rattle.std.proofs.lemmas.Bool.Decides.{nat_tests, Decides-eqb}
+use Rattle.std.proofs.lemmas.Slice.Eq.{slice_eq-Decides}
+use Rattle.rollout_model.specs.Limits.{filter_length_limit, filter_depth_limit}
+use Rattle.target_filter.specs.Grammar.{Tree, IsFilter, OrLevel, is_at, spelling, nesting}
+use Rattle.target_filter.specs.Parse.{or_at}
+use Rattle.target_filter.specs.Profile.{IsProfileFilter, IsInProfile, is_profile_filter, filter_of}
+use Rattle.target_filter.proofs.Readings.{both}
+use Rattle.target_filter.proofs.Shown.{all_of}
+use Rattle.target_filter.specs.declared.comparison.ParseFault.{ParseFault}
+use Rattle.target_filter.specs.declared.comparison.ParseFault.TheVariants.{Memory, Missing}
+use Rattle.target_filter.proofs.Parses.{parsed, found}
+
+le_of : (m n : ℕ) → nat_le m n ≡ true → m ≤ n
+le_of m n h = grind (arith, nat_tests)
+
+of_le : (m n : ℕ) → m ≤ n → nat_le m n ≡ true
+of_le m n h = grind (arith, nat_tests)
+
+-- the test and the record
+passes : (text : List ℕ) (t : Tree) → is_profile_filter text t ≡ true → IsProfileFilter text t
+passes text t h =
+    let p = both (is_at OrLevel t && pointwise nat_eq text (spelling t) && nat_le (length text) filter_length_limit) (nat_le (nesting t) filter_depth_limit) h in
+    let q = both (is_at OrLevel t && pointwise nat_eq text (spelling t)) (nat_le (length text) filter_length_limit) p.0 in
+    let r = both (is_at OrLevel t) (pointwise nat_eq text (spelling t)) q.0 in
+    record {
+      filter = record { level = r.0; spells = (slice_eq-Decides Decides-eqb text (spelling t) (pointwise nat_eq text (spelling t)) refl).0 r.1 };
+      short = le_of (length text) filter_length_limit q.1;
+      shallow = le_of (nesting t) filter_depth_limit p.1;
+    }
+
+passed : (text : List ℕ) (t : Tree) → IsProfileFilter text t → is_profile_filter text t ≡ true
+passed text t h =
+    all_of (is_at OrLevel t && pointwise nat_eq text (spelling t) && nat_le (length text) filter_length_limit) (nat_le (nesting t) filter_depth_limit)
+    (all_of (is_at OrLevel t && pointwise nat_eq text (spelling t)) (nat_le (length text) filter_length_limit)
+    (all_of (is_at OrLevel t) (pointwise nat_eq text (spelling t)) h.filter.level ((slice_eq-Decides Decides-eqb text (spelling t) (pointwise nat_eq text (spelling t)) refl).1 h.filter.spells))
+    (of_le (length text) filter_length_limit h.short))
+    (of_le (nesting t) filter_depth_limit h.shallow)
+
+abbrev taken : List ℕ → Tree × List ℕ → Option Tree
+taken text found = cond (is_profile_filter text found.0) (Some found.0) None
+
+kept_by : (text : List ℕ) (u t : Tree) (c : Bool) → is_profile_filter text u ≡ c → ◌≡◌ {A = Option Tree} (cond c (Some u) None) (Some t) → is_profile_filter text t ≡ true
+kept_by text u t true e h = let same : u ≡ t = cc in rw (← same) e
+kept_by text u t false e h = cc
+
+kept : (text : List ℕ) (t : Tree) (o : Option (Tree × List ℕ)) → option_and_then (taken text) o ≡ Some t → is_profile_filter text t ≡ true
+kept text t None h = cc
+kept text t (Some found) h = kept_by text found.0 t (is_profile_filter text found.0) refl h
+
+pub filter_tree : (text : List ℕ) (t : Tree) → filter_of text ≡ Some t → IsProfileFilter text t
+filter_tree text t h = passes text t (kept text t (or_at (3 * length text + 3) text) h)
+
+pub tree_filter : (text : List ℕ) (t : Tree) → IsProfileFilter text t → filter_of text ≡ Some t
+tree_filter text t h =
+    ap (option_and_then (taken text)) (parsed text t (3 * length text + 3) h.filter (omega arith))
+    ∙ ap (λ c. cond c (Some t) None) (passed text t h)
+
+pub no_filter : (text : List ℕ) → filter_of text ≡ None → IsInProfile text → ⊥
+no_filter text e (t, h) = let some = tree_filter text t h in cc
+
+none_by : (text : List ℕ) (o : Option Tree) → filter_of text ≡ o → (IsInProfile text → ⊥) → filter_of text ≡ None
+none_by text None e h = e
+none_by text (Some t) e h = absurd (h (t, filter_tree text t e))
+
+pub filter_none : (text : List ℕ) → (IsInProfile text → ⊥) → filter_of text ≡ None
+filter_none text h = none_by text (filter_of text) refl h
+
+-- what the descent answers for a text of the profile
+pub tree_found : (text : List ℕ) (u : Tree) (r : List ℕ) → IsInProfile text → or_at (3 * length text + 3) text ≡ Some (u, r) → IsProfileFilter text u
+tree_found text u r (t, h) e = subst (IsProfileFilter text) (found text (3 * length text + 3) t u r h.filter (omega arith) e) h
+
+pub none_missing : (text : List ℕ) (e : ParseFault) → IsInProfile text → e ≡ Missing → (e ≡ Memory) ⊎ ((e ≡ Missing) × (or_at (3 * length text + 3) text ≡ None)) → ⊥
+none_missing text e p h (inl m) = cc
+none_missing text e (t, p) h (inr (m, none)) = let some = parsed text t (3 * length text + 3) p.filter (omega arith) in cc

@@ -1,0 +1,7 @@
+use Rattle.std.proofs.Common.{◌≡◌, ◌≤◌, take, Some}
+use Rattle.target_filter.specs.Scanner.{run, start}
+use Rattle.target_filter.specs.Seen.{state_of}
+use Rattle.target_filter.proofs.scanner.scan.Given as goal
+
+abbrev pub invariant-loop-at : goal.invariant-loop-at
+invariant-loop-at l = record { went : run start (take l.at l.text) ≡ Some (state_of l.state); depth : l.state.depth ≤ l.at }

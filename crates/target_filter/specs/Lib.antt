@@ -1,0 +1,12 @@
+pub mod Grammar
+pub mod Patterns
+pub mod Meaning
+pub mod Profile
+pub mod Faults
+pub mod Scanner
+pub mod Seen
+pub mod Parse
+pub mod Greedy
+pub mod Views
+pub mod Gives
+pub mod ByteKinds

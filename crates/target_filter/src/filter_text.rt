@@ -1,0 +1,108 @@
+//! A filter that was read.
+
+ghost use Rattle.std.specs.Prelude.{◌≡◌, ◌⊎◌, None, IfOk, IfErr};
+ghost use Rattle.std.specs.Option.{IsSomeAnd};
+ghost use Rattle.std.specs.Result.{MatchResult};
+ghost use Rattle.target_filter.specs.Grammar.{Tree, IsFilter};
+ghost use Rattle.target_filter.specs.Meaning.{holds};
+ghost use Rattle.target_filter.specs.Profile.{IsProfileFilter, IsInProfile, filter_of};
+ghost use Rattle.target_filter.specs.Faults.{IsRefused};
+ghost use Rattle.target_filter.specs.Views.{tree_of};
+ghost use Rattle.target_filter.specs.declared.fault.FilterFault.TheVariants.{Memory};
+
+use crate::comparison::ParseFault;
+use crate::fault::FilterFault;
+use crate::parser::or_at;
+use crate::scanner::scan;
+use crate::tree;
+use rollout_model::Target;
+use std::alloc::Global;
+use std::marker::Model;
+
+const LENGTH_LIMIT: usize = 512;
+
+const DEPTH_LIMIT: usize = 16;
+
+/// A filter over targets, which contracts see as its text. It has the tree of that text.
+#[derive(Drop)]
+pub struct Filter {
+    text: String,
+    tree: tree::Tree,
+}
+
+impl Model for Filter {
+    ghost use Rattle.std.specs.Prelude.{List, ℕ, string_bytes};
+    ghost use Rattle.target_filter.specs.Profile.{IsProfileFilter};
+    ghost use Rattle.target_filter.specs.Views.{tree_of};
+
+    ghost Value = { List ℕ };
+
+    ghost view = { λ f. string_bytes f.text };
+
+    ghost invariant = { λ f. IsProfileFilter (string_bytes f.text) (tree_of f.tree) };
+}
+
+/// The tree of a text that has one.
+fn tree_at(alloc: Global, text: &[u8]) -> Result<tree::Tree, FilterFault>
+    requires { IsInProfile text.now }
+    ensures { MatchResult result (λ t. IsProfileFilter text.now (tree_of t)) (λ e. e ≡ Memory) }
+{
+    match or_at(alloc, 3 * text.len() + 3, text) {
+        Ok((tree, _)) => Ok(tree),
+        Err(ParseFault::Memory) => Err(FilterFault::Memory),
+        Err(ParseFault::Missing) => unreachable!(),
+    }
+}
+
+impl Filter {
+    /// The filter of a text of the profile.
+    fn of(alloc: Global, text: &str) -> Result<Filter, FilterFault>
+        requires { IsInProfile text.now }
+        ensures { MatchResult result (λ f. f ≡ text.now) (λ e. e ≡ Memory) }
+    {
+        let tree = tree_at(alloc, text.as_bytes())?;
+        let text = String::from_str(alloc, text)?;
+        Ok(Filter { text, tree })
+    }
+
+    /// Reads a filter.
+    ///
+    /// # Errors
+    ///
+    /// `TooLong` over 512 bytes; else `Syntax` where the text isn't in the grammar; else `TooDeep` where
+    /// parentheses nest more than 16 deep; `Memory` where memory is refused for the tree or the text.
+    pub fn read(alloc: Global, text: &str) -> Result<Filter, FilterFault>
+        // Ok for the texts of the profile alone, and the filter is the text.
+        ensures text { IfOk result (λ f. f ≡ text.now) }
+        ensures profile { IfOk result (λ _. IsInProfile text.now) }
+
+        // Each fault comes where the text has it, and want of memory hides none.
+        ensures fault { IfErr result (λ e. IsRefused text.now e) }
+        ensures refused { IfErr result (λ e. (e ≡ Memory) ⊎ (filter_of text.now ≡ None)) }
+    {
+        if text.len() > LENGTH_LIMIT {
+            return Err(FilterFault::TooLong);
+        }
+        match scan(text.as_bytes()) {
+            Err(at) => Err(FilterFault::Syntax { at }),
+            Ok(deepest) if deepest > DEPTH_LIMIT => Err(FilterFault::TooDeep),
+            Ok(_) => Filter::of(alloc, text),
+        }
+    }
+
+    /// The text that was read.
+    pub fn text(&self) -> &str
+        ensures { result.now ≡ self.now }
+    {
+        self.text.as_str()
+    }
+
+    /// Does the target match? Takes no memory.
+    pub fn matches(&self, target: &Target) -> bool
+        ensures meaning { (tree : Tree) → IsFilter self.now tree → result ≡ holds tree target.now }
+        ensures computed { IsSomeAnd (filter_of self.now) (λ tree. result ≡ holds tree target.now) }
+        ensures profile { IsInProfile self.now }
+    {
+        self.tree.holds(target)
+    }
+}

@@ -1,0 +1,114 @@
+//! What a filter says, as a tree.
+
+ghost use Rattle.std.specs.Prelude.{◌≡◌};
+ghost use Rattle.std.specs.List.{list_any};
+ghost use Rattle.target_filter.specs.Patterns.{matches};
+ghost use Rattle.target_filter.specs.Meaning.{holds, field_matches, attribute_matches, compared, pattern_of};
+ghost use Rattle.target_filter.specs.Views.{tree_of, field_of, operator_of, value_of};
+
+use crate::pattern::matches;
+use rollout_model::{Attribute, Target, Word};
+
+#[derive(Drop)]
+pub(crate) enum Field {
+    Id,
+    Name,
+    Tag,
+    Attribute(Vec<u8>),
+}
+
+#[derive(Clone, Copy)]
+pub(crate) enum Operator {
+    Equal,
+    NotEqual,
+}
+
+/// A pattern, and how it was written.
+#[derive(Drop)]
+pub(crate) enum Value {
+    Bare(Vec<u8>),
+    Quoted(Vec<u8>),
+}
+
+#[derive(Drop)]
+pub(crate) enum Tree {
+    Or(Box<Tree>, Box<Tree>),
+    And(Box<Tree>, Box<Tree>),
+    Group(Box<Tree>),
+    Comparison(Field, Operator, Value),
+}
+
+fn any_tag_matches(pattern: &[u8], tags: &[Word]) -> bool
+    ensures { result ≡ list_any (matches pattern.now) tags.now }
+{
+    tags.iter().any(|tag| matches(pattern, tag.as_bytes()))
+}
+
+fn attribute_matches(key: &[u8], pattern: &[u8], attribute: &Attribute) -> bool
+    ensures { result ≡ attribute_matches key.now pattern.now attribute.now }
+{
+    attribute.key.as_bytes() == key && matches(pattern, attribute.value.as_str().as_bytes())
+}
+
+fn any_attribute_matches(key: &[u8], pattern: &[u8], attributes: &[Attribute]) -> bool
+    ensures { result ≡ list_any (attribute_matches key.now pattern.now) attributes.now }
+{
+    attributes
+        .iter()
+        .any(|attribute| attribute_matches(key, pattern, attribute))
+}
+
+impl Field {
+    fn matches(&self, pattern: &[u8], target: &Target) -> bool
+        ensures { result ≡ field_matches (field_of self.now) pattern.now target.now }
+    {
+        match self {
+            Field::Id => matches(pattern, target.id.as_bytes()),
+            Field::Name => matches(pattern, target.name.as_str().as_bytes()),
+            Field::Tag => any_tag_matches(pattern, target.tags.as_slice()),
+            Field::Attribute(key) => any_attribute_matches(
+                key,
+                pattern,
+                target.attributes.as_slice(),
+            ),
+        }
+    }
+}
+
+impl Operator {
+    fn compare(self, matched: bool) -> bool
+        ensures { result ≡ compared (operator_of self) matched }
+    {
+        match self {
+            Operator::Equal => matched,
+            Operator::NotEqual => !matched,
+        }
+    }
+}
+
+impl Value {
+    fn pattern(&self) -> &[u8]
+        ensures { result.now ≡ pattern_of (value_of self.now) }
+    {
+        match self {
+            Value::Bare(pattern) | Value::Quoted(pattern) => pattern,
+        }
+    }
+}
+
+impl Tree {
+    /// Does the target match?
+    pub(crate) fn holds(&self, target: &Target) -> bool
+        ensures { result ≡ holds (tree_of self.now) target.now }
+    {
+        match self {
+            Tree::Or(left, right) => left.holds(target) || right.holds(target),
+            Tree::And(left, right) => left.holds(target) && right.holds(target),
+            Tree::Group(tree) => tree.holds(target),
+            Tree::Comparison(field, operator, value) => operator.compare(field.matches(
+                value.pattern(),
+                target,
+            )),
+        }
+    }
+}
