@@ -84,7 +84,7 @@ none_of None None (Some z) h = absurd cc
 pub unused : (schema : Schema) (name : Name) → is_used schema name ≡ false → (table_named schema name ≡ None) × (index_named schema name ≡ None) × (view_named schema name ≡ None)
 unused schema name h = none_of (table_named schema name) (index_named schema name) (view_named schema name) h
 
-above_all : (front : Schema) (t : Table) (tree : ℕ) → Has front.tables t → next_tree front ≤ tree → (t.tree == tree) ≡ false
+pub above_all : (front : Schema) (t : Table) (tree : ℕ) → Has front.tables t → next_tree front ≤ tree → (t.tree == tree) ≡ false
 above_all front t tree h high = let below : t.tree < next_tree front = table_below front t h in ne_eqb t.tree tree (λ e. absurd (omega arith))
 
 -- a table of ours stands behind those of others

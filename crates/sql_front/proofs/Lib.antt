@@ -6,3 +6,5 @@ pub mod Texts
 pub mod Behind
 pub mod Write
 pub mod Examples
+pub mod Created
+pub mod Grown

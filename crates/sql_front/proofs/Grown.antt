@@ -1,0 +1,91 @@
+-- What CREATE TABLE makes of a database, where it also makes the list of AUTOINCREMENT's numbers and where it doesn't.
+use Rattle.std.proofs.Common.{◌≡◌, ◌⊎◌, inl, inr, refl, sym, ap, subst, ◌∙◌, ℕ, false, List, [], ◌∷◌, ◌++◌, append_assoc, codes, None, Ok, Err, Result}
+use Rattle.std.proofs.lemmas.Bool.{cases_Bool}
+use Rattle.sqlite.specs.Order.{Row}
+use Rattle.sqlite.specs.Tree.{Trees}
+use Rattle.sqlite.specs.Does.{Tally, lacks_sequence, sequence_text, MakesTable, MakesSequence}
+use Rattle.sqlite.specs.Effect.{Database}
+use Rattle.sqlite.specs.State.{State, Writes}
+use Rattle.sqlite.specs.Command.TheVariants.{CreateTable}
+use Rattle.sqlite_tied.specs.Compute.{everything}
+use Rattle.sqlite_schema.specs.declared.schema.Table.{Table}
+use Rattle.sqlite_schema.specs.declared.schema.Schema.{Schema}
+use Rattle.sqlite_schema.specs.Names.{same_name}
+use Rattle.sqlite_catalog.specs.Change.{next_tree, is_used, created, KeepsRows}
+use Rattle.sqlite_resolve.specs.Compile.{table_defined_by, first, table_in}
+use Rattle.sqlite_resolve.specs.Scope.{Name}
+use Rattle.sqlite_resolve.specs.declared.error.CompileError.{CompileError}
+use Rattle.sql_front.proofs.Created.{SparesIndexes, still_free}
+
+went : {B E R : Type 0} {b : B} {Stops : E → Type 0} → ((stop : E) × Stops stop × (Ok b ≡ Err stop)) ⊎ R → R
+went (inl stopped) = absurd (let e = stopped.2 in cc)
+went (inr on) = on
+
+same_value : {B E : Type 0} {a b : B} → ◌≡◌ {A = Result B E} (Ok a) (Ok b) → a ≡ b
+same_value e = cc
+
+-- the table is there with no row, those before it have their rows, and the names that it didn't take are free
+pub record Grown (s : Schema) (table : Table) (old new : Database) : Type 0 where
+  pub more : List Table
+  pub tables : new.schema.tables ≡ s.tables ++ record table { tree = next_tree s } ∷ more
+  pub empty : new.trees (next_tree s) ≡ []
+  pub others : KeepsRows s.tables old.trees new.trees
+  pub free : (name : Name) → is_used s name ≡ false → same_name table.name name ≡ false → SparesIndexes table name → same_name (codes "sqlite_sequence") name ≡ false → is_used new.schema name ≡ false
+
+keeps_both : (front ours : List Table) (a b c : Trees) → KeepsRows front a b → KeepsRows (front ++ ours) b c → KeepsRows front a c
+keeps_both [] ours a b c h k = tt
+keeps_both (t ∷ front) ours a b c h k = (k.0 ∙ h.0, keeps_both front ours a b c h.1 k.1)
+
+keeps_last : (front : List Table) (t : Table) (b c : Trees) → KeepsRows (front ++ t ∷ []) b c → c t.tree ≡ b t.tree
+keeps_last [] t b c k = k.0
+keeps_last (u ∷ front) t b c k = keeps_last front t b c k.1
+
+abbrev name_in : Result Table CompileError → Name
+name_in (Ok t) = t.name
+name_in (Err e) = []
+
+abbrev uniques_in : Result Table CompileError → List (List ℕ)
+uniques_in (Ok t) = t.uniques
+uniques_in (Err e) = []
+
+-- the table of AUTOINCREMENT's numbers
+sequence_defined : (t : Table) → table_defined_by sequence_text ≡ Ok t → (t.name ≡ codes "sqlite_sequence") × (t.uniques ≡ [])
+unfolding table_defined_by first table_in everything
+sequence_defined t h = (ap name_in (sym h), ap uniques_in (sym h))
+
+finish : (s : Schema) (table : Table) (old mid final : Database) → mid.schema ≡ created s table → mid.trees (next_tree s) ≡ [] → KeepsRows s.tables old.trees mid.trees → MakesSequence mid (Ok final) → Grown s table old final
+finish s table old mid final is empty others h = elim (cases_Bool (lacks_sequence mid.schema)) [
+  | inl lacks ↦ with_sequence (rw lacks at h)
+  | inr whole ↦ let same : mid ≡ final = same_value (sym (rw whole at h)) in subst (Grown s table old) same (record {
+    more = [];
+    tables = ap (λ (x : Schema). x.tables) is;
+    empty = empty;
+    others = others;
+    free = λ name unused other spares apart. rw is (still_free s table name unused other spares);
+  })
+]
+  where
+    with_sequence : MakesTable sequence_text mid (Ok final) → Grown s table old final
+    with_sequence made =
+        let new : Table = record table { tree = next_tree s } in
+        let known = sequence_defined made.table made.defined in
+        let tables : mid.schema.tables ≡ s.tables ++ new ∷ [] = ap (λ (x : Schema). x.tables) is in
+        let rows : KeepsRows (s.tables ++ new ∷ []) mid.trees final.trees = subst (λ ts. KeepsRows ts mid.trees final.trees) tables made.others in
+        record {
+          more = record made.table { tree = next_tree mid.schema } ∷ [];
+          tables = ap (λ (x : Schema). x.tables) made.is ∙ ap (λ ts. ts ++ record made.table { tree = next_tree mid.schema } ∷ []) tables ∙ append_assoc s.tables (new ∷ []) _;
+          empty = keeps_last s.tables new mid.trees final.trees rows ∙ empty;
+          others = keeps_both s.tables (new ∷ []) old.trees mid.trees final.trees others rows;
+          free = λ name unused other spares apart. rw (made.is) (still_free mid.schema made.table name (rw is (still_free s table name unused other spares)) (rw (known.0) apart) (λ tree next i. rw (known.1) refl));
+        }
+
+pub grown : (s : Schema) (table : Table) (text : List ℕ) → table_defined_by text ≡ Ok table → (old new : State) → old.now.schema ≡ s → (params : Row) (count : ℕ) → Writes old new None CreateTable text params count → Grown s table old.now new.now
+grown s table text defined old new has params count w =
+    let all = went w.changed in
+    let mid = went all.1 in
+    let made = mid.1 in
+    let both : Ok made.table ≡ Ok table = sym made.defined ∙ defined in
+    let same : made.table ≡ table = cc in
+    let is : mid.0.schema ≡ created s table = made.is ∙ ap (λ x. created x made.table) has ∙ ap (created s) same in
+    let now : new.now ≡ all.0 = ap (λ (p : Tally × Database). p.1) (same_value all.2) in
+    subst (Grown s table old.now) (sym now) (finish s table old.now mid.0 all.0 is (subst (λ x. mid.0.trees (next_tree x) ≡ []) has made.empty) (subst (λ x. KeepsRows x.tables old.now.trees mid.0.trees) has made.others) mid.2)
