@@ -1,0 +1,4 @@
+pub mod BodyLemmas
+pub mod TraverseLemmas
+pub mod LettersLemmas
+pub mod PageLemmas

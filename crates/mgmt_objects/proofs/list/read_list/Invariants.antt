@@ -1,0 +1,7 @@
+use Rattle.std.proofs.Common.{◌≡◌, Some, map, take}
+use Rattle.serde_json.specs.View.{view}
+use Rattle.mgmt_objects.specs.Traverse.{traverse}
+use Rattle.mgmt_objects.proofs.list.read_list.Given as goal
+
+abbrev pub invariant-loop-value : goal.invariant-loop-value
+invariant-loop-value g l = traverse g.T.Item.reads (map view (take l.value-index l.values)) ≡ Some l.items.items

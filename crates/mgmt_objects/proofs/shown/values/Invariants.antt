@@ -1,0 +1,6 @@
+use Rattle.std.proofs.Common.{◌≡◌, map, take}
+use Rattle.serde_json.specs.View.{view}
+use Rattle.mgmt_objects.proofs.shown.values.Given as goal
+
+abbrev pub invariant-loop-shown : goal.invariant-loop-shown
+invariant-loop-shown g l = map view l.values.items ≡ map g.T.Shown.shows (take l.shown-index l.records)

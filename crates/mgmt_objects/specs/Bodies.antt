@@ -1,0 +1,24 @@
+-- The parts of a body.
+use Rattle.std.specs.Prelude.{ℕ, List, Option, Some, None, option_and_then, if◌then◌else◌}
+use Rattle.std.specs.Str.{is_utf8}
+use Rattle.serde_json.specs.Data.{Data, Items, no_items, item}
+use Rattle.serde_json.specs.Read.{read}
+use Rattle.serde_json.specs.Find.{get, as_str, as_array}
+use Rattle.rollout_model.specs.Rules.{text_of}
+
+-- the value that a body writes
+abbrev pub body_data : List ℕ → Option Data
+body_data bytes = if is_utf8 bytes then read bytes else None
+
+abbrev pub only_item : Items → Option Data
+only_item no_items = None
+only_item (item d no_items) = Some d
+only_item (item d (item e ds)) = None
+
+-- the one item of an array that has just one
+abbrev pub only : Data → Option Data
+only d = option_and_then only_item (as_array d)
+
+-- a member that is a name, a type or a version; of members with one name the last
+abbrev pub text_member : List ℕ → Data → Option (List ℕ)
+text_member key d = option_and_then text_of (option_and_then as_str (get key d))

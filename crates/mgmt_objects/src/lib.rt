@@ -1,0 +1,20 @@
+//! The JSON objects of the management interface: the bodies that it reads and the texts that it writes.
+//!
+//! A reader accepts exactly the bodies that its definition in `specs/` reads, over what `serde_json` reads of a text, and a
+//! writer gives exactly the compact text of its object.
+#![tactic(auto)]
+
+mod body;
+mod laws;
+mod list;
+mod member;
+mod module_body;
+mod module_object;
+mod shown;
+
+pub use body::{only_item, read_value};
+pub use laws::{module_text_letters, worked_module_body, worked_module_text};
+pub use list::{Item, read_list};
+pub use member::read_text;
+pub use module_body::read_module_body;
+pub use shown::{Shown, array_text, object_text, page_text, single_text};

@@ -1,0 +1,52 @@
+//! The arrays of a body, whatever their items.
+
+ghost use Rattle.std.specs.Prelude.{map, Option, option_and_then};
+ghost use Rattle.serde_json.specs.Data.{Data};
+ghost use Rattle.serde_json.specs.Find.{as_str};
+ghost use Rattle.serde_json.specs.View.{view};
+ghost use Rattle.rollout_model.specs.Rules.{text_of};
+ghost use Rattle.mgmt_objects.specs.Readings.{ReadsAs, ReadsBy};
+ghost use Rattle.mgmt_objects.specs.Traverse.{traverse};
+
+use rollout_model::{Refusal, Text};
+use serde_json::Value;
+use std::alloc::Global;
+
+/// What an item of an array is read as.
+pub trait Item: Sized + Drop {
+    ghost reads: { Data → Option Self };
+
+    /// The item of a value, or `BadRequest` where it has none.
+    fn read(alloc: Global, value: &Value) -> Result<Self, Refusal>
+        ensures { ReadsAs (reads (view value.now)) result };
+}
+
+impl Item for Text {
+    ghost reads = { λ d. option_and_then text_of (as_str d) };
+
+    fn read(alloc: Global, value: &Value) -> Result<Self, Refusal> {
+        let Some(text) = value.as_str() else {
+            return Err(Refusal::BadRequest);
+        };
+        match Text::read(alloc, text) {
+            Ok(Some(text)) => Ok(text),
+            Ok(None) => Err(Refusal::BadRequest),
+            Err(_) => Err(Refusal::NoMemory),
+        }
+    }
+}
+
+/// Reads each item, or `BadRequest` where one can't be read.
+pub fn read_list<T: Item>(alloc: Global, values: &[Value]) -> Result<Vec<T>, Refusal>
+    ensures { ReadsBy (λ v. v.items) (traverse T.reads (map view values.now)) result }
+{
+    let mut items = Vec::new(alloc);
+    for value in values {
+        let item = match T::read(alloc, value) {
+            Ok(item) => item,
+            Err(e) => return Err(e),
+        };
+        items.push(item)?;
+    }
+    Ok(items)
+}
