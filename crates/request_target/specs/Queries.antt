@@ -18,8 +18,8 @@ are_clean keys [] = true
 are_clean keys (p ∷ pairs) = is_clean keys p && not (list_any (λ q. bytes_eq q.0 p.0) pairs) && are_clean keys pairs
 
 -- the pairs of a query, where the call takes them
-abbrev pub query_of : List (List ℕ) → List ℕ → Option (List Pair)
-query_of keys query = if are_clean keys (query_pairs query) then Some (query_pairs query) else None
+abbrev pub query_pairs_of : List (List ℕ) → List ℕ → Option (List Pair)
+query_pairs_of keys query = if are_clean keys (query_pairs query) then Some (query_pairs query) else None
 
 -- the value of a key
 abbrev pub value_of : List ℕ → List Pair → Option (List ℕ)

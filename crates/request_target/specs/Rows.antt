@@ -7,7 +7,7 @@ use Rattle.matchit.specs.Router.{RouteOf, route_from}
 use Rattle.matchit.specs.Order.{placed}
 use Rattle.matchit.specs.declared.error.InsertError.{InsertError}
 use Rattle.request_target.specs.Routes.{segments, is_parameter}
-use Rattle.request_target.specs.Tokens.{is_plain, all_plain, all_apart, apart_from}
+use Rattle.request_target.specs.Tokens.{all_plain, all_apart, apart_from}
 
 -- ---- a segment of a route as tokens
 

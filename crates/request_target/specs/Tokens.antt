@@ -1,5 +1,5 @@
 -- Which paths a pattern of matchit meets. A pattern is a list of bytes and parameters, and a parameter stands for one segment that is not empty.
-use Rattle.std.specs.Prelude.{◌≡◌, ◌⊎◌, ℕ, suc, List, [], ◌∷◌, length, drop, Bool, true, false, not, cond, Option, Some, None, nat_lt, ◌==◌, ◌&&◌}
+use Rattle.std.specs.Prelude.{◌≡◌, ◌⊎◌, ℕ, suc, List, [], ◌∷◌, drop, Bool, true, false, not, cond, Option, Some, None, nat_lt, ◌==◌, ◌&&◌}
 use Rattle.matchit.specs.Rows.{RowsOf}
 
 -- how many bytes stand before the first slash

@@ -11,5 +11,5 @@ mod routes;
 
 pub use numbers::read_number;
 pub use pairs::read_pairs;
-pub use query::{are_clean, number_or, value_of};
+pub use query::{are_clean, number_or, takes_query, value_of};
 pub use routes::{route_of, router_of};

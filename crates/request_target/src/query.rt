@@ -1,12 +1,13 @@
 //! What a query says to a call that names its keys.
 
-ghost use Rattle.std.specs.Prelude.{◌≡◌, map, option_map, bytes_eq};
+ghost use Rattle.std.specs.Prelude.{◌≡◌, map, option_map, bytes_eq, is_some, IfOk};
 ghost use Rattle.std.specs.List.{list_any};
 ghost use Rattle.request_target.specs.Pairs.{seen};
-ghost use Rattle.request_target.specs.Queries.{is_named, are_clean, value_of, number_or};
+ghost use Rattle.request_target.specs.Queries.{is_named, are_clean, query_pairs_of, value_of, number_or};
 
 use crate::numbers::read_number;
-use crate::pairs::has_replacement;
+use crate::pairs::{has_replacement, read_pairs};
+use std::alloc::{AllocError, Global};
 
 fn is_named(keys: &[&str], key: &str) -> bool
     ensures { result ≡ is_named (map (λ k. k.now) keys.now) key.now }
@@ -69,4 +70,12 @@ pub fn number_or(low: u32, high: u32, default: u32, value: Option<&str>) -> Opti
             if low <= n && n <= high { Some(n) } else { None }
         }
     }
+}
+
+/// Whether a call that names these keys takes the query.
+pub fn takes_query(alloc: Global, keys: &[&str], query: &[u8]) -> Result<bool, AllocError>
+    ensures { IfOk result (λ takes. takes ≡ is_some (query_pairs_of (map (λ k. k.now) keys.now) query.now)) }
+{
+    let pairs = read_pairs(alloc, query)?;
+    Ok(are_clean(keys, &pairs))
 }
