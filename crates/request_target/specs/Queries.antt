@@ -1,0 +1,32 @@
+-- What a query says to a call that names its keys.
+use Rattle.std.specs.Prelude.{ℕ, List, [], ◌∷◌, Bool, true, not, nat_le, ◌&&◌, bytes_eq, Option, Some, None, option_and_then, if◌then◌else◌}
+use Rattle.std.specs.List.{list_any}
+use Rattle.request_target.specs.Pairs.{Pair, query_pairs, has_replacement}
+use Rattle.request_target.specs.Numbers.{number_of}
+
+-- the key is one that the call names
+abbrev pub is_named : List (List ℕ) → List ℕ → Bool
+is_named keys key = list_any (λ k. bytes_eq key k) keys
+
+-- a pair without U+FFFD, whose key the call names
+abbrev pub is_clean : List (List ℕ) → Pair → Bool
+is_clean keys p = not (has_replacement p.0) && not (has_replacement p.1) && is_named keys p.0
+
+-- so are all, and no key is given twice
+abbrev pub are_clean : List (List ℕ) → List Pair → Bool
+are_clean keys [] = true
+are_clean keys (p ∷ pairs) = is_clean keys p && not (list_any (λ q. bytes_eq q.0 p.0) pairs) && are_clean keys pairs
+
+-- the pairs of a query, where the call takes them
+abbrev pub query_pairs_of : List (List ℕ) → List ℕ → Option (List Pair)
+query_pairs_of keys query = if are_clean keys (query_pairs query) then Some (query_pairs query) else None
+
+-- the value of a key
+abbrev pub value_of : List ℕ → List Pair → Option (List ℕ)
+value_of key [] = None
+value_of key (p ∷ pairs) = if bytes_eq p.0 key then Some p.1 else value_of key pairs
+
+-- a number in the range, or its default
+abbrev pub number_or : ℕ → ℕ → ℕ → Option (List ℕ) → Option ℕ
+number_or low high default None = Some default
+number_or low high default (Some text) = option_and_then (λ n. if nat_le low n && nat_le n high then Some n else None) (number_of text)

@@ -1,0 +1,33 @@
+-- Which route a path has. Paths are compared segment by segment, as they are written.
+use Rattle.std.specs.Prelude.{ℕ, List, [], ◌∷◌, length, Bool, true, false, ◌==◌, ◌&&◌, nat_lt, bytes_eq, Option, Some, None, if◌then◌else◌}
+
+-- the byte is part of the first of these segments
+abbrev pub onto_first : ℕ → List (List ℕ) → List (List ℕ)
+onto_first b [] = (b ∷ []) ∷ []
+onto_first b (segment ∷ rest) = (b ∷ segment) ∷ rest
+
+-- what stands before, between and after the slashes
+abbrev pub segments : List ℕ → List (List ℕ)
+segments [] = [] ∷ []
+segments (b ∷ path) = if b == 47 then [] ∷ segments path else onto_first b (segments path)
+
+-- a route's segment that begins with `{` is a parameter
+abbrev pub is_parameter : List ℕ → Bool
+is_parameter [] = false
+is_parameter (b ∷ rest) = b == 123
+
+-- a parameter stands for one segment that is not empty, any other segment for itself
+abbrev pub stands_for : List ℕ → List ℕ → Bool
+stands_for part segment = if is_parameter part then nat_lt 0 (length segment) else bytes_eq part segment
+
+-- each part of a route stands for the segment at its place
+abbrev pub fits : List (List ℕ) → List (List ℕ) → Bool
+fits [] [] = true
+fits [] (segment ∷ rest) = false
+fits (part ∷ parts) [] = false
+fits (part ∷ parts) (segment ∷ rest) = stands_for part segment && fits parts rest
+
+-- what the path's route leads to, by a table of routes
+abbrev pub route_in : {T : Type 0} → List (List ℕ × T) → List ℕ → Option T
+route_in [] path = None
+route_in (r ∷ table) path = if fits (segments r.0) (segments path) then Some r.1 else route_in table path

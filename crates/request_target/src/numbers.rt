@@ -1,0 +1,37 @@
+//! Numbers of paths and queries.
+
+ghost use Rattle.std.specs.Prelude.{◌≡◌, ◌≤◌};
+ghost use Rattle.request_target.specs.Numbers.{number_after, number_of};
+
+const LAST: u32 = 2147483647;
+
+fn number_after(n: u32, digits: &[u8]) -> Option<u32>
+    requires { n ≤ 2147483647 }
+    ensures { result ≡ number_after n digits.now }
+{
+    match digits {
+        [] => Some(n),
+        [digit, rest @ ..] => {
+            let digit = *digit;
+            if digit < b'0' || digit > b'9' {
+                return None;
+            }
+            let next = u64::from(n) * 10 + u64::from(digit - b'0');
+            if next > u64::from(LAST) {
+                return None;
+            }
+            number_after(next as u32, rest)
+        }
+    }
+}
+
+/// A number written in digits without a leading zero.
+pub fn read_number(text: &str) -> Option<u32>
+    ensures { result ≡ number_of text.now }
+{
+    match text.as_bytes() {
+        [] => None,
+        [b'0', _, ..] => None,
+        digits => number_after(0, digits),
+    }
+}
