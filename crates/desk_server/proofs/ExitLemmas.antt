@@ -4,17 +4,19 @@ use Rattle.std.specs.Io.KnownBytes.{Appends, Consumes, IsAtEnd}
 use Rattle.std.proofs.KnownBytes.{Appends-nil, Consumes-trans}
 use Rattle.std.proofs.lemmas.Bool.{false≢true}
 use Rattle.std.proofs.lemmas.List.{length-map}
-use Rattle.http_wire.specs.declared.WireFault.{WireFault}
-use Rattle.http_wire.specs.declared.End.{End}
-use Rattle.http_wire.specs.declared.End.TheVariants.{Input, Cut, Fault}
-use Rattle.http_wire.specs.Wire.{WireMessage, Begins, IsPartial, IsFault, EndsAs}
+use Rattle.http_wire.specs.declared.fault.WireFault.{WireFault}
+use Rattle.http_wire.specs.declared.stream.End.{End}
+use Rattle.http_wire.specs.declared.stream.End.TheVariants.{Input, Cut, Fault}
+use Rattle.http_wire.specs.Messages.{WireMessage, IsUndecided, IsFault}
+use Rattle.http_wire.specs.Streams.{Begins, EndsAs}
 use Rattle.rollout_machine.specs.CommandList.{CommandList}
 use Rattle.rollout_machine.specs.Replies.{Refused}
 use Rattle.rollout_machine.specs.Standing.{DeskState}
 use Rattle.desk_server.specs.declared.served.ServeFault.{ServeFault}
 use Rattle.desk_server.specs.declared.served.ServeFault.TheVariants as serve_fault
 use Rattle.desk_server.specs.declared.served.Served.{Served}
-use Rattle.desk_server.specs.Interfaces.{reply_text, refusal_of_fault, end_text}
+use Rattle.http_wire.specs.Faults.{refusal_of}
+use Rattle.desk_server.specs.Interfaces.{reply_text, end_text}
 use Rattle.desk_server.specs.Run.{Exchange, messages_of, texts_of, GoesOn}
 use Rattle.desk_server.specs.Headline.{AnswersEnd, Exits, IsTold}
 use Rattle.desk_server.specs.Parts.{Conduct, Answers, SendsPart}
@@ -60,17 +62,17 @@ module _ (File : Type 0) (C : Conduct File) (old new : DeskState File) (stream :
       (λ run written same goes e. exit run written same goes (e ∙ append-nil (texts_of run))) other
 
   pub exits_fault : (unread out middle out_new : Option (List ℕ)) (given rest : List ℕ) (ms : List WireMessage) (fault : WireFault) (answered : ℕ)
-      → Consumes stream unread given → Begins given ms rest → Answers C old new out middle ms None → Appends middle out_new (reply_text (Refused (refusal_of_fault fault))) → IsFault rest fault
+      → Consumes stream unread given → Begins given ms rest → Answers C old new out middle ms None → Appends middle out_new (reply_text (Refused (refusal_of fault))) → IsFault rest fault
       → answered ≡ min (length ms) (2 ^ 64 - 1)
       → (h : CommandList) → C.premise new → C.stands old h → AtExit C h new stream unread out out_new (Ok (record { answered = answered; end = Fault fault }))
   exits_fault unread out middle out_new given rest ms fault answered reads begins answers more is count =
-      let text : List ℕ = reply_text (Refused (refusal_of_fault fault)) in
+      let text : List ℕ = reply_text (Refused (refusal_of fault)) in
       exits_whole unread out middle out_new given rest ms text [] (Fault fault) (Ok (record { answered = answered; end = Fault fault })) reads begins answers more
       (sym (append-nil text)) (λ run goes. (goes, is))
       (λ run written same goes e. record { all_written = e; goes_on = goes; answered = counted run ms answered same count; ended = is }) (λ e. cc)
 
   pub exits_fault_part : (unread out middle out_new : Option (List ℕ)) (given rest : List ℕ) (ms : List WireMessage) (fault : WireFault) (failed : Bool) (stop : ServeFault)
-      → Consumes stream unread given → Begins given ms rest → Answers C old new out middle ms None → SendsPart middle out_new (Refused (refusal_of_fault fault)) failed stop → IsFault rest fault
+      → Consumes stream unread given → Begins given ms rest → Answers C old new out middle ms None → SendsPart middle out_new (Refused (refusal_of fault)) failed stop → IsFault rest fault
       → (h : CommandList) → C.premise new → C.stands old h → AtExit C h new stream unread out out_new (Err stop)
   exits_fault_part unread out middle out_new given rest ms fault failed serve_fault.Read reads begins answers part is = absurd part
   exits_fault_part unread out middle out_new given rest ms fault failed serve_fault.Store reads begins answers part is = absurd part
@@ -78,11 +80,11 @@ module _ (File : Type 0) (C : Conduct File) (old new : DeskState File) (stream :
       exits_whole unread out middle out_new given rest ms part.1 part.2 (Fault fault) (Err serve_fault.Write) reads begins answers part.4 part.3 (λ run goes. (goes, is))
       (λ run written same goes e. tt) (λ e. cc)
   exits_fault_part unread out middle out_new given rest ms fault failed serve_fault.Memory reads begins answers part is =
-      exits_whole unread out middle out_new given rest ms [] (reply_text (Refused (refusal_of_fault fault))) (Fault fault) (Err serve_fault.Memory) reads begins answers part.1 refl (λ run goes. (goes, is))
+      exits_whole unread out middle out_new given rest ms [] (reply_text (Refused (refusal_of fault))) (Fault fault) (Err serve_fault.Memory) reads begins answers part.1 refl (λ run goes. (goes, is))
       (λ run written same goes e. inl (goes, e ∙ append-nil (texts_of run))) (λ e. cc)
 
   pub exits_unread : (a unread out out_new : Option (List ℕ)) (fed held held_new : List ℕ) (ms : List WireMessage) (failed : Bool) (stop : ServeFault)
-      → Consumes stream a fed → Begins fed ms held → Answers C old new out out_new ms None → IsPartial held → ReadsOn a unread held held_new failed (Err stop)
+      → Consumes stream a fed → Begins fed ms held → Answers C old new out out_new ms None → IsUndecided held → ReadsOn a unread held held_new failed (Err stop)
       → (h : CommandList) → C.premise new → C.stands old h → AtExit C h new stream unread out out_new (Err stop)
   exits_unread a unread out out_new fed held held_new ms failed serve_fault.Read reads begins answers partial read =
       exits_all unread out out_new fed held ms (Err serve_fault.Read) (no_more stream a unread fed reads read.0) begins answers (λ run written same goes e. (goes, e, partial)) (λ e. cc)

@@ -4,7 +4,7 @@ use Rattle.rollout_model.specs.declared.refusal.Refusal.TheVariants.{StoreFailed
 use Rattle.rollout_machine.specs.Commands.{Command}
 use Rattle.rollout_machine.specs.CommandList.{CommandList, followed_by, Make}
 use Rattle.rollout_machine.specs.Replies.{Reply, Refused}
-use Rattle.rollout_machine.specs.Answers.{one}
+use Rattle.rollout_machine.specs.Requests.{one}
 use Rattle.rollout_machine.specs.Standing.{DeskState, StandsFor, IsInDoubt}
 use Rattle.desk_server.specs.declared.interface.Interface.{Interface}
 use Rattle.desk_server.specs.declared.served.ServeFault.{ServeFault}
@@ -13,9 +13,10 @@ use Rattle.desk_server.specs.declared.served.Served.{Served}
 use Rattle.desk_server.specs.Run.{Exchange, messages_of, accepted_in, texts_of, IsRun, GoesOn}
 use Rattle.desk_server.specs.Headline.{AnswersEnd, Exits, IsAcknowledged, EndsInDoubt, HoldsFirstPart, Stops, Transcript, Headline, IsRefusedAsStopped}
 use Rattle.desk_server.specs.Parts.{Conduct, Whole, Broken, CutsReply, running, stopped, ByStopped, Answers, Serves, ServesStream}
-use Rattle.http_wire.specs.Wire.{WireMessage, Begins}
-use Rattle.http_wire.specs.declared.End.{End}
-use Rattle.http_wire.specs.declared.End.TheVariants.{Input}
+use Rattle.http_wire.specs.Messages.{WireMessage}
+use Rattle.http_wire.specs.Streams.{Begins}
+use Rattle.http_wire.specs.declared.stream.End.{End}
+use Rattle.http_wire.specs.declared.stream.End.TheVariants.{Input}
 use Rattle.std.specs.Io.KnownBytes.{Appends, Consumes}
 use Rattle.std.proofs.KnownBytes.{Appends-trans}
 use Rattle.std.proofs.lemmas.List.{same_from_push}

@@ -1,7 +1,7 @@
 -- One message, from what the desk answered and from how much of the reply was written.
 use Rattle.std.proofs.Common.{◌≡◌, ◌≢◌, ℕ, Bool, true, List, [], ◌∷◌, ◌++◌, Option, Some, None, refl, sym, append-nil}
 use Rattle.std.specs.Io.KnownBytes.{Appends}
-use Rattle.http_wire.specs.Wire.{WireMessage}
+use Rattle.http_wire.specs.Messages.{WireMessage}
 use Rattle.rollout_model.specs.declared.refusal.Refusal.TheVariants.{StoreFailed, Stopped}
 use Rattle.rollout_machine.specs.CommandList.{CommandList}
 use Rattle.rollout_machine.specs.Replies.{Reply, Refused}

@@ -2,10 +2,10 @@
 use Rattle.std.proofs.Common.{◌≡◌, ◌≢◌, ℕ, List, [], ◌∷◌, ◌++◌, Option, refl, sym, ap, ◌∙◌, subst}
 use Rattle.std.proofs.lemmas.List.{map-append}
 use Rattle.std.proofs.lemmas.List.Concat.{flat_map-append}
-use Rattle.http_wire.specs.Wire.{WireMessage}
+use Rattle.http_wire.specs.Messages.{WireMessage}
 use Rattle.rollout_machine.specs.Commands.{Command}
 use Rattle.rollout_machine.specs.CommandList.{CommandList, ◌▸◌, followed_by}
-use Rattle.rollout_machine.specs.Answers.{one}
+use Rattle.rollout_machine.specs.Requests.{one}
 use Rattle.desk_server.specs.Interfaces.{reply_text}
 use Rattle.desk_server.specs.Run.{Exchange, messages_of, accepted_in, texts_of, Answering, IsRun, GoesOn}
 

@@ -1,15 +1,16 @@
 -- What `serve` promises at every exit.
 use Rattle.std.specs.Prelude.{All, ◌≡◌, ◌≢◌, ℕ, ◌-◌, ◌^◌, ◌<◌, ◌≤◌, ◌⊎◌, min, Bool, true, false, List, [], ◌∷◌, ◌++◌, length, Option, Some, None, Result, Ok, Err}
 use Rattle.std.specs.Io.KnownBytes.{Appends, Consumes, IsAtEnd}
-use Rattle.http_wire.specs.declared.End.{End}
-use Rattle.http_wire.specs.declared.End.TheVariants.{Input, Cut, Fault}
-use Rattle.http_wire.specs.Wire.{WireMessage, Begins, IsPartial, IsFault, EndsAs}
+use Rattle.http_wire.specs.declared.stream.End.{End}
+use Rattle.http_wire.specs.declared.stream.End.TheVariants.{Input, Cut, Fault}
+use Rattle.http_wire.specs.Messages.{WireMessage, IsUndecided, IsFault}
+use Rattle.http_wire.specs.Streams.{Begins, EndsAs}
 use Rattle.rollout_model.specs.declared.refusal.Refusal.{Refusal}
 use Rattle.rollout_model.specs.declared.refusal.Refusal.TheVariants.{StoreFailed, Stopped}
 use Rattle.rollout_machine.specs.Commands.{Command}
 use Rattle.rollout_machine.specs.CommandList.{CommandList, followed_by}
 use Rattle.rollout_machine.specs.Replies.{Reply, Refused}
-use Rattle.rollout_machine.specs.Answers.{one}
+use Rattle.rollout_machine.specs.Requests.{one}
 use Rattle.rollout_machine.specs.Standing.{DeskState, StandsFor, StaysStopped}
 use Rattle.desk_server.specs.declared.interface.Interface.{Interface}
 use Rattle.desk_server.specs.declared.served.ServeFault.{ServeFault}
@@ -57,7 +58,7 @@ pub record LacksLast (run : List Exchange) (written : List ℕ) : Type 0 where
 abbrev pub Exits : Option (List ℕ) → Option (List ℕ) → List Exchange → List ℕ → List ℕ → Result Served ServeFault → Type 0
 Exits stream unread run written rest (Ok served) = ExitsServed stream unread run written rest served
 -- all messages that were given are answered
-Exits stream unread run written rest (Err serve_fault.Read) = GoesOn run × (written ≡ texts_of run) × IsPartial rest
+Exits stream unread run written rest (Err serve_fault.Read) = GoesOn run × (written ≡ texts_of run) × IsUndecided rest
 Exits stream unread run written rest (Err serve_fault.Write) = Unit {0}
 Exits stream unread run written rest (Err serve_fault.Store) = ExitsInDoubt run written
 Exits stream unread run written rest (Err serve_fault.Memory) = (GoesOn run × (written ≡ texts_of run)) ⊎ LacksLast run written

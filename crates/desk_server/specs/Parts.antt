@@ -1,13 +1,14 @@
 -- What the parts of `serve` do: a part of a run, from any list that the desk stands for. Of the functions in this crate alone.
 use Rattle.std.specs.Prelude.{◌≡◌, ◌≢◌, ℕ, Bool, true, List, [], ◌∷◌, ◌++◌, Option, Some, None, Result, Ok, Err}
 use Rattle.std.specs.Io.KnownBytes.{Appends}
-use Rattle.http_wire.specs.Wire.{WireMessage, Begins, IsPartial, IsFault}
-use Rattle.http_wire.specs.declared.WireFault.{WireFault}
+use Rattle.http_wire.specs.Messages.{WireMessage, IsUndecided, IsFault}
+use Rattle.http_wire.specs.Streams.{Begins}
+use Rattle.http_wire.specs.declared.fault.WireFault.{WireFault}
 use Rattle.rollout_model.specs.declared.refusal.Refusal.TheVariants.{StoreFailed, Stopped}
 use Rattle.rollout_machine.specs.Commands.{Command}
 use Rattle.rollout_machine.specs.CommandList.{CommandList, followed_by}
 use Rattle.rollout_machine.specs.Replies.{Reply, Refused}
-use Rattle.rollout_machine.specs.Answers.{one}
+use Rattle.rollout_machine.specs.Requests.{one}
 use Rattle.rollout_machine.specs.Standing.{DeskState, StandsFor, IsInDoubt, StaysStopped}
 use Rattle.desk_server.specs.declared.interface.Interface.{Interface}
 use Rattle.desk_server.specs.declared.served.Served.{Served}
@@ -104,7 +105,7 @@ Takes old ms new = (fed : List ℕ) (given : List WireMessage) → Begins fed gi
 
 -- neither a message nor, without a fault, a fault is next
 abbrev pub StopsAt : List ℕ → Option WireFault → Type 0
-StopsAt left None = IsPartial left
+StopsAt left None = IsUndecided left
 StopsAt left (Some fault) = IsFault left fault
 
 -- a reply of which a part was written

@@ -1,7 +1,8 @@
 -- What one read does to the inbox.
 use Rattle.std.specs.Prelude.{◌≡◌, ℕ, ◌<◌, Bool, true, false, List, [], ◌++◌, length, Option, Result, Ok, Err}
 use Rattle.std.specs.Io.KnownBytes.{Consumes, IsAtEnd}
-use Rattle.http_wire.specs.Wire.{WireMessage, Begins}
+use Rattle.http_wire.specs.Messages.{WireMessage}
+use Rattle.http_wire.specs.Streams.{Begins}
 use Rattle.desk_server.specs.declared.served.ServeFault.{ServeFault}
 use Rattle.desk_server.specs.declared.served.ServeFault.TheVariants as serve_fault
 

@@ -1,12 +1,13 @@
 -- Runs of a desk over messages.
 use Rattle.std.specs.Prelude.{◌≡◌, ◌≢◌, ℕ, List, [], ◌∷◌, map, Option}
 use Rattle.std.specs.List.{flat_map}
-use Rattle.http_wire.specs.Wire.{WireMessage}
+use Rattle.http_wire.specs.Messages.{WireMessage}
 use Rattle.rollout_model.specs.declared.refusal.Refusal.TheVariants.{StoreFailed}
 use Rattle.rollout_machine.specs.Commands.{Command}
 use Rattle.rollout_machine.specs.CommandList.{CommandList, followed_by}
 use Rattle.rollout_machine.specs.Replies.{Reply, Refused}
-use Rattle.rollout_machine.specs.Answers.{one, MayAnswer}
+use Rattle.rollout_machine.specs.Answers.{MayAnswer}
+use Rattle.rollout_machine.specs.Requests.{one}
 use Rattle.desk_server.specs.declared.interface.Interface.{Interface}
 use Rattle.desk_server.specs.Interfaces.{reading, reply_text}
 

@@ -1,8 +1,9 @@
 //! Answers to messages.
 
 ghost use Rattle.std.specs.Prelude.{◌≡◌, ◌≢◌, ℕ, ◌+◌, ◌<◌, ◌^◌, ◌-◌, ◌∷◌, [], List, length, min, true, IfOk, IfErr};
-ghost use Rattle.http_wire.specs.Wire.{WireMessage};
+ghost use Rattle.http_wire.specs.Messages.{WireMessage};
 ghost use Rattle.http_wire.specs.Inbox.{message_of};
+ghost use Rattle.http_wire.specs.Watched.{inner_of, has_failed};
 ghost use Rattle.rollout_model.specs.declared.refusal.Refusal.TheVariants.{Stopped};
 ghost use Rattle.rollout_machine.specs.Replies.{Refused};
 ghost use Rattle.rollout_machine.specs.Views.{reply_of};
@@ -42,9 +43,9 @@ fn answer_one<W: Write, D: Handler>(
     writer: &mut Watched<W>,
     message: &Message<'_>,
 ) -> Result<(), ServeFault>
-    ensures serves { Serves routes.now.interface (D.state desk.old) (D.state desk.new) (W.contents writer.old.inner) (W.contents writer.new.inner)
+    ensures serves { Serves routes.now.interface (D.state desk.old) (D.state desk.new) (W.contents (inner_of writer.old)) (W.contents (inner_of writer.new))
         (message_of message.now ∷ []) (fault_of result) }
-    ensures write_failed { FailsBy result ServeFault.Write writer.old.failed writer.new.failed }
+    ensures write_failed { FailsBy result ServeFault.Write (has_failed writer.old) (has_failed writer.new) }
     ensures reads_nothing { IfErr result (λ fault. fault ≢ ServeFault.Read) }
 {
     let reply = ask(desk, routes, message);
@@ -73,9 +74,9 @@ pub(crate) fn answer_all<W: Write, D: Handler>(
 ) -> Result<Stop, ServeFault>
     ensures serves { (ms : List WireMessage) × Takes inbox.old ms inbox.new
         × IfOk result (λ stop. stop.answered ≡ min (before + length ms) (2 ^ 64 - 1))
-        × Serves routes.now.interface (D.state desk.old) (D.state desk.new) (W.contents writer.old.inner) (W.contents writer.new.inner) ms (fault_of result) }
+        × Serves routes.now.interface (D.state desk.old) (D.state desk.new) (W.contents (inner_of writer.old)) (W.contents (inner_of writer.new)) ms (fault_of result) }
     ensures end { IfOk result (λ stop. StopsAt inbox.new stop.fault) }
-    ensures write_failed { FailsBy result ServeFault.Write writer.old.failed writer.new.failed }
+    ensures write_failed { FailsBy result ServeFault.Write (has_failed writer.old) (has_failed writer.new) }
     ensures reads_nothing { IfErr result (λ fault. fault ≢ ServeFault.Read) }
 {
     let mut answered = before;

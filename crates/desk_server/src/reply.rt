@@ -5,22 +5,23 @@ ghost use Rattle.std.specs.Io.KnownBytes.{Appends};
 ghost use Rattle.rollout_model.specs.declared.refusal.Refusal.TheVariants.{StoreFailed};
 ghost use Rattle.rollout_machine.specs.Replies.{Refused};
 ghost use Rattle.rollout_machine.specs.Views.{reply_of};
-ghost use Rattle.desk_server.specs.Interfaces.{reply_text, refusal_of_fault};
+ghost use Rattle.http_wire.specs.Watched.{inner_of, has_failed};
+ghost use Rattle.desk_server.specs.Interfaces.{reply_text};
 ghost use Rattle.desk_server.specs.Parts.{SendsPart, FailsBy};
 
 use crate::ServeFault;
 use crate::bytes::{refusal_text, success_text};
-use http_wire::{Watched, WireFault, write_all_counted};
+use http_wire::{Watched, write_all_counted};
 use rollout_model::{Refusal, Reply};
 use std::alloc::Global;
 use std::io::Write;
 
 /// Writes all the bytes out and flushes.
 fn send<W: Write>(writer: &mut Watched<W>, bytes: &[u8]) -> Result<(), ServeFault>
-    ensures ok { OnOk result (Appends (W.contents writer.old.inner) (W.contents writer.new.inner) bytes.now) }
-    ensures unfailed { OnOk result (writer.new.failed ≡ writer.old.failed) }
-    ensures err { IfErr result (λ fault. (fault ≡ ServeFault.Write) × (writer.new.failed ≡ true)
-        × (part : List ℕ) × (left : List ℕ) × (bytes.now ≡ part ++ left) × Appends (W.contents writer.old.inner) (W.contents writer.new.inner) part) }
+    ensures ok { OnOk result (Appends (W.contents (inner_of writer.old)) (W.contents (inner_of writer.new)) bytes.now) }
+    ensures unfailed { OnOk result ((has_failed writer.new) ≡ (has_failed writer.old)) }
+    ensures err { IfErr result (λ fault. (fault ≡ ServeFault.Write) × ((has_failed writer.new) ≡ true)
+        × (part : List ℕ) × (left : List ℕ) × (bytes.now ≡ part ++ left) × Appends (W.contents (inner_of writer.old)) (W.contents (inner_of writer.new)) part) }
 {
     let Ok(()) = write_all_counted(writer, bytes) else {
         return Err(ServeFault::Write);
@@ -44,28 +45,15 @@ pub(crate) fn write_reply<W: Write>(
     writer: &mut Watched<W>,
     reply: &Reply,
 ) -> Result<(), ServeFault>
-    ensures ok { OnOk result (Appends (W.contents writer.old.inner) (W.contents writer.new.inner) (reply_text (reply_of reply.now))) }
-    ensures write_failed { FailsBy result ServeFault.Write writer.old.failed writer.new.failed }
-    ensures err { IfErr result (SendsPart (W.contents writer.old.inner) (W.contents writer.new.inner) (reply_of reply.now) writer.new.failed) }
+    ensures ok { OnOk result (Appends (W.contents (inner_of writer.old)) (W.contents (inner_of writer.new)) (reply_text (reply_of reply.now))) }
+    ensures write_failed { FailsBy result ServeFault.Write (has_failed writer.old) (has_failed writer.new) }
+    ensures err { IfErr result (SendsPart (W.contents (inner_of writer.old)) (W.contents (inner_of writer.new)) (reply_of reply.now) (has_failed writer.new)) }
 {
     if let Reply::Refused(refusal) = reply {
-        return send(writer, refusal_text(*refusal).as_slice());
+        return send(writer, refusal_text(*refusal).as_bytes());
     }
     let Ok(bytes) = success_text(alloc, reply) else {
         return Err(ServeFault::Memory);
     };
     send(writer, bytes.as_slice())
-}
-
-/// How a fault of the wire is answered.
-pub(crate) fn fault_refusal(fault: WireFault) -> Refusal
-    ensures { result ≡ refusal_of_fault fault }
-{
-    match fault {
-        WireFault::TooLarge => Refusal::TooLarge,
-        WireFault::Head => Refusal::BadHead,
-        WireFault::Length => Refusal::BadLength,
-        WireFault::HeadSize => Refusal::HeadTooLarge,
-        WireFault::Coding => Refusal::BadCoding,
-    }
 }

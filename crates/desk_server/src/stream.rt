@@ -1,12 +1,13 @@
 //! Serving one stream.
 
 ghost use Rattle.std.specs.Prelude.{◌≡◌, ℕ, ◌+◌, ◌++◌, ◌<◌, ◌≤◌, ◌-◌, ◌^◌, List, length, true};
+ghost use Rattle.http_wire.specs.Watched.{inner_of, has_failed};
 ghost use Rattle.desk_server.specs.Parts.{FailsBy, ServesStream};
 ghost use Rattle.desk_server.specs.Reading.{ReadsOn};
 
 use crate::answer::answer_all;
 use crate::handler::Handler;
-use crate::reply::{fault_refusal, write_reply};
+use crate::reply::write_reply;
 use crate::routes::Routes;
 use crate::{ServeFault, Served};
 use http_wire::{End, Inbox, Watched};
@@ -19,8 +20,8 @@ const PIECE: usize = 4096;
 
 /// Reads the next piece into the inbox, or says that nothing is left.
 fn read_on<R: Read>(reader: &mut Watched<R>, inbox: &mut Inbox) -> Result<bool, ServeFault>
-    ensures failed { FailsBy result ServeFault.Read reader.old.failed reader.new.failed }
-    ensures read { ReadsOn (R.remaining reader.old.inner) (R.remaining reader.new.inner) inbox.old inbox.new reader.new.failed result }
+    ensures failed { FailsBy result ServeFault.Read (has_failed reader.old) (has_failed reader.new) }
+    ensures read { ReadsOn (R.remaining (inner_of reader.old)) (R.remaining (inner_of reader.new)) inbox.old inbox.new (has_failed reader.new) result }
 {
     let mut buffer = [0; PIECE];
     let Ok(count) = reader.read(&mut buffer) else {
@@ -43,10 +44,10 @@ pub(crate) fn serve_stream<R: Read, W: Write, D: Handler>(
     reader: &mut Watched<R>,
     writer: &mut Watched<W>,
 ) -> Result<Served, ServeFault>
-    ensures serves { ServesStream routes.now.interface (D.state desk.old) (D.state desk.new) (R.remaining reader.old.inner) (R.remaining reader.new.inner)
-        (W.contents writer.old.inner) (W.contents writer.new.inner) result }
-    ensures read_failed { FailsBy result ServeFault.Read reader.old.failed reader.new.failed }
-    ensures write_failed { FailsBy result ServeFault.Write writer.old.failed writer.new.failed }
+    ensures serves { ServesStream routes.now.interface (D.state desk.old) (D.state desk.new) (R.remaining (inner_of reader.old)) (R.remaining (inner_of reader.new))
+        (W.contents (inner_of writer.old)) (W.contents (inner_of writer.new)) result }
+    ensures read_failed { FailsBy result ServeFault.Read (has_failed reader.old) (has_failed reader.new) }
+    ensures write_failed { FailsBy result ServeFault.Write (has_failed writer.old) (has_failed writer.new) }
 {
     let mut inbox = Inbox::new(alloc);
     let mut answered = 0;
@@ -55,7 +56,7 @@ pub(crate) fn serve_stream<R: Read, W: Write, D: Handler>(
         answered = stop.answered;
         if let Some(fault) = stop.fault {
             let end = End::Fault(fault);
-            write_reply(alloc, writer, &Reply::Refused(fault_refusal(fault)))?;
+            write_reply(alloc, writer, &Reply::Refused(fault.refusal()))?;
             return Ok(Served { answered, end });
         }
         if !read_on(reader, &mut inbox)? {

@@ -1,5 +1,5 @@
 use Rattle.std.proofs.Common.{◌≡◌, ℕ, ◌+◌, ◌-◌, ◌^◌, min, List, [], ◌∷◌, ◌++◌, length, Option, Some, None, refl, sym, ap, ◌∙◌, subst, arith, length-append}
-use Rattle.http_wire.specs.Wire.{WireMessage}
+use Rattle.http_wire.specs.Messages.{WireMessage}
 use Rattle.http_wire.specs.Inbox.{message_of}
 use Rattle.std.proofs.lemmas.Result.{err_from_is_err_and}
 use Rattle.desk_server.proofs.PartLemmas.{serves_append, serves_nil, takes_more, takes_nil}

@@ -4,7 +4,8 @@ use Rattle.std.proofs.KnownBytes.{Consumes-nil, Consumes-trans}
 use Rattle.std.proofs.lemmas.Bool.{false≢true}
 use Rattle.std.proofs.lemmas.List.{nil_from_length}
 use Rattle.std.proofs.lemmas.Result.{err_from_is_err_and}
-use Rattle.http_wire.specs.Wire.{WireMessage, Begins, IsPartial}
+use Rattle.http_wire.specs.Messages.{WireMessage, IsUndecided}
+use Rattle.http_wire.specs.Streams.{Begins}
 use Rattle.desk_server.proofs.PartLemmas.{serves_nil, serves_append}
 use Rattle.desk_server.proofs.HeadlineLemmas.{both}
 use Rattle.desk_server.proofs.ExitLemmas.{exits_broken, exits_fault, exits_fault_part, exits_unread, exits_input, exits_cut, too_many, counts_on, read_end, read_piece, no_more, longer, some_left}
@@ -31,7 +32,7 @@ returns-in_err-write_reply-clause-serves g c =
     let ms = inv.ms ++ taken.0 in
     let all = serves_append _ _ _ _ _ _ _ inv.ms taken.0 None inv.serves taken.3 in
     let is = rw c.in-Some.is at c.in_ok-stop.ensures.end in
-    let sent = rw c.fault_refusal.ensures at c.in_err-write_reply.ensures.err in
+    let sent = rw c.refusal.ensures at c.in_err-write_reply.ensures.err in
     rw (p.1, p.2) (both _ _ _ _ _ _ _ _ ms None (Err _) (λ C answers. exits_fault_part _ C _ _ _ _ _ _ _ inv.fed _ ms c.in-Some.fault _ _ inv.reads (taken.1 inv.fed inv.ms inv.begins) answers sent is) all)
 
 pub returns-in-Some-clause-serves : goal.returns-in-Some-clause-serves
@@ -41,7 +42,7 @@ returns-in-Some-clause-serves g c =
     let ms = inv.ms ++ taken.0 in
     let all = serves_append _ _ _ _ _ _ _ inv.ms taken.0 None inv.serves taken.3 in
     let is = rw c.in-Some.is at c.in_ok-stop.ensures.end in
-    let sent = rw c.fault_refusal.ensures at c.in_ok-write_reply.ensures.ok in
+    let sent = rw c.refusal.ensures at c.in_ok-write_reply.ensures.ok in
     let count = counts_on c.loop.answered 0 _ inv.ms taken.0 inv.count taken.2 in
     both _ _ _ _ _ _ _ _ ms None (Ok _) (λ C answers. exits_fault _ C _ _ _ _ _ _ _ inv.fed _ ms c.in-Some.fault _ inv.reads (taken.1 inv.fed inv.ms inv.begins) answers sent is count) all
 
@@ -52,7 +53,7 @@ returns-in_err-read_on-clause-serves g c =
     let taken = c.in_ok-stop.ensures.serves in
     let ms = inv.ms ++ taken.0 in
     let all = serves_append _ _ _ _ _ _ _ inv.ms taken.0 None inv.serves taken.3 in
-    let partial : IsPartial c.answer_all.new.inbox = rw c.in_default.is at c.in_ok-stop.ensures.end in
+    let partial : IsUndecided c.answer_all.new.inbox = rw c.in_default.is at c.in_ok-stop.ensures.end in
     rw (p.1, p.2) (both _ _ _ _ _ _ _ _ ms None (Err _) (λ C answers. exits_unread _ C _ _ _ _ _ _ _ inv.fed _ _ ms _ _ inv.reads (taken.1 inv.fed inv.ms inv.begins) answers partial c.in_err-read_on.ensures.read) all)
 
 pub returns-then-not-branch-clause-serves : goal.returns-then-not-branch-clause-serves
@@ -63,7 +64,7 @@ returns-then-not-branch-clause-serves g c =
     let begins = taken.1 inv.fed inv.ms inv.begins in
     let count = counts_on c.loop.answered 0 _ inv.ms taken.0 inv.count taken.2 in
     let all = serves_append _ _ _ _ _ _ _ inv.ms taken.0 None inv.serves taken.3 in
-    let partial : IsPartial c.answer_all.new.inbox = rw c.in_default.is at c.in_ok-stop.ensures.end in
+    let partial : IsUndecided c.answer_all.new.inbox = rw c.in_default.is at c.in_ok-stop.ensures.end in
     let read = read_end _ _ _ _ c.read_on.new.reader.failed _ c.if-not-branch.true c.in_ok-read_on.ensures.read in
     elim c.if-is_empty.branch [
       | then-is_empty w ↦

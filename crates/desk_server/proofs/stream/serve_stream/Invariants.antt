@@ -1,9 +1,11 @@
 use Rattle.std.proofs.Common.{◌≡◌, ℕ, ◌-◌, ◌≤◌, ◌^◌, min, List, length, Option, None}
 use Rattle.std.specs.Io.KnownBytes.{Consumes}
-use Rattle.http_wire.specs.Wire.{WireMessage, Begins}
+use Rattle.http_wire.specs.Messages.{WireMessage}
+use Rattle.http_wire.specs.Streams.{Begins}
 use Rattle.rollout_machine.specs.Standing.{DeskState}
 use Rattle.desk_server.specs.Files.{File}
 use Rattle.desk_server.specs.declared.interface.Interface.{Interface}
+use Rattle.http_wire.specs.Watched.{inner_of, has_failed}
 use Rattle.desk_server.specs.Parts.{Serves}
 use Rattle.desk_server.proofs.stream.serve_stream.Given as goal
 
@@ -19,7 +21,7 @@ pub record SoFar (interface : Interface) (old new : DeskState File) (stream unre
 
 abbrev pub invariant-loop : goal.invariant-loop
 invariant-loop g l =
-    SoFar l.routes.interface (g.D.Handler.state l.initial.desk) (g.D.Handler.state l.desk) (g.R.Read.remaining l.initial.reader.inner) (g.R.Read.remaining l.reader.inner)
-    (g.W.Write.contents l.initial.writer.inner) (g.W.Write.contents l.writer.inner) l.inbox l.counter l.answered
-    × (l.reader.failed ≡ l.initial.reader.failed)
-    × (l.writer.failed ≡ l.initial.writer.failed)
+    SoFar l.routes.interface (g.D.Handler.state l.initial.desk) (g.D.Handler.state l.desk) (g.R.Read.remaining (inner_of l.initial.reader)) (g.R.Read.remaining (inner_of l.reader))
+    (g.W.Write.contents (inner_of l.initial.writer)) (g.W.Write.contents (inner_of l.writer)) l.inbox l.counter l.answered
+    × (has_failed l.reader ≡ has_failed l.initial.reader)
+    × (has_failed l.writer ≡ has_failed l.initial.writer)
