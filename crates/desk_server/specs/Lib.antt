@@ -1,0 +1,6 @@
+pub mod Files
+pub mod Interfaces
+pub mod Run
+pub mod Headline
+pub mod Parts
+pub mod Reading
