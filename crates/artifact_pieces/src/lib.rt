@@ -11,3 +11,6 @@ pub use description::{Description, describe};
 pub use hexadecimal::{digest_text, read_digest};
 pub use laws::pieces_make_the_whole;
 pub use pieces::{Piece, Pieces, cut, join};
+
+#[cfg(test)]
+mod tests;
