@@ -1,6 +1,6 @@
 //! What the definitions of the machine mean: laws of all command lists.
 
-ghost use Rattle.rollout_machine.specs.Meanings.{NumbersActions, NumbersDiffer, RowIsLast, TagsAreSaid, PatternIsFilled, OutcomeIsFirst, CancelingIsLast, PausedIs, FirstStartedIs, StartedIs, FinalIsAll, OfferIsLeast, TargetsAreNamed, ValueIsLast};
+ghost use Rattle.rollout_machine.specs.Meanings.{NumbersActions, NumbersDiffer, RowIsLast, TagsAreSaid, OutcomeIsFirst, CancelingIsLast, PausedIs, FirstStartedIs, StartedIs, FinalIsAll, OfferIsLeast, TargetsAreNamed, ValueIsLast};
 ghost use Rattle.rollout_machine.specs.Repeats.{RepeatsLeaveNoTrace};
 ghost use Rattle.rollout_machine.specs.Validity.{StepsRecords};
 
@@ -37,11 +37,6 @@ pub fn value_is_last()
 /// A tag is listed where the last command that spoke of it says so.
 pub fn tags_are_said()
     ensures { TagsAreSaid }
-{}
-
-/// A pattern matches the texts that are its pieces in order with some text in each place of a star.
-pub fn pattern_is_filled()
-    ensures { PatternIsFilled }
 {}
 
 /// An action's outcome is that of the first command that gives it one.
