@@ -1,6 +1,7 @@
 //! What the definitions of the machine mean: laws of all command lists.
 
 ghost use Rattle.rollout_machine.specs.Meanings.{NumbersActions, NumbersDiffer, RowIsLast, TagsAreSaid, OutcomeIsFirst, CancelingIsLast, PausedIs, FirstStartedIs, StartedIs, FinalIsAll, OfferIsLeast, TargetsAreNamed, ValueIsLast};
+ghost use Rattle.rollout_machine.specs.Promises.{OneGroupStarts, NoGroupIsLeft, NamedIsOfferable, DownloadsAreOffered};
 ghost use Rattle.rollout_machine.specs.Repeats.{RepeatsLeaveNoTrace};
 ghost use Rattle.rollout_machine.specs.Validity.{StepsRecords};
 
@@ -77,4 +78,24 @@ pub fn repeats_leave_no_trace()
 /// A group's counts add up to its size where each of its members has an outcome.
 pub fn final_is_all()
     ensures { FinalIsAll }
+{}
+
+/// A command starts at most one group of a rollout.
+pub fn one_group_starts()
+    ensures { OneGroupStarts }
+{}
+
+/// After a command no group is left to start.
+pub fn no_group_is_left()
+    ensures { NoGroupIsLeft }
+{}
+
+/// An action that an answer to a device names is open, and its group is started.
+pub fn named_is_offerable()
+    ensures { NamedIsOfferable }
+{}
+
+/// A device gets artifacts of what it is offered as a deployment, and no others.
+pub fn downloads_are_offered()
+    ensures { DownloadsAreOffered }
 {}
