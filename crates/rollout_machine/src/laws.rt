@@ -1,7 +1,7 @@
 //! What the definitions of the machine mean: laws of all command lists.
 
 ghost use Rattle.rollout_machine.specs.Meanings.{NumbersActions, NumbersDiffer, RowIsLast, TagsAreSaid, OutcomeIsFirst, CancelingIsLast, PausedIs, FirstStartedIs, StartedIs, FinalIsAll, OfferIsLeast, TargetsAreNamed, ValueIsLast};
-ghost use Rattle.rollout_machine.specs.Promises.{OneGroupStarts, NoGroupIsLeft, NamedIsOfferable, DownloadsAreOffered};
+ghost use Rattle.rollout_machine.specs.Promises.{OneGroupStarts, NoGroupIsLeft, NamedIsOfferable, DownloadsAreOffered, StoredSayAll, DerivedFollow};
 ghost use Rattle.rollout_machine.specs.Repeats.{RepeatsLeaveNoTrace};
 ghost use Rattle.rollout_machine.specs.Validity.{StepsRecords};
 
@@ -98,4 +98,14 @@ pub fn named_is_offerable()
 /// A device gets artifacts of what it is offered as a deployment, and no others.
 pub fn downloads_are_offered()
     ensures { DownloadsAreOffered }
+{}
+
+/// The counts of groups are those of their actions: the stored kinds of records say all.
+pub fn stored_say_all()
+    ensures { StoredSayAll }
+{}
+
+/// The derived kinds of records follow from the stored ones.
+pub fn derived_follow()
+    ensures { DerivedFollow }
 {}
