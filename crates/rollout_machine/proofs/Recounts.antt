@@ -3,26 +3,26 @@ use Rattle.rollout_machine.specs.Actions.{ActionPlace, action_places, new_places
 use Rattle.rollout_machine.specs.CommandList.{CommandList, Make, ◌▸◌}
 use Rattle.rollout_machine.specs.Commands.{Command, Start, Outcome, Good, Bad, Gone}
 use Rattle.rollout_machine.specs.Counts.{is_outcome, tally}
-use Rattle.rollout_machine.specs.Groups.{first_position, last_position, group_size, holds_position}
-use Rattle.rollout_machine.specs.Kinds.{count_actions, counted_group, counted_rollout, recounted, stored, stored_group, stored_rollout, derived}
+use Rattle.rollout_machine.specs.Groups.{last_position, holds_position}
+use Rattle.rollout_machine.specs.Kinds.{count_actions, counted_group, counted_rollout, stored_group, stored_rollout, derived}
 use Rattle.rollout_machine.specs.Progress.{is_rollout_started, is_start_of, is_paused}
 use Rattle.rollout_machine.specs.Promises.{StoredSayAll, DerivedFollow}
 use Rattle.rollout_machine.specs.Ranges.{count_from, each_from}
-use Rattle.rollout_machine.specs.Records.{records, Records, action_in, ActionRecord, group_in, rollout_in, rollouts_in, approval_of, GroupRecord, RolloutRecord}
+use Rattle.rollout_machine.specs.Records.{records, action_in, ActionRecord, group_in, rollout_in, rollouts_in, approval_of, GroupRecord}
 use Rattle.rollout_machine.specs.Rollouts.{Rollout, rollout_at, rollouts, size_of, bounds_in, created}
 use Rattle.rollout_machine.specs.StateWords.{is_finished}
 use Rattle.rollout_machine.specs.Validity.{IsValid}
 use Rattle.rollout_machine.specs.Verdicts.{verdict, verdict_row, is_ready}
 use Rattle.rollout_machine.specs.declared.bounds.Bounds.{Bounds}
 use Rattle.rollout_machine.proofs.Counts.{count_same, count_none}
-use Rattle.rollout_machine.proofs.Cuts.{ends_at, last_grows, all_cut}
-use Rattle.rollout_machine.proofs.Induction.{Invariant, invariant_of, word_at, ready_not_begun, stays_numbered, found_rollout}
+use Rattle.rollout_machine.proofs.Cuts.{last_grows, all_cut}
+use Rattle.rollout_machine.proofs.Induction.{invariant_of, word_at, ready_not_begun, stays_numbered, found_rollout}
 use Rattle.rollout_machine.proofs.Ties.{IsFollowed, groups_go}
 use Rattle.rollout_machine.proofs.Valid.{NoneHolds, none_holds}
-use Rattle.rollout_machine.proofs.Whole.{AllNumbered, from_numbers, IsFresh}
+use Rattle.rollout_machine.proofs.Whole.{AllNumbered, from_numbers}
 use Rattle.std.proofs.Common.{◌≡◌, ℕ, zero, suc, ◌+◌, ◌-◌, ◌≤◌, ◌<◌, Bool, true, false, cond, ◌&&◌, ◌||◌, List, [], ◌∷◌, ◌++◌, refl, sym, ◌∙◌, ap, arith, inl, inr, Option, Some, None}
 use Rattle.std.specs.Prelude.{map, nat_eq, nat_le}
-use Rattle.std.proofs.lemmas.Bool.{cases_eq, ne_eqb, eq-eqb, lt-leb, le-leb, false≢true, eqb-true}
+use Rattle.std.proofs.lemmas.Bool.{cases_eq, ne_eqb, eq-eqb, lt-leb, le-leb}
 
 abbrev count_where : (ActionPlace → Bool) → List ActionPlace → ℕ
 count_where P [] = 0
