@@ -1,0 +1,3 @@
+pub mod ModuleRow
+pub mod Schema
+pub mod Holds
