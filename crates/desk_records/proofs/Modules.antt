@@ -30,17 +30,11 @@ use Rattle.sql_calls.proofs.NumberedTables.{has_number, filter_numbered, at_numb
 use Rattle.rollout_machine.specs.Commands.{ModuleLabel}
 use Rattle.rollout_machine.specs.ByteStrings.{same_bytes, item_numbered}
 use Rattle.rollout_machine.specs.Records.{Records}
+use Rattle.desk_records.specs.Modules.{words_of, with_module, is_same, IsLastRow, IsModuleRow}
 use Rattle.desk_records.specs.Schema.{Place, Desk, Modules, module_table}
 use Rattle.desk_records.specs.Holds.{HoldsRecords, HasModulesAlone, module_row, rows_of}
 use Rattle.desk_records.proofs.HoldsAfter.{holds_after}
 use Rattle.desk_records.proofs.Meaning.{at_key, same_label, label_columns, last_module_query, module_terms}
-
-abbrev pub words_of : ModuleLabel → Row
-words_of m = Text m.name ∷ Text m.kind ∷ Text m.version ∷ []
-
--- the records with one more module
-abbrev pub with_module : Records → ModuleLabel → Records
-with_module r m = record r { modules = r.modules ++ m ∷ [] }
 
 -- ---- the test of a row
 
@@ -61,10 +55,6 @@ words_equal a b = rw value_cmp-Text (judged _ ∙ is_eq-slice_cmp a b ∙ same_b
 and_true : (b : Bool) → (b && true) ≡ b
 and_true true = refl
 and_true false = refl
-
--- a module of the same name, kind and version
-abbrev pub is_same : ModuleLabel → ModuleLabel → Bool
-is_same label m = same_bytes m.name label.name && (same_bytes m.kind label.kind && same_bytes m.version label.version)
 
 passes_label : (label m : ModuleLabel) (number : ℕ) → passes same_label (words_of label) (module_row number m) ≡ is_same label m
 passes_label label m number = rw (words_equal m.name label.name, words_equal m.kind label.kind, words_equal m.version label.version, and_true (same_bytes m.version label.version)) refl
@@ -106,11 +96,6 @@ last_module : (db : Database) (now : Records) (holds : HoldsRecords db now) (nam
     → Shows (Select (record { lets = []; body = last_module_query (holds.spot Modules).tree }) names) db [] rows → rows ≡ last_of module_row (λ n x. refl) (holds.spot Modules).tree (length now.modules)
 last_module db now holds names rows shown = last_number module_row (λ n x. refl) (holds.spot Modules).tree [] db.trees now.modules (holds.rows Modules) rows (shown.answer Null)
 
--- no row, or the number of modules
-abbrev pub IsLastRow : ℕ → Option Row → Type 0
-IsLastRow n None = n ≡ 0
-IsLastRow n (Some row) = column row 0 ≡ Int (pos n)
-
 no_last : (tree n : ℕ) → [] ≡ last_of module_row (λ n x. refl) tree n → n ≡ 0
 no_last tree zero h = refl
 no_last tree (suc k) h = absurd cc
@@ -128,11 +113,6 @@ lasts_module db now holds names None shown = no_last (holds.spot Modules).tree (
 lasts_module db now holds names (Some row) shown = some_last (holds.spot Modules).tree (length now.modules) row shown.0 (last_module db now holds names (row ∷ shown.0) shown.1)
 
 -- ---- a module by its number
-
--- no row, or the module's
-abbrev pub IsModuleRow : Option ModuleLabel → Option Row → Type 0
-IsModuleRow found None = found ≡ None
-IsModuleRow found (Some row) = (label : ModuleLabel) × (found ≡ Some label) × (row ≡ words_of label)
 
 no_permutation : {X : Type 0} (xs : List X) → IsPermutation [] xs → xs ≡ []
 no_permutation [] h = refl

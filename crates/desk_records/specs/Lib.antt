@@ -1,3 +1,4 @@
 pub mod ModuleRow
 pub mod Schema
 pub mod Holds
+pub mod Modules
