@@ -9,8 +9,8 @@ use Rattle.sqlite_schema.specs.declared.schema.Schema.{Schema}
 use Rattle.sqlite_schema.specs.Names.{same_name, table_named, index_named, view_named}
 use Rattle.sqlite_catalog.specs.Change.{next_tree, is_used, created, automatics}
 use Rattle.sqlite_resolve.specs.Scope.{Name}
-use Rattle.sql_front.proofs.Texts.{Stands}
-use Rattle.sql_front.proofs.Behind.{position_past, slice_past, find_past, unused, above_all}
+use Rattle.sql_front.specs.Stands.{Stands}
+use Rattle.sql_front.proofs.Past.{position_past, slice_past, find_past, unused, above_all}
 
 -- ---- tables that are added come last
 

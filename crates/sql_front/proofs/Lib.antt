@@ -3,8 +3,9 @@ pub mod OneTable
 pub mod Select
 pub mod Query
 pub mod Texts
-pub mod Behind
+pub mod Past
 pub mod Write
 pub mod Examples
 pub mod Created
 pub mod Grown
+pub mod Found

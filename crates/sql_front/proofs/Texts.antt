@@ -15,15 +15,9 @@ use Rattle.sqlite_resolve.specs.Select.{named, paging}
 use Rattle.sqlite_resolve.specs.Program.{Shown}
 use Rattle.sqlite_resolve.specs.declared.compiled.Compiled.{Compiled}
 use Rattle.sqlite_resolve.specs.Compile.{compiled, first}
+use Rattle.sql_front.specs.Stands.{Stands}
 use Rattle.sql_front.proofs.Select.{IsOneTable, same_named}
 use Rattle.sql_front.proofs.Query.{Selects, accepted, select_known}
-
--- the table has the name, the place and a tree that no table before it has
-pub record Stands (s : Schema) (name : Name) (at : ℕ) (table : Table) : Type 0 where
-  pub named : table_named s name ≡ Some at
-  pub got : slice_get s.tables at ≡ Some table
-  pub found : find (λ t. t.tree == table.tree) s.tables ≡ Some table
-  pub stored : nat_le (2 ^ 31) table.tree ≡ false
 
 abbrev pub alone : Table → Schema
 alone table = record { tables = table ∷ []; indexes = []; views = [] }

@@ -14,8 +14,8 @@ use Rattle.sqlite_resolve.specs.Scope.{Name}
 use Rattle.sqlite_resolve.specs.Define as define
 use Rattle.sqlite_resolve.specs.declared.compiled.Compiled.{Compiled}
 use Rattle.sqlite_resolve.specs.Compile.{compiled, first, planned, meaning, timed, returning, command, shows, insert_or_abort, insert, new_rows, small, create_table, creates, is_attached, is_reserved}
-use Rattle.sql_front.proofs.Texts.{Stands}
-use Rattle.sql_front.proofs.Behind.{unused}
+use Rattle.sql_front.specs.Stands.{Stands}
+use Rattle.sql_front.proofs.Past.{unused}
 
 -- ---- INSERT .. VALUES
 

@@ -1,1 +1,3 @@
-pub mod Behind
+pub mod Stands
+pub mod Free
+pub mod Found

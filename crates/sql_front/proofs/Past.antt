@@ -1,0 +1,51 @@
+-- How a table is found behind others.
+use Rattle.std.proofs.Common.{◌≡◌, inl, inr, refl, sym, ap, ◌∙◌, ℕ, suc, ◌+◌, ◌^◌, ◌<◌, ◌≤◌, ◌==◌, Bool, true, false, cond, ◌||◌, List, [], ◌∷◌, ◌++◌, map, length, Option, Some, None, slice_get, find, arith}
+use Rattle.std.specs.List.{position_from}
+use Rattle.std.specs.Option.{option_map, is_some}
+use Rattle.std.proofs.lemmas.Bool.{cases_eq, eq-eqb, ne_eqb, lt-leb}
+use Rattle.std.proofs.lemmas.Option.{slice_get-map}
+use Rattle.sqlite_schema.specs.declared.schema.Table.{Table}
+use Rattle.sqlite_schema.specs.declared.schema.Schema.{Schema}
+use Rattle.sqlite_schema.specs.Names.{same_name, table_named, index_named, view_named}
+use Rattle.sqlite_catalog.specs.Change.{next_tree, is_used}
+use Rattle.sqlite_catalog.proofs.StepLemmas.{table_below}
+use Rattle.sqlite_rules.specs.Lists.{Has}
+use Rattle.sqlite_resolve.specs.Scope.{Name}
+
+-- ---- the first of a longer list
+
+pub position_past : {X : Type 0} (test : X → Bool) (i : ℕ) (front ours : List X) → position_from test i front ≡ None → position_from test i (front ++ ours) ≡ position_from test (length front + i) ours
+position_past test i [] ours none = let same : 0 + i ≡ i = omega arith in rw same
+position_past test i (x ∷ front) ours none = go (test x) none (position_past test (i + 1) front ours)
+  where
+    go : (b : Bool) → cond b (Some i) (position_from test (i + 1) front) ≡ None → (position_from test (i + 1) front ≡ None → position_from test (i + 1) (front ++ ours) ≡ position_from test (length front + (i + 1)) ours)
+        → cond b (Some i) (position_from test (i + 1) (front ++ ours)) ≡ position_from test (length (x ∷ front) + i) ours
+    go true h more = absurd cc
+    go false h more = let same : length front + (i + 1) ≡ length (x ∷ front) + i = omega arith in rw same at more h
+
+pub slice_past : {X : Type 0} (front ours : List X) (k : ℕ) → slice_get (front ++ ours) (length front + k) ≡ slice_get ours k
+slice_past [] ours k = let same : 0 + k ≡ k = omega arith in ap (slice_get ours) same
+slice_past (x ∷ front) ours k = let same : length (x ∷ front) + k ≡ suc (length front + k) = omega arith in ap (slice_get (x ∷ (front ++ ours))) same ∙ slice_past front ours k
+
+pub find_past : {X : Type 0} (test : X → Bool) (front ours : List X) → ((x : X) → Has front x → test x ≡ false) → find test (front ++ ours) ≡ find test ours
+find_past test [] ours none = refl
+find_past test (x ∷ front) ours none = rw (none x (inl refl)) (find_past test front ours (λ y h. none y (inr h)))
+
+-- ---- names
+
+is_none : {X : Type 0} (o : Option X) → is_some o ≡ false → o ≡ None
+is_none None h = refl
+is_none (Some x) h = absurd cc
+
+none_of : {X Y Z : Type 0} (a : Option X) (b : Option Y) (c : Option Z) → (is_some a || is_some b || is_some c) ≡ false → (a ≡ None) × (b ≡ None) × (c ≡ None)
+none_of None None None h = (refl, refl, refl)
+none_of (Some x) b c h = absurd cc
+none_of None (Some y) c h = absurd cc
+none_of None None (Some z) h = absurd cc
+
+-- a name that is free belongs to no table, index or view
+pub unused : (schema : Schema) (name : Name) → is_used schema name ≡ false → (table_named schema name ≡ None) × (index_named schema name ≡ None) × (view_named schema name ≡ None)
+unused schema name h = none_of (table_named schema name) (index_named schema name) (view_named schema name) h
+
+pub above_all : (front : Schema) (t : Table) (tree : ℕ) → Has front.tables t → next_tree front ≤ tree → (t.tree == tree) ≡ false
+above_all front t tree h high = let below : t.tree < next_tree front = table_below front t h in ne_eqb t.tree tree (λ e. absurd (omega arith))

@@ -1,0 +1,10 @@
+use Rattle.std.proofs.Common.{◌≡◌, Some, sym, subst}
+use Rattle.sqlite_schema.specs.Names.{table_named}
+use Rattle.sql_front.proofs.Found.{stands_by}
+use Rattle.sql_front.proofs.standing.stands.Goals as goal
+
+pub returns : goal.returns
+returns c = λ yes.
+    let first = c.is_first.ensures.first yes in
+    let named = subst (λ n. table_named c.args.schema.now n ≡ Some c.in-Some.at) c.as_slice.ensures (sym c.in-Some.ensures) in
+    stands_by c.args.schema.now c.args.table.now c.in-Some-get.named.now first.0 c.in-Some.at named (sym c.in-Some-get.ensures.value) first.1 (c.is_first.ensures.same yes) first.2 (c.is_first.ensures.stored yes)
