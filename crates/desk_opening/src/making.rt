@@ -1,0 +1,43 @@
+//! A new desk.
+
+ghost use Rattle.std.specs.Prelude.{IfOk, IfErr};
+ghost use Rattle.sqlite.specs.Held.{state};
+ghost use Rattle.desk_opening.specs.Making.{Makes, MakesTables};
+
+use crate::running::run;
+use desk_records::{CREATE_DESK, CREATE_MODULE, PUT_DESK};
+use sql_calls::Fault;
+use sqlite::{Alter, Connection, params};
+
+const BEGIN: &str = "BEGIN";
+
+const COMMIT: &str = "COMMIT";
+
+/// Makes the two tables.
+fn make_tables<S: Alter>(conn: &mut Connection<S>) -> Result<(), Fault>
+    ensures { MakesTables (state S.Store conn.old) (state S.Store conn.new) result }
+{
+    run(conn, CREATE_DESK, &[])?;
+    run(conn, CREATE_MODULE, &[])?;
+    Ok(())
+}
+
+/// Makes a new desk in one transaction.
+fn fill<S: Alter>(conn: &mut Connection<S>, approval: bool) -> Result<(), Fault>
+    ensures { Makes (state S.Store conn.old) (state S.Store conn.new) approval result }
+{
+    run(conn, BEGIN, &[])?;
+    make_tables(conn)?;
+    run(conn, PUT_DESK, params![approval])?;
+    run(conn, COMMIT, &[])?;
+    Ok(())
+}
+
+/// Makes a new desk in the connection's database, which uses none of its names.
+pub fn make<S: Alter + Drop>(mut conn: Connection<S>, approval: bool) -> Result<Connection<S>, Fault>
+    ensures made { IfOk result (λ made. Makes (state S.Store conn) (state S.Store made) approval result) }
+    ensures refused { IfErr result (λ e. (last : _) × Makes (state S.Store conn) (state S.Store last) approval result) }
+{
+    fill(&mut conn, approval)?;
+    Ok(conn)
+}
