@@ -1,0 +1,4 @@
+//! A desk: the records of a rollout server, one transaction a command.
+#![tactic(auto)]
+
+mod step;
