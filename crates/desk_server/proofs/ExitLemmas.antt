@@ -1,7 +1,7 @@
 -- The exits of the loop, for a desk of any conduct.
 use Rattle.std.proofs.Common.{◌≡◌, ◌≢◌, ℕ, ◌+◌, ◌-◌, ◌^◌, ◌<◌, ◌≤◌, ◌⊎◌, min, Bool, true, false, List, [], ◌∷◌, ◌++◌, length, Option, Some, None, Result, Ok, Err, inl, inr, refl, sym, ap, ◌∙◌, subst, append-nil, arith, length-append}
 use Rattle.std.specs.Io.KnownBytes.{Appends, Consumes, IsAtEnd}
-use Rattle.std.proofs.KnownBytes.{Appends-nil, Consumes-trans}
+use Rattle.std.proofs.KnownBytes.{Appends-nil, Consumes-nil, Consumes-trans}
 use Rattle.std.proofs.lemmas.Bool.{false≢true}
 use Rattle.std.proofs.lemmas.List.{length-map}
 use Rattle.http_wire.specs.declared.fault.WireFault.{WireFault}
@@ -107,6 +107,12 @@ module _ (File : Type 0) (C : Conduct File) (old new : DeskState File) (stream :
   exits_cut unread out out_new fed rest ms answered reads begins answers ended count =
       exits_all unread out out_new fed rest ms (Ok (record { answered = answered; end = Cut })) reads begins answers
       (λ run written same goes e. record { all_written = e ∙ sym (append-nil (texts_of run)); goes_on = goes; answered = counted run ms answered same count; ended = ended }) (λ e. cc)
+
+  -- nothing was read
+  pub exits_unserved : (out : Option (List ℕ)) → Answers C old new out out [] None
+      → (h : CommandList) → C.premise new → C.stands old h → AtExit C h new stream stream out out (Err serve_fault.Memory)
+  exits_unserved out answers =
+      exits_all stream out out [] [] [] (Err serve_fault.Memory) (Consumes-nil stream) refl answers (λ run written same goes e. inl (goes, e)) (λ e. cc)
 
 -- ---- the loop's counts
 

@@ -1,6 +1,7 @@
 pub mod Files
 pub mod Interfaces
 pub mod Run
+pub mod Orders
 pub mod Headline
 pub mod Parts
 pub mod Reading

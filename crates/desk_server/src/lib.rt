@@ -5,11 +5,14 @@ mod answer;
 mod bytes;
 mod handler;
 mod interface;
+mod order;
 mod reply;
 mod routes;
+mod serve;
 mod served;
 mod stream;
 
 pub use crate::interface::Interface;
+pub use crate::order::{Order, read_order};
 pub use crate::served::{ServeFault, Served};
 pub use http_wire::End;

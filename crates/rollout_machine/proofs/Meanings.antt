@@ -4,8 +4,8 @@ use Rattle.rollout_machine.specs.ByteStrings.{same_bytes, item_numbered}
 use Rattle.rollout_machine.specs.CommandList.{CommandList, Make, ◌▸◌, followed_by}
 use Rattle.rollout_machine.specs.Commands.{Bytes, TargetRow, Command, PutTargets, Start, Pause, TriggerNext, Cancel, Feedback, CancelFeedback, Succeeded, Failed, Noted, ClosedCancel, CanceledCancel, RejectedCancel, NotedCancel, DeploymentWord, CancelWord, Outcome, Good, Bad, Gone, Rejected}
 use Rattle.rollout_machine.specs.Counts.{success_holds, error_holds}
-use Rattle.rollout_machine.specs.Filters.{pattern_matches, star_takes}
-use Rattle.rollout_machine.specs.Meanings.{NoneGave, CancelingIsLast, NotNamed, LastRow, SpeaksOfCancel, Ends, NoneSpeaks, StartedIs, NeverNamed, IsFilled, Says, PauseBegins, OutcomeIsFirst, NumbersActions, FirstOutcome, size_at, NextIsStarted, LastIsCancel, started_sizes, started_by, PatternIsFilled}
+
+use Rattle.rollout_machine.specs.Meanings.{NoneGave, CancelingIsLast, NotNamed, LastRow, SpeaksOfCancel, Ends, NoneSpeaks, StartedIs, NeverNamed, Says, PauseBegins, OutcomeIsFirst, NumbersActions, FirstOutcome, size_at, NextIsStarted, LastIsCancel, started_sizes, started_by}
 use Rattle.rollout_machine.specs.Offers.{Offer, offer, first_offer}
 use Rattle.rollout_machine.specs.Progress.{is_paused, is_trigger_of, is_pause_of, next_started, is_group_started, pause_begins, error_begins_at}
 use Rattle.rollout_machine.specs.Ranges.{some_up_to}
@@ -24,32 +24,6 @@ one_more h (d ∷ cs) c = one_more (h ▸ d) cs c
 
 abbrev pub longer : (h : CommandList) (c : Command) → Ends h → Ends (h ▸ c)
 longer h c e = record { before = e.before; command = e.command; rest = e.rest ++ c ∷ []; whole = one_more (e.before ▸ e.command) e.rest c ∙ ap (λ g. g ▸ c) e.whole }
-
-star_fills : (f : Bytes → Bool) (text : Bytes) → star_takes f text ≡ true → (some rest : Bytes) × (text ≡ some ++ rest) × (f rest ≡ true)
-star_fills f [] e = ([], [], refl, e)
-star_fills f (b ∷ bs) e = go (f (b ∷ bs)) refl e (star_fills f bs)
-  where
-    go : (v : Bool) → f (b ∷ bs) ≡ v → (v || star_takes f bs) ≡ true → (star_takes f bs ≡ true → (some rest : Bytes) × (bs ≡ some ++ rest) × (f rest ≡ true)) → (some rest : Bytes) × (b ∷ bs ≡ some ++ rest) × (f rest ≡ true)
-    go true d k ih = ([], b ∷ bs, refl, d)
-    go false d k ih = let w = ih k in (b ∷ w.0, w.1, ap (λ xs. b ∷ xs) w.2, w.3)
-
-fills_star : (f : Bytes → Bool) (some rest : Bytes) → f rest ≡ true → star_takes f (some ++ rest) ≡ true
-fills_star f [] [] e = e
-fills_star f [] (b ∷ bs) e = rw e refl
-fills_star f (b ∷ some) rest e = rw (fills_star f some rest e) (last (f (b ∷ some ++ rest)))
-  where
-    last : (v : Bool) → (v || true) ≡ true
-    last true = refl
-    last false = refl
-
-pub pattern_fills : (p : List (Option ℕ)) (text : Bytes) → pattern_matches p text ≡ true → IsFilled p text
-pattern_fills [] [] e = refl
-pattern_fills [] (b ∷ bs) e = cc
-pattern_fills (None ∷ ps) text e = let w = star_fills (pattern_matches ps) text e in (w.0, w.1, w.2, pattern_fills ps w.1 w.3)
-pattern_fills (Some a ∷ ps) [] e = cc
-pattern_fills (Some a ∷ ps) (b ∷ bs) e =
-    let w : (nat_eq a b ≡ true) × (pattern_matches ps bs ≡ true) = and_parts _ _ e in
-    (bs, ap (λ x. x ∷ bs) (sym (eqb-true _ _ w.0)), pattern_fills ps bs w.1)
 
 is_pause : (r : ℕ) (c : Command) → is_pause_of r c ≡ true → c ≡ Pause r
 is_pause r (Pause q) e = ap Pause (eqb-true q r e)
@@ -120,7 +94,7 @@ started_to x r (suc i) h a b e =
     closed true b e = e
     closed false b e = refl
 
--- D6
+-- outcomes
 gave : (h : CommandList) (c : Command) (r j : ℕ) (o : Outcome) → outcome_given c (is_canceling h r j) ≡ Some o → Says h c r j o
 gave h (Feedback report) r j o e = word report.word refl e
   where
@@ -226,7 +200,7 @@ first_from h r j o w =
 pub outcome_is_first : OutcomeIsFirst
 outcome_is_first h r j o = (first_to h r j o, first_from h r j o)
 
--- D10, from the words
+-- starts, from the words
 or_true : (a b : Bool) → b ≡ true → (a || b) ≡ true
 or_true true b e = refl
 or_true false b e = e
@@ -266,7 +240,7 @@ started_from x r (suc i) h a b w = rw (there, next_from x r (suc i) (is_group_st
 pub started_is : StartedIs
 started_is x r i h a b = (started_to x r i h a b, started_from x r i h a b)
 
--- D7
+-- cancels
 -- what was said by a cancel, and by a rejection
 is_cancel : (c : Command) (b : Bool) → cancel_standing_said c ≡ Some b → b ≡ true → (t : Bytes) × (a : ℕ) × (force : Bool) × (c ≡ Cancel t a force)
 is_cancel (Cancel t a force) b e d = (t, a, force, refl)
@@ -337,7 +311,7 @@ canceling_is_last h r j = (to, λ w. both (outcome h r j) (cancel_stands h r j) 
     both : (o : Option Outcome) (b : Bool) → o ≡ None → b ≡ true → (is_none o && b) ≡ true
     both o b e d = rw (e, d) refl
 
--- D1
+-- numbers
 length_more : (xs ys : List ActionPlace) → length (xs ++ ys) ≡ length xs + length ys
 length_more [] ys = omega arith
 length_more (x ∷ xs) ys = let e : length (xs ++ ys) ≡ length xs + length ys = length_more xs ys in omega (arith, e)
@@ -389,7 +363,7 @@ numbers_actions before r x rest (suc j) e a b =
     here : slice_get (action_places before ++ new_places before (Start r)) (started_sizes before + j) ≡ Some (record { rollout = r; position = suc j })
     here = rw (← length_places before) (get_after (action_places before) (new_places before (Start r)) j ∙ rw e (subst (λ (n : ℕ). slice_get (places_from r 1 (size_of x)) j ≡ Some (record { rollout = r; position = n })) one (get_from r 1 (size_of x) j (omega (arith, b)))))
 
--- D12: no action of a lesser number would do
+-- offers: no action of a lesser number would do
 abbrev pub is_candidate : Records → Bytes → ActionRecord → Bool
 is_candidate rs t a = is_none a.outcome && (is_for rs t a && has_started rs a)
 
@@ -413,7 +387,7 @@ pub least_offer : (rs : Records) (t : Bytes) (o : Offer) → offer rs t ≡ Some
 least_offer rs t o e zero a g l = cc
 least_offer rs t o e (suc i) a g l = least_from rs t 1 rs.actions o e i a g (omega (arith, l))
 
--- D2
+-- targets
 pub not_there : (t : Bytes) (rows : List TargetRow) → last_row_for t rows ≡ None → NotNamed t rows
 not_there t [] e = tt
 not_there t (row ∷ rows) e = go (last_row_for t rows) (same_bytes row.id t) refl refl e (not_there t rows)
@@ -471,14 +445,6 @@ row_is_last (h ▸ c) t row e = go (last_row_for t (import_rows_of c)) refl e (r
         record { before = h; earlier = w.earlier; later = w.later; rest = []; whole = ap (λ k. h ▸ k) (sym (rows_are c (import_rows_of c) row w.earlier w.later w.whole)); names = w.names; last_in_command = w.last_in_command; last = tt }
 
 -- the other directions
-pub filled_matches : (p : List (Option ℕ)) (text : Bytes) → IsFilled p text → pattern_matches p text ≡ true
-filled_matches [] text w = rw w refl
-filled_matches (None ∷ ps) text w = rw w.2 (fills_star (pattern_matches ps) w.0 w.1 (filled_matches ps w.1 w.3))
-filled_matches (Some a ∷ ps) text w = rw w.1 (rw (eq-eqb a a refl, filled_matches ps w.0 w.2) refl)
-
-pub pattern_is_filled : PatternIsFilled
-pattern_is_filled p text = (pattern_fills p text, filled_matches p text)
-
 some_there : (p : ℕ → Bool) (n i : ℕ) → 1 ≤ i → i ≤ n → p i ≡ true → some_up_to p n ≡ true
 some_there p zero i a b e = absurd (omega (arith, a, b))
 some_there p (suc n) i a b e = go (cases_lt i (suc n)) (some_there p n i a)

@@ -1,4 +1,8 @@
 -- A feedback on an action that has its outcome changes no record, and neither does an import that comes twice.
+use Rattle.rollout_machine.specs.Answers.{answer, query_reply, command_reply}
+use Rattle.rollout_machine.specs.Requests.{Asked, Rejected, Asks, Do, Ask}
+use Rattle.rollout_machine.proofs.Answering.{rejected_answer, query_answer, refused_answer, accepted_step}
+use Rattle.rollout_model.specs.declared.refusal.Refusal.{Refusal}
 use Rattle.rollout_machine.specs.Actions.{ActionPlace, action_of, is_on_action, is_action_place, outcome, action_places, action_place, history}
 use Rattle.rollout_machine.specs.ByteStrings.{contains_word, with_words, same_bytes, bytes_below, with_word}
 use Rattle.rollout_machine.specs.CommandList.{CommandList, ◌▸◌, Make}
@@ -188,12 +192,25 @@ doubled_same (h ▸ PutTargets rows) (PutTargets more) v e d =
 doubled_same (h ▸ PutTargets rows) _ v e d = cc
 doubled_same (h ▸ _) c v e d = cc
 
+-- lists with the same records have the same answers
+same_answers : (h k : CommandList) → IsValid h → IsValid k → records h ≡ records k → (asked : Asked) → answer h asked ≡ answer k asked
+same_answers h k v w e (Rejected refusal) = rejected_answer h refusal ∙ sym (rejected_answer k refusal)
+same_answers h k v w e (Asks (Ask query)) = query_answer h query ∙ ap (λ rs. record { reply = query_reply rs query; accepted = None }) e ∙ sym (query_answer k query)
+same_answers h k v w e (Asks (Do c)) = go (verdict h c) refl
+  where
+    same : verdict h c ≡ verdict k c
+    same = ap (λ rs. check rs c) e
+
+    go : (o : Option Refusal) → verdict h c ≡ o → answer h (Asks (Do c)) ≡ answer k (Asks (Do c))
+    go (Some refusal) d = refused_answer h c refusal d ∙ sym (refused_answer k c refusal (sym same ∙ d))
+    go None d = accepted_step h c v d ∙ ap (λ rs. record { reply = command_reply c (step_records rs c); accepted = Some c }) e ∙ sym (accepted_step k c w (sym same ∙ d))
+
 pub repeats_leave_no_trace : RepeatsLeaveNoTrace
-repeats_leave_no_trace (Make approval) v = record { valid = tt; same = refl; verdicts = λ c. refl }
+repeats_leave_no_trace (Make approval) v = record { valid = tt; same = refl; verdicts = λ c. refl; answers = λ asked. refl }
 repeats_leave_no_trace (h ▸ c) v = go (is_repeat h c) (is_doubled h c) refl refl (repeats_leave_no_trace h v.0)
   where
     traceless : (k : CommandList) → calm (h ▸ c) ≡ k → IsValid k → records (h ▸ c) ≡ records k → IsTraceless (h ▸ c)
-    traceless k e w s = record { valid = subst IsValid (sym e) w; same = s ∙ sym (ap records e); verdicts = λ d. ap (λ rs. check rs d) (s ∙ sym (ap records e)) }
+    traceless k e w s = record { valid = subst IsValid (sym e) w; same = s ∙ sym (ap records e); verdicts = λ d. ap (λ rs. check rs d) (s ∙ sym (ap records e)); answers = same_answers (h ▸ c) (calm (h ▸ c)) v (subst IsValid (sym e) w) (s ∙ sym (ap records e)) }
 
     test : (a b : Bool) (x y : CommandList) → is_repeat h c ≡ a → is_doubled h c ≡ b → cond (is_repeat h c || is_doubled h c) x y ≡ cond (a || b) x y
     test a b x y e f = rw (e, f) refl

@@ -3,7 +3,8 @@ use Rattle.rollout_machine.specs.Answers.{answer, query_reply, command_reply, co
 use Rattle.rollout_machine.specs.ByteStrings.{item_numbered}
 use Rattle.rollout_machine.specs.CommandList.{CommandList, ◌▸◌}
 use Rattle.rollout_machine.specs.Commands.{Bytes, Credential, Command, AddModule, AddArtifact, AddSet, PutTargets, Tag, Untag, PutAttributes, CreateRollout, Approve, Deny, Start, Pause, Resume, TriggerNext, Cancel, Feedback, CancelFeedback}
-use Rattle.rollout_machine.specs.Filters.{Filter, filter_of}
+use Rattle.target_filter.specs.Profile.{filter_of}
+use Rattle.target_filter.specs.Grammar.{Tree}
 use Rattle.rollout_machine.specs.Objects.{deployment_shown}
 use Rattle.rollout_machine.specs.Offers.{offer}
 use Rattle.rollout_machine.specs.Records.{records, Records, ArtifactRecord, RolloutRecord}
@@ -100,7 +101,7 @@ device_never rs device reply never = one_of_two (is_known rs device) reply (Refu
 targets_never : (rs : Records) (page : Page) (o : Option Bytes) → is_store_reply (targets_reply rs page o) ≡ false
 targets_never rs page None = refl
 targets_never rs page (Some text) = go (filter_of text) where
-  go : (o : Option Filter) → is_store_reply (targets_matching rs page o) ≡ false
+  go : (o : Option Tree) → is_store_reply (targets_matching rs page o) ≡ false
   go None = refl
   go (Some f) = refl
 

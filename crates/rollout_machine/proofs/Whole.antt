@@ -24,7 +24,7 @@ use Rattle.rollout_machine.proofs.EffectLaws.{calm_outcome}
 
 -- ---- over the list of rollouts
 
-pub AllNumbered : (ℕ → Rollout → Type 0) → ℕ → List Rollout → Type 0
+unfoldable pub AllNumbered : (ℕ → Rollout → Type 0) → ℕ → List Rollout → Type 0
 AllNumbered P a [] = Unit {0}
 AllNumbered P a (x ∷ xs) = P a x × (AllNumbered P (suc a) xs)
 

@@ -4,7 +4,9 @@ use Rattle.std.specs.List.{list_any, find}
 use Rattle.rollout_machine.specs.ByteStrings.{item_numbered, same_bytes}
 use Rattle.rollout_machine.specs.CommandList.{CommandList, ◌▸◌}
 use Rattle.rollout_machine.specs.Commands.{Bytes, Credential, ModuleLabel, SetLabel, Command, AddModule, AddArtifact, AddSet, PutTargets, CreateRollout}
-use Rattle.rollout_machine.specs.Filters.{Filter, filter_of, matches}
+use Rattle.rollout_machine.specs.Filters.{matches}
+use Rattle.target_filter.specs.Profile.{filter_of}
+use Rattle.target_filter.specs.Grammar.{Tree}
 use Rattle.rollout_machine.specs.Objects.{actions_of_rollout, actions_of_target, action_shown, artifact_shown, artifacts_shown, deployment_shown, entry_shown, group_shown, groups_shown, members_in, module_shown, modules_of_action, modules_shown, numbered, page_of, report_of, rollout_shown, rollouts_shown, set_shown, target_shown, targets_shown}
 use Rattle.rollout_machine.specs.Offers.{Offer, offer}
 use Rattle.rollout_machine.specs.Records.{ArtifactRecord, GroupRecord, RolloutRecord, ActionRecord, Records, records}
@@ -46,7 +48,7 @@ download rs t m filename =
     cond (list_any (λ n. nat_eq n m) (modules_offered rs (offer rs t)))
       (if_found (λ (a : ArtifactRecord). ContentsShown a.contents) (artifact_named m filename rs.artifacts)) (Refused NotFound)
 
-abbrev pub targets_matching : Records → Page → Option Filter → Reply
+abbrev pub targets_matching : Records → Page → Option Tree → Reply
 targets_matching rs page None = Refused BadFilter
 targets_matching rs page (Some f) = TargetsShown (page_of page (targets_shown rs (filter (matches f) rs.targets)))
 

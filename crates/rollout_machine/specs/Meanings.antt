@@ -5,7 +5,7 @@ use Rattle.rollout_machine.specs.CommandList.{Make, followed_by, ◌▸◌, Comm
 use Rattle.rollout_machine.specs.Commands.{CanceledCancel, Bad, Feedback, Start, CancelFeedback, Resume, Outcome, Pause, Gone, TriggerNext, Command, TargetRow, Failed, ClosedCancel, PutTargets, Succeeded, Good, Bytes, Cancel, Attribute, PutAttributes}
 use Rattle.rollout_machine.specs.Counts.{success_holds, error_holds}
 use Rattle.rollout_machine.specs.Effects.{IsInGroup}
-use Rattle.rollout_machine.specs.Filters.{pattern_matches}
+
 use Rattle.rollout_machine.specs.Offers.{Offer, offer}
 use Rattle.rollout_machine.specs.Progress.{is_paused, is_group_started}
 use Rattle.rollout_machine.specs.Records.{records, group_in}
@@ -89,15 +89,6 @@ ValueIsLast = (t k : Bytes) (h : CommandList) → value_of k (attributes_in t h)
 -- a word is among the listed tags where the last command that spoke of it says so
 abbrev pub TagsAreSaid : Type 0
 TagsAreSaid = (t x : Bytes) (h : CommandList) → contains_word x (tags_in t h) ≡ has_tag t x h
-
--- ---- patterns: the pieces in order, with some text in each place of a star
-abbrev pub IsFilled : List (Option ℕ) → Bytes → Type 0
-IsFilled [] text = text ≡ []
-IsFilled (Some a ∷ ps) text = (rest : Bytes) × (text ≡ a ∷ rest) × IsFilled ps rest
-IsFilled (None ∷ ps) text = (some rest : Bytes) × (text ≡ some ++ rest) × IsFilled ps rest
-
-abbrev pub PatternIsFilled : Type 0
-PatternIsFilled = (p : List (Option ℕ)) (text : Bytes) → (pattern_matches p text ≡ true → IsFilled p text) × (IsFilled p text → pattern_matches p text ≡ true)
 
 -- ---- the first command on the action that gives an outcome
 abbrev pub Says : CommandList → Command → ℕ → ℕ → Outcome → Type 0

@@ -6,7 +6,7 @@ use Rattle.rollout_machine.specs.ByteStrings.{item_numbered, same_bytes, bytes_b
 use Rattle.rollout_machine.specs.Commands.{Bytes, TargetRow, RolloutPlan, Command, AddModule, AddArtifact, AddSet, PutTargets, Tag, Untag, PutAttributes, CreateRollout, Approve, Deny, Start, Pause, Resume, TriggerNext, Cancel, Feedback, CancelFeedback, Outcome, Good, Bad, Gone}
 use Rattle.rollout_machine.specs.Counts.{is_outcome}
 use Rattle.rollout_machine.specs.Effects.{feedback_pauses, good_after, starts_next, next_if}
-use Rattle.rollout_machine.specs.Filters.{filter_of}
+use Rattle.target_filter.specs.Profile.{filter_of}
 use Rattle.rollout_machine.specs.Ranges.{each_from}
 use Rattle.rollout_machine.specs.Records.{artifact_from, Waiting, Denied, Given, GroupRecord, RolloutRecord, ActionRecord, Records}
 use Rattle.rollout_machine.specs.Rollouts.{success_at, error_at, bounds_at, chosen}

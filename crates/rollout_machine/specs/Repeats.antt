@@ -1,5 +1,7 @@
 -- Repeats, imports that come twice, and the command list without them.
 use Rattle.rollout_machine.specs.Actions.{ActionPlace, action_place, outcome}
+use Rattle.rollout_machine.specs.Answers.{answer}
+use Rattle.rollout_machine.specs.Requests.{Asked}
 use Rattle.rollout_machine.specs.ByteStrings.{same_bytes}
 use Rattle.rollout_machine.specs.CommandList.{◌▸◌, Make, CommandList}
 use Rattle.rollout_machine.specs.Commands.{PutTargets, TargetRow, Feedback, CancelFeedback, Bytes, Command}
@@ -54,11 +56,12 @@ abbrev pub calm : CommandList → CommandList
 calm (Make approval) = Make approval
 calm (h ▸ c) = cond (is_repeat h c || is_doubled h c) (calm h) (calm h ▸ c)
 
--- repeats and doubled imports leave no trace: in the records, and so in the verdict on every command
+-- repeats and doubled imports leave no trace: in the records, and so in the verdict on every command and in every answer
 pub record IsTraceless (h : CommandList) : Type 0 where
   pub valid : IsValid (calm h)
   pub same : records h ≡ records (calm h)
   pub verdicts : (c : Command) → verdict h c ≡ verdict (calm h) c
+  pub answers : (asked : Asked) → answer h asked ≡ answer (calm h) asked
 
 abbrev pub RepeatsLeaveNoTrace : Type 0
 RepeatsLeaveNoTrace = (h : CommandList) → IsValid h → IsTraceless h

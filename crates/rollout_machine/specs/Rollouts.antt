@@ -3,7 +3,9 @@ use Rattle.std.specs.Prelude.{ℕ, List, [], ◌∷◌, ◌++◌, map, filter, l
 use Rattle.rollout_machine.specs.ByteStrings.{item_numbered}
 use Rattle.rollout_machine.specs.CommandList.{CommandList, Make, ◌▸◌}
 use Rattle.rollout_machine.specs.Commands.{Bytes, RolloutPlan, Command, CreateRollout}
-use Rattle.rollout_machine.specs.Filters.{Filter, matches, filter_of}
+use Rattle.rollout_machine.specs.Filters.{matches}
+use Rattle.target_filter.specs.Profile.{filter_of}
+use Rattle.target_filter.specs.Grammar.{Tree}
 use Rattle.rollout_machine.specs.Groups.{bounds_of, size_of_bounds}
 use Rattle.rollout_machine.specs.Targets.{Target, targets}
 use Rattle.rollout_machine.specs.declared.bounds.Bounds.{Bounds}
@@ -12,7 +14,7 @@ pub record Rollout : Type 0 where
   pub plan : RolloutPlan
   pub members : List Bytes
 
-abbrev pub chosen : Option Filter → List Target → List Bytes
+abbrev pub chosen : Option Tree → List Target → List Bytes
 chosen None ts = []
 chosen (Some f) ts = map (λ (t : Target). t.id) (filter (matches f) ts)
 

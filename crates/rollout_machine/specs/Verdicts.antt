@@ -7,7 +7,7 @@ use Rattle.rollout_machine.specs.CommandList.{CommandList}
 use Rattle.rollout_machine.specs.Commands.{Bytes, Credential, TargetRow, Attribute, ModuleLabel, SetLabel, Upload, RolloutPlan, NotedCancel, Command, AddModule, AddArtifact, AddSet, PutTargets, Tag, Untag, PutAttributes, CreateRollout, Approve, Deny, Start, Pause, Resume, TriggerNext, Cancel, Feedback, CancelFeedback, Outcome}
 use Rattle.rollout_machine.specs.Counts.{is_outcome}
 use Rattle.rollout_machine.specs.Digests.{digest_of}
-use Rattle.rollout_machine.specs.Filters.{filter_of}
+use Rattle.target_filter.specs.Profile.{filter_of}
 use Rattle.rollout_model.specs.Limits.{rollout_limit, module_limit, set_limit, module_artifact_limit, artifact_limit, target_limit, tag_limit, attribute_limit, note_limit}
 use Rattle.rollout_machine.specs.Records.{ArtifactRecord, GroupRecord, RolloutRecord, ActionRecord, Records, records}
 use Rattle.rollout_model.specs.declared.refusal.Refusal.{Refusal}

@@ -1,6 +1,7 @@
 //! What the definitions of the machine mean: laws of all command lists.
 
-ghost use Rattle.rollout_machine.specs.Meanings.{NumbersActions, NumbersDiffer, RowIsLast, TagsAreSaid, PatternIsFilled, OutcomeIsFirst, CancelingIsLast, PausedIs, FirstStartedIs, StartedIs, FinalIsAll, OfferIsLeast, TargetsAreNamed, ValueIsLast};
+ghost use Rattle.rollout_machine.specs.Meanings.{NumbersActions, NumbersDiffer, RowIsLast, TagsAreSaid, OutcomeIsFirst, CancelingIsLast, PausedIs, FirstStartedIs, StartedIs, FinalIsAll, OfferIsLeast, TargetsAreNamed, ValueIsLast};
+ghost use Rattle.rollout_machine.specs.Promises.{OneGroupStarts, NoGroupIsLeft, NamedIsOfferable, DownloadsAreOffered, StoredSayAll, DerivedFollow};
 ghost use Rattle.rollout_machine.specs.Repeats.{RepeatsLeaveNoTrace};
 ghost use Rattle.rollout_machine.specs.Validity.{StepsRecords};
 
@@ -37,11 +38,6 @@ pub fn value_is_last()
 /// A tag is listed where the last command that spoke of it says so.
 pub fn tags_are_said()
     ensures { TagsAreSaid }
-{}
-
-/// A pattern matches the texts that are its pieces in order with some text in each place of a star.
-pub fn pattern_is_filled()
-    ensures { PatternIsFilled }
 {}
 
 /// An action's outcome is that of the first command that gives it one.
@@ -82,4 +78,34 @@ pub fn repeats_leave_no_trace()
 /// A group's counts add up to its size where each of its members has an outcome.
 pub fn final_is_all()
     ensures { FinalIsAll }
+{}
+
+/// A command starts at most one group of a rollout.
+pub fn one_group_starts()
+    ensures { OneGroupStarts }
+{}
+
+/// After a command no group is left to start.
+pub fn no_group_is_left()
+    ensures { NoGroupIsLeft }
+{}
+
+/// An action that an answer to a device names is open, and its group is started.
+pub fn named_is_offerable()
+    ensures { NamedIsOfferable }
+{}
+
+/// A device gets artifacts of what it is offered as a deployment, and no others.
+pub fn downloads_are_offered()
+    ensures { DownloadsAreOffered }
+{}
+
+/// The counts of groups are those of their actions: the stored kinds of records say all.
+pub fn stored_say_all()
+    ensures { StoredSayAll }
+{}
+
+/// The derived kinds of records follow from the stored ones.
+pub fn derived_follow()
+    ensures { DerivedFollow }
 {}

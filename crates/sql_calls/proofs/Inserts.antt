@@ -1,5 +1,5 @@
 -- What INSERT .. VALUES does, for any schema.
-use Rattle.std.proofs.Common.{[], ◌≡◌, ◌⊎◌, inl, inr, ℕ, ◌/◌, List, length, slice_get, false, Option, Some, None, Ok, Err, Result, sym, ap, subst, ◌∙◌}
+use Rattle.std.proofs.Common.{[], ◌∷◌, ◌≡◌, ◌⊎◌, inl, inr, ℕ, ◌/◌, ◌==◌, ◌&&◌, Bool, true, cond, flat_map, filter_map, refl, List, length, slice_get, false, Option, Some, None, Ok, Err, Result, sym, ap, subst, ◌∙◌}
 use Rattle.sqlite.specs.Order.{Row}
 use Rattle.sqlite.specs.Tree.{Trees}
 use Rattle.sqlite.specs.Term.{Term}
@@ -10,7 +10,10 @@ use Rattle.sqlite.specs.Source.{Source}
 use Rattle.sqlite.specs.Source.TheVariants.{Values}
 use Rattle.sqlite.specs.Command.TheVariants.{Insert}
 use Rattle.sqlite.specs.Edit.{edit_of, Applies, taken_by}
-use Rattle.sqlite_rules.specs.Action.{works, Writes as Edits}
+use Rattle.sqlite_schema.specs.declared.schema.Reference.{Reference}
+use Rattle.sqlite_schema.specs.Rules.{ParentKey}
+use Rattle.sqlite_rules.specs.declared.action.Deed.{Deed}
+use Rattle.sqlite_rules.specs.Action.{work_by, work_for, works, Writes as Edits}
 use Rattle.sqlite.specs.Rowids.TheVariants.{Chosen}
 use Rattle.sqlite.specs.Does.{Tally, Does, OnRows}
 use Rattle.sqlite.specs.Rows.{Written, Task, Inserts, stamped}
@@ -51,16 +54,37 @@ inserted_in limit schema table params from db w h =
     let trees : w.trees ≡ written.0 = ap (λ (it : Written). it.trees) (same_value counted.2) ∙ same_value counted.1 in
     (given.0, given.1, subst (λ next. Edits schema Enforced db (edit_of db (uncounted table) [] Chosen 0 given.0) (Ok next)) (sym trees) written.1)
 
-placed : (schema : Schema) (table : Table) (db next : Trees) (rows wanted : List Row) → rows ≡ wanted → IsQuiet schema table → Edits schema Enforced db (edit_of db table [] Chosen 0 rows) (Ok next)
-    → Applies schema Enforced db (edit_of db table [] Chosen 0 wanted) next
-placed schema table db next rows wanted same quiet h =
-    let edit = edit_of db table [] Chosen 0 rows in
-    subst (λ rs. Applies schema Enforced db (edit_of db table [] Chosen 0 rs) next) same (one_step schema Enforced db next edit (quiet (taken_by db edit) edit.news) h)
+never_both : {W : Type 0} (b : Bool) (w : W) → cond (b && false) (Some w) None ≡ None
+never_both true w = refl
+never_both false w = refl
 
-pub inserts : (schema : Schema) (at : ℕ) (table : Table) (terms : List Term) (width : ℕ) → slice_get schema.tables at ≡ Some (uncounted table) → IsQuiet schema (uncounted table)
+-- no foreign key acts where no row is taken away
+no_work : (depth tree : ℕ) (child : Table) (ref : Reference) (deed : Option Deed) (key : Option ParentKey) → work_by depth tree [] child ref deed key ≡ None
+no_work depth tree child ref None key = refl
+no_work depth tree child ref (Some deed) None = refl
+no_work depth tree child ref (Some deed) (Some key) = never_both (key.0 == tree) _
+
+none_for : {A B : Type 0} (f : A → Option B) → ((x : A) → f x ≡ None) → (xs : List A) → filter_map f xs ≡ []
+none_for f none [] = refl
+none_for f none (x ∷ xs) = rw (none x) (none_for f none xs)
+
+pub no_works : (schema : Schema) (tree : ℕ) (news : List Row) → works schema Enforced 0 tree [] news ≡ []
+no_works schema tree news = go schema.tables
+  where
+    go : (tables : List Table) → flat_map (λ (child : Table). filter_map (work_for schema Enforced 0 tree [] news child) child.references) tables ≡ []
+    go [] = refl
+    go (child ∷ more) = rw (none_for (work_for schema Enforced 0 tree [] news child) (λ ref. no_work 0 tree child ref _ _) child.references) (go more)
+
+placed : (schema : Schema) (table : Table) (db next : Trees) (rows wanted : List Row) → rows ≡ wanted → Edits schema Enforced db (edit_of db table [] Chosen 0 rows) (Ok next)
+    → Applies schema Enforced db (edit_of db table [] Chosen 0 wanted) next
+placed schema table db next rows wanted same h =
+    let edit = edit_of db table [] Chosen 0 rows in
+    subst (λ rs. Applies schema Enforced db (edit_of db table [] Chosen 0 rs) next) same (one_step schema Enforced db next edit (no_works schema table.tree edit.news) h)
+
+pub inserts : (schema : Schema) (at : ℕ) (table : Table) (terms : List Term) (width : ℕ) → slice_get schema.tables at ≡ Some (uncounted table)
     → (old new : State) → old.now.schema ≡ schema → (text : List ℕ) (params : Row) (count : ℕ) → Writes old new None (Insert at (Values terms width)) text params count
     → Inserted schema (uncounted table) (given_rows (uncounted table) params terms width) old.now new.now
-inserts schema at table terms width there quiet old new has text params count w =
+inserts schema at table terms width there old new has text params count w =
     let db = old.now.trees in
     let on = subst (λ s. Does old.step_limit (mode_of old) params (record old.now { schema = s }) text None (Insert at (Values terms width)) (Ok (w.tally, new.now))) has w.changed in
     let task : Task = record { limit = old.step_limit; keys = Enforced; schema = schema; table = uncounted table; params = params } in
@@ -70,5 +94,5 @@ inserts schema at table terms width there quiet old new has text params count w 
     let made = inserted_in old.step_limit schema table params (Values terms width) db done.0 done.1 in
     record {
       schema_is = ap (λ (d : Database). d.schema) now;
-      applies = placed schema (uncounted table) db new.now.trees made.0 _ made.1.1 quiet (subst (λ next. Edits schema Enforced db (edit_of db (uncounted table) [] Chosen 0 made.0) (Ok next)) (sym (ap (λ (d : Database). d.trees) now)) made.2);
+      applies = placed schema (uncounted table) db new.now.trees made.0 _ made.1.1 (subst (λ next. Edits schema Enforced db (edit_of db (uncounted table) [] Chosen 0 made.0) (Ok next)) (sym (ap (λ (d : Database). d.trees) now)) made.2);
     }

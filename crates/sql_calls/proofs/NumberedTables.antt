@@ -90,7 +90,7 @@ module _ {X : Type 0} (f : ℕ → X → Row) (ids : (n : ℕ) (x : X) → rowid
 -- ---- with the statements
 
 module _ {X : Type 0} (f : ℕ → X → Row) (ids : (n : ℕ) (x : X) → rowid (f n x) ≡ Int (pos n)) where
-  filter_numbered : (p : Row → Bool) (k n : ℕ) (xs : List X) → ((m : ℕ) (x : X) → p (f m x) ≡ has_number f ids k (f m x)) → filter p (rows_from f n xs) ≡ filter (has_number f ids k) (rows_from f n xs)
+  pub filter_numbered : (p : Row → Bool) (k n : ℕ) (xs : List X) → ((m : ℕ) (x : X) → p (f m x) ≡ has_number f ids k (f m x)) → filter p (rows_from f n xs) ≡ filter (has_number f ids k) (rows_from f n xs)
   filter_numbered p k n [] is = refl
   filter_numbered p k n (x ∷ xs) is = rw (is n x, filter_numbered p k (n + 1) xs is) refl
 

@@ -1,5 +1,5 @@
 -- A fleet of ten devices, and runs over it: what the worked examples speak of.
-use Rattle.std.specs.Prelude.{ℕ, ◌+◌, replicate, Bool, true, false, ◌&&◌, List, [], ◌∷◌, ◌++◌, map, Option, is_none}
+use Rattle.std.specs.Prelude.{ℕ, codes, ◌+◌, replicate, Bool, true, false, ◌&&◌, List, [], ◌∷◌, ◌++◌, map, Option, is_none}
 use Rattle.std.specs.Option.{option_map}
 use Rattle.rollout_machine.specs.ByteStrings.{item_numbered}
 use Rattle.rollout_machine.specs.CommandList.{CommandList, Make, followed_by}
@@ -27,10 +27,10 @@ plan_for text name groups success error = record { name = (96 + name) ∷ []; se
 
 -- all of the fleet, and one device
 abbrev pub everyone : Bytes
-everyone = 110 ∷ 42 ∷ []
+everyone = codes "name==*"
 
 abbrev pub only : ℕ → Bytes
-only k = 99 ∷ device k
+only k = codes "controllerid==" ++ device k
 
 abbrev pub set_up : List Command
 set_up = PutTargets fleet ∷ AddModule (record { name = 97 ∷ []; kind = 97 ∷ []; version = 97 ∷ [] }) ∷ AddSet (record { name = 97 ∷ []; version = 97 ∷ []; modules = 1 ∷ [] }) ∷ []

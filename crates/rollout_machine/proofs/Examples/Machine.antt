@@ -3,7 +3,7 @@ use Rattle.rollout_machine.specs.Actions.{outcome}
 use Rattle.rollout_machine.specs.CommandList.{CommandList, Make, ◌▸◌}
 use Rattle.rollout_machine.specs.Commands.{Command, PutTargets, Tag, Untag, PutAttributes, AddModule, AddArtifact, CreateRollout, Start, Pause, Cancel, Feedback, CancelFeedback, Proceeding, Rejected, Noted, NotedCancel, CanceledCancel, Bad, Gone, Succeeded}
 use Rattle.rollout_machine.specs.Digests.{digest_of}
-use Rattle.rollout_machine.specs.Filters.{matches, IsNot, ByAttribute, pattern_matches, pattern_of}
+use Rattle.rollout_machine.specs.Rollouts.{members_of}
 use Rattle.rollout_machine.specs.RecordSteps.{step_records}
 use Rattle.rollout_machine.specs.Records.{records, Records}
 use Rattle.rollout_model.specs.declared.refusal.Refusal.TheVariants.{NotFound, Unauthorized, ClosedAction, WrongState, Quota}
@@ -12,10 +12,10 @@ use Rattle.rollout_machine.specs.Targets.{target_in, target_ids}
 use Rattle.rollout_machine.specs.Verdicts.{verdict, check}
 use Rattle.rollout_machine.proofs.TargetTies.{same_refl}
 use Rattle.std.proofs.Common.{◌≡◌, true, false, [], ◌∷◌, ◌++◌, Some, None, refl}
-use Rattle.std.specs.Prelude.{replicate}
+use Rattle.std.specs.Prelude.{replicate, codes}
 use Rattle.rollout_machine.proofs.Examples.Fleet.{device, row_for, plan_for, only, everyone, rolled_out, by, succeeds, fails, rejects, history_of, run_of}
 
--- D2: one command names the target twice
+-- one command names the target twice
 abbrev twice : CommandList
 twice = Make false ▸ Tag (device 1) (9 ∷ []) ▸ PutTargets (record { id = device 1; name = 1 ∷ []; digest = 1 ∷ []; tags = (7 ∷ []) ∷ [] } ∷ record { id = device 2; name = 5 ∷ []; digest = 5 ∷ []; tags = [] } ∷ record { id = device 1; name = 2 ∷ []; digest = 2 ∷ []; tags = (8 ∷ []) ∷ (6 ∷ []) ∷ (8 ∷ []) ∷ [] } ∷ [])
 
@@ -65,7 +65,7 @@ same_artifact : (records with_digest).artifacts ≡ (records without_digest).art
 unfolding records
 same_artifact = refl
 
--- D6: force first time is no outcome, second time gone; feedback in between stands
+-- force first time is no outcome, second time gone; feedback in between stands
 force_once : outcome (history_of (rolled_out (only 1) 1 50 100 ++ Cancel (device 1) 1 true ∷ [])) 1 1 ≡ None
 force_once = refl
 
@@ -157,15 +157,6 @@ tw : target_word (records (history_of (rolled_out (only 1) 1 50 100 ++ CreateRol
 unfolding records
 tw = refl
 
--- D4
-d4 : pattern_matches (pattern_of (42 ∷ 97 ∷ 42 ∷ 42 ∷ 98 ∷ [])) (97 ∷ 97 ∷ 120 ∷ 98 ∷ 98 ∷ []) ≡ true
-d4 = refl
-
-d4b : pattern_matches (pattern_of (97 ∷ 42 ∷ 97 ∷ [])) (97 ∷ []) ≡ false
-d4b = refl
-
-d4c : pattern_matches [] [] ≡ true
-d4c = refl
-
-absent : matches (IsNot (ByAttribute (1 ∷ [])) (pattern_of [])) (target_in attr (device 2)) ≡ true
+-- what a filter sees of a target, and `!=` of an attribute that isn't there
+absent : members_of (codes "attribute.k!=x") attr ≡ device 1 ∷ device 2 ∷ []
 absent = refl

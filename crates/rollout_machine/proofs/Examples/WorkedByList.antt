@@ -11,21 +11,21 @@ use Rattle.rollout_machine.proofs.Examples.Fleet.{rolled_out, everyone, only, de
 abbrev R : ℕ → ℕ → ℕ → List Command
 R groups success error = rolled_out everyone groups success error
 
-row22 : shown (records (history_of (rolled_out (only 1) 1 100 100 ++ fails 1 1 ∷ []))) 1 ≡ Some (FinishedRollout, (true, 0, 1, 0) ∷ [])
+finished_with_error : shown (records (history_of (rolled_out (only 1) 1 100 100 ++ fails 1 1 ∷ []))) 1 ≡ Some (FinishedRollout, (true, 0, 1, 0) ∷ [])
 unfolding records
-row22 = refl
+finished_with_error = refl
 
-row8 : shown (records (history_of (R 3 50 100 ++ succeeds 1 1 ∷ succeeds 2 2 ∷ []))) 1 ≡ Some (RunningRollout, (true, 2, 0, 0) ∷ (true, 0, 0, 0) ∷ (false, 0, 0, 0) ∷ [])
+second_success_starts : shown (records (history_of (R 3 50 100 ++ succeeds 1 1 ∷ succeeds 2 2 ∷ []))) 1 ≡ Some (RunningRollout, (true, 2, 0, 0) ∷ (true, 0, 0, 0) ∷ (false, 0, 0, 0) ∷ [])
 unfolding records
-row8 = refl
+second_success_starts = refl
 
-row10 : offered (records (history_of (R 3 50 100 ++ Pause 1 ∷ succeeds 1 1 ∷ succeeds 2 2 ∷ Resume 1 ∷ []))) 4 ≡ Some (4, false)
+offered_after_resume : offered (records (history_of (R 3 50 100 ++ Pause 1 ∷ succeeds 1 1 ∷ succeeds 2 2 ∷ Resume 1 ∷ []))) 4 ≡ Some (4, false)
 unfolding records
-row10 = refl
+offered_after_resume = refl
 
-row15_forced : offered (records (history_of (rolled_out (only 1) 1 50 100 ++ CreateRollout (plan_for (only 1) 2 1 50 100) ∷ Start 2 ∷ Cancel (device 1) 1 false ∷ rejects 1 1 ∷ Cancel (device 1) 1 false ∷ Cancel (device 1) 1 true ∷ []))) 1 ≡ Some (2, false)
+next_is_offered : offered (records (history_of (rolled_out (only 1) 1 50 100 ++ CreateRollout (plan_for (only 1) 2 1 50 100) ∷ Start 2 ∷ Cancel (device 1) 1 false ∷ rejects 1 1 ∷ Cancel (device 1) 1 false ∷ Cancel (device 1) 1 true ∷ []))) 1 ≡ Some (2, false)
 unfolding records
-row15_forced = refl
+next_is_offered = refl
 
 -- twenty commands
 abbrev long : List Command
@@ -36,6 +36,6 @@ unfolding records
 twenty = refl
 
 -- such histories are valid
-valid8 : IsValid (history_of (R 3 50 100 ++ succeeds 1 1 ∷ succeeds 2 2 ∷ []))
+valid_list : IsValid (history_of (R 3 50 100 ++ succeeds 1 1 ∷ succeeds 2 2 ∷ []))
 unfolding is_utf8 chars encode records
-valid8 = (((((((tt, refl, refl), refl, refl), refl, refl), refl, refl), refl, refl), refl, refl), refl, refl)
+valid_list = (((((((tt, refl, refl), refl, refl), refl, refl), refl, refl), refl, refl), refl, refl), refl, refl)

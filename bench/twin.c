@@ -1,0 +1,256 @@
+// The same server over the system's SQLite, for comparison: WAL, synchronous FULL, one transaction a command.
+// It takes the command line and the requests of `fwdesk run --db PATH --interface mgmt`, and gives the same replies.
+#include <sqlite3.h>
+#include <stdint.h>
+#include <stdio.h>
+#include <stdlib.h>
+#include <string.h>
+#include <unistd.h>
+
+enum { HEAD_LIMIT = 8192, BODY_LIMIT = 1048576, TEXT_LIMIT = 128, MODULE_LIMIT = 1000 };
+
+typedef struct { char bytes[TEXT_LIMIT + 1]; size_t len; } Text;
+typedef struct { Text name, type, version; } Label;
+
+static sqlite3 *db;
+static sqlite3_stmt *begin, *commit, *rollback, *find_label, *last_number, *put_module, *get_module;
+
+static void die(const char *what) {
+    fprintf(stderr, "%s: %s\n", what, db ? sqlite3_errmsg(db) : "");
+    exit(1);
+}
+
+// ---- the store
+
+static sqlite3_stmt *prepared(const char *text) {
+    sqlite3_stmt *statement;
+    if (sqlite3_prepare_v2(db, text, -1, &statement, NULL) != SQLITE_OK) die("prepare");
+    return statement;
+}
+
+static void open_store(const char *path) {
+    if (sqlite3_open(path, &db) != SQLITE_OK) die("open");
+    const char *setup =
+        "PRAGMA locking_mode=EXCLUSIVE; PRAGMA journal_mode=WAL; PRAGMA synchronous=FULL; BEGIN;"
+        "CREATE TABLE IF NOT EXISTS desk (id INTEGER PRIMARY KEY, format TEXT NOT NULL, version INTEGER NOT NULL, approval INTEGER NOT NULL) STRICT;"
+        "CREATE TABLE IF NOT EXISTS module (number INTEGER PRIMARY KEY, name TEXT NOT NULL, type TEXT NOT NULL, version TEXT NOT NULL, UNIQUE (name, type, version)) STRICT;"
+        "INSERT OR IGNORE INTO desk (id, format, version, approval) VALUES (1, 'fwdesk', 1, 0);"
+        "COMMIT;";
+    if (sqlite3_exec(db, setup, NULL, NULL, NULL) != SQLITE_OK) die("setup");
+    begin = prepared("BEGIN IMMEDIATE");
+    commit = prepared("COMMIT");
+    rollback = prepared("ROLLBACK");
+    find_label = prepared("SELECT number FROM module WHERE name = ?1 AND type = ?2 AND version = ?3");
+    last_number = prepared("SELECT number FROM module ORDER BY number DESC LIMIT 1");
+    put_module = prepared("INSERT INTO module (number, name, type, version) VALUES (?1, ?2, ?3, ?4)");
+    get_module = prepared("SELECT name, type, version FROM module WHERE number = ?1");
+}
+
+static int row_of(sqlite3_stmt *statement) {
+    int answer = sqlite3_step(statement);
+    if (answer != SQLITE_ROW && answer != SQLITE_DONE) die("step");
+    return answer == SQLITE_ROW;
+}
+
+static void done(sqlite3_stmt *statement) {
+    if (sqlite3_step(statement) != SQLITE_DONE) die("step");
+    sqlite3_reset(statement);
+}
+
+static void bind_label(sqlite3_stmt *statement, int first, const Label *label) {
+    sqlite3_bind_text(statement, first, label->name.bytes, (int)label->name.len, SQLITE_STATIC);
+    sqlite3_bind_text(statement, first + 1, label->type.bytes, (int)label->type.len, SQLITE_STATIC);
+    sqlite3_bind_text(statement, first + 2, label->version.bytes, (int)label->version.len, SQLITE_STATIC);
+}
+
+// The new number, or the refusal's number negated.
+static int64_t add_module(const Label *label) {
+    done(begin);
+    bind_label(find_label, 1, label);
+    int exists = row_of(find_label);
+    sqlite3_reset(find_label);
+    int64_t last = row_of(last_number) ? sqlite3_column_int64(last_number, 0) : 0;
+    sqlite3_reset(last_number);
+    if (exists || last >= MODULE_LIMIT) {
+        done(rollback);
+        return exists ? -5 : -10;
+    }
+    sqlite3_bind_int64(put_module, 1, last + 1);
+    bind_label(put_module, 2, label);
+    done(put_module);
+    done(commit);
+    return last + 1;
+}
+
+// ---- JSON
+
+static const char *skip_space(const char *at, const char *end) {
+    while (at < end && (*at == ' ' || *at == '\t' || *at == '\r' || *at == '\n')) at++;
+    return at;
+}
+
+// What follows the byte, or NULL.
+static const char *after(const char *at, const char *end, char byte) {
+    if (!at) return NULL;
+    at = skip_space(at, end);
+    return at < end && *at == byte ? at + 1 : NULL;
+}
+
+static const char *read_text(const char *at, const char *end, Text *text) {
+    at = after(at, end, '"');
+    text->len = 0;
+    while (at && at < end && *at != '"') {
+        char byte = *at++;
+        if (byte == '\\') {
+            if (at == end || (*at != '"' && *at != '\\' && *at != '/')) return NULL;
+            byte = *at++;
+        }
+        if ((unsigned char)byte < 32 || byte == 127 || text->len == TEXT_LIMIT) return NULL;
+        text->bytes[text->len++] = byte;
+    }
+    return at && at < end ? at + 1 : NULL;
+}
+
+static Text *member_of(Label *label, const Text *key) {
+    if (key->len == 4 && !memcmp(key->bytes, "name", 4)) return &label->name;
+    if (key->len == 4 && !memcmp(key->bytes, "type", 4)) return &label->type;
+    if (key->len == 7 && !memcmp(key->bytes, "version", 7)) return &label->version;
+    return NULL;
+}
+
+// Whether the body is an array of one object with the three texts, in any order.
+static int read_label(const char *body, size_t len, Label *label) {
+    const char *end = body + len, *at = after(after(body, end, '['), end, '{');
+    memset(label, 0, sizeof *label);
+    while (at) {
+        Text key;
+        at = after(read_text(at, end, &key), end, ':');
+        Text *member = at ? member_of(label, &key) : NULL;
+        at = member ? read_text(at, end, member) : NULL;
+        const char *more = at ? after(at, end, ',') : NULL;
+        if (!more) break;
+        at = more;
+    }
+    at = after(after(at, end, '}'), end, ']');
+    return at && skip_space(at, end) == end && label->name.len && label->type.len && label->version.len;
+}
+
+static size_t put_text(char *to, const char *bytes, size_t len) {
+    size_t size = 0;
+    to[size++] = '"';
+    for (size_t i = 0; i < len; i++) {
+        if (bytes[i] == '"' || bytes[i] == '\\') to[size++] = '\\';
+        to[size++] = bytes[i];
+    }
+    to[size++] = '"';
+    return size;
+}
+
+static size_t put_module_object(char *to, int64_t number, const char *texts[3], const size_t lens[3]) {
+    size_t size = (size_t)sprintf(to, "{\"id\":%lld,\"locked\":false,\"name\":", (long long)number);
+    size += put_text(to + size, texts[0], lens[0]);
+    size += (size_t)sprintf(to + size, ",\"type\":");
+    size += put_text(to + size, texts[1], lens[1]);
+    size += (size_t)sprintf(to + size, ",\"version\":");
+    size += put_text(to + size, texts[2], lens[2]);
+    to[size++] = '}';
+    return size;
+}
+
+// ---- messages
+
+static void send_all(const char *bytes, size_t len) {
+    while (len) {
+        ssize_t count = write(1, bytes, len);
+        if (count <= 0) die("write");
+        bytes += count;
+        len -= (size_t)count;
+    }
+}
+
+static void reply(const char *status, const char *body, size_t len) {
+    static char text[4096];
+    size_t size = (size_t)sprintf(text, "HTTP/1.1 %s\r\nContent-Type: application/json\r\nContent-Length: %zu\r\n\r\n", status, len);
+    memcpy(text + size, body, len);
+    send_all(text, size + len);
+}
+
+static void refuse(const char *status, const char *name, int number) {
+    char body[128];
+    reply(status, body, (size_t)sprintf(body, "{\"error\":\"%s\",\"number\":%d}", name, number));
+}
+
+static void answer_post(const char *body, size_t len) {
+    Label label;
+    if (!read_label(body, len, &label)) return refuse("400 Bad Request", "bad_request", 1);
+    int64_t number = add_module(&label);
+    if (number == -5) return refuse("409 Conflict", "exists", 5);
+    if (number == -10) return refuse("403 Forbidden", "quota", 10);
+    char text[2048];
+    const char *texts[3] = {label.name.bytes, label.type.bytes, label.version.bytes};
+    const size_t lens[3] = {label.name.len, label.type.len, label.version.len};
+    text[0] = '[';
+    size_t size = 1 + put_module_object(text + 1, number, texts, lens);
+    text[size++] = ']';
+    reply("201 Created", text, size);
+}
+
+static void answer_get(int64_t number) {
+    sqlite3_bind_int64(get_module, 1, number);
+    if (row_of(get_module)) {
+        char text[2048];
+        const char *texts[3];
+        size_t lens[3];
+        for (int i = 0; i < 3; i++) {
+            texts[i] = (const char *)sqlite3_column_text(get_module, i);
+            lens[i] = (size_t)sqlite3_column_bytes(get_module, i);
+        }
+        reply("200 OK", text, put_module_object(text, number, texts, lens));
+    } else {
+        refuse("404 Not Found", "not_found", 3);
+    }
+    sqlite3_reset(get_module);
+}
+
+static void answer(const char *head, const char *body, size_t len) {
+    const char *post = "POST /rest/v1/softwaremodules HTTP/1.1\r\n", *get = "GET /rest/v1/softwaremodules/";
+    if (!strncmp(head, post, strlen(post))) return answer_post(body, len);
+    if (!strncmp(head, get, strlen(get))) return answer_get(atoll(head + strlen(get)));
+    refuse("404 Not Found", "not_found", 3);
+}
+
+// The number of bytes that the first message takes, or 0 where it isn't whole.
+static size_t answer_first(char *bytes, size_t len) {
+    char *end = memmem(bytes, len < HEAD_LIMIT ? len : HEAD_LIMIT, "\r\n\r\n", 4);
+    if (!end) return 0;
+    size_t head = (size_t)(end - bytes) + 4, body = 0;
+    char kept = end[2];
+    end[2] = 0;
+    char *field = strcasestr(bytes, "\r\nContent-Length:");
+    if (field) body = strtoul(field + 17, NULL, 10);
+    end[2] = kept;
+    if (body > BODY_LIMIT || len - head < body) return 0;
+    answer(bytes, bytes + head, body);
+    return head + body;
+}
+
+int main(int count, char **words) {
+    const char *path = NULL;
+    for (int i = 1; i + 1 < count; i++)
+        if (!strcmp(words[i], "--db")) path = words[i + 1];
+    if (!path) die("run --db PATH --interface mgmt");
+    open_store(path);
+    static char bytes[HEAD_LIMIT + BODY_LIMIT + 65536];
+    size_t len = 0;
+    for (;;) {
+        ssize_t got = read(0, bytes + len, 65536);
+        if (got <= 0) break;
+        len += (size_t)got;
+        size_t at = 0, taken;
+        while ((taken = answer_first(bytes + at, len - at))) at += taken;
+        memmove(bytes, bytes + at, len -= at);
+    }
+    sqlite3_stmt *all[] = {begin, commit, rollback, find_label, last_number, put_module, get_module};
+    for (size_t i = 0; i < sizeof all / sizeof *all; i++) sqlite3_finalize(all[i]);
+    return sqlite3_close(db) != SQLITE_OK;
+}

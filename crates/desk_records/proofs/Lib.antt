@@ -1,0 +1,4 @@
+pub mod Meaning
+pub mod HoldsAfter
+mod RowLemmas
+pub mod Modules

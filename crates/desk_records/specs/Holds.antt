@@ -1,0 +1,45 @@
+-- When tables hold the records of a desk.
+use Rattle.std.specs.Prelude.{◌≡◌, ℕ, Bool, if◌then◌else◌, List, [], ◌∷◌, codes, pos}
+use Rattle.sqlite_value.specs.declared.value.Value.TheVariants.{Null, Int, Text}
+use Rattle.sqlite_value.specs.Order.{Row}
+use Rattle.sqlite.specs.Effect.{Database, IsDatabase}
+use Rattle.sql_front.specs.Stands.{Stands}
+use Rattle.sql_calls.specs.Keyed.{rows_from}
+use Rattle.rollout_machine.specs.Commands.{ModuleLabel}
+use Rattle.rollout_machine.specs.Records.{Records}
+use Rattle.desk_records.specs.Schema.{Place, Desk, Modules, table_at, name_of}
+
+abbrev pub flag : Bool → ℕ
+flag b = if b then 1 else 0
+
+-- format `fwdesk`, version 1
+abbrev pub desk_row : Bool → Row
+desk_row approval = Int (pos 1) ∷ Null ∷ Text (codes "fwdesk") ∷ Int (pos 1) ∷ Int (pos (flag approval)) ∷ []
+
+abbrev pub module_row : ℕ → ModuleLabel → Row
+module_row number m = Int (pos number) ∷ Null ∷ Text m.name ∷ Text m.kind ∷ Text m.version ∷ []
+
+abbrev pub rows_of : Records → Place → List Row
+rows_of r Desk = desk_row r.approval ∷ []
+rows_of r Modules = rows_from module_row 1 r.modules
+
+-- this version has tables for modules alone
+pub record HasModulesAlone (r : Records) : Type 0 where
+  pub artifacts : r.artifacts ≡ []
+  pub sets : r.sets ≡ []
+  pub targets : r.targets ≡ []
+  pub rollouts : r.rollouts ≡ []
+  pub actions : r.actions ≡ []
+
+-- where a table stands: its place among all tables of the database, and its tree
+pub record Spot : Type 0 where
+  pub at : ℕ
+  pub tree : ℕ
+
+-- The tables of the schema stand somewhere among those of others, and have the records as their rows.
+pub record HoldsRecords (db : Database) (r : Records) : Type 0 where
+  pub sound : IsDatabase db
+  pub spot : Place → Spot
+  pub stands : (t : Place) → Stands db.schema (name_of t) (spot t).at (table_at t (spot t).tree)
+  pub rows : (t : Place) → db.trees (spot t).tree ≡ rows_of r t
+  pub bare : HasModulesAlone r

@@ -1,0 +1,4 @@
+pub mod ModuleRow
+pub mod Schema
+pub mod Holds
+pub mod Modules

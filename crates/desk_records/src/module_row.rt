@@ -1,0 +1,66 @@
+//! A module's row.
+
+ghost use Rattle.std.specs.Prelude.{◌≡◌, ◌⊎◌, IfOk, IfErr, true, false, Some};
+ghost use Rattle.sqlite_value.specs.Order.{column};
+ghost use Rattle.desk_records.specs.ModuleRow.{StoredText, has_text, fault_at, IsLabelRow, broken_column};
+
+use rollout_model::{ModuleLabel, Text};
+use sqlite::{Error, ErrorCode, Row};
+use std::alloc::Global;
+
+/// A column that has a rule.
+#[derive(Clone, Copy, Debug, PartialEq, Eq)]
+pub enum Column {
+    ModuleName,
+    ModuleType,
+    ModuleVersion,
+}
+
+/// Why a row gives no record.
+#[derive(Clone, Copy, Debug, PartialEq, Eq)]
+pub enum RowFault {
+    Memory,
+    /// The first column that breaks its rule.
+    Broken(Column),
+}
+
+/// The module in a row of name, type and version.
+pub fn read_module_label(alloc: Global, row: &Row) -> Result<ModuleLabel, RowFault>
+    ensures ok { IfOk result (IsLabelRow row.now) }
+    ensures err { IfErr result (λ e. (e ≡ RowFault.Memory) ⊎ ((c : _) × (e ≡ RowFault.Broken c) × (broken_column row.now ≡ Some c))) }
+{
+    let name = text_at(alloc, row, 0, Column::ModuleName)?;
+    let kind = text_at(alloc, row, 1, Column::ModuleType)?;
+    let version = text_at(alloc, row, 2, Column::ModuleVersion)?;
+    Ok(ModuleLabel {
+        name,
+        kind,
+        version,
+    })
+}
+
+/// The text of a column, where it keeps the rule of names, kinds and versions.
+fn text_at(alloc: Global, row: &Row, at: usize, at_column: Column) -> Result<Text, RowFault>
+    ensures ok { IfOk result (λ text. column row.now at ≡ StoredText text) }
+    ensures kept { IfOk result (λ text. has_text (column row.now at) ≡ true) }
+    ensures err { IfErr result (λ e. (e ≡ RowFault.Memory) ⊎ ((e ≡ RowFault.Broken at_column) × (has_text (column row.now at) ≡ false))) }
+{
+    let text = match row.get::<String>(at) {
+        Ok(text) => text,
+        Err(error) => return Err(row_fault(error, at_column)),
+    };
+    match Text::read(alloc, text.as_str()) {
+        Ok(Some(text)) => Ok(text),
+        Ok(None) => Err(RowFault::Broken(at_column)),
+        Err(_) => Err(RowFault::Memory),
+    }
+}
+
+fn row_fault(error: Error, at_column: Column) -> RowFault
+    ensures { result ≡ fault_at error at_column }
+{
+    match error {
+        Error::SqliteFailure(ErrorCode::OutOfMemory) => RowFault::Memory,
+        _ => RowFault::Broken(at_column),
+    }
+}

@@ -1,0 +1,25 @@
+//! The texts of the schema, version 1, and of the statements.
+
+/// One row, of number 1.
+pub const CREATE_DESK: &str = "CREATE TABLE desk (id INTEGER PRIMARY KEY, format TEXT NOT NULL, version INTEGER NOT NULL, approval INTEGER NOT NULL) STRICT";
+
+/// The k-th module that was added has number k.
+pub const CREATE_MODULE: &str = "CREATE TABLE module (number INTEGER PRIMARY KEY, name TEXT NOT NULL, type TEXT NOT NULL, version TEXT NOT NULL, UNIQUE (name, type, version)) STRICT";
+
+/// The row of `desk`; its parameter is whether rollouts wait for approval.
+pub const PUT_DESK: &str =
+    "INSERT INTO desk (id, format, version, approval) VALUES (1, 'fwdesk', 1, ?1)";
+
+pub const GET_DESK: &str = "SELECT format, version, approval FROM desk WHERE id = 1";
+
+/// The module of a name, a type and a version.
+pub const FIND_MODULE: &str =
+    "SELECT number FROM module WHERE name = ?1 AND type = ?2 AND version = ?3";
+
+/// The last number, which is how many modules there are.
+pub const LAST_MODULE: &str = "SELECT number FROM module ORDER BY number DESC LIMIT 1";
+
+pub const GET_MODULE: &str = "SELECT name, type, version FROM module WHERE number = ?1";
+
+pub const PUT_MODULE: &str =
+    "INSERT INTO module (number, name, type, version) VALUES (?1, ?2, ?3, ?4)";

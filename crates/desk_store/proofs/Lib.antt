@@ -1,0 +1,2 @@
+pub mod ModuleCalls
+pub mod EndLemmas

@@ -1,0 +1,120 @@
+-- The calls on modules.
+use Rattle.std.proofs.Common.{◌≡◌, ◌≤◌, ℕ, ◌+◌, pos, List, [], ◌∷◌, length, Bool, Option, Some, None, Ok, Err, Result, IsErr, IfOk, refl, sym, ap, subst, ◌∙◌}
+use Rattle.std.specs.List.{list_any}
+use Rattle.std.specs.Option.{is_some}
+use Rattle.sqlite_value.specs.declared.value.Value.TheVariants.{Int, Text}
+use Rattle.sqlite_value.specs.Order.{Row, column}
+use Rattle.sqlite.specs.Command.TheVariants.{Select, Insert}
+use Rattle.sqlite.specs.Source.TheVariants.{Values}
+use Rattle.sqlite.specs.Term.{col}
+use Rattle.sqlite.specs.Effect.{Database}
+use Rattle.sqlite.specs.State.{State}
+use Rattle.std.specs.Prelude.{codes}
+use Rattle.sql_calls.specs.declared.fault.Fault.{Fault}
+use Rattle.sql_calls.specs.Calls.{RunsText, TakesFirst}
+use Rattle.sql_calls.specs.Standing.{Reads, Writes}
+use Rattle.sql_calls.proofs.Means.{Known}
+use Rattle.sql_calls.proofs.Changes.{Knows, ShowsFirst}
+use Rattle.sql_calls.proofs.Selects.{simple}
+use Rattle.sql_calls.proofs.TypedCalls.{takes_err, takes_ok, writes}
+use Rattle.rollout_machine.specs.ByteStrings.{item_numbered}
+use Rattle.rollout_machine.specs.Commands.{ModuleLabel}
+use Rattle.rollout_machine.specs.Records.{Records}
+use Rattle.desk_records.specs.declared.texts.TheConstants.{FIND_MODULE, LAST_MODULE, GET_MODULE, PUT_MODULE}
+use Rattle.desk_records.specs.ModuleRow.{IsLabelRow}
+use Rattle.desk_records.specs.Schema.{Modules}
+use Rattle.desk_records.specs.Holds.{HoldsRecords}
+use Rattle.desk_records.specs.Modules.{is_same, words_of, with_module, IsLastRow, IsModuleRow}
+use Rattle.desk_records.proofs.Meaning.{at_key, same_label, label_columns, last_module_query, module_terms, find_module_is, last_module_is, get_module_is, put_module_is}
+use Rattle.desk_records.proofs.Modules.{finds_module, lasts_module, gets_module, adds_module}
+use Rattle.desk_store.specs.Rows.{IsReadAs}
+
+-- ---- what the texts mean where the records are held
+
+abbrev finding : Knows HoldsRecords FIND_MODULE.now
+finding db r holds = record { command = Select (record { lets = []; body = simple (holds.spot Modules).tree same_label (col 1 0 ∷ []) }) (codes "number" ∷ []); means = find_module_is db.schema (holds.spot Modules).at (holds.spot Modules).tree (holds.stands Modules) }
+
+abbrev ending : Knows HoldsRecords LAST_MODULE.now
+ending db r holds = record { command = Select (record { lets = []; body = last_module_query (holds.spot Modules).tree }) (codes "number" ∷ []); means = last_module_is db.schema (holds.spot Modules).at (holds.spot Modules).tree (holds.stands Modules) }
+
+abbrev getting : Knows HoldsRecords GET_MODULE.now
+getting db r holds = record {
+  command = Select (record { lets = []; body = simple (holds.spot Modules).tree (at_key 0 0 ∷ []) label_columns }) (codes "name" ∷ codes "type" ∷ codes "version" ∷ []);
+  means = get_module_is db.schema (holds.spot Modules).at (holds.spot Modules).tree (holds.stands Modules);
+}
+
+abbrev putting : Knows HoldsRecords PUT_MODULE.now
+putting db r holds = record { command = Insert (holds.spot Modules).at (Values module_terms 5); means = put_module_is db.schema (holds.spot Modules).at (holds.spot Modules).tree (holds.stands Modules) }
+
+-- ---- whether there is such a module
+
+abbrev pub Finds : ModuleLabel → Records → Bool → Type 0
+Finds label r found = found ≡ list_any (is_same label) r.modules
+
+pub found : {E : Type 0} (label : ModuleLabel) (old new : State) (row : Option Row) → TakesFirst old new FIND_MODULE.now (words_of label) (Ok row) → Reads HoldsRecords {E = E} old new (Ok (is_some row)) (Finds label)
+found label old new row h = takes_ok HoldsRecords FIND_MODULE.now (words_of label) old new (Finds label) finding (λ db r holds at given. tt) row h (Ok (is_some row)) (λ db now holds shown. finds_module label db now holds (codes "number" ∷ []) row shown)
+
+pub not_found : (params : Row) (label : ModuleLabel) (old new : State) (fault : Fault) → TakesFirst old new FIND_MODULE.now params (Err fault) → (out : Result Bool Fault) → IsErr out → Reads HoldsRecords old new out (Finds label)
+not_found params label old new fault h out bad = takes_err HoldsRecords FIND_MODULE.now params old new (Finds label) finding fault h out bad
+
+-- ---- the last number
+
+abbrev pub IsLast : Records → ℕ → Type 0
+IsLast r last = last ≡ length r.modules
+
+one_last : (row : Option Row) (m n : ℕ) → IsLastRow m row → IsLastRow n row → m ≡ n
+one_last None m n h k = h ∙ sym k
+one_last (Some row) m n h k = let both : Int (pos m) ≡ Int (pos n) = sym h ∙ k in cc
+
+lasts : (row : Option Row) (out : Result ℕ Fault) → IfOk out (λ n. IsLastRow n row)
+    → IfOk out (λ n. (db : Database) (now : Records) (holds : HoldsRecords db now) → ShowsFirst (ending db now holds).command db [] row → n ≡ length now.modules)
+lasts row (Ok n) h = λ db now holds shown. one_last row n (length now.modules) h (lasts_module db now holds (codes "number" ∷ []) row shown)
+lasts row (Err e) h = tt
+
+pub last_read : (old new : State) (row : Option Row) → TakesFirst old new LAST_MODULE.now [] (Ok row) → (out : Result ℕ Fault) → IfOk out (λ n. IsLastRow n row) → Reads HoldsRecords old new out IsLast
+last_read old new row h out is = takes_ok HoldsRecords LAST_MODULE.now [] old new IsLast ending (λ db r holds at given. tt) row h out (lasts row out is)
+
+pub last_not_read : (old new : State) (fault : Fault) → TakesFirst old new LAST_MODULE.now [] (Err fault) → (out : Result ℕ Fault) → IsErr out → Reads HoldsRecords old new out IsLast
+last_not_read old new fault h out bad = takes_err HoldsRecords LAST_MODULE.now [] old new IsLast ending fault h out bad
+
+-- ---- a module by its number
+
+abbrev pub Gets : ℕ → Records → Option ModuleLabel → Type 0
+Gets number r found = found ≡ item_numbered r.modules number
+
+-- a row has one label
+one_label : (a b : ModuleLabel) (row : Row) → IsLabelRow row a → row ≡ words_of b → a ≡ b
+one_label a b row h is =
+    let name : Text a.name ≡ Text b.name = sym h.name ∙ ap (λ r. column r 0) is in
+    let kind : Text a.kind ≡ Text b.kind = sym h.kind ∙ ap (λ r. column r 1) is in
+    let version : Text a.version ≡ Text b.version = sym h.version ∙ ap (λ r. column r 2) is in
+    let first : a.name ≡ b.name = cc in
+    let second : a.kind ≡ b.kind = cc in
+    let third : a.version ≡ b.version = cc in
+    ap (λ n. let it : ModuleLabel = record { name = n; kind = a.kind; version = a.version } in it) first ∙ ap (λ k. let it : ModuleLabel = record { name = b.name; kind = k; version = a.version } in it) second
+    ∙ ap (λ v. let it : ModuleLabel = record { name = b.name; kind = b.kind; version = v } in it) third
+
+one_read : (wanted found : Option ModuleLabel) (row : Option Row) → IsReadAs found row → IsModuleRow wanted row → found ≡ wanted
+one_read wanted found None h is = h ∙ sym is
+one_read wanted found (Some row) h is = h.1 ∙ ap Some (one_label h.0 is.0 row h.2 is.2) ∙ sym is.1
+
+gets : (number : ℕ) → 1 ≤ number → (row : Option Row) (out : Result (Option ModuleLabel) Fault) → IfOk out (λ found. IsReadAs found row)
+    → IfOk out (λ found. (db : Database) (now : Records) (holds : HoldsRecords db now) → ShowsFirst (getting db now holds).command db (Int (pos number) ∷ []) row → found ≡ item_numbered now.modules number)
+gets number least row (Ok found) h = λ db now holds shown. one_read (item_numbered now.modules number) found row h (gets_module number least db now holds (codes "name" ∷ codes "type" ∷ codes "version" ∷ []) row shown)
+gets number least row (Err e) h = tt
+
+pub module_read : (number : ℕ) → 1 ≤ number → (old new : State) (row : Option Row) → TakesFirst old new GET_MODULE.now (Int (pos number) ∷ []) (Ok row) → (out : Result (Option ModuleLabel) Fault) → IfOk out (λ found. IsReadAs found row)
+    → Reads HoldsRecords old new out (Gets number)
+module_read number least old new row h out is = takes_ok HoldsRecords GET_MODULE.now (Int (pos number) ∷ []) old new (Gets number) getting (λ db r holds at given. tt) row h out (gets number least row out is)
+
+pub module_not_read : (params : Row) (number : ℕ) (old new : State) (fault : Fault) → TakesFirst old new GET_MODULE.now params (Err fault) → (out : Result (Option ModuleLabel) Fault) → IsErr out → Reads HoldsRecords old new out (Gets number)
+module_not_read params number old new fault h out bad = takes_err HoldsRecords GET_MODULE.now params old new (Gets number) getting fault h out bad
+
+-- ---- a new module
+
+abbrev pub Puts : ℕ → ModuleLabel → Records → Records → Type 0
+Puts number label r next = (number ≡ length r.modules + 1) × (next ≡ with_module r label)
+
+pub module_written : (number : ℕ) (label : ModuleLabel) (old new : State) (out : Result (Unit {0}) Fault) → RunsText old new PUT_MODULE.now (Int (pos number) ∷ words_of label) out → Writes HoldsRecords old new out (Puts number label)
+module_written number label old new out h = writes HoldsRecords PUT_MODULE.now (Int (pos number) ∷ words_of label) old new (Puts number label) putting (λ db r holds. refl) out h
+    (λ now next change holds count w. (w, subst (HoldsRecords new.now) (sym change.1) (adds_module label number old new _ count now holds change.0 w)))

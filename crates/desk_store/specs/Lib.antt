@@ -1,0 +1,5 @@
+pub mod Faults
+pub mod Rows
+pub mod Counting
+pub mod Texts
+pub mod Lending

@@ -1,0 +1,10 @@
+-- What a row is read as.
+use Rattle.std.specs.Prelude.{◌≡◌, Option, Some, None}
+use Rattle.sqlite_value.specs.Order.{Row}
+use Rattle.rollout_model.specs.declared.module.ModuleLabel.{ModuleLabel}
+use Rattle.desk_records.specs.ModuleRow.{IsLabelRow}
+
+-- no row is no module
+abbrev pub IsReadAs : Option ModuleLabel → Option Row → Type 0
+IsReadAs found None = found ≡ None
+IsReadAs found (Some row) = (label : ModuleLabel) × (found ≡ Some label) × IsLabelRow row label

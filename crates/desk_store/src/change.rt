@@ -1,0 +1,104 @@
+//! A change that is under way.
+
+ghost use Rattle.std.specs.Prelude.{◌≡◌, ◌+◌, length, IfErr};
+ghost use Rattle.std.specs.List.{list_any};
+ghost use Rattle.sqlite.specs.Held.{state};
+ghost use Rattle.sql_calls.specs.Standing.{Reads, Writes, Commits, GivesUp};
+ghost use Rattle.rollout_machine.specs.ByteStrings.{item_numbered};
+ghost use Rattle.desk_records.specs.Holds.{HoldsRecords};
+ghost use Rattle.desk_records.specs.Modules.{is_same, with_module};
+ghost use Rattle.desk_store.specs.Counting.{AddsAtMost};
+
+use crate::reading::{finished, label_in, last_number};
+use crate::store::DeskStore;
+use desk_records::{FIND_MODULE, GET_MODULE, LAST_MODULE, PUT_MODULE};
+use rollout_model::{ModuleLabel, ModuleNo};
+use sql_calls::Fault;
+use sqlite::{Alter, params};
+
+/// A change that is under way. It has to be spent by `commit` or `give_up`, and after a call that failed by `give_up`.
+pub struct OpenChange<'a, S: Alter> {
+    pub(crate) store: &'a mut DeskStore<S>,
+}
+
+impl<'a, S: Alter> OpenChange<'a, S> {
+    /// Whether there is a module of the same name, kind and version.
+    pub fn read_same_module(&mut self, label: &ModuleLabel) -> Result<bool, Fault>
+        ensures same_reference { self.new.store.ghost_name ≡ self.old.store.ghost_name }
+        ensures reads { Reads HoldsRecords (state S.Store self.old.store.now.calls.conn) (state S.Store self.new.store.now.calls.conn) result
+            (λ r found. found ≡ list_any (is_same label.now) r.modules) }
+        ensures work { AddsAtMost 1 self.old.store.now.calls.work self.new.store.now.calls.work }
+    {
+        let row = self.store.calls.first(
+            FIND_MODULE,
+            params![
+                label.name.as_str(),
+                label.kind.as_str(),
+                label.version.as_str()
+            ],
+        )?;
+        Ok(row.is_some())
+    }
+
+    /// The number of the last module, which is how many there are.
+    pub fn read_last_module(&mut self) -> Result<u32, Fault>
+        ensures same_reference { self.new.store.ghost_name ≡ self.old.store.ghost_name }
+        ensures reads { Reads HoldsRecords (state S.Store self.old.store.now.calls.conn) (state S.Store self.new.store.now.calls.conn) result
+            (λ r last. last ≡ length r.modules) }
+        ensures work { AddsAtMost 1 self.old.store.now.calls.work self.new.store.now.calls.work }
+    {
+        let row = self.store.calls.first(LAST_MODULE, &[])?;
+        last_number(row)
+    }
+
+    /// The module of a number. A row that breaks a column's rule is a failed store.
+    pub fn read_module(&mut self, number: ModuleNo) -> Result<Option<ModuleLabel>, Fault>
+        ensures same_reference { self.new.store.ghost_name ≡ self.old.store.ghost_name }
+        ensures reads { Reads HoldsRecords (state S.Store self.old.store.now.calls.conn) (state S.Store self.new.store.now.calls.conn) result
+            (λ r found. found ≡ item_numbered r.modules number) }
+        ensures work { AddsAtMost 1 self.old.store.now.calls.work self.new.store.now.calls.work }
+    {
+        let alloc = self.store.alloc;
+        let row = self.store.calls.first(GET_MODULE, params![number.get()])?;
+        label_in(alloc, row)
+    }
+
+    /// Adds the module of the next number.
+    pub fn write_module(&mut self, number: ModuleNo, label: &ModuleLabel) -> Result<(), Fault>
+        ensures same_reference { self.new.store.ghost_name ≡ self.old.store.ghost_name }
+        ensures writes { Writes HoldsRecords (state S.Store self.old.store.now.calls.conn) (state S.Store self.new.store.now.calls.conn) result
+            (λ r next. (number ≡ length r.modules + 1) × (next ≡ with_module r label.now)) }
+        ensures work { AddsAtMost 0 self.old.store.now.calls.work self.new.store.now.calls.work }
+    {
+        self.store.calls.run(
+            PUT_MODULE,
+            params![
+                number.get(),
+                label.name.as_str(),
+                label.kind.as_str(),
+                label.version.as_str()
+            ],
+        )
+    }
+
+    /// Commits the change. At `Ok` every crash leaves it, and at `Err`, which is `Store`, it or the records before it.
+    pub fn commit(self) -> Result<(), Fault>
+        ensures commits { Commits HoldsRecords (state S.Store self.entry.store.now.calls.conn) (state S.Store self.exit.0.now.calls.conn) result }
+        ensures store { IfErr result (λ e. e ≡ Fault.Store) }
+    {
+        let OpenChange { store } = self;
+        finished(store.calls.commit())
+    }
+
+    /// Gives the change up. At `Ok` the records stand as before it. An `Err` is `Store`.
+    pub fn give_up(self) -> Result<(), Fault>
+        ensures gives_up { GivesUp HoldsRecords (state S.Store self.entry.store.now.calls.conn) (state S.Store self.exit.0.now.calls.conn) result }
+        ensures store { IfErr result (λ e. e ≡ Fault.Store) }
+    {
+        let OpenChange { store } = self;
+        if store.calls.is_autocommit() {
+            return Ok(());
+        }
+        finished(store.calls.roll_back())
+    }
+}

@@ -1,0 +1,10 @@
+//! The store of a desk: typed reads and writes of records in one change at a time, which is kept whole or not at all.
+#![tactic(auto)]
+
+mod change;
+mod reading;
+mod store;
+
+pub use crate::change::OpenChange;
+pub use crate::store::DeskStore;
+pub use sql_calls::{Fault, Work};

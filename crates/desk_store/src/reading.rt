@@ -1,0 +1,57 @@
+//! What rows and results of statements come to.
+
+ghost use Rattle.std.specs.Prelude.{◌≡◌, IfOk};
+ghost use Rattle.desk_records.specs.Modules.{IsLastRow};
+ghost use Rattle.desk_store.specs.Rows.{IsReadAs};
+ghost use Rattle.desk_store.specs.Faults.{as_store, fault_of_row};
+
+use desk_records::{RowFault, read_module_label};
+use rollout_model::ModuleLabel;
+use sql_calls::{Fault, fault_of};
+use sqlite::Row;
+use std::alloc::Global;
+
+/// The number in the row of the last number, and 0 where there is none.
+pub(crate) fn last_number(row: Option<Row>) -> Result<u32, Fault>
+    ensures { IfOk result (λ n. IsLastRow n row) }
+{
+    let Some(row) = row else {
+        return Ok(0);
+    };
+    match row.get(0) {
+        Ok(number) => Ok(number),
+        Err(error) => Err(fault_of(error)),
+    }
+}
+
+/// The module in a row of its name, kind and version.
+pub(crate) fn label_in(alloc: Global, row: Option<Row>) -> Result<Option<ModuleLabel>, Fault>
+    ensures { IfOk result (λ found. IsReadAs found row) }
+{
+    let Some(row) = row else {
+        return Ok(None);
+    };
+    match read_module_label(alloc, &row) {
+        Ok(label) => Ok(Some(label)),
+        Err(fault) => Err(row_fault(fault)),
+    }
+}
+
+fn row_fault(fault: RowFault) -> Fault
+    ensures { result ≡ fault_of_row fault }
+{
+    match fault {
+        RowFault::Memory => Fault::Memory,
+        RowFault::Broken(_) => Fault::Store,
+    }
+}
+
+/// A commit or a rollback that fails for whatever reason is a failed store.
+pub(crate) fn finished(ended: Result<(), Fault>) -> Result<(), Fault>
+    ensures { result ≡ as_store ended }
+{
+    match ended {
+        Ok(()) => Ok(()),
+        Err(_) => Err(Fault::Store),
+    }
+}

@@ -1,0 +1,68 @@
+//! The one owner of a desk's connection.
+
+ghost use Rattle.std.specs.Prelude.{◌≡◌, not, [], IfOk};
+ghost use Rattle.sqlite.specs.Held.{state};
+ghost use Rattle.sql_calls.specs.Calls.{RunsText, no_work};
+ghost use Rattle.sql_calls.specs.Standing.{Begins};
+ghost use Rattle.desk_records.specs.Holds.{HoldsRecords};
+ghost use Rattle.desk_store.specs.Texts.{begin_text};
+
+use crate::change::OpenChange;
+use sql_calls::{Calls, Fault, Work};
+use sqlite::{Alter, Connection};
+use std::alloc::Global;
+
+/// The tables of a desk. All its statements go through one `Calls`.
+#[derive(Drop)]
+pub struct DeskStore<S: Alter> {
+    pub(crate) calls: Calls<S>,
+    pub(crate) alloc: Global,
+}
+
+impl<S: Alter> DeskStore<S> {
+    /// What was run and taken since the last reset.
+    pub fn work(&self) -> Work
+        ensures { result ≡ self.now.calls.work }
+    {
+        self.calls.work()
+    }
+
+    /// Counts from nothing again.
+    pub fn reset_work(&mut self)
+        ensures work { self.new.calls.work ≡ no_work }
+        ensures conn { self.new.calls.conn ≡ self.old.calls.conn }
+    {
+        self.calls.reset_work();
+    }
+
+    /// Hands the connection back.
+    pub fn into_connection(self) -> Connection<S>
+        ensures { result ≡ self.calls.conn }
+    {
+        let DeskStore { calls, .. } = self;
+        calls.into_connection()
+    }
+
+    fn start(&mut self) -> Result<(), Fault>
+        ensures runs { RunsText (state S.Store self.old.calls.conn) (state S.Store self.new.calls.conn) begin_text [] result }
+    {
+        self.calls.begin()
+    }
+}
+
+impl<S: Alter> DeskStore<S> {
+    ghost use Rattle.std.specs.Borrow.{sem};
+    ghost use Rattle.desk_store.specs.Lending.{store_rests};
+
+    /// Begins a change. Where that is refused, the records stand as before.
+    pub fn begin(&mut self) -> Result<OpenChange<'_, S>, Fault>
+        ensures* refused { sem 𝓛 (store_rests S.row S.Store self.entry result) }
+        ensures same_reference { IfOk result (λ c. c.store.ghost_name ≡ self.entry.ghost_name) }
+        ensures begun { IfOk result (λ c. Begins HoldsRecords (state S.Store self.old.calls.conn) (state S.Store c.store.now.calls.conn)) }
+    {
+        match self.start() {
+            Ok(()) => Ok(OpenChange { store: self }),
+            Err(fault) => Err(fault),
+        }
+    }
+}

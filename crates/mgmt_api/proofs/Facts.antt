@@ -1,0 +1,37 @@
+-- What the contracts rest on beside their callees.
+use Rattle.std.proofs.Common.{◌≡◌, ℕ, List, [], Bool, true, false, cond, None, refl}
+use Rattle.std.specs.Str.{IsUtf8, is_utf8}
+use Rattle.std.proofs.lemmas.Str.{is_utf8-from_IsUtf8, IsUtf8-from_is_utf8}
+use Rattle.matchit.proofs.OnLiterals.{matchit_on_literals}
+use Rattle.http_wire.specs.Replies.{line_member, refusal_text}
+use Rattle.rollout_model.specs.declared.refusal.Refusal.{Refusal}
+use Rattle.rollout_model.specs.declared.refusal.Refusal.TheVariants.{BadImportLine}
+use Rattle.rollout_machine.specs.Replies.{Refused}
+use Rattle.request_target.specs.Rows.{are_routes}
+use Rattle.request_target.specs.Routes.{route_in}
+use Rattle.mgmt_api.specs.Routes.{manage_table}
+use Rattle.mgmt_api.specs.Table.{manage_route}
+use Rattle.mgmt_api.specs.Replies.{reply_text}
+
+pub manage_table_is_good : are_routes manage_table ≡ true
+unfolding matchit_on_literals
+manage_table_is_good = refl
+
+pub reply_text-Refused : (refusal : Refusal) → reply_text (Refused refusal) ≡ refusal_text refusal
+unfolding refusal_text
+reply_text-Refused refusal = refl
+
+pub manage_route-text : (path : List ℕ) → IsUtf8 path → manage_route path ≡ route_in manage_table path
+manage_route-text path text = rw (is_utf8-from_IsUtf8 path text) refl
+
+pub manage_route-no_text : (path : List ℕ) → (IsUtf8 path → ⊥) → manage_route path ≡ None
+manage_route-no_text path unread = by (is_utf8 path) (λ is. unread (IsUtf8-from_is_utf8 path is))
+  where
+    by : (v : Bool) → (v ≡ true → ⊥) → cond v (route_in manage_table path) None ≡ None
+    by true no_text = absurd (no_text refl)
+    by false no_text = refl
+
+-- only a refused import names a line
+pub line_member-none : (refusal : Refusal) → ((line : ℕ) → refusal ≡ BadImportLine line → ⊥) → line_member refusal ≡ []
+line_member-none (BadImportLine line) other = absurd (other line refl)
+line_member-none _ other = refl

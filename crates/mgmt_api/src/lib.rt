@@ -1,0 +1,17 @@
+//! The management interface: what a message asks, and the text of each reply.
+//!
+//! A message is refused by the first of these that applies: its path has no route, its method is not one of the route's,
+//! its query is not one of the call's, its body is not one of the call's.
+#![tactic(auto)]
+
+mod call;
+mod laws;
+mod reading;
+mod reply;
+mod routes;
+
+pub use call::{ManageCall, call_of};
+pub use laws::{manage_routes_are_apart, refused_text, worked_module_added};
+pub use reading::read_manage;
+pub use reply::manage_reply;
+pub use routes::{ManageRoute, ManageRoutes};

@@ -1,0 +1,86 @@
+//! From a reply to its status, its content type and its body.
+
+ghost use Rattle.std.specs.Prelude.{◌≡◌, false, IfOk, IfErr, string_bytes};
+ghost use Rattle.serde_json.specs.Written.{compact_text};
+ghost use Rattle.rollout_model.specs.declared.refusal.Refusal.TheVariants.{NoMemory};
+ghost use Rattle.rollout_model.specs.Refusals.{refusal_row};
+ghost use Rattle.rollout_machine.specs.Views.{reply_of};
+ghost use Rattle.http_wire.specs.Replies.{answer_text, line_member, refusal_body};
+ghost use Rattle.mgmt_api.specs.Replies.{Has, parts_of, reply_text, json_reply};
+
+use http::StatusCode;
+use http_wire::{Answer, ContentType};
+use mgmt_objects::{object_text, single_text};
+use rollout_model::{Refusal, Reply};
+use std::alloc::{AllocError, Global};
+
+fn json_answer(status: StatusCode, body: String) -> Answer
+    ensures { Has (json_reply status (string_bytes body)) result }
+{
+    Answer {
+        status,
+        content_type: ContentType::Json,
+        body: body.into_bytes(),
+    }
+}
+
+fn line_member(alloc: Global, refusal: Refusal) -> Result<String, AllocError>
+    ensures { IfOk result (λ text. string_bytes text ≡ line_member refusal) }
+{
+    match refusal {
+        Refusal::BadImportLine(line) => format!(in alloc; ",\"line\":{line}"),
+        _ => Ok(String::new(alloc)),
+    }
+}
+
+fn refusal_body(alloc: Global, refusal: Refusal) -> Result<String, AllocError>
+    ensures { IfOk result (λ body. string_bytes body ≡ refusal_body refusal) }
+{
+    let number = refusal.number();
+    let line = line_member(alloc, refusal)?;
+    let number = format!(in alloc; "{number}")?;
+    let mut body = String::new(alloc);
+    body.push_str("{\"error\":\"")?;
+    body.push_str(refusal.name())?;
+    body.push_str("\"")?;
+    body.push_str(line.as_str())?;
+    body.push_str(",\"number\":")?;
+    body.push_str(number.as_str())?;
+    body.push_str("}")?;
+    Ok(body)
+}
+
+fn refusal_status(refusal: Refusal) -> StatusCode
+    ensures { result ≡ (refusal_row refusal).status }
+{
+    StatusCode::from_u16(refusal.status()).unwrap_or(StatusCode::INTERNAL_SERVER_ERROR)
+}
+
+fn answer_to(alloc: Global, reply: &Reply) -> Result<Answer, AllocError>
+    ensures { IfOk result (Has (parts_of (reply_of reply.now))) }
+{
+    match reply {
+        Reply::ModuleAdded(module) => {
+            let body = single_text(alloc, module)?;
+            Ok(json_answer(StatusCode::CREATED, body))
+        }
+        Reply::Module(module) => {
+            let body = object_text(alloc, module)?;
+            Ok(json_answer(StatusCode::OK, body))
+        }
+        Reply::Refused(refusal) => {
+            let body = refusal_body(alloc, *refusal)?;
+            Ok(json_answer(refusal_status(*refusal), body))
+        }
+    }
+}
+
+/// Status, content type and body of a reply. Refused for want of memory alone.
+pub fn manage_reply(alloc: Global, reply: &Reply) -> Result<Answer, Refusal>
+    ensures parts { IfOk result (Has (parts_of (reply_of reply.now))) }
+    ensures text { IfOk result (λ answer. (parts_of (reply_of reply.now)).ends ≡ false → answer_text answer ≡ reply_text (reply_of reply.now)) }
+    ensures memory { IfErr result (λ e. e ≡ NoMemory) }
+{
+    let answer = answer_to(alloc, reply)?;
+    Ok(answer)
+}

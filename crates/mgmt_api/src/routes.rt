@@ -1,0 +1,59 @@
+//! The routes of the management interface.
+
+ghost use Rattle.std.specs.Prelude.{◌≡◌, IfOk, IfErr};
+ghost use Rattle.rollout_model.specs.declared.refusal.Refusal.TheVariants.{NoMemory};
+ghost use Rattle.mgmt_api.specs.Routes.{manage_rows};
+
+use matchit::Router;
+use request_target::{route_of, router_of};
+use rollout_model::Refusal;
+use std::alloc::{AllocError, Global};
+use std::str;
+
+/// Where a path leads.
+#[derive(Clone, Copy, Debug, PartialEq, Eq)]
+pub enum ManageRoute {
+    /// `/rest/v1/softwaremodules`
+    Modules,
+}
+
+/// The routes of the management interface, each found by its path.
+#[derive(Drop)]
+pub struct ManageRoutes {
+    router: Router<ManageRoute>,
+    alloc: Global,
+    ghost by_table: { router ≡ manage_rows },
+}
+
+fn manage_router(alloc: Global) -> Result<Router<ManageRoute>, AllocError>
+    ensures { IfOk result (λ r. r ≡ manage_rows) }
+{
+    router_of(alloc, &[("/rest/v1/softwaremodules", ManageRoute::Modules)])
+}
+
+impl ManageRoutes {
+    ghost use Rattle.mgmt_api.specs.Table.{manage_route};
+
+    /// All routes. Refused for want of memory alone.
+    pub fn make(alloc: Global) -> Result<ManageRoutes, Refusal>
+        ensures { IfErr result (λ e. e ≡ NoMemory) }
+    {
+        let router = manage_router(alloc)?;
+        Ok(ManageRoutes { router, alloc })
+    }
+
+    /// Where the path leads, compared segment by segment and as it is written.
+    pub fn find(&self, path: &[u8]) -> Option<ManageRoute>
+        ensures { result ≡ manage_route path.now }
+    {
+        match str::from_utf8(path) {
+            Ok(path) => route_of(&self.router, path),
+            Err(_) => None,
+        }
+    }
+
+    /// The allocator that the routes were made with.
+    pub(crate) fn alloc(&self) -> Global {
+        self.alloc
+    }
+}

@@ -1,0 +1,68 @@
+-- At most one group starts in a command, and none is left to start after it.
+use Rattle.rollout_machine.specs.CommandList.{CommandList, Make, ◌▸◌}
+use Rattle.rollout_machine.specs.Commands.{Command}
+use Rattle.rollout_machine.specs.Counts.{success_holds}
+use Rattle.rollout_machine.specs.Effects.{IsLast}
+use Rattle.rollout_machine.specs.Progress.{is_group_started, is_paused, next_started, is_trigger_of}
+use Rattle.rollout_machine.specs.Promises.{StartsGroup, OneGroupStarts, NoGroupIsLeft}
+use Rattle.rollout_machine.specs.Rollouts.{Rollout}
+use Rattle.rollout_machine.proofs.Induction.{accepted}
+use Rattle.rollout_machine.proofs.Starts.{starts_one_more, last_made}
+use Rattle.rollout_machine.proofs.Ties.{IsFollowed, follow_on}
+use Rattle.rollout_machine.proofs.Whole.{IsAccepted}
+use Rattle.std.proofs.Common.{◌≡◌, ℕ, zero, suc, ◌≤◌, ◌<◌, Bool, true, false, cond, ◌&&◌, ◌||◌, not, refl, sym, ◌∙◌, arith, inl, inr, ◌⊎◌}
+use Rattle.std.specs.Prelude.{nat_lt}
+use Rattle.std.proofs.lemmas.Bool.{false≢true, lt-ltb}
+
+-- a group is behind the last started one, or not
+behind : (x : Rollout) (r i l : ℕ) (h : CommandList) → IsLast x r h l → is_group_started x r i h ≡ false → 1 ≤ i → l < i
+behind x r i l h last e low = go (cases i l) where
+  cases : (a b : ℕ) → (a ≤ b) ⊎ (b < a)
+  cases zero b = inl (omega arith)
+  cases (suc a) zero = inr (omega arith)
+  cases (suc a) (suc b) = elim (cases a b) [ inl u ↦ inl (omega (arith, u)) | inr u ↦ inr (omega (arith, u)) ]
+  go : (i ≤ l) ⊎ (l < i) → l < i
+  go (inl u) = absurd (false≢true (sym e ∙ last.up_to i low u))
+  go (inr u) = u
+
+at_most : (x : Rollout) (r i l : ℕ) (h : CommandList) → IsLast x r h l → is_group_started x r i h ≡ true → i ≤ l
+at_most x r i l h last e = go (cases i l) where
+  cases : (a b : ℕ) → (a ≤ b) ⊎ (b < a)
+  cases zero b = inl (omega arith)
+  cases (suc a) zero = inr (omega arith)
+  cases (suc a) (suc b) = elim (cases a b) [ inl u ↦ inl (omega (arith, u)) | inr u ↦ inr (omega (arith, u)) ]
+  go : (i ≤ l) ⊎ (l < i) → i ≤ l
+  go (inl u) = u
+  go (inr u) = absurd (false≢true (sym (last.beyond i u) ∙ e))
+
+positive : (x : Rollout) (r i : ℕ) (h : CommandList) → is_group_started x r i h ≡ true → 1 ≤ i
+positive x r zero h e = absurd (false≢true e)
+positive x r (suc i) h e = omega arith
+
+-- the group that starts is the one behind the last
+pub next_starts : (x : Rollout) (r i l : ℕ) (h : CommandList) (c : Command) (b : Bool) → IsLast x r h l → IsLast x r (h ▸ c) (cond b (suc l) l) → StartsGroup x r i h c → i ≡ suc l
+next_starts x r i l h c b last next s =
+    let low : l < i = behind x r i l h last s.before (positive x r i (h ▸ c) s.now) in
+    let high : i ≤ cond b (suc l) l = at_most x r i (cond b (suc l) l) (h ▸ c) next s.now in
+    go b high low where
+  go : (b : Bool) → i ≤ cond b (suc l) l → l < i → i ≡ suc l
+  go true high low = omega (arith, high, low)
+  go false high low = absurd (omega (arith, high, low))
+
+pub one_group_starts : OneGroupStarts
+one_group_starts h c r i j x v d s t =
+    let w : IsAccepted h c = accepted h c v.0 v.2 in
+    let f : IsFollowed x r h (w.last r) = w.follows r x d in
+    let b : Bool = starts_one_more x r h c (w.last r) in
+    let g : IsFollowed x r (h ▸ c) (cond b (suc (w.last r)) (w.last r)) = follow_on x r (w.last r) h c f (w.started r x d) in
+    next_starts x r i (w.last r) h c b f.is_last g.is_last s ∙ sym (next_starts x r j (w.last r) h c b f.is_last g.is_last t)
+
+pub no_group_is_left : NoGroupIsLeft
+no_group_is_left (Make approval) r i x low high e p s = absurd (false≢true (sym ((last_made x r approval).beyond i (omega (arith, low))) ∙ e))
+no_group_is_left (h ▸ c) r zero x low high e p s = absurd (omega (arith, low))
+no_group_is_left (h ▸ c) r (suc i) x low high e p s =
+    all (nat_lt (suc i) x.plan.groups) (next_started x r (suc i) (is_group_started x r (suc i)) h) (is_group_started x r (suc i) (h ▸ c)) (is_paused x r (h ▸ c)) (success_holds x r (suc i) (h ▸ c))
+      (is_trigger_of r c && (is_group_started x r (suc i) h && not (next_started x r (suc i) (is_group_started x r (suc i)) h))) (lt-ltb _ _ high) e p s where
+  all : (l a e p s t : Bool) → l ≡ true → e ≡ true → p ≡ false → s ≡ true → (l && (a || (e && ((not p && s) || t)))) ≡ true
+  all l true e p s t u v w z = rw u refl
+  all l false e p s t u v w z = rw (u, v, w, z) refl

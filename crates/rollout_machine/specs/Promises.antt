@@ -1,0 +1,70 @@
+-- What users of a desk rely on, said of every list of accepted commands.
+use Rattle.std.specs.Prelude.{◌≡◌, ◌≤◌, ◌<◌, ℕ, suc, true, false, nat_eq, Option, Some, None}
+use Rattle.std.specs.List.{list_any}
+use Rattle.std.specs.Option.{option_map}
+use Rattle.rollout_machine.specs.Actions.{ActionPlace}
+use Rattle.rollout_machine.specs.Answers.{answer, artifact_named}
+use Rattle.rollout_machine.specs.ByteStrings.{item_numbered}
+use Rattle.rollout_machine.specs.CommandList.{CommandList, ◌▸◌}
+use Rattle.rollout_machine.specs.Commands.{Bytes, Command, Credential}
+use Rattle.rollout_machine.specs.Counts.{success_holds}
+use Rattle.rollout_machine.specs.Kinds.{derived, recounted, stored}
+use Rattle.rollout_machine.specs.Meanings.{IsOfferable}
+use Rattle.rollout_machine.specs.Objects.{modules_of_action}
+use Rattle.rollout_machine.specs.Offers.{Offer, offer}
+use Rattle.rollout_machine.specs.Progress.{is_group_started, is_paused}
+use Rattle.rollout_machine.specs.Records.{ArtifactRecord, records}
+use Rattle.rollout_machine.specs.Replies.{Reply, PollShown, DeploymentShown, CancelShown, ContentsShown}
+use Rattle.rollout_machine.specs.Requests.{Query, Download, Ask, Asks}
+use Rattle.rollout_machine.specs.Rollouts.{Rollout, rollout_at}
+use Rattle.rollout_machine.specs.Validity.{IsValid}
+
+-- ---- starts
+
+-- the command starts group i of rollout r
+pub record StartsGroup (x : Rollout) (r i : ℕ) (h : CommandList) (c : Command) : Type 0 where
+  pub before : is_group_started x r i h ≡ false
+  pub now : is_group_started x r i (h ▸ c) ≡ true
+
+-- a command starts at most one group of a rollout
+abbrev pub OneGroupStarts : Type 0
+OneGroupStarts = (h : CommandList) (c : Command) (r i j : ℕ) (x : Rollout) → IsValid (h ▸ c) → rollout_at h r ≡ Some x → StartsGroup x r i h c → StartsGroup x r j h c → i ≡ j
+
+-- after a command no group is left to start: behind a started one with success the next is started, unless the rollout is paused
+abbrev pub NoGroupIsLeft : Type 0
+NoGroupIsLeft = (h : CommandList) (r i : ℕ) (x : Rollout) → 1 ≤ i → i < x.plan.groups → is_group_started x r i h ≡ true → is_paused x r h ≡ false → success_holds x r i h ≡ true → is_group_started x r (suc i) h ≡ true
+
+-- ---- offers
+
+-- the action that an answer to a device names
+abbrev pub named_action : Reply → Option ℕ
+named_action (PollShown t o) = option_map (λ (x : Offer). x.action) o
+named_action (DeploymentShown d) = Some d.action
+named_action (CancelShown k) = Some k
+named_action _ = None
+
+-- it is open, of a device's member, and its group is started
+abbrev pub NamedIsOfferable : Type 0
+NamedIsOfferable = (h : CommandList) (query : Query) (k : ℕ) → IsValid h → named_action (answer h (Asks (Ask query))).reply ≡ Some k → (t : Bytes) × (p : ActionPlace) × IsOfferable h t k p
+
+-- the artifact with these contents is of a module of the set that the target is offered as a deployment
+pub record IsDownloadable (h : CommandList) (t : Bytes) (m : ℕ) (filename contents : Bytes) : Type 0 where
+  pub offered : Offer
+  pub is_offered : offer (records h) t ≡ Some offered
+  pub as_deployment : offered.canceling ≡ false
+  pub installs : list_any (λ n. nat_eq n m) (modules_of_action (records h) (item_numbered (records h).actions offered.action)) ≡ true
+  pub artifact : ArtifactRecord
+  pub is_stored : artifact_named m filename (records h).artifacts ≡ Some artifact
+  pub contents_are : artifact.contents ≡ contents
+
+abbrev pub DownloadsAreOffered : Type 0
+DownloadsAreOffered = (h : CommandList) (device : Credential) (m : ℕ) (filename contents : Bytes) → (answer h (Asks (Ask (Download device m filename)))).reply ≡ ContentsShown contents → IsDownloadable h device.id m filename contents
+
+-- ---- derived kinds
+
+-- the records are found again from the stored kinds: the counts of groups are those of their actions, so no derived kind says more
+abbrev pub StoredSayAll : Type 0
+StoredSayAll = (h : CommandList) → IsValid h → recounted (stored (records h)) ≡ records h
+
+abbrev pub DerivedFollow : Type 0
+DerivedFollow = (h : CommandList) → IsValid h → derived (records h) ≡ derived (recounted (stored (records h)))
