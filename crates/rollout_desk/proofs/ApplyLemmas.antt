@@ -4,7 +4,8 @@ use Rattle.std.proofs.lemmas.Bool.{cases_Bool, false≢true}
 use Rattle.sqlite.specs.Tree.{Trees}
 use Rattle.sqlite.specs.Effect.{Database}
 use Rattle.sqlite.specs.State.{State, HasCleanDisk}
-use Rattle.sql_calls.specs.Standing.{HoldIn, IsAtRest, IsInDoubt, Rests, Changes, Spoils, Begins, Keeps}
+use Rattle.sql_calls.specs.Standing.{HoldIn, IsAtRest, IsInDoubt, Rests, Changes, Spoils, Reads, Begins, Keeps}
+use Rattle.rollout_model.specs.declared.request.Reply as model
 use Rattle.sql_calls.proofs.Changes.{spoils}
 use Rattle.rollout_machine.specs.Answers.{Answer, answer, command_reply, query_reply}
 use Rattle.rollout_machine.specs.CommandList.{CommandList, ◌▸◌, followed_by}
@@ -24,7 +25,9 @@ use Rattle.rollout_machine.proofs.StoreFailures.{answer_never_stores}
 use Rattle.rollout_model.specs.declared.refusal.Refusal.{Refusal}
 use Rattle.rollout_model.specs.declared.refusal.Refusal.TheVariants.{StoreFailed, NoMemory}
 use Rattle.rollout_desk.specs.Desks.{HoldsList, desk_state_at}
-use Rattle.rollout_desk.specs.Steps.{is_store, is_failed_store, Steps, Handles, EndsByCommit, EndsByRollback}
+use Rattle.sql_calls.specs.declared.fault.Fault.{Fault}
+use Rattle.sql_calls.specs.declared.fault.Fault.TheVariants.{Memory, Store}
+use Rattle.rollout_desk.specs.Steps.{is_store, is_failed_store, refusal_of_fault, Steps, Handles, EndsByCommit, EndsByRollback}
 use Rattle.rollout_desk.specs.declared.step.Step.TheVariants as step
 
 -- ---- the reply of a failed store
@@ -49,6 +52,10 @@ no_memory_is_no_failure reply is failed = false≢true (sym (ap is_failed_store 
 -- the reply of a fault
 abbrev pub IsFailure : Reply → Type 0
 IsFailure reply = (reply ≡ Refused NoMemory) ⊎ (reply ≡ Refused StoreFailed)
+
+pub fault_fails : (fault : Fault) (reply : Reply) → reply ≡ Refused (refusal_of_fault fault) → IsFailure reply
+fault_fails Memory reply is = inl is
+fault_fails Store reply is = inr is
 
 module _ (Holds : Database → Records → Type 0) where
   pub stands : (s : State) (h : CommandList) → IsValid h → IsAtRest Holds s (records h) → StandsFor (desk_state_at Holds false s) h
@@ -98,47 +105,65 @@ module _ (Holds : Database → Records → Type 0) where
     -- what was found inside is the answer, and nothing is accepted
     pub found : (request : Request) (made : Reply) (Says : Records → Type 0) → ((h : CommandList) → Says (records h) → record { reply = made; accepted = None } ≡ answer h (Asks request)) → (wears : Rattle.sql_calls.specs.Standing.Wears b c)
         → ((now kept : Records) → Changes Holds b now kept → Changes Holds c now kept × (HasCleanDisk c → Says now)) → (reply : Reply) → EndsByRollback Holds c d made reply → Handles Holds a d request reply
-    found request made Says means wears inside reply ends = record { wears = omega (arith, begins.wears, wears, ends.wears); handles = λ h clean was.
-      let r = records h in
-      let done = inside r r (begins.begun r (λ known. was.shows)) in
-      let spoiled = spoils Holds c r r done.0 in
-      elim ends.ends [
-        | inl it ↦ answered h was.valid d request reply None (ap (λ (x : Reply). record { reply = x; accepted = None }) it.0 ∙ means h (done.1 (omega (arith, clean, ends.wears)))) (stands d h was.valid (it.1 r spoiled clean))
-        | inr it ↦ left_alone h was.valid d request reply it.0 (λ db left. elim ((it.1 r spoiled clean).crash db left) [ inl one ↦ one | inr one ↦ one ])
-      ] }
+    found request made Says means wears inside reply ends = record {
+      wears = omega (arith, begins.wears, wears, ends.wears);
+      handles = λ h clean was.
+          let r = records h in
+          let done = inside r r (begins.begun r (λ known. was.shows)) in
+          let spoiled = spoils Holds c r r done.0 in
+          elim ends.ends [
+            | inl it ↦ answered h was.valid d request reply None (ap (λ (x : Reply). record { reply = x; accepted = None }) it.0 ∙ means h (done.1 (omega (arith, clean, ends.wears)))) (stands d h was.valid (it.1 r spoiled clean))
+            | inr it ↦ left_alone h was.valid d request reply it.0 (λ db left. elim ((it.1 r spoiled clean).crash db left) [ inl one ↦ one | inr one ↦ one ])
+          ];
+    }
 
     -- something failed inside
     pub lost : (request : Request) (made : Reply) → IsFailure made → (wears : Rattle.sql_calls.specs.Standing.Wears b c)
         → ((now kept : Records) → Changes Holds b now kept → Spoils Holds c kept) → (reply : Reply) → EndsByRollback Holds c d made reply → Handles Holds a d request reply
-    lost request made bad wears inside reply ends = record { wears = omega (arith, begins.wears, wears, ends.wears); handles = λ h clean was.
-      let r = records h in
-      let spoiled = inside r r (begins.begun r (λ known. was.shows)) in
-      elim ends.ends [
-        | inl it ↦ failed h was.valid d request reply (subst IsFailure (sym it.0) bad) (it.1 r spoiled clean)
-        | inr it ↦ left_alone h was.valid d request reply it.0 (λ db left. elim ((it.1 r spoiled clean).crash db left) [ inl one ↦ one | inr one ↦ one ])
-      ] }
+    lost request made bad wears inside reply ends = record {
+      wears = omega (arith, begins.wears, wears, ends.wears);
+      handles = λ h clean was.
+          let r = records h in
+          let spoiled = inside r r (begins.begun r (λ known. was.shows)) in
+          elim ends.ends [
+            | inl it ↦ failed h was.valid d request reply (subst IsFailure (sym it.0) bad) (it.1 r spoiled clean)
+            | inr it ↦ left_alone h was.valid d request reply it.0 (λ db left. elim ((it.1 r spoiled clean).crash db left) [ inl one ↦ one | inr one ↦ one ])
+          ];
+    }
 
     -- ---- a command
 
-    pub refused : {E : Type 0} (command : Command) (refusal : Refusal) → Steps {E = E} Holds b c command (Ok (step.Refused refusal)) → (reply : Reply) → EndsByRollback Holds c d (Refused refusal) reply → Handles Holds a d (Do command) reply
+    pub refused : {E : Type 0} (command : Command) (refusal : Refusal) → Steps Holds {E = E} b c command (Ok (step.Refused refusal)) → (reply : Reply) → EndsByRollback Holds c d (Refused refusal) reply → Handles Holds a d (Do command) reply
     refused command refusal steps reply ends = found (Do command) (Refused refusal) (λ (r : Records). check r command ≡ Some refusal) (λ h is. sym (refused_answer h command refusal is)) steps.wears steps.steps reply ends
 
     pub broken : {E : Type 0} (command : Command) (e : E) → Steps Holds b c command (Err e) → (made : Reply) → IsFailure made → (reply : Reply) → EndsByRollback Holds c d made reply → Handles Holds a d (Do command) reply
     broken command e steps made bad reply ends = lost (Do command) made bad steps.wears steps.steps reply ends
 
-    pub accepted : {E : Type 0} (command : Command) → IsWellFormed command → (rust : Rattle.rollout_model.specs.declared.request.Reply.Reply) → Steps {E = E} Holds b c command (Ok (step.Accepted rust)) → (reply : Reply) → EndsByCommit Holds c d (reply_of rust) reply → Handles Holds a d (Do command) reply
-    accepted command good rust steps reply ends = record { wears = omega (arith, begins.wears, steps.wears, ends.wears); handles = λ h clean was.
-      let r = records h in
-      let done = steps.steps r r (begins.begun r (λ known. was.shows)) in
-      let facts = done.1 (omega (arith, clean, ends.wears)) in
-      let follows = records_step h command was.valid facts.0 in
-      let longer : IsValid (h ▸ command) = (was.valid, good, facts.0) in
-      let is = accepted_step h command was.valid facts.0 in
-      elim ends.ends [
-        | inl it ↦ answered h was.valid d (Do command) reply (Some command) (ap (λ (x : Reply). record { reply = x; accepted = Some command }) (it.0 ∙ facts.1) ∙ sym is)
-            (stands d (h ▸ command) longer (subst (IsAtRest Holds d) (sym follows) (it.1 (step_records r command) r done.0 clean)))
-        | inr it ↦ in_doubt h was.valid d (Do command) reply it.0 (λ db left. elim ((it.1 (step_records r command) r done.0 clean).crash db left) [
-          | inl one ↦ inl (was.valid, one)
-          | inr one ↦ inr (subst (λ (o : Option Command). HoldsList Holds db (followed_by h (Rattle.rollout_machine.specs.Requests.one o))) (sym (ap (λ (x : Answer). x.accepted) is)) (longer, subst (HoldIn Holds db) (sym follows) one))
-        ])
-      ] }
+    pub accepted : {E : Type 0} (command : Command) → IsWellFormed command → (rust : model.Reply) → Steps Holds {E = E} b c command (Ok (step.Accepted rust)) → (reply : Reply) → EndsByCommit Holds c d (reply_of rust) reply → Handles Holds a d (Do command) reply
+    accepted command good rust steps reply ends = record {
+      wears = omega (arith, begins.wears, steps.wears, ends.wears);
+      handles = λ h clean was.
+          let r = records h in
+          let done = steps.steps r r (begins.begun r (λ known. was.shows)) in
+          let facts = done.1 (omega (arith, clean, ends.wears)) in
+          let follows = records_step h command was.valid facts.0 in
+          let longer : IsValid (h ▸ command) = (was.valid, good, facts.0) in
+          let is = accepted_step h command was.valid facts.0 in
+          elim ends.ends [
+            | inl it ↦ answered h was.valid d (Do command) reply (Some command) (ap (λ (x : Reply). record { reply = x; accepted = Some command }) (it.0 ∙ facts.1) ∙ sym is)
+                (stands d (h ▸ command) longer (subst (IsAtRest Holds d) (sym follows) (it.1 (step_records r command) r done.0 clean)))
+            | inr it ↦ in_doubt h was.valid d (Do command) reply it.0 (λ db left. elim ((it.1 (step_records r command) r done.0 clean).crash db left) [
+              | inl one ↦ inl (was.valid, one)
+              | inr one ↦ inr (subst (λ (o : Option Command). HoldsList Holds db (followed_by h (Rattle.rollout_machine.specs.Requests.one o))) (sym (ap (λ (x : Answer). x.accepted) is)) (longer, subst (HoldIn Holds db) (sym follows) one))
+            ])
+          ];
+    }
+
+    -- ---- a query
+
+    pub shown : {E : Type 0} (query : Query) (rust : model.Reply) → Reads Holds {E = E} b c (Ok rust) (λ (now : Records) (r : model.Reply). reply_of r ≡ query_reply now query) → (reply : Reply) → EndsByRollback Holds c d (reply_of rust) reply → Handles Holds a d (Ask query) reply
+    shown query rust reads reply ends =
+        found (Ask query) (reply_of rust) (λ (r : Records). reply_of rust ≡ query_reply r query) (λ h is. ap (λ (x : Reply). record { reply = x; accepted = None }) is ∙ sym (query_answer h query)) reads.wears reads.reads reply ends
+
+    pub unshown : {E : Type 0} (query : Query) (e : E) → Reads Holds {A = model.Reply} b c (Err e) (λ (now : Records) (r : model.Reply). reply_of r ≡ query_reply now query) → (made : Reply) → IsFailure made → (reply : Reply) → EndsByRollback Holds c d made reply → Handles Holds a d (Ask query) reply
+    unshown query e reads made bad reply ends = lost (Ask query) made bad reads.wears reads.reads reply ends

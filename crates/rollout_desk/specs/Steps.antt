@@ -14,7 +14,9 @@ use Rattle.rollout_machine.specs.Standing.{AppliesAt, StandsFor}
 use Rattle.rollout_machine.specs.Verdicts.{check}
 use Rattle.rollout_machine.specs.Views.{reply_of}
 use Rattle.rollout_model.specs.declared.refusal.Refusal.{Refusal}
-use Rattle.rollout_model.specs.declared.refusal.Refusal.TheVariants.{StoreFailed}
+use Rattle.rollout_model.specs.declared.refusal.Refusal.TheVariants.{NoMemory, StoreFailed}
+use Rattle.sql_calls.specs.declared.fault.Fault.{Fault}
+use Rattle.sql_calls.specs.declared.fault.Fault.TheVariants.{Memory, Store}
 use Rattle.rollout_desk.specs.Desks.{desk_state_at}
 use Rattle.rollout_desk.specs.declared.step.Step.{Step}
 use Rattle.rollout_desk.specs.declared.step.Step.TheVariants as step
@@ -27,6 +29,11 @@ is_store _ = false
 abbrev pub is_failed_store : Reply → Bool
 is_failed_store (Refused refusal) = is_store refusal
 is_failed_store _ = false
+
+-- what a fault of the store is answered with
+abbrev pub refusal_of_fault : Fault → Refusal
+refusal_of_fault Memory = NoMemory
+refusal_of_fault Store = StoreFailed
 
 module _ (Holds : Database → Records → Type 0) where
   abbrev pub StepsTo : {E : Type 0} → State → State → Command → Result Step E → Type 0
