@@ -1,6 +1,6 @@
 //! The desk.
 
-ghost use Rattle.std.specs.Prelude.{◌≡◌, true};
+ghost use Rattle.std.specs.Prelude.{◌≡◌, true, false};
 ghost use Rattle.rollout_model.specs.declared.refusal.Refusal.TheVariants.{Stopped};
 ghost use Rattle.rollout_machine.specs.Replies.{Refused};
 ghost use Rattle.rollout_machine.specs.Requests.{Asks, Do, Ask};
@@ -25,6 +25,17 @@ pub struct Desk<S: Alter> {
 }
 
 impl<S: Alter> Desk<S> {
+    /// A desk over its store, not stopped.
+    pub(crate) fn over(alloc: Global, store: DeskStore<S>) -> Desk<S>
+        ensures { result ≡ record { store = store; stopped = false; alloc = alloc } }
+    {
+        Desk {
+            store,
+            stopped: false,
+            alloc,
+        }
+    }
+
     /// Runs a command as one transaction, which is committed, or surely not, before the reply is known: only after
     /// `StoreFailed` it may be either.
     pub fn apply(&mut self, command: &Command) -> Reply
