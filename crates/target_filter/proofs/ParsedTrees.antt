@@ -7,8 +7,8 @@ use Rattle.std.proofs.lemmas.Bool.{false≢true}
 use Rattle.std.proofs.lemmas.Bool.Decides.{nat_tests}
 use Rattle.target_filter.specs.Grammar.{is_bare_byte, is_quotable_byte, is_nonempty, Field, Id, Name, Tag, Attribute, Value, Bare, Quoted, Tree, Or, And, Group, Comparison, Level, OrLevel, AndLevel, AtomLevel, is_at, allows_or, allows_and, spelling, field_text, value_text, Operator, Equal, NotEqual, operator_byte, is_field, is_value, IsFilter}
 use Rattle.rollout_model.specs.Rules.{is_word_letter}
-use Rattle.target_filter.specs.Parse.{front, behind_front, attribute_field, field_of_name, operator_at, quoted_value, bare_value, value_at, comparison_at, closed, or_at, more_ors, and_at, more_ands, atom_at}
-use Rattle.target_filter.proofs.Readings.{both}
+use Rattle.target_filter.specs.Descent.{front, behind_front, attribute_field, field_of_name, operator_at, quoted_value, bare_value, value_at, comparison_at, closed, or_at, more_ors, and_at, more_ands, atom_at}
+use Rattle.target_filter.proofs.ScannedTrees.{both}
 
 -- what may stand behind a value without quotes
 abbrev pub stops : (ℕ → Bool) → List ℕ → Bool

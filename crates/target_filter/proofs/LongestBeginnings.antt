@@ -13,9 +13,9 @@ use Rattle.target_filter.specs.Grammar.{is_bare_byte, is_quotable_byte, is_nonem
 use Rattle.rollout_model.specs.Rules.{is_word_letter}
 use Rattle.target_filter.specs.Scanner as scan
 use Rattle.target_filter.specs.Scanner.{Mode, State, Move, run, next, step, state_after, mode_of_name, at_atom_start, at_operator, at_atom_end, start, accepts}
-use Rattle.target_filter.proofs.Readings.{both, in_mode, reads, tree_end, tree_ends, closed, lt_true}
-use Rattle.target_filter.proofs.Shown.{Begun, all_of}
-use Rattle.target_filter.proofs.Moves.{eq_true, by_test, accepted, Stands, run_stands, start_stands}
+use Rattle.target_filter.proofs.ScannedTrees.{both, in_mode, reads, tree_end, tree_ends, closed, lt_true}
+use Rattle.target_filter.proofs.Beginnings.{Begun, all_of}
+use Rattle.target_filter.proofs.ScannerMoves.{eq_true, by_test, accepted, Stands, run_stands, start_stands}
 
 -- a continuation that ends the atom
 abbrev tail : Mode → List ℕ

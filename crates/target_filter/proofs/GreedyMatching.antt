@@ -10,9 +10,9 @@ use Rattle.std.proofs.lemmas.Slice.Eq.{starts_is, ends_is, slice_eq-Decides}
 use Rattle.std.specs.Cmp.Lexicographic.{pointwise}
 use Rattle.target_filter.specs.Patterns.{with_first_byte, pieces, IsJoinedAfterStar, IsJoined, Matches, star_takes, byte_then, is_empty, matches}
 use Rattle.target_filter.specs.Greedy.{after, greedy}
-use Rattle.target_filter.proofs.Readings.{both}
-use Rattle.target_filter.proofs.Shown.{all_of}
-use Rattle.target_filter.proofs.Moves.{eq_true}
+use Rattle.target_filter.proofs.ScannedTrees.{both}
+use Rattle.target_filter.proofs.Beginnings.{all_of}
+use Rattle.target_filter.proofs.ScannerMoves.{eq_true}
 
 -- a star takes any text
 star_any : (f : List ℕ → Bool) (x t : List ℕ) → f t ≡ true → star_takes f (x ++ t) ≡ true

@@ -9,8 +9,8 @@ use Rattle.target_filter.specs.Grammar.{is_bare_byte, is_quotable_byte, is_nonem
 use Rattle.rollout_model.specs.Rules.{is_word_letter}
 use Rattle.target_filter.specs.Scanner as scan
 use Rattle.target_filter.specs.Scanner.{Mode, State, Move, run, next, step, state_after, mode_of_name, at_atom_start, at_operator, at_atom_end}
-use Rattle.target_filter.proofs.Readings.{both}
-use Rattle.target_filter.proofs.Shown.{Part, before, part_text, fits, PartFits, and_with, or_with, and_spelled, and_fits, whole, whole_spelled, whole_fits, outer_text, AllFit, Begun, atom_of, all_of}
+use Rattle.target_filter.proofs.ScannedTrees.{both}
+use Rattle.target_filter.proofs.Beginnings.{Part, before, part_text, fits, PartFits, and_with, or_with, and_spelled, and_fits, whole, whole_spelled, whole_fits, outer_text, AllFit, Begun, atom_of, all_of}
 
 pub eq_true : (a b : ℕ) → (a == b) ≡ true → a ≡ b
 eq_true a b h = grind (arith, nat_tests)

@@ -2,8 +2,8 @@
 use Rattle.std.proofs.Common.{◌≡◌, ℕ, suc, ◌<◌, ◌≤◌, List, [], ◌∷◌, ◌++◌, length, take, drop, get_or, Bool, true, false, not, refl, sym, ◌∙◌, ap, append-nil, drop-cons}
 use Rattle.std.specs.List.{list_all}
 use Rattle.std.proofs.lemmas.List.{take-append-drop}
-use Rattle.target_filter.specs.Parse.{front, behind_front}
-use Rattle.target_filter.proofs.Parses.{stops, fronts, pasts}
+use Rattle.target_filter.specs.Descent.{front, behind_front}
+use Rattle.target_filter.proofs.ParsedTrees.{stops, fronts, pasts}
 
 stops_at : (p : ℕ → Bool) (text : List ℕ) (k : ℕ) → k < length text → p (get_or text k 0) ≡ false → stops p (drop k text) ≡ true
 stops_at p text k l e = ap (stops p) (drop-cons text k 0 l) ∙ ap not e

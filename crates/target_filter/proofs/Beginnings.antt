@@ -8,7 +8,7 @@ use Rattle.target_filter.specs.Grammar.{is_bare_byte, is_quotable_byte, is_nonem
 use Rattle.rollout_model.specs.Rules.{is_word_letter}
 use Rattle.target_filter.specs.Scanner as scan
 use Rattle.target_filter.specs.Scanner.{Mode, State, Move, run, next, step, state_after, mode_of_name, at_atom_start, at_operator, at_atom_end}
-use Rattle.target_filter.proofs.Readings.{both}
+use Rattle.target_filter.proofs.ScannedTrees.{both}
 
 -- the part of the level that is open: what stands before the last `,`, and behind it before the last `;`
 pub record Part : Type 0 where
@@ -46,13 +46,13 @@ or_spelled None x = refl
 or_spelled (Some t) x = sym (append_assoc (spelling t) (44 ∷ []) (spelling x))
 
 -- an atom is an and, an and is an or
-and_from_atom : (t : Tree) → is_at AtomLevel t ≡ true → is_at AndLevel t ≡ true
+pub and_from_atom : (t : Tree) → is_at AtomLevel t ≡ true → is_at AndLevel t ≡ true
 and_from_atom (Or a b) h = absurd (false≢true h)
 and_from_atom (And a b) h = absurd (false≢true h)
 and_from_atom (Group t) h = h
 and_from_atom (Comparison f m v) h = h
 
-or_from_and : (t : Tree) → is_at AndLevel t ≡ true → is_at OrLevel t ≡ true
+pub or_from_and : (t : Tree) → is_at AndLevel t ≡ true → is_at OrLevel t ≡ true
 or_from_and (Or a b) h = absurd (false≢true h)
 or_from_and (And a b) h = h
 or_from_and (Group t) h = h

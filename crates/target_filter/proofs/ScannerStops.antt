@@ -14,9 +14,9 @@ use Rattle.rollout_model.specs.Rules.{is_word_letter}
 use Rattle.target_filter.specs.Scanner as scan
 use Rattle.target_filter.specs.Scanner.{Mode, State, Move, run, next, step, state_after, mode_of_name, at_atom_start, at_operator, at_atom_end, start, accepts, Stops, Ends}
 use Rattle.std.proofs.lemmas.Option.{option_and_then_some}
-use Rattle.target_filter.proofs.Shown.{Begun}
-use Rattle.target_filter.proofs.Moves.{eq_true, by_test, accepted, Stands, run_stands, start_stands}
-use Rattle.target_filter.proofs.Longest.{left_ascii, run_append, can_continue, dead, dead_from, filter_accepted}
+use Rattle.target_filter.proofs.Beginnings.{Begun}
+use Rattle.target_filter.proofs.ScannerMoves.{eq_true, by_test, accepted, Stands, run_stands, start_stands}
+use Rattle.target_filter.proofs.LongestBeginnings.{left_ascii, run_append, can_continue, dead, dead_from, filter_accepted}
 
 -- only in quotes there are bytes from 128 on
 abbrev Small : ℕ → Move → Type 0
