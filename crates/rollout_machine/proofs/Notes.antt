@@ -1,11 +1,8 @@
 -- How many notes a command adds to an action.
 use Rattle.rollout_machine.specs.Actions.{HistoryEntry, entries_of}
-use Rattle.rollout_machine.specs.Commands.{Command, Outcome}
 use Rattle.rollout_machine.specs.Promises.{NotesGrow}
-use Rattle.rollout_machine.specs.RecordSteps.{action_after}
-use Rattle.rollout_machine.specs.Records.{ActionRecord}
 use Rattle.rollout_machine.specs.Verdicts.{is_note, notes_of}
-use Rattle.std.proofs.Common.{◌≡◌, ℕ, ◌+◌, suc, Bool, true, false, cond, List, [], ◌∷◌, ◌++◌, Option, Some, None, length, refl, arith}
+use Rattle.std.proofs.Common.{◌≡◌, ◌+◌, Bool, true, false, cond, List, [], ◌∷◌, ◌++◌, length, refl, arith}
 use Rattle.std.specs.Prelude.{filter, is_none}
 
 notes_both : (es fs : List HistoryEntry) → length (filter is_note (es ++ fs)) ≡ length (filter is_note es) + length (filter is_note fs)

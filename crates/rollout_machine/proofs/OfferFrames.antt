@@ -2,25 +2,24 @@
 use Rattle.rollout_machine.specs.Actions.{ActionPlace, action_place, action_places, action_of, is_on_action, is_action_place, is_canceling, new_places, outcome, cancel_stands}
 use Rattle.rollout_machine.specs.ByteStrings.{item_numbered}
 use Rattle.rollout_machine.specs.CommandList.{CommandList, ◌▸◌}
-use Rattle.rollout_machine.specs.Commands.{Bytes, Command, Start, Outcome}
+use Rattle.rollout_machine.specs.Commands.{Bytes, Command, Outcome}
 use Rattle.rollout_machine.specs.Meanings.{IsOfferable, IsLeastOffer}
 use Rattle.rollout_machine.specs.Offers.{Offer, offer}
 use Rattle.rollout_machine.specs.Progress.{is_group_started}
-use Rattle.rollout_machine.specs.Promises.{IsUntouched, OffersStay, StartsGroup}
+use Rattle.rollout_machine.specs.Promises.{IsUntouched, OffersStay}
 use Rattle.rollout_machine.specs.Records.{records}
-use Rattle.rollout_machine.specs.Rollouts.{Rollout, rollout_at, rollouts}
+use Rattle.rollout_machine.specs.Rollouts.{Rollout, rollout_at}
 use Rattle.rollout_machine.specs.Validity.{IsValid}
-use Rattle.rollout_machine.specs.Verdicts.{verdict}
 use Rattle.rollout_machine.proofs.Distinct.{new_at}
-use Rattle.rollout_machine.proofs.Induction.{Invariant, invariant_of, stays_numbered, either_numbered, never_started}
+use Rattle.rollout_machine.proofs.Induction.{invariant_of, stays_numbered, either_numbered, never_started}
 use Rattle.rollout_machine.proofs.Offers.{offer_is_least}
 use Rattle.rollout_machine.proofs.Recounts.{stays_there, new_rollout_there}
 use Rattle.rollout_machine.proofs.Starts.{kept_started}
 use Rattle.rollout_machine.proofs.Tallies.{untouched, closed_stays}
 use Rattle.rollout_machine.proofs.Valid.{IsPlace}
-use Rattle.std.proofs.Common.{◌≡◌, ◌⊎◌, ℕ, zero, suc, ◌<◌, Bool, true, false, cond, ◌&&◌, Option, Some, None, inl, inr, refl, sym, ap, subst, ◌∙◌}
-use Rattle.std.specs.Prelude.{slice_get, nat_eq, is_none, is_some}
-use Rattle.std.proofs.lemmas.Bool.{and_parts, cases_Bool, cases_order, eqb-true, false≢true}
+use Rattle.std.proofs.Common.{◌≡◌, ◌⊎◌, ℕ, Bool, true, false, ◌&&◌, Option, Some, None, inl, inr, refl, sym, ap, ◌∙◌}
+use Rattle.std.specs.Prelude.{slice_get, nat_eq}
+use Rattle.std.proofs.lemmas.Bool.{and_parts, cases_Bool, cases_order, eqb-true}
 
 -- the command is not on an action of an untouched target
 off : (h : CommandList) (c : Command) (t : Bytes) (k : ℕ) (p : ActionPlace) → IsUntouched h c t → (x : Rollout) → rollout_at h p.rollout ≡ Some x → item_numbered x.members p.position ≡ Some t → is_on_action h c p.rollout p.position ≡ false

@@ -1,16 +1,16 @@
 -- Answers at their borders: what is shown, what is not found, pages, offers and downloads.
 use Rattle.rollout_machine.specs.Answers.{query_reply, command_reply}
-use Rattle.rollout_machine.specs.Commands.{Bytes, ModuleLabel, Upload, SetLabel, Command, AddModule, AddArtifact, AddSet, PutTargets, CreateRollout, Start, Pause, Cancel, Succeeded, Attribute}
+use Rattle.rollout_machine.specs.Commands.{ModuleLabel, AddModule, AddArtifact, AddSet, PutTargets, CreateRollout, Cancel, Succeeded}
 use Rattle.rollout_machine.specs.Actions.{DeploymentEntry}
 use Rattle.rollout_machine.specs.RecordSteps.{no_records, step_records}
 use Rattle.rollout_machine.specs.Records.{ArtifactRecord, Records}
-use Rattle.rollout_machine.specs.Replies.{Reply, Refused, Done, ModuleAdded, ArtifactAdded, SetAdded, TargetsPut, RolloutAdded, PollShown, DeploymentShown, CancelShown, ContentsShown, TargetsShown, ActionsShown, ActionShown, HistoryShown, ModulesShown, ModuleShown, ArtifactsShown, ArtifactShown, SetShown, RolloutsShown, GroupShown, ActionsTableShown, PageOf, Module, Artifact, ShownTarget, ShownAction}
-use Rattle.rollout_machine.specs.Requests.{Page, Query, Poll, ShowDeployment, ShowCancel, Download, ShowTargets, ShowTarget, ShowTargetActions, ShowAction, ShowHistory, ShowModules, ShowModule, ShowArtifacts, ShowArtifact, ShowContents, ShowSet, ShowRollouts, ShowGroup, ShowGroupTargets, ShowReport, ShowActionsTable}
-use Rattle.rollout_machine.specs.StateWords.{ReadyRollout, RunningRollout, FinishedGroup, RunningGroup, ScheduledGroup, RunningAction, ScheduledAction, FinishedAction, Unknown, Pending}
+use Rattle.rollout_machine.specs.Replies.{Refused, ModuleAdded, ArtifactAdded, SetAdded, TargetsPut, PollShown, DeploymentShown, CancelShown, ContentsShown, TargetsShown, ActionsShown, ActionShown, HistoryShown, ModulesShown, ModuleShown, ArtifactsShown, ArtifactShown, RolloutsShown, GroupShown, ActionsTableShown, Module, Artifact, ShownTarget, ShownAction}
+use Rattle.rollout_machine.specs.Requests.{Page, Poll, ShowDeployment, ShowCancel, Download, ShowTargets, ShowTarget, ShowTargetActions, ShowAction, ShowHistory, ShowModules, ShowModule, ShowArtifacts, ShowArtifact, ShowContents, ShowRollouts, ShowGroup, ShowGroupTargets, ShowActionsTable}
+use Rattle.rollout_machine.specs.StateWords.{RunningGroup, ScheduledGroup, RunningAction, ScheduledAction, Unknown}
 use Rattle.rollout_machine.proofs.Examples.Fleet.{device, token, plan_for, only, everyone, fleet, set_up, rolled_out, by, succeeds, run_of}
 use Rattle.rollout_model.specs.declared.refusal.Refusal.TheVariants.{Unauthorized, NotFound, BadFilter}
-use Rattle.std.proofs.Common.{◌≡◌, ℕ, Bool, true, false, List, [], ◌∷◌, ◌++◌, Option, Some, None, refl}
-use Rattle.std.specs.Prelude.{map, codes, length}
+use Rattle.std.proofs.Common.{◌≡◌, ℕ, Bool, true, false, [], ◌∷◌, ◌++◌, Some, None, refl}
+use Rattle.std.specs.Prelude.{map, codes}
 
 abbrev base : Records
 base = no_records false
