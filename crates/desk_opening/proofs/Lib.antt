@@ -1,3 +1,6 @@
 pub mod Steps
 pub mod Tables
 pub mod MakeLemmas
+pub mod OpeningLemmas
+pub mod ChoiceLemmas
+pub mod ReopenLemmas

@@ -1,7 +1,6 @@
 -- A new desk, from BEGIN to COMMIT.
-use Rattle.std.proofs.Common.{◌≡◌, ◌⊎◌, inl, inr, ℕ, Bool, List, [], ◌∷◌, codes, pos, Ok, Err, Result, IsErr, IfErr, if◌then◌else◌, None, false, refl, sym, ap, subst, ◌∙◌, arith}
+use Rattle.std.proofs.Common.{◌≡◌, ◌⊎◌, inl, ℕ, Bool, List, [], ◌∷◌, codes, pos, Ok, Err, Result, IsErr, IfErr, if◌then◌else◌, None, false, refl, sym, ap, subst, ◌∙◌, arith}
 use Rattle.sqlite_value.specs.declared.value.Value.TheVariants.{Int}
-use Rattle.sqlite.specs.Order.{Row}
 use Rattle.sqlite.specs.Tree.{Trees}
 use Rattle.sqlite.specs.Effect.{Database}
 use Rattle.sqlite.specs.Schema.{Schema}
@@ -13,14 +12,14 @@ use Rattle.sqlite_resolve.specs.declared.error.CompileError.{CompileError}
 use Rattle.sqlite_resolve.specs.Compile.{first}
 use Rattle.sqlite_catalog.specs.Change.{is_used}
 use Rattle.sql_front.proofs.Write.{Makes as Makes', with_create, makes_known}
-use Rattle.sqlite.specs.Command.TheVariants.{Begin, Commit, CreateTable, Insert}
+use Rattle.sqlite.specs.Command.TheVariants.{CreateTable, Insert}
 use Rattle.sqlite.specs.Source.TheVariants.{Values}
-use Rattle.sqlite.specs.State.{State, HasCleanDisk, Runs, Writes, text_of}
+use Rattle.sqlite.specs.State.{State, HasCleanDisk, Writes, text_of}
 use Rattle.sqlite.proofs.Callers.{statement_of}
 use Rattle.sql_calls.specs.declared.fault.Fault.{Fault}
 use Rattle.sql_calls.specs.Calls.{RunsText}
-use Rattle.sql_calls.specs.Standing.{Wears, HoldIn, IsAtRest, Rests, Changes}
-use Rattle.sql_calls.proofs.Means.{Means, Known}
+use Rattle.sql_calls.specs.Standing.{Wears, Rests, Changes}
+use Rattle.sql_calls.proofs.Means.{Known}
 use Rattle.sql_calls.proofs.Leavings.{IsSettled}
 use Rattle.sql_calls.proofs.Ends.{begin_is, commit_is}
 use Rattle.sql_calls.proofs.Changes as change
@@ -30,7 +29,7 @@ use Rattle.desk_records.specs.declared.texts.TheConstants.{CREATE_DESK, CREATE_M
 use Rattle.desk_records.proofs.Meaning.{create_desk_is, create_module_is, create_desk_makes, create_module_makes, put_desk_is, desk_terms}
 use Rattle.desk_records.specs.Schema.{desk_table, module_table}
 use Rattle.desk_opening.specs.declared.making.TheConstants.{BEGIN, COMMIT}
-use Rattle.desk_opening.specs.Making.{HoldsStage, Stage, Free, HasDesk, HasTables, Whole, LeavesNoDesk, LeavesDesk, first_records, MakesTables, Makes}
+use Rattle.desk_opening.specs.Making.{HoldsStage, Free, HasDesk, HasTables, Whole, LeavesNoDesk, LeavesDesk, first_records, MakesTables, Makes}
 use Rattle.desk_opening.proofs.Steps.{step, step_fails}
 use Rattle.desk_opening.proofs.Tables.{desk_made, modules_made, desk_filled}
 
@@ -98,7 +97,6 @@ module _ {F : Type 0} (a b : State) where
     both_made h = record { wears = omega (arith, first.survives.clean, h.survives.clean); makes = λ was. has_tables b c (has_desk a b was first) h }
 
 -- ---- the whole
-
 
 same_rest : (s : State) (r : Records) → Rests HoldsStage s (Whole r) → Rests HoldsRecords s r
 same_rest s r was clean = let first = was clean in record { mode = first.mode; now_holds = first.now_holds; kept_holds = first.kept_holds; crash = first.crash }

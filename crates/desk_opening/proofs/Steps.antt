@@ -25,7 +25,7 @@ module _ {R : Type 0} (Holds : Database → R → Type 0) (sql : List ℕ) (para
 
   pub step : (next : R) → RunsText old new sql params (Ok tt)
       → ((holds : Holds old.now now) (count : ℕ) → Runs old new None (knows holds).command (statement_of sql (understood old.now.schema sql)) params count
-        → (w : Writes old new None (knows holds).command (statement_of sql (understood old.now.schema sql)) params count) × Holds new.now next)
+      → (w : Writes old new None (knows holds).command (statement_of sql (understood old.now.schema sql)) params count) × Holds new.now next)
       → Changes Holds new next kept
   step next h effect clean =
       let first = was (omega (arith, h.survives.clean)) in

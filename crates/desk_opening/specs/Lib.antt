@@ -1,1 +1,4 @@
 pub mod Making
+pub mod Opening
+pub mod Reopening
+pub mod Faults

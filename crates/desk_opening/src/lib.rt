@@ -2,6 +2,10 @@
 #![tactic(auto)]
 
 mod making;
+mod opening;
+mod reopening;
 mod running;
 
 pub use crate::making::make;
+pub use crate::opening::{OpenFault, adopt, open_desk};
+pub use crate::reopening::{reopen_files, reopen_path};

@@ -34,7 +34,10 @@ fn fill<S: Alter>(conn: &mut Connection<S>, approval: bool) -> Result<(), Fault>
 }
 
 /// Makes a new desk in the connection's database, which uses none of its names.
-pub fn make<S: Alter + Drop>(mut conn: Connection<S>, approval: bool) -> Result<Connection<S>, Fault>
+pub fn make<S: Alter + Drop>(
+    mut conn: Connection<S>,
+    approval: bool,
+) -> Result<Connection<S>, Fault>
     ensures made { IfOk result (λ made. Makes (state S.Store conn) (state S.Store made) approval result) }
     ensures refused { IfErr result (λ e. (last : _) × Makes (state S.Store conn) (state S.Store last) approval result) }
 {

@@ -1,15 +1,21 @@
 //! A desk that is there already.
 
-ghost use Rattle.std.specs.Prelude.{◌≡◌, IfOk, IfErr, IsTrue, Ok};
+ghost use Rattle.std.specs.Prelude.{◌≡◌, IfOk, IfErr, IsTrue, Ok, codes, true, false, ◌||◌};
+ghost use Rattle.sqlite_catalog.specs.Change.{is_used};
+ghost use Rattle.sql_front.specs.Free.{LeavesFree};
+ghost use Rattle.desk_records.specs.Schema.{desk_names};
+ghost use Rattle.sqlite_value.specs.Order.{column};
+ghost use Rattle.desk_records.specs.ModuleRow.{StoredText};
 ghost use Rattle.sqlite.specs.Compile.{table_defined_by};
 ghost use Rattle.sqlite.specs.Held.{state};
-ghost use Rattle.sqlite.specs.State.{HasCleanDisk};
-ghost use Rattle.desk_opening.specs.Opening.{HasDeskTables, Keeps};
+ghost use Rattle.desk_opening.specs.Faults.{fault_row};
+ghost use Rattle.desk_opening.specs.Opening.{HasDeskTables, IsDeskRow, IsSettled, Keeps, OpensDesk};
 
+use crate::making::make;
 use desk_records::{CREATE_DESK, CREATE_MODULE, GET_DESK};
-use sql_calls::{Calls, Fault};
-use sql_front::stands;
-use sqlite::{Alter, Connection, Row};
+use sql_calls::{Calls, Fault, fault_of};
+use sql_front::{stands, uses_name};
+use sqlite::{Alter, Connection, Error, Row};
 use sqlite_resolve::{CompileError, define_table};
 use sqlite_schema::schema::{Schema, Table};
 use std::alloc::Global;
@@ -29,7 +35,9 @@ pub enum OpenFault {
 
 impl OpenFault {
     /// From 1 on, in the order of the variants.
-    pub fn number(self) -> u8 {
+    pub fn number(self) -> u8
+        ensures { result ≡ (fault_row self).number }
+    {
         match self {
             OpenFault::NotDesk => 1,
             OpenFault::NewerVersion => 2,
@@ -38,11 +46,13 @@ impl OpenFault {
         }
     }
 
-    /// One or two words.
-    pub fn name(self) -> &'static str {
+    /// The word that is printed beside the number.
+    pub fn name(self) -> &'static str
+        ensures { result.now ≡ (fault_row self).name }
+    {
         match self {
-            OpenFault::NotDesk => "not a desk",
-            OpenFault::NewerVersion => "newer version",
+            OpenFault::NotDesk => "not_desk",
+            OpenFault::NewerVersion => "newer_version",
             OpenFault::Memory => "memory",
             OpenFault::Store => "store",
         }
@@ -66,7 +76,10 @@ fn has_desk_tables(alloc: Global, schema: &Schema) -> Result<bool, OpenFault>
 {
     let desk = table_of(alloc, CREATE_DESK)?;
     let modules = table_of(alloc, CREATE_MODULE)?;
-    Ok(stands(schema, &desk) && stands(schema, &modules))
+    if !stands(schema, &desk) {
+        return Ok(false);
+    }
+    Ok(stands(schema, &modules))
 }
 
 /// Reads the row of `desk`, and leaves what stood.
@@ -77,4 +90,99 @@ fn read_desk_row<S: Alter>(calls: &mut Calls<S>) -> Result<Option<Row>, Fault>
     let row = calls.first(GET_DESK, &[])?;
     calls.roll_back()?;
     Ok(row)
+}
+
+/// Whether the row is a desk's, of this version.
+fn judge(row: &Row) -> Result<(), OpenFault>
+    ensures { IfOk result (λ _. IsDeskRow row.now) }
+{
+    if !has_format(row)? {
+        return Err(OpenFault::NotDesk);
+    }
+    match row.get::<i64>(1) {
+        Ok(1) => Ok(()),
+        Ok(version) if version > 1 => Err(OpenFault::NewerVersion),
+        Ok(_) => Err(OpenFault::NotDesk),
+        Err(error) => Err(unread(error)),
+    }
+}
+
+/// Whether the row begins with the format of a desk.
+fn has_format(row: &Row) -> Result<bool, OpenFault>
+    ensures { IfOk result (λ found. IsTrue found → column row.now 0 ≡ StoredText (codes "fwdesk")) }
+{
+    match row.get::<String>(0) {
+        Ok(format) => Ok(format.as_str() == "fwdesk"),
+        Err(error) => Err(unread(error)),
+    }
+}
+
+/// The fault of a column that can't be read.
+fn unread(error: Error) -> OpenFault {
+    match fault_of(error) {
+        Fault::Memory => OpenFault::Memory,
+        Fault::Store => OpenFault::NotDesk,
+    }
+}
+
+pub(crate) fn open_fault(fault: Fault) -> OpenFault {
+    match fault {
+        Fault::Memory => OpenFault::Memory,
+        Fault::Store => OpenFault::Store,
+    }
+}
+
+/// Reads the row of `desk`, and judges it.
+fn check_row<S: Alter>(calls: &mut Calls<S>) -> Result<(), OpenFault>
+    ensures keeps { Keeps (state S.Store calls.old.conn) (state S.Store calls.new.conn) result }
+{
+    match read_desk_row(calls) {
+        Ok(Some(row)) => judge(&row),
+        Ok(None) => Err(OpenFault::NotDesk),
+        Err(fault) => Err(open_fault(fault)),
+    }
+}
+
+/// Takes a database as the desk that it holds.
+pub fn adopt<S: Alter + Drop>(
+    alloc: Global,
+    conn: Connection<S>,
+) -> Result<Connection<S>, OpenFault>
+    ensures adopted { IfOk result (λ adopted. Keeps (state S.Store conn) (state S.Store adopted) result) }
+    ensures whole { IfOk result (λ adopted. HasDeskTables (state S.Store conn).now.schema) }
+    ensures refused { IfErr result (λ e. (last : _) × Keeps (state S.Store conn) (state S.Store last) result) }
+{
+    if !has_desk_tables(alloc, conn.schema())? {
+        return Err(OpenFault::NotDesk);
+    }
+    let mut calls = Calls::new(conn);
+    check_row(&mut calls)?;
+    Ok(calls.into_connection())
+}
+
+/// Whether a table, an index or a view has a name of a desk's tables, whatever the case of ASCII letters.
+fn uses_desk_name(schema: &Schema) -> bool
+    ensures used { IsTrue result → (is_used schema.now (codes "desk") || is_used schema.now (codes "module")) ≡ true }
+    ensures free { result ≡ false → LeavesFree schema.now desk_names }
+{
+    uses_name(schema, "desk") || uses_name(schema, "module")
+}
+
+/// Opens the desk in a connection's database: the one that is there, or a new one where no name of a desk is used.
+pub fn open_desk<S: Alter + Drop>(
+    alloc: Global,
+    conn: Connection<S>,
+    approval_if_new: bool,
+) -> Result<Connection<S>, OpenFault>
+    ensures opened { IfOk result (λ opened. OpensDesk (state S.Store conn) (state S.Store opened) approval_if_new result) }
+    ensures refused { IfErr result (λ e. (last : _) × OpensDesk (state S.Store conn) (state S.Store last) approval_if_new result) }
+    ensures settled { IsSettled (state S.Store conn) }
+{
+    if uses_desk_name(conn.schema()) {
+        return adopt(alloc, conn);
+    }
+    match make(conn, approval_if_new) {
+        Ok(made) => Ok(made),
+        Err(fault) => Err(open_fault(fault)),
+    }
 }

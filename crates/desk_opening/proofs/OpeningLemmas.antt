@@ -1,0 +1,81 @@
+-- The row of `desk` is read in a change that is given up.
+use Rattle.std.proofs.Common.{◌≡◌, inl, inr, [], codes, Option, Ok, Err, Result, IsErr, IfErr, subst, arith}
+use Rattle.sqlite.specs.Order.{Row}
+use Rattle.sqlite.specs.Tree.{Trees}
+use Rattle.sqlite.specs.Command.TheVariants.{Select}
+use Rattle.sqlite.specs.Effect.{Database}
+use Rattle.sqlite.specs.State.{State, HasCleanDisk}
+use Rattle.sql_calls.specs.declared.fault.Fault.{Fault}
+use Rattle.sql_calls.specs.Calls.{RunsText, TakesFirst}
+use Rattle.sql_calls.specs.Standing.{Wears, HoldIn, Rests, Changes, Spoils}
+use Rattle.sql_calls.proofs.Means.{Known}
+use Rattle.sql_calls.proofs.Ends.{begin_is, rollback_is}
+use Rattle.sql_calls.proofs.Changes as change
+use Rattle.rollout_machine.specs.Records.{Records}
+use Rattle.desk_records.specs.Schema.{Desk}
+use Rattle.desk_records.specs.Holds.{HoldsRecords}
+use Rattle.desk_records.specs.declared.texts.TheConstants.{GET_DESK}
+use Rattle.desk_records.proofs.Meaning.{desk_query, get_desk_is}
+use Rattle.desk_opening.specs.Opening.{Keeps}
+
+knows_row : (db : Database) (r : Records) → HoldsRecords db r → Known db.schema GET_DESK.now
+knows_row db r holds = record { command = Select (record { lets = []; body = desk_query (holds.spot Desk).tree }) _; means = get_desk_is db.schema (holds.spot Desk).at (holds.spot Desk).tree (holds.stands Desk) }
+
+-- every crash leaves what stood
+abbrev pub LeavesAll : State → State → Type 0
+LeavesAll a z = (r : Records) → Rests HoldsRecords a r → HasCleanDisk z → (db : Trees) → z.may_leave db → HoldIn HoldsRecords db r
+
+pub keeps_err : {A E : Type 0} (a z : State) → Wears a z → LeavesAll a z → (out : Result A E) → IsErr out → Keeps a z out
+keeps_err a z wears leaves (Ok x) bad = absurd (cc)
+keeps_err a z wears leaves (Err e) bad = record { wears = wears; keeps = leaves }
+
+pub keeps_same : {A B E F : Type 0} (a z : State) (e : E) → Keeps {A = A} a z (Err e) → (out : Result B F) → IsErr out → Keeps a z out
+keeps_same a z e h (Ok x) bad = absurd (cc)
+keeps_same a z e h (Err f) bad = record { wears = h.wears; keeps = h.keeps }
+
+-- what stands is what every crash leaves
+pub leaves_still : {A E : Type 0} (a z : State) (x : A) → Keeps {E = E} a z (Ok x) → LeavesAll a z
+leaves_still a z x h r was clean db left = (h.keeps r was clean).crash db left
+
+module _ (a b : State) where
+  pub not_begun : (fault : Fault) → RunsText a b (codes "BEGIN") [] (Err fault) → LeavesAll a b
+  not_begun fault h r was clean db left = (change.not_begun HoldsRecords (codes "BEGIN") a b (begin_is a.now.schema) r was fault h clean).crash db left
+
+  module _ (first : RunsText a b (codes "BEGIN") [] (Ok tt)) (c : State) where
+    began : (r : Records) → Rests HoldsRecords a r → Changes HoldsRecords b r r
+    began r was = change.begun HoldsRecords (codes "BEGIN") a b (begin_is a.now.schema) r was first
+
+    pub not_taken : (fault : Fault) → TakesFirst b c GET_DESK.now [] (Err fault) → LeavesAll a c
+    not_taken fault h r was clean db left = (change.taken_err HoldsRecords GET_DESK.now [] b c r r (began r was) knows_row fault h clean).crash db left
+
+    module _ (row : Option Row) (second : TakesFirst b c GET_DESK.now [] (Ok row)) (d : State) where
+      taken : (r : Records) → Rests HoldsRecords a r → Spoils HoldsRecords c r
+      taken r was = change.spoils HoldsRecords c r r (change.taken_ok HoldsRecords GET_DESK.now [] b c r r (began r was) knows_row row second)
+
+      pub not_ended : (fault : Fault) → RunsText c d (codes "ROLLBACK") [] (Err fault) → LeavesAll a d
+      not_ended fault h r was clean db left = elim ((change.not_given_up HoldsRecords (codes "ROLLBACK") c d r (taken r was) (rollback_is c.now.schema) fault h clean).crash db left) [ inl one ↦ one | inr other ↦ other ]
+
+      pub ended : {A E : Type 0} (x : A) → RunsText c d (codes "ROLLBACK") [] (Ok tt) → Keeps {E = E} a d (Ok x)
+      ended x h = record {
+        wears = omega (arith, first.survives.clean, second.survives.clean, h.survives.clean);
+        keeps = λ r was. change.given_up HoldsRecords (codes "ROLLBACK") c d r (taken r was) (rollback_is c.now.schema) h;
+      }
+
+-- ---- a connection that is dropped
+
+pub last_keeps : {X A F : Type 0} (view : X → State) (old : State) (last : X) → Wears old (view last) → LeavesAll old (view last) → (out : Result A F) → IfErr out (λ _. (x : X) × Keeps old (view x) out)
+last_keeps view old last wears leaves (Ok a) = tt
+last_keeps view old last wears leaves (Err f) = (last, record { wears = wears; keeps = leaves })
+
+-- what comes after the reading changes nothing
+pub keeps_either : {A B E F : Type 0} (a z : State) (x : A) → Keeps {E = E} a z (Ok x) → (out : Result B F) → Keeps a z out
+keeps_either a z x h (Ok y) = record { wears = h.wears; keeps = h.keeps }
+keeps_either a z x h (Err f) = record { wears = h.wears; keeps = leaves_still a z x h }
+
+pub keeps_none : (a : State) → Wears a a × LeavesAll a a
+keeps_none a = (omega arith, λ r was clean db left. (was clean).crash db left)
+
+-- a connection that was wrapped is the same
+pub keeps_wrapped : {X A E F B : Type 0} (view : X → State) (old first : X) (last : X) (e : E) → first ≡ old → Keeps {A = A} (view first) (view last) (Err e) → (out : Result B F) → IfErr out (λ _. (x : X) × Keeps (view old) (view x) out)
+keeps_wrapped view old first last e same h (Ok a) = tt
+keeps_wrapped {F = F} {B = B} view old first last e same h (Err f) = (last, subst (λ x. Keeps {A = B} {E = F} (view x) (view last) (Err f)) same (record { wears = h.wears; keeps = h.keeps }))
