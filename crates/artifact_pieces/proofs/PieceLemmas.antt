@@ -1,12 +1,14 @@
 -- Pieces, put together, are the contents.
-use Rattle.std.proofs.Common.{◌≡◌, ◌<◌, ◌∷◌, ◌+◌, ◌-◌, ◌*◌, ◌++◌, ℕ, List, length, take, drop, refl, arith, ◌∙◌, sym, zero, suc}
-use Rattle.std.specs.Prelude.{map}
+use Rattle.std.proofs.Common.{◌≡◌, ◌≤◌, ◌<◌, ◌∷◌, ◌+◌, ◌-◌, ◌*◌, ◌++◌, ℕ, List, length, take, drop, refl, arith, ◌∙◌, sym, zero, suc}
+use Rattle.std.specs.Prelude.{map, All}
+use Rattle.std.proofs.lemmas.List.Elements.{All-nil, All-cons}
+use Rattle.artifact_pieces.specs.declared.pieces.Piece.{Piece}
 use Rattle.std.specs.List.{flat_map, range_with_len}
 use Rattle.std.proofs.Math.Seq.{take-add}
 use Rattle.std.proofs.Math.Nat.{suc-mul, sub-zero}
 use Rattle.std.proofs.lemmas.List.{take_min, take_all, drop-drop, length-drop}
 use Rattle.std.proofs.lemmas.Grind.{div_ceil_times}
-use Rattle.artifact_pieces.specs.Pieces.{piece_at, piece_bytes, piece_count, pieces_from, PiecesMakeTheWhole}
+use Rattle.artifact_pieces.specs.Pieces.{piece_at, piece_bytes, piece_count, pieces_from, PiecesFit, PiecesMakeTheWhole}
 use Rattle.rollout_model.specs.Limits.{piece_length}
 
 -- a piece is the next bytes, as many as there are
@@ -34,3 +36,20 @@ pub pieces_make_the_whole : PiecesMakeTheWhole
 pieces_make_the_whole bs =
     let whole : piece_count (length bs) - 0 ≡ piece_count (length bs) = sub-zero (piece_count (length bs)) in
     rw whole (first_pieces bs (piece_count (length bs)) 0 ∙ take_all (piece_count (length bs) * piece_length) bs (div_ceil_times (length bs) piece_length (omega arith)).0)
+
+-- it has a byte, and ends within the contents
+abbrev Fits : ℕ → Piece → Type 0
+Fits total piece = (1 ≤ piece.len) × (piece.from + piece.len ≤ total)
+
+piece_fits : (total place : ℕ) → place < piece_count total → Fits total (piece_at total place)
+piece_fits total place before =
+    let bounds = div_ceil_times total piece_length (omega arith) in
+    (omega (arith, before, bounds.0, bounds.1), omega (arith, before, bounds.0, bounds.1))
+
+pieces_fit_from : (total n place : ℕ) → place + n ≤ piece_count total → All (Fits total) (map (piece_at total) (range_with_len place n))
+pieces_fit_from total zero place within = All-nil (Fits total)
+pieces_fit_from total (suc n) place within =
+    All-cons (Fits total) (piece_at total place) (map (piece_at total) (range_with_len (place + 1) n)) (piece_fits total place (omega (arith, within))) (pieces_fit_from total n (place + 1) (omega (arith, within)))
+
+pub pieces_fit : PiecesFit
+pieces_fit total = pieces_fit_from total (piece_count total - 0) 0 (omega arith)

@@ -1,8 +1,7 @@
 -- How contents are cut into pieces.
-use Rattle.std.specs.Prelude.{ℕ, ◌-◌, ◌*◌, ◌≡◌, min, map, List, length, take, drop}
-use Rattle.std.specs.List.{flat_map}
+use Rattle.std.specs.Prelude.{ℕ, All, ◌≤◌, ◌+◌, ◌-◌, ◌*◌, ◌≡◌, min, map, List, length, take, drop}
+use Rattle.std.specs.List.{flat_map, range_with_len}
 use Rattle.std.specs.Int.{div_ceil}
-use Rattle.std.specs.List.{range_with_len}
 use Rattle.artifact_pieces.specs.declared.pieces.Piece.{Piece}
 use Rattle.rollout_model.specs.Limits.{piece_length}
 
@@ -28,3 +27,7 @@ piece_bytes contents piece = take piece.len (drop piece.from contents)
 -- the pieces of some contents, one after the other, are the contents
 abbrev pub PiecesMakeTheWhole : Type 0
 PiecesMakeTheWhole = (contents : List ℕ) → flat_map (piece_bytes contents) (pieces_of (length contents)) ≡ contents
+
+-- each piece has a byte, and ends within the contents
+abbrev pub PiecesFit : Type 0
+PiecesFit = (total : ℕ) → All (λ piece. (1 ≤ piece.len) × (piece.from + piece.len ≤ total)) (pieces_of total)

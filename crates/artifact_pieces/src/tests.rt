@@ -6,8 +6,8 @@ use std::test::Fail;
 
 /// Of "abc", FIPS 180-4's own example.
 const ABC: &str = "ba7816bf8f01cfea414140de5dae2223b00361a396177a9cb410ff61f20015ad";
-const ABC_IN_UPPER_CASE: &str =
-    "BA7816BF8F01CFEA414140DE5DAE2223B00361A396177A9CB410FF61F20015AD";
+
+const ABC_IN_UPPER_CASE: &str = "BA7816BF8F01CFEA414140DE5DAE2223B00361A396177A9CB410FF61F20015AD";
 /// 64 letters, one of them no hexadecimal digit.
 const NO_DIGEST: &str = "ga7816bf8f01cfea414140de5dae2223b00361a396177a9cb410ff61f20015ad";
 /// Of the empty message.
@@ -35,9 +35,27 @@ fn pieces(rt: HostRuntime) -> Result<(), Fail> {
     assert_eq!(rt; cut(0).count(), 0);
     assert_eq!(rt; cut(65_536).count(), 1);
     let mut three = cut(150_000);
-    assert_eq!(rt; three.next(), Some(Piece { from: 0, len: 65_536 }));
-    assert_eq!(rt; three.next(), Some(Piece { from: 65_536, len: 65_536 }));
-    assert_eq!(rt; three.next(), Some(Piece { from: 131_072, len: 18_928 }));
+    assert_eq!(rt;
+        three.next(),
+        Some(Piece {
+            from: 0,
+            len: 65_536
+        })
+    );
+    assert_eq!(rt;
+        three.next(),
+        Some(Piece {
+            from: 65_536,
+            len: 65_536
+        })
+    );
+    assert_eq!(rt;
+        three.next(),
+        Some(Piece {
+            from: 131_072,
+            len: 18_928
+        })
+    );
     assert_eq!(rt; three.next(), None);
     let parts = vec![in alloc; vec![in alloc; 1, 2]?, vec![in alloc; 3]?]?;
     match join(alloc, parts.as_slice()) {

@@ -9,3 +9,6 @@ mod thresholds;
 pub use effects::{after_feedback, after_resume, after_trigger};
 pub use groups::{cut_groups, group_bounds};
 pub use thresholds::{error_begins, success_holds};
+
+#[cfg(test)]
+mod tests;

@@ -141,10 +141,10 @@ module_rows k db now holds names rows shown =
     let same = simple_rows tree (at_key 0 0 ∷ []) label_columns params db.trees rows (shown.answer Null) in
     let next : 1 + k ≡ suc k = omega arith in
     let found : filter (passes (at_key 0 0 ∷ []) params) (db.trees tree) ≡ row_of module_row (λ n x. refl) (suc k) (slice_get now.modules k) =
-        ap (filter (passes (at_key 0 0 ∷ []) params)) (holds.rows Modules)
-        ∙ filter_numbered module_row (λ n x. refl) (passes (at_key 0 0 ∷ []) params) (suc k) 1 now.modules (λ m x. passes_number (suc k) m x)
-        ∙ ap (λ n. filter (has_number module_row (λ n x. refl) n) (rows_from module_row 1 now.modules)) (sym next)
-        ∙ at_number module_row (λ n x. refl) 1 k now.modules ∙ ap (λ n. row_of module_row (λ n x. refl) n (slice_get now.modules k)) next in
+    ap (filter (passes (at_key 0 0 ∷ []) params)) (holds.rows Modules)
+    ∙ filter_numbered module_row (λ n x. refl) (passes (at_key 0 0 ∷ []) params) (suc k) 1 now.modules (λ m x. passes_number (suc k) m x)
+    ∙ ap (λ n. filter (has_number module_row (λ n x. refl) n) (rows_from module_row 1 now.modules)) (sym next)
+    ∙ at_number module_row (λ n x. refl) 1 k now.modules ∙ ap (λ n. row_of module_row (λ n x. refl) n (slice_get now.modules k)) next in
     subst (λ l. IsPermutation (map (shown_of label_columns params) l) rows) found same
 
 pub gets_module : (number : ℕ) → 1 ≤ number → (db : Database) (now : Records) (holds : HoldsRecords db now) (names : List (List ℕ)) (row : Option Row)

@@ -43,8 +43,11 @@ pub fails_at : (row : Row) (at : ℕ) (e : Error) (c : Column) → (e ≢ Sqlite
     → (fault_at e c ≡ Memory) ⊎ ((fault_at e c ≡ Broken c) × (has_text (column row at) ≡ false))
 fails_at row at e c kind = elim (told e c) [
   | inl memory ↦ inl memory
-  | inr it ↦ inr (it.0, elim (cases_Bool (nat_lt at (length row))) [
-    | inl low ↦ unread (column row at) (kind it.1 (grind (arith, nat_tests)))
-    | inr past ↦ ap has_text (get_or_past row at Null (grind (arith, nat_tests)))
-  ])
+  | inr it ↦ inr (
+    it.0,
+    elim (cases_Bool (nat_lt at (length row))) [
+      | inl low ↦ unread (column row at) (kind it.1 (grind (arith, nat_tests)))
+      | inr past ↦ ap has_text (get_or_past row at Null (grind (arith, nat_tests)))
+    ],
+  )
 ]

@@ -26,4 +26,3 @@ IsLastRow n (Some row) = column row 0 ≡ Int (pos n)
 abbrev pub IsModuleRow : Option ModuleLabel → Option Row → Type 0
 IsModuleRow found None = found ≡ None
 IsModuleRow found (Some row) = (label : ModuleLabel) × (found ≡ Some label) × (row ≡ words_of label)
-

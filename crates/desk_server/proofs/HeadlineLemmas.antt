@@ -138,17 +138,17 @@ headline_of : {File : Type 0} (interface : Interface) (h : CommandList) (s : Des
 headline_of interface h s stream unread out out_new result at =
     let t = at.transcript in elim at.after [
       | inl on ↦ record {
-          transcript = t;
-          desk = inr on.stands;
-          stops = stops_while_standing s.is_stopped result on.stands.runs on.not_store;
-          crash = λ file leaves. all_kept _ s h t.run t.written file (on.stands.crash file leaves);
-        }
+        transcript = t;
+        desk = inr on.stands;
+        stops = stops_while_standing s.is_stopped result on.stands.runs on.not_store;
+        crash = λ file leaves. all_kept _ s h t.run t.written file (on.stands.crash file leaves);
+      }
       | inr last ↦ record {
-          transcript = t;
-          desk = inl last.doubt.stopped;
-          stops = stops_in_doubt s.is_stopped result last.doubt.stopped last.stopped_by;
-          crash = λ file leaves. subst (λ (run : List Exchange). HoldsFirstPart s h run t.written file) (sym last.place) (kept_in_doubt s h last.before last.last t.written last.reply last.doubt file leaves);
-        }
+        transcript = t;
+        desk = inl last.doubt.stopped;
+        stops = stops_in_doubt s.is_stopped result last.doubt.stopped last.stopped_by;
+        crash = λ file leaves. subst (λ (run : List Exchange). HoldsFirstPart s h run t.written file) (sym last.place) (kept_in_doubt s h last.before last.last t.written last.reply last.doubt file leaves);
+      }
     ]
 
 -- the promise of `serve` from one account of the exit, of any conduct
@@ -199,7 +199,7 @@ module _ (File : Type 0) (C : Conduct File) (h : CommandList) (s : DeskState Fil
       → GoesOnAfter C h s (b.before ++ b.last ∷ []) (Err fault) ⊎ IsInDoubtAfter h s (b.before ++ b.last ∷ []) (Err fault)
   broken_after ms sent fault b =
       let goes : b.last.reply ≢ Refused StoreFailed → C.stands s (followed_by h (accepted_in (b.before ++ b.last ∷ []))) =
-          λ other. subst (λ (k : CommandList). C.stands s k) (after_last h b.before b.last) (b.goes_to.stands other) in
+      λ other. subst (λ (k : CommandList). C.stands s k) (after_last h b.before b.last) (b.goes_to.stands other) in
       elim fault as (λ f. CutsReply f b.last.reply b.part b.left → GoesOnAfter C h s (b.before ++ b.last ∷ []) (Err f) ⊎ IsInDoubtAfter h s (b.before ++ b.last ∷ []) (Err f)) [
         | serve_fault.Read ↦ λ cut. absurd cut
         | serve_fault.Write ↦ λ cut. elim (is_store_failed b.last.reply) [

@@ -1,5 +1,6 @@
 -- What a crash leaves.
-use Rattle.std.specs.Prelude.{ℕ, List}
+use Rattle.sqlite.specs.Tree.{Trees}
 
+-- the trees that an open of the file finds
 abbrev pub File : Type 0
-File = List ℕ
+File = Trees

@@ -145,3 +145,8 @@ IsRefusedAsStopped x = (x.reply ≡ Refused Stopped) × (x.accepted ≡ None)
 pub record StoppedThroughout {File : Type 0} (old new : DeskState File) (stream unread out out_new : Option (List ℕ)) (result : Result Served ServeFault) : Type 0 where
   pub transcript : Transcript (All IsRefusedAsStopped) stream unread out out_new result
   pub stays : StaysStopped old new
+
+-- the flag of a reader or a writer: it is up where this fault came, and else as before
+abbrev pub FailsBy : {A : Type 0} → Result A ServeFault → ServeFault → Bool → Bool → Type 0
+FailsBy (Ok a) fault old new = new ≡ old
+FailsBy (Err e) fault old new = (e ≡ fault → new ≡ true) × (e ≢ fault → new ≡ old)

@@ -4,23 +4,22 @@ use Rattle.http_wire.specs.declared.stream.End.{End}
 use Rattle.http_wire.specs.declared.stream.End.TheVariants.{Input, Cut, Fault}
 use Rattle.http_wire.specs.Faults.{refusal_of}
 use Rattle.http_wire.specs.Messages.{WireMessage}
-use Rattle.http_wire.specs.Replies.{refusal_text}
-use Rattle.rollout_model.specs.declared.refusal.Refusal.TheVariants.{BadMethod}
-use Rattle.rollout_machine.specs.Requests.{Asked, Rejected}
+use Rattle.rollout_machine.specs.Requests.{Asked}
 use Rattle.rollout_machine.specs.Replies.{Reply, Refused}
+use Rattle.mgmt_api.specs.Reading.{manage_reading}
+use Rattle.mgmt_api.specs.Replies.{reply_text as manage_text}
 use Rattle.desk_server.specs.declared.interface.Interface.{Interface}
 use Rattle.desk_server.specs.declared.interface.Interface.TheVariants.{Management}
 
--- what a message asks
+-- what a message asks, by the routes of the interface
 unfoldable pub reading : Interface → WireMessage → Asked
-reading Management message = Rejected BadMethod
+reading Management message = manage_reading message
 
 -- the bytes of a reply
 unfoldable pub reply_text : Reply → List ℕ
-reply_text (Refused refusal) = refusal_text refusal
-reply_text reply = []
+reply_text reply = manage_text reply
 
--- what is written for the end of a stream
+-- what is written for the end of a stream: the refusal of a fault
 abbrev pub end_text : End → List ℕ
 end_text Input = []
 end_text Cut = []

@@ -5,3 +5,4 @@ pub mod Orders
 pub mod Headline
 pub mod Parts
 pub mod Reading
+pub mod Unknown

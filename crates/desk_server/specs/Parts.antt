@@ -115,11 +115,6 @@ SendsPart old new reply failed serve_fault.Store = ⊥
 SendsPart old new reply failed serve_fault.Write = (failed ≡ true) × (part : List ℕ) × (left : List ℕ) × (reply_text reply ≡ part ++ left) × Appends old new part
 SendsPart old new reply failed serve_fault.Memory = (reply ≢ Refused StoreFailed) × Appends old new []
 
--- the flag of a reader or a writer: it is up where this fault came, and else as before
-abbrev pub FailsBy : {A : Type 0} → Result A ServeFault → ServeFault → Bool → Bool → Type 0
-FailsBy (Ok a) fault old new = new ≡ old
-FailsBy (Err e) fault old new = (e ≡ fault → new ≡ true) × (e ≢ fault → new ≡ old)
-
 -- what `serve` promises, as one record
 pub record ServesStream {File : Type 0} (interface : Interface) (old new : DeskState File) (stream unread out out_new : Option (List ℕ)) (result : Result Served ServeFault) : Type 0 where
   pub clean : new.is_clean → old.is_clean

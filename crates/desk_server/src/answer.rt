@@ -9,7 +9,8 @@ ghost use Rattle.rollout_machine.specs.Replies.{Refused};
 ghost use Rattle.rollout_machine.specs.Views.{reply_of};
 ghost use Rattle.rollout_machine.specs.Standing.{Applies, StaysStopped};
 ghost use Rattle.desk_server.specs.Interfaces.{reading};
-ghost use Rattle.desk_server.specs.Parts.{Serves, fault_of, Takes, StopsAt, FailsBy};
+ghost use Rattle.desk_server.specs.Headline.{FailsBy};
+ghost use Rattle.desk_server.specs.Parts.{Serves, fault_of, Takes, StopsAt};
 
 use crate::ServeFault;
 use crate::handler::Handler;

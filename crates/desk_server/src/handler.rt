@@ -3,7 +3,7 @@
 use rollout_model::{Reply, Request};
 
 /// A desk that answers requests, seen by the list of commands that it stands for and by what a crash may leave of it.
-pub(crate) trait Handler {
+pub trait Handler {
     ghost use Rattle.std.specs.Prelude.{◌≡◌, true};
     ghost use Rattle.rollout_model.specs.declared.refusal.Refusal.TheVariants as refusal;
     ghost use Rattle.rollout_machine.specs.Requests.{Asks};

@@ -8,11 +8,16 @@ mod interface;
 mod order;
 mod reply;
 mod routes;
-mod serve;
 mod served;
+mod serving;
 mod stream;
 
+pub use crate::handler::Handler;
 pub use crate::interface::Interface;
 pub use crate::order::{Order, read_order};
 pub use crate::served::{ServeFault, Served};
+pub use crate::serving::serve;
 pub use http_wire::End;
+
+#[cfg(test)]
+mod tests;

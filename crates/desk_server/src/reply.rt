@@ -7,7 +7,8 @@ ghost use Rattle.rollout_machine.specs.Replies.{Refused};
 ghost use Rattle.rollout_machine.specs.Views.{reply_of};
 ghost use Rattle.http_wire.specs.Watched.{inner_of, has_failed};
 ghost use Rattle.desk_server.specs.Interfaces.{reply_text};
-ghost use Rattle.desk_server.specs.Parts.{SendsPart, FailsBy};
+ghost use Rattle.desk_server.specs.Headline.{FailsBy};
+ghost use Rattle.desk_server.specs.Parts.{SendsPart};
 
 use crate::ServeFault;
 use crate::bytes::{refusal_text, success_text};

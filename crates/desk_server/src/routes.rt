@@ -9,31 +9,36 @@ ghost use Rattle.desk_server.specs.Interfaces.{reading};
 
 use crate::Interface;
 use http_wire::Message;
+use mgmt_api::{ManageRoutes, read_manage};
 use rollout_model::{Refusal, Request};
 use std::alloc::Global;
 
-/// The calls of an interface.
+/// The routes of an interface.
 #[derive(Drop)]
 pub(crate) struct Routes {
     interface: Interface,
+    manage: ManageRoutes,
 }
 
 impl Routes {
-    pub(crate) fn make(_alloc: Global, interface: Interface) -> Result<Routes, Refusal>
-        ensures { IfOk result (λ routes. routes.interface ≡ interface) }
+    /// Refused for want of memory alone.
+    pub(crate) fn make(alloc: Global, interface: Interface) -> Result<Routes, Refusal>
+        ensures interface { IfOk result (λ routes. routes.interface ≡ interface) }
+        ensures memory { IfErr result (λ refusal. refusal ≡ NoMemory) }
     {
-        Ok(Routes { interface })
+        let manage = ManageRoutes::make(alloc)?;
+        Ok(Routes { interface, manage })
     }
 
     /// What a message asks, or its refusal.
     #[tactic(auto, unfolding(crate::specs::Interfaces::reading))]
-    pub(crate) fn read(&self, _message: &Message<'_>) -> Result<Request, Refusal>
-        ensures ok { IfOk result (λ request. reading self.now.interface (message_of _message.now) ≡ Asks (request_of request)) }
-        ensures err { IfErr result (λ refusal. (refusal ≡ NoMemory) ⊎ (reading self.now.interface (message_of _message.now) ≡ Rejected refusal)) }
+    pub(crate) fn read(&self, message: &Message<'_>) -> Result<Request, Refusal>
+        ensures ok { IfOk result (λ request. reading self.now.interface (message_of message.now) ≡ Asks (request_of request)) }
+        ensures err { IfErr result (λ refusal. (refusal ≡ NoMemory) ⊎ (reading self.now.interface (message_of message.now) ≡ Rejected refusal)) }
         ensures no_store { IfErr result (λ refusal. refusal ≢ StoreFailed) }
     {
         match self.interface {
-            Interface::Management => Err(Refusal::BadMethod),
+            Interface::Management => read_manage(&self.manage, message),
         }
     }
 }

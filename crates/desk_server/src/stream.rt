@@ -2,7 +2,8 @@
 
 ghost use Rattle.std.specs.Prelude.{◌≡◌, ℕ, ◌+◌, ◌++◌, ◌<◌, ◌≤◌, ◌-◌, ◌^◌, List, length, true};
 ghost use Rattle.http_wire.specs.Watched.{inner_of, has_failed};
-ghost use Rattle.desk_server.specs.Parts.{FailsBy, ServesStream};
+ghost use Rattle.desk_server.specs.Headline.{FailsBy};
+ghost use Rattle.desk_server.specs.Parts.{ServesStream};
 ghost use Rattle.desk_server.specs.Reading.{ReadsOn};
 
 use crate::answer::answer_all;

@@ -4,6 +4,8 @@
 mod change;
 mod reading;
 mod store;
+#[cfg(test)]
+mod tests;
 
 pub use crate::change::OpenChange;
 pub use crate::store::DeskStore;

@@ -20,6 +20,17 @@ pub struct DeskStore<S: Alter> {
 }
 
 impl<S: Alter> DeskStore<S> {
+    /// Takes over a connection to a database that holds a desk's tables, with nothing counted.
+    pub fn new(alloc: Global, conn: Connection<S>) -> DeskStore<S>
+        ensures conn { result.calls.conn ≡ conn }
+        ensures work { result.calls.work ≡ no_work }
+    {
+        DeskStore {
+            calls: Calls::new(conn),
+            alloc,
+        }
+    }
+
     /// What was run and taken since the last reset.
     pub fn work(&self) -> Work
         ensures { result ≡ self.now.calls.work }

@@ -9,6 +9,8 @@ mod laws;
 mod reading;
 mod reply;
 mod routes;
+#[cfg(test)]
+mod tests;
 
 pub use call::{ManageCall, call_of};
 pub use laws::{manage_routes_are_apart, refused_text, worked_module_added};

@@ -11,6 +11,8 @@ mod member;
 mod module_body;
 mod module_object;
 mod shown;
+#[cfg(test)]
+mod tests;
 
 pub use body::{only_item, read_value};
 pub use laws::{module_text_letters, worked_module_body, worked_module_text};

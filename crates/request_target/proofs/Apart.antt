@@ -4,7 +4,8 @@ use Rattle.std.proofs.lemmas.Bool.{false≢true, eqb-true}
 use Rattle.std.proofs.lemmas.Bool.Decides.{nat_tests}
 use Rattle.matchit.specs.Rows.{RowsOf}
 use Rattle.matchit.specs.Seek.{first}
-use Rattle.request_target.specs.Tokens.{segment_len, is_empty, begins, meets, apart, apart_from, all_apart, met_row, all_plain, all_bytes, In}
+use Rattle.request_target.specs.Tokens.{apart, apart_from, all_apart, all_plain}
+use Rattle.request_target.proofs.Meets.{segment_len, is_empty, begins, meets, met_row, all_bytes, In}
 use Rattle.request_target.proofs.Longest.{both}
 use Rattle.request_target.proofs.Found.{Found, first_found}
 

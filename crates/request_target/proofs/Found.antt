@@ -4,7 +4,8 @@ use Rattle.std.proofs.lemmas.Bool.{false≢true, eqb-true, ltb-true, lt-ltb}
 use Rattle.std.proofs.lemmas.Bool.Decides.{nat_tests}
 use Rattle.matchit.specs.Rows.{RowsOf}
 use Rattle.matchit.specs.Seek.{own, step, or_else, has_slash, with_suffix, param_step, seek, first}
-use Rattle.request_target.specs.Tokens.{all_bytes, segment_len, meets, is_plain, opens, all_open, all_plain, some_goes_on, In}
+use Rattle.request_target.specs.Tokens.{is_plain, opens, all_plain}
+use Rattle.request_target.proofs.Meets.{all_bytes, segment_len, meets, all_open, some_goes_on, In}
 use Rattle.std.proofs.Math.Seq.{drop-length}
 use Rattle.std.proofs.lemmas.List.{length-drop}
 use Rattle.request_target.proofs.Longest.{both, segment_with_none}

@@ -1,3 +1,4 @@
+pub mod Meets
 pub mod PairLemmas
 pub mod Longest
 pub mod Rows

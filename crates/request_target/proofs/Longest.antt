@@ -5,7 +5,7 @@ use Rattle.std.proofs.lemmas.Bool.Decides.{nat_tests}
 use Rattle.std.specs.Cmp.Lexicographic.{pointwise}
 use Rattle.matchit.specs.Rows.{RowsOf}
 use Rattle.matchit.specs.Seek.{segment, has_slash, cuts, better, longest_from}
-use Rattle.request_target.specs.Tokens.{segment_len, all_open, some_goes_on}
+use Rattle.request_target.proofs.Meets.{segment_len, all_open, some_goes_on}
 
 pub both : (a b : Bool) → (a && b) ≡ true → (a ≡ true) × (b ≡ true)
 both true b h = (refl, h)

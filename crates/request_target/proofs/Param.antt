@@ -2,7 +2,7 @@
 use Rattle.std.proofs.Common.{◌≡◌, ℕ, zero, suc, ◌-◌, List, [], ◌∷◌, length, drop, Bool, true, false, cond, ◌&&◌, ltb, None, refl, arith}
 use Rattle.matchit.specs.Rows.{RowsOf}
 use Rattle.matchit.specs.Seek.{segment, has_slash, with_suffix, param_step, seek}
-use Rattle.request_target.specs.Tokens.{segment_len, all_open, some_goes_on}
+use Rattle.request_target.proofs.Meets.{segment_len, all_open, some_goes_on}
 use Rattle.request_target.proofs.Longest.{slash_if, longest_is, cuts_with_none, cuts_with_slash, segment_with_slash}
 
 pub param_none : {K : Type 0} (rs : RowsOf K) (b : ℕ) (p : List ℕ) → all_open rs ≡ true → has_slash (b ∷ p) ≡ false → param_step rs (b ∷ p) ≡ (length (b ∷ p), rs)

@@ -4,7 +4,7 @@ use Rattle.std.proofs.lemmas.Bool.{false≢true, eqb-true}
 use Rattle.std.proofs.lemmas.Bool.Decides.{nat_tests}
 use Rattle.matchit.specs.Rows.{RowsOf}
 use Rattle.matchit.specs.Seek.{own, step}
-use Rattle.request_target.specs.Tokens.{In}
+use Rattle.request_target.proofs.Meets.{In}
 
 same : (x : ℕ) → (x == x) ≡ true
 same x = grind (arith, nat_tests)

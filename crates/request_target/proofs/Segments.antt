@@ -4,7 +4,7 @@ use Rattle.std.specs.List.{list_all}
 use Rattle.std.specs.Prelude.{bytes_eq}
 use Rattle.std.proofs.lemmas.Bool.Decides.{nat_tests}
 use Rattle.request_target.specs.Routes.{onto_first, segments, is_parameter, stands_for, fits}
-use Rattle.request_target.specs.Tokens.{segment_len, meets}
+use Rattle.request_target.proofs.Meets.{segment_len, meets}
 use Rattle.request_target.specs.Rows.{part_tokens, tokens, is_part}
 use Rattle.request_target.proofs.Longest.{both}
 

@@ -11,7 +11,8 @@ use Rattle.matchit.specs.Order.{placed}
 use Rattle.matchit.specs.Seek.{first}
 use Rattle.matchit.specs.declared.error.InsertError.{InsertError}
 use Rattle.request_target.specs.Routes.{segments, fits, onto_first, route_in}
-use Rattle.request_target.specs.Tokens.{meets, all_bytes, all_plain, all_apart, apart, apart_from, met_row}
+use Rattle.request_target.specs.Tokens.{all_plain, all_apart, apart, apart_from}
+use Rattle.request_target.proofs.Meets.{meets, all_bytes, met_row}
 use Rattle.request_target.specs.Rows.{tokens, is_part, added, rows_with, is_new, are_new, are_routes}
 use Rattle.request_target.proofs.Longest.{both}
 use Rattle.request_target.proofs.Apart.{not_both, first_is}

@@ -8,6 +8,8 @@ mod numbers;
 mod pairs;
 mod query;
 mod routes;
+#[cfg(test)]
+mod tests;
 
 pub use numbers::read_number;
 pub use pairs::read_pairs;

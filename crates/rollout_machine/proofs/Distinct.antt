@@ -26,7 +26,7 @@ split_at (y ∷ xs) ys (suc i) x e = later (split_at xs ys i x e)
     later (inl a) = inl a
     later (inr (j, b, d)) = inr (j, b, omega arith)
 
-position_at : (r a n i : ℕ) (p : ActionPlace) → slice_get (places_from r a n) i ≡ Some p → (p.rollout ≡ r) × (p.position ≡ a + i)
+pub position_at : (r a n i : ℕ) (p : ActionPlace) → slice_get (places_from r a n) i ≡ Some p → (p.rollout ≡ r) × (p.position ≡ a + i)
 position_at r a zero i p e = cc
 position_at r a (suc n) zero p e =
     let er : p.rollout ≡ r = sym (ap (λ o. unwrap_or (option_map (λ (q : ActionPlace). q.rollout) o) r) e) in
@@ -35,7 +35,7 @@ position_at r a (suc n) zero p e =
 position_at r a (suc n) (suc i) p e = let t : (p.rollout ≡ r) × (p.position ≡ suc a + i) = position_at r (suc a) n i p e in (t.0, omega (arith, t.1))
 
 -- a new place is of a rollout that had not begun, and at the position that its index says
-new_at : (h : CommandList) (c : Command) (j : ℕ) (p : ActionPlace) → verdict h c ≡ None → slice_get (new_places h c) j ≡ Some p → (is_rollout_started p.rollout h ≡ false) × (p.position ≡ 1 + j)
+pub new_at : (h : CommandList) (c : Command) (j : ℕ) (p : ActionPlace) → verdict h c ≡ None → slice_get (new_places h c) j ≡ Some p → (is_rollout_started p.rollout h ≡ false) × (p.position ≡ 1 + j)
 new_at h (Start r) j p e g = go (rollout_at h r) refl g
   where
     row : NoneHolds (verdict_row (records h) (Start r))

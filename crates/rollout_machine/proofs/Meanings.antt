@@ -4,7 +4,6 @@ use Rattle.rollout_machine.specs.ByteStrings.{same_bytes, item_numbered}
 use Rattle.rollout_machine.specs.CommandList.{CommandList, Make, ◌▸◌, followed_by}
 use Rattle.rollout_machine.specs.Commands.{Bytes, TargetRow, Command, PutTargets, Start, Pause, TriggerNext, Cancel, Feedback, CancelFeedback, Succeeded, Failed, Noted, ClosedCancel, CanceledCancel, RejectedCancel, NotedCancel, DeploymentWord, CancelWord, Outcome, Good, Bad, Gone, Rejected}
 use Rattle.rollout_machine.specs.Counts.{success_holds, error_holds}
-
 use Rattle.rollout_machine.specs.Meanings.{NoneGave, CancelingIsLast, NotNamed, LastRow, SpeaksOfCancel, Ends, NoneSpeaks, StartedIs, NeverNamed, Says, PauseBegins, OutcomeIsFirst, NumbersActions, FirstOutcome, size_at, NextIsStarted, LastIsCancel, started_sizes, started_by}
 use Rattle.rollout_machine.specs.Offers.{Offer, offer, first_offer}
 use Rattle.rollout_machine.specs.Progress.{is_paused, is_trigger_of, is_pause_of, next_started, is_group_started, pause_begins, error_begins_at}

@@ -70,6 +70,7 @@ where_offered rs t kind n k reply names e = go (offer rs t) refl e where
   by : (x : Offer) (b : Bool) → offer rs t ≡ Some x → (nat_eq x.action n && cond kind x.canceling (not x.canceling)) ≡ b → named_action (cond b reply (Refused NotFound)) ≡ Some k → HasOffer rs t k
   by x true d f g = let same : n ≡ k = cc in record { offered = x; there = d; number = eqb-true _ _ (and_parts _ _ f).0 ∙ same }
   by x false d f g = cc
+
   go : (o : Option Offer) → offer rs t ≡ o → named_action (cond (is_offer_of n kind o) reply (Refused NotFound)) ≡ Some k → HasOffer rs t k
   go None d f = cc
   go (Some x) d f = by x _ d refl f
@@ -132,9 +133,11 @@ unfolding answer
 downloads_are_offered h device m filename contents e = go (offer (records h) device.id) refl w.0 where
   w : (list_any (λ n. nat_eq n m) (modules_offered (records h) (offer (records h) device.id)) ≡ true) × ((a : ArtifactRecord) × (artifact_named m filename (records h).artifacts ≡ Some a) × (a.contents ≡ contents))
   w = shown_is (records h) device.id m filename contents (known_device (records h) device (download (records h) device.id m filename) contents e)
+
   by : (o : Offer) (b : Bool) → o.canceling ≡ b → offer (records h) device.id ≡ Some o → list_any (λ n. nat_eq n m) (cond b [] (modules_of_action (records h) (item_numbered (records h).actions o.action))) ≡ true → IsDownloadable h device.id m filename contents
   by o true f d g = cc
   by o false f d g = record { offered = o; is_offered = d; as_deployment = f; installs = g; artifact = w.1.0; is_stored = w.1.1; contents_are = w.1.2 }
+
   go : (o : Option Offer) → offer (records h) device.id ≡ o → list_any (λ n. nat_eq n m) (modules_offered (records h) o) ≡ true → IsDownloadable h device.id m filename contents
   go None d g = cc
   go (Some o) d g = by o o.canceling refl d g

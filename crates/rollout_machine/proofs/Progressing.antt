@@ -21,6 +21,7 @@ behind x r i l h last e low = go (cases i l) where
   cases zero b = inl (omega arith)
   cases (suc a) zero = inr (omega arith)
   cases (suc a) (suc b) = elim (cases a b) [ inl u ↦ inl (omega (arith, u)) | inr u ↦ inr (omega (arith, u)) ]
+
   go : (i ≤ l) ⊎ (l < i) → l < i
   go (inl u) = absurd (false≢true (sym e ∙ last.up_to i low u))
   go (inr u) = u
@@ -31,6 +32,7 @@ at_most x r i l h last e = go (cases i l) where
   cases zero b = inl (omega arith)
   cases (suc a) zero = inr (omega arith)
   cases (suc a) (suc b) = elim (cases a b) [ inl u ↦ inl (omega (arith, u)) | inr u ↦ inr (omega (arith, u)) ]
+
   go : (i ≤ l) ⊎ (l < i) → i ≤ l
   go (inl u) = u
   go (inr u) = absurd (false≢true (sym (last.beyond i u) ∙ e))
@@ -45,9 +47,9 @@ next_starts x r i l h c b last next s =
     let low : l < i = behind x r i l h last s.before (positive x r i (h ▸ c) s.now) in
     let high : i ≤ cond b (suc l) l = at_most x r i (cond b (suc l) l) (h ▸ c) next s.now in
     go b high low where
-  go : (b : Bool) → i ≤ cond b (suc l) l → l < i → i ≡ suc l
-  go true high low = omega (arith, high, low)
-  go false high low = absurd (omega (arith, high, low))
+      go : (b : Bool) → i ≤ cond b (suc l) l → l < i → i ≡ suc l
+      go true high low = omega (arith, high, low)
+      go false high low = absurd (omega (arith, high, low))
 
 pub one_group_starts : OneGroupStarts
 one_group_starts h c r i j x v d s t =
@@ -62,7 +64,7 @@ no_group_is_left (Make approval) r i x low high e p s = absurd (false≢true (sy
 no_group_is_left (h ▸ c) r zero x low high e p s = absurd (omega (arith, low))
 no_group_is_left (h ▸ c) r (suc i) x low high e p s =
     all (nat_lt (suc i) x.plan.groups) (next_started x r (suc i) (is_group_started x r (suc i)) h) (is_group_started x r (suc i) (h ▸ c)) (is_paused x r (h ▸ c)) (success_holds x r (suc i) (h ▸ c))
-      (is_trigger_of r c && (is_group_started x r (suc i) h && not (next_started x r (suc i) (is_group_started x r (suc i)) h))) (lt-ltb _ _ high) e p s where
-  all : (l a e p s t : Bool) → l ≡ true → e ≡ true → p ≡ false → s ≡ true → (l && (a || (e && ((not p && s) || t)))) ≡ true
-  all l true e p s t u v w z = rw u refl
-  all l false e p s t u v w z = rw (u, v, w, z) refl
+    (is_trigger_of r c && (is_group_started x r (suc i) h && not (next_started x r (suc i) (is_group_started x r (suc i)) h))) (lt-ltb _ _ high) e p s where
+      all : (l a e p s t : Bool) → l ≡ true → e ≡ true → p ≡ false → s ≡ true → (l && (a || (e && ((not p && s) || t)))) ≡ true
+      all l true e p s t u v w z = rw u refl
+      all l false e p s t u v w z = rw (u, v, w, z) refl

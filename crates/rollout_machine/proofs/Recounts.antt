@@ -15,13 +15,14 @@ use Rattle.rollout_machine.specs.Validity.{IsValid}
 use Rattle.rollout_machine.specs.Verdicts.{verdict, verdict_row, is_ready}
 use Rattle.rollout_machine.specs.declared.bounds.Bounds.{Bounds}
 use Rattle.rollout_machine.proofs.Counts.{count_same, count_none}
+use Rattle.rollout_machine.proofs.Distinct.{position_at}
 use Rattle.rollout_machine.proofs.Cuts.{last_grows, all_cut}
 use Rattle.rollout_machine.proofs.Induction.{invariant_of, word_at, ready_not_begun, stays_numbered, found_rollout}
 use Rattle.rollout_machine.proofs.Ties.{IsFollowed, groups_go}
 use Rattle.rollout_machine.proofs.Valid.{NoneHolds, none_holds}
 use Rattle.rollout_machine.proofs.Whole.{AllNumbered, from_numbers}
 use Rattle.std.proofs.Common.{◌≡◌, ℕ, zero, suc, ◌+◌, ◌-◌, ◌≤◌, ◌<◌, Bool, true, false, cond, ◌&&◌, ◌||◌, List, [], ◌∷◌, ◌++◌, refl, sym, ◌∙◌, ap, arith, inl, inr, Option, Some, None}
-use Rattle.std.specs.Prelude.{map, nat_eq, nat_le}
+use Rattle.std.specs.Prelude.{map, nat_eq, nat_le, slice_get}
 use Rattle.std.proofs.lemmas.Bool.{cases_eq, ne_eqb, eq-eqb, lt-leb, le-leb}
 
 abbrev count_where : (ActionPlace → Bool) → List ActionPlace → ℕ
@@ -64,7 +65,7 @@ or_other : (a b : Bool) → b ≡ false → (a || b) ≡ a
 or_other true b e = refl
 or_other false b e = e
 
-stays_there : (h : CommandList) (c : Command) (r : ℕ) (x : Rollout) → rollout_at h r ≡ Some x → rollout_at (h ▸ c) r ≡ Some x
+pub stays_there : (h : CommandList) (c : Command) (r : ℕ) (x : Rollout) → rollout_at h r ≡ Some x → rollout_at (h ▸ c) r ≡ Some x
 stays_there h c r x e = stays_numbered (rollouts h) (created h c) r x e
 
 -- before its start the rollout had not begun, and it is there
@@ -73,6 +74,14 @@ starts_fresh h r e =
     let row : NoneHolds (verdict_row (records h) (Start r)) = none_holds (verdict_row (records h) (Start r)) e in
     let (x, d) = found_rollout h r row.0 in
     (x, d, ready_not_begun (approval_of r h) (is_rollout_started r h) (is_finished (rollout_in h r x)) (is_paused x r h) (word_at h r is_ready x d row.1.0))
+
+-- a new place is of a rollout that is there
+pub new_rollout_there : (h : CommandList) (c : Command) (j : ℕ) (p : ActionPlace) → verdict h c ≡ None → slice_get (new_places h c) j ≡ Some p → (x : Rollout) × (rollout_at h p.rollout ≡ Some x)
+new_rollout_there h (Start r) j p e g = go (rollout_at h r) refl g where
+  go : (o : Option Rollout) → rollout_at h r ≡ o → slice_get (places_of r o) j ≡ Some p → (x : Rollout) × (rollout_at h p.rollout ≡ Some x)
+  go None d f = cc
+  go (Some x) d f = (x, ap (rollout_at h) (position_at r 1 (size_of x) j p f).0 ∙ d)
+new_rollout_there h _ j p e g = cc
 
 -- the places of a rollout of n members: none before its start, and then each once
 placed_count : (P : ActionPlace → Bool) (r n : ℕ) → OnlyOf r P → (h : CommandList) → IsValid h → ((x : Rollout) → rollout_at h r ≡ Some x → size_of x ≡ n) → count_where P (action_places h) ≡ cond (is_rollout_started r h) (count_where P (places_from r 1 n)) 0

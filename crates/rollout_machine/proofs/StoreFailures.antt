@@ -111,8 +111,8 @@ query_never_stores rs (ShowDeployment device k) = device_never rs device _ (one_
 query_never_stores rs (ShowCancel device k) = device_never rs device _ (one_of_two (is_offer_of k true (offer rs device.id)) (CancelShown k) (Refused NotFound) refl refl)
 query_never_stores rs (Download device m filename) =
     device_never rs device (download rs device.id m filename) (one_of_two (list_any (λ n. nat_eq n m) (modules_offered rs (offer rs device.id)))
-      (if_found (λ (a : ArtifactRecord). ContentsShown a.contents) (artifact_named m filename rs.artifacts)) (Refused NotFound)
-      (found_never (λ (a : ArtifactRecord). ContentsShown a.contents) (artifact_named m filename rs.artifacts) (λ a. refl)) refl)
+    (if_found (λ (a : ArtifactRecord). ContentsShown a.contents) (artifact_named m filename rs.artifacts)) (Refused NotFound)
+    (found_never (λ (a : ArtifactRecord). ContentsShown a.contents) (artifact_named m filename rs.artifacts) (λ a. refl)) refl)
 query_never_stores rs (ShowTargets filter_text page) = targets_never rs page filter_text
 query_never_stores rs (ShowTarget t) = found_never _ (target_of rs t) (λ x. refl)
 query_never_stores rs (ShowTargetActions t page) = found_never _ (target_of rs t) (λ x. refl)

@@ -46,7 +46,7 @@ artifact_named m filename artifacts = find (λ (a : ArtifactRecord). nat_eq a.mo
 abbrev pub download : Records → Bytes → ℕ → Bytes → Reply
 download rs t m filename =
     cond (list_any (λ n. nat_eq n m) (modules_offered rs (offer rs t)))
-      (if_found (λ (a : ArtifactRecord). ContentsShown a.contents) (artifact_named m filename rs.artifacts)) (Refused NotFound)
+    (if_found (λ (a : ArtifactRecord). ContentsShown a.contents) (artifact_named m filename rs.artifacts)) (Refused NotFound)
 
 abbrev pub targets_matching : Records → Page → Option Tree → Reply
 targets_matching rs page None = Refused BadFilter
@@ -155,4 +155,4 @@ abbrev pub MayAnswer : CommandList → Asked → Reply → Option Command → Ty
 MayAnswer h asked reply accepted =
     ((reply ≡ Refused NoMemory) × (accepted ≡ None))
     ⊎ (((reply ≡ Refused StoreFailed) × (accepted ≡ (answer h asked).accepted))
-        ⊎ ((reply ≢ Refused StoreFailed) × (record { reply = reply; accepted = accepted } ≡ answer h asked)))
+    ⊎ ((reply ≢ Refused StoreFailed) × (record { reply = reply; accepted = accepted } ≡ answer h asked)))

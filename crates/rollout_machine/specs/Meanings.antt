@@ -5,7 +5,6 @@ use Rattle.rollout_machine.specs.CommandList.{Make, followed_by, ◌▸◌, Comm
 use Rattle.rollout_machine.specs.Commands.{CanceledCancel, Bad, Feedback, Start, CancelFeedback, Resume, Outcome, Pause, Gone, TriggerNext, Command, TargetRow, Failed, ClosedCancel, PutTargets, Succeeded, Good, Bytes, Cancel, Attribute, PutAttributes}
 use Rattle.rollout_machine.specs.Counts.{success_holds, error_holds}
 use Rattle.rollout_machine.specs.Effects.{IsInGroup}
-
 use Rattle.rollout_machine.specs.Offers.{Offer, offer}
 use Rattle.rollout_machine.specs.Progress.{is_paused, is_group_started}
 use Rattle.rollout_machine.specs.Records.{records, group_in}

@@ -1,8 +1,11 @@
 -- What users of a desk rely on, said of every list of accepted commands.
-use Rattle.std.specs.Prelude.{◌≡◌, ◌≤◌, ◌<◌, ℕ, suc, true, false, nat_eq, Option, Some, None}
+use Rattle.std.specs.Prelude.{None, Option, Some, cond, false, filter, is_none, length, nat_eq, suc, true, ℕ, ◌+◌, ◌<◌, ◌≡◌, ◌≤◌}
 use Rattle.std.specs.List.{list_any}
 use Rattle.std.specs.Option.{option_map}
-use Rattle.rollout_machine.specs.Actions.{ActionPlace}
+use Rattle.rollout_machine.specs.Actions.{ActionPlace, action_of, entries_of}
+use Rattle.rollout_machine.specs.Effects.{IsInGroup}
+use Rattle.rollout_machine.specs.RecordSteps.{action_after}
+use Rattle.rollout_machine.specs.Verdicts.{is_note, notes_of}
 use Rattle.rollout_machine.specs.Answers.{answer, artifact_named}
 use Rattle.rollout_machine.specs.ByteStrings.{item_numbered}
 use Rattle.rollout_machine.specs.CommandList.{CommandList, ◌▸◌}
@@ -13,7 +16,7 @@ use Rattle.rollout_machine.specs.Meanings.{IsOfferable}
 use Rattle.rollout_machine.specs.Objects.{modules_of_action}
 use Rattle.rollout_machine.specs.Offers.{Offer, offer}
 use Rattle.rollout_machine.specs.Progress.{is_group_started, is_paused}
-use Rattle.rollout_machine.specs.Records.{ArtifactRecord, records}
+use Rattle.rollout_machine.specs.Records.{ActionRecord, ArtifactRecord, records}
 use Rattle.rollout_machine.specs.Replies.{Reply, PollShown, DeploymentShown, CancelShown, ContentsShown}
 use Rattle.rollout_machine.specs.Requests.{Query, Download, Ask, Asks}
 use Rattle.rollout_machine.specs.Rollouts.{Rollout, rollout_at}
@@ -68,3 +71,18 @@ StoredSayAll = (h : CommandList) → IsValid h → recounted (stored (records h)
 
 abbrev pub DerivedFollow : Type 0
 DerivedFollow = (h : CommandList) → IsValid h → derived (records h) ≡ derived (recounted (stored (records h)))
+
+-- ---- what one command does to the derived kinds
+
+-- the command is on no action of the target, and starts no group with it
+pub record IsUntouched (h : CommandList) (c : Command) (t : Bytes) : Type 0 where
+  pub own : (p : ActionPlace) (x : Rollout) → action_of h c ≡ Some p → rollout_at h p.rollout ≡ Some x → item_numbered x.members p.position ≡ Some t → ⊥
+  pub starting : (r i j : ℕ) (x : Rollout) → rollout_at h r ≡ Some x → StartsGroup x r i h c → 1 ≤ i → IsInGroup x i j → item_numbered x.members j ≡ Some t → ⊥
+
+-- the offers of the targets that a command doesn't touch stay
+abbrev pub OffersStay : Type 0
+OffersStay = (h : CommandList) (c : Command) (t : Bytes) → IsValid (h ▸ c) → IsUntouched h c t → offer (records (h ▸ c)) t ≡ offer (records h) t
+
+-- an action has as many notes more as its feedback adds, and a closed one none
+abbrev pub NotesGrow : Type 0
+NotesGrow = (c : Command) (a : ActionRecord) → notes_of (action_after c a) ≡ notes_of a + cond (is_none a.outcome) (length (filter is_note (entries_of c))) 0

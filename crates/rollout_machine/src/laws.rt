@@ -1,7 +1,7 @@
 //! What the definitions of the machine mean: laws of all command lists.
 
 ghost use Rattle.rollout_machine.specs.Meanings.{NumbersActions, NumbersDiffer, RowIsLast, TagsAreSaid, OutcomeIsFirst, CancelingIsLast, PausedIs, FirstStartedIs, StartedIs, FinalIsAll, OfferIsLeast, TargetsAreNamed, ValueIsLast};
-ghost use Rattle.rollout_machine.specs.Promises.{OneGroupStarts, NoGroupIsLeft, NamedIsOfferable, DownloadsAreOffered, StoredSayAll, DerivedFollow};
+ghost use Rattle.rollout_machine.specs.Promises.{OneGroupStarts, NoGroupIsLeft, NamedIsOfferable, DownloadsAreOffered, StoredSayAll, DerivedFollow, OffersStay, NotesGrow};
 ghost use Rattle.rollout_machine.specs.Repeats.{RepeatsLeaveNoTrace};
 ghost use Rattle.rollout_machine.specs.Validity.{StepsRecords};
 
@@ -108,4 +108,14 @@ pub fn stored_say_all()
 /// The derived kinds of records follow from the stored ones.
 pub fn derived_follow()
     ensures { DerivedFollow }
+{}
+
+/// The offers of the targets that a command doesn't touch stay.
+pub fn offers_stay()
+    ensures { OffersStay }
+{}
+
+/// An action has as many notes more as its feedback adds.
+pub fn notes_grow()
+    ensures { NotesGrow }
 {}

@@ -3,9 +3,8 @@
 //! state the laws, so that the check proves them, and the types are those that the definitions share with the code above.
 #![tactic(auto)]
 
-pub mod laws;
-
 mod bounds;
+pub mod laws;
 mod outcome;
 mod view;
 mod well_formed;

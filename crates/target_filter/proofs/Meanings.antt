@@ -5,7 +5,7 @@ use Rattle.rollout_model.specs.declared.target.Target.{Target}
 use Rattle.target_filter.specs.Grammar.{Tree, IsFilter}
 use Rattle.target_filter.specs.Meaning.{holds}
 use Rattle.target_filter.specs.Profile.{IsProfileFilter, filter_of}
-use Rattle.target_filter.proofs.Parses.{one_tree}
+use Rattle.target_filter.proofs.ParsedTrees.{one_tree}
 use Rattle.target_filter.proofs.Profiles.{tree_filter}
 
 pub same_text : (text view : List ℕ) (t : Tree) → text ≡ view → IsProfileFilter text t → IsProfileFilter view t

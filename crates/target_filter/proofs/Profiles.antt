@@ -8,13 +8,13 @@ use Rattle.std.proofs.lemmas.Bool.Decides.{nat_tests, Decides-eqb}
 use Rattle.std.proofs.lemmas.Slice.Eq.{slice_eq-Decides}
 use Rattle.rollout_model.specs.Limits.{filter_length_limit, filter_depth_limit}
 use Rattle.target_filter.specs.Grammar.{Tree, IsFilter, OrLevel, is_at, spelling, nesting}
-use Rattle.target_filter.specs.Parse.{or_at}
+use Rattle.target_filter.specs.Descent.{or_at}
 use Rattle.target_filter.specs.Profile.{IsProfileFilter, IsInProfile, is_profile_filter, filter_of}
-use Rattle.target_filter.proofs.Readings.{both}
-use Rattle.target_filter.proofs.Shown.{all_of}
+use Rattle.target_filter.proofs.ScannedTrees.{both}
+use Rattle.target_filter.proofs.Beginnings.{all_of}
 use Rattle.target_filter.specs.declared.comparison.ParseFault.{ParseFault}
 use Rattle.target_filter.specs.declared.comparison.ParseFault.TheVariants.{Memory, Missing}
-use Rattle.target_filter.proofs.Parses.{parsed, found}
+use Rattle.target_filter.proofs.ParsedTrees.{parsed, found}
 
 le_of : (m n : ℕ) → nat_le m n ≡ true → m ≤ n
 le_of m n h = grind (arith, nat_tests)

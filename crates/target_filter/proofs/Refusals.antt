@@ -9,9 +9,9 @@ use Rattle.target_filter.specs.declared.fault.FilterFault.TheVariants.{TooLong, 
 use Rattle.target_filter.specs.declared.fault.FilterFault.{FilterFault}
 use Rattle.std.specs.Prelude.{Result, Ok, Err}
 use Rattle.std.specs.Result.{MatchResult, IfErr}
-use Rattle.target_filter.proofs.Parses.{one_tree}
+use Rattle.target_filter.proofs.ParsedTrees.{one_tree}
 use Rattle.target_filter.proofs.Profiles.{filter_none}
-use Rattle.target_filter.proofs.Stopped.{stops_longest, stops_outside, ends_filter}
+use Rattle.target_filter.proofs.ScannerStops.{stops_longest, stops_outside, ends_filter}
 
 pub syntax : (text : List ℕ) (n : ℕ) → IsUtf8 text → length text ≤ 512 → Stops text n → IsRefused text (Syntax n)
 syntax text n u l h = (l, stops_outside text n h, stops_longest text n u h)

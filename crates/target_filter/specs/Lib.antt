@@ -3,9 +3,10 @@ pub mod Patterns
 pub mod Meaning
 pub mod Profile
 pub mod Faults
+pub mod Laws
+pub mod Descent
 pub mod Scanner
-pub mod Seen
-pub mod Parse
+pub mod ScannerViews
 pub mod Greedy
 pub mod Views
 pub mod Gives

@@ -4,7 +4,7 @@ use Rattle.std.specs.Option.{option_and_then}
 use Rattle.std.specs.Cmp.Lexicographic.{pointwise}
 use Rattle.rollout_model.specs.Limits.{filter_length_limit, filter_depth_limit}
 use Rattle.target_filter.specs.Grammar.{Tree, IsFilter, OrLevel, is_at, spelling, nesting}
-use Rattle.target_filter.specs.Parse.{or_at}
+use Rattle.target_filter.specs.Descent.{or_at}
 
 -- the text is a filter within the limits, and this is its tree
 pub record IsProfileFilter (text : List ℕ) (tree : Tree) : Type 0 where

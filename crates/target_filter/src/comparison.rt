@@ -3,7 +3,7 @@
 ghost use Rattle.std.specs.Prelude.{◌≡◌};
 ghost use Rattle.std.specs.Result.{MatchResult};
 ghost use Rattle.std.specs.Option.{option_map};
-ghost use Rattle.target_filter.specs.Parse as parse;
+ghost use Rattle.target_filter.specs.Descent as descent;
 ghost use Rattle.target_filter.specs.Views.{field_of, operator_of, value_of};
 ghost use Rattle.target_filter.specs.Gives.{Gives, Reads};
 ghost use Rattle.target_filter.specs.declared.comparison.ParseFault.TheVariants.{Memory};
@@ -42,7 +42,7 @@ fn copied(alloc: Global, bytes: &[u8]) -> Result<Vec<u8>, ParseFault>
 }
 
 fn attribute_field(alloc: Global, name: &[u8]) -> Result<Field, ParseFault>
-    ensures { Reads field_of (parse.attribute_field name.now) result }
+    ensures { Reads field_of (descent.attribute_field name.now) result }
 {
     let Some(key) = name.strip_prefix(b"attribute.") else {
         return Err(ParseFault::Missing);
@@ -52,7 +52,7 @@ fn attribute_field(alloc: Global, name: &[u8]) -> Result<Field, ParseFault>
 }
 
 fn field_of_name(alloc: Global, name: &[u8]) -> Result<Field, ParseFault>
-    ensures { Reads field_of (parse.field_of_name name.now) result }
+    ensures { Reads field_of (descent.field_of_name name.now) result }
 {
     if name == b"controllerid".as_slice() {
         Ok(Field::Id)
@@ -66,7 +66,7 @@ fn field_of_name(alloc: Global, name: &[u8]) -> Result<Field, ParseFault>
 }
 
 fn operator_at(text: &[u8]) -> Option<(Operator, &[u8])>
-    ensures { option_map (λ x. (operator_of x.0, x.1.now)) result ≡ parse.operator_at text.now }
+    ensures { option_map (λ x. (operator_of x.0, x.1.now)) result ≡ descent.operator_at text.now }
 {
     match text {
         [b'=', b'=', rest @ ..] => Some((Operator::Equal, rest)),
@@ -80,7 +80,7 @@ fn quoted_value<'a>(
     pattern: &[u8],
     text: &'a [u8],
 ) -> Result<(Value, &'a [u8]), ParseFault>
-    ensures { Reads (λ x. (value_of x.0, x.1.now)) (parse.quoted_value pattern.now text.now) result }
+    ensures { Reads (λ x. (value_of x.0, x.1.now)) (descent.quoted_value pattern.now text.now) result }
 {
     match text {
         [b'"', rest @ ..] => {
@@ -96,7 +96,7 @@ fn bare_value<'a>(
     pattern: &[u8],
     text: &'a [u8],
 ) -> Result<(Value, &'a [u8]), ParseFault>
-    ensures { Reads (λ x. (value_of x.0, x.1.now)) (parse.bare_value pattern.now text.now) result }
+    ensures { Reads (λ x. (value_of x.0, x.1.now)) (descent.bare_value pattern.now text.now) result }
 {
     if pattern.is_empty() {
         return Err(ParseFault::Missing);
@@ -106,7 +106,7 @@ fn bare_value<'a>(
 }
 
 fn value_at(alloc: Global, text: &[u8]) -> Result<(Value, &[u8]), ParseFault>
-    ensures { Reads (λ x. (value_of x.0, x.1.now)) (parse.value_at text.now) result }
+    ensures { Reads (λ x. (value_of x.0, x.1.now)) (descent.value_at text.now) result }
 {
     match text {
         [b'"', quoted @ ..] => {
@@ -122,7 +122,7 @@ fn value_at(alloc: Global, text: &[u8]) -> Result<(Value, &[u8]), ParseFault>
 
 /// The comparison with which the text begins, and what stands behind it.
 pub(crate) fn comparison_at(alloc: Global, text: &[u8]) -> Result<(Tree, &[u8]), ParseFault>
-    ensures { Gives (parse.comparison_at text.now) result }
+    ensures { Gives (descent.comparison_at text.now) result }
 {
     let (name, rest) = split_run(ByteKind::Letter, text);
     let field = field_of_name(alloc, name)?;

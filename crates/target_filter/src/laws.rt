@@ -1,17 +1,30 @@
-//! Laws of the definitions, each proved as the contract of a function.
+//! Laws of the definitions, each proved as the contract of a function that does nothing.
 
-ghost use Rattle.std.specs.Prelude.{◌≡◌, ◌↔◌, ℕ, List, Some, None};
-ghost use Rattle.target_filter.specs.Grammar.{Tree, IsFilter};
-ghost use Rattle.target_filter.specs.Profile.{IsProfileFilter, IsInProfile, filter_of};
+ghost use Rattle.target_filter.specs.Laws.{HasOneTree, MatchesByTest, ComputesFilters, ComputesNothingElse, NegatesEqual, BindsAndOnTheRight, BindsAndOnTheLeft};
 
 /// A text has one tree.
 pub fn one_tree()
-    ensures { (text : List ℕ) (t u : Tree) → IsFilter text t → IsFilter text u → t ≡ u }
+    ensures { HasOneTree }
 {}
 
-/// What is computed is the definition: `filter_of` gives a tree exactly where it is the tree of a text of the profile,
-/// and nothing exactly where there is none.
+/// A pattern matches a text where the text is the pattern's pieces in order, with some text in each place of a `*`.
+pub fn pieces_in_order()
+    ensures { MatchesByTest }
+{}
+
+/// `filter_of` gives a tree exactly where it is the tree of a text of the profile, and nothing exactly where there is none.
 pub fn computed_filter()
-    ensures tree { (text : List ℕ) (tree : Tree) → (filter_of text ≡ Some tree) ↔ IsProfileFilter text tree }
-    ensures none { (text : List ℕ) → (filter_of text ≡ None) ↔ (IsInProfile text → ⊥) }
+    ensures tree { ComputesFilters }
+    ensures none { ComputesNothingElse }
+{}
+
+/// `!=` is the negation of `==`.
+pub fn not_equal_negates_equal()
+    ensures { NegatesEqual }
+{}
+
+/// `;` binds tighter than `,`.
+pub fn and_binds_tighter_than_or()
+    ensures right { BindsAndOnTheRight }
+    ensures left { BindsAndOnTheLeft }
 {}

@@ -18,3 +18,6 @@ mod tree;
 
 pub use fault::FilterFault;
 pub use filter_text::Filter;
+
+#[cfg(test)]
+mod tests;

@@ -4,7 +4,7 @@ ghost use Rattle.std.specs.Prelude.{◌≡◌};
 ghost use Rattle.std.specs.Result.{MatchResult};
 ghost use Rattle.std.specs.Option.{option_and_then};
 ghost use Rattle.target_filter.specs.Grammar as grammar;
-ghost use Rattle.target_filter.specs.Parse as parse;
+ghost use Rattle.target_filter.specs.Descent as descent;
 ghost use Rattle.target_filter.specs.Views.{tree_of};
 ghost use Rattle.target_filter.specs.Gives.{Gives};
 
@@ -13,7 +13,7 @@ use crate::tree::Tree;
 use std::alloc::Global;
 
 fn close(alloc: Global, tree: Tree, text: &[u8]) -> Result<(Tree, &[u8]), ParseFault>
-    ensures { Gives (parse.closed (tree_of tree, text.now)) result }
+    ensures { Gives (descent.closed (tree_of tree, text.now)) result }
 {
     match text {
         [b')', rest @ ..] => {
@@ -45,7 +45,7 @@ fn and(alloc: Global, left: Tree, right: Tree) -> Result<Tree, ParseFault>
 /// `fuel` bounds how deep the calls nest. They nest at most 3 deep for each byte, and 3 at the end.
 #[cycle(parser)]
 pub(crate) fn or_at(alloc: Global, fuel: usize, text: &[u8]) -> Result<(Tree, &[u8]), ParseFault>
-    ensures { Gives (parse.or_at fuel text.now) result }
+    ensures { Gives (descent.or_at fuel text.now) result }
 {
     if fuel == 0 {
         return Err(ParseFault::Missing);
@@ -61,7 +61,7 @@ fn more_ors(
     tree: Tree,
     text: &[u8],
 ) -> Result<(Tree, &[u8]), ParseFault>
-    ensures { Gives (parse.more_ors fuel (tree_of tree) text.now) result }
+    ensures { Gives (descent.more_ors fuel (tree_of tree) text.now) result }
 {
     if fuel == 0 {
         return Ok((tree, text));
@@ -76,7 +76,7 @@ fn more_ors(
 
 #[cycle(parser)]
 fn and_at(alloc: Global, fuel: usize, text: &[u8]) -> Result<(Tree, &[u8]), ParseFault>
-    ensures { Gives (parse.and_at fuel text.now) result }
+    ensures { Gives (descent.and_at fuel text.now) result }
 {
     if fuel == 0 {
         return Err(ParseFault::Missing);
@@ -92,7 +92,7 @@ fn more_ands(
     tree: Tree,
     text: &[u8],
 ) -> Result<(Tree, &[u8]), ParseFault>
-    ensures { Gives (parse.more_ands fuel (tree_of tree) text.now) result }
+    ensures { Gives (descent.more_ands fuel (tree_of tree) text.now) result }
 {
     if fuel == 0 {
         return Ok((tree, text));
@@ -107,7 +107,7 @@ fn more_ands(
 
 #[cycle(parser)]
 fn group_at(alloc: Global, fuel: usize, text: &[u8]) -> Result<(Tree, &[u8]), ParseFault>
-    ensures { Gives (option_and_then parse.closed (parse.or_at fuel text.now)) result }
+    ensures { Gives (option_and_then descent.closed (descent.or_at fuel text.now)) result }
 {
     let (tree, rest) = or_at(alloc, fuel, text)?;
     close(alloc, tree, rest)
@@ -115,7 +115,7 @@ fn group_at(alloc: Global, fuel: usize, text: &[u8]) -> Result<(Tree, &[u8]), Pa
 
 #[cycle(parser)]
 fn atom_at(alloc: Global, fuel: usize, text: &[u8]) -> Result<(Tree, &[u8]), ParseFault>
-    ensures { Gives (parse.atom_at fuel text.now) result }
+    ensures { Gives (descent.atom_at fuel text.now) result }
 {
     if fuel == 0 {
         return Err(ParseFault::Missing);

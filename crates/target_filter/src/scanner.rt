@@ -5,7 +5,7 @@ ghost use Rattle.std.specs.Option.{IfSome, option_map};
 ghost use Rattle.std.specs.Result.{MatchResult};
 ghost use Rattle.target_filter.specs.Scanner as scan;
 ghost use Rattle.target_filter.specs.Scanner.{Ends, Stops};
-ghost use Rattle.target_filter.specs.Seen.{mode_of, move_of, state_of};
+ghost use Rattle.target_filter.specs.ScannerViews.{mode_of, move_of, state_of};
 
 use crate::byte_kind::{is_bare_byte, is_quotable_byte, is_word_letter};
 

@@ -270,4 +270,3 @@ k6 = refl
 -- the refusals of verdicts have the numbers of the table of verdicts
 verdict_numbers : map (λ f. (refusal_row f).number) (Unauthorized ∷ NotFound ∷ Exists ∷ Locked ∷ WrongState ∷ ClosedAction ∷ Quota ∷ BadFilter ∷ TooFewTargets ∷ WrongDigest ∷ []) ≡ 2 ∷ 3 ∷ 5 ∷ 6 ∷ 7 ∷ 8 ∷ 10 ∷ 11 ∷ 12 ∷ 13 ∷ []
 verdict_numbers = refl
-

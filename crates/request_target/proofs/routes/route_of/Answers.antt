@@ -1,6 +1,6 @@
 use Rattle.std.proofs.Common.{◌≡◌, ◌∙◌, ℕ, true, sym, ap}
 use Rattle.std.proofs.Math.Facts.{Fits-lt-pow}
-use Rattle.request_target.specs.Tokens.{all_bytes}
+use Rattle.request_target.proofs.Meets.{all_bytes}
 use Rattle.request_target.proofs.Found.{all_bytes_from}
 use Rattle.request_target.proofs.TableRows.{value_of, first-rows_with}
 use Rattle.request_target.proofs.routes.route_of.Goals as goal

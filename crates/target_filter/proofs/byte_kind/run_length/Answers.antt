@@ -3,7 +3,7 @@ use Rattle.std.specs.List.{list_all}
 use Rattle.std.proofs.lemmas.List.{take_all}
 use Rattle.std.proofs.Math.Seq.{take-length, drop-length}
 use Rattle.target_filter.specs.ByteKinds.{is_of}
-use Rattle.target_filter.proofs.Runs.{front_to, behind_to, front_all, behind_all}
+use Rattle.target_filter.proofs.ByteRuns.{front_to, behind_to, front_all, behind_all}
 use Rattle.target_filter.proofs.byte_kind.run_length.Goals as goal
 
 pub returns-then-not-contains-clause-front : goal.returns-then-not-contains-clause-front

@@ -1,4 +1,4 @@
-use Rattle.target_filter.proofs.Parses.{one_tree}
+use Rattle.target_filter.proofs.ParsedTrees.{one_tree}
 use Rattle.target_filter.proofs.laws.one_tree.Goals as goal
 
 pub returns : goal.returns

@@ -1,7 +1,7 @@
 use Rattle.std.proofs.Common.{List, ℕ, Option, sym, subst, arith}
 use Rattle.target_filter.specs.Grammar as grammar
 use Rattle.target_filter.specs.Gives.{Gives}
-use Rattle.target_filter.proofs.Descent.{atom_else}
+use Rattle.target_filter.proofs.AtomReading.{atom_else}
 use Rattle.target_filter.proofs.parser.+parser.Goals as goal
 
 pub atom_at-returns-in-None : goal.atom_at-returns-in-None

@@ -1,7 +1,7 @@
 use Rattle.std.proofs.Common.{◌≡◌, ◌+◌, ap, sym, ◌∙◌, Some, None, take, drop}
 use Rattle.target_filter.specs.Patterns.{pieces}
 use Rattle.target_filter.specs.Greedy.{after, greedy}
-use Rattle.target_filter.proofs.Greed.{greedy_none, greedy_some}
+use Rattle.target_filter.proofs.GreedyMatching.{greedy_none, greedy_some}
 use Rattle.target_filter.proofs.pattern.+matches_behind.Goals as goal
 
 pub returns-in-None-after : goal.returns-in-None-after

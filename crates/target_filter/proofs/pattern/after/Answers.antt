@@ -1,5 +1,5 @@
 use Rattle.std.proofs.Common.{◌≡◌, ap, sym, ◌∙◌, Some}
-use Rattle.target_filter.proofs.Greed.{after_is}
+use Rattle.target_filter.proofs.GreedyMatching.{after_is}
 use Rattle.target_filter.proofs.pattern.after.Goals as goal
 
 pub returns-then-starts_with : goal.returns-then-starts_with

@@ -1,7 +1,7 @@
 use Rattle.std.proofs.Common.{◌≡◌, ◌+◌, ◌&&◌, ap, sym, ◌∙◌, Some, take, drop, true, false}
 use Rattle.target_filter.specs.Patterns.{pieces}
 use Rattle.target_filter.specs.Greedy.{greedy}
-use Rattle.target_filter.proofs.Greed.{cut_true, whole_is}
+use Rattle.target_filter.proofs.GreedyMatching.{cut_true, whole_is}
 use Rattle.target_filter.proofs.pattern.matches.Goals as goal
 
 pub returns-in-None : goal.returns-in-None

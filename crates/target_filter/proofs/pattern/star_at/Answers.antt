@@ -2,7 +2,7 @@ use Rattle.std.proofs.Common.{◌≡◌, arith, get_or, length, true, sym, ap, �
 use Rattle.std.specs.List.{list_all}
 use Rattle.std.proofs.lemmas.List.{take_all}
 use Rattle.target_filter.specs.Patterns.{pieces}
-use Rattle.target_filter.proofs.Greed.{cut, one_piece, no_star}
+use Rattle.target_filter.proofs.GreedyMatching.{cut, one_piece, no_star}
 use Rattle.target_filter.proofs.pattern.star_at.Goals as goal
 
 pub returns-then-byte-eq42-clause-cut : goal.returns-then-byte-eq42-clause-cut

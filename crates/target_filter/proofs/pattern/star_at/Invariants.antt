@@ -1,6 +1,6 @@
 use Rattle.std.proofs.Common.{◌≡◌, take, true}
 use Rattle.std.specs.List.{list_all}
-use Rattle.target_filter.proofs.Greed.{no_star}
+use Rattle.target_filter.proofs.GreedyMatching.{no_star}
 use Rattle.target_filter.proofs.pattern.star_at.Given as goal
 
 abbrev pub invariant-loop-at : goal.invariant-loop-at

@@ -1,0 +1,74 @@
+use crate::{
+    are_clean, number_or, read_number, read_pairs, route_of, router_of, takes_query, value_of,
+};
+use std::test::Fail;
+
+const ROUTES: [(&str, u8); 4] = [
+    ("/rest/v1/targets", 1),
+    ("/rest/v1/targets/{target}", 2),
+    ("/rest/v1/targets/{target}/actions", 3),
+    ("/rest/v1/rollouts/{rollout}/start", 4),
+];
+
+#[test]
+fn routes(rt: HostRuntime) -> Result<(), Fail> {
+    let alloc = rt.alloc();
+    let router = router_of(alloc, ROUTES.as_slice())?;
+    assert_eq!(rt; route_of(&router, "/rest/v1/targets"), Some(1));
+    assert_eq!(rt; route_of(&router, "/rest/v1/targets/dev-01"), Some(2));
+    assert_eq!(rt; route_of(&router, "/rest/v1/targets/%2F"), Some(2));
+    assert_eq!(rt;
+        route_of(&router, "/rest/v1/targets/dev-01/actions"),
+        Some(3)
+    );
+    assert_eq!(rt; route_of(&router, "/rest/v1/rollouts/1/start"), Some(4));
+    assert_eq!(rt; route_of(&router, "/rest/v1/rollouts//start"), None);
+    assert_eq!(rt; route_of(&router, "/rest/v1/targets/"), None);
+    assert_eq!(rt; route_of(&router, "/rest/v1/targets/dev-01/"), None);
+    assert_eq!(rt; route_of(&router, "/rest/v1"), None);
+    assert_eq!(rt; route_of(&router, ""), None);
+    Ok(())
+}
+
+#[test]
+fn pairs(rt: HostRuntime) -> Result<(), Fail> {
+    let alloc = rt.alloc();
+    let pairs = read_pairs(alloc, b"q=name%3D%3Dx+y&&limit=5&odd=100%")?;
+    assert_eq!(rt; pairs.len(), 3);
+    assert_eq!(rt; value_of(&pairs, "q"), Some("name==x y"));
+    assert_eq!(rt; value_of(&pairs, "odd"), Some("100%"));
+    assert_eq!(rt; value_of(&pairs, "offset"), None);
+    assert!(rt; are_clean(["odd", "limit", "q"].as_slice(), &pairs));
+    assert!(rt; !are_clean(["limit", "q"].as_slice(), &pairs));
+    Ok(())
+}
+
+#[test]
+fn queries_that_a_call_takes(rt: HostRuntime) -> Result<(), Fail> {
+    let alloc = rt.alloc();
+    let page = ["offset", "limit"];
+    let keys = page.as_slice();
+    assert!(rt; takes_query(alloc, keys, b"")?);
+    assert!(rt; takes_query(alloc, keys, b"&")?);
+    assert!(rt; takes_query(alloc, keys, b"offset=0&limit=1")?);
+    assert!(rt; !takes_query(alloc, keys, b"offset=0&offset=0")?);
+    assert!(rt; !takes_query(alloc, keys, b"offset=%FF")?);
+    assert!(rt; !takes_query(alloc, keys, b"q=x")?);
+    assert!(rt; !takes_query(alloc, keys, b"=")?);
+    Ok(())
+}
+
+#[test]
+fn numbers(rt: HostRuntime) -> Result<(), Fail> {
+    assert_eq!(rt; read_number("0"), Some(0));
+    assert_eq!(rt; read_number("01"), None);
+    assert_eq!(rt; read_number("+1"), None);
+    assert_eq!(rt; read_number(""), None);
+    assert_eq!(rt; read_number("2147483647"), Some(2147483647));
+    assert_eq!(rt; read_number("2147483648"), None);
+    assert_eq!(rt; number_or(1, 500, 50, None), Some(50));
+    assert_eq!(rt; number_or(1, 500, 50, Some("500")), Some(500));
+    assert_eq!(rt; number_or(1, 500, 50, Some("0")), None);
+    assert_eq!(rt; number_or(1, 500, 50, Some("501")), None);
+    Ok(())
+}

@@ -1,0 +1,31 @@
+-- From one request of a desk's store to the desk, which may be stopped.
+use Rattle.std.proofs.Common.{◌≡◌, ◌≤◌, ℕ, Bool, true, false, refl, sym, subst, ap, ◌∙◌, arith}
+use Rattle.std.proofs.lemmas.Bool.{false≢true}
+use Rattle.sqlite.specs.Effect.{Database}
+use Rattle.sqlite.specs.State.{State, HasCleanDisk}
+use Rattle.rollout_machine.specs.CommandList.{CommandList}
+use Rattle.rollout_machine.specs.Records.{Records}
+use Rattle.rollout_machine.specs.Replies.{Reply}
+use Rattle.rollout_machine.specs.Requests.{Request, Asks}
+use Rattle.rollout_machine.specs.Standing.{StandsFor, Applies, AppliesAt, StaysStopped}
+use Rattle.rollout_desk.specs.Desks.{desk_state_at}
+use Rattle.rollout_desk.specs.Steps.{is_failed_store, Handles}
+
+module _ (Holds : Database → Records → Type 0) (old new : State) where
+  -- a running desk answers by its store, and is stopped after a failed one
+  pub answers : (was stopped : Bool) (request : Request) (reply : Reply) → was ≡ false → Handles Holds old new request reply → stopped ≡ is_failed_store reply
+      → Applies (desk_state_at Holds was old) (desk_state_at Holds stopped new) (Asks request) reply
+  answers was stopped request reply runs h is list clean standing =
+      subst (λ (b : Bool). AppliesAt list (desk_state_at Holds b new) (Asks request) reply) (sym is)
+      (h.handles list clean (subst (λ (b : Bool). StandsFor (desk_state_at Holds b old) list) runs standing))
+
+  pub was_clean : {request : Request} {reply : Reply} → Handles Holds old new request reply → HasCleanDisk new → HasCleanDisk old
+  was_clean h clean = omega (arith, clean, h.wears)
+
+-- a stopped desk answers nothing else
+module _ (Holds : Database → Records → Type 0) (s : State) where
+  pub refuses : (was : Bool) (asked : Rattle.rollout_machine.specs.Requests.Asked) (reply : Reply) → was ≡ true → Applies (desk_state_at Holds was s) (desk_state_at Holds was s) asked reply
+  refuses was asked reply stopped list clean standing = absurd (false≢true (sym standing.runs ∙ stopped))
+
+  pub stays : (was : Bool) → was ≡ true → StaysStopped (desk_state_at Holds was s) (desk_state_at Holds was s)
+  stays was stopped = record { stopped = stopped; crash = λ file left. left; holds = λ file list h. h }

@@ -1,0 +1,8 @@
+use Rattle.rollout_desk.proofs.ModuleLemmas.{shown, missing}
+use Rattle.rollout_desk.proofs.modules.show_module.Goals as goal
+
+pub returns-in-Some-clause-reads : goal.returns-in-Some-clause-reads
+returns-in-Some-clause-reads g c = shown _ _ _ _ (rw c.in-Some.is at c.in_ok-label.ensures.reads)
+
+pub returns-in-None-clause-reads : goal.returns-in-None-clause-reads
+returns-in-None-clause-reads g c = missing _ _ _ (rw c.in-None.is at c.in_ok-label.ensures.reads)

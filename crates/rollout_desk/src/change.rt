@@ -1,0 +1,112 @@
+//! One request as one change of the store.
+
+ghost use Rattle.std.specs.Prelude.{◌≡◌};
+ghost use Rattle.sqlite.specs.Held.{state};
+ghost use Rattle.sql_calls.specs.Standing.{Reads};
+ghost use Rattle.desk_records.specs.Holds.{HoldsRecords};
+ghost use Rattle.rollout_machine.specs.Answers.{query_reply};
+ghost use Rattle.rollout_machine.specs.Commands.{AddModule};
+ghost use Rattle.rollout_machine.specs.Requests.{Do, Ask, ShowModule};
+ghost use Rattle.rollout_machine.specs.Views.{command_of, query_of, reply_of};
+ghost use Rattle.rollout_desk.specs.Steps.{Steps, Handles, EndsByCommit, EndsByRollback};
+
+use crate::modules::{add_module, show_module};
+use crate::step::{Step, reply_of_fault};
+use desk_store::{DeskStore, Fault, OpenChange};
+use rollout_machine::command_is_well_formed;
+use rollout_model::{Command, ModuleLabel, ModuleNo, Query, Refusal, Reply};
+use sqlite::Alter;
+use std::alloc::Global;
+
+/// What the only command adds.
+fn module_of(command: &Command) -> &ModuleLabel
+    ensures { command_of command.now ≡ AddModule result.now }
+{
+    match command {
+        Command::AddModule(label) => label,
+    }
+}
+
+/// What the only query asks for.
+fn number_of(query: &Query) -> ModuleNo
+    ensures { query_of query.now ≡ ShowModule result }
+{
+    match query {
+        Query::Module(number) => *number,
+    }
+}
+
+/// Runs a command inside a change.
+fn step<S: Alter>(
+    alloc: Global,
+    change: &mut OpenChange<'_, S>,
+    command: &Command,
+) -> Result<Step, Fault>
+    ensures same_reference { change.new.store.ghost_name ≡ change.old.store.ghost_name }
+    ensures steps { Steps HoldsRecords (state S.Store change.old.store.now.calls.conn) (state S.Store change.new.store.now.calls.conn) (command_of command.now) result }
+{
+    add_module(alloc, change, module_of(command))
+}
+
+/// Answers a query inside a change.
+fn answer<S: Alter>(change: &mut OpenChange<'_, S>, query: &Query) -> Result<Reply, Fault>
+    ensures same_reference { change.new.store.ghost_name ≡ change.old.store.ghost_name }
+    ensures reads { Reads HoldsRecords (state S.Store change.old.store.now.calls.conn) (state S.Store change.new.store.now.calls.conn) result
+        (λ now reply. reply_of reply ≡ query_reply now (query_of query.now)) }
+{
+    show_module(change, number_of(query))
+}
+
+/// Commits a change, and then gives the reply that was made.
+fn commit<S: Alter>(change: OpenChange<'_, S>, reply: Reply) -> Reply
+    ensures { EndsByCommit HoldsRecords (state S.Store change.entry.store.now.calls.conn) (state S.Store change.exit.0.now.calls.conn) (reply_of reply) (reply_of result) }
+{
+    match change.commit() {
+        Ok(()) => reply,
+        Err(_) => Reply::Refused(Refusal::StoreFailed),
+    }
+}
+
+/// Gives a change up, and then the reply that was made.
+fn give_up<S: Alter>(change: OpenChange<'_, S>, reply: Reply) -> Reply
+    ensures { EndsByRollback HoldsRecords (state S.Store change.entry.store.now.calls.conn) (state S.Store change.exit.0.now.calls.conn) (reply_of reply) (reply_of result) }
+{
+    match change.give_up() {
+        Ok(()) => reply,
+        Err(_) => Reply::Refused(Refusal::StoreFailed),
+    }
+}
+
+/// Runs a command as one transaction.
+pub(crate) fn run_command<S: Alter>(
+    alloc: Global,
+    store: &mut DeskStore<S>,
+    command: &Command,
+) -> Reply
+    ensures { Handles HoldsRecords (state S.Store store.old.calls.conn) (state S.Store store.new.calls.conn) (Do (command_of command.now)) (reply_of result) }
+{
+    command_is_well_formed(command);
+    let mut change = match store.begin() {
+        Ok(change) => change,
+        Err(fault) => return reply_of_fault(fault),
+    };
+    match step(alloc, &mut change, command) {
+        Ok(Step::Accepted(reply)) => commit(change, reply),
+        Ok(Step::Refused(refusal)) => give_up(change, Reply::Refused(refusal)),
+        Err(fault) => give_up(change, reply_of_fault(fault)),
+    }
+}
+
+/// Answers a query inside a transaction that changes nothing.
+pub(crate) fn run_query<S: Alter>(store: &mut DeskStore<S>, query: &Query) -> Reply
+    ensures { Handles HoldsRecords (state S.Store store.old.calls.conn) (state S.Store store.new.calls.conn) (Ask (query_of query.now)) (reply_of result) }
+{
+    let mut change = match store.begin() {
+        Ok(change) => change,
+        Err(fault) => return reply_of_fault(fault),
+    };
+    match answer(&mut change, query) {
+        Ok(reply) => give_up(change, reply),
+        Err(fault) => give_up(change, reply_of_fault(fault)),
+    }
+}

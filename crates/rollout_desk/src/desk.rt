@@ -1,0 +1,86 @@
+//! The desk.
+
+ghost use Rattle.std.specs.Prelude.{◌≡◌, true, false};
+ghost use Rattle.rollout_model.specs.declared.refusal.Refusal.TheVariants.{Stopped};
+ghost use Rattle.rollout_machine.specs.Replies.{Refused};
+ghost use Rattle.rollout_machine.specs.Requests.{Asks, Do, Ask};
+ghost use Rattle.rollout_machine.specs.Standing.{Applies, StaysStopped};
+ghost use Rattle.rollout_machine.specs.Views.{command_of, query_of, request_of, reply_of};
+ghost use Rattle.rollout_desk.specs.DeskStates.{desk_state};
+
+use crate::change::{run_command, run_query};
+use crate::step::says_store_failed;
+use desk_store::DeskStore;
+use rollout_model::{Command, Query, Refusal, Reply, Request};
+use sqlite::Alter;
+use std::alloc::Global;
+
+/// The records of a rollout server in one database. After a failed store it is stopped: it refuses everything, and calls
+/// the store no more, until it is reopened.
+#[derive(Drop)]
+pub struct Desk<S: Alter> {
+    pub(crate) store: DeskStore<S>,
+    pub(crate) stopped: bool,
+    pub(crate) alloc: Global,
+}
+
+impl<S: Alter> Desk<S> {
+    /// A desk over its store, not stopped.
+    pub(crate) fn over(alloc: Global, store: DeskStore<S>) -> Desk<S>
+        ensures { result ≡ record { store = store; stopped = false; alloc = alloc } }
+    {
+        Desk {
+            store,
+            stopped: false,
+            alloc,
+        }
+    }
+
+    /// Runs a command as one transaction, which is committed, or surely not, before the reply is known: only after
+    /// `StoreFailed` it may be either.
+    pub fn apply(&mut self, command: &Command) -> Reply
+        ensures clean { (desk_state S.Store self.new).is_clean → (desk_state S.Store self.old).is_clean }
+        ensures applies { Applies (desk_state S.Store self.old) (desk_state S.Store self.new) (Asks (Do (command_of command.now))) (reply_of result) }
+        ensures stopped { (desk_state S.Store self.old).is_stopped ≡ true → (reply_of result ≡ Refused Stopped) × StaysStopped (desk_state S.Store self.old) (desk_state S.Store self.new) }
+    {
+        if self.stopped {
+            return Reply::Refused(Refusal::Stopped);
+        }
+        let reply = run_command(self.alloc, &mut self.store, command);
+        self.stopped = says_store_failed(&reply);
+        reply
+    }
+
+    /// Answers a query, and changes nothing.
+    pub fn ask(&mut self, query: &Query) -> Reply
+        ensures clean { (desk_state S.Store self.new).is_clean → (desk_state S.Store self.old).is_clean }
+        ensures applies { Applies (desk_state S.Store self.old) (desk_state S.Store self.new) (Asks (Ask (query_of query.now))) (reply_of result) }
+        ensures stopped { (desk_state S.Store self.old).is_stopped ≡ true → (reply_of result ≡ Refused Stopped) × StaysStopped (desk_state S.Store self.old) (desk_state S.Store self.new) }
+    {
+        if self.stopped {
+            return Reply::Refused(Refusal::Stopped);
+        }
+        let reply = run_query(&mut self.store, query);
+        self.stopped = says_store_failed(&reply);
+        reply
+    }
+
+    /// Runs a command or answers a query.
+    pub fn answer(&mut self, request: &Request) -> Reply
+        ensures clean { (desk_state S.Store self.new).is_clean → (desk_state S.Store self.old).is_clean }
+        ensures applies { Applies (desk_state S.Store self.old) (desk_state S.Store self.new) (Asks (request_of request.now)) (reply_of result) }
+        ensures stopped { (desk_state S.Store self.old).is_stopped ≡ true → (reply_of result ≡ Refused Stopped) × StaysStopped (desk_state S.Store self.old) (desk_state S.Store self.new) }
+    {
+        match request {
+            Request::Do(command) => self.apply(command),
+            Request::Ask(query) => self.ask(query),
+        }
+    }
+
+    /// Whether the desk refuses everything until it is reopened.
+    pub fn stopped(&self) -> bool
+        ensures { result ≡ (desk_state S.Store self.now).is_stopped }
+    {
+        self.stopped
+    }
+}

@@ -1,0 +1,9 @@
+//! A desk: the records of a rollout server in one database, one transaction a command.
+#![tactic(auto)]
+
+mod change;
+mod desk;
+mod modules;
+mod step;
+
+pub use crate::desk::Desk;
