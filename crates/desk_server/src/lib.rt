@@ -3,6 +3,7 @@
 
 mod answer;
 mod bytes;
+mod desk;
 mod handler;
 mod interface;
 mod order;

@@ -3,7 +3,7 @@
 use crate::store::DeskStore;
 use desk_records::{CREATE_DESK, CREATE_MODULE, PUT_DESK};
 use rollout_model::{ModuleLabel, ModuleNo, Text};
-use sql_calls::{Calls, Fault, Work};
+use sql_calls::{Fault, Work};
 use sqlite::{Alter, Connection, MemStore, params};
 use std::alloc::Global;
 use std::test::Fail;
@@ -26,10 +26,7 @@ fn made(alloc: Global) -> Result<DeskStore<MemStore>, Fail> {
     conn.execute(CREATE_DESK, &[])?;
     conn.execute(CREATE_MODULE, &[])?;
     conn.execute(PUT_DESK, params![true])?;
-    Ok(DeskStore {
-        calls: Calls::new(conn),
-        alloc,
-    })
+    Ok(DeskStore::new(alloc, conn))
 }
 
 /// Adds the module of a number, in a change of its own.

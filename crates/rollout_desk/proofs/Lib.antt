@@ -1,3 +1,4 @@
 pub mod ApplyLemmas
 pub mod ModuleLemmas
 pub mod DeskLemmas
+pub mod OpeningLemmas

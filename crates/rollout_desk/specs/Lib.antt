@@ -1,3 +1,4 @@
 pub mod Desks
 pub mod DeskStates
 pub mod Steps
+pub mod Openings

@@ -4,6 +4,8 @@
 mod change;
 mod desk;
 mod modules;
+mod opening;
 mod step;
 
 pub use crate::desk::Desk;
+pub use desk_opening::OpenFault;

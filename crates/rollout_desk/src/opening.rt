@@ -1,0 +1,65 @@
+//! A desk over files.
+
+ghost use Rattle.std.specs.Prelude.{IsTrue, IfOk};
+ghost use Rattle.sqlite.specs.Files.{image_of, over_files};
+ghost use Rattle.sqlite.specs.WalFiles.{image_at};
+ghost use Rattle.rollout_desk.specs.DeskStates.{desk_state};
+ghost use Rattle.rollout_desk.specs.Openings.{ReopensDesk};
+
+use crate::desk::Desk;
+use desk_opening::{OpenFault, reopen_files, reopen_path};
+use desk_store::DeskStore;
+use sqlite::{Error, FileFrom, FileStore, Files, Options, Start};
+use sqlite_disk::Disk;
+use std::alloc::Global;
+
+impl<D: Disk + Drop> Desk<FileStore<D>> {
+    /// Opens the desk that the files hold, or makes a new one where they hold no database, or one that uses no name of a desk.
+    pub fn reopen(
+        alloc: Global,
+        files: Files<D>,
+        options: Options,
+        approval_if_new: bool,
+    ) -> Result<Desk<FileStore<D>>, OpenFault>
+        requires log { IsTrue (D.Disk.is_usable files.log) }
+        requires db { IsTrue (D.Disk.is_usable files.db) }
+        ensures reopened { IfOk result (λ desk. ReopensDesk (image_of D.Disk files) (desk_state over_files desk) approval_if_new) }
+    {
+        let conn = reopen_files(alloc, files, options, approval_if_new)?;
+        let store = DeskStore::new(alloc, conn);
+        Ok(Desk {
+            store,
+            stopped: false,
+            alloc,
+        })
+    }
+
+    /// Gives the files back, with all that was committed in the database file. Commits nothing.
+    pub fn into_files(self) -> Result<Files<D>, (Error, FileStore<D>)>
+        ensures usable { IfOk result (λ files. IsTrue (D.Disk.is_usable files.log) × IsTrue (D.Disk.is_usable files.db)) }
+    {
+        let Desk { store, .. } = self;
+        store.into_connection().close_files()
+    }
+}
+
+impl<S: Start> Desk<FileStore<FileFrom<S>>> {
+    /// The same for the file at a path, with its log beside it. A file that another process holds is refused as `Store`.
+    pub fn reopen_path(
+        rt: &HostRuntime,
+        path: &str,
+        start: S,
+        approval_if_new: bool,
+    ) -> Result<Desk<FileStore<FileFrom<S>>>, OpenFault>
+        ensures reopened { IfOk result (λ desk. ReopensDesk (image_at S.Start) (desk_state over_files desk) approval_if_new) }
+    {
+        let alloc = rt.alloc();
+        let conn = reopen_path(rt, path, start, approval_if_new)?;
+        let store = DeskStore::new(alloc, conn);
+        Ok(Desk {
+            store,
+            stopped: false,
+            alloc,
+        })
+    }
+}
