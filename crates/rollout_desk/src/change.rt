@@ -63,7 +63,7 @@ fn commit<S: Alter>(change: OpenChange<'_, S>, reply: Reply) -> Reply
 {
     match change.commit() {
         Ok(()) => reply,
-        Err(_) => Reply::Refused(Refusal::StoreFailed),
+        Err(_uncommitted) => Reply::Refused(Refusal::StoreFailed),
     }
 }
 
