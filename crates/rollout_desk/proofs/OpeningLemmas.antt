@@ -1,7 +1,12 @@
 -- From a connection that was opened to a desk over it.
-use Rattle.std.proofs.Common.{◌≡◌, Bool, false, refl}
+use Rattle.std.proofs.Common.{Bool, false, Ok, refl, sym, subst}
+use Rattle.sqlite.specs.Steps.{IsEmpty}
+use Rattle.sql_front.specs.Free.{LeavesFree}
+use Rattle.sql_calls.specs.Standing.{HoldIn, IsAtRest}
+use Rattle.desk_records.specs.Schema.{desk_names}
+use Rattle.desk_opening.specs.Making.{HoldsStage, Free}
+use Rattle.desk_opening.specs.Opening.{OpensDesk, IsSettled}
 use Rattle.sqlite.specs.Recovery.{Image}
-use Rattle.sqlite.specs.Tree.{Trees}
 use Rattle.sqlite.specs.State.{State, HasCleanDisk}
 use Rattle.sql_calls.specs.Standing.{Rests}
 use Rattle.desk_records.specs.Holds.{HoldsRecords}
@@ -21,3 +26,21 @@ reopened_desk image approval s h = record {
   holds = λ db list held it clean. stands s list it.0 (h.holds db (records list) held it.1) clean;
   makes = λ db held none clean. stands s (Make approval) tt (h.makes db held none) clean;
 }
+
+-- ---- in memory
+
+empty_at_rest : (s : State) → IsSettled s → IsEmpty s → IsAtRest HoldsStage s Free
+empty_at_rest s settled e =
+    let opens = e.0 in
+    let sound = (e.1 opens.is_open).1 in
+    let free : LeavesFree s.now.schema desk_names = rw (e.2) (refl, (refl, tt)) in
+    let kept : HoldsStage s.committed Free = (sound, subst (λ d. LeavesFree d.schema desk_names) opens.clean free) in
+    record {
+      mode = opens.autocommit;
+      now_holds = λ _. subst (λ d. HoldsStage d Free) (sym opens.clean) kept;
+      kept_holds = λ _. kept;
+      crash = λ db left. subst (λ t. HoldIn HoldsStage t Free) (sym (settled db opens.is_open left)) (s.committed.schema, kept);
+    }
+
+pub made_desk : {A E : Type 0} (old new : State) (approval : Bool) (x : A) → IsSettled old → IsEmpty old → OpensDesk {E = E} old new approval (Ok x) → HasCleanDisk new → StandsFor (desk_state_at HoldsRecords false new) (Make approval)
+made_desk old new approval x settled e h clean = stands new (Make approval) tt (h.makes (λ _. e.0.is_open) (λ _. empty_at_rest old settled e)) clean

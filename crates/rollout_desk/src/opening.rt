@@ -2,14 +2,17 @@
 
 ghost use Rattle.std.specs.Prelude.{IsTrue, IfOk};
 ghost use Rattle.sqlite.specs.Files.{image_of, over_files};
+ghost use Rattle.sqlite.specs.Steps.{over_memory};
 ghost use Rattle.sqlite.specs.WalFiles.{image_at};
+ghost use Rattle.rollout_machine.specs.CommandList.{Make};
+ghost use Rattle.rollout_machine.specs.Standing.{StandsFor};
 ghost use Rattle.rollout_desk.specs.DeskStates.{desk_state};
 ghost use Rattle.rollout_desk.specs.Openings.{ReopensDesk};
 
 use crate::desk::Desk;
-use desk_opening::{OpenFault, reopen_files, reopen_path};
+use desk_opening::{OpenFault, open_desk, reopen_files, reopen_path};
 use desk_store::DeskStore;
-use sqlite::{Error, FileFrom, FileStore, Files, Options, Start};
+use sqlite::{Connection, Error, FileFrom, FileStore, Files, MemStore, Options, Start};
 use sqlite_disk::Disk;
 use std::alloc::Global;
 
@@ -55,6 +58,24 @@ impl<S: Start> Desk<FileStore<FileFrom<S>>> {
     {
         let alloc = rt.alloc();
         let conn = reopen_path(rt, path, start, approval_if_new)?;
+        let store = DeskStore::new(alloc, conn);
+        Ok(Desk {
+            store,
+            stopped: false,
+            alloc,
+        })
+    }
+}
+
+impl Desk<MemStore> {
+    /// A new desk in memory.
+    pub fn in_memory(alloc: Global, approval: bool) -> Result<Desk<MemStore>, OpenFault>
+        ensures made { IfOk result (λ desk. StandsFor (desk_state over_memory desk) (Make approval)) }
+    {
+        let Ok(conn) = Connection::open_in_memory(alloc) else {
+            return Err(OpenFault::Memory);
+        };
+        let conn = open_desk(alloc, conn, approval)?;
         let store = DeskStore::new(alloc, conn);
         Ok(Desk {
             store,
