@@ -1,0 +1,113 @@
+//! What the program does with an order.
+
+ghost use Rattle.std.specs.Prelude.{◌≡◌, ◌++◌, ℕ, List, [], Result, IfErr, OnOk};
+ghost use Rattle.std.specs.Io.KnownBytes.{Appends, Consumes};
+ghost use Rattle.http_wire.specs.Watched.{inner_of, has_failed};
+ghost use Rattle.desk_server.specs.declared.served.Served.{Served as Outcome};
+ghost use Rattle.desk_server.specs.declared.served.ServeFault.{ServeFault as Fault};
+ghost use Rattle.desk_server.specs.Headline.{FailsBy};
+ghost use Rattle.desk_server.specs.Program.{fault_line, open_line, status_of, Tells, Reports};
+ghost use Rattle.desk_server.specs.Parts.{ServesStream};
+
+use crate::handler::Handler;
+use crate::serving::serve;
+use crate::{Interface, Order, ServeFault};
+use desk_opening::OpenFault;
+use http_wire::{Watched, write_all_counted};
+use rollout_desk::Desk;
+use sqlite::Alter;
+use std::alloc::Global;
+use std::io::{Read, Write};
+
+/// The exit status of what was done.
+const DONE: u8 = 0;
+
+/// The exit status of what failed.
+const FAILED: u8 = 1;
+
+fn fault_line(fault: ServeFault) -> &'static [u8]
+    ensures { result.now ≡ fault_line fault }
+{
+    match fault {
+        ServeFault::Read => b"fault 1 read\n",
+        ServeFault::Write => b"fault 2 write\n",
+        ServeFault::Store => b"fault 3 store\n",
+        ServeFault::Memory => b"fault 4 memory\n",
+    }
+}
+
+fn open_line(fault: OpenFault) -> &'static [u8]
+    ensures { result.now ≡ open_line fault }
+{
+    match fault {
+        OpenFault::NotDesk => b"open 1 not_desk\n",
+        OpenFault::NewerVersion => b"open 2 newer_version\n",
+        OpenFault::Memory => b"open 3 memory\n",
+        OpenFault::Store => b"open 4 store\n",
+    }
+}
+
+/// Writes a line, or a beginning of it where a write fails: there is nobody left to tell.
+fn tell<E: Write>(errors: &mut Watched<E>, line: &[u8])
+    ensures { Tells (E.contents (inner_of errors.old)) (E.contents (inner_of errors.new)) line.now }
+{
+    let Ok(()) = write_all_counted(errors, line) else {
+        return;
+    };
+    let _flushed = errors.flush();
+}
+
+/// Serves the input to the output, and tells of a fault.
+fn run<R: Read, W: Write, E: Write, D: Handler>(
+    alloc: Global,
+    desk: &mut D,
+    interface: Interface,
+    input: &mut Watched<R>,
+    output: &mut Watched<W>,
+    errors: &mut Watched<E>,
+) -> u8
+    ensures { (outcome : Result Outcome Fault)
+        × ServesStream interface (D.state desk.old) (D.state desk.new) (R.remaining (inner_of input.old)) (R.remaining (inner_of input.new))
+        (W.contents (inner_of output.old)) (W.contents (inner_of output.new)) outcome
+        × (result ≡ status_of outcome) × Reports (E.contents (inner_of errors.old)) (E.contents (inner_of errors.new)) outcome
+        × FailsBy outcome ServeFault.Read (has_failed input.old) (has_failed input.new)
+        × FailsBy outcome ServeFault.Write (has_failed output.old) (has_failed output.new) }
+{
+    match serve(alloc, desk, input, output, interface) {
+        Ok(_) => DONE,
+        Err(fault) => {
+            tell(errors, fault_line(fault));
+            FAILED
+        }
+    }
+}
+
+/// Carries an order out, and answers the exit status. `file` is an import's bytes, or None where they can't be read: no order takes
+/// a file yet.
+pub fn carry_out<R: Read, W: Write, E: Write, S: Alter>(
+    alloc: Global,
+    order: &Order<'_>,
+    desk: Result<&mut Desk<S>, OpenFault>,
+    _file: Option<&[u8]>,
+    input: &mut Watched<R>,
+    output: &mut Watched<W>,
+    errors: &mut Watched<E>,
+) -> u8
+    ensures unopened { IfErr desk.entry (λ fault. (result ≡ 1) × Consumes (R.remaining (inner_of input.old)) (R.remaining (inner_of input.new)) []
+        × Appends (W.contents (inner_of output.old)) (W.contents (inner_of output.new)) []
+        × Tells (E.contents (inner_of errors.old)) (E.contents (inner_of errors.new)) (open_line fault)) }
+    ensures ran { OnOk desk.entry ((outcome : Result Outcome Fault) × (result ≡ status_of outcome)
+        × Reports (E.contents (inner_of errors.old)) (E.contents (inner_of errors.new)) outcome
+        × FailsBy outcome ServeFault.Read (has_failed input.old) (has_failed input.new)
+        × FailsBy outcome ServeFault.Write (has_failed output.old) (has_failed output.new)) }
+{
+    match desk {
+        Err(fault) => {
+            tell(errors, open_line(fault));
+            FAILED
+        }
+        Ok(desk) => match order {
+            Order::Run { interface, .. } => run(alloc, desk, *interface, input, output, errors),
+        },
+    }
+}
