@@ -1,0 +1,3 @@
+pub mod Lists
+pub mod Programs
+pub mod Steps
