@@ -1,5 +1,5 @@
 -- From the calls of the store to one request of a desk.
-use Rattle.std.proofs.Common.{◌≡◌, ◌≢◌, ◌≤◌, ◌⊎◌, inl, inr, ℕ, Bool, true, false, Option, Some, None, Result, Ok, Err, refl, sym, subst, ap, ◌∙◌, arith}
+use Rattle.std.proofs.Common.{◌≡◌, ◌≢◌, ◌⊎◌, inl, inr, Bool, true, false, Option, Some, None, Ok, Err, refl, sym, subst, ap, ◌∙◌, arith}
 use Rattle.std.proofs.lemmas.Bool.{cases_Bool, false≢true}
 use Rattle.sqlite.specs.Tree.{Trees}
 use Rattle.sqlite.specs.Effect.{Database}
@@ -7,7 +7,7 @@ use Rattle.sqlite.specs.State.{State, HasCleanDisk}
 use Rattle.sql_calls.specs.Standing.{HoldIn, IsAtRest, IsInDoubt, Rests, Changes, Spoils, Reads, Begins, Keeps}
 use Rattle.rollout_model.specs.declared.request.Reply as model
 use Rattle.sql_calls.proofs.Changes.{spoils}
-use Rattle.rollout_machine.specs.Answers.{Answer, answer, command_reply, query_reply}
+use Rattle.rollout_machine.specs.Answers.{Answer, answer, query_reply}
 use Rattle.rollout_machine.specs.CommandList.{CommandList, ◌▸◌, followed_by}
 use Rattle.rollout_machine.specs.CommandRules.{IsWellFormed}
 use Rattle.rollout_machine.specs.Commands.{Command}
@@ -36,7 +36,7 @@ store_true : (refusal : Refusal) → is_store refusal ≡ true → refusal ≡ S
 store_true StoreFailed e = refl
 store_true _ e = absurd (false≢true e)
 
-failed_true : (reply : Reply) → is_failed_store reply ≡ true → reply ≡ Refused StoreFailed
+pub failed_true : (reply : Reply) → is_failed_store reply ≡ true → reply ≡ Refused StoreFailed
 failed_true (Refused refusal) e = ap Refused (store_true refusal e)
 failed_true _ e = absurd (false≢true e)
 

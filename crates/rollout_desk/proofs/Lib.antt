@@ -2,3 +2,4 @@ pub mod ApplyLemmas
 pub mod ModuleLemmas
 pub mod DeskLemmas
 pub mod OpeningLemmas
+pub mod RunLemmas

@@ -4,25 +4,23 @@ use Rattle.std.proofs.lemmas.Bool.Decides.{nat_tests}
 use Rattle.std.proofs.lemmas.List.{length-append}
 use Rattle.std.specs.List.{list_any}
 use Rattle.sqlite.specs.State.{State, HasCleanDisk}
-use Rattle.sql_calls.specs.Standing.{Wears, Changes, Spoils, Reads, Writes}
+use Rattle.sql_calls.specs.Standing.{Changes, Reads, Writes}
 use Rattle.sql_calls.proofs.Changes.{spoils}
 use Rattle.desk_records.specs.Holds.{HoldsRecords}
 use Rattle.desk_records.specs.Modules.{is_same, with_module}
 use Rattle.rollout_machine.specs.Answers.{command_reply, query_reply}
 use Rattle.rollout_machine.specs.ByteStrings.{item_numbered}
 use Rattle.rollout_machine.specs.Commands.{ModuleLabel, SetLabel, AddModule}
-use Rattle.rollout_machine.specs.Objects.{module_shown}
 use Rattle.rollout_machine.specs.Records.{Records}
 use Rattle.rollout_machine.specs.RecordSteps.{step_records}
-use Rattle.rollout_machine.specs.Replies.{Module}
 use Rattle.rollout_machine.specs.Requests.{ShowModule}
-use Rattle.rollout_machine.specs.Verdicts.{is_named_by_set, check}
+use Rattle.rollout_machine.specs.Verdicts.{is_named_by_set}
 use Rattle.rollout_machine.specs.Views.{reply_of}
 use Rattle.rollout_model.specs.declared.refusal.Refusal.TheVariants.{Exists, Quota, NotFound}
 use Rattle.rollout_model.specs.Rules.{is_number, number_of}
 use Rattle.rollout_model.specs.declared.request.Reply.{Reply}
 use Rattle.rollout_model.specs.declared.request.Reply.TheVariants as reply
-use Rattle.rollout_desk.specs.Steps.{Steps, StepsTo}
+use Rattle.rollout_desk.specs.Steps.{Steps}
 use Rattle.rollout_desk.specs.declared.step.Step.{Step}
 use Rattle.rollout_desk.specs.declared.step.Step.TheVariants as step
 

@@ -2,3 +2,4 @@ pub mod Desks
 pub mod DeskStates
 pub mod Steps
 pub mod Openings
+pub mod Runs

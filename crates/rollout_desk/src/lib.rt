@@ -5,6 +5,7 @@ mod change;
 mod desk;
 mod modules;
 mod opening;
+mod run;
 mod step;
 
 pub use crate::desk::Desk;

@@ -1,0 +1,115 @@
+-- Runs grow at their end by one request.
+use Rattle.std.proofs.Common.{◌≡◌, ◌≢◌, ◌≤◌, ◌<◌, ◌+◌, ℕ, true, false, zero, suc, length, take, drop, get_or, List, [], ◌∷◌, ◌++◌, map, refl, sym, ap, ◌∙◌, subst, append-nil, arith}
+use Rattle.std.proofs.lemmas.Bool.{false≢true}
+use Rattle.std.proofs.lemmas.List.{map-append, take_all, take_more, take-append-drop}
+use Rattle.std.proofs.lemmas.List.Concat.{flat_map-append}
+use Rattle.std.proofs.lemmas.List.Elements.{All-append}
+use Rattle.rollout_model.specs.declared.refusal.Refusal.TheVariants.{StoreFailed}
+use Rattle.rollout_model.specs.declared.request.Reply as model
+use Rattle.rollout_model.specs.declared.request.Request as asked
+use Rattle.rollout_machine.specs.Answers.{MayAnswer}
+use Rattle.rollout_machine.specs.Commands.{Command}
+use Rattle.rollout_machine.specs.CommandList.{CommandList, ◌▸◌, followed_by}
+use Rattle.rollout_machine.specs.Replies.{Reply, Refused}
+use Rattle.rollout_machine.specs.Requests.{Request, Asks, one}
+use Rattle.rollout_machine.specs.Standing.{DeskState, StandsFor, Applies}
+use Rattle.rollout_machine.specs.Views.{request_of, reply_of}
+use Rattle.rollout_desk.specs.Runs.{Exchange, accepted_in, IsRun, GoesOn, RunsThrough, BreaksOff}
+use Rattle.rollout_desk.specs.Steps.{is_failed_store}
+use Rattle.rollout_desk.proofs.ApplyLemmas.{failed_true}
+
+followed_append : (h : CommandList) (cs ds : List Command) → followed_by h (cs ++ ds) ≡ followed_by (followed_by h cs) ds
+followed_append h [] ds = refl
+followed_append h (c ∷ cs) ds = followed_append (h ▸ c) cs ds
+
+accepted_more : (xs : List Exchange) (x : Exchange) → accepted_in (xs ++ x ∷ []) ≡ accepted_in xs ++ one x.accepted
+accepted_more xs x = flat_map-append (λ (y : Exchange). one y.accepted) xs (x ∷ []) ∙ ap (λ (cs : List Command). accepted_in xs ++ cs) (append-nil (one x.accepted))
+
+-- the list that one more exchange leads to
+led : (h : CommandList) (xs : List Exchange) (x : Exchange) → followed_by (followed_by h (accepted_in xs)) (one x.accepted) ≡ followed_by h (accepted_in (xs ++ x ∷ []))
+led h xs x = sym (followed_append h (accepted_in xs) (one x.accepted)) ∙ ap (followed_by h) (sym (accepted_more xs x))
+
+run_more : (h : CommandList) (xs : List Exchange) (x : Exchange) → IsRun h xs → MayAnswer (followed_by h (accepted_in xs)) (Asks x.request) x.reply x.accepted → IsRun h (xs ++ x ∷ [])
+run_more h [] x run answers = (answers, tt)
+run_more h (y ∷ xs) x run answers =
+    let k : CommandList = followed_by h (one y.accepted) in
+    let later : MayAnswer (followed_by k (accepted_in xs)) (Asks x.request) x.reply x.accepted =
+    subst (λ (l : CommandList). MayAnswer l (Asks x.request) x.reply x.accepted) (followed_append h (one y.accepted) (accepted_in xs)) answers in
+    (run.0, run_more k xs x run.1 later)
+
+-- these requests got these replies, from any list, and no store failed
+abbrev pub Ran : {File : Type 0} → DeskState File → DeskState File → List Request → List Reply → Type 0
+Ran old new requests replies = (h : CommandList) → new.is_clean → StandsFor old h → RunsThrough h new requests replies
+
+one_goes : (x : Exchange) → x.reply ≢ Refused StoreFailed → GoesOn (x ∷ [])
+one_goes x goes zero d few = goes
+one_goes x goes (suc k) d few = absurd (omega (arith, few))
+
+pub nothing_ran : {File : Type 0} (s : DeskState File) → Ran s s [] []
+nothing_ran s h clean stands = record { run = []; requests_are = refl; replies_are = refl; is_run = tt; goes_on = λ k d few. absurd (omega (arith, few)); stands = stands }
+
+module _ {File : Type 0} (old middle new : DeskState File) (requests : List Request) (replies : List Reply) (request : Request) (reply : Reply) where
+  -- one more request was answered
+  ran_more : Ran old middle requests replies → (new.is_clean → middle.is_clean) → Applies middle new (Asks request) reply → reply ≢ Refused StoreFailed
+      → Ran old new (requests ++ request ∷ []) (replies ++ reply ∷ [])
+  ran_more so_far worn applies goes h clean stands =
+      let r = so_far h (worn clean) stands in
+      let a = applies (followed_by h (accepted_in r.run)) clean r.stands in
+      let x : Exchange = record { request = request; reply = reply; accepted = a.accepted } in record {
+        run = r.run ++ x ∷ [];
+        requests_are = map-append (λ (y : Exchange). y.request) r.run (x ∷ []) ∙ ap (λ (l : List Request). l ++ request ∷ []) r.requests_are;
+        replies_are = map-append (λ (y : Exchange). y.reply) r.run (x ∷ []) ∙ ap (λ (l : List Reply). l ++ reply ∷ []) r.replies_are;
+        is_run = run_more h r.run x r.is_run a.answers;
+        goes_on = All-append (λ (y : Exchange). y.reply ≢ Refused StoreFailed) r.run (x ∷ []) r.goes_on (one_goes x goes);
+        stands = subst (λ (l : CommandList). StandsFor new l) (led h r.run x) (a.becomes.stands goes);
+      }
+
+  -- the store failed at one more request
+  broke_off : Ran old middle requests replies → (new.is_clean → middle.is_clean) → Applies middle new (Asks request) reply → reply ≡ Refused StoreFailed
+      → (unanswered : List Request) → (h : CommandList) → new.is_clean → StandsFor old h → BreaksOff h new (requests ++ request ∷ [] ++ unanswered) (replies ++ reply ∷ [])
+  broke_off so_far worn applies failed unanswered h clean stands =
+      let r = so_far h (worn clean) stands in
+      let a = applies (followed_by h (accepted_in r.run)) clean r.stands in
+      let x : Exchange = record { request = request; reply = reply; accepted = a.accepted } in record {
+        before = r.run;
+        last = x;
+        unanswered = unanswered;
+        requests_are = ap (λ (l : List Request). l ++ unanswered) (map-append (λ (y : Exchange). y.request) r.run (x ∷ []) ∙ ap (λ (l : List Request). l ++ request ∷ []) r.requests_are);
+        replies_are = map-append (λ (y : Exchange). y.reply) r.run (x ∷ []) ∙ ap (λ (l : List Reply). l ++ reply ∷ []) r.replies_are;
+        is_run = run_more h r.run x r.is_run a.answers;
+        goes_on = r.goes_on;
+        failed = failed;
+        in_doubt = a.becomes.in_doubt failed;
+      }
+
+-- ---- over the lists of the code
+
+asked_more : (xs : List asked.Request) (i : ℕ) (x : asked.Request) → i < length xs → x ≡ get_or xs i x → map request_of (take i xs) ++ request_of x ∷ [] ≡ map request_of (take (i + 1) xs)
+asked_more xs i x few is = sym (ap (map request_of) (take_more xs i x few ∙ ap (λ (y : asked.Request). take i xs ++ y ∷ []) (sym is)) ∙ map-append request_of (take i xs) (x ∷ []))
+
+asked_all : (xs : List asked.Request) (i : ℕ) (x : asked.Request) → i < length xs → x ≡ get_or xs i x → map request_of (take i xs) ++ request_of x ∷ [] ++ map request_of (drop (i + 1) xs) ≡ map request_of xs
+asked_all xs i x few is =
+    ap (λ (l : List Request). l ++ map request_of (drop (i + 1) xs)) (asked_more xs i x few is) ∙ sym (map-append request_of (take (i + 1) xs) (drop (i + 1) xs)) ∙ ap (map request_of) (take-append-drop (i + 1) xs)
+
+replied_more : (before after : List model.Reply) (reply : model.Reply) → after ≡ before ++ reply ∷ [] → map reply_of before ++ reply_of reply ∷ [] ≡ map reply_of after
+replied_more before after reply is = sym (ap (map reply_of) is ∙ map-append reply_of before (reply ∷ []))
+
+-- the request at an index was answered, and its reply was pushed
+module _ {File : Type 0} (old middle new : DeskState File) (xs : List asked.Request) (i : ℕ) (x : asked.Request) (few : i < length xs) (is : x ≡ get_or xs i x)
+    (before after : List model.Reply) (reply : model.Reply) (pushed : after ≡ before ++ reply ∷ []) (so_far : Ran old middle (map request_of (take i xs)) (map reply_of before))
+    (worn : new.is_clean → middle.is_clean) (applies : Applies middle new (Asks (request_of x)) (reply_of reply)) where
+  pub goes_on : false ≡ is_failed_store (reply_of reply) → Ran old new (map request_of (take (i + 1) xs)) (map reply_of after)
+  goes_on other h clean stands =
+      subst (λ (l : List Request). RunsThrough h new l (map reply_of after)) (asked_more xs i x few is)
+      (subst (λ (l : List Reply). RunsThrough h new (map request_of (take i xs) ++ request_of x ∷ []) l) (replied_more before after reply pushed)
+      (ran_more old middle new _ _ (request_of x) (reply_of reply) so_far worn applies (λ failed. false≢true (other ∙ ap is_failed_store failed)) h clean stands))
+
+  pub ends : true ≡ is_failed_store (reply_of reply) → (h : CommandList) → new.is_clean → StandsFor old h → BreaksOff h new (map request_of xs) (map reply_of after)
+  ends failed h clean stands =
+      subst (λ (l : List Request). BreaksOff h new l (map reply_of after)) (asked_all xs i x few is)
+      (subst (λ (l : List Reply). BreaksOff h new (map request_of (take i xs) ++ request_of x ∷ [] ++ map request_of (drop (i + 1) xs)) l) (replied_more before after reply pushed)
+      (broke_off old middle new _ _ (request_of x) (reply_of reply) so_far worn applies (failed_true (reply_of reply) (sym failed)) (map request_of (drop (i + 1) xs)) h clean stands))
+
+-- every request was answered
+pub all_ran : {File : Type 0} (old new : DeskState File) (xs : List asked.Request) (i : ℕ) (replies : List Reply) → length xs ≤ i → Ran old new (map request_of (take i xs)) replies → Ran old new (map request_of xs) replies
+all_ran old new xs i replies all so_far h clean stands = subst (λ (l : List asked.Request). RunsThrough h new (map request_of l) replies) (take_all i xs all) (so_far h clean stands)
