@@ -3,4 +3,5 @@ pub mod Tables
 pub mod MakeLemmas
 pub mod OpeningLemmas
 pub mod ChoiceLemmas
+pub mod BlankLemmas
 pub mod ReopenLemmas

@@ -7,7 +7,7 @@ use Rattle.sqlite.specs.Tree.{Trees}
 use Rattle.sqlite.specs.Schema.{Schema}
 use Rattle.sqlite.specs.Table.{Table}
 use Rattle.sqlite.specs.Recovery.{Image}
-use Rattle.sqlite.specs.Files.{HoldsDatabase}
+use Rattle.sqlite.specs.Files.{HoldsDatabase, AreFoundIn, IsNothing}
 use Rattle.sqlite.specs.State.{State, HasCleanDisk, Opens, IsLive}
 use Rattle.sqlite_catalog.specs.Listing.{IsSound, IsTableRow}
 use Rattle.sql_front.specs.Stands.{Stands}
@@ -17,6 +17,7 @@ use Rattle.desk_records.specs.Holds.{HoldsRecords}
 use Rattle.desk_opening.specs.Making.{HoldsStage, Free}
 use Rattle.desk_opening.specs.Opening.{OpensDesk, IsSettled}
 use Rattle.desk_opening.specs.Reopening.{Reopens, UsesNoName}
+use Rattle.desk_opening.proofs.BlankLemmas.{nothing_is_unused}
 
 -- ---- trees list one list of tables alone
 
@@ -75,12 +76,17 @@ free_at_rest s settled opens live none =
       crash = λ db left. subst (λ t. HoldIn HoldsStage t Free) (sym (settled db opens.is_open left)) (s.committed.schema, kept);
     }
 
-module _ (image : Image) (old : State) (opened : HasCleanDisk old → Opens old × IsLive old) (found : HasCleanDisk old → (db : Trees) → HoldsDatabase image db → old.committed.trees ≡ db) (settled : IsSettled old) where
+module _ (image : Image) (old : State) (opened : HasCleanDisk old → Opens old × IsLive old) (holds : HasCleanDisk old → (db : Trees) → HoldsDatabase image db → old.committed.trees ≡ db)
+    (reads : HasCleanDisk old → AreFoundIn image old.committed.trees) (settled : IsSettled old) where
+  made : HasCleanDisk old → UsesNoName old.committed.trees → IsAtRest HoldsStage old Free
+  made clean none = let it = opened clean in free_at_rest old settled it.0 it.1 none
+
   pub reopens : {X F : Type 0} (view : X → State) (approval : Bool) (out : Result X F) → IfOk out (λ x. OpensDesk old (view x) approval out) → IfOk out (λ x. Reopens image (view x) approval)
   reopens view approval (Err e) h = tt
   reopens view approval (Ok x) h =
       let is_open = λ (clean : HasCleanDisk old). (opened clean).0.is_open in
       record {
-        holds = λ db r held has. h.keeps is_open r (λ clean. let it = opened clean in at_rest old r settled it.0 it.1 (subst (λ t. HoldIn HoldsRecords t r) (sym (found clean db held)) has));
-        makes = λ db held none. h.makes is_open (λ clean. let it = opened clean in free_at_rest old settled it.0 it.1 (subst UsesNoName (sym (found clean db held)) none));
+        holds = λ db r held has. h.keeps is_open r (λ clean. let it = opened clean in at_rest old r settled it.0 it.1 (subst (λ t. HoldIn HoldsRecords t r) (sym (holds clean db held)) has));
+        begins = λ nothing. h.makes is_open (λ clean. made clean (nothing_is_unused image old.committed.trees nothing (reads clean)));
+        makes = λ db held none. h.makes is_open (λ clean. made clean (subst UsesNoName (sym (holds clean db held)) none));
       }

@@ -6,7 +6,7 @@ use Rattle.sqlite.specs.Schema.{Schema}
 use Rattle.sqlite_catalog.specs.Listing.{IsSound}
 use Rattle.sql_front.specs.Free.{LeavesFree}
 use Rattle.desk_records.specs.Schema.{desk_names}
-use Rattle.sqlite.specs.Files.{HoldsDatabase}
+use Rattle.sqlite.specs.Files.{HoldsDatabase, IsNothing}
 use Rattle.sqlite.specs.State.{State}
 use Rattle.sql_calls.specs.Standing.{HoldIn, Rests}
 use Rattle.rollout_machine.specs.Records.{Records}
@@ -17,7 +17,8 @@ use Rattle.desk_opening.specs.Making.{first_records}
 abbrev pub UsesNoName : Trees → Type 0
 UsesNoName db = (schema : Schema) → IsSound schema db → LeavesFree schema desk_names
 
--- Files that hold the records of a desk are opened to them, and those whose database uses no name of a desk to the records of a new one.
+-- Files that hold the records of a desk are opened to them. Empty or missing files, and those whose database uses no name of a desk, are opened to the records of a new one.
 pub record Reopens (image : Image) (s : State) (approval : Bool) : Type 0 where
   pub holds : (db : Trees) (r : Records) → HoldsDatabase image db → HoldIn HoldsRecords db r → Rests HoldsRecords s r
+  pub begins : IsNothing image → Rests HoldsRecords s (first_records approval)
   pub makes : (db : Trees) → HoldsDatabase image db → UsesNoName db → Rests HoldsRecords s (first_records approval)

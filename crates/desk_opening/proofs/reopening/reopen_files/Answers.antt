@@ -4,5 +4,5 @@ use Rattle.desk_opening.proofs.reopening.reopen_files.Goals as goal
 
 pub returns-in-Ok : goal.returns-in-Ok
 returns-in-Ok g c = record {
-  reopened = reopens (image_of g.D.Disk c.args.files) (file_state c.in-Ok.conn) c.in-Ok.ensures.opened (λ clean. (c.in-Ok.ensures.found clean).holds) c.open_desk.ensures.settled file_state c.args.approval_if_new c.open_desk.result c.open_desk.ensures.opened;
+  reopened = reopens (image_of g.D.Disk c.args.files) (file_state c.in-Ok.conn) c.in-Ok.ensures.opened (λ clean. (c.in-Ok.ensures.found clean).holds) (λ clean. (c.in-Ok.ensures.found clean).reads) c.open_desk.ensures.settled file_state c.args.approval_if_new c.open_desk.result c.open_desk.ensures.opened;
 }
