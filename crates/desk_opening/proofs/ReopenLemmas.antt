@@ -1,5 +1,5 @@
 -- From files that were opened to what the connection stands for.
-use Rattle.std.proofs.Common.{◌≡◌, ℕ, ◌+◌, pos, Bool, List, [], ◌∷◌, Ok, Err, Result, IfOk, refl, sym, ap, subst, ◌∙◌, arith}
+use Rattle.std.proofs.Common.{◌≡◌, ◌⊎◌, ℕ, ◌+◌, pos, Bool, List, [], ◌∷◌, Ok, Err, Result, IfOk, refl, sym, ap, subst, ◌∙◌, arith}
 use Rattle.std.specs.List.{AllZip}
 use Rattle.sqlite_value.specs.declared.value.Value.TheVariants.{Int, Text}
 use Rattle.sqlite.specs.Order.{Row}
@@ -12,11 +12,14 @@ use Rattle.sqlite.specs.State.{State, HasCleanDisk, Opens, IsLive}
 use Rattle.sqlite_catalog.specs.Listing.{IsSound, IsTableRow}
 use Rattle.sql_front.specs.Stands.{Stands}
 use Rattle.sql_calls.specs.Standing.{HoldIn, IsAtRest}
+use Rattle.sql_front.specs.Free.{LeavesFree}
 use Rattle.rollout_machine.specs.Records.{Records}
+use Rattle.desk_records.specs.Schema.{desk_names}
 use Rattle.desk_records.specs.Holds.{HoldsRecords}
 use Rattle.desk_opening.specs.Making.{HoldsStage, Free}
-use Rattle.desk_opening.specs.Opening.{OpensDesk, IsSettled}
-use Rattle.desk_opening.specs.Reopening.{Reopens, UsesNoName}
+use Rattle.desk_opening.specs.declared.opening.OpenFault.{OpenFault}
+use Rattle.desk_opening.specs.Opening.{OpensDesk, HasDesk, IsSettled}
+use Rattle.desk_opening.specs.Reopening.{Reopens, IsOpenable, UsesNoName}
 use Rattle.desk_opening.proofs.BlankLemmas.{nothing_is_unused}
 
 -- ---- trees list one list of tables alone
@@ -81,11 +84,17 @@ module _ (image : Image) (old : State) (opened : HasCleanDisk old → Opens old 
   made : HasCleanDisk old → UsesNoName old.committed.trees → IsAtRest HoldsStage old Free
   made clean none = let it = opened clean in free_at_rest old settled it.0 it.1 none
 
-  pub reopens : {X F : Type 0} (view : X → State) (approval : Bool) (out : Result X F) → IfOk out (λ x. OpensDesk old (view x) approval out) → IfOk out (λ x. Reopens image (view x) approval)
+  found : HasCleanDisk old → HasDesk old.now ⊎ LeavesFree old.now.schema desk_names → (db : Trees) × AreFoundIn image db × IsOpenable db
+  found clean is =
+      let it = opened clean in
+      (old.committed.trees, reads clean, (old.committed.schema, (it.1 it.0.is_open).1, subst (λ d. HasDesk d ⊎ LeavesFree d.schema desk_names) it.0.clean is))
+
+  pub reopens : {X : Type 0} (view : X → State) (approval : Bool) (out : Result X OpenFault) → IfOk out (λ x. OpensDesk old (view x) approval out) → IfOk out (λ x. Reopens image (view x) approval)
   reopens view approval (Err e) h = tt
   reopens view approval (Ok x) h =
       let is_open = λ (clean : HasCleanDisk old). (opened clean).0.is_open in
       record {
+        finds = λ clean. found (omega (arith, clean, h.wears)) (h.finds clean);
         holds = λ db r held has. h.keeps is_open r (λ clean. let it = opened clean in at_rest old r settled it.0 it.1 (subst (λ t. HoldIn HoldsRecords t r) (sym (holds clean db held)) has));
         begins = λ nothing. h.makes is_open (λ clean. made clean (nothing_is_unused image old.committed.trees nothing (reads clean)));
         makes = λ db held none. h.makes is_open (λ clean. made clean (subst UsesNoName (sym (holds clean db held)) none));
