@@ -1,16 +1,13 @@
 -- Files that hold nothing are opened to empty trees.
-use Rattle.std.proofs.Common.{◌≡◌, ◌≤◌, ◌<◌, ◌+◌, ◌-◌, ◌*◌, ℕ, List, [], ◌∷◌, ◌++◌, codes, min, true, false, length, take, slice_index, Option, Some, unwrap_or, inl, inr, refl, sym, ap, subst, ◌∙◌, zero-add, arith, get_or-take}
+use Rattle.std.proofs.Common.{◌≡◌, ◌≤◌, ◌<◌, ◌-◌, ◌*◌, ℕ, List, [], ◌∷◌, ◌++◌, codes, min, true, false, length, take, slice_index, Option, Some, unwrap_or, inl, inr, refl, sym, ap, subst, ◌∙◌, zero-add, arith, get_or-take}
 use Rattle.std.specs.List.{AllZip}
 use Rattle.std.proofs.lemmas.List.{length-take}
 use Rattle.std.proofs.Math.Logic.{∥∥₁_elim}
 use Rattle.sqlite.specs.Tree.{Trees}
-use Rattle.sqlite.specs.Schema.{Schema}
-use Rattle.sqlite.specs.Order.{Row}
 use Rattle.sqlite.specs.Recovery.{Image}
 use Rattle.sqlite.specs.Files.{AreFoundIn, IsNothing}
 use Rattle.sqlite_trees.specs.Objects.{catalog_tree}
-use Rattle.sqlite_catalog.specs.Listing.{IsSound, IsTableRow, IsIndexRow, IsViewRow, AreListed}
-use Rattle.sqlite_catalog.specs.Change.{is_used}
+use Rattle.sqlite_catalog.specs.Listing.{IsTableRow, IsIndexRow, IsViewRow, AreListed}
 use Rattle.sqlite_wal.specs.Format.{part}
 use Rattle.sqlite_wal.specs.Recovery.{Pages, pages_after}
 use Rattle.sqlite_wal.proofs.PartLemmas.{slice_index-part, part_within}
@@ -21,8 +18,6 @@ use Rattle.sqlite_pool.specs.StoredLaws.{trimmed_some}
 use Rattle.sqlite_pool.specs.File.{header_in, IsSoundFile}
 use Rattle.sqlite_pool.specs.Opening.{IsBlankFile}
 use Rattle.sqlite_pool.proofs.ProbeLemmas.{first_byte}
-use Rattle.sql_front.specs.Free.{LeavesFree}
-use Rattle.desk_records.specs.Schema.{desk_names}
 use Rattle.desk_opening.specs.Reopening.{UsesNoName}
 
 shorter : (n m size : ℕ) (xs wanted : List ℕ) → take n (take m (take size xs)) ≡ wanted → length wanted ≡ n → n ≤ size
@@ -46,9 +41,12 @@ module _ (size : ℕ) (image : Image) (pages : Pages) (found : Adopts size image
       let head : header_in pages ≡ take 100 (take size (part image.db 0 whole)) = ap (λ (o : Option (List ℕ)). take 100 (unwrap_or o [])) used ∙ ap (λ (b : List ℕ). take 100 (take size b)) (sym front) in
       let named : take 16 (take 100 (take size (part image.db 0 whole))) ≡ codes "SQLite format 3" ++ 0 ∷ [] = ap (take 16) (sym head) ∙ sound.header.0.magic in
       let long : 16 ≤ size = shorter 16 100 size (part image.db 0 whole) (codes "SQLite format 3" ++ 0 ∷ []) named (omega arith) in
-      let long' = part_within image.db 0 whole (omega (arith, long)) (ap length front ∙ found.whole.sized 1 page is) in
-      (omega (arith, long'), long, sym (ap (slice_index image.db) (zero-add 0)) ∙ sym (slice_index-part image.db 0 whole 0 (omega (arith, long))) ∙ sym (get_or-take size (part image.db 0 whole) 0 0 (omega (arith, long))) ∙ sym (get_or-take 100 (take size (part image.db 0 whole)) 0 0 (omega arith))
-      ∙ sym (get_or-take 16 (take 100 (take size (part image.db 0 whole))) 0 0 (omega arith)) ∙ ap (λ (b : List ℕ). slice_index b 0) named)
+      let long' = part_within image.db 0 whole (omega (arith, long)) (ap length front ∙ found.whole.sized 1 page is) in (
+        omega (arith, long'),
+        long,
+        sym (ap (slice_index image.db) (zero-add 0)) ∙ sym (slice_index-part image.db 0 whole 0 (omega (arith, long))) ∙ sym (get_or-take size (part image.db 0 whole) 0 0 (omega (arith, long))) ∙ sym (get_or-take 100 (take size (part image.db 0 whole)) 0 0 (omega arith))
+            ∙ sym (get_or-take 16 (take 100 (take size (part image.db 0 whole))) 0 0 (omega arith)) ∙ ap (λ (b : List ℕ). slice_index b 0) named,
+      )
 
   never_blank : (other : ℕ) → 0 < other → ¬ IsBlankFile other image
   never_blank other some (inl none) = omega (arith, found.found.present)
@@ -67,7 +65,7 @@ module _ (size : ℕ) (image : Image) (pages : Pages) (found : Adopts size image
         | inr more ↦ elim more [ inl zero' ↦ omega (arith, zero'.1, magic) | inr rest ↦ rest.1 (magic ∙ sym (first_byte other some)) ]
       ]
 
-  not_nothing : ¬ IsNothing image
+  pub not_nothing : ¬ IsNothing image
   not_nothing (inl plain) = never_blank (used_size 4096 false) (omega arith) plain
   not_nothing (inr summed) = never_blank (used_size 4096 true) (omega arith) summed
 

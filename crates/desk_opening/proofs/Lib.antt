@@ -6,3 +6,4 @@ pub mod OpeningLemmas
 pub mod ChoiceLemmas
 pub mod BlankLemmas
 pub mod ReopenLemmas
+pub mod SparingLemmas

@@ -1,5 +1,5 @@
 -- What the query of the row of `desk` reads.
-use Rattle.std.proofs.Common.{◌≡◌, ◌⊎◌, ◌&&◌, inl, inr, ℕ, pos, Bool, true, false, List, [], ◌∷◌, ◌++◌, cond, map, filter, codes, Option, Some, None, Ok, Err, Result, IsPermutation, refl, sym, ap, subst, ◌∙◌, arith}
+use Rattle.std.proofs.Common.{◌≡◌, ◌&&◌, inl, inr, pos, Bool, true, false, List, [], ◌∷◌, cond, map, filter, codes, Option, Some, None, Ok, Err, Result, refl, sym, subst, ◌∙◌, arith}
 use Rattle.sqlite_value.specs.declared.value.Value.{Value}
 use Rattle.sqlite_value.specs.declared.value.Value.TheVariants.{Null, Int, Real, Text, Blob}
 use Rattle.sqlite_value.specs.Order.{Row, column, value_cmp}
@@ -9,19 +9,17 @@ use Rattle.std.specs.List.{AllByRecursion}
 use Rattle.sqlite_trees.proofs.ListLemmas.{all-permutation}
 use Rattle.sqlite_sql.specs.Ops.{binary, is_true, from_truth}
 use Rattle.sqlite.specs.Term.{Term, col, lit}
-use Rattle.sqlite.specs.Tree.{Trees}
-use Rattle.sqlite.specs.Command.TheVariants.{Select, Begin}
-use Rattle.sqlite.specs.Effect.{Database, Reads as Shows}
+use Rattle.sqlite.specs.Command.TheVariants.{Begin}
+use Rattle.sqlite.specs.Effect.{Database}
 use Rattle.sqlite.specs.State.{State, HasCleanDisk}
 use Rattle.sql_front.specs.Found.{StandsSomewhere}
-use Rattle.sql_calls.specs.declared.fault.Fault.{Fault}
 use Rattle.sql_calls.specs.Calls.{RunsText, TakesFirst}
 use Rattle.sql_calls.proofs.Ends.{begin_is}
 use Rattle.sql_calls.proofs.Leavings.{first_shown, shows_as, runs_plain}
 use Rattle.sql_calls.proofs.Selects.{passes, shown_of, simple_rows}
 use Rattle.desk_records.specs.Schema.{desk_table}
 use Rattle.desk_records.specs.declared.texts.TheConstants.{GET_DESK}
-use Rattle.desk_records.proofs.Meaning.{desk_query, get_desk_is, is_equal}
+use Rattle.desk_records.proofs.Meaning.{get_desk_is, is_equal}
 use Rattle.desk_opening.specs.declared.opening.OpenFault.{OpenFault}
 use Rattle.desk_opening.specs.declared.opening.OpenFault.TheVariants.{NotDesk, NewerVersion, Memory, Store}
 use Rattle.desk_opening.specs.Opening.{HasRow, ReadsRow, Tells, IsDeskRow, IsNewerRow, IsFailure}

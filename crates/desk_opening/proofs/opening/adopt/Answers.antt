@@ -1,7 +1,7 @@
 use Rattle.std.proofs.Common.{◌∙◌, ap, Err, refl, subst}
 use Rattle.std.proofs.lemmas.Result.{err_from_is_err_and}
 use Rattle.sqlite.specs.Held.{state}
-use Rattle.desk_opening.specs.Opening.{HasDeskTables, HasRow}
+use Rattle.desk_opening.specs.Opening.{HasDeskTables}
 use Rattle.desk_opening.specs.declared.opening.OpenFault.TheVariants.{NotDesk}
 use Rattle.desk_opening.proofs.OpeningLemmas.{adopts_none, adopts_failed, adopts_wrapped, adopts_whole}
 use Rattle.desk_opening.proofs.opening.adopt.Goals as goal
