@@ -1,7 +1,8 @@
 -- Which of the two ways an open takes.
-use Rattle.std.proofs.Common.{◌≡◌, ℕ, Bool, true, false, ◌||◌, codes, Some, Ok, Err, Result, IfOk, IfErr, arith}
+use Rattle.std.proofs.Common.{◌≡◌, ℕ, Bool, true, false, ◌||◌, codes, inl, inr, Some, Ok, Err, Result, IfOk, IfErr, arith}
 use Rattle.std.proofs.lemmas.Bool.{both_ways}
 use Rattle.sqlite.specs.Schema.{Schema}
+use Rattle.sqlite.specs.Effect.{Database}
 use Rattle.sqlite.specs.State.{State, HasCleanDisk}
 use Rattle.sqlite_schema.specs.Names.{table_named}
 use Rattle.sqlite_catalog.specs.Change.{is_used}
@@ -11,7 +12,9 @@ use Rattle.rollout_machine.specs.Records.{Records}
 use Rattle.desk_records.specs.Schema.{Desk, desk_names}
 use Rattle.desk_records.specs.Holds.{HoldsRecords}
 use Rattle.desk_opening.specs.Making.{HoldsStage, Free, Makes}
-use Rattle.desk_opening.specs.Opening.{Keeps, OpensDesk, OpensTo, IsKnownOpen}
+use Rattle.desk_opening.specs.declared.opening.OpenFault.{OpenFault}
+use Rattle.desk_opening.specs.declared.opening.OpenFault.TheVariants.{NotDesk, NewerVersion, Memory, Store}
+use Rattle.desk_opening.specs.Opening.{Adopts, HasDeskTables, HasRow, IsFailure, Tells, FindsTo, OpensDesk, OpensTo, IsKnownOpen}
 
 used_at : (s : Schema) (at : ℕ) → table_named s (codes "desk") ≡ Some at → is_used s (codes "desk") ≡ true
 used_at s at h = rw h
@@ -29,30 +32,44 @@ free_is_unused old is_open was clean used =
     let none : (is_used old.now.schema (codes "desk") || is_used old.now.schema (codes "module")) ≡ false = rw (free.0, free.1.0) in
     both_ways _ none used
 
-module _ {A E : Type 0} (old new : State) (approval : Bool) where
-  pub adopts : (out : Result A E) → Keeps old new out → (is_used old.now.schema (codes "desk") || is_used old.now.schema (codes "module")) ≡ true → OpensDesk old new approval out
-  adopts out h used = record { wears = h.wears; keeps = λ is_open. h.keeps; makes = λ is_open. go out is_open }
-    where
-      go : (result : Result A E) → IsKnownOpen old → OpensTo old new approval result
-      go (Ok x) is_open = λ was clean. absurd (free_is_unused old is_open was (omega (arith, h.wears)) used)
-      go (Err e) is_open = λ was clean db left. absurd (free_is_unused old is_open was (omega (arith, h.wears)) used)
+finds_failure : (A : Type 0) (db : Database) (e : OpenFault) → IsFailure e → FindsTo {A = A} db (Err e)
+finds_failure A db NotDesk fails = absurd fails
+finds_failure A db NewerVersion fails = absurd fails
+finds_failure A db Memory fails = tt
+finds_failure A db Store fails = tt
 
-  pub makes_new : (out : Result A E) → Makes old new approval out → LeavesFree old.now.schema desk_names → OpensDesk old new approval out
-  makes_new (Ok x) h free = record { wears = h.wears; keeps = λ is_open r was clean. absurd (held_is_used old r is_open was (omega (arith, h.wears)) free); makes = λ is_open. h.makes }
-  makes_new (Err e) h free = record { wears = h.wears; keeps = λ is_open r was clean db left. absurd (held_is_used old r is_open was (omega (arith, h.wears)) free); makes = λ is_open. h.makes }
+module _ {A : Type 0} (old new : State) (approval : Bool) where
+  pub adopts : (out : Result A OpenFault) → Adopts old new out → IfOk out (λ _. HasDeskTables old.now.schema) → (is_used old.now.schema (codes "desk") || is_used old.now.schema (codes "module")) ≡ true → OpensDesk old new approval out
+  adopts out h tables used = record { wears = h.keeps.wears; finds = λ clean. finds out tables (h.tells clean); keeps = λ is_open. h.keeps.keeps; makes = λ is_open. go out is_open }
+    where
+      finds : (result : Result A OpenFault) → IfOk result (λ _. HasDeskTables old.now.schema) → Tells (HasRow old.now) result → FindsTo old.now result
+      finds (Ok x) there told = inl (record { tables = there; row = told })
+      finds (Err NotDesk) there told = tt
+      finds (Err NewerVersion) there told = told
+      finds (Err Memory) there told = tt
+      finds (Err Store) there told = tt
+
+      go : (result : Result A OpenFault) → IsKnownOpen old → OpensTo old new approval result
+      go (Ok x) is_open = λ was clean. absurd (free_is_unused old is_open was (omega (arith, h.keeps.wears)) used)
+      go (Err e) is_open = λ was clean db left. absurd (free_is_unused old is_open was (omega (arith, h.keeps.wears)) used)
+
+  pub makes_new : (out : Result A OpenFault) → IfErr out IsFailure → Makes old new approval out → LeavesFree old.now.schema desk_names → OpensDesk old new approval out
+  makes_new (Ok x) fails h free = record { wears = h.wears; finds = λ _. inr free; keeps = λ is_open r was clean. absurd (held_is_used old r is_open was (omega (arith, h.wears)) free); makes = λ is_open. h.makes }
+  makes_new (Err e) fails h free = record { wears = h.wears; finds = λ _. finds_failure A old.now e fails; keeps = λ is_open r was clean db left. absurd (held_is_used old r is_open was (omega (arith, h.wears)) free); makes = λ is_open. h.makes }
 
 -- the error is told as another
 pub made_not : {A E F : Type 0} (old new : State) (approval : Bool) (e : E) (f : F) → Makes {A = A} old new approval (Err e) → Makes {A = A} old new approval (Err f)
 made_not old new approval e f h = record { wears = h.wears; makes = h.makes }
 
-module _ {X F : Type 0} (view : X → State) (old : State) (approval : Bool) where
-  pub adopts_ok : (out : Result X F) → IfOk out (λ x. Keeps old (view x) out) → (is_used old.now.schema (codes "desk") || is_used old.now.schema (codes "module")) ≡ true → IfOk out (λ x. OpensDesk old (view x) approval out)
-  adopts_ok (Ok x) h used = adopts old (view x) approval (Ok x) h used
-  adopts_ok (Err e) h used = tt
+module _ {X : Type 0} (view : X → State) (old : State) (approval : Bool) where
+  pub adopts_ok : (out : Result X OpenFault) → IfOk out (λ x. Adopts old (view x) out) → IfOk out (λ _. HasDeskTables old.now.schema) → (is_used old.now.schema (codes "desk") || is_used old.now.schema (codes "module")) ≡ true
+      → IfOk out (λ x. OpensDesk old (view x) approval out)
+  adopts_ok (Ok x) h tables used = adopts old (view x) approval (Ok x) h tables used
+  adopts_ok (Err e) h tables used = tt
 
-  pub adopts_err : (out : Result X F) → IfErr out (λ _. (x : X) × Keeps old (view x) out) → (is_used old.now.schema (codes "desk") || is_used old.now.schema (codes "module")) ≡ true → IfErr out (λ _. (x : X) × OpensDesk old (view x) approval out)
+  pub adopts_err : (out : Result X OpenFault) → IfErr out (λ _. (x : X) × Adopts old (view x) out) → (is_used old.now.schema (codes "desk") || is_used old.now.schema (codes "module")) ≡ true → IfErr out (λ _. (x : X) × OpensDesk old (view x) approval out)
   adopts_err (Ok x) h used = tt
-  adopts_err (Err e) h used = (h.0, adopts old (view h.0) approval (Err e) h.1 used)
+  adopts_err (Err e) h used = (h.0, adopts old (view h.0) approval (Err e) h.1 tt used)
 
 pub made_ok : {A E F : Type 0} (old new : State) (approval : Bool) (a : A) → Makes {E = E} old new approval (Ok a) → Makes {E = F} old new approval (Ok a)
 made_ok old new approval a h = record { wears = h.wears; makes = h.makes }

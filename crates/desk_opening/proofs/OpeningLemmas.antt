@@ -1,5 +1,5 @@
 -- The row of `desk` is read in a change that is given up.
-use Rattle.std.proofs.Common.{◌≡◌, inl, inr, [], codes, Option, Ok, Err, Result, IsErr, IfErr, subst, arith}
+use Rattle.std.proofs.Common.{◌≡◌, inl, inr, [], codes, Option, Ok, Err, Result, IsErr, IfErr, sym, subst, arith}
 use Rattle.sqlite.specs.Order.{Row}
 use Rattle.sqlite.specs.Tree.{Trees}
 use Rattle.sqlite.specs.Command.TheVariants.{Select}
@@ -16,7 +16,9 @@ use Rattle.desk_records.specs.Schema.{Desk}
 use Rattle.desk_records.specs.Holds.{HoldsRecords}
 use Rattle.desk_records.specs.declared.texts.TheConstants.{GET_DESK}
 use Rattle.desk_records.proofs.Meaning.{desk_query, get_desk_is}
-use Rattle.desk_opening.specs.Opening.{Keeps}
+use Rattle.desk_opening.specs.declared.opening.OpenFault.{OpenFault}
+use Rattle.desk_opening.specs.Opening.{Keeps, Adopts, HasDeskTables, HasRow, IsFailure, Tells}
+use Rattle.desk_opening.proofs.RowLemmas.{tells_on, tells_failure}
 
 knows_row : (db : Database) (r : Records) → HoldsRecords db r → Known db.schema GET_DESK.now
 knows_row db r holds = record { command = Select (record { lets = []; body = desk_query (holds.spot Desk).tree }) _; means = get_desk_is db.schema (holds.spot Desk).at (holds.spot Desk).tree (holds.stands Desk) }
@@ -61,21 +63,36 @@ module _ (a b : State) where
         keeps = λ r was. change.given_up HoldsRecords (codes "ROLLBACK") c d r (taken r was) (rollback_is c.now.schema) h;
       }
 
--- ---- a connection that is dropped
-
-pub last_keeps : {X A F : Type 0} (view : X → State) (old : State) (last : X) → Wears old (view last) → LeavesAll old (view last) → (out : Result A F) → IfErr out (λ _. (x : X) × Keeps old (view x) out)
-last_keeps view old last wears leaves (Ok a) = tt
-last_keeps view old last wears leaves (Err f) = (last, record { wears = wears; keeps = leaves })
-
 -- what comes after the reading changes nothing
 pub keeps_either : {A B E F : Type 0} (a z : State) (x : A) → Keeps {E = E} a z (Ok x) → (out : Result B F) → Keeps a z out
 keeps_either a z x h (Ok y) = record { wears = h.wears; keeps = h.keeps }
 keeps_either a z x h (Err f) = record { wears = h.wears; keeps = leaves_still a z x h }
 
-pub keeps_none : (a : State) → Wears a a × LeavesAll a a
-keeps_none a = (omega arith, λ r was clean db left. (was clean).crash db left)
+-- ---- the connection goes with the result
+
+-- nothing was asked of it
+pub adopts_none : {X A : Type 0} (view : X → State) (conn : X) (e : OpenFault) → Tells {A = A} (HasRow (view conn).now) (Err e) → (out : Result A OpenFault) → out ≡ Err e → IfErr out (λ _. (x : X) × Adopts (view conn) (view x) out)
+adopts_none view conn e tells (Ok a) is = tt
+adopts_none view conn e tells (Err f) is =
+    (conn, record { keeps = record { wears = omega arith; keeps = λ r was clean db left. (was clean).crash db left }; tells = λ _. subst (λ r. Tells (HasRow (view conn).now) r) (sym is) tells })
+
+pub adopts_failed : {X A : Type 0} (view : X → State) (conn : X) (e : OpenFault) → IsFailure e → (out : Result A OpenFault) → out ≡ Err e → IfErr out (λ _. (x : X) × Adopts (view conn) (view x) out)
+adopts_failed {A = A} view conn e fails out is = adopts_none view conn e (tells_failure A (HasRow (view conn).now) e fails) out is
 
 -- a connection that was wrapped is the same
-pub keeps_wrapped : {X A E F B : Type 0} (view : X → State) (old first : X) (last : X) (e : E) → first ≡ old → Keeps {A = A} (view first) (view last) (Err e) → (out : Result B F) → IfErr out (λ _. (x : X) × Keeps (view old) (view x) out)
-keeps_wrapped view old first last e same h (Ok a) = tt
-keeps_wrapped {F = F} {B = B} view old first last e same h (Err f) = (last, subst (λ x. Keeps {A = B} {E = F} (view x) (view last) (Err f)) same (record { wears = h.wears; keeps = h.keeps }))
+module _ {X B : Type 0} (view : X → State) (old first last : X) (same : first ≡ old) (tables : HasDeskTables (view old).now.schema) where
+  pub adopts_wrapped : {A : Type 0} (e : OpenFault) → Keeps {A = B} (view first) (view last) (Err e)
+      → (HasCleanDisk (view last) → HasDeskTables (view first).now.schema → Tells {A = B} (HasRow (view first).now) (Err e)) → (out : Result A OpenFault) → out ≡ Err e
+      → IfErr out (λ _. (x : X) × Adopts (view old) (view x) out)
+  adopts_wrapped e h tells (Ok a) is = tt
+  adopts_wrapped {A} e h tells (Err f) is =
+      let k = subst (λ x. Keeps {A = B} {E = OpenFault} (view x) (view last) (Err e)) same h in
+      let t = subst (λ x. HasCleanDisk (view last) → HasDeskTables (view x).now.schema → Tells {A = B} (HasRow (view x).now) (Err e)) same tells in
+      (last, record { keeps = record { wears = k.wears; keeps = k.keeps }; tells = λ clean. subst (λ r. Tells (HasRow (view old).now) r) (sym is) (tells_on B A (HasRow (view old).now) e (t clean tables)) })
+
+  pub adopts_whole : (b : B) (given : X) → given ≡ last → Keeps {A = B} {E = OpenFault} (view first) (view last) (Ok b)
+      → (HasCleanDisk (view last) → HasDeskTables (view first).now.schema → Tells {A = B} (HasRow (view first).now) (Ok b)) → Adopts (view old) (view given) (Ok given)
+  adopts_whole b given is h tells =
+      let k = subst (λ x. Keeps {A = B} {E = OpenFault} (view x) (view last) (Ok b)) same h in
+      let t = subst (λ x. HasCleanDisk (view last) → HasDeskTables (view x).now.schema → Tells {A = B} (HasRow (view x).now) (Ok b)) same tells in
+      subst (λ x. Adopts (view old) (view x) (Ok given)) (sym is) (record { keeps = record { wears = k.wears; keeps = k.keeps }; tells = λ clean. t clean tables })

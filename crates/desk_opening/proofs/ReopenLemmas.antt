@@ -1,22 +1,31 @@
 -- From files that were opened to what the connection stands for.
-use Rattle.std.proofs.Common.{◌≡◌, ℕ, ◌+◌, pos, Bool, List, [], ◌∷◌, Ok, Err, Result, IfOk, refl, sym, ap, subst, ◌∙◌, arith}
+use Rattle.std.proofs.Common.{◌≡◌, ◌⊎◌, inl, inr, ℕ, ◌+◌, pos, Bool, false, List, [], ◌∷◌, Ok, Err, Result, IfOk, IfErr, refl, sym, ap, subst, ◌∙◌, arith}
 use Rattle.std.specs.List.{AllZip}
+use Rattle.std.proofs.Math.Logic.{∥∥₁_elim}
+use Rattle.std.proofs.Math.Bool.{Bool-set}
+use mathlib.Core.HLevel.{Π_prop}
+use Rattle.sqlite_trees.specs.Props.{Trees-set, AllByRecursion-prop}
 use Rattle.sqlite_value.specs.declared.value.Value.TheVariants.{Int, Text}
 use Rattle.sqlite.specs.Order.{Row}
 use Rattle.sqlite.specs.Tree.{Trees}
 use Rattle.sqlite.specs.Schema.{Schema}
 use Rattle.sqlite.specs.Table.{Table}
 use Rattle.sqlite.specs.Recovery.{Image}
-use Rattle.sqlite.specs.Files.{HoldsDatabase}
+use Rattle.sqlite.specs.Files.{HoldsDatabase, AreFoundIn, IsNothing}
 use Rattle.sqlite.specs.State.{State, HasCleanDisk, Opens, IsLive}
 use Rattle.sqlite_catalog.specs.Listing.{IsSound, IsTableRow}
+use Rattle.sqlite_catalog.specs.Change.{is_used}
 use Rattle.sql_front.specs.Stands.{Stands}
-use Rattle.sql_calls.specs.Standing.{HoldIn, IsAtRest}
+use Rattle.sql_calls.specs.Standing.{HoldIn, IsAtRest, Rests}
+use Rattle.sql_front.specs.Free.{LeavesFree}
 use Rattle.rollout_machine.specs.Records.{Records}
+use Rattle.desk_records.specs.Schema.{desk_names}
 use Rattle.desk_records.specs.Holds.{HoldsRecords}
 use Rattle.desk_opening.specs.Making.{HoldsStage, Free}
-use Rattle.desk_opening.specs.Opening.{OpensDesk, IsSettled}
-use Rattle.desk_opening.specs.Reopening.{Reopens, UsesNoName}
+use Rattle.desk_opening.specs.declared.opening.OpenFault.{OpenFault}
+use Rattle.desk_opening.specs.Opening.{OpensDesk, HasDesk, HasRow, IsNewerRow, FindsTo, IsSettled}
+use Rattle.desk_opening.specs.Reopening.{Reopens, Refuses, HoldsDesk, HoldsNone, HasNewer, IsOpenable, UsesNoName}
+use Rattle.desk_opening.proofs.BlankLemmas.{nothing_is_unused}
 
 -- ---- trees list one list of tables alone
 
@@ -75,12 +84,64 @@ free_at_rest s settled opens live none =
       crash = λ db left. subst (λ t. HoldIn HoldsStage t Free) (sym (settled db opens.is_open left)) (s.committed.schema, kept);
     }
 
-module _ (image : Image) (old : State) (opened : HasCleanDisk old → Opens old × IsLive old) (found : HasCleanDisk old → (db : Trees) → HoldsDatabase image db → old.committed.trees ≡ db) (settled : IsSettled old) where
-  pub reopens : {X F : Type 0} (view : X → State) (approval : Bool) (out : Result X F) → IfOk out (λ x. OpensDesk old (view x) approval out) → IfOk out (λ x. Reopens image (view x) approval)
+-- ---- what was found
+
+none_is_prop : (db : Trees) → IsProp (UsesNoName db)
+none_is_prop db = Π_prop λ (s : Schema). Π_prop λ (sound : IsSound s db). AllByRecursion-prop (λ name. is_used s name ≡ false) (λ name. Bool-set (is_used s name) false) desk_names
+
+module _ (image : Image) (found : Trees) (holds : (db : Trees) → HoldsDatabase image db → found ≡ db) where
+  pub found_records : (r : Records) → HoldsDesk HoldsDatabase image r → HoldIn HoldsRecords found r
+  found_records r has = subst (λ t. HoldIn HoldsRecords t r) (sym (∥∥₁_elim has.1 (Trees-set found has.0) (holds has.0))) has.2
+
+  pub found_none : (IsNothing image → UsesNoName found) → HoldsNone HoldsDatabase image → UsesNoName found
+  found_none nothing (inl empty) = nothing empty
+  found_none nothing (inr has) = ∥∥₁_elim has (none_is_prop found) (λ it. subst UsesNoName (sym (holds it.0 it.1)) it.2)
+
+module _ (image : Image) (old : State) (opened : HasCleanDisk old → Opens old × IsLive old) (holds : HasCleanDisk old → (db : Trees) → HoldsDatabase image db → old.committed.trees ≡ db)
+    (reads : HasCleanDisk old → AreFoundIn image old.committed.trees) (settled : IsSettled old) where
+  rests : (r : Records) → HoldsDesk HoldsDatabase image r → Rests HoldsRecords old r
+  rests r has clean = let it = opened clean in at_rest old r settled it.0 it.1 (found_records image old.committed.trees (holds clean) r has)
+
+  rests_free : HoldsNone HoldsDatabase image → Rests HoldsStage old Free
+  rests_free none clean = let it = opened clean in free_at_rest old settled it.0 it.1 (found_none image old.committed.trees (holds clean) (λ nothing. nothing_is_unused image old.committed.trees nothing (reads clean)) none)
+
+  found : HasCleanDisk old → HasDesk old.now ⊎ LeavesFree old.now.schema desk_names → (db : Trees) × AreFoundIn image db × IsOpenable db
+  found clean is =
+      let it = opened clean in
+      (old.committed.trees, reads clean, (old.committed.schema, (it.1 it.0.is_open).1, subst (λ d. HasDesk d ⊎ LeavesFree d.schema desk_names) it.0.clean is))
+
+  newer : HasCleanDisk old → HasRow old.now IsNewerRow → (db : Trees) × AreFoundIn image db × HasNewer db
+  newer clean row = let it = opened clean in (old.committed.trees, reads clean, (old.committed.schema, (it.1 it.0.is_open).1, subst (λ d. HasRow d IsNewerRow) it.0.clean row))
+
+  pub reopens : {X : Type 0} (view : X → State) (approval : Bool) (out : Result X OpenFault) → IfOk out (λ x. OpensDesk old (view x) approval out) → IfOk out (λ x. Reopens image (view x) approval)
   reopens view approval (Err e) h = tt
   reopens view approval (Ok x) h =
       let is_open = λ (clean : HasCleanDisk old). (opened clean).0.is_open in
       record {
-        holds = λ db r held has. h.keeps is_open r (λ clean. let it = opened clean in at_rest old r settled it.0 it.1 (subst (λ t. HoldIn HoldsRecords t r) (sym (found clean db held)) has));
-        makes = λ db held none. h.makes is_open (λ clean. let it = opened clean in free_at_rest old settled it.0 it.1 (subst UsesNoName (sym (found clean db held)) none));
+        finds = λ clean. found (omega (arith, clean, h.wears)) (h.finds clean);
+        holds = λ r has. h.keeps is_open r (rests r has);
+        makes = λ none. h.makes is_open (rests_free none);
       }
+
+  pub refuses : {X : Type 0} (view : X → State) (approval : Bool) (out : Result X OpenFault) → IfErr out (λ e. (last : X) × OpensDesk old (view last) approval out)
+      → IfErr out (λ e. (last : X) × (HasCleanDisk (view last) → Refuses image (view last) approval e))
+  refuses view approval (Ok x) h = tt
+  refuses {X = X} view approval (Err e) h =
+      let is_open = λ (clean : HasCleanDisk old). (opened clean).0.is_open in (
+        h.0,
+        λ clean. record {
+          newer = λ is. newer (omega (arith, clean, h.1.wears)) (subst (λ f. FindsTo {A = X} old.now (Err f)) is (h.1.finds clean));
+          holds = λ r has. h.1.keeps is_open r (rests r has) clean;
+          makes = λ none. h.1.makes is_open (rests_free none) clean;
+        },
+      )
+
+  pub refused_after : {X : Type 0} (view : X → State) (approval : Bool) (Other : OpenFault → Type 0) (out : Result X OpenFault) → IfErr out (λ e. (last : X) × OpensDesk old (view last) approval out)
+      → IfErr out (λ e. Other e ⊎ ((last : X) × (HasCleanDisk (view last) → Refuses image (view last) approval e)))
+  refused_after view approval Other (Ok x) h = tt
+  refused_after view approval Other (Err e) h = inr (refuses view approval (Err e) h)
+
+  pub refused_at_path : {X : Type 0} (view : X → State) (approval : Bool) (First Other : OpenFault → Type 0) (out : Result X OpenFault) → IfErr out (λ e. (last : X) × OpensDesk old (view last) approval out)
+      → IfErr out (λ e. First e ⊎ (Other e ⊎ ((last : X) × (HasCleanDisk (view last) → Refuses image (view last) approval e))))
+  refused_at_path view approval First Other (Ok x) h = tt
+  refused_at_path view approval First Other (Err e) h = inr (inr (refuses view approval (Err e) h))

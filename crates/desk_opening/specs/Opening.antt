@@ -1,15 +1,21 @@
 -- The taking over of a desk that is there.
-use Rattle.std.specs.Prelude.{◌≡◌, Bool, pos, codes, Result, Ok, Err, IsTrue, ◌⊎◌}
+use Rattle.std.specs.Prelude.{◌≡◌, ◌<ℤ◌, ℤ, Bool, true, [], ◌∷◌, pos, codes, Option, Some, None, Result, Ok, Err, IsTrue, ◌⊎◌}
 use Rattle.sqlite_value.specs.declared.value.Value.TheVariants.{Int, Text}
 use Rattle.sqlite_value.specs.Order.{Row, column}
 use Rattle.sqlite.specs.Tree.{Trees}
 use Rattle.sqlite.specs.Schema.{Schema}
+use Rattle.sqlite.specs.Effect.{Database}
 use Rattle.sqlite.specs.State.{State, HasCleanDisk}
+use Rattle.sqlite_trees.specs.Tree.{has_rowid}
+use Rattle.sqlite_rules.specs.Lists.{Has}
+use Rattle.sql_front.specs.Free.{LeavesFree}
 use Rattle.sql_front.specs.Found.{StandsSomewhere}
 use Rattle.sql_calls.specs.Standing.{Wears, HoldIn, Rests}
 use Rattle.rollout_machine.specs.Records.{Records}
-use Rattle.desk_records.specs.Schema.{desk_table, module_table}
+use Rattle.desk_records.specs.Schema.{desk_table, module_table, desk_names}
 use Rattle.desk_records.specs.Holds.{HoldsRecords}
+use Rattle.desk_opening.specs.declared.opening.OpenFault.{OpenFault}
+use Rattle.desk_opening.specs.declared.opening.OpenFault.TheVariants.{NotDesk, NewerVersion, Memory, Store}
 use Rattle.desk_opening.specs.Making.{HoldsStage, Free, LeavesNoDesk, LeavesDesk, first_records}
 
 -- both tables are there as the desk makes them
@@ -17,10 +23,49 @@ pub record HasDeskTables (schema : Schema) : Type 0 where
   pub desk : StandsSomewhere schema (desk_table 0)
   pub modules : StandsSomewhere schema (module_table 0)
 
+-- ---- the row of `desk`, as format, version and approval
+
 -- a row of format `fwdesk` and version 1
 pub record IsDeskRow (row : Row) : Type 0 where
   pub format : column row 0 ≡ Text (codes "fwdesk")
   pub version : column row 1 ≡ Int (pos 1)
+
+-- a row of format `fwdesk` and a later version
+pub record IsNewerRow (row : Row) : Type 0 where
+  pub format : column row 0 ≡ Text (codes "fwdesk")
+  pub number : ℤ
+  pub version : column row 1 ≡ Int number
+  pub later : pos 1 <ℤ number
+
+-- The table `desk` stands, and its row of number 1 says this.
+pub record HasRow (db : Database) (Says : Row → Type 0) : Type 0 where
+  pub table : StandsSomewhere db.schema (desk_table 0)
+  pub row : Row
+  pub among : Has (db.trees table.tree) row
+  pub number : has_rowid (pos 1) row ≡ true
+  pub says : Says (column row 2 ∷ column row 3 ∷ column row 4 ∷ [])
+
+-- the row that is read says what the row of the table says
+abbrev pub ReadsRow : Database → Option Row → Type 0
+ReadsRow db (Some row) = StandsSomewhere db.schema (desk_table 0) → HasRow db (λ shown. row ≡ shown)
+ReadsRow db None = Unit {0}
+
+-- what each answer tells of the row: a desk's, where it is taken over, and a later version's, where it is refused as that
+abbrev pub Tells : {A : Type 0} → ((Row → Type 0) → Type 0) → Result A OpenFault → Type 0
+Tells Says (Ok _) = Says IsDeskRow
+Tells Says (Err NotDesk) = Unit {0}
+Tells Says (Err NewerVersion) = Says IsNewerRow
+Tells Says (Err Memory) = Unit {0}
+Tells Says (Err Store) = Unit {0}
+
+-- the fault is not of what the database holds
+abbrev pub IsFailure : OpenFault → Type 0
+IsFailure NotDesk = ⊥
+IsFailure NewerVersion = ⊥
+IsFailure Memory = Unit {0}
+IsFailure Store = Unit {0}
+
+-- ---- taking over
 
 abbrev pub KeepsTo : {A E : Type 0} → State → State → Result A E → Type 0
 KeepsTo old new (Ok _) = (r : Records) → Rests HoldsRecords old r → Rests HoldsRecords new r
@@ -31,6 +76,18 @@ pub record Keeps {A E : Type 0} (old new : State) (result : Result A E) : Type 0
   pub wears : Wears old new
   pub keeps : KeepsTo old new result
 
+-- Records that stood, stand, and the answer is by the row of the database as it was.
+pub record Adopts {A : Type 0} (old new : State) (result : Result A OpenFault) : Type 0 where
+  pub keeps : Keeps old new result
+  pub tells : HasCleanDisk new → Tells (HasRow old.now) result
+
+-- a database with a desk of this version
+pub record HasDesk (db : Database) : Type 0 where
+  pub tables : HasDeskTables db.schema
+  pub row : HasRow db IsDeskRow
+
+-- ---- the one or the other
+
 -- the connection is open, as one that has just been made over files is
 abbrev pub IsKnownOpen : State → Type 0
 IsKnownOpen s = HasCleanDisk s → IsTrue s.is_open
@@ -39,9 +96,18 @@ abbrev pub OpensTo : {A E : Type 0} → State → State → Bool → Result A E 
 OpensTo old new approval (Ok _) = Rests HoldsStage old Free → Rests HoldsRecords new (first_records approval)
 OpensTo old new approval (Err e) = Rests HoldsStage old Free → HasCleanDisk new → (db : Trees) → new.may_leave db → LeavesNoDesk db ⊎ LeavesDesk db (first_records approval)
 
+-- What is opened is a desk, or uses no name of one.
+abbrev pub FindsTo : {A : Type 0} → Database → Result A OpenFault → Type 0
+FindsTo db (Ok _) = HasDesk db ⊎ LeavesFree db.schema desk_names
+FindsTo db (Err NotDesk) = Unit {0}
+FindsTo db (Err NewerVersion) = HasRow db IsNewerRow
+FindsTo db (Err Memory) = Unit {0}
+FindsTo db (Err Store) = Unit {0}
+
 -- A desk that is there is kept. Where no name of a desk is used, a new one is there whole or not at all.
-pub record OpensDesk {A E : Type 0} (old new : State) (approval : Bool) (result : Result A E) : Type 0 where
+pub record OpensDesk {A : Type 0} (old new : State) (approval : Bool) (result : Result A OpenFault) : Type 0 where
   pub wears : Wears old new
+  pub finds : HasCleanDisk new → FindsTo old.now result
   pub keeps : IsKnownOpen old → KeepsTo old new result
   pub makes : IsKnownOpen old → OpensTo old new approval result
 

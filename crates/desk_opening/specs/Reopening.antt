@@ -1,23 +1,93 @@
 -- A desk over files that were opened.
-use Rattle.std.specs.Prelude.{Bool}
+use Rattle.std.specs.Prelude.{◌≡◌, ◌≢◌, ◌⊎◌, Bool, false, ℕ}
+use Rattle.sqlite_disk.specs.declared.Disk as disk
 use Rattle.sqlite.specs.Recovery.{Image}
 use Rattle.sqlite.specs.Tree.{Trees}
 use Rattle.sqlite.specs.Schema.{Schema}
 use Rattle.sqlite_catalog.specs.Listing.{IsSound}
+use Rattle.sqlite_wal.specs.PageSize.{IsPageSize}
+use Rattle.sqlite_wal.specs.Files.{outcomes}
+use Rattle.sqlite_pool.specs.Stored.{is_summed, stored_size}
+use Rattle.sqlite_store.specs.Unopened.{state_of}
+use Rattle.sqlite_store.specs.FileStore.{recovers}
+use Rattle.sqlite.specs.declared.file.Leftover.{Leftover}
+use Rattle.sqlite.specs.declared.file.Leftover.TheVariants as left
+use Rattle.sqlite_store.specs.declared.store.FileStore.{FileStore}
+use Rattle.sqlite.specs.Held.{Held}
+use Rattle.sqlite.specs.Opening.{HoldsIn}
+use Rattle.sqlite.specs.Files.{HoldsDatabase, IsNothing, AreFoundIn, IsCleanLeft, file_state}
+use Rattle.sqlite.specs.State.{State, HasCleanDisk}
 use Rattle.sql_front.specs.Free.{LeavesFree}
-use Rattle.desk_records.specs.Schema.{desk_names}
-use Rattle.sqlite.specs.Files.{HoldsDatabase}
-use Rattle.sqlite.specs.State.{State}
 use Rattle.sql_calls.specs.Standing.{HoldIn, Rests}
 use Rattle.rollout_machine.specs.Records.{Records}
+use Rattle.desk_records.specs.Schema.{desk_names}
 use Rattle.desk_records.specs.Holds.{HoldsRecords}
-use Rattle.desk_opening.specs.Making.{first_records}
+use Rattle.desk_opening.specs.declared.opening.OpenFault.{OpenFault}
+use Rattle.desk_opening.specs.declared.opening.OpenFault.TheVariants.{NewerVersion}
+use Rattle.desk_opening.specs.Making.{LeavesNoDesk, LeavesDesk, first_records}
+use Rattle.desk_opening.specs.Opening.{HasDesk, HasRow, IsNewerRow}
 
 -- whichever schema the trees list, it leaves the names of a desk free
 abbrev pub UsesNoName : Trees → Type 0
 UsesNoName db = (schema : Schema) → IsSound schema db → LeavesFree schema desk_names
 
--- Files that hold the records of a desk are opened to them, and those whose database uses no name of a desk to the records of a new one.
+-- ---- what files hold
+
+-- the same as `HoldsDatabase`, of pages that end in no sum
+pub record HoldsPlain (image : Image) (db : Trees) : Type 0 where
+  pub size : ℕ
+  pub plain : is_summed size ≡ false
+  pub valid : IsPageSize (stored_size size)
+  pub held : HoldsIn size image db
+
+module _ (Holds : Image → Trees → Type 0) where
+  -- the records of a desk
+  abbrev pub HoldsDesk : Image → Records → Type 0
+  HoldsDesk image r = (db : Trees) × ∥ Holds image db ∥₁ × HoldIn HoldsRecords db r
+
+  -- nothing, or a database that uses no name of a desk
+  abbrev pub HoldsNone : Image → Type 0
+  HoldsNone image = IsNothing image ⊎ ∥ ((db : Trees) × Holds image db × UsesNoName db) ∥₁
+
+-- ---- opened
+
+-- a database with a desk of this version, or one that uses no name of a desk
+abbrev pub IsOpenable : Trees → Type 0
+IsOpenable db = (schema : Schema) × IsSound schema db × (HasDesk (record { schema = schema; trees = db }) ⊎ LeavesFree schema desk_names)
+
+-- Files that hold the records of a desk are opened to them. Empty or missing files, and those whose database uses no name of a desk, are opened to the records of a new one.
+-- No others are opened: neither a damaged file, nor one of another program, nor one with some of the tables.
 pub record Reopens (image : Image) (s : State) (approval : Bool) : Type 0 where
-  pub holds : (db : Trees) (r : Records) → HoldsDatabase image db → HoldIn HoldsRecords db r → Rests HoldsRecords s r
-  pub makes : (db : Trees) → HoldsDatabase image db → UsesNoName db → Rests HoldsRecords s (first_records approval)
+  pub finds : HasCleanDisk s → (db : Trees) × AreFoundIn image db × IsOpenable db
+  pub holds : (r : Records) → HoldsDesk HoldsDatabase image r → Rests HoldsRecords s r
+  pub makes : HoldsNone HoldsDatabase image → Rests HoldsRecords s (first_records approval)
+
+-- ---- not opened
+
+abbrev pub HasNewer : Trees → Type 0
+HasNewer db = (schema : Schema) × IsSound schema db × HasRow (record { schema = schema; trees = db }) IsNewerRow
+
+-- The database was opened, and this is what the connection leaves. The records of a desk stay. Where there was none there is none, or the new one is whole.
+pub record Refuses (image : Image) (s : State) (approval : Bool) (e : OpenFault) : Type 0 where
+  pub newer : e ≡ NewerVersion → (db : Trees) × AreFoundIn image db × HasNewer db
+  pub holds : (r : Records) → HoldsDesk HoldsDatabase image r → (db : Trees) → s.may_leave db → HoldIn HoldsRecords db r
+  pub makes : HoldsNone HoldsDatabase image → (db : Trees) → s.may_leave db → LeavesNoDesk db ⊎ LeavesDesk db (first_records approval)
+
+module _ {D : Type 0} (g : disk.Ghosts D) where
+  -- whatever a crash leaves of the files, and the trees that an open finds once the store has read them
+  abbrev pub EachAfter : (Image → Type 0) → (Trees → Type 0) → Leftover D g → Type 0
+  EachAfter Holds Finds (left.Files now) = (image : Image) → outcomes g now.log now.db image → Holds image
+  EachAfter Holds Finds (left.Unopened now) = (image : Image) → (state_of now).may_leave image → Holds image
+  EachAfter Holds Finds (left.Store now) = (db : Trees) → recovers now db → Finds db
+
+  -- The database was not opened. Where each file that a crash might have left before held the records of a desk, each still does, and where each held none, each holds none.
+  pub record Spares (before : Image → Type 0) (rest : Leftover D g) (e : OpenFault) : Type 0 where
+    pub named : e ≢ NewerVersion
+    pub holds : (r : Records) → ((image : Image) → before image → HoldsDesk HoldsPlain image r) → EachAfter (λ image. HoldsDesk HoldsPlain image r) (λ db. HoldIn HoldsRecords db r) rest
+    pub makes : ((image : Image) → before image → HoldsNone HoldsPlain image) → EachAfter (HoldsNone HoldsDatabase) UsesNoName rest
+
+  abbrev pub IsSpared : (Image → Type 0) → OpenFault → Type 0
+  IsSpared before e = (rest : Leftover D g) × (IsCleanLeft rest → Spares before rest e)
+
+  abbrev pub IsRefused : Image → Bool → OpenFault → Type 0
+  IsRefused image approval e = (last : Held (FileStore D g)) × (HasCleanDisk (file_state last) → Refuses image (file_state last) approval e)

@@ -1,6 +1,6 @@
 //! A desk that is there already.
 
-ghost use Rattle.std.specs.Prelude.{◌≡◌, IfOk, IfErr, IsTrue, Ok, codes, true, false, ◌||◌};
+ghost use Rattle.std.specs.Prelude.{◌≡◌, ◌≢◌, IfOk, IfErr, IsTrue, Ok, codes, true, false, ◌||◌};
 ghost use Rattle.sqlite_catalog.specs.Change.{is_used};
 ghost use Rattle.sql_front.specs.Free.{LeavesFree};
 ghost use Rattle.desk_records.specs.Schema.{desk_names};
@@ -8,8 +8,9 @@ ghost use Rattle.sqlite_value.specs.Order.{column};
 ghost use Rattle.desk_records.specs.ModuleRow.{StoredText};
 ghost use Rattle.sqlite.specs.Compile.{table_defined_by};
 ghost use Rattle.sqlite.specs.Held.{state};
+ghost use Rattle.sqlite.specs.State.{HasCleanDisk};
 ghost use Rattle.desk_opening.specs.Faults.{fault_row};
-ghost use Rattle.desk_opening.specs.Opening.{HasDeskTables, IsDeskRow, IsSettled, Keeps, OpensDesk};
+ghost use Rattle.desk_opening.specs.Opening.{Adopts, HasDeskTables, HasRow, IsFailure, IsSettled, Keeps, OpensDesk, ReadsRow, Tells};
 
 use crate::making::make;
 use desk_records::{CREATE_DESK, CREATE_MODULE, GET_DESK};
@@ -61,7 +62,8 @@ impl OpenFault {
 
 /// The table that a text makes.
 fn table_of(alloc: Global, text: &str) -> Result<Table, OpenFault>
-    ensures { IfOk result (λ table. table_defined_by text.now ≡ Ok table) }
+    ensures defined { IfOk result (λ table. table_defined_by text.now ≡ Ok table) }
+    ensures failed { IfErr result IsFailure }
 {
     match define_table(alloc, text.as_bytes()) {
         Ok(table) => Ok(table),
@@ -72,7 +74,8 @@ fn table_of(alloc: Global, text: &str) -> Result<Table, OpenFault>
 
 /// Whether the schema has both tables, column for column.
 fn has_desk_tables(alloc: Global, schema: &Schema) -> Result<bool, OpenFault>
-    ensures { IfOk result (λ found. IsTrue found → HasDeskTables schema.now) }
+    ensures found { IfOk result (λ found. IsTrue found → HasDeskTables schema.now) }
+    ensures failed { IfErr result IsFailure }
 {
     let desk = table_of(alloc, CREATE_DESK)?;
     let modules = table_of(alloc, CREATE_MODULE)?;
@@ -85,6 +88,7 @@ fn has_desk_tables(alloc: Global, schema: &Schema) -> Result<bool, OpenFault>
 /// Reads the row of `desk`, and leaves what stood.
 fn read_desk_row<S: Alter>(calls: &mut Calls<S>) -> Result<Option<Row>, Fault>
     ensures keeps { Keeps (state S.Store calls.old.conn) (state S.Store calls.new.conn) result }
+    ensures reads { IfOk result (λ found. HasCleanDisk (state S.Store calls.new.conn) → ReadsRow (state S.Store calls.old.conn).now found) }
 {
     calls.begin()?;
     let row = calls.first(GET_DESK, &[])?;
@@ -94,7 +98,7 @@ fn read_desk_row<S: Alter>(calls: &mut Calls<S>) -> Result<Option<Row>, Fault>
 
 /// Whether the row is a desk's, of this version.
 fn judge(row: &Row) -> Result<(), OpenFault>
-    ensures { IfOk result (λ _. IsDeskRow row.now) }
+    ensures { Tells (λ Says. Says row.now) result }
 {
     if !has_format(row)? {
         return Err(OpenFault::NotDesk);
@@ -109,7 +113,8 @@ fn judge(row: &Row) -> Result<(), OpenFault>
 
 /// Whether the row begins with the format of a desk.
 fn has_format(row: &Row) -> Result<bool, OpenFault>
-    ensures { IfOk result (λ found. IsTrue found → column row.now 0 ≡ StoredText (codes "fwdesk")) }
+    ensures found { IfOk result (λ found. IsTrue found → column row.now 0 ≡ StoredText (codes "fwdesk")) }
+    ensures unread { IfErr result (λ e. e ≢ OpenFault.NewerVersion) }
 {
     match row.get::<String>(0) {
         Ok(format) => Ok(format.as_str() == "fwdesk"),
@@ -118,14 +123,18 @@ fn has_format(row: &Row) -> Result<bool, OpenFault>
 }
 
 /// The fault of a column that can't be read.
-fn unread(error: Error) -> OpenFault {
+fn unread(error: Error) -> OpenFault
+    ensures { result ≢ OpenFault.NewerVersion }
+{
     match fault_of(error) {
         Fault::Memory => OpenFault::Memory,
         Fault::Store => OpenFault::NotDesk,
     }
 }
 
-pub(crate) fn open_fault(fault: Fault) -> OpenFault {
+pub(crate) fn open_fault(fault: Fault) -> OpenFault
+    ensures { IsFailure result }
+{
     match fault {
         Fault::Memory => OpenFault::Memory,
         Fault::Store => OpenFault::Store,
@@ -135,6 +144,7 @@ pub(crate) fn open_fault(fault: Fault) -> OpenFault {
 /// Reads the row of `desk`, and judges it.
 fn check_row<S: Alter>(calls: &mut Calls<S>) -> Result<(), OpenFault>
     ensures keeps { Keeps (state S.Store calls.old.conn) (state S.Store calls.new.conn) result }
+    ensures tells { HasCleanDisk (state S.Store calls.new.conn) → HasDeskTables (state S.Store calls.old.conn).now.schema → Tells (HasRow (state S.Store calls.old.conn).now) result }
 {
     match read_desk_row(calls) {
         Ok(Some(row)) => judge(&row),
@@ -148,9 +158,9 @@ pub fn adopt<S: Alter + Drop>(
     alloc: Global,
     conn: Connection<S>,
 ) -> Result<Connection<S>, OpenFault>
-    ensures adopted { IfOk result (λ adopted. Keeps (state S.Store conn) (state S.Store adopted) result) }
+    ensures adopted { IfOk result (λ adopted. Adopts (state S.Store conn) (state S.Store adopted) result) }
     ensures whole { IfOk result (λ adopted. HasDeskTables (state S.Store conn).now.schema) }
-    ensures refused { IfErr result (λ e. (last : _) × Keeps (state S.Store conn) (state S.Store last) result) }
+    ensures refused { IfErr result (λ e. (last : _) × Adopts (state S.Store conn) (state S.Store last) result) }
 {
     if !has_desk_tables(alloc, conn.schema())? {
         return Err(OpenFault::NotDesk);

@@ -1,12 +1,26 @@
+use Rattle.std.proofs.Common.{◌∙◌, ap, Err, refl, subst}
+use Rattle.std.proofs.lemmas.Result.{err_from_is_err_and}
 use Rattle.sqlite.specs.Held.{state}
-use Rattle.desk_opening.proofs.OpeningLemmas.{last_keeps, keeps_none, keeps_wrapped}
+use Rattle.desk_opening.specs.Opening.{HasDeskTables}
+use Rattle.desk_opening.specs.declared.opening.OpenFault.TheVariants.{NotDesk}
+use Rattle.desk_opening.proofs.OpeningLemmas.{adopts_none, adopts_failed, adopts_wrapped, adopts_whole}
 use Rattle.desk_opening.proofs.opening.adopt.Goals as goal
 
 pub returns-in_err-has_desk_tables-clause-refused : goal.returns-in_err-has_desk_tables-clause-refused
-returns-in_err-has_desk_tables-clause-refused g c = let none = keeps_none (state g.S.Store c.args.conn) in last_keeps (state g.S.Store) _ c.args.conn none.0 none.1 c.from_residual.result
+returns-in_err-has_desk_tables-clause-refused g c =
+    let p = err_from_is_err_and c.from_residual.result c.from_residual.ensures.1 in
+    adopts_failed (state g.S.Store) c.args.conn _ c.in_err-has_desk_tables.ensures.failed c.from_residual.result (p.1 ∙ ap Err p.2)
 
 pub returns-then-not-branch-clause-refused : goal.returns-then-not-branch-clause-refused
-returns-then-not-branch-clause-refused g c = let none = keeps_none (state g.S.Store c.args.conn) in (c.args.conn, record { wears = none.0; keeps = none.1 })
+returns-then-not-branch-clause-refused g c = adopts_none (state g.S.Store) c.args.conn NotDesk tt (Err NotDesk) refl
 
 pub returns-in_err-check_row-clause-refused : goal.returns-in_err-check_row-clause-refused
-returns-in_err-check_row-clause-refused g c = keeps_wrapped (state g.S.Store) c.args.conn _ c.check_row.new.calls.conn _ c.new-calls.ensures.conn c.in_err-check_row.ensures.keeps c.from_residual-in_err-check_row.result
+returns-in_err-check_row-clause-refused g c =
+    let p = err_from_is_err_and c.from_residual-in_err-check_row.result c.from_residual-in_err-check_row.ensures.1 in
+    let tables = subst HasDeskTables c.schema.ensures.value (c.in_ok-has_desk_tables.ensures.found c.if-not-branch.false) in
+    adopts_wrapped (state g.S.Store) c.args.conn _ c.check_row.new.calls.conn c.new-calls.ensures.conn tables _ c.in_err-check_row.ensures.keeps c.in_err-check_row.ensures.tells c.from_residual-in_err-check_row.result (p.1 ∙ ap Err p.2)
+
+pub returns-clause-adopted : goal.returns-clause-adopted
+returns-clause-adopted g c =
+    let tables = subst HasDeskTables c.schema.ensures.value (c.in_ok-has_desk_tables.ensures.found c.if-not-branch.false) in
+    adopts_whole (state g.S.Store) c.args.conn _ c.check_row.new.calls.conn c.new-calls.ensures.conn tables _ c.into_connection.result c.into_connection.ensures c.in_ok-check_row.ensures.keeps c.in_ok-check_row.ensures.tells

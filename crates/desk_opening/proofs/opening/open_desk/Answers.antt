@@ -9,7 +9,7 @@ use Rattle.desk_opening.proofs.opening.open_desk.Goals as goal
 pub returns-then-uses_desk_name-clause-opened : goal.returns-then-uses_desk_name-clause-opened
 returns-then-uses_desk_name-clause-opened g c =
     let used = subst (λ s. (is_used s (codes "desk") || is_used s (codes "module")) ≡ true) c.schema.ensures.value (c.uses_desk_name.ensures.used c.if-uses_desk_name.true) in
-    adopts_ok (state g.S.Store) (state g.S.Store c.args.conn) c.args.approval_if_new c.adopt.result c.adopt.ensures.adopted used
+    adopts_ok (state g.S.Store) (state g.S.Store c.args.conn) c.args.approval_if_new c.adopt.result c.adopt.ensures.adopted c.adopt.ensures.whole used
 
 pub returns-then-uses_desk_name-clause-refused : goal.returns-then-uses_desk_name-clause-refused
 returns-then-uses_desk_name-clause-refused g c =
@@ -19,13 +19,13 @@ returns-then-uses_desk_name-clause-refused g c =
 pub returns-in-Ok-clause-opened : goal.returns-in-Ok-clause-opened
 returns-in-Ok-clause-opened g c =
     let free = subst (λ s. LeavesFree s desk_names) c.schema.ensures.value (c.uses_desk_name.ensures.free c.if-uses_desk_name.false) in
-    makes_new (state g.S.Store c.args.conn) (state g.S.Store c.in-Ok.made) c.args.approval_if_new (Ok c.in-Ok.made) (made_ok (state g.S.Store c.args.conn) (state g.S.Store c.in-Ok.made) c.args.approval_if_new c.in-Ok.made c.in-Ok.ensures.made) free
+    makes_new (state g.S.Store c.args.conn) (state g.S.Store c.in-Ok.made) c.args.approval_if_new (Ok c.in-Ok.made) tt (made_ok (state g.S.Store c.args.conn) (state g.S.Store c.in-Ok.made) c.args.approval_if_new c.in-Ok.made c.in-Ok.ensures.made) free
 
 pub returns-in-Err-clause-refused : goal.returns-in-Err-clause-refused
 returns-in-Err-clause-refused g c =
     let free = subst (λ s. LeavesFree s desk_names) c.schema.ensures.value (c.uses_desk_name.ensures.free c.if-uses_desk_name.false) in
     let last = c.in-Err.ensures.refused in
-    (last.0, makes_new (state g.S.Store c.args.conn) (state g.S.Store last.0) c.args.approval_if_new (Err c.open_fault.result) (made_not (state g.S.Store c.args.conn) (state g.S.Store last.0) c.args.approval_if_new c.in-Err.fault c.open_fault.result last.1) free)
+    (last.0, makes_new (state g.S.Store c.args.conn) (state g.S.Store last.0) c.args.approval_if_new (Err c.open_fault.result) c.open_fault.ensures (made_not (state g.S.Store c.args.conn) (state g.S.Store last.0) c.args.approval_if_new c.in-Err.fault c.open_fault.result last.1) free)
 
 pub returns-then-uses_desk_name-clause-settled : goal.returns-then-uses_desk_name-clause-settled
 returns-then-uses_desk_name-clause-settled g c = g.met.S.Store.settled c.args.conn.store

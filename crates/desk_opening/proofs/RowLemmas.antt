@@ -1,0 +1,114 @@
+-- What the query of the row of `desk` reads.
+use Rattle.std.proofs.Common.{◌≡◌, ◌&&◌, inl, inr, pos, Bool, true, false, List, [], ◌∷◌, cond, map, filter, codes, Option, Some, None, Ok, Err, Result, refl, sym, subst, ◌∙◌, arith}
+use Rattle.sqlite_value.specs.declared.value.Value.{Value}
+use Rattle.sqlite_value.specs.declared.value.Value.TheVariants.{Null, Int, Real, Text, Blob}
+use Rattle.sqlite_value.specs.Order.{Row, column, value_cmp}
+use Rattle.sqlite_trees.specs.Tree.{has_rowid}
+use Rattle.sqlite_rules.specs.Lists.{Has}
+use Rattle.std.specs.List.{AllByRecursion}
+use Rattle.sqlite_trees.proofs.ListLemmas.{all-permutation}
+use Rattle.sqlite_sql.specs.Ops.{binary, is_true, from_truth}
+use Rattle.sqlite.specs.Term.{Term, col, lit}
+use Rattle.sqlite.specs.Command.TheVariants.{Begin}
+use Rattle.sqlite.specs.Effect.{Database}
+use Rattle.sqlite.specs.State.{State, HasCleanDisk}
+use Rattle.sql_front.specs.Found.{StandsSomewhere}
+use Rattle.sql_calls.specs.Calls.{RunsText, TakesFirst}
+use Rattle.sql_calls.proofs.Ends.{begin_is}
+use Rattle.sql_calls.proofs.Leavings.{first_shown, shows_as, runs_plain}
+use Rattle.sql_calls.proofs.Selects.{passes, shown_of, simple_rows}
+use Rattle.desk_records.specs.Schema.{desk_table}
+use Rattle.desk_records.specs.declared.texts.TheConstants.{GET_DESK}
+use Rattle.desk_records.proofs.Meaning.{get_desk_is, is_equal}
+use Rattle.desk_opening.specs.declared.opening.OpenFault.{OpenFault}
+use Rattle.desk_opening.specs.declared.opening.OpenFault.TheVariants.{NotDesk, NewerVersion, Memory, Store}
+use Rattle.desk_opening.specs.Opening.{HasRow, ReadsRow, Tells, IsDeskRow, IsNewerRow, IsFailure}
+
+judged : (b : Bool) → is_true (from_truth (Some b)) ≡ b
+judged true = refl
+judged false = refl
+
+and_true : (b : Bool) → (b && true) ≡ b
+and_true true = refl
+and_true false = refl
+
+-- WHERE id = 1
+passes_first : (v : Value) (row : Row) → (passes (is_equal (col 1 0) (lit (Int (pos 1))) ∷ []) [] (v ∷ row)) ≡ has_rowid (pos 1) (v ∷ row)
+unfolding binary value_cmp
+passes_first Null row = refl
+passes_first (Int n) row = and_true _ ∙ judged _
+passes_first (Real x) row = and_true _ ∙ judged _
+passes_first (Text t) row = and_true _ ∙ judged _
+passes_first (Blob b) row = and_true _ ∙ judged _
+
+passes_number : (row : Row) → passes (is_equal (col 1 0) (lit (Int (pos 1))) ∷ []) [] row ≡ has_rowid (pos 1) row
+unfolding binary value_cmp
+passes_number [] = refl
+passes_number (v ∷ row) = passes_first v row
+
+abbrev columns : List Term
+columns = col 1 2 ∷ col 1 3 ∷ col 1 4 ∷ []
+
+-- a row of the table that has number 1, as it is shown
+IsShownOf : List Row → Row → Type 0
+IsShownOf rows shown = (row : Row) × Has rows row × (has_rowid (pos 1) row ≡ true) × (shown ≡ column row 2 ∷ column row 3 ∷ column row 4 ∷ [])
+
+abbrev is_first : Row → Bool
+is_first = passes (is_equal (col 1 0) (lit (Int (pos 1))) ∷ []) []
+
+all_shown : (whole rows : List Row) → ((r : Row) → Has rows r → Has whole r) → AllByRecursion (IsShownOf whole) (map (shown_of columns []) (filter is_first rows))
+unfolding IsShownOf
+all_shown whole [] within = tt
+all_shown whole (r ∷ rows) within = go (is_first r) refl (all_shown whole rows (λ x has. within x (inr has)))
+  where
+    go : (b : Bool) → is_first r ≡ b → AllByRecursion (IsShownOf whole) (map (shown_of columns []) (filter is_first rows)) → AllByRecursion (IsShownOf whole) (map (shown_of columns []) (cond b (r ∷ filter is_first rows) (filter is_first rows)))
+    go true is more = ((r, within r (inl refl), sym (passes_number r) ∙ is, refl), more)
+    go false is more = more
+
+module _ (a b c : State) (first : RunsText a b (codes "BEGIN") [] (Ok tt)) (row : Row) (second : TakesFirst b c GET_DESK.now [] (Ok (Some row))) (clean : HasCleanDisk c) where
+  -- what the change sees is what was there
+  same_now : b.now ≡ a.now
+  same_now = let done = first.runs (omega (arith, clean, second.survives.clean)) in (runs_plain (codes "BEGIN") Begin [] a b (begin_is a.now.schema) done.0 done.1).1.now_is
+
+  pub reads_row : StandsSomewhere a.now.schema (desk_table 0) → HasRow a.now (λ shown. row ≡ shown)
+  unfolding IsShownOf
+  reads_row table = subst (λ db. StandsSomewhere db.schema (desk_table 0) → HasRow db (λ shown. row ≡ shown)) same_now go table
+    where
+      go : StandsSomewhere b.now.schema (desk_table 0) → HasRow b.now (λ shown. row ≡ shown)
+      go at =
+          let means = get_desk_is b.now.schema at.at at.tree at.stands in
+          let shown = first_shown GET_DESK.now _ [] b c means (λ _ _. tt) row (second.answers clean) in
+          let answer = (shows_as GET_DESK.now _ [] b c means (row ∷ shown.0) shown.1).answer in
+          let same = simple_rows at.tree (is_equal (col 1 0) (lit (Int (pos 1))) ∷ []) columns [] b.now.trees (row ∷ shown.0) (answer Null) in
+          let it = (all-permutation (IsShownOf (b.now.trees at.tree)) _ (row ∷ shown.0) same (all_shown (b.now.trees at.tree) (b.now.trees at.tree) (λ r has. has))).0 in
+          record { table = at; row = it.0; among = it.1; number = it.2; says = it.3 }
+
+-- ---- what the answers tell of it
+
+pub reads_rows : (a b c : State) → RunsText a b (codes "BEGIN") [] (Ok tt) → (row : Option Row) → TakesFirst b c GET_DESK.now [] (Ok row) → HasCleanDisk c → ReadsRow a.now row
+reads_rows a b c first None second clean = tt
+reads_rows a b c first (Some row) second clean = reads_row a b c first row second clean
+
+pub tells_row : {A : Type 0} (db : Database) (row : Row) (out : Result A OpenFault) → HasRow db (λ shown. row ≡ shown) → Tells (λ Says. Says row) out → Tells (HasRow db) out
+tells_row db row (Ok a) h told = record { table = h.table; row = h.row; among = h.among; number = h.number; says = subst IsDeskRow h.says told }
+tells_row db row (Err NotDesk) h told = tt
+tells_row db row (Err NewerVersion) h told = record { table = h.table; row = h.row; among = h.among; number = h.number; says = subst IsNewerRow h.says told }
+tells_row db row (Err Memory) h told = tt
+tells_row db row (Err Store) h told = tt
+
+pub tells_read : {A : Type 0} (db : Database) (found : Option Row) (row : Row) (out : Result A OpenFault) → found ≡ Some row → ReadsRow db found → StandsSomewhere db.schema (desk_table 0) → Tells (λ Says. Says row) out
+    → Tells (HasRow db) out
+tells_read db found row out is reads stands told = tells_row db row out (subst (ReadsRow db) is reads stands) told
+
+pub tells_failure : (A : Type 0) (Says : (Row → Type 0) → Type 0) (e : OpenFault) → IsFailure e → Tells {A = A} Says (Err e)
+tells_failure A Says NotDesk fails = absurd fails
+tells_failure A Says NewerVersion fails = absurd fails
+tells_failure A Says Memory fails = tt
+tells_failure A Says Store fails = tt
+
+-- the same fault of another call
+pub tells_on : (A B : Type 0) (Says : (Row → Type 0) → Type 0) (e : OpenFault) → Tells {A = A} Says (Err e) → Tells {A = B} Says (Err e)
+tells_on A B Says NotDesk told = tt
+tells_on A B Says NewerVersion told = told
+tells_on A B Says Memory told = tt
+tells_on A B Says Store told = tt

@@ -1,0 +1,159 @@
+-- What files keep that were not opened.
+use Rattle.std.proofs.Common.{◌≡◌, ◌≢◌, ◌⊎◌, ◌==◌, ◌%◌, ◌≤◌, inl, inr, ℕ, Bool, true, false, List, [], ◌∷◌, if◌then◌else◌, cond, Option, Some, None, IfSome, refl, sym, ap, ap₂, subst, ◌∙◌, IsTrue, arith}
+use Rattle.std.proofs.lemmas.Bool.{cases_eq, cases_Bool}
+use Rattle.std.proofs.Math.Logic.{∥∥₁_map, ∥∥₁_elim}
+use Rattle.sqlite_disk.specs.declared.Disk as disk
+use Rattle.sqlite_disk.specs.declared.Files.{Files}
+use Rattle.sqlite_disk.specs.declared.modelled.Modelled.{Modelled}
+use Rattle.sqlite_disk.specs.declared.calls.Calls as calls
+use Rattle.sqlite_disk.specs.declared.start.Start as start_ghosts
+use Rattle.sqlite_disk.specs.Events.{settled, replay}
+use Rattle.sqlite_disk.specs.History.{MayLeave}
+use Rattle.sqlite_disk.specs.Modelled.{start_of}
+use Rattle.sqlite.specs.Recovery.{Image}
+use Rattle.sqlite.specs.Tree.{Trees}
+use Rattle.sqlite_pool.specs.Stored.{is_summed, reserved, stored_size, StandsAs}
+use Rattle.sqlite_pool.proofs.ProbeLemmas.{size_by_log, size_by_file, reserved_word}
+use Rattle.sqlite_wal.specs.Files.{outcomes}
+use Rattle.sqlite_wal.specs.Recovery.{IsIgnored, Recovers}
+use Rattle.sqlite.specs.declared.error.Error.{Error}
+use Rattle.sqlite.specs.declared.error.Error.TheVariants.{SqliteFailure}
+use Rattle.sqlite.specs.declared.error.ErrorCode.TheVariants as code
+use Rattle.sqlite.specs.declared.file.Leftover.{Leftover}
+use Rattle.sqlite.specs.declared.file.Leftover.TheVariants as left
+use Rattle.sqlite.specs.Files.{HoldsDatabase, IsCleanLeft, FailsToOpenFiles, NamesSize, SaysSums, LeavesFiles, image_of}
+use Rattle.sqlite.proofs.FileLemmas.{is_something}
+use Rattle.sql_calls.specs.Standing.{HoldIn}
+use Rattle.rollout_machine.specs.Records.{Records}
+use Rattle.desk_records.specs.Holds.{HoldsRecords}
+use Rattle.desk_opening.specs.declared.opening.OpenFault.{OpenFault}
+use Rattle.desk_opening.specs.declared.opening.OpenFault.TheVariants.{NotDesk, NewerVersion, Memory, Store}
+use Rattle.desk_opening.specs.Opening.{IsFailure}
+use Rattle.desk_opening.specs.Reopening.{HoldsPlain, HoldsNone, HoldsDesk, UsesNoName, EachAfter, Spares, IsSpared}
+use Rattle.desk_opening.proofs.BlankLemmas.{nothing_is_unused, empty_is_unused}
+use Rattle.desk_opening.proofs.ReopenLemmas.{found_records, found_none}
+
+unreserved : (size : ℕ) → is_summed size ≡ false → reserved size ≡ 0
+unreserved size plain = go (size % 16 == 8) plain
+  where
+    go : (b : Bool) → (cond {A = ℕ} b 8 0 == 8) ≡ false → cond {A = ℕ} b 8 0 ≡ 0
+    go true h = absurd (cc)
+    go false h = refl
+
+-- the size that the files name is the one that the database has
+module _ (image : Image) (db : Trees) (it : HoldsPlain image db) where
+  whole : HoldsDatabase image db
+  whole = (it.size, it.valid, it.held)
+
+  none : reserved it.size ≡ 0
+  none = unreserved it.size it.plain
+
+  large : 504 ≤ it.size
+  large = omega (arith, it.valid.0, none)
+
+  module _ (n : ℕ) (names : NamesSize image (stored_size n)) (says : IsTrue (is_summed n) → SaysSums (stored_size n) image) where
+    same_stored : stored_size it.size ≡ stored_size n
+    same_stored = elim (cases_eq (stored_size it.size) (stored_size n)) [
+      | inl same ↦ same
+      | inr other ↦
+          let by_log = λ (seen : ¬ IsIgnored image.log). other (sym (size_by_log it.size image it.held.pages it.held.found seen) ∙ sym (names.0 seen)) in
+          absurd (by_log (λ ignored. other (sym (size_by_file it.size image it.held.pages it.held.found large it.held.ours.file.sound ignored) ∙ sym (names.1 ignored))))
+    ]
+
+    unsummed : is_summed n ≡ false
+    unsummed = elim (cases_Bool (is_summed n)) [
+      | inl summed ↦
+          let (first, is, len, word, magic) = reserved_word it.size image it.held.pages it.held.found large it.held.ours.file.sound in
+          let found = subst (λ (m : ℕ). Recovers m image it.held.found.stored) same_stored it.held.found.found in
+          let sums = says summed it.held.found.stored first found is (len ∙ same_stored) in
+          absurd (omega (arith, sums, word, none))
+      | inr plain ↦ plain
+    ]
+
+    same_size : n ≡ it.size
+    same_size = let other = unreserved n unsummed in omega (arith, same_stored, none, other)
+
+    pub stands_still : (after : Image) → StandsAs n image after → HoldsPlain after db
+    stands_still after stands =
+        let kept = (subst (λ (m : ℕ). StandsAs m image after) same_size stands).1 in
+        let held = it.held in
+        record { size = it.size; plain = it.plain; valid = it.valid; held = record { pages = held.pages; wanted = held.wanted; schema = held.schema; found = kept held.pages held.found; ours = held.ours; reads = held.reads; sound = held.sound } }
+
+plainly : (image : Image) → HoldsNone HoldsPlain image → HoldsNone HoldsDatabase image
+plainly image (inl nothing) = inl nothing
+plainly image (inr has) = inr (∥∥₁_map has (λ it. (it.0, whole image it.0 it.1, it.2)))
+
+module _ {D : Type 0} (g : disk.Ghosts D) (stays : (file : D) → g.may_leave file (g.seen file)) (files : Files D) where
+  abbrev before_it : Image → Type 0
+  before_it = outcomes g files.log files.db
+
+  -- what the files read as is one of what a crash may leave
+  seen_is : before_it (image_of g files)
+  seen_is = (stays files.log, stays files.db)
+
+  pub holds_on : (rest : Leftover D g) → LeavesFiles files rest → (r : Records)
+      → ((image : Image) → before_it image → HoldsDesk HoldsPlain image r) → EachAfter g (λ image. HoldsDesk HoldsPlain image r) (λ db. HoldIn HoldsRecords db r) rest
+  holds_on (left.Files now) leaves r before = λ image out. before image (leaves image out)
+  holds_on (left.Unopened now) (inl blank) r before = let seen = before (image_of g files) seen_is in absurd (∥∥₁_elim seen.1 (λ x. absurd x) (λ it. is_something _ _ (whole _ _ it) blank.0))
+  holds_on (left.Unopened now) (inr kept) r before = let seen = before (image_of g files) seen_is in λ image may. elim ((kept.4 image may).same) [
+    | inl out ↦ before image out
+    | inr stands ↦ (seen.0, ∥∥₁_map seen.1 (λ it. stands_still _ _ it _ kept.1 kept.3 image stands), seen.2)
+  ]
+  holds_on (left.Store now) leaves r before = let seen = before (image_of g files) seen_is in λ db found. found_records (image_of g files) db (leaves db found).1 r (seen.0, ∥∥₁_map seen.1 (whole _ _), seen.2)
+
+  pub makes_none : (rest : Leftover D g) → LeavesFiles files rest → ((image : Image) → before_it image → HoldsNone HoldsPlain image) → EachAfter g (HoldsNone HoldsDatabase) UsesNoName rest
+  makes_none (left.Files now) leaves before = λ image out. plainly image (before image (leaves image out))
+  makes_none (left.Unopened now) (inl blank) before = λ image may. elim (blank.1 image may) [
+    | inl out ↦ plainly image (before image out)
+    | inr other ↦ elim other [ inl nothing ↦ inl nothing | inr empty ↦ inr (∥∥₁_map empty (λ it. (it.0, it.1, empty_is_unused it.0 it.2.1))) ]
+  ]
+  makes_none (left.Unopened now) (inr kept) before = λ image may. elim ((kept.4 image may).same) [
+    | inl out ↦ plainly image (before image out)
+    | inr stands ↦ elim (before (image_of g files) seen_is) [
+      | inl nothing ↦ absurd (kept.0 nothing)
+      | inr has ↦ inr (∥∥₁_map has (λ it. (it.0, whole image it.0 (stands_still _ _ it.1 _ kept.1 kept.3 image stands), it.2)))
+    ]
+  ]
+  makes_none (left.Store now) leaves before = λ db found. let it = leaves db found in found_none (image_of g files) db it.1 (λ nothing. nothing_is_unused (image_of g files) db nothing it.0) (plainly _ (before (image_of g files) seen_is))
+
+  pub spares : (rest : Leftover D g) (e : OpenFault) → e ≢ NewerVersion → LeavesFiles files rest → Spares g before_it rest e
+  spares rest e named leaves = record { named = named; holds = holds_on rest leaves; makes = makes_none rest leaves }
+
+  -- a crash may leave no more than is named here
+  pub spares_at : (named_here : Image → Type 0) → ((image : Image) → before_it image → named_here image) → (rest : Leftover D g) (e : OpenFault) → Spares g before_it rest e → Spares g named_here rest e
+  spares_at named_here all rest e it = record { named = it.named; holds = λ r each. it.holds r (λ image out. each image (all image out)); makes = λ each. it.makes (λ image out. each image (all image out)) }
+
+-- ---- the fault
+
+pub never_newer : (e : OpenFault) → IsFailure e → e ≢ NewerVersion
+never_newer NotDesk fails is = fails
+never_newer NewerVersion fails is = fails
+never_newer Memory fails is = cc
+never_newer Store fails is = cc
+
+-- ---- the file at a path
+
+module _ {C S : Type 0} {g : calls.Ghosts C} {start : start_ghosts.Ghosts S} (it : Modelled C S g start) (is_log : Bool) (key : ℕ) (is : it.is_log ≡ is_log) (fresh : g.history it.calls ≡ settled key ∷ []) where
+  pub left_alone : (c : List ℕ) → (let m = replay (start_of start it) (g.history it.calls) in MayLeave start.is_mixing m.seen m.synced m.steps c) → c ≡ (if is_log then start.log else start.db)
+  left_alone c left =
+      let now = subst (λ history. let m = replay (start_of start it) history in MayLeave start.is_mixing m.seen m.synced m.steps c) fresh left in
+      let named : start_of start it ≡ (if is_log then start.log else start.db) = ap (λ b. if b then start.log else start.db) is in
+      elim now [ inl seen ↦ seen ∙ named | inr synced ↦ synced ∙ named ]
+
+is_failure : (error : Error) (e : OpenFault) → (error ≢ SqliteFailure code.NotADatabase → IsFailure e)
+    → (error ≡ SqliteFailure code.CannotOpen) ⊎ ((error ≡ SqliteFailure code.OutOfMemory) ⊎ (error ≡ SqliteFailure code.DatabaseBusy)) → IsFailure e
+is_failure error e opened (inl is) = opened (λ no. let x = sym is ∙ no in cc)
+is_failure error e opened (inr (inl is)) = opened (λ no. let x = sym is ∙ no in cc)
+is_failure error e opened (inr (inr is)) = opened (λ no. let x = sym is ∙ no in cc)
+
+module _ {D : Type 0} (g : disk.Ghosts D) (stays : (file : D) → g.may_leave file (g.seen file)) (at : Image) (IsFreshLog IsFreshDb : D → Type 0)
+    (logs : (f : D) → IsFreshLog f → (c : List ℕ) → g.may_leave f c → c ≡ at.log) (dbs : (f : D) → IsFreshDb f → (c : List ℕ) → g.may_leave f c → c ≡ at.db) where
+  pub path_refused : (error : Error) (rest : Option (Leftover D g)) (e : OpenFault) (Other : Type 0) → (error ≢ SqliteFailure code.NotADatabase → IsFailure e) → e ≢ NewerVersion
+      → (rest ≡ None → (error ≡ SqliteFailure code.CannotOpen) ⊎ ((error ≡ SqliteFailure code.OutOfMemory) ⊎ (error ≡ SqliteFailure code.DatabaseBusy)))
+      → IfSome rest (λ left. (files : Files D) × IsFreshLog files.log × IsFreshDb files.db × (IsCleanLeft left → FailsToOpenFiles files left error × LeavesFiles files left))
+      → IsFailure e ⊎ (IsSpared g (λ left. left ≡ at) e ⊎ Other)
+  path_refused error None e Other opened named unopened cause = inl (is_failure error e opened (unopened refl))
+  path_refused error (Some rest) e Other opened named unopened cause =
+      let files = cause.0 in
+      let all = λ (image : Image) (out : outcomes g files.log files.db image). ap₂ (λ (a b : List ℕ). let i : Image = record { log = a; db = b } in i) (logs files.log cause.1 image.log out.0) (dbs files.db cause.2 image.db out.1) in
+      inr (inl (rest, λ clean. spares_at g stays files (λ left. left ≡ at) all rest e (spares g stays files rest e named (cause.3 clean).1)))
