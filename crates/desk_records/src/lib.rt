@@ -2,6 +2,8 @@
 #![tactic(auto)]
 
 mod module_row;
+#[cfg(test)]
+mod tests;
 mod texts;
 
 pub use crate::module_row::{Column, RowFault, read_module_label};
