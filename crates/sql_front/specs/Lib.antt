@@ -1,4 +1,4 @@
 pub mod Stands
 pub mod Free
-pub mod Found
 pub mod Bare
+pub mod Found

@@ -10,9 +10,10 @@ use sqlite_schema::schema::{Column, Table};
 use sqlite_value::keys::Order;
 use sqlite_value::value::Value;
 
-/// Whether the tables are the same but for their trees. Tables with CHECK, foreign keys, or a default other than NULL are never taken for the same.
+/// Whether the tables are the same but for their trees. Only bare tables are taken for the same.
 pub fn same_table(a: &Table, b: &Table) -> bool
     ensures same { IsTrue result → a.now ≡ record b.now { tree = a.now.tree } }
+    ensures bare { IsTrue result → IsBareTable b.now }
     ensures differs { result ≡ false → IsBareTable b.now → a.now ≢ record b.now { tree = a.now.tree } }
 {
     same_columns(a.columns.as_slice(), b.columns.as_slice())
@@ -28,7 +29,8 @@ fn same_keys(a: &Table, b: &Table) -> bool
     ensures primary { IsTrue result → a.now.primary ≡ b.now.primary }
     ensures uniques { IsTrue result → a.now.uniques ≡ b.now.uniques }
     ensures orders { IsTrue result → a.now.orders ≡ b.now.orders }
-    ensures differs { result ≡ false → a.now.key ≡ b.now.key → a.now.primary ≡ b.now.primary → a.now.uniques ≡ b.now.uniques → a.now.orders ≢ b.now.orders }
+    ensures differs { result ≡ false → a.now.key ≡ b.now.key → a.now.primary ≡ b.now.primary
+        → a.now.uniques ≡ b.now.uniques → a.now.orders ≢ b.now.orders }
 {
     a.key == b.key
         && same_places(&a.primary, &b.primary)
@@ -43,7 +45,7 @@ fn is_bare(table: &Table) -> bool
     ensures computed { IsTrue result → table.now.computed ≡ [] }
     ensures stamps { IsTrue result → table.now.stamps ≡ record { places = []; terms = []; formats = [] } }
     ensures counted { IsTrue result → table.now.is_counted ≡ false }
-    ensures differs { result ≡ false → IsBareTable table.now → ⊥ }
+    ensures other { result ≡ false → IsBareTable table.now → ⊥ }
 {
     has_no_terms(&table.checks)
         && table.references.is_empty()
@@ -63,6 +65,7 @@ fn has_no_terms(terms: &Terms) -> bool
 
 fn same_columns(a: &[Column], b: &[Column]) -> bool
     ensures same { IsTrue result → a.now ≡ b.now }
+    ensures bare { IsTrue result → HaveNullDefaults b.now }
     ensures differs { result ≡ false → HaveNullDefaults b.now → a.now ≢ b.now }
 {
     match (a, b) {
@@ -76,6 +79,7 @@ fn same_columns(a: &[Column], b: &[Column]) -> bool
 
 fn same_column(a: &Column, b: &Column) -> bool
     ensures same { IsTrue result → a.now ≡ b.now }
+    ensures bare { IsTrue result → b.now.default ≡ Null }
     ensures differs { result ≡ false → b.now.default ≡ Null → a.now ≢ b.now }
 {
     a.name.as_slice() == b.name.as_slice()

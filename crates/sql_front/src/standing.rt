@@ -18,9 +18,10 @@ pub fn uses_name(schema: &Schema, name: &str) -> bool
     layout::is_used(schema, name.as_bytes())
 }
 
-/// Whether the schema has this very table, in some tree.
+/// Whether the schema has this very table, in some tree. Only a bare table is found.
 pub fn stands(schema: &Schema, table: &Table) -> bool
     ensures found { IsTrue result → StandsSomewhere schema.now table.now }
+    ensures bare { IsTrue result → IsBareTable table.now }
     ensures missing { result ≡ false → IsBareTable table.now → StandsSomewhere schema.now table.now → ⊥ }
 {
     let Some(at) = schema.table_named(table.name.as_slice()) else {
@@ -37,7 +38,10 @@ fn is_first(schema: &Schema, named: &Table, table: &Table) -> bool
     ensures same { IsTrue result → named.now ≡ record table.now { tree = named.now.tree } }
     ensures stored { IsTrue result → named.now.tree < 2 ^ 31 }
     ensures first { IsTrue result → HasFirst schema.now named.now table.now }
-    ensures differs { result ≡ false → IsBareTable table.now → named.now ≡ record table.now { tree = named.now.tree } → named.now.tree < 2 ^ 31 → HasFirst schema.now named.now table.now → ⊥ }
+    ensures bare { IsTrue result → IsBareTable table.now }
+    ensures missing { result ≡ false → IsBareTable table.now
+        → named.now ≡ record table.now { tree = named.now.tree } → named.now.tree < 2 ^ 31
+        → HasFirst schema.now named.now table.now → ⊥ }
 {
     let Some(first) = first_beside(schema.tables.as_slice(), named) else {
         return false;

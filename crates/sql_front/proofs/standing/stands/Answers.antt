@@ -13,4 +13,4 @@ pub returns-clause-missing : goal.returns-clause-missing
 returns-clause-missing c = λ no bare it.
     let named = subst (λ n. table_named c.args.schema.now n ≡ Some c.in-Some.at) c.as_slice.ensures (sym c.in-Some.ensures) in
     let first = stands_first c.args.schema.now c.args.table.now c.in-Some-get.named.now c.in-Some.at named (sym c.in-Some-get.ensures.value) it in
-    c.is_first.ensures.differs no bare first.0 first.1 first.2
+    c.is_first.ensures.missing no bare first.0 first.1 first.2
