@@ -16,6 +16,7 @@ use Rattle.sqlite_resolve.specs.Compile.{first, new_rows, is_reserved}
 use Rattle.sqlite.specs.Source.TheVariants.{Values}
 use Rattle.sqlite_resolve.specs.Expr.{combine}
 use Rattle.sqlite_resolve.specs.Select.{named, paging}
+use Rattle.sql_front.specs.Bare.{IsBareTable}
 use Rattle.sql_front.proofs.Texts.{Reads}
 use Rattle.sql_front.proofs.Write.{Adds, Makes}
 
@@ -45,6 +46,12 @@ module_table tree = record (desk_table tree) {
   uniques = (2 ∷ 3 ∷ 4 ∷ []) ∷ [];
   orders = plain ∷ [];
 }
+
+pub desk_is_bare : (tree : ℕ) → IsBareTable (desk_table tree)
+desk_is_bare tree = record { checks = refl; references = refl; computed = refl; stamps = refl; uncounted = refl; defaults = (refl, (refl, (refl, (refl, tt)))) }
+
+pub modules_are_bare : (tree : ℕ) → IsBareTable (module_table tree)
+modules_are_bare tree = record { checks = refl; references = refl; computed = refl; stamps = refl; uncounted = refl; defaults = (refl, (refl, (refl, (refl, tt)))) }
 
 abbrev is_equal : Term → Term → Term
 is_equal = op2 (Compare Eq Binary)

@@ -1,10 +1,10 @@
 -- A table that is found by its name and by its tree stands there.
-use Rattle.std.proofs.Common.{◌≡◌, refl, sym, ap, subst, ◌∙◌, ℕ, ◌^◌, ◌<◌, ◌==◌, Bool, true, false, cond, List, [], ◌∷◌, Option, Some, None, slice_get, find}
-use Rattle.std.proofs.lemmas.Bool.{eqb-true, lt-leb}
+use Rattle.std.proofs.Common.{◌≡◌, refl, sym, ap, subst, ◌∙◌, ℕ, ◌^◌, ◌<◌, ◌==◌, Bool, true, false, cond, List, [], ◌∷◌, Some, slice_get, find}
+use Rattle.std.proofs.lemmas.Bool.{eqb-true, lt-leb, leb-false}
 use Rattle.sqlite_schema.specs.declared.schema.Table.{Table}
 use Rattle.sqlite_schema.specs.declared.schema.Schema.{Schema}
 use Rattle.sqlite_schema.specs.Names.{table_named}
-use Rattle.sql_front.specs.Found.{StandsSomewhere}
+use Rattle.sql_front.specs.Found.{StandsSomewhere, HasFirst}
 
 find_meets : {X : Type 0} (test : X → Bool) (x : X) (xs : List X) → find test xs ≡ Some x → test x ≡ true
 find_meets test x [] h = absurd cc
@@ -28,3 +28,16 @@ stands_by s table named first at name got found one other low =
         stored = lt-leb (2 ^ 31) named.tree low;
       };
     }
+
+same_some : {X : Type 0} (x y : X) → Some x ≡ Some y → x ≡ y
+same_some x y h = cc
+
+-- what stands is where its name is found, and is the first of its tree
+pub stands_first : (s : Schema) (table named : Table) (at : ℕ) → table_named s table.name ≡ Some at → slice_get s.tables at ≡ Some named → StandsSomewhere s table
+    → (named ≡ record table { tree = named.tree }) × (named.tree < 2 ^ 31) × HasFirst s named table
+stands_first s table named at name got it =
+    let there : Table = record table { tree = it.tree } in
+    let place : it.at ≡ at = same_some it.at at (sym it.stands.named ∙ name) in
+    let same : there ≡ named = same_some there named (sym it.stands.got ∙ ap (slice_get s.tables) place ∙ got) in
+    let low : it.tree < 2 ^ 31 = leb-false (2 ^ 31) it.tree it.stands.stored in
+    subst (λ n. (n ≡ record table { tree = n.tree }) × (n.tree < 2 ^ 31) × HasFirst s n table) same (refl, low, (there, it.stands.found, refl))

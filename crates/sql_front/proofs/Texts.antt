@@ -1,5 +1,5 @@
 -- A text's meaning under any schema that has its table, from its meaning over that table alone.
-use Rattle.std.proofs.Common.{◌≡◌, refl, sym, subst, ◌∙◌, ℕ, ◌^◌, nat_le, ◌==◌, true, false, ◌&&◌, Ok, List, [], ◌∷◌, Some, None, slice_get, find}
+use Rattle.std.proofs.Common.{◌≡◌, refl, sym, subst, ◌∙◌, ℕ, true, ◌&&◌, Ok, List, [], ◌∷◌, Some, None}
 use Rattle.sqlite_sql.specs.Query.{Query, inner, end}
 use Rattle.sqlite_sql.specs.Term.{Term}
 use Rattle.sqlite_ast.specs.declared.Select as written_select

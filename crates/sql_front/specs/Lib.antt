@@ -1,3 +1,4 @@
 pub mod Stands
 pub mod Free
+pub mod Bare
 pub mod Found

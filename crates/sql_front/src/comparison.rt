@@ -1,7 +1,8 @@
 //! Whether two tables are the same but for their trees.
 
-ghost use Rattle.std.specs.Prelude.{◌≡◌, [], IsTrue, false};
+ghost use Rattle.std.specs.Prelude.{◌≡◌, ◌≢◌, [], IsTrue, false};
 ghost use Rattle.sqlite_value.specs.declared.value.Value.TheVariants.{Null};
+ghost use Rattle.sql_front.specs.Bare.{IsBareTable, HaveNullDefaults};
 
 use sqlite_items::Items;
 use sqlite_schema::code::Terms;
@@ -9,9 +10,11 @@ use sqlite_schema::schema::{Column, Table};
 use sqlite_value::keys::Order;
 use sqlite_value::value::Value;
 
-/// Whether the tables are the same but for their trees. Tables with CHECK, foreign keys, or a default other than NULL are never taken for the same.
+/// Whether the tables are the same but for their trees. Only bare tables are taken for the same.
 pub fn same_table(a: &Table, b: &Table) -> bool
-    ensures { IsTrue result → a.now ≡ record b.now { tree = a.now.tree } }
+    ensures same { IsTrue result → a.now ≡ record b.now { tree = a.now.tree } }
+    ensures bare { IsTrue result → IsBareTable b.now }
+    ensures differs { result ≡ false → IsBareTable b.now → a.now ≢ record b.now { tree = a.now.tree } }
 {
     same_columns(a.columns.as_slice(), b.columns.as_slice())
         && a.name.as_slice() == b.name.as_slice()
@@ -26,6 +29,8 @@ fn same_keys(a: &Table, b: &Table) -> bool
     ensures primary { IsTrue result → a.now.primary ≡ b.now.primary }
     ensures uniques { IsTrue result → a.now.uniques ≡ b.now.uniques }
     ensures orders { IsTrue result → a.now.orders ≡ b.now.orders }
+    ensures differs { result ≡ false → a.now.key ≡ b.now.key → a.now.primary ≡ b.now.primary
+        → a.now.uniques ≡ b.now.uniques → a.now.orders ≢ b.now.orders }
 {
     a.key == b.key
         && same_places(&a.primary, &b.primary)
@@ -40,6 +45,7 @@ fn is_bare(table: &Table) -> bool
     ensures computed { IsTrue result → table.now.computed ≡ [] }
     ensures stamps { IsTrue result → table.now.stamps ≡ record { places = []; terms = []; formats = [] } }
     ensures counted { IsTrue result → table.now.is_counted ≡ false }
+    ensures other { result ≡ false → IsBareTable table.now → ⊥ }
 {
     has_no_terms(&table.checks)
         && table.references.is_empty()
@@ -51,13 +57,16 @@ fn is_bare(table: &Table) -> bool
 }
 
 fn has_no_terms(terms: &Terms) -> bool
-    ensures { IsTrue result → terms.now ≡ [] }
+    ensures none { IsTrue result → terms.now ≡ [] }
+    ensures some { result ≡ false → terms.now ≢ [] }
 {
     terms.roots.is_empty()
 }
 
 fn same_columns(a: &[Column], b: &[Column]) -> bool
-    ensures { IsTrue result → a.now ≡ b.now }
+    ensures same { IsTrue result → a.now ≡ b.now }
+    ensures bare { IsTrue result → HaveNullDefaults b.now }
+    ensures differs { result ≡ false → HaveNullDefaults b.now → a.now ≢ b.now }
 {
     match (a, b) {
         ([], []) => true,
@@ -69,7 +78,9 @@ fn same_columns(a: &[Column], b: &[Column]) -> bool
 }
 
 fn same_column(a: &Column, b: &Column) -> bool
-    ensures { IsTrue result → a.now ≡ b.now }
+    ensures same { IsTrue result → a.now ≡ b.now }
+    ensures bare { IsTrue result → b.now.default ≡ Null }
+    ensures differs { result ≡ false → b.now.default ≡ Null → a.now ≢ b.now }
 {
     a.name.as_slice() == b.name.as_slice()
         && a.kind == b.kind
@@ -81,19 +92,22 @@ fn same_column(a: &Column, b: &Column) -> bool
 }
 
 fn is_null(value: &Value) -> bool
-    ensures { IsTrue result → value.now ≡ Null }
+    ensures null { IsTrue result → value.now ≡ Null }
+    ensures other { result ≡ false → value.now ≢ Null }
 {
     matches!(value, Value::Null)
 }
 
 fn same_places(a: &Items<usize>, b: &Items<usize>) -> bool
-    ensures { IsTrue result → a.now ≡ b.now }
+    ensures same { IsTrue result → a.now ≡ b.now }
+    ensures differs { result ≡ false → a.now ≢ b.now }
 {
     a.as_slice() == b.as_slice()
 }
 
 fn same_lists(a: &[Items<usize>], b: &[Items<usize>]) -> bool
-    ensures { IsTrue result → a.now ≡ b.now }
+    ensures same { IsTrue result → a.now ≡ b.now }
+    ensures differs { result ≡ false → a.now ≢ b.now }
 {
     match (a, b) {
         ([], []) => true,
@@ -105,7 +119,8 @@ fn same_lists(a: &[Items<usize>], b: &[Items<usize>]) -> bool
 }
 
 fn same_orders(a: &[Order], b: &[Order]) -> bool
-    ensures { IsTrue result → a.now ≡ b.now }
+    ensures same { IsTrue result → a.now ≡ b.now }
+    ensures differs { result ≡ false → a.now ≢ b.now }
 {
     match (a, b) {
         ([], []) => true,

@@ -1,9 +1,10 @@
 //! Where a table stands in a schema.
 
-ghost use Rattle.std.specs.Prelude.{◌≡◌, ◌==◌, ◌<◌, ◌^◌, IsTrue};
+ghost use Rattle.std.specs.Prelude.{◌≡◌, ◌==◌, ◌<◌, ◌^◌, IsTrue, false};
 ghost use Rattle.std.specs.List.{find};
 ghost use Rattle.std.specs.Option.{option_copied};
 ghost use Rattle.sqlite_catalog.specs.Change.{is_used};
+ghost use Rattle.sql_front.specs.Bare.{IsBareTable};
 ghost use Rattle.sql_front.specs.Found.{StandsSomewhere, HasFirst};
 
 use crate::comparison::same_table;
@@ -17,9 +18,11 @@ pub fn uses_name(schema: &Schema, name: &str) -> bool
     layout::is_used(schema, name.as_bytes())
 }
 
-/// Whether the schema has this very table, in some tree.
+/// Whether the schema has this very table, in some tree. Only a bare table is found.
 pub fn stands(schema: &Schema, table: &Table) -> bool
-    ensures { IsTrue result → StandsSomewhere schema.now table.now }
+    ensures found { IsTrue result → StandsSomewhere schema.now table.now }
+    ensures bare { IsTrue result → IsBareTable table.now }
+    ensures missing { result ≡ false → IsBareTable table.now → StandsSomewhere schema.now table.now → ⊥ }
 {
     let Some(at) = schema.table_named(table.name.as_slice()) else {
         return false;
@@ -35,6 +38,10 @@ fn is_first(schema: &Schema, named: &Table, table: &Table) -> bool
     ensures same { IsTrue result → named.now ≡ record table.now { tree = named.now.tree } }
     ensures stored { IsTrue result → named.now.tree < 2 ^ 31 }
     ensures first { IsTrue result → HasFirst schema.now named.now table.now }
+    ensures bare { IsTrue result → IsBareTable table.now }
+    ensures missing { result ≡ false → IsBareTable table.now
+        → named.now ≡ record table.now { tree = named.now.tree } → named.now.tree < 2 ^ 31
+        → HasFirst schema.now named.now table.now → ⊥ }
 {
     let Some(first) = first_beside(schema.tables.as_slice(), named) else {
         return false;
