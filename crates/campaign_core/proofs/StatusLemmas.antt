@@ -13,7 +13,7 @@ use Rattle.rollout_machine.specs.Rollouts.{Rollout, rollout_at}
 use Rattle.rollout_machine.specs.StateWords.{RolloutWord, GroupWord, ActionWord, all_final, word_from, group_holding, group_is_started, is_started_in, has_started, TargetWord, Unknown, Pending, InSync, InError, word_by_last, started_actions_of}
 use Rattle.rollout_machine.proofs.Ties.{find_holding}
 use Rattle.rollout_machine.proofs.Whole.{rollout_numbered}
-use Rattle.campaign_core.specs.StatusWords.{approval_seen, is_final, group_word_from, action_word_from, IsRolloutStatus, status_of_group, IsActionStatus, FollowsRollout, FollowsGroup, FollowsAction, last_word, last_outcome, target_word_from, FollowsTarget}
+use Rattle.campaign_core.specs.StatusWords.{approval_seen, is_final, group_word_from, action_word_from, status_of_group, FollowsRollout, FollowsGroup, FollowsAction, last_word, last_outcome, target_word_from, FollowsTarget}
 use Rattle.campaign_core.specs.declared.status_words.RolloutStatus.{RolloutStatus}
 use Rattle.campaign_core.specs.declared.status_words.GroupStatus.{GroupStatus}
 use Rattle.campaign_core.specs.declared.status_words.ActionStatus.{ActionStatus}
