@@ -1,13 +1,18 @@
-//! The rules of a staged rollout as functions: how members are cut into groups, when a group has success or error, and
-//! what an outcome, a resume and a trigger do to a rollout.
+//! The rules of a staged rollout as functions: how members are cut into groups, when a group has success or error, what
+//! an outcome, a resume and a trigger do to a rollout, and the words for the states.
 #![tactic(auto)]
 
 mod effects;
 mod groups;
+mod status_words;
 mod thresholds;
 
 pub use effects::{after_feedback, after_resume, after_trigger};
 pub use groups::{cut_groups, group_bounds};
+pub use status_words::{
+    ActionStatus, ActionWord, Approval, GroupStatus, GroupWord, RolloutStatus, RolloutWord,
+    TargetStatus, TargetWord, action_word, group_word, rollout_word, target_word,
+};
 pub use thresholds::{error_begins, success_holds};
 
 #[cfg(test)]

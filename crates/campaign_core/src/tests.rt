@@ -1,8 +1,9 @@
 //! Runs of small rollouts, worked by hand: ten targets in three groups, of which the first has three members.
 
 use crate::{
-    after_feedback, after_resume, after_trigger, cut_groups, error_begins, group_bounds,
-    success_holds,
+    ActionStatus, Approval, GroupStatus, RolloutStatus, TargetStatus, action_word, after_feedback,
+    after_resume, after_trigger, cut_groups, error_begins, group_bounds, group_word, rollout_word,
+    success_holds, target_word,
 };
 use rollout_machine::{Bounds, Effects, GroupView, Outcome, RolloutView};
 use std::test::Fail;
@@ -85,4 +86,95 @@ fn outcomes(rt: HostRuntime) {
     assert_eq!(rt; after_resume(&first_group(2, 0, 50, 100)), starts);
     assert_eq!(rt; after_resume(&first_group(1, 0, 50, 100)), nothing);
     assert_eq!(rt; after_trigger(&first_group(0, 0, 50, 100)), starts);
+}
+
+fn started_group(ok: u32, bad: u32, gone: u32) -> GroupStatus {
+    GroupStatus {
+        started: true,
+        size: 3,
+        ok,
+        bad,
+        gone,
+        error: 50,
+    }
+}
+
+#[test]
+fn words_of_rollouts(rt: HostRuntime) {
+    let over = started_group(2, 0, 1);
+    let open = started_group(2, 0, 0);
+    for (approval, started, paused, last, word) in [
+        (Approval::Denied, true, true, over, "approval_denied"),
+        (
+            Approval::Waiting,
+            false,
+            false,
+            open,
+            "waiting_for_approval",
+        ),
+        (Approval::Given, false, true, over, "ready"),
+        (Approval::Given, true, true, over, "finished"),
+        (Approval::Given, true, true, open, "paused"),
+        (Approval::Given, true, false, open, "running"),
+    ] {
+        let status = RolloutStatus {
+            approval,
+            started,
+            paused,
+        };
+        assert_eq!(rt; rollout_word(&status, &[over, last]).as_str(), word);
+    }
+}
+
+#[test]
+fn words_of_groups(rt: HostRuntime) {
+    let open = started_group(1, 1, 0);
+    let scheduled = GroupStatus {
+        started: false,
+        ..open
+    };
+    for (rollout_started, group, word) in [
+        (false, open, "ready"),
+        (true, scheduled, "scheduled"),
+        (true, started_group(0, 3, 0), "finished"),
+        (true, started_group(0, 2, 0), "error"),
+        (true, open, "running"),
+    ] {
+        assert_eq!(rt; group_word(rollout_started, &group).as_str(), word);
+    }
+}
+
+#[test]
+fn words_of_actions(rt: HostRuntime) {
+    for (outcome, started, canceling, word) in [
+        (Some(Outcome::Good), true, true, "finished"),
+        (Some(Outcome::Bad), true, false, "error"),
+        (Some(Outcome::Gone), true, true, "canceled"),
+        (None, false, true, "scheduled"),
+        (None, true, true, "canceling"),
+        (None, true, false, "running"),
+    ] {
+        let status = ActionStatus {
+            outcome,
+            started,
+            canceling,
+        };
+        assert_eq!(rt; action_word(&status).as_str(), word);
+    }
+}
+
+#[test]
+fn words_of_targets(rt: HostRuntime) {
+    for (any_open, last, word) in [
+        (false, None, "unknown"),
+        (true, Some(Outcome::Good), "pending"),
+        (false, Some(Outcome::Good), "in_sync"),
+        (false, Some(Outcome::Bad), "error"),
+        (false, Some(Outcome::Gone), "unknown"),
+    ] {
+        assert_eq!(rt;
+            target_word(&TargetStatus { any_open, last }).as_str(),
+            word
+        );
+    }
 }

@@ -1,9 +1,9 @@
 -- The answers of a list without sets.
-use Rattle.std.proofs.Common.{◌≡◌, ◌≢◌, ◌≤◌, ◌<◌, inl, inr, ℕ, suc, ◌+◌, nat_le, Bool, true, false, List, [], ◌∷◌, ◌++◌, length, Option, Some, None, refl, sym, subst, ap, ◌∙◌, arith}
+use Rattle.std.proofs.Common.{◌≡◌, ◌≢◌, ◌≤◌, ◌<◌, inr, ℕ, ◌+◌, nat_le, Bool, true, false, List, [], ◌∷◌, ◌++◌, length, Option, Some, None, refl, sym, subst, ap, ◌∙◌, arith}
 use Rattle.std.proofs.lemmas.Bool.Decides.{nat_tests}
 use Rattle.std.proofs.lemmas.List.{append-nil, length-append}
 use Rattle.std.specs.List.{list_any}
-use Rattle.rollout_machine.specs.Answers.{Answer, answer, if_found, command_reply, query_reply}
+use Rattle.rollout_machine.specs.Answers.{Answer, answer, if_found, command_reply}
 use Rattle.rollout_machine.specs.ByteStrings.{item_numbered}
 use Rattle.rollout_machine.specs.CommandList.{CommandList, ◌▸◌, followed_by}
 use Rattle.rollout_machine.specs.CommandRules.{IsWellFormed}
@@ -16,7 +16,6 @@ use Rattle.rollout_machine.specs.Validity.{IsValid}
 use Rattle.rollout_machine.specs.Verdicts.{verdict, is_named_by_set}
 use Rattle.rollout_machine.proofs.Answering.{query_answer, refused_answer, accepted_answer}
 use Rattle.rollout_machine.proofs.StoreFailures.{answer_never_stores}
-use Rattle.rollout_model.specs.declared.refusal.Refusal.{Refusal}
 use Rattle.rollout_model.specs.declared.refusal.Refusal.TheVariants.{Exists, Quota, NotFound, StoreFailed}
 use Rattle.rollout_model.specs.Rules.{is_number, number_of}
 use Rattle.rollout_program.specs.Lists.{is_same}

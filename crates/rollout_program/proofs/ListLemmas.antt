@@ -1,5 +1,5 @@
 -- What the list of kept commands amounts to.
-use Rattle.std.proofs.Common.{◌≡◌, ◌≤◌, ℕ, suc, ◌+◌, ◌-◌, Bool, ◌||◌, List, [], ◌∷◌, ◌++◌, map, length, Option, refl, sym, ap, ◌∙◌, arith, append_assoc}
+use Rattle.std.proofs.Common.{◌≡◌, ℕ, suc, Bool, ◌||◌, List, [], ◌∷◌, ◌++◌, map, length, Option, refl, sym, ap, ◌∙◌, append_assoc}
 use Rattle.std.specs.Prelude.{slice_get}
 use Rattle.std.specs.List.{list_any}
 use Rattle.std.specs.Option.{option_map}
@@ -7,7 +7,7 @@ use Rattle.std.proofs.lemmas.List.{append-nil, length-map}
 use Rattle.std.proofs.lemmas.Option.{slice_get-map}
 use Rattle.rollout_machine.specs.ByteStrings.{item_numbered}
 use Rattle.rollout_machine.specs.CommandList.{CommandList, Make, ◌▸◌, followed_by}
-use Rattle.rollout_machine.specs.Commands.{ModuleLabel, SetLabel, AddModule}
+use Rattle.rollout_machine.specs.Commands.{ModuleLabel, AddModule}
 use Rattle.rollout_machine.specs.Records.{modules, needs_approval, sets}
 use Rattle.rollout_machine.specs.Views.{command_of}
 use Rattle.rollout_model.specs.declared.request.Command.{Command}

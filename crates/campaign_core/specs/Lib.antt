@@ -1,0 +1,2 @@
+pub mod StatusTexts
+pub mod StatusWords
