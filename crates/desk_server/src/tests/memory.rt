@@ -58,7 +58,7 @@ fn first_reply(output: &[u8]) -> Option<&'static [u8]> {
 fn left_by(before: Left, output: &[u8]) -> Option<(Left, usize)> {
     let mut left = before;
     let mut rest = output;
-    let mut count = 0;
+    let mut count: usize = 0;
     for _ in 0..2 {
         if rest.is_empty() {
             break;
@@ -66,7 +66,7 @@ fn left_by(before: Left, output: &[u8]) -> Option<(Left, usize)> {
         let reply = first_reply(rest)?;
         left = left_by_one(left, reply)?;
         rest = rest.strip_prefix(reply)?;
-        count += 1;
+        count = count.saturating_add(1);
     }
     if rest.is_empty() {
         Some((left, count))
