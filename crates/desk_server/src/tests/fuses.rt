@@ -65,7 +65,7 @@ fn shown(alloc: Global, number: ModuleNo, version: &str) -> Result<Reply, Fail> 
 /// How many modules a desk has: the first of those that the posts add, and no other.
 fn kept<S: Alter + Drop>(alloc: Global, opened: Result<Desk<S>, OpenFault>) -> Result<usize, Fail> {
     let mut desk = opened?;
-    let mut count = 0;
+    let mut count: usize = 0;
     let mut ended = false;
     for (number, version) in MODULES {
         let number = ModuleNo::new(number).ok_or("no number")?;
@@ -73,7 +73,7 @@ fn kept<S: Alter + Drop>(alloc: Global, opened: Result<Desk<S>, OpenFault>) -> R
         if reply == Reply::Refused(Refusal::NotFound) {
             ended = true;
         } else if !ended && reply == shown(alloc, number, version)? {
-            count += 1;
+            count = count.saturating_add(1);
         } else {
             Err("another module")?;
         }
@@ -85,13 +85,13 @@ fn kept<S: Alter + Drop>(alloc: Global, opened: Result<Desk<S>, OpenFault>) -> R
 /// was written.
 fn acknowledged(output: &[u8]) -> Option<(usize, bool)> {
     let mut rest = output;
-    let mut count = 0;
+    let mut count: usize = 0;
     for reply in REPLIES {
         let Some(after) = rest.strip_prefix(reply) else {
             break;
         };
         rest = after;
-        count += 1;
+        count = count.saturating_add(1);
     }
     if rest.is_empty() {
         Some((count, false))
@@ -129,7 +129,7 @@ fn ending(ran: &Ran) -> Option<Ending> {
 fn may_keep(ending: Ending, kept: usize) -> bool {
     match ending {
         Ending::Unopened => false,
-        Ending::Failed(count) => kept == count || kept == count + 1,
+        Ending::Failed(count) => kept == count || kept == count.saturating_add(1),
         Ending::Done => kept == POSTS.len(),
     }
 }

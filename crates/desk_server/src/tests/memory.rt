@@ -2,7 +2,7 @@
 //! their own that they can't do without, and fail only where an answer changes in place of the error.
 
 use super::carried::WORDS;
-use super::messages::{ADD, ADDED, EXISTS, NO_MEMORY};
+use super::messages::{ADD, ADDED, EXISTS, NO_MEMORY, STOPPED, STORE_FAILED};
 use crate::{Order, carry_out, read_order};
 use clap::error::ErrorKind;
 use http_wire::Watched;
@@ -21,52 +21,74 @@ enum Left {
     Added,
     /// It was added, or nothing was: no reply says which.
     InDoubt,
+    /// The desk refuses everything, since memory was wanting where it had to commit or to give up.
+    Stopped,
 }
 
-/// What two equal posts have left, by the replies to them: each adds the module, finds it there or says that memory is wanting. None
-/// where anything else was written.
-fn left_by(before: Left, output: &[u8]) -> Option<Left> {
-    let mut left = before;
-    let mut rest = output;
-    for _ in 0..2 {
-        if let Some(after) = rest.strip_prefix(NO_MEMORY) {
-            rest = after;
-        } else if let Some(after) = rest.strip_prefix(ADDED) {
-            if left == Left::Added {
-                return None;
-            }
-            left = Left::Added;
-            rest = after;
-        } else if let Some(after) = rest.strip_prefix(EXISTS) {
-            if left == Left::Nothing {
-                return None;
-            }
-            left = Left::Added;
-            rest = after;
+/// What one reply to a post leaves: it adds the module, finds it there or says that memory is wanting. None where it is any other.
+fn left_by_one(before: Left, reply: &[u8]) -> Option<Left> {
+    let may_be_there = before == Left::Added || before == Left::InDoubt;
+    let may_be_missing = before == Left::Nothing || before == Left::InDoubt;
+    if before == Left::Stopped {
+        if reply == STOPPED { Some(before) } else { None }
+    } else if reply == NO_MEMORY {
+        Some(before)
+    } else if reply == STORE_FAILED {
+        Some(Left::Stopped)
+    } else if reply == ADDED && may_be_missing || reply == EXISTS && may_be_there {
+        Some(Left::Added)
+    } else {
+        None
+    }
+}
+
+const REPLIES: [&[u8]; 5] = [ADDED, EXISTS, NO_MEMORY, STORE_FAILED, STOPPED];
+
+/// The first reply of these bytes.
+fn first_reply(output: &[u8]) -> Option<&'static [u8]> {
+    for reply in REPLIES {
+        if output.starts_with(reply) {
+            return Some(reply);
         }
     }
-    if rest.is_empty() { Some(left) } else { None }
+    None
 }
 
-/// How many replies these bytes hold at most.
-fn replies_in(output: &[u8]) -> usize {
-    output
-        .windows(9)
-        .filter(|bytes| *bytes == b"HTTP/1.1 ".as_slice())
-        .count()
+/// What two equal posts leave, by the replies to them, and how many replies there are. None where anything else was written.
+fn left_by(before: Left, output: &[u8]) -> Option<(Left, usize)> {
+    let mut left = before;
+    let mut rest = output;
+    let mut count: usize = 0;
+    for _ in 0..2 {
+        if rest.is_empty() {
+            break;
+        }
+        let reply = first_reply(rest)?;
+        left = left_by_one(left, reply)?;
+        rest = rest.strip_prefix(reply)?;
+        count = count.saturating_add(1);
+    }
+    if rest.is_empty() {
+        Some((left, count))
+    } else {
+        None
+    }
 }
 
 /// What a run has left that answered and wrote this. None where it wrote or answered anything else than it may.
 fn left_after(before: Left, status: u8, output: &[u8], errors: &[u8]) -> Option<Left> {
-    let left = left_by(before, output)?;
-    if status == 0 && errors.is_empty() && replies_in(output) == 2 {
+    let (left, count) = left_by(before, output)?;
+    let has_failed = output.ends_with(STORE_FAILED);
+    if status == 0 && errors.is_empty() && count == 2 && !has_failed {
         Some(left)
-    } else if status == 1 && errors == b"fault 4 memory\n".as_slice() {
-        if left == Left::Nothing {
-            Some(Left::InDoubt)
+    } else if status == 1 && errors == b"fault 3 store\n".as_slice() && has_failed {
+        Some(left)
+    } else if status == 1 && errors == b"fault 4 memory\n".as_slice() && !has_failed {
+        Some(if left == Left::Nothing {
+            Left::InDoubt
         } else {
-            Some(left)
-        }
+            left
+        })
     } else {
         None
     }
@@ -120,5 +142,5 @@ fn answers_or_says_that_memory_is_wanting(rt: HostRuntime) {
         return;
     };
     let second = left_by_run(alloc, &order, &mut desk, first);
-    assert_eq!(rt; second, Some(Left::Added));
+    assert!(rt; second == Some(Left::Added) || second == Some(Left::Stopped));
 }

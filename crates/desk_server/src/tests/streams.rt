@@ -34,44 +34,33 @@ impl<'a> Read for OneByOne<'a> {
     }
 }
 
-/// The replies to the whole messages in so many bytes of two equal ones.
-fn replies_by(count: usize) -> [&'static [u8]; 2] {
-    if count < ADD.len() {
-        [b"", b""]
-    } else if count - ADD.len() < ADD.len() {
-        [ADDED, b""]
-    } else {
-        [ADDED, EXISTS]
-    }
-}
-
-/// How a stream of so many bytes of two equal messages ends.
-fn served_by(count: usize) -> Served {
-    let answered = if count < ADD.len() {
-        0
-    } else if count - ADD.len() < ADD.len() {
-        1
-    } else {
-        2
+/// How a stream of so many bytes of two equal messages ends, and the replies to its whole messages.
+fn end_after(count: usize) -> (Served, [&'static [u8]; 2]) {
+    let (answered, left, replies) = match count.checked_sub(ADD.len()) {
+        None => (0, count, [b"".as_slice(), b"".as_slice()]),
+        Some(more) => match more.checked_sub(ADD.len()) {
+            None => (1, more, [ADDED, b"".as_slice()]),
+            Some(rest) => (2, rest, [ADDED, EXISTS]),
+        },
     };
-    let is_whole = count == 0 || count == ADD.len() || count == 2 * ADD.len();
-    let end = if is_whole { End::Input } else { End::Cut };
-    Served { answered, end }
+    let end = if left == 0 { End::Input } else { End::Cut };
+    (Served { answered, end }, replies)
 }
 
 #[test]
 fn answers_each_whole_message_of_a_stream_that_ends_early(rt: HostRuntime) -> Result<(), Fail> {
     let alloc = rt.alloc();
     let input = joined(alloc, &[ADD, ADD])?;
-    for count in 0..input.len() + 1 {
+    for count in 0..=input.len() {
         let mut desk = Shelf::new(alloc);
         let reader = OneByOne {
             left: &input[..count],
             fails: false,
         };
         let Exchange { served, output } = exchange(alloc, &mut desk, reader);
-        assert_eq!(rt; served, Ok(served_by(count)), "after {count}");
-        assert_eq!(rt; output, joined(alloc, &replies_by(count))?, "after {count}");
+        let (want, replies) = end_after(count);
+        assert_eq!(rt; served, Ok(want), "after {count}");
+        assert_eq!(rt; output, joined(alloc, &replies)?, "after {count}");
     }
     Ok(())
 }
@@ -80,7 +69,7 @@ fn answers_each_whole_message_of_a_stream_that_ends_early(rt: HostRuntime) -> Re
 fn leaves_the_replies_before_a_failed_read(rt: HostRuntime) -> Result<(), Fail> {
     let alloc = rt.alloc();
     let input = joined(alloc, &[ADD, ADD])?;
-    for count in 0..input.len() + 1 {
+    for count in 0..=input.len() {
         let mut desk = Shelf::new(alloc);
         let mut reader = Watched::new(OneByOne {
             left: &input[..count],
@@ -99,7 +88,11 @@ fn leaves_the_replies_before_a_failed_read(rt: HostRuntime) -> Result<(), Fail> 
         };
         assert_eq!(rt; served, Err(ServeFault::Read), "after {count}");
         assert!(rt; reader.failed());
-        assert_eq!(rt; output, joined(alloc, &replies_by(count))?, "after {count}");
+        assert_eq!(rt;
+            output,
+            joined(alloc, &end_after(count).1)?,
+            "after {count}"
+        );
     }
     Ok(())
 }
@@ -156,8 +149,8 @@ impl<'a> Read for InStep<'a> {
         let due = match self.given {
             0 => 0,
             1 => ADDED.len(),
-            2 => ADDED.len() + EXISTS.len(),
-            _ => ADDED.len() + 2 * EXISTS.len(),
+            2 => ADDED.len().saturating_add(EXISTS.len()),
+            _ => ADDED.len().saturating_add(EXISTS.len().saturating_mul(2)),
         };
         if self.flushed.get() != due || buf.len() < ADD.len() {
             return Err(io::Error::from(io::ErrorKind::BrokenPipe));
