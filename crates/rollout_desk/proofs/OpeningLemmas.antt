@@ -1,5 +1,14 @@
 -- From a connection that was opened to a desk over it.
-use Rattle.std.proofs.Common.{Bool, false, Ok, refl, sym, subst}
+use Rattle.std.proofs.Common.{◌≡◌, Bool, false, Ok, Err, Result, IfOk, IfErr, IsTrue, refl, sym, subst}
+use Rattle.sqlite_disk.specs.declared.Disk as disk
+use Rattle.sqlite_disk.specs.declared.Files.{Files}
+use Rattle.sqlite.specs.Tree.{Trees}
+use Rattle.sqlite.specs.WalReads.{AreClean}
+use Rattle.sqlite.specs.Closing.{IsCopied}
+use Rattle.sqlite.specs.Files.{IsClosed, file_state}
+use Rattle.sqlite.specs.FileStore.{recovers}
+use Rattle.sqlite.specs.Held.{Held}
+use Rattle.sqlite_store.specs.declared.store.FileStore.{FileStore}
 use Rattle.sqlite.specs.Steps.{IsEmpty}
 use Rattle.sql_front.specs.Free.{LeavesFree}
 use Rattle.sql_calls.specs.Standing.{HoldIn, IsAtRest}
@@ -15,17 +24,38 @@ use Rattle.rollout_machine.specs.CommandList.{CommandList, Make}
 use Rattle.rollout_machine.specs.Records.{records}
 use Rattle.rollout_machine.specs.Standing.{StandsFor}
 use Rattle.rollout_machine.specs.Validity.{IsValid}
-use Rattle.rollout_desk.specs.Desks.{desk_state_at}
-use Rattle.rollout_desk.specs.Openings.{ReopensDesk}
+use Rattle.rollout_desk.specs.Desks.{desk_state_at, HoldsList as HoldsTrees}
+use Rattle.rollout_desk.specs.Openings.{ReopensDesk, GivesBack}
 
 stands : (s : State) (h : CommandList) → IsValid h → Rests HoldsRecords s (records h) → HasCleanDisk s → StandsFor (desk_state_at HoldsRecords false s) h
 stands s h valid rests clean = record { runs = refl; valid = valid; shows = rests clean; crash = λ db left. (valid, (rests clean).crash db left) }
 
 pub reopened_desk : (image : Image) (approval : Bool) (s : State) → Reopens image s approval → ReopensDesk image (desk_state_at HoldsRecords false s) approval
 reopened_desk image approval s h = record {
-  holds = λ db list held it clean. stands s list it.0 (h.holds db (records list) held it.1) clean;
-  makes = λ db held none clean. stands s (Make approval) tt (h.makes db held none) clean;
+  finds = h.finds;
+  holds = λ db list held it clean. stands s list it.0 (h.holds (records list) (db, held, it.1)) clean;
+  makes = λ none clean. stands s (Make approval) tt (h.makes none) clean;
 }
+
+-- ---- the files that a desk gives back
+
+kept_list : (s : State) (stopped : Bool) → IsTrue s.is_open → (h : CommandList) → StandsFor (desk_state_at HoldsRecords stopped s) h → HoldsTrees HoldsRecords s.committed.trees h
+kept_list s stopped is_open h st = (st.valid, (s.committed.schema, st.shows.kept_holds is_open))
+
+module _ {D : Type 0} {g : disk.Ghosts D} (given old : Held (FileStore D g)) (same : given ≡ old) (stopped : Bool) where
+  pub gives_back : {E : Type 0} (out : Result (Files D) E) → IfOk out (λ files. AreClean g files.log files.db → IsCopied given files)
+      → IfOk out (λ files. AreClean g files.log files.db → GivesBack g (desk_state_at HoldsRecords stopped (file_state old)) files)
+  gives_back (Err e) h = tt
+  gives_back (Ok files) h = λ clean.
+      let it = subst (λ c. IsCopied c files) same (h clean) in
+      let s = file_state old in
+      let held = kept_list s stopped it.was_open in
+      record { seen = λ list st. (s.committed.trees, it.seen, held list st); left = λ list st image out. (s.committed.trees, it.left image out, held list st) }
+
+  pub gives_store : {A E : Type 0} (out : Result A (E × FileStore D g)) (Other : E × FileStore D g → Type 0) → IfErr out (λ e. IsClosed given e.1 × Other e)
+      → IfErr out (λ e. (db : Trees) → recovers e.1 db → (file_state old).may_leave db)
+  gives_store (Ok files) Other h = tt
+  gives_store (Err e) Other h = λ db left. (subst (λ c. IsClosed c e.1) same h.0).quiet.outcomes db left
 
 -- ---- in memory
 
@@ -42,5 +72,5 @@ empty_at_rest s settled e =
       crash = λ db left. subst (λ t. HoldIn HoldsStage t Free) (sym (settled db opens.is_open left)) (s.committed.schema, kept);
     }
 
-pub made_desk : {A E : Type 0} (old new : State) (approval : Bool) (x : A) → IsSettled old → IsEmpty old → OpensDesk {E = E} old new approval (Ok x) → HasCleanDisk new → StandsFor (desk_state_at HoldsRecords false new) (Make approval)
+pub made_desk : {A : Type 0} (old new : State) (approval : Bool) (x : A) → IsSettled old → IsEmpty old → OpensDesk old new approval (Ok x) → HasCleanDisk new → StandsFor (desk_state_at HoldsRecords false new) (Make approval)
 made_desk old new approval x settled e h clean = stands new (Make approval) tt (h.makes (λ _. e.0.is_open) (λ _. empty_at_rest old settled e)) clean

@@ -1,13 +1,17 @@
 //! A desk over files.
 
-ghost use Rattle.std.specs.Prelude.{IsTrue, IfOk};
+ghost use Rattle.std.specs.Prelude.{◌≡◌, ◌⊎◌, IsTrue, IfOk, IfErr};
 ghost use Rattle.sqlite.specs.Files.{image_of, over_files};
+ghost use Rattle.sqlite.specs.FileStore.{recovers};
 ghost use Rattle.sqlite.specs.Steps.{over_memory};
-ghost use Rattle.sqlite.specs.WalFiles.{image_at};
+ghost use Rattle.sqlite.specs.WalReads.{AreClean};
+ghost use Rattle.sqlite.specs.WalFiles.{image_at, outcomes};
 ghost use Rattle.rollout_machine.specs.CommandList.{Make};
 ghost use Rattle.rollout_machine.specs.Standing.{StandsFor};
+ghost use Rattle.desk_opening.specs.Opening.{IsFailure};
+ghost use Rattle.desk_opening.specs.Reopening.{IsSpared, IsRefused};
 ghost use Rattle.rollout_desk.specs.DeskStates.{desk_state};
-ghost use Rattle.rollout_desk.specs.Openings.{ReopensDesk};
+ghost use Rattle.rollout_desk.specs.Openings.{ReopensDesk, GivesBack};
 
 use crate::desk::Desk;
 use desk_opening::{OpenFault, open_desk, reopen_files, reopen_path};
@@ -27,6 +31,7 @@ impl<D: Disk + Drop> Desk<FileStore<D>> {
         requires log { IsTrue (D.Disk.is_usable files.log) }
         requires db { IsTrue (D.Disk.is_usable files.db) }
         ensures reopened { IfOk result (λ desk. ReopensDesk (image_of D.Disk files) (desk_state over_files desk) approval_if_new) }
+        ensures refused { IfErr result (λ e. IsSpared D.Disk (outcomes D.Disk files.log files.db) e ⊎ IsRefused D.Disk (image_of D.Disk files) approval_if_new e) }
     {
         let conn = reopen_files(alloc, files, options, approval_if_new)?;
         let store = DeskStore::new(alloc, conn);
@@ -37,9 +42,12 @@ impl<D: Disk + Drop> Desk<FileStore<D>> {
         })
     }
 
-    /// Gives the files back, with all that was committed in the database file. Commits nothing.
+    /// Gives the files back, with all that was committed in the database file. Commits nothing. Where that fails it gives the
+    /// store back, of which a crash leaves no more than before.
     pub fn into_files(self) -> Result<Files<D>, (Error, FileStore<D>)>
         ensures usable { IfOk result (λ files. IsTrue (D.Disk.is_usable files.log) × IsTrue (D.Disk.is_usable files.db)) }
+        ensures given { IfOk result (λ files. AreClean D.Disk files.log files.db → GivesBack D.Disk (desk_state over_files self) files) }
+        ensures kept { IfErr result (λ e. (db : _) → recovers e.1 db → (desk_state over_files self).may_leave db) }
     {
         let Desk { store, .. } = self;
         store.into_connection().close_files()
@@ -55,6 +63,8 @@ impl<S: Start> Desk<FileStore<FileFrom<S>>> {
         approval_if_new: bool,
     ) -> Result<Desk<FileStore<FileFrom<S>>>, OpenFault>
         ensures reopened { IfOk result (λ desk. ReopensDesk (image_at S.Start) (desk_state over_files desk) approval_if_new) }
+        ensures refused { IfErr result (λ e. IsFailure e ⊎ (IsSpared ⟦<FileFrom<S> as Disk>⟧ (λ left. left ≡ image_at S.Start) e
+            ⊎ IsRefused ⟦<FileFrom<S> as Disk>⟧ (image_at S.Start) approval_if_new e)) }
     {
         let alloc = rt.alloc();
         let conn = reopen_path(rt, path, start, approval_if_new)?;
