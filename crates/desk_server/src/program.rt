@@ -1,12 +1,12 @@
 //! What the program does with an order.
 
-ghost use Rattle.std.specs.Prelude.{◌≡◌, ◌++◌, ℕ, List, [], Result, IfErr, OnOk};
+ghost use Rattle.std.specs.Prelude.{◌≡◌, ◌++◌, ℕ, List, [], Result, IfErr, IfOk, IsOkAnd};
 ghost use Rattle.std.specs.Io.KnownBytes.{Appends, Consumes};
 ghost use Rattle.http_wire.specs.Watched.{inner_of, has_failed};
 ghost use Rattle.desk_server.specs.declared.served.Served.{Served as Outcome};
 ghost use Rattle.desk_server.specs.declared.served.ServeFault.{ServeFault as Fault};
 ghost use Rattle.desk_server.specs.Headline.{FailsBy};
-ghost use Rattle.desk_server.specs.Program.{fault_line, open_line, status_of, Tells, Reports};
+ghost use Rattle.desk_server.specs.Program.{fault_line, open_line, status_of, Tells, Reports, interface_named, CarriesOut};
 ghost use Rattle.desk_server.specs.Parts.{ServesStream};
 
 use crate::handler::Handler;
@@ -82,32 +82,39 @@ fn run<R: Read, W: Write, E: Write, D: Handler>(
     }
 }
 
-/// Carries an order out, and answers the exit status. `file` is an import's bytes, or None where they can't be read: no order takes
-/// a file yet.
+/// The interface that an order serves.
+fn interface_named(order: &Order<'_>) -> Interface
+    ensures { result ≡ interface_named order.now }
+{
+    match order {
+        Order::Run { interface, .. } => *interface,
+    }
+}
+
+/// Carries an order out over the desk, or tells why there is none, and answers the exit status. `file` is an import's bytes, or None
+/// where they can't be read: no order takes a file yet.
 pub fn carry_out<R: Read, W: Write, E: Write, S: Alter>(
     alloc: Global,
     order: &Order<'_>,
-    desk: Result<&mut Desk<S>, OpenFault>,
+    desk: &mut Result<Desk<S>, OpenFault>,
     _file: Option<&[u8]>,
     input: &mut Watched<R>,
     output: &mut Watched<W>,
     errors: &mut Watched<E>,
 ) -> u8
-    ensures unopened { IfErr desk.entry (λ fault. (result ≡ 1) × Consumes (R.remaining (inner_of input.old)) (R.remaining (inner_of input.new)) []
+    ensures unopened { IfErr desk.old (λ fault. (result ≡ 1) × Consumes (R.remaining (inner_of input.old)) (R.remaining (inner_of input.new)) []
         × Appends (W.contents (inner_of output.old)) (W.contents (inner_of output.new)) []
         × Tells (E.contents (inner_of errors.old)) (E.contents (inner_of errors.new)) (open_line fault)) }
-    ensures ran { OnOk desk.entry ((outcome : Result Outcome Fault) × (result ≡ status_of outcome)
-        × Reports (E.contents (inner_of errors.old)) (E.contents (inner_of errors.new)) outcome
-        × FailsBy outcome ServeFault.Read (has_failed input.old) (has_failed input.new)
-        × FailsBy outcome ServeFault.Write (has_failed output.old) (has_failed output.new)) }
+    ensures carries_out { IfOk desk.old (λ before. IsOkAnd desk.new (λ after. CarriesOut S.Store order.now before after
+        (R.remaining (inner_of input.old)) (R.remaining (inner_of input.new)) (W.contents (inner_of output.old)) (W.contents (inner_of output.new))
+        (E.contents (inner_of errors.old)) (E.contents (inner_of errors.new))
+        (has_failed input.old) (has_failed input.new) (has_failed output.old) (has_failed output.new) result)) }
 {
     match desk {
         Err(fault) => {
-            tell(errors, open_line(fault));
+            tell(errors, open_line(*fault));
             FAILED
         }
-        Ok(desk) => match order {
-            Order::Run { interface, .. } => run(alloc, desk, *interface, input, output, errors),
-        },
+        Ok(desk) => run(alloc, desk, interface_named(order), input, output, errors),
     }
 }

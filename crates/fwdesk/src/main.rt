@@ -28,15 +28,11 @@ type FileDesk = Desk<FileStore<FileFrom<Unknown>>>;
 /// Opens the order's desk and carries the order out over standard input, output and error.
 fn carry_out_from(rt: &HostRuntime, alloc: Global, order: &Order<'_>) -> u8 {
     let Order::Run { db, approval, .. } = order;
-    let mut opened: Result<FileDesk, OpenFault> = Desk::reopen_path(rt, db, Unknown, *approval);
-    let desk: Result<&mut FileDesk, OpenFault> = match &mut opened {
-        Ok(desk) => Ok(desk),
-        Err(fault) => Err(*fault),
-    };
+    let mut desk: Result<FileDesk, OpenFault> = Desk::reopen_path(rt, db, Unknown, *approval);
     carry_out(
         alloc,
         order,
-        desk,
+        &mut desk,
         None,
         &mut Watched::new(rt.stdin()),
         &mut Watched::new(rt.stdout()),

@@ -26,7 +26,7 @@ pub(super) struct Ran {
 pub(super) fn ran<S: Alter>(
     alloc: Global,
     order: &Order<'_>,
-    desk: Result<&mut Desk<S>, OpenFault>,
+    desk: &mut Result<Desk<S>, OpenFault>,
     input: &[u8],
 ) -> Ran {
     let mut output: Vec<u8> = Vec::new(alloc);
@@ -56,9 +56,9 @@ pub(super) fn ran<S: Alter>(
 fn runs_over_a_desk_in_memory(rt: HostRuntime) -> Result<(), Fail> {
     let alloc = rt.alloc();
     let order = read_order(alloc, WORDS.as_slice())?;
-    let mut desk = Desk::in_memory(alloc, false)?;
+    let mut desk = Desk::in_memory(alloc, false);
     let input = joined(alloc, &[ADD, ADD])?;
-    let ran = ran(alloc, &order, Ok(&mut desk), input.as_slice());
+    let ran = ran(alloc, &order, &mut desk, input.as_slice());
     assert_eq!(rt; ran.status, 0);
     assert_eq!(rt; ran.output, joined(alloc, &[ADDED, EXISTS])?);
     assert_eq!(rt; ran.errors.as_slice(), b"".as_slice());
@@ -98,7 +98,7 @@ fn tells_why_a_desk_is_not_opened(rt: HostRuntime) -> Result<(), Fail> {
     let alloc = rt.alloc();
     let order = read_order(alloc, WORDS.as_slice())?;
     for (fault, line) in UNOPENED {
-        let desk: Result<&mut Desk<MemStore>, OpenFault> = Err(fault);
+        let mut desk: Result<Desk<MemStore>, OpenFault> = Err(fault);
         let mut input = Watched::new(Broken);
         let mut output = Watched::new(Broken);
         let mut told: Vec<u8> = Vec::new(alloc);
@@ -107,7 +107,7 @@ fn tells_why_a_desk_is_not_opened(rt: HostRuntime) -> Result<(), Fail> {
             carry_out(
                 alloc,
                 &order,
-                desk,
+                &mut desk,
                 None,
                 &mut input,
                 &mut output,
@@ -126,13 +126,13 @@ fn tells_why_a_desk_is_not_opened(rt: HostRuntime) -> Result<(), Fail> {
 fn tells_of_a_read_that_fails(rt: HostRuntime) -> Result<(), Fail> {
     let alloc = rt.alloc();
     let order = read_order(alloc, WORDS.as_slice())?;
-    let mut desk = Desk::in_memory(alloc, false)?;
+    let mut desk = Desk::in_memory(alloc, false);
     let mut output: Vec<u8> = Vec::new(alloc);
     let mut told: Vec<u8> = Vec::new(alloc);
     let status = carry_out(
         alloc,
         &order,
-        Ok(&mut desk),
+        &mut desk,
         None,
         &mut Watched::new(ADD.chain(Broken)),
         &mut Watched::new(&mut output),
@@ -148,12 +148,12 @@ fn tells_of_a_read_that_fails(rt: HostRuntime) -> Result<(), Fail> {
 fn tells_of_a_write_that_fails(rt: HostRuntime) -> Result<(), Fail> {
     let alloc = rt.alloc();
     let order = read_order(alloc, WORDS.as_slice())?;
-    let mut desk = Desk::in_memory(alloc, false)?;
+    let mut desk = Desk::in_memory(alloc, false);
     let mut told: Vec<u8> = Vec::new(alloc);
     let status = carry_out(
         alloc,
         &order,
-        Ok(&mut desk),
+        &mut desk,
         None,
         &mut Watched::new(ADD),
         &mut Watched::new(Broken),
@@ -161,7 +161,7 @@ fn tells_of_a_write_that_fails(rt: HostRuntime) -> Result<(), Fail> {
     );
     assert_eq!(rt; status, 1);
     assert_eq!(rt; told.as_slice(), b"fault 2 write\n".as_slice());
-    let again = ran(alloc, &order, Ok(&mut desk), ADD);
+    let again = ran(alloc, &order, &mut desk, ADD);
     assert_eq!(rt; again.status, 0);
     assert_eq!(rt; again.output.as_slice(), EXISTS);
     Ok(())
@@ -171,12 +171,12 @@ fn tells_of_a_write_that_fails(rt: HostRuntime) -> Result<(), Fail> {
 fn answers_its_status_where_nobody_is_told(rt: HostRuntime) -> Result<(), Fail> {
     let alloc = rt.alloc();
     let order = read_order(alloc, WORDS.as_slice())?;
-    let mut desk = Desk::in_memory(alloc, false)?;
+    let mut desk = Desk::in_memory(alloc, false);
     let mut errors = Watched::new(Broken);
     let status = carry_out(
         alloc,
         &order,
-        Ok(&mut desk),
+        &mut desk,
         None,
         &mut Watched::new(Broken),
         &mut Watched::new(Broken),

@@ -42,9 +42,9 @@ fn run_over(
     files: Files<Memory>,
     input: &[u8],
 ) -> Result<(Ran, Files<Memory>), Fail> {
-    let mut desk = opened(alloc, files)?;
-    let ran = ran(alloc, order, Ok(&mut desk), input);
-    let files = desk.into_files().ok().ok_or("not closed")?;
+    let mut desk = opened(alloc, files);
+    let ran = ran(alloc, order, &mut desk, input);
+    let files = desk?.into_files().ok().ok_or("not closed")?;
     Ok((ran, files))
 }
 

@@ -152,31 +152,40 @@ fn keep_enough(
     Ok(may_keep(ending, kept_of_written) && may_keep(ending, kept_of_synced))
 }
 
-/// Runs the posts over a desk. After a failed store it refuses a further one.
-fn run_posts<S: Alter>(alloc: Global, desk: &mut Desk<S>) -> Result<Ending, Fail> {
+/// Runs the posts over an opened desk. After a failed store it refuses a further one.
+fn run_posts<S: Alter>(
+    alloc: Global,
+    opened: &mut Result<Desk<S>, OpenFault>,
+) -> Result<Ending, Fail> {
     let order = read_order(alloc, WORDS.as_slice())?;
     let input = joined(alloc, &POSTS)?;
-    let ran = ran(alloc, &order, Ok(desk), input.as_slice());
+    let ran = ran(alloc, &order, opened, input.as_slice());
     let ending = ending(&ran).ok_or("another answer")?;
-    if ending != Ending::Done && reply_to(alloc, desk, ADD)?.as_slice() != STOPPED {
-        Err("not stopped")?;
+    if ending == Ending::Done {
+        return Ok(ending);
     }
-    Ok(ending)
+    match opened {
+        Ok(desk) => {
+            if reply_to(alloc, desk, ADD)?.as_slice() != STOPPED {
+                Err("not stopped")?;
+            }
+            Ok(ending)
+        }
+        Err(fault) => Err(*fault)?,
+    }
 }
 
 /// How a run of the posts over new files ends, whose disks stop after so many calls.
 fn run_over(alloc: Global, log_calls: u64, db_calls: u64) -> Result<Ending, Fail> {
-    match opened(alloc, fused(alloc, log_calls, db_calls)) {
-        Ok(mut desk) => {
-            let ending = run_posts(alloc, &mut desk)?;
-            if !keep_enough(alloc, left(desk), ending)? {
-                Err("other modules are kept")?;
-            }
-            Ok(ending)
-        }
-        Err(OpenFault::Store) => Ok(Ending::Unopened),
-        Err(fault) => Err(fault)?,
+    let mut desk = opened(alloc, fused(alloc, log_calls, db_calls));
+    if let Err(OpenFault::Store) = &desk {
+        return Ok(Ending::Unopened);
     }
+    let ending = run_posts(alloc, &mut desk)?;
+    if !keep_enough(alloc, left(desk?), ending)? {
+        Err("other modules are kept")?;
+    }
+    Ok(ending)
 }
 
 #[test]

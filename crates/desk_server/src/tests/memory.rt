@@ -98,7 +98,7 @@ fn left_after(before: Left, status: u8, output: &[u8], errors: &[u8]) -> Option<
 fn left_by_run(
     alloc: Global,
     order: &Order<'_>,
-    desk: &mut Desk<MemStore>,
+    desk: &mut Result<Desk<MemStore>, OpenFault>,
     before: Left,
 ) -> Option<Left> {
     let Ok(mut output) = Vec::with_capacity(alloc, ROOM) else {
@@ -110,7 +110,7 @@ fn left_by_run(
     let status = carry_out(
         alloc,
         order,
-        Ok(desk),
+        desk,
         None,
         &mut Watched::new(ADD.chain(ADD)),
         &mut Watched::new(&mut output),
@@ -129,13 +129,11 @@ fn answers_or_says_that_memory_is_wanting(rt: HostRuntime) {
             return;
         }
     };
-    let mut desk = match Desk::in_memory(alloc, false) {
-        Ok(desk) => desk,
-        Err(fault) => {
-            assert_eq!(rt; fault, OpenFault::Memory);
-            return;
-        }
-    };
+    let mut desk = Desk::in_memory(alloc, false);
+    if let Err(fault) = &desk {
+        assert_eq!(rt; *fault, OpenFault::Memory);
+        return;
+    }
     let first = left_by_run(alloc, &order, &mut desk, Left::Nothing);
     assert!(rt; first.is_some());
     let Some(first) = first else {
