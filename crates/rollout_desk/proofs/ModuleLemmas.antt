@@ -1,35 +1,26 @@
--- The calls of a module's command and query, one after the other.
-use Rattle.std.proofs.Common.{◌≡◌, ◌≤◌, ◌<◌, ℕ, ◌+◌, nat_le, Bool, true, false, List, [], ◌∷◌, ◌++◌, length, Option, Some, None, Result, Ok, Err, IsErr, refl, sym, subst, ap, ◌∙◌, arith}
+-- The calls of a module's command, one after the other.
+use Rattle.std.proofs.Common.{◌≡◌, ◌≤◌, ◌<◌, ℕ, ◌+◌, nat_le, Bool, true, false, [], ◌∷◌, ◌++◌, length, Some, None, Result, Ok, Err, IsErr, refl, sym, subst, ap, ◌∙◌, arith}
 use Rattle.std.proofs.lemmas.Bool.Decides.{nat_tests}
 use Rattle.std.proofs.lemmas.List.{length-append}
 use Rattle.std.specs.List.{list_any}
 use Rattle.sqlite.specs.State.{State, HasCleanDisk}
-use Rattle.sql_calls.specs.Standing.{Changes, Reads, Writes}
+use Rattle.sql_calls.specs.Standing.{Reads, Writes}
 use Rattle.sql_calls.proofs.Changes.{spoils}
 use Rattle.desk_records.specs.Holds.{HoldsRecords}
 use Rattle.desk_records.specs.Modules.{is_same, with_module}
-use Rattle.rollout_machine.specs.Answers.{command_reply, query_reply}
-use Rattle.rollout_machine.specs.ByteStrings.{item_numbered}
-use Rattle.rollout_machine.specs.Commands.{ModuleLabel, SetLabel, AddModule}
+use Rattle.rollout_machine.specs.Answers.{command_reply}
+use Rattle.rollout_machine.specs.Commands.{ModuleLabel, AddModule}
 use Rattle.rollout_machine.specs.Records.{Records}
 use Rattle.rollout_machine.specs.RecordSteps.{step_records}
-use Rattle.rollout_machine.specs.Requests.{ShowModule}
 use Rattle.rollout_machine.specs.Verdicts.{is_named_by_set}
 use Rattle.rollout_machine.specs.Views.{reply_of}
-use Rattle.rollout_model.specs.declared.refusal.Refusal.TheVariants.{Exists, Quota, NotFound}
+use Rattle.rollout_model.specs.declared.refusal.Refusal.TheVariants.{Exists, Quota}
 use Rattle.rollout_model.specs.Rules.{is_number, number_of}
-use Rattle.rollout_model.specs.declared.request.Reply.{Reply}
 use Rattle.rollout_model.specs.declared.request.Reply.TheVariants as reply
+use Rattle.desk_views.proofs.SetLemmas.{no_sets, unlocked}
 use Rattle.rollout_desk.specs.Steps.{Steps}
 use Rattle.rollout_desk.specs.declared.step.Step.{Step}
 use Rattle.rollout_desk.specs.declared.step.Step.TheVariants as step
-
--- no set is there yet
-no_sets : (s : State) (now kept : Records) → Changes HoldsRecords s now kept → HasCleanDisk s → now.sets ≡ []
-no_sets s now kept was clean = (was clean).now_holds.bare.sets
-
-unlocked : (sets : List SetLabel) (k : ℕ) → sets ≡ [] → is_named_by_set sets k ≡ false
-unlocked sets k none = ap (λ (s : List SetLabel). is_named_by_set s k) none
 
 -- the module that a command adds is shown with the next number, and isn't locked
 module_added : (r : Records) (label : ModuleLabel) (number : ℕ) → number ≡ length r.modules + 1 → r.sets ≡ [] → reply_of (reply.ModuleAdded (record { number = number; locked = false; label = label })) ≡ command_reply (AddModule label) (step_records r (AddModule label))
@@ -112,31 +103,3 @@ module _ {E F : Type 0} (label : ModuleLabel) (a b : State) where
                     (rw (sym none, at) refl, module_added now label number (size (omega (arith, clean, third.wears))) (no_sets d (with_module now label) kept written clean)),
               );
         })
-
--- ---- the query
-
-abbrev pub IsNumbered : ℕ → Records → Option ModuleLabel → Type 0
-IsNumbered number r found = found ≡ item_numbered r.modules number
-
-abbrev pub Shows : ℕ → Records → Reply → Type 0
-Shows number r answer = reply_of answer ≡ query_reply r (ShowModule number)
-
-module _ {E F : Type 0} (number : ℕ) (a b : State) where
-  pub shown : (label : ModuleLabel) → Reads HoldsRecords {E = E} a b (Ok (Some label)) (IsNumbered number) → Reads HoldsRecords {E = F} a b (Ok (reply.Module (record { number = number; locked = false; label = label }))) (Shows number)
-  shown label h = record {
-    wears = h.wears;
-    reads = λ now kept was. let it = h.reads now kept was in (
-      it.0,
-      λ clean.
-          let is = it.1 clean in
-          let free : false ≡ is_named_by_set now.sets number = sym (unlocked now.sets number (no_sets b now kept it.0 clean)) in
-          rw (sym is) (λ i. reply_of (reply.Module (record { number = number; locked = free i; label = label }))),
-    );
-  }
-
-  pub missing : Reads HoldsRecords {E = E} a b (Ok None) (IsNumbered number) → Reads HoldsRecords {E = F} a b (Ok (reply.Refused NotFound)) (Shows number)
-  missing h = record { wears = h.wears; reads = λ now kept was. let it = h.reads now kept was in (it.0, λ clean. let is = it.1 clean in rw (sym is) refl) }
-
-  pub unread : (e : E) → Reads HoldsRecords {A = Option ModuleLabel} a b (Err e) (IsNumbered number) → (out : Result Reply F) → IsErr out → Reads HoldsRecords a b out (Shows number)
-  unread e h (Ok x) bad = absurd (cc)
-  unread e h (Err f) bad = record { wears = h.wears; reads = h.reads }

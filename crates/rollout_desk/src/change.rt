@@ -10,9 +10,10 @@ ghost use Rattle.rollout_machine.specs.Requests.{Do, Ask, ShowModule};
 ghost use Rattle.rollout_machine.specs.Views.{command_of, query_of, reply_of};
 ghost use Rattle.rollout_desk.specs.Steps.{Steps, Handles, EndsByCommit, EndsByRollback};
 
-use crate::modules::{add_module, show_module};
+use crate::modules::add_module;
 use crate::step::{Step, reply_of_fault};
 use desk_store::{DeskStore, Fault, OpenChange};
+use desk_views::show_module;
 use rollout_machine::command_is_well_formed;
 use rollout_model::{Command, ModuleLabel, ModuleNo, Query, Refusal, Reply};
 use sqlite::Alter;

@@ -1,13 +1,9 @@
-//! Software modules: adding one, and showing one.
+//! Software modules: adding one.
 
 ghost use Rattle.std.specs.Prelude.{◌≡◌};
 ghost use Rattle.sqlite.specs.Held.{state};
-ghost use Rattle.sql_calls.specs.Standing.{Reads};
 ghost use Rattle.desk_records.specs.Holds.{HoldsRecords};
-ghost use Rattle.rollout_machine.specs.Answers.{query_reply};
 ghost use Rattle.rollout_machine.specs.Commands.{AddModule};
-ghost use Rattle.rollout_machine.specs.Requests.{ShowModule};
-ghost use Rattle.rollout_machine.specs.Views.{reply_of};
 ghost use Rattle.rollout_desk.specs.Steps.{Steps};
 
 use crate::step::Step;
@@ -45,23 +41,4 @@ pub(crate) fn add_module<S: Alter>(
         locked: false,
         label: shown,
     })))
-}
-
-/// Shows the module of a number. No set names one yet.
-pub(crate) fn show_module<S: Alter>(
-    change: &mut OpenChange<'_, S>,
-    number: ModuleNo,
-) -> Result<Reply, Fault>
-    ensures same_reference { change.new.store.ghost_name ≡ change.old.store.ghost_name }
-    ensures reads { Reads HoldsRecords (state S.Store change.old.store.now.calls.conn) (state S.Store change.new.store.now.calls.conn) result
-        (λ now reply. reply_of reply ≡ query_reply now (ShowModule number)) }
-{
-    match change.read_module(number)? {
-        Some(label) => Ok(Reply::Module(Module {
-            number,
-            locked: false,
-            label,
-        })),
-        None => Ok(Reply::Refused(Refusal::NotFound)),
-    }
 }

@@ -1,5 +1,5 @@
-use Rattle.rollout_desk.proofs.ModuleLemmas.{shown, missing}
-use Rattle.rollout_desk.proofs.modules.show_module.Goals as goal
+use Rattle.desk_views.proofs.ShowLemmas.{shown, missing}
+use Rattle.desk_views.proofs.modules.show_module.Goals as goal
 
 pub returns-in-Some-clause-reads : goal.returns-in-Some-clause-reads
 returns-in-Some-clause-reads g c = shown _ _ _ _ (rw c.in-Some.is at c.in_ok-label.ensures.reads)
