@@ -23,7 +23,7 @@ pub(super) struct Ran {
 }
 
 /// Carries an order out over an input.
-pub(super) fn ran<S: Alter>(
+pub(super) fn carried<S: Alter>(
     alloc: Global,
     order: &Order<'_>,
     desk: &mut Result<Desk<S>, OpenFault>,
@@ -58,7 +58,7 @@ fn runs_over_a_desk_in_memory(rt: HostRuntime) -> Result<(), Fail> {
     let order = read_order(alloc, WORDS.as_slice())?;
     let mut desk = Desk::in_memory(alloc, false);
     let input = joined(alloc, &[ADD, ADD])?;
-    let ran = ran(alloc, &order, &mut desk, input.as_slice());
+    let ran = carried(alloc, &order, &mut desk, input.as_slice());
     assert_eq!(rt; ran.status, 0);
     assert_eq!(rt; ran.output, joined(alloc, &[ADDED, EXISTS])?);
     assert_eq!(rt; ran.errors.as_slice(), b"".as_slice());
@@ -161,7 +161,7 @@ fn tells_of_a_write_that_fails(rt: HostRuntime) -> Result<(), Fail> {
     );
     assert_eq!(rt; status, 1);
     assert_eq!(rt; told.as_slice(), b"fault 2 write\n".as_slice());
-    let again = ran(alloc, &order, &mut desk, ADD);
+    let again = carried(alloc, &order, &mut desk, ADD);
     assert_eq!(rt; again.status, 0);
     assert_eq!(rt; again.output.as_slice(), EXISTS);
     Ok(())

@@ -23,7 +23,7 @@ pub(super) fn joined(alloc: Global, parts: &[&[u8]]) -> Result<Vec<u8>, AllocErr
 }
 
 /// Serves what a reader gives.
-pub(super) fn exchange<R: Read + Drop, D: Handler>(
+pub(super) fn answer_stream<R: Read + Drop, D: Handler>(
     alloc: Global,
     desk: &mut D,
     reader: R,
@@ -43,7 +43,7 @@ pub(super) fn reply_to<D: Handler>(
     desk: &mut D,
     request: &[u8],
 ) -> Result<Vec<u8>, Fail> {
-    let Exchange { served, output } = exchange(alloc, desk, request);
+    let Exchange { served, output } = answer_stream(alloc, desk, request);
     let _served = served?;
     Ok(output)
 }

@@ -1,6 +1,6 @@
 //! Runs over files: each run opens the desk anew.
 
-use super::carried::{Ran, WORDS, ran};
+use super::carried::{Ran, WORDS, carried};
 use super::messages::{ADD, ADD_NEXT, ADDED, ADDED_NEXT, EXISTS};
 use crate::{Order, read_order};
 use rollout_desk::{Desk, OpenFault};
@@ -43,7 +43,7 @@ fn run_over(
     input: &[u8],
 ) -> Result<(Ran, Files<Memory>), Fail> {
     let mut desk = opened(alloc, files);
-    let ran = ran(alloc, order, &mut desk, input);
+    let ran = carried(alloc, order, &mut desk, input);
     let files = desk?.into_files().ok().ok_or("not closed")?;
     Ok((ran, files))
 }

@@ -1,6 +1,6 @@
 //! A store whose disk stops at each call in turn.
 
-use super::carried::{Ran, WORDS, ran};
+use super::carried::{Ran, WORDS, carried};
 use super::exchange::{joined, reply_to};
 use super::files::opened;
 use super::messages::{
@@ -112,7 +112,7 @@ enum Ending {
 }
 
 /// How a run of the posts ended. None where it answered or wrote anything else than it may.
-fn ending(ran: &Ran) -> Option<Ending> {
+fn ending_of(ran: &Ran) -> Option<Ending> {
     let (count, failed) = acknowledged(ran.output.as_slice())?;
     let status = ran.status;
     let errors = ran.errors.as_slice();
@@ -159,8 +159,8 @@ fn run_posts<S: Alter>(
 ) -> Result<Ending, Fail> {
     let order = read_order(alloc, WORDS.as_slice())?;
     let input = joined(alloc, &POSTS)?;
-    let ran = ran(alloc, &order, opened, input.as_slice());
-    let ending = ending(&ran).ok_or("another answer")?;
+    let ran = carried(alloc, &order, opened, input.as_slice());
+    let ending = ending_of(&ran).ok_or("another answer")?;
     if ending == Ending::Done {
         return Ok(ending);
     }

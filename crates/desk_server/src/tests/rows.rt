@@ -1,6 +1,6 @@
 //! Requests and their replies, to the byte, from a desk in memory.
 
-use super::exchange::{Exchange, exchange, joined, reply_to};
+use super::exchange::{Exchange, answer_stream, joined, reply_to};
 use super::messages::{
     ADD, ADD_LAST, ADD_NEXT, ADDED, ADDED_LAST, ADDED_NEXT, BAD_METHOD, BAD_REQUEST, EXISTS,
     NOT_FOUND,
@@ -14,7 +14,7 @@ fn adds_a_module_once(rt: HostRuntime) -> Result<(), Fail> {
     let alloc = rt.alloc();
     let mut desk = Desk::in_memory(alloc, false)?;
     let input = joined(alloc, &[ADD, ADD])?;
-    let Exchange { served, output } = exchange(alloc, &mut desk, input.as_slice());
+    let Exchange { served, output } = answer_stream(alloc, &mut desk, input.as_slice());
     assert_eq!(rt;
         served,
         Ok(Served {
@@ -31,7 +31,7 @@ fn numbers_modules_in_order(rt: HostRuntime) -> Result<(), Fail> {
     let alloc = rt.alloc();
     let mut desk = Desk::in_memory(alloc, true)?;
     let input = joined(alloc, &[ADD, ADD_NEXT, ADD, ADD_LAST])?;
-    let Exchange { served, output } = exchange(alloc, &mut desk, input.as_slice());
+    let Exchange { served, output } = answer_stream(alloc, &mut desk, input.as_slice());
     assert_eq!(rt;
         served,
         Ok(Served {

@@ -1,6 +1,6 @@
 //! Streams that come in pieces, end early or wait for their replies.
 
-use super::exchange::{Exchange, exchange, joined};
+use super::exchange::{Exchange, answer_stream, joined};
 use super::messages::{ADD, ADDED, EXISTS, TOO_LARGE};
 use super::shelf::Shelf;
 use crate::{End, Interface, ServeFault, Served, serve};
@@ -57,7 +57,7 @@ fn answers_each_whole_message_of_a_stream_that_ends_early(rt: HostRuntime) -> Re
             left: &input[..count],
             fails: false,
         };
-        let Exchange { served, output } = exchange(alloc, &mut desk, reader);
+        let Exchange { served, output } = answer_stream(alloc, &mut desk, reader);
         let (want, replies) = end_after(count);
         assert_eq!(rt; served, Ok(want), "after {count}");
         assert_eq!(rt; output, joined(alloc, &replies)?, "after {count}");
@@ -105,7 +105,7 @@ fn answers_a_body_that_is_too_long_before_it_comes(rt: HostRuntime) -> Result<()
         left: b"POST /rest/v1/softwaremodules HTTP/1.1\r\nContent-Length: 1048577\r\n\r\n",
         fails: true,
     };
-    let Exchange { served, output } = exchange(alloc, &mut desk, reader);
+    let Exchange { served, output } = answer_stream(alloc, &mut desk, reader);
     assert_eq!(rt;
         served,
         Ok(Served {

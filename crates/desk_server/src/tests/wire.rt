@@ -1,6 +1,6 @@
 //! Heads that are no message: what was answered before stays, the fault is answered, and nothing after it.
 
-use super::exchange::{Exchange, exchange, joined};
+use super::exchange::{Exchange, answer_stream, joined};
 use super::messages::{
     ADD, ADDED, BAD_CODING, BAD_HEAD, BAD_LENGTH, BAD_REQUEST, HEAD_TOO_LARGE, TOO_LARGE,
 };
@@ -115,7 +115,7 @@ fn ends_at_a_wrong_head(rt: HostRuntime) -> Result<(), Fail> {
     for (head, fault, reply) in WRONG {
         let mut desk = Shelf::new(alloc);
         let input = joined(alloc, &[ADD, head, ADD])?;
-        let Exchange { served, output } = exchange(alloc, &mut desk, input.as_slice());
+        let Exchange { served, output } = answer_stream(alloc, &mut desk, input.as_slice());
         assert_eq!(rt;
             served,
             Ok(Served {
@@ -143,7 +143,7 @@ fn takes_as_many_fields_as_the_limit(rt: HostRuntime) -> Result<(), Fail> {
     let alloc = rt.alloc();
     let mut desk = Shelf::new(alloc);
     let input = with_fields(alloc, 32)?;
-    let Exchange { served, output } = exchange(alloc, &mut desk, input.as_slice());
+    let Exchange { served, output } = answer_stream(alloc, &mut desk, input.as_slice());
     assert_eq!(rt;
         served,
         Ok(Served {
@@ -153,7 +153,7 @@ fn takes_as_many_fields_as_the_limit(rt: HostRuntime) -> Result<(), Fail> {
     );
     assert_eq!(rt; output.as_slice(), BAD_REQUEST);
     let input = with_fields(alloc, 33)?;
-    let Exchange { served, output } = exchange(alloc, &mut desk, input.as_slice());
+    let Exchange { served, output } = answer_stream(alloc, &mut desk, input.as_slice());
     assert_eq!(rt;
         served,
         Ok(Served {
@@ -170,7 +170,7 @@ fn takes_as_many_bytes_as_the_limit(rt: HostRuntime) -> Result<(), Fail> {
     let alloc = rt.alloc();
     let mut desk = Shelf::new(alloc);
     let endless = [b'a'; 8192];
-    let Exchange { served, output } = exchange(alloc, &mut desk, endless.as_slice());
+    let Exchange { served, output } = answer_stream(alloc, &mut desk, endless.as_slice());
     assert_eq!(rt;
         served,
         Ok(Served {
@@ -180,7 +180,7 @@ fn takes_as_many_bytes_as_the_limit(rt: HostRuntime) -> Result<(), Fail> {
     );
     assert_eq!(rt; output.as_slice(), HEAD_TOO_LARGE);
     let short = [b'a'; 8191];
-    let Exchange { served, output } = exchange(alloc, &mut desk, short.as_slice());
+    let Exchange { served, output } = answer_stream(alloc, &mut desk, short.as_slice());
     assert_eq!(rt;
         served,
         Ok(Served {
