@@ -45,10 +45,9 @@ def added(number):
     return reply("201 Created", f"[{module(number)}]")
 
 
-def shown(number):
-    """The reply that shows the module."""
-    return reply("200 OK", module(number))
+EXISTS = reply("409 Conflict", '{"error":"exists","number":5}')
 
+FULL = reply("403 Forbidden", '{"error":"quota","number":10}')
 
 NOT_FOUND = reply("404 Not Found", '{"error":"not_found","number":3}')
 
