@@ -26,7 +26,7 @@ use Rattle.sql_calls.proofs.Selects.{simple, by}
 use Rattle.desk_records.specs.declared.texts.TheConstants.{CREATE_DESK, CREATE_MODULE, PUT_DESK, GET_DESK, FIND_MODULE, LAST_MODULE, GET_MODULE, PUT_MODULE}
 use Rattle.desk_records.specs.Schema.{desk_table, module_table}
 
-means_of : (s : Schema) (sql : List ℕ) (c : Compiled) → compiled s sql ≡ Ok c → c.returning ≡ None → c.formats ≡ [] → Means s sql c.command
+pub means_of : (s : Schema) (sql : List ℕ) (c : Compiled) → compiled s sql ≡ Ok c → c.returning ≡ None → c.formats ≡ [] → Means s sql c.command
 unfolding understood
 means_of s sql c is none timeless = record { is = rw is; plain = rw is (none, timeless); unlisted = rw is }
 

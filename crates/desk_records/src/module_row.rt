@@ -14,6 +14,9 @@ pub enum Column {
     ModuleName,
     ModuleType,
     ModuleVersion,
+    SetName,
+    SetVersion,
+    SetModule,
 }
 
 /// Why a row gives no record.
@@ -40,7 +43,12 @@ pub fn read_module_label(alloc: Global, row: &Row) -> Result<ModuleLabel, RowFau
 }
 
 /// The text of a column, where it keeps the rule of names, kinds and versions.
-fn text_at(alloc: Global, row: &Row, at: usize, at_column: Column) -> Result<Text, RowFault>
+pub(crate) fn text_at(
+    alloc: Global,
+    row: &Row,
+    at: usize,
+    at_column: Column,
+) -> Result<Text, RowFault>
     ensures ok { IfOk result (λ text. column row.now at ≡ StoredText text) }
     ensures kept { IfOk result (λ text. has_text (column row.now at) ≡ true) }
     ensures err { IfErr result (λ e. (e ≡ RowFault.Memory) ⊎ ((e ≡ RowFault.Broken at_column) × (has_text (column row.now at) ≡ false))) }
@@ -56,7 +64,8 @@ fn text_at(alloc: Global, row: &Row, at: usize, at_column: Column) -> Result<Tex
     }
 }
 
-fn row_fault(error: Error, at_column: Column) -> RowFault
+/// The fault that an error of a column is.
+pub(crate) fn row_fault(error: Error, at_column: Column) -> RowFault
     ensures { result ≡ fault_at error at_column }
 {
     match error {

@@ -1,0 +1,102 @@
+-- What the usual reads of a table show whose k-th row has number k: one that passes a test, the last number, one by its number.
+use Rattle.std.proofs.Common.{◌≡◌, ◌≤◌, ◌==◌, ◌||◌, ◌++◌, ℕ, zero, suc, ◌+◌, pos, List, [], ◌∷◌, map, filter, drop, length, slice_get, Bool, true, false, not, Option, Some, None, option_map, refl, sym, ap, ap₂, subst, ◌∙◌, arith, IsPermutation}
+use Rattle.std.specs.List.{list_any}
+use Rattle.std.specs.Option.{option_to_list, is_some}
+use Rattle.std.proofs.lemmas.Bool.Decides.{nat_tests}
+use Rattle.std.proofs.lemmas.List.{length-map}
+use Rattle.std.proofs.lemmas.List.Sorted.{length_permutation}
+use Rattle.sqlite_value.specs.declared.value.Value.TheVariants.{Null, Int}
+use Rattle.sqlite_value.specs.Order.{Row, column}
+use Rattle.sqlite_trees.specs.Tree.{rowid}
+use Rattle.sqlite.specs.Term.{Term, col}
+use Rattle.sqlite.specs.Command.TheVariants.{Select}
+use Rattle.sqlite.specs.Effect.{Database, Reads as Shows}
+use Rattle.sqlite.proofs.Callers.{one_permutation}
+use Rattle.sqlite_keyed.proofs.ListLemmas.{none_counted}
+use Rattle.sql_calls.specs.Keyed.{rows_from}
+use Rattle.sql_calls.proofs.Changes.{ShowsFirst}
+use Rattle.sql_calls.proofs.Selects.{simple, passes, shown_of, simple_rows}
+use Rattle.sql_calls.proofs.NumberedTables.{has_number, filter_numbered, at_number, row_of, last_query, last_number, last_of}
+use Rattle.rollout_machine.specs.ByteStrings.{item_numbered}
+use Rattle.desk_records.specs.Modules.{IsLastRow}
+
+-- ---- whether a row passes
+
+not_not : (b : Bool) → not (not b) ≡ b
+not_not true = refl
+not_not false = refl
+
+pub some_pass : {X : Type 0} (p : X → Bool) (xs : List X) → not (length (filter p xs) == 0) ≡ list_any p xs
+some_pass p xs = ap not (none_counted p xs) ∙ not_not (list_any p xs)
+
+pub some_row : (row : Row) (tail : List Row) → not (length (row ∷ tail) == 0) ≡ true
+some_row row tail = grind (arith, nat_tests)
+
+module _ {X : Type 0} (f : ℕ → X → Row) where
+  any_row : (p : Row → Bool) (q : X → Bool) → ((n : ℕ) (x : X) → p (f n x) ≡ q x) → (n : ℕ) (xs : List X) → list_any p (rows_from f n xs) ≡ list_any q xs
+  any_row p q same n [] = refl
+  any_row p q same n (x ∷ xs) = ap₂ ◌||◌ (same n x) (any_row p q same (n + 1) xs)
+
+  module _ (tree : ℕ) (db : Database) (xs : List X) (has : db.trees tree ≡ rows_from f 1 xs) (names : List (List ℕ)) where
+    -- SELECT .. WHERE: there is a row where some x passes
+    module _ (test shows : List Term) (params : Row) (q : X → Bool) (same : (n : ℕ) (x : X) → passes test params (f n x) ≡ q x) where
+      searched : (rows : List Row) → Shows (Select (record { lets = []; body = simple tree test shows }) names) db params rows → not (length rows == 0) ≡ list_any q xs
+      searched rows shown =
+          let p = passes test params in
+          let alike = simple_rows tree test shows params db.trees rows (shown.answer Null) in
+          let count : length rows ≡ length (filter p (db.trees tree)) = length_permutation _ rows alike ∙ length-map (filter p (db.trees tree)) (shown_of shows params) in
+          rw count (some_pass p (db.trees tree)) ∙ ap (list_any p) has ∙ any_row p q same 1 xs
+
+      pub finds : (row : Option Row) → ShowsFirst (Select (record { lets = []; body = simple tree test shows }) names) db params row → is_some row ≡ list_any q xs
+      finds None shown = searched [] shown
+      finds (Some row) shown = sym (some_row row shown.0) ∙ searched (row ∷ shown.0) shown.1
+
+    module _ (ids : (n : ℕ) (x : X) → rowid (f n x) ≡ Int (pos n)) where
+      -- SELECT number .. ORDER BY number DESC LIMIT 1
+      last_rows : (rows : List Row) → Shows (Select (record { lets = []; body = last_query f ids tree }) names) db [] rows → rows ≡ last_of f ids tree (length xs)
+      last_rows rows shown = last_number f ids tree [] db.trees xs has rows (shown.answer Null)
+
+      no_last : (n : ℕ) → [] ≡ last_of f ids tree n → n ≡ 0
+      no_last zero h = refl
+      no_last (suc k) h = absurd cc
+
+      some_last : (n : ℕ) (row : Row) (tail : List Row) → row ∷ tail ≡ last_of f ids tree n → column row 0 ≡ Int (pos n)
+      some_last zero row tail h = absurd cc
+      some_last (suc k) row tail h =
+          let is : row ≡ Int (pos (1 + k)) ∷ [] = cc in
+          let next : 1 + k ≡ suc k = omega arith in
+          ap (λ r. column r 0) is ∙ ap (λ n. Int (pos n)) next
+
+      pub lasts : (row : Option Row) → ShowsFirst (Select (record { lets = []; body = last_query f ids tree }) names) db [] row → IsLastRow (length xs) row
+      lasts None shown = no_last (length xs) (last_rows [] shown)
+      lasts (Some row) shown = some_last (length xs) row shown.0 (last_rows (row ∷ shown.0) shown.1)
+
+      -- SELECT .. WHERE number = ?1
+      module _ (test shows : List Term) (same : (number n : ℕ) (x : X) → passes test (Int (pos number) ∷ []) (f n x) ≡ has_number f ids number (f n x)) where
+        numbered_rows : (k : ℕ) (rows : List Row) → Shows (Select (record { lets = []; body = simple tree test shows }) names) db (Int (pos (suc k)) ∷ []) rows
+            → IsPermutation (map (shown_of shows (Int (pos (suc k)) ∷ [])) (row_of f ids (suc k) (slice_get xs k))) rows
+        numbered_rows k rows shown =
+            let params = Int (pos (suc k)) ∷ [] in
+            let alike = simple_rows tree test shows params db.trees rows (shown.answer Null) in
+            let next : 1 + k ≡ suc k = omega arith in
+            let found : filter (passes test params) (db.trees tree) ≡ row_of f ids (suc k) (slice_get xs k) =
+            ap (filter (passes test params)) has ∙ filter_numbered f ids (passes test params) (suc k) 1 xs (λ n x. same (suc k) n x) ∙ ap (λ n. filter (has_number f ids n) (rows_from f 1 xs)) (sym next)
+            ∙ at_number f ids 1 k xs ∙ ap (λ n. row_of f ids n (slice_get xs k)) next in
+            subst (λ l. IsPermutation (map (shown_of shows params) l) rows) found alike
+
+        -- what is shown of the record of this number
+        abbrev pub shown_at : ℕ → X → Row
+        shown_at number x = shown_of shows (Int (pos number) ∷ []) (f number x)
+
+        pub gets : (number : ℕ) → 1 ≤ number → (row : Option Row) → ShowsFirst (Select (record { lets = []; body = simple tree test shows }) names) db (Int (pos number) ∷ []) row → row ≡ option_map (shown_at number) (item_numbered xs number)
+        gets zero least row shown = absurd (omega (arith, least))
+        gets (suc k) least None shown = none_of (slice_get xs k) (numbered_rows k [] shown)
+          where
+            none_of : (found : Option X) → IsPermutation (map (shown_of shows (Int (pos (suc k)) ∷ [])) (row_of f ids (suc k) found)) [] → None ≡ option_map (shown_at (suc k)) found
+            none_of None alike = refl
+            none_of (Some x) alike = absurd (omega (arith, length_permutation _ _ alike))
+        gets (suc k) least (Some row) shown = one_of (slice_get xs k) (numbered_rows k (row ∷ shown.0) shown.1)
+          where
+            one_of : (found : Option X) → IsPermutation (map (shown_of shows (Int (pos (suc k)) ∷ [])) (row_of f ids (suc k) found)) (row ∷ shown.0) → Some row ≡ option_map (shown_at (suc k)) found
+            one_of None alike = absurd (omega (arith, length_permutation _ _ alike))
+            one_of (Some x) alike = let all : row ∷ shown.0 ≡ shown_at (suc k) x ∷ [] = one_permutation (shown_at (suc k) x) _ alike in let it : row ≡ shown_at (suc k) x = cc in ap Some it
