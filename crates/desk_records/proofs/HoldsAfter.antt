@@ -1,26 +1,31 @@
 -- One table changes, and the others keep their rows.
-use Rattle.std.proofs.Common.{◌≡◌, ◌≢◌, ◌⊎◌, inl, inr, ℕ, true, false, List, if◌then◌else◌, Some, refl, sym, ap, subst, ◌∙◌, codes, bytes_eq, find, ◌==◌}
+use Rattle.std.proofs.Common.{◌≡◌, ◌≢◌, inl, inr, ℕ, List, if◌then◌else◌, Some, refl, sym, ap, subst, ◌∙◌, codes, bytes_eq, find, ◌==◌}
 use Rattle.std.specs.List.{AllByRecursion}
 use Rattle.std.proofs.lemmas.Bool.{cases_eq}
+use Rattle.sqlite_value.specs.Order.{Row}
 use Rattle.sqlite.specs.Table.{Table}
 use Rattle.sqlite.specs.Effect.{Database, IsDatabase}
 use Rattle.sqlite_keyed.proofs.ListLemmas.{all-slice_get}
 use Rattle.rollout_machine.specs.Records.{Records}
 use Rattle.sql_front.specs.Stands.{Stands}
-use Rattle.desk_records.specs.Schema.{Place, Desk, Modules, table_at, name_of}
-use Rattle.desk_records.specs.Holds.{HoldsRecords, HasModulesAlone, rows_of}
+use Rattle.desk_records.specs.Schema.{Place, Desk, Modules, Sets, SetModules, table_at, name_of}
+use Rattle.desk_records.specs.Holds.{HoldsRecords, HasModulesAndSetsAlone, IsHeld}
 
 place_named : List ℕ → Place
-place_named name = if bytes_eq name (codes "desk") then Desk else Modules
+place_named name = if bytes_eq name (codes "desk") then Desk else (if bytes_eq name (codes "module") then Modules else (if bytes_eq name (codes "dset") then Sets else SetModules))
 
 is_named : (t : Place) (tree : ℕ) → place_named (table_at t tree).name ≡ t
 unfolding place_named
 is_named Desk tree = refl
 is_named Modules tree = refl
+is_named Sets tree = refl
+is_named SetModules tree = refl
 
 its_tree : (t : Place) (tree : ℕ) → (table_at t tree).tree ≡ tree
 its_tree Desk tree = refl
 its_tree Modules tree = refl
+its_tree Sets tree = refl
+its_tree SetModules tree = refl
 
 -- a tree is that of one table alone
 pub one_place : (db : Database) (r : Records) (holds : HoldsRecords db r) (t k : Place) → (holds.spot t).tree ≡ (holds.spot k).tree → t ≡ k
@@ -32,9 +37,10 @@ one_place db r holds t k same =
     let tables : table_at t m ≡ table_at k n = cc in
     sym (is_named t m) ∙ ap (λ (x : Table). place_named x.name) tables ∙ is_named k n
 
--- The rows of one place are those of the new records, and the other places have the old ones.
-pub holds_after : (k : Place) (now next : Records) (old new : Database) (was : HoldsRecords old now) → new.schema ≡ old.schema → IsDatabase new → new.trees (was.spot k).tree ≡ rows_of next k
-    → AllByRecursion (λ (s : Table). s.tree ≢ (was.spot k).tree → new.trees s.tree ≡ old.trees s.tree) old.schema.tables → ((t : Place) → t ≢ k → rows_of next t ≡ rows_of now t) → HasModulesAlone next → HoldsRecords new next
+-- One place holds the new records, and the other places, whose rows stay, hold them too.
+pub holds_after : (k : Place) (now next : Records) (old new : Database) (was : HoldsRecords old now) → new.schema ≡ old.schema → IsDatabase new → IsHeld next k (new.trees (was.spot k).tree)
+    → AllByRecursion (λ (s : Table). s.tree ≢ (was.spot k).tree → new.trees s.tree ≡ old.trees s.tree) old.schema.tables → ((t : Place) → t ≢ k → (rows : List Row) → IsHeld now t rows → IsHeld next t rows)
+    → HasModulesAndSetsAlone next → HoldsRecords new next
 holds_after k now next old new was schema sound there others same bare = record {
   sound = sound;
   spot = was.spot;
@@ -47,8 +53,8 @@ holds_after k now next old new was schema sound there others same bare = record 
     kept t apart = subst (λ n. n ≢ (was.spot k).tree → new.trees n ≡ old.trees n) (its_tree t (was.spot t).tree)
         (all-slice_get (λ (s : Table). s.tree ≢ (was.spot k).tree → new.trees s.tree ≡ old.trees s.tree) old.schema.tables (was.spot t).at (table_at t (was.spot t).tree) (was.stands t).got others) apart
 
-    rows : (t : Place) → new.trees (was.spot t).tree ≡ rows_of next t
+    rows : (t : Place) → IsHeld next t (new.trees (was.spot t).tree)
     rows t = elim (cases_eq (was.spot t).tree (was.spot k).tree) [
-      | inl is ↦ let here : t ≡ k = one_place old now was t k is in subst (λ x. new.trees (was.spot x).tree ≡ rows_of next x) (sym here) there
-      | inr apart ↦ kept t apart ∙ was.rows t ∙ sym (same t (λ e. apart (ap (λ x. (was.spot x).tree) e)))
+      | inl is ↦ let here : t ≡ k = one_place old now was t k is in subst (λ x. IsHeld next x (new.trees (was.spot x).tree)) (sym here) there
+      | inr apart ↦ subst (IsHeld next t) (sym (kept t apart)) (same t (λ e. apart (ap (λ x. (was.spot x).tree) e)) _ (was.rows t))
     ]

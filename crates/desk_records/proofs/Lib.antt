@@ -6,3 +6,4 @@ pub mod Sets
 pub mod HoldsAfter
 mod RowLemmas
 pub mod Modules
+pub mod SetRecords

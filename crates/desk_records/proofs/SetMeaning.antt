@@ -1,5 +1,5 @@
 -- What the texts of distribution sets mean, wherever the tables stand.
-use Rattle.std.proofs.Common.{◌≡◌, refl, List, [], ◌∷◌, ℕ, codes, Ok, pos, negsuc, true, false}
+use Rattle.std.proofs.Common.{◌≡◌, refl, List, [], ◌∷◌, ℕ, codes, pos, negsuc, true, false}
 use Rattle.sqlite.specs.declared.types.Value.TheVariants.{Null, Int}
 use Rattle.sqlite.specs.Collation.TheVariants.{Binary}
 use Rattle.sqlite.specs.Schema.{Schema}
@@ -18,7 +18,7 @@ use Rattle.sql_front.proofs.Write.{Adds, Makes, adds_known, makes_known}
 use Rattle.sql_calls.proofs.Means.{Means}
 use Rattle.sql_calls.proofs.Selects.{simple, by}
 use Rattle.desk_records.specs.declared.set_texts.TheConstants.{CREATE_SET, CREATE_SET_MODULE, FIND_SET, LAST_SET, GET_SET, LIST_SET_MODULES, MODULE_LOCKED, PUT_SET, PUT_SET_MODULE}
-use Rattle.desk_records.specs.Sets.{set_table, set_module_table}
+use Rattle.desk_records.specs.Schema.{set_table, set_module_table}
 use Rattle.desk_records.proofs.Meaning.{means_of, at_key}
 
 -- ---- sets

@@ -2,30 +2,28 @@
 use Rattle.std.proofs.Common.{◌≡◌, ◌≤◌, ◌<◌, ◌==◌, ◌||◌, ◌++◌, ℕ, zero, suc, ◌+◌, pos, List, [], ◌∷◌, map, filter, take, length, slice_get, Bool, true, false, not, cond, Option, Some, None, option_map, refl, sym, ap, ap₂, subst, ◌∙◌, arith, IsPermutation, Less, nat_eq, append_assoc, append-nil}
 use Rattle.std.specs.List.{list_any, AllByRecursion}
 use Rattle.std.specs.Option.{is_some}
-use Rattle.std.specs.Ordering.{is_eq}
 use Rattle.std.proofs.lemmas.Int.{ints}
 use Rattle.std.proofs.lemmas.Bool.Decides.{nat_tests}
 use Rattle.std.proofs.lemmas.List.{length-map}
 use Rattle.std.proofs.lemmas.List.Elements.{filter-append}
 use Rattle.std.proofs.lemmas.List.Folds.{list_any-append}
-use Rattle.std.proofs.lemmas.List.Sorted.{IsPermutation-sym, IsPermutation-trans, IsPermutation-to_front, length_permutation}
-use Rattle.sqlite_value.specs.declared.value.Value.TheVariants.{Null, Int, Text}
-use Rattle.sqlite_value.specs.Order.{Row, column, value_cmp}
+use Rattle.std.proofs.lemmas.List.Sorted.{IsPermutation-trans, IsPermutation-to_front, length_permutation}
+use Rattle.sqlite_value.specs.declared.value.Value.TheVariants.{Null, Int}
+use Rattle.sqlite_value.specs.Order.{Row, value_cmp}
 use Rattle.sqlite_value.proofs.OrderLemmas.{value_cmp-Int}
 use Rattle.sqlite_trees.specs.Tree.{IsAscending, put_row}
 use Rattle.sqlite_rules.specs.Edit.{next_rowid}
 use Rattle.sqlite_sql.specs.Ops.{binary}
 use Rattle.sqlite_sql.proofs.QueryLemmas.{output_cmp_total}
-use Rattle.sqlite.specs.Term.{Term, col, lit}
+use Rattle.sqlite.specs.Term.{col}
 use Rattle.sqlite.specs.Query.{Query, Output, output_cmp}
-use Rattle.sqlite.specs.Command.TheVariants.{Select, Insert}
-use Rattle.sqlite.specs.Source.TheVariants.{Values}
+use Rattle.sqlite.specs.Command.TheVariants.{Select}
 use Rattle.sqlite.specs.Schema.{Schema}
 use Rattle.sqlite.specs.Effect.{Database, Reads as Shows}
 use Rattle.sqlite_keyed.proofs.SortLemmas.{sorted_unique}
 use Rattle.sql_calls.specs.Keyed.{rows_from, IsHeldBy}
 use Rattle.sql_calls.proofs.Changes.{ShowsFirst}
-use Rattle.sql_calls.proofs.Selects.{simple, by, passes, shown_of, shown_in, ordered_rows}
+use Rattle.sql_calls.proofs.Selects.{simple, passes, shown_in, ordered_rows}
 use Rattle.sql_calls.proofs.Inserts.{Inserted, given_rows}
 use Rattle.sql_calls.proofs.NumberedRows.{put_next, cast_int, cast_null}
 use Rattle.sql_calls.proofs.NumberedTables.{has_number}
@@ -35,7 +33,8 @@ use Rattle.rollout_machine.specs.ByteStrings.{same_bytes, item_numbered}
 use Rattle.rollout_machine.specs.Objects.{modules_of_set}
 use Rattle.rollout_machine.specs.Verdicts.{is_named_by_set}
 use Rattle.desk_records.specs.Modules.{IsLastRow}
-use Rattle.desk_records.specs.Sets.{set_table, set_module_table, set_row, place_row, places_of, places_from, is_same_set, names_of, module_rows, set_named, and_module}
+use Rattle.desk_records.specs.Schema.{set_table, set_module_table}
+use Rattle.desk_records.specs.Sets.{set_row, place_row, places_of, places_from, is_same_set, names_of, module_rows, set_named, and_module}
 use Rattle.desk_records.proofs.Meaning.{at_key}
 use Rattle.desk_records.proofs.SetMeaning.{same_names, last_set_query, name_columns, set_terms, set_modules_query, locked_query, set_module_terms}
 use Rattle.desk_records.proofs.Comparisons.{judged, words_equal, numbers_equal, and_true}
@@ -69,6 +68,16 @@ pub set_added : (name version : Bytes) (number tree : ℕ) (schema : Schema) (ol
 set_added name version number tree schema old new sets has next made =
     let at : number ≡ 1 + length sets = omega (arith, next) in
     made.applies.rows ∙ rw (cast_int number, cast_null, has, at) (put_next set_row (λ n x. refl) 1 sets (set_named name version))
+
+-- it has no modules yet
+pub no_places : (name version : Bytes) (n : ℕ) (sets : List SetLabel) → places_from n (sets ++ set_named name version ∷ []) ≡ places_from n sets
+no_places name version n [] = refl
+no_places name version n (set ∷ sets) = ap (λ l. places_of n set.modules ++ l) (no_places name version (n + 1) sets)
+
+-- a further module leaves the rows of the sets
+pub same_sets : (n : ℕ) (before : List SetLabel) (set : SetLabel) (m : ℕ) → rows_from set_row n (before ++ and_module set m ∷ []) ≡ rows_from set_row n (before ++ set ∷ [])
+same_sets n [] set m = refl
+same_sets n (first ∷ before) set m = ap (λ l. set_row n first ∷ l) (same_sets (n + 1) before set m)
 
 -- ---- the rows of their modules
 

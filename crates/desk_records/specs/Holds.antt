@@ -4,10 +4,11 @@ use Rattle.sqlite_value.specs.declared.value.Value.TheVariants.{Null, Int, Text}
 use Rattle.sqlite_value.specs.Order.{Row}
 use Rattle.sqlite.specs.Effect.{Database, IsDatabase}
 use Rattle.sql_front.specs.Stands.{Stands}
-use Rattle.sql_calls.specs.Keyed.{rows_from}
+use Rattle.sql_calls.specs.Keyed.{rows_from, IsHeldBy}
 use Rattle.rollout_machine.specs.Commands.{ModuleLabel}
 use Rattle.rollout_machine.specs.Records.{Records}
-use Rattle.desk_records.specs.Schema.{Place, Desk, Modules, table_at, name_of}
+use Rattle.desk_records.specs.Schema.{Place, Desk, Modules, Sets, SetModules, table_at, name_of}
+use Rattle.desk_records.specs.Sets.{set_row, places_from}
 
 abbrev pub flag : Bool → ℕ
 flag b = if b then 1 else 0
@@ -19,14 +20,16 @@ desk_row approval = Int (pos 1) ∷ Null ∷ Text (codes "fwdesk") ∷ Int (pos 
 abbrev pub module_row : ℕ → ModuleLabel → Row
 module_row number m = Int (pos number) ∷ Null ∷ Text m.name ∷ Text m.kind ∷ Text m.version ∷ []
 
-abbrev pub rows_of : Records → Place → List Row
-rows_of r Desk = desk_row r.approval ∷ []
-rows_of r Modules = rows_from module_row 1 r.modules
+-- The rows of a place: numbered ones in the order of their numbers, the modules of sets in any order.
+abbrev pub IsHeld : Records → Place → List Row → Type 0
+IsHeld r Desk rows = rows ≡ desk_row r.approval ∷ []
+IsHeld r Modules rows = rows ≡ rows_from module_row 1 r.modules
+IsHeld r Sets rows = rows ≡ rows_from set_row 1 r.sets
+IsHeld r SetModules rows = IsHeldBy rows (places_from 1 r.sets)
 
--- this version has tables for modules alone
-pub record HasModulesAlone (r : Records) : Type 0 where
+-- this version has tables for modules and sets alone
+pub record HasModulesAndSetsAlone (r : Records) : Type 0 where
   pub artifacts : r.artifacts ≡ []
-  pub sets : r.sets ≡ []
   pub targets : r.targets ≡ []
   pub rollouts : r.rollouts ≡ []
   pub actions : r.actions ≡ []
@@ -36,10 +39,10 @@ pub record Spot : Type 0 where
   pub at : ℕ
   pub tree : ℕ
 
--- The tables of the schema stand somewhere among those of others, and have the records as their rows.
+-- The tables of the schema stand somewhere among those of others, and hold the records.
 pub record HoldsRecords (db : Database) (r : Records) : Type 0 where
   pub sound : IsDatabase db
   pub spot : Place → Spot
   pub stands : (t : Place) → Stands db.schema (name_of t) (spot t).at (table_at t (spot t).tree)
-  pub rows : (t : Place) → db.trees (spot t).tree ≡ rows_of r t
-  pub bare : HasModulesAlone r
+  pub rows : (t : Place) → IsHeld r t (db.trees (spot t).tree)
+  pub bare : HasModulesAndSetsAlone r

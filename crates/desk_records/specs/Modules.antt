@@ -1,5 +1,5 @@
 -- Modules in records and in rows.
-use Rattle.std.specs.Prelude.{◌≡◌, ◌&&◌, ℕ, Bool, List, [], ◌∷◌, ◌++◌, pos, Option, Some, None}
+use Rattle.std.specs.Prelude.{◌≡◌, ◌&&◌, ℕ, Bool, [], ◌∷◌, ◌++◌, pos, Option, Some, None}
 use Rattle.sqlite_value.specs.declared.value.Value.TheVariants.{Int, Text}
 use Rattle.sqlite_value.specs.Order.{Row, column}
 use Rattle.rollout_machine.specs.Commands.{ModuleLabel}

@@ -1,0 +1,83 @@
+-- The statements on distribution sets, in records.
+use Rattle.std.proofs.Common.{◌≡◌, ◌≢◌, ◌≤◌, ◌++◌, ℕ, ◌+◌, pos, List, [], ◌∷◌, length, Option, None, option_map, refl, sym, ap, subst, ◌∙◌}
+use Rattle.std.specs.List.{list_any}
+use Rattle.std.specs.Option.{is_some}
+use Rattle.sqlite_value.specs.declared.value.Value.TheVariants.{Int}
+use Rattle.sqlite_value.specs.Order.{Row}
+use Rattle.sqlite.specs.Term.{col}
+use Rattle.sqlite.specs.Command.TheVariants.{Select, Insert}
+use Rattle.sqlite.specs.Source.TheVariants.{Values}
+use Rattle.sqlite.specs.Effect.{Database, Reads as Shows}
+use Rattle.sqlite.specs.State.{State, Writes}
+use Rattle.sql_calls.specs.Keyed.{rows_from, IsHeldBy}
+use Rattle.sql_calls.proofs.Changes.{ShowsFirst}
+use Rattle.sql_calls.proofs.Selects.{simple}
+use Rattle.sql_calls.proofs.Inserts.{inserts}
+use Rattle.rollout_machine.specs.Commands.{Bytes, SetLabel}
+use Rattle.rollout_machine.specs.ByteStrings.{item_numbered}
+use Rattle.rollout_machine.specs.Objects.{modules_of_set}
+use Rattle.rollout_machine.specs.Records.{Records}
+use Rattle.rollout_machine.specs.Verdicts.{is_named_by_set}
+use Rattle.desk_records.specs.Modules.{IsLastRow}
+use Rattle.desk_records.specs.Schema.{Place, Desk, Modules, Sets, SetModules, set_table, set_module_table}
+use Rattle.desk_records.specs.Sets.{set_row, place_row, places_from, is_same_set, names_of, module_rows, with_set, and_module, AddsSetModule}
+use Rattle.desk_records.specs.Holds.{HoldsRecords, IsHeld}
+use Rattle.desk_records.proofs.HoldsAfter.{holds_after}
+use Rattle.desk_records.proofs.Meaning.{at_key}
+use Rattle.desk_records.proofs.SetMeaning.{same_names, last_set_query, name_columns, set_terms, set_modules_query, locked_query, set_module_terms}
+use Rattle.desk_records.proofs.Sets as lists
+
+module _ (db : Database) (now : Records) (holds : HoldsRecords db now) (names : List (List ℕ)) where
+  -- whether a set is there
+  pub finds_set : (name version : Bytes) (row : Option Row) → ShowsFirst (Select (record { lets = []; body = simple (holds.spot Sets).tree same_names (col 1 0 ∷ []) }) names) db (names_of name version) row
+      → is_some row ≡ list_any (is_same_set name version) now.sets
+  finds_set = lists.finds_set (holds.spot Sets).tree db now.sets (holds.rows Sets) names
+
+  -- the last number
+  pub lasts_set : (row : Option Row) → ShowsFirst (Select (record { lets = []; body = last_set_query (holds.spot Sets).tree }) names) db [] row → IsLastRow (length now.sets) row
+  lasts_set = lists.lasts_set (holds.spot Sets).tree db now.sets (holds.rows Sets) names
+
+  -- a set's names by its number
+  pub gets_set : (number : ℕ) → 1 ≤ number → (row : Option Row) → ShowsFirst (Select (record { lets = []; body = simple (holds.spot Sets).tree (at_key 0 0 ∷ []) name_columns }) names) db (Int (pos number) ∷ []) row
+      → row ≡ option_map (λ (set : SetLabel). names_of set.name set.version) (item_numbered now.sets number)
+  gets_set = lists.gets_set (holds.spot Sets).tree db now.sets (holds.rows Sets) names
+
+  -- its modules
+  pub lists_set_modules : (number : ℕ) → 1 ≤ number → (rows : List Row) → Shows (Select (record { lets = []; body = set_modules_query (holds.spot SetModules).tree }) names) db (Int (pos number) ∷ []) rows
+      → rows ≡ module_rows (modules_of_set (item_numbered now.sets number))
+  lists_set_modules = lists.lists_set_modules (holds.spot SetModules).tree db now.sets (holds.rows SetModules) names
+
+  -- whether a set names a module
+  pub finds_lock : (m : ℕ) (row : Option Row) → ShowsFirst (Select (record { lets = []; body = locked_query (holds.spot SetModules).tree }) names) db (Int (pos m) ∷ []) row → is_some row ≡ is_named_by_set now.sets m
+  finds_lock = lists.finds_lock (holds.spot SetModules).tree db now.sets (holds.rows SetModules) names
+
+pub adds_set : (name version : Bytes) (number : ℕ) (old new : State) (text : List ℕ) (count : ℕ) (now : Records) (holds : HoldsRecords old.now now) → number ≡ length now.sets + 1
+    → (w : Writes old new None (Insert (holds.spot Sets).at (Values set_terms 4)) text (Int (pos number) ∷ names_of name version) count) → HoldsRecords new.now (with_set now name version)
+adds_set name version number old new text count now holds next w =
+    let spot = holds.spot Sets in
+    let made = inserts old.now.schema spot.at (set_table spot.tree) set_terms 4 (holds.stands Sets).got old new refl text (Int (pos number) ∷ names_of name version) count w in
+    let table = lists.set_added name version number spot.tree old.now.schema old.now new.now now.sets (holds.rows Sets) next made in
+    holds_after Sets now (with_set now name version) old.now new.now holds made.schema_is w.sound table made.applies.tables only (record { artifacts = holds.bare.artifacts; targets = holds.bare.targets; rollouts = holds.bare.rollouts; actions = holds.bare.actions })
+  where
+    only : (t : Place) → t ≢ Sets → (rows : List Row) → IsHeld now t rows → IsHeld (with_set now name version) t rows
+    only Desk apart rows held = held
+    only Modules apart rows held = held
+    only Sets apart rows held = absurd (apart refl)
+    only SetModules apart rows held = subst (IsHeldBy rows) (sym (lists.no_places name version 1 now.sets)) held
+
+pub adds_set_module : (number place m : ℕ) (old new : State) (text : List ℕ) (count : ℕ) (now next : Records) (holds : HoldsRecords old.now now) → AddsSetModule number place m now next
+    → (w : Writes old new None (Insert (holds.spot SetModules).at (Values set_module_terms 4)) text (place_row number place m) count) → HoldsRecords new.now next
+adds_set_module number place m old new text count now next holds change w =
+    let spot = holds.spot SetModules in
+    let after = record now { sets = change.before ++ and_module change.set m ∷ [] } in
+    let made = inserts old.now.schema spot.at (set_module_table spot.tree) set_module_terms 4 (holds.stands SetModules).got old new refl text (place_row number place m) count w in
+    let were : IsHeldBy (old.now.trees spot.tree) (places_from 1 (change.before ++ change.set ∷ [])) = subst (λ sets. IsHeldBy (old.now.trees spot.tree) (places_from 1 sets)) change.last (holds.rows SetModules) in
+    let table = lists.set_module_added number place m spot.tree old.now.schema old.now new.now change.before change.set were change.number_is change.place_is made in
+    subst (HoldsRecords new.now) (sym change.next_is)
+    (holds_after SetModules now after old.now new.now holds made.schema_is w.sound table made.applies.tables only (record { artifacts = holds.bare.artifacts; targets = holds.bare.targets; rollouts = holds.bare.rollouts; actions = holds.bare.actions }))
+  where
+    only : (t : Place) → t ≢ SetModules → (rows : List Row) → IsHeld now t rows → IsHeld (record now { sets = change.before ++ and_module change.set m ∷ [] }) t rows
+    only Desk apart rows held = held
+    only Modules apart rows held = held
+    only Sets apart rows held = held ∙ ap (rows_from set_row 1) change.last ∙ sym (lists.same_sets 1 change.before change.set m)
+    only SetModules apart rows held = absurd (apart refl)
