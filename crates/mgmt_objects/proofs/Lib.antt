@@ -2,3 +2,4 @@ pub mod BodyLemmas
 pub mod TraverseLemmas
 pub mod LettersLemmas
 pub mod PageLemmas
+pub mod SetLemmas

@@ -3,8 +3,8 @@ use Rattle.std.specs.Prelude.{ℕ, List, Option, Some, None, option_and_then, if
 use Rattle.std.specs.Str.{is_utf8}
 use Rattle.serde_json.specs.Data.{Data, Items, no_items, item}
 use Rattle.serde_json.specs.Read.{read}
-use Rattle.serde_json.specs.Find.{get, as_str, as_array}
-use Rattle.rollout_model.specs.Rules.{text_of}
+use Rattle.serde_json.specs.Find.{get, as_str, as_array, as_number, as_u64}
+use Rattle.rollout_model.specs.Rules.{text_of, number_of}
 
 -- the value that a body writes
 abbrev pub body_data : List ℕ → Option Data
@@ -22,3 +22,7 @@ only d = option_and_then only_item (as_array d)
 -- a member that is a name, a type or a version; of members with one name the last
 abbrev pub text_member : List ℕ → Data → Option (List ℕ)
 text_member key d = option_and_then text_of (option_and_then as_str (get key d))
+
+-- a member that is a whole number from 1 to 2,147,483,647, without fraction or exponent
+abbrev pub number_member : List ℕ → Data → Option ℕ
+number_member key d = option_and_then number_of (option_and_then as_u64 (option_and_then as_number (get key d)))

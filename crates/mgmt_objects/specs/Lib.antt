@@ -4,3 +4,6 @@ pub mod Bodies
 pub mod ModuleBodies
 pub mod ModuleObjects
 pub mod Pages
+pub mod Floats
+pub mod SetBodies
+pub mod SetObjects

@@ -10,13 +10,20 @@ mod list;
 mod member;
 mod module_body;
 mod module_object;
+mod set_body;
+mod set_object;
+#[cfg(test)]
+mod set_tests;
 mod shown;
 #[cfg(test)]
 mod tests;
 
 pub use body::{only_item, read_value};
-pub use laws::{module_text_letters, worked_module_body, worked_module_text};
+pub use laws::{
+    module_text_letters, worked_module_body, worked_module_text, worked_set_body, worked_set_text,
+};
 pub use list::{Item, read_list};
-pub use member::read_text;
+pub use member::{read_number, read_text};
 pub use module_body::read_module_body;
+pub use set_body::read_set_body;
 pub use shown::{Shown, array_text, object_text, page_text, single_text};

@@ -1,10 +1,11 @@
 //! The members of an object.
 
+ghost use Rattle.std.specs.Prelude.{◌≡◌};
 ghost use Rattle.serde_json.specs.View.{view};
-ghost use Rattle.mgmt_objects.specs.Bodies.{text_member};
+ghost use Rattle.mgmt_objects.specs.Bodies.{number_member, text_member};
 ghost use Rattle.mgmt_objects.specs.Readings.{ReadsAs};
 
-use rollout_model::{Refusal, Text};
+use rollout_model::{ModuleNo, Refusal, Text};
 use serde_json::Value;
 use std::alloc::Global;
 
@@ -19,5 +20,16 @@ pub fn read_text(alloc: Global, object: &Value, key: &str) -> Result<Text, Refus
         Ok(Some(text)) => Ok(text),
         Ok(None) => Err(Refusal::BadRequest),
         Err(_) => Err(Refusal::NoMemory),
+    }
+}
+
+/// A member that is the number of a module: whole, from 1 to 2,147,483,647, written without fraction or exponent.
+pub fn read_number(object: &Value, key: &str) -> Option<ModuleNo>
+    ensures { result ≡ number_member key.now (view object.now) }
+{
+    let number = object.get(key).and_then(Value::as_u64)?;
+    match u32::try_from(number) {
+        Ok(number) => ModuleNo::new(number),
+        Err(_) => None,
     }
 }

@@ -28,7 +28,7 @@ pub fn object_text<T: Shown>(alloc: Global, shown: &T) -> Result<String, AllocEr
     value.to_string(alloc)
 }
 
-fn values<T: Shown>(alloc: Global, records: &[T]) -> Result<Vec<Value>, AllocError>
+pub(crate) fn values<T: Shown>(alloc: Global, records: &[T]) -> Result<Vec<Value>, AllocError>
     ensures { IfOk result (λ v. map view v.items ≡ map T.shows records.now) }
 {
     let mut values = Vec::new(alloc);

@@ -1,6 +1,6 @@
 -- The rules of the short texts and the numbers: which letters, how long, in which range.
-use Rattle.rollout_model.specs.Limits.{word_length_limit, filename_length_limit, text_length_limit, detail_length_limit, digest_length, number_limit, token_length_least, token_length_limit}
-use Rattle.std.specs.Prelude.{ℕ, Bool, ◌&&◌, ◌||◌, not, nat_eq, nat_le, List, length, codes, Option, Some, None, if◌then◌else◌}
+use Rattle.rollout_model.specs.Limits.{word_length_limit, filename_length_limit, text_length_limit, detail_length_limit, digest_length, number_limit, set_module_limit, token_length_least, token_length_limit}
+use Rattle.std.specs.Prelude.{ℕ, Bool, true, ◌&&◌, ◌||◌, not, nat_eq, nat_le, List, [], ◌∷◌, length, codes, Option, Some, None, if◌then◌else◌}
 use Rattle.std.specs.List.{list_any, list_all}
 use Rattle.std.specs.Char.{is_ascii_alphanumeric}
 use Rattle.std.specs.Str.{is_utf8}
@@ -53,6 +53,15 @@ is_digest bs = nat_eq (length bs) digest_length && list_all is_byte bs
 abbrev pub is_number : ℕ → Bool
 is_number n = is_between 1 number_limit n
 
+-- no number stands twice
+abbrev pub are_distinct_numbers : List ℕ → Bool
+are_distinct_numbers [] = true
+are_distinct_numbers (n ∷ ns) = not (list_any (λ m. nat_eq m n) ns) && are_distinct_numbers ns
+
+-- the modules of a distribution set
+abbrev pub is_module_list : List ℕ → Bool
+is_module_list ns = is_between 1 set_module_limit (length ns) && (list_all is_number ns && are_distinct_numbers ns)
+
 -- ---- what the readers answer
 
 abbrev pub word_of : List ℕ → Option (List ℕ)
@@ -72,3 +81,6 @@ number_of n = if is_number n then Some n else None
 
 abbrev pub sha256_digest_of : List ℕ → Option (List ℕ)
 sha256_digest_of bs = if is_digest bs then Some bs else None
+
+abbrev pub module_list_of : List ℕ → Option (List ℕ)
+module_list_of ns = if is_module_list ns then Some ns else None

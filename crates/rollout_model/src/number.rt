@@ -7,7 +7,7 @@ ghost use Rattle.rollout_model.specs.Rules.{is_number, number_of};
 use std::marker::Model;
 
 /// The greatest number of a module, a set, a rollout or an action.
-const GREATEST: u32 = 2_147_483_647;
+pub(crate) const GREATEST: u32 = 2_147_483_647;
 
 /// The number of a module, from 1 to 2,147,483,647: the k-th module that was added has number k.
 #[derive(Clone, Copy, Debug, PartialEq, Eq, PartialOrd, Ord)]
