@@ -4,6 +4,7 @@ use Rattle.sqlite_value.specs.declared.value.Value.{Value}
 use Rattle.sqlite_value.specs.declared.value.Value.TheVariants.{Int, Text}
 use Rattle.sqlite_value.specs.Order.{Row, column}
 use Rattle.rollout_model.specs.Rules.{is_number}
+use Rattle.rollout_machine.specs.Commands.{SetLabel}
 use Rattle.desk_records.specs.declared.set_row.SetName.{SetName}
 use Rattle.desk_records.specs.declared.module_row.Column.{Column}
 use Rattle.desk_records.specs.declared.module_row.Column.TheVariants as rule
@@ -26,3 +27,7 @@ pub record IsSetNameRow (row : Row) (set : SetName) : Type 0 where
 -- the first column that breaks its rule
 abbrev pub broken_set_column : Row → Option Column
 broken_set_column row = if not (has_text (column row 0)) then Some rule.SetName else (if not (has_text (column row 1)) then Some rule.SetVersion else None)
+
+-- what a set is called
+abbrev pub called : SetLabel → SetName
+called set = record { name = set.name; version = set.version }

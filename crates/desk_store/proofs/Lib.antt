@@ -1,2 +1,3 @@
 pub mod ModuleCalls
 pub mod EndLemmas
+pub mod SetCalls

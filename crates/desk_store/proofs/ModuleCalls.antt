@@ -62,7 +62,7 @@ not_found params label old new fault h out bad = takes_err HoldsRecords FIND_MOD
 abbrev pub IsLast : Records → ℕ → Type 0
 IsLast r last = last ≡ length r.modules
 
-one_last : (row : Option Row) (m n : ℕ) → IsLastRow m row → IsLastRow n row → m ≡ n
+pub one_last : (row : Option Row) (m n : ℕ) → IsLastRow m row → IsLastRow n row → m ≡ n
 one_last None m n h k = h ∙ sym k
 one_last (Some row) m n h k = let both : Int (pos m) ≡ Int (pos n) = sym h ∙ k in cc
 

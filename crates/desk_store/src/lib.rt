@@ -3,10 +3,12 @@
 
 mod change;
 mod reading;
+mod sets;
 mod store;
 #[cfg(test)]
 mod tests;
 
 pub use crate::change::OpenChange;
 pub use crate::store::DeskStore;
+pub use desk_records::SetName;
 pub use sql_calls::{Fault, Work};

@@ -2,10 +2,10 @@
 
 ghost use Rattle.std.specs.Prelude.{◌≡◌, IfOk};
 ghost use Rattle.desk_records.specs.Modules.{IsLastRow};
-ghost use Rattle.desk_store.specs.Rows.{IsReadAs};
+ghost use Rattle.desk_store.specs.Rows.{IsReadAs, IsReadAsSet};
 ghost use Rattle.desk_store.specs.Faults.{as_store, fault_of_row};
 
-use desk_records::{RowFault, read_module_label};
+use desk_records::{RowFault, SetName, read_module_label, read_set_name};
 use rollout_model::ModuleLabel;
 use sql_calls::{Fault, fault_of};
 use sqlite::Row;
@@ -33,6 +33,19 @@ pub(crate) fn label_in(alloc: Global, row: Option<Row>) -> Result<Option<ModuleL
     };
     match read_module_label(alloc, &row) {
         Ok(label) => Ok(Some(label)),
+        Err(fault) => Err(row_fault(fault)),
+    }
+}
+
+/// What the set is called in a row of its name and version.
+pub(crate) fn set_name_in(alloc: Global, row: Option<Row>) -> Result<Option<SetName>, Fault>
+    ensures { IfOk result (λ found. IsReadAsSet found row) }
+{
+    let Some(row) = row else {
+        return Ok(None);
+    };
+    match read_set_name(alloc, &row) {
+        Ok(name) => Ok(Some(name)),
         Err(fault) => Err(row_fault(fault)),
     }
 }

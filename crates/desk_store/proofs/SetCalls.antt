@@ -1,0 +1,142 @@
+-- The calls on distribution sets.
+use Rattle.std.proofs.Common.{◌≡◌, ◌≤◌, ℕ, ◌+◌, pos, List, [], ◌∷◌, length, Bool, Option, Some, None, Ok, Err, Result, IsErr, IfOk, option_map, refl, sym, ap, subst, ◌∙◌, codes}
+use Rattle.std.specs.List.{list_any}
+use Rattle.std.specs.Option.{is_some}
+use Rattle.sqlite_value.specs.declared.value.Value.TheVariants.{Int, Text}
+use Rattle.sqlite_value.specs.Order.{Row, column}
+use Rattle.sqlite.specs.Command.TheVariants.{Select, Insert}
+use Rattle.sqlite.specs.Source.TheVariants.{Values}
+use Rattle.sqlite.specs.Term.{col}
+use Rattle.sqlite.specs.Effect.{Database}
+use Rattle.sqlite.specs.State.{State}
+use Rattle.sql_calls.specs.declared.fault.Fault.{Fault}
+use Rattle.sql_calls.specs.Calls.{RunsText, TakesFirst}
+use Rattle.sql_calls.specs.Standing.{Reads, Writes}
+use Rattle.sql_calls.proofs.Means.{Known}
+use Rattle.sql_calls.proofs.Changes.{Knows, ShowsFirst}
+use Rattle.sql_calls.proofs.Selects.{simple}
+use Rattle.sql_calls.proofs.TypedCalls.{takes_err, takes_ok, writes}
+use Rattle.rollout_machine.specs.ByteStrings.{item_numbered}
+use Rattle.rollout_machine.specs.Commands.{Bytes, SetLabel}
+use Rattle.rollout_machine.specs.Records.{Records}
+use Rattle.rollout_machine.specs.Verdicts.{is_named_by_set}
+use Rattle.desk_records.specs.declared.set_texts.TheConstants.{FIND_SET, LAST_SET, GET_SET, MODULE_LOCKED, PUT_SET, PUT_SET_MODULE}
+use Rattle.desk_records.specs.declared.set_row.SetName.{SetName}
+use Rattle.desk_records.specs.Schema.{Sets, SetModules}
+use Rattle.desk_records.specs.Holds.{HoldsRecords}
+use Rattle.desk_records.specs.Modules.{IsLastRow}
+use Rattle.desk_records.specs.Sets.{place_row, is_same_set, names_of, with_set, AddsSetModule}
+use Rattle.desk_records.specs.SetRow.{IsSetNameRow, called}
+use Rattle.desk_records.proofs.Meaning.{at_key}
+use Rattle.desk_records.proofs.SetMeaning.{same_names, last_set_query, name_columns, set_terms, locked_query, set_module_terms, find_set_is, last_set_is, get_set_is, module_locked_is, put_set_is, put_set_module_is}
+use Rattle.desk_records.proofs.SetRecords.{finds_set, lasts_set, gets_set, finds_lock, adds_set, adds_set_module}
+use Rattle.desk_store.specs.Rows.{IsReadAsSet}
+use Rattle.desk_store.proofs.ModuleCalls.{one_last}
+
+-- ---- what the texts mean where the records are held
+
+abbrev finding : Knows HoldsRecords FIND_SET.now
+finding db r holds = record { command = Select (record { lets = []; body = simple (holds.spot Sets).tree same_names (col 1 0 ∷ []) }) (codes "number" ∷ []); means = find_set_is db.schema (holds.spot Sets).at (holds.spot Sets).tree (holds.stands Sets) }
+
+abbrev ending : Knows HoldsRecords LAST_SET.now
+ending db r holds = record { command = Select (record { lets = []; body = last_set_query (holds.spot Sets).tree }) (codes "number" ∷ []); means = last_set_is db.schema (holds.spot Sets).at (holds.spot Sets).tree (holds.stands Sets) }
+
+abbrev getting : Knows HoldsRecords GET_SET.now
+getting db r holds = record {
+  command = Select (record { lets = []; body = simple (holds.spot Sets).tree (at_key 0 0 ∷ []) name_columns }) (codes "name" ∷ codes "version" ∷ []);
+  means = get_set_is db.schema (holds.spot Sets).at (holds.spot Sets).tree (holds.stands Sets);
+}
+
+abbrev locking : Knows HoldsRecords MODULE_LOCKED.now
+locking db r holds = record { command = Select (record { lets = []; body = locked_query (holds.spot SetModules).tree }) (codes "dset" ∷ []); means = module_locked_is db.schema (holds.spot SetModules).at (holds.spot SetModules).tree (holds.stands SetModules) }
+
+abbrev putting : Knows HoldsRecords PUT_SET.now
+putting db r holds = record { command = Insert (holds.spot Sets).at (Values set_terms 4); means = put_set_is db.schema (holds.spot Sets).at (holds.spot Sets).tree (holds.stands Sets) }
+
+abbrev placing : Knows HoldsRecords PUT_SET_MODULE.now
+placing db r holds = record { command = Insert (holds.spot SetModules).at (Values set_module_terms 4); means = put_set_module_is db.schema (holds.spot SetModules).at (holds.spot SetModules).tree (holds.stands SetModules) }
+
+-- ---- whether there is such a set
+
+abbrev pub Finds : Bytes → Bytes → Records → Bool → Type 0
+Finds name version r found = found ≡ list_any (is_same_set name version) r.sets
+
+pub found : {E : Type 0} (name version : Bytes) (old new : State) (row : Option Row) → TakesFirst old new FIND_SET.now (names_of name version) (Ok row) → Reads HoldsRecords {E = E} old new (Ok (is_some row)) (Finds name version)
+found name version old new row h =
+    takes_ok HoldsRecords FIND_SET.now (names_of name version) old new (Finds name version) finding (λ db r holds at given. tt) row h (Ok (is_some row)) (λ db now holds shown. finds_set db now holds (codes "number" ∷ []) name version row shown)
+
+pub not_found : (params : Row) (name version : Bytes) (old new : State) (fault : Fault) → TakesFirst old new FIND_SET.now params (Err fault) → (out : Result Bool Fault) → IsErr out → Reads HoldsRecords old new out (Finds name version)
+not_found params name version old new fault h out bad = takes_err HoldsRecords FIND_SET.now params old new (Finds name version) finding fault h out bad
+
+-- ---- the last number
+
+abbrev pub IsLast : Records → ℕ → Type 0
+IsLast r last = last ≡ length r.sets
+
+lasts : (row : Option Row) (out : Result ℕ Fault) → IfOk out (λ n. IsLastRow n row)
+    → IfOk out (λ n. (db : Database) (now : Records) (holds : HoldsRecords db now) → ShowsFirst (ending db now holds).command db [] row → n ≡ length now.sets)
+lasts row (Ok n) h = λ db now holds shown. one_last row n (length now.sets) h (lasts_set db now holds (codes "number" ∷ []) row shown)
+lasts row (Err e) h = tt
+
+pub last_read : (old new : State) (row : Option Row) → TakesFirst old new LAST_SET.now [] (Ok row) → (out : Result ℕ Fault) → IfOk out (λ n. IsLastRow n row) → Reads HoldsRecords old new out IsLast
+last_read old new row h out is = takes_ok HoldsRecords LAST_SET.now [] old new IsLast ending (λ db r holds at given. tt) row h out (lasts row out is)
+
+pub last_not_read : (old new : State) (fault : Fault) → TakesFirst old new LAST_SET.now [] (Err fault) → (out : Result ℕ Fault) → IsErr out → Reads HoldsRecords old new out IsLast
+last_not_read old new fault h out bad = takes_err HoldsRecords LAST_SET.now [] old new IsLast ending fault h out bad
+
+-- ---- a set's name by its number
+
+abbrev pub Gets : ℕ → Records → Option SetName → Type 0
+Gets number r found = found ≡ option_map called (item_numbered r.sets number)
+
+-- a row has one name
+one_name : (name : SetName) (set : SetLabel) (row : Row) → IsSetNameRow row name → row ≡ names_of set.name set.version → name ≡ called set
+one_name name set row h is =
+    let first : Text name.name ≡ Text set.name = sym h.name ∙ ap (λ r. column r 0) is in
+    let second : Text name.version ≡ Text set.version = sym h.version ∙ ap (λ r. column r 1) is in
+    let same : name.name ≡ set.name = cc in
+    let alike : name.version ≡ set.version = cc in
+    ap (λ n. let it : SetName = record { name = n; version = name.version } in it) same ∙ ap (λ v. let it : SetName = record { name = set.name; version = v } in it) alike
+
+one_read : (wanted : Option SetLabel) (found : Option SetName) (row : Option Row) → IsReadAsSet found row → row ≡ option_map (λ (set : SetLabel). names_of set.name set.version) wanted → found ≡ option_map called wanted
+one_read None found None h is = h
+one_read (Some set) found None h is = absurd cc
+one_read None found (Some row) h is = absurd cc
+one_read (Some set) found (Some row) h is = let same : row ≡ names_of set.name set.version = cc in h.1 ∙ ap Some (one_name h.0 set row h.2 same)
+
+gets : (number : ℕ) → 1 ≤ number → (row : Option Row) (out : Result (Option SetName) Fault) → IfOk out (λ found. IsReadAsSet found row)
+    → IfOk out (λ found. (db : Database) (now : Records) (holds : HoldsRecords db now) → ShowsFirst (getting db now holds).command db (Int (pos number) ∷ []) row → found ≡ option_map called (item_numbered now.sets number))
+gets number least row (Ok found) h = λ db now holds shown. one_read (item_numbered now.sets number) found row h (gets_set db now holds (codes "name" ∷ codes "version" ∷ []) number least row shown)
+gets number least row (Err e) h = tt
+
+pub set_read : (number : ℕ) → 1 ≤ number → (old new : State) (row : Option Row) → TakesFirst old new GET_SET.now (Int (pos number) ∷ []) (Ok row) → (out : Result (Option SetName) Fault) → IfOk out (λ found. IsReadAsSet found row)
+    → Reads HoldsRecords old new out (Gets number)
+set_read number least old new row h out is = takes_ok HoldsRecords GET_SET.now (Int (pos number) ∷ []) old new (Gets number) getting (λ db r holds at given. tt) row h out (gets number least row out is)
+
+pub set_not_read : (params : Row) (number : ℕ) (old new : State) (fault : Fault) → TakesFirst old new GET_SET.now params (Err fault) → (out : Result (Option SetName) Fault) → IsErr out → Reads HoldsRecords old new out (Gets number)
+set_not_read params number old new fault h out bad = takes_err HoldsRecords GET_SET.now params old new (Gets number) getting fault h out bad
+
+-- ---- whether a set names a module
+
+abbrev pub Locks : ℕ → Records → Bool → Type 0
+Locks number r locked = locked ≡ is_named_by_set r.sets number
+
+pub locked : {E : Type 0} (number : ℕ) (old new : State) (row : Option Row) → TakesFirst old new MODULE_LOCKED.now (Int (pos number) ∷ []) (Ok row) → Reads HoldsRecords {E = E} old new (Ok (is_some row)) (Locks number)
+locked number old new row h =
+    takes_ok HoldsRecords MODULE_LOCKED.now (Int (pos number) ∷ []) old new (Locks number) locking (λ db r holds at given. tt) row h (Ok (is_some row)) (λ db now holds shown. finds_lock db now holds (codes "dset" ∷ []) number row shown)
+
+pub not_told : (params : Row) (number : ℕ) (old new : State) (fault : Fault) → TakesFirst old new MODULE_LOCKED.now params (Err fault) → (out : Result Bool Fault) → IsErr out → Reads HoldsRecords old new out (Locks number)
+not_told params number old new fault h out bad = takes_err HoldsRecords MODULE_LOCKED.now params old new (Locks number) locking fault h out bad
+
+-- ---- a new set, and a further module of it
+
+abbrev pub Puts : ℕ → Bytes → Bytes → Records → Records → Type 0
+Puts number name version r next = (number ≡ length r.sets + 1) × (next ≡ with_set r name version)
+
+pub set_written : (number : ℕ) (name version : Bytes) (old new : State) (out : Result (Unit {0}) Fault) → RunsText old new PUT_SET.now (Int (pos number) ∷ names_of name version) out → Writes HoldsRecords old new out (Puts number name version)
+set_written number name version old new out h = writes HoldsRecords PUT_SET.now (Int (pos number) ∷ names_of name version) old new (Puts number name version) putting (λ db r holds. refl) out h
+    (λ now next change holds count w. (w, subst (HoldsRecords new.now) (sym change.1) (adds_set name version number old new _ count now holds change.0 w)))
+
+pub set_module_written : (number place m : ℕ) (old new : State) (out : Result (Unit {0}) Fault) → RunsText old new PUT_SET_MODULE.now (place_row number place m) out → Writes HoldsRecords old new out (AddsSetModule number place m)
+set_module_written number place m old new out h = writes HoldsRecords PUT_SET_MODULE.now (place_row number place m) old new (AddsSetModule number place m) placing (λ db r holds. refl) out h
+    (λ now next change holds count w. (w, adds_set_module number place m old new _ count now next holds change w))

@@ -1,0 +1,103 @@
+//! Distribution sets, in a change that is under way.
+
+ghost use Rattle.std.specs.Prelude.{◌≡◌, ◌+◌, length};
+ghost use Rattle.std.specs.List.{list_any};
+ghost use Rattle.std.specs.Option.{option_map};
+ghost use Rattle.sqlite.specs.Held.{state};
+ghost use Rattle.sql_calls.specs.Standing.{Reads, Writes};
+ghost use Rattle.rollout_machine.specs.ByteStrings.{item_numbered};
+ghost use Rattle.rollout_machine.specs.Verdicts.{is_named_by_set};
+ghost use Rattle.desk_records.specs.Holds.{HoldsRecords};
+ghost use Rattle.desk_records.specs.Sets.{is_same_set, with_set, AddsSetModule};
+ghost use Rattle.desk_records.specs.SetRow.{called};
+ghost use Rattle.desk_store.specs.Counting.{AddsAtMost};
+
+use crate::change::OpenChange;
+use crate::reading::{last_number, set_name_in};
+use desk_records::{FIND_SET, GET_SET, LAST_SET, MODULE_LOCKED, PUT_SET, PUT_SET_MODULE, SetName};
+use rollout_model::{ModuleNo, SetNo, Text};
+use sql_calls::Fault;
+use sqlite::{Alter, params};
+
+impl<'a, S: Alter> OpenChange<'a, S> {
+    /// Whether there is a set of the same name and version.
+    pub fn read_same_set(&mut self, name: &Text, version: &Text) -> Result<bool, Fault>
+        ensures same_reference { self.new.store.ghost_name ≡ self.old.store.ghost_name }
+        ensures reads { Reads HoldsRecords (state S.Store self.old.store.now.calls.conn) (state S.Store self.new.store.now.calls.conn) result
+            (λ r found. found ≡ list_any (is_same_set name.now version.now) r.sets) }
+        ensures work { AddsAtMost 1 self.old.store.now.calls.work self.new.store.now.calls.work }
+    {
+        let row = self
+            .store
+            .calls
+            .first(FIND_SET, params![name.as_str(), version.as_str()])?;
+        Ok(row.is_some())
+    }
+
+    /// The number of the last set, which is how many there are.
+    pub fn read_last_set(&mut self) -> Result<u32, Fault>
+        ensures same_reference { self.new.store.ghost_name ≡ self.old.store.ghost_name }
+        ensures reads { Reads HoldsRecords (state S.Store self.old.store.now.calls.conn) (state S.Store self.new.store.now.calls.conn) result
+            (λ r last. last ≡ length r.sets) }
+        ensures work { AddsAtMost 1 self.old.store.now.calls.work self.new.store.now.calls.work }
+    {
+        let row = self.store.calls.first(LAST_SET, &[])?;
+        last_number(row)
+    }
+
+    /// What the set of a number is called. A row that breaks a column's rule is a failed store.
+    pub fn read_set(&mut self, number: SetNo) -> Result<Option<SetName>, Fault>
+        ensures same_reference { self.new.store.ghost_name ≡ self.old.store.ghost_name }
+        ensures reads { Reads HoldsRecords (state S.Store self.old.store.now.calls.conn) (state S.Store self.new.store.now.calls.conn) result
+            (λ r found. found ≡ option_map called (item_numbered r.sets number)) }
+        ensures work { AddsAtMost 1 self.old.store.now.calls.work self.new.store.now.calls.work }
+    {
+        let alloc = self.store.alloc;
+        let row = self.store.calls.first(GET_SET, params![number.get()])?;
+        set_name_in(alloc, row)
+    }
+
+    /// Whether a set names the module of a number, so that the module takes no further artifact.
+    pub fn read_module_is_locked(&mut self, number: ModuleNo) -> Result<bool, Fault>
+        ensures same_reference { self.new.store.ghost_name ≡ self.old.store.ghost_name }
+        ensures reads { Reads HoldsRecords (state S.Store self.old.store.now.calls.conn) (state S.Store self.new.store.now.calls.conn) result
+            (λ r locked. locked ≡ is_named_by_set r.sets number) }
+        ensures work { AddsAtMost 1 self.old.store.now.calls.work self.new.store.now.calls.work }
+    {
+        let row = self
+            .store
+            .calls
+            .first(MODULE_LOCKED, params![number.get()])?;
+        Ok(row.is_some())
+    }
+
+    /// Adds the set of the next number, with no modules yet.
+    pub fn write_set(&mut self, number: SetNo, name: &Text, version: &Text) -> Result<(), Fault>
+        ensures same_reference { self.new.store.ghost_name ≡ self.old.store.ghost_name }
+        ensures writes { Writes HoldsRecords (state S.Store self.old.store.now.calls.conn) (state S.Store self.new.store.now.calls.conn) result
+            (λ r next. (number ≡ length r.sets + 1) × (next ≡ with_set r name.now version.now)) }
+        ensures work { AddsAtMost 0 self.old.store.now.calls.work self.new.store.now.calls.work }
+    {
+        self.store.calls.run(
+            PUT_SET,
+            params![number.get(), name.as_str(), version.as_str()],
+        )
+    }
+
+    /// Adds a module to the last set, at its next place; places are counted from 1.
+    pub fn write_set_module(
+        &mut self,
+        number: SetNo,
+        place: u32,
+        added: ModuleNo,
+    ) -> Result<(), Fault>
+        ensures same_reference { self.new.store.ghost_name ≡ self.old.store.ghost_name }
+        ensures writes { Writes HoldsRecords (state S.Store self.old.store.now.calls.conn) (state S.Store self.new.store.now.calls.conn) result
+            (AddsSetModule number place added) }
+        ensures work { AddsAtMost 0 self.old.store.now.calls.work self.new.store.now.calls.work }
+    {
+        self.store
+            .calls
+            .run(PUT_SET_MODULE, params![number.get(), place, added.get()])
+    }
+}
