@@ -1,6 +1,7 @@
 //! How a connection's database becomes a desk: a new one is made, or the one that is there is taken over.
 #![tactic(auto)]
 
+mod desk_table;
 mod making;
 mod opening;
 mod reopening;
