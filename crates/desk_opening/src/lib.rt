@@ -6,6 +6,8 @@ mod making;
 mod opening;
 mod reopening;
 mod running;
+#[cfg(test)]
+mod tests;
 
 pub use crate::making::make;
 pub use crate::opening::{OpenFault, adopt, open_desk};

@@ -25,7 +25,7 @@ fn make_tables<S: Alter>(conn: &mut Connection<S>) -> Result<(), Fault>
 }
 
 /// Makes a new desk in one transaction.
-fn fill<S: Alter>(conn: &mut Connection<S>, approval: bool) -> Result<(), Fault>
+pub(crate) fn fill<S: Alter>(conn: &mut Connection<S>, approval: bool) -> Result<(), Fault>
     ensures { Makes (state S.Store conn.old) (state S.Store conn.new) approval result }
 {
     run(conn, BEGIN, &[])?;
