@@ -1,14 +1,18 @@
 //! What a desk is asked, and what it answers.
 
+use crate::distribution_set::{DistributionSet, SetLabel};
 use crate::module::{Module, ModuleLabel};
 use crate::number::ModuleNo;
 use crate::refusal::Refusal;
+use crate::set_number::SetNo;
 
 /// What changes a desk.
 #[derive(Debug, PartialEq, Eq, Drop)]
 pub enum Command {
     /// Adds a software module.
     AddModule(ModuleLabel),
+    /// Adds a distribution set.
+    AddSet(SetLabel),
 }
 
 /// What asks a desk and changes nothing.
@@ -16,6 +20,8 @@ pub enum Command {
 pub enum Query {
     /// The module of this number.
     Module(ModuleNo),
+    /// The distribution set of this number.
+    Set(SetNo),
 }
 
 /// A command or a query.
@@ -31,6 +37,9 @@ pub enum Reply {
     /// The module was added.
     ModuleAdded(Module),
     Module(Module),
+    /// The distribution set was added.
+    SetAdded(DistributionSet),
+    Set(DistributionSet),
     /// The request was refused: nothing changed, except perhaps after `StoreFailed`.
     Refused(Refusal),
 }
