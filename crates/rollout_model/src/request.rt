@@ -1,10 +1,13 @@
 //! What a desk is asked, and what it answers.
 
+ghost use Rattle.std.specs.Prelude.{◌≡◌, IfOk};
+
 use crate::distribution_set::{DistributionSet, SetLabel};
 use crate::module::{Module, ModuleLabel};
 use crate::number::ModuleNo;
 use crate::refusal::Refusal;
 use crate::set_number::SetNo;
+use std::alloc::{AllocError, Global};
 
 /// What changes a desk.
 #[derive(Debug, PartialEq, Eq, Drop)]
@@ -13,6 +16,18 @@ pub enum Command {
     AddModule(ModuleLabel),
     /// Adds a distribution set.
     AddSet(SetLabel),
+}
+
+impl Command {
+    /// The same command in memory of its own.
+    pub fn copy(&self, alloc: Global) -> Result<Command, AllocError>
+        ensures { IfOk result (λ command. command ≡ self.now) }
+    {
+        match self {
+            Command::AddModule(label) => Ok(Command::AddModule(label.copy(alloc)?)),
+            Command::AddSet(label) => Ok(Command::AddSet(label.copy(alloc)?)),
+        }
+    }
 }
 
 /// What asks a desk and changes nothing.
