@@ -1,33 +1,59 @@
 -- What a message of the management interface asks.
-use Rattle.std.specs.Prelude.{◌≡◌, ◌⊎◌, [], Option, Some, None, Result, MatchResult}
+use Rattle.std.specs.Prelude.{◌≡◌, ◌⊎◌, ℕ, Bool, true, false, [], if◌then◌else◌, Option, Some, None, Result, MatchResult, option_and_then, slice_get}
+use Rattle.std.specs.Option.{is_some}
 use Rattle.http_wire.specs.Messages.{WireMessage}
 use Rattle.http_wire.specs.Targets.{path_of, query_of}
 use Rattle.rollout_model.specs.declared.refusal.Refusal.{Refusal}
 use Rattle.rollout_model.specs.declared.refusal.Refusal.TheVariants.{BadRequest, NotFound, BadMethod, NoMemory}
 use Rattle.rollout_model.specs.declared.request.Request.{Request as RustRequest}
-use Rattle.rollout_machine.specs.Commands.{AddModule}
-use Rattle.rollout_machine.specs.Requests.{Do, Asked, Rejected, Asks}
+use Rattle.rollout_model.specs.Rules.{number_of as item_number_of}
+use Rattle.rollout_machine.specs.Commands.{Command, AddModule, AddSet}
+use Rattle.rollout_machine.specs.Requests.{Do, Ask, Query, ShowModule, ShowSet, Asked, Rejected, Asks}
 use Rattle.rollout_machine.specs.Views.{request_of}
+use Rattle.request_target.specs.Numbers.{number_of}
 use Rattle.request_target.specs.Queries.{query_pairs_of}
+use Rattle.request_target.specs.Routes.{segments}
 use Rattle.mgmt_objects.specs.ModuleBodies.{module_body}
+use Rattle.mgmt_objects.specs.SetBodies.{set_body}
 use Rattle.mgmt_api.specs.Table.{manage_route}
 use Rattle.mgmt_api.specs.Calls.{call_of}
 use Rattle.mgmt_api.specs.declared.call.ManageCall.{ManageCall}
-use Rattle.mgmt_api.specs.declared.call.ManageCall.TheVariants.{AddModule as AddModuleCall}
+use Rattle.mgmt_api.specs.declared.call.ManageCall.TheVariants.{AddModule as AddModuleCall, ShowModule as ShowModuleCall, AddSet as AddSetCall, ShowSet as ShowSetCall}
 
 -- a part of a message that can't be read rejects it
 abbrev pub or_rejected : {A : Type 0} → Refusal → (A → Asked) → Option A → Asked
 or_rejected refusal asked None = Rejected refusal
 or_rejected refusal asked (Some part) = asked part
 
--- no query, and a body that names a module
-abbrev pub add_module : WireMessage → Asked
-add_module m =
-    or_rejected BadRequest (λ _. or_rejected BadRequest (λ label. Asks (Do (AddModule label))) (module_body m.body))
-    (query_pairs_of [] (query_of m.target))
+-- the query holds nothing
+abbrev pub has_no_query : WireMessage → Bool
+has_no_query m = is_some (query_pairs_of [] (query_of m.target))
+
+-- what is asked by a call that takes no query
+abbrev pub without_query : WireMessage → Asked → Asked
+without_query m asked = if has_no_query m then asked else Rejected BadRequest
+
+-- no query, and a body that names what is added
+abbrev pub added_by : {A : Type 0} → Option A → (A → Command) → WireMessage → Asked
+added_by body command m = without_query m (or_rejected BadRequest (λ label. Asks (Do (command label))) body)
+
+-- the number that the segment at this place of the path writes
+abbrev pub path_number : WireMessage → ℕ → Option ℕ
+path_number m place = option_and_then number_of (slice_get (segments (path_of m.target)) place)
+
+-- the number of an item, from 1 to 2,147,483,647
+abbrev pub item_in : WireMessage → ℕ → Option ℕ
+item_in m place = option_and_then item_number_of (path_number m place)
+
+-- the item of a number in the path, where what is no such number is not found, and no query
+abbrev pub shown_by : (ℕ → Query) → WireMessage → Asked
+shown_by query m = or_rejected NotFound (λ number. without_query m (Asks (Ask (query number)))) (item_in m 4)
 
 abbrev pub asked_by : ManageCall → WireMessage → Asked
-asked_by AddModuleCall m = add_module m
+asked_by AddModuleCall m = added_by (module_body m.body) AddModule m
+asked_by ShowModuleCall m = shown_by ShowModule m
+asked_by AddSetCall m = added_by (set_body m.body) AddSet m
+asked_by ShowSetCall m = shown_by ShowSet m
 
 -- the first refusal that applies: the route, the method, and then the call's own
 abbrev pub manage_reading : WireMessage → Asked
@@ -42,3 +68,7 @@ IsReadersOwn refusal = (refusal ≡ NotFound) ⊎ (refusal ≡ BadMethod) ⊎ (r
 -- the request that is asked, or the refusal that it is rejected by; in place of either, want of memory
 abbrev pub Reads : Asked → Result RustRequest Refusal → Type 0
 Reads asked result = MatchResult result (λ request. asked ≡ Asks (request_of request)) (λ refusal. (refusal ≡ NoMemory) ⊎ ((asked ≡ Rejected refusal) × IsReadersOwn refusal))
+
+-- no query, or a bad request where there is one; in place of either, want of memory
+abbrev pub TakesNoQuery : WireMessage → Result (Unit {0}) Refusal → Type 0
+TakesNoQuery m result = MatchResult result (λ _. has_no_query m ≡ true) (λ refusal. (refusal ≡ NoMemory) ⊎ ((refusal ≡ BadRequest) × (has_no_query m ≡ false)))

@@ -6,8 +6,9 @@ use Rattle.http_wire.specs.declared.reply.ContentType.{ContentType}
 use Rattle.http_wire.specs.declared.reply.ContentType.TheVariants.{Json}
 use Rattle.http_wire.specs.declared.reply.Answer.{Answer}
 use Rattle.rollout_model.specs.Refusals.{refusal_row}
-use Rattle.rollout_machine.specs.Replies.{Reply, Refused, Done, ModuleAdded, ModulesShown, ModuleShown}
+use Rattle.rollout_machine.specs.Replies.{Reply, Refused, Done, ModuleAdded, ModulesShown, ModuleShown, SetAdded, SetsShown, SetShown}
 use Rattle.mgmt_objects.specs.ModuleObjects.{module_data}
+use Rattle.mgmt_objects.specs.SetObjects.{set_data}
 use Rattle.mgmt_objects.specs.Pages.{single, page_data}
 
 pub record ReplyParts : Type 0 where
@@ -27,6 +28,9 @@ parts_of (Refused refusal) = record { status = (refusal_row refusal).status; con
 parts_of (ModuleAdded m) = json_reply 201 (compact_text (single (module_data m)))
 parts_of (ModuleShown m) = json_reply 200 (compact_text (module_data m))
 parts_of (ModulesShown page) = json_reply 200 (compact_text (page_data (map module_data page.content) page.total))
+parts_of (SetAdded s) = json_reply 201 (compact_text (single (set_data s)))
+parts_of (SetShown s) = json_reply 200 (compact_text (set_data s))
+parts_of (SetsShown page) = json_reply 200 (compact_text (page_data (map set_data page.content) page.total))
 parts_of Done = json_reply 200 (codes "{}")
 parts_of _ = json_reply 200 []
 

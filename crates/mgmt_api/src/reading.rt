@@ -5,24 +5,82 @@ ghost use Rattle.rollout_model.specs.declared.refusal.Refusal.TheVariants.{NoMem
 ghost use Rattle.rollout_machine.specs.Requests.{Asks, Rejected};
 ghost use Rattle.rollout_machine.specs.Views.{request_of};
 ghost use Rattle.http_wire.specs.Inbox.{message_of};
-ghost use Rattle.mgmt_api.specs.Reading.{Reads, add_module, asked_by, manage_reading};
+ghost use Rattle.mgmt_api.specs.Reading.{Reads, TakesNoQuery, asked_by, item_in, manage_reading, path_number};
 
 use crate::call::{ManageCall, call_of};
 use crate::routes::ManageRoutes;
 use http_wire::Message;
-use mgmt_objects::read_module_body;
-use request_target::takes_query;
-use rollout_model::{Command, Refusal, Request};
+use mgmt_objects::{read_module_body, read_set_body};
+use request_target::{number_at, takes_query};
+use rollout_model::{Command, ModuleNo, Query, Refusal, Request, SetNo};
 use std::alloc::Global;
 
-fn read_add_module(alloc: Global, message: &Message<'_>) -> Result<Request, Refusal>
-    ensures { Reads (add_module (message_of message.now)) result }
+/// A call that takes no query is refused where there is one.
+fn take_no_query(alloc: Global, message: &Message<'_>) -> Result<(), Refusal>
+    ensures { TakesNoQuery (message_of message.now) result }
 {
-    if !takes_query(alloc, &[], message.query())? {
-        return Err(Refusal::BadRequest);
+    if takes_query(alloc, &[], message.query())? {
+        Ok(())
+    } else {
+        Err(Refusal::BadRequest)
     }
+}
+
+/// The number that the fifth segment of the path writes, the empty one before the first slash counted.
+fn read_path_number(message: &Message<'_>) -> Option<u32>
+    ensures { result ≡ path_number (message_of message.now) 4 }
+{
+    number_at(message.path(), 4)
+}
+
+fn read_module_number(message: &Message<'_>) -> Option<ModuleNo>
+    ensures { result ≡ item_in (message_of message.now) 4 }
+{
+    let number = read_path_number(message)?;
+    ModuleNo::new(number)
+}
+
+fn read_set_number(message: &Message<'_>) -> Option<SetNo>
+    ensures { result ≡ item_in (message_of message.now) 4 }
+{
+    let number = read_path_number(message)?;
+    SetNo::new(number)
+}
+
+fn read_add_module(alloc: Global, message: &Message<'_>) -> Result<Request, Refusal>
+    ensures { Reads (asked_by ManageCall.AddModule (message_of message.now)) result }
+{
+    take_no_query(alloc, message)?;
     let label = read_module_body(alloc, message.body)?;
     Ok(Request::Do(Command::AddModule(label)))
+}
+
+fn read_show_module(alloc: Global, message: &Message<'_>) -> Result<Request, Refusal>
+    ensures { Reads (asked_by ManageCall.ShowModule (message_of message.now)) result }
+{
+    let Some(number) = read_module_number(message) else {
+        return Err(Refusal::NotFound);
+    };
+    take_no_query(alloc, message)?;
+    Ok(Request::Ask(Query::Module(number)))
+}
+
+fn read_add_set(alloc: Global, message: &Message<'_>) -> Result<Request, Refusal>
+    ensures { Reads (asked_by ManageCall.AddSet (message_of message.now)) result }
+{
+    take_no_query(alloc, message)?;
+    let label = read_set_body(alloc, message.body)?;
+    Ok(Request::Do(Command::AddSet(label)))
+}
+
+fn read_show_set(alloc: Global, message: &Message<'_>) -> Result<Request, Refusal>
+    ensures { Reads (asked_by ManageCall.ShowSet (message_of message.now)) result }
+{
+    let Some(number) = read_set_number(message) else {
+        return Err(Refusal::NotFound);
+    };
+    take_no_query(alloc, message)?;
+    Ok(Request::Ask(Query::Set(number)))
 }
 
 fn read_call(alloc: Global, call: ManageCall, message: &Message<'_>) -> Result<Request, Refusal>
@@ -30,6 +88,9 @@ fn read_call(alloc: Global, call: ManageCall, message: &Message<'_>) -> Result<R
 {
     match call {
         ManageCall::AddModule => read_add_module(alloc, message),
+        ManageCall::ShowModule => read_show_module(alloc, message),
+        ManageCall::AddSet => read_add_set(alloc, message),
+        ManageCall::ShowSet => read_show_set(alloc, message),
     }
 }
 

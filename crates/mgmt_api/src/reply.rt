@@ -68,6 +68,14 @@ fn answer_to(alloc: Global, reply: &Reply) -> Result<Answer, AllocError>
             let body = object_text(alloc, module)?;
             Ok(json_answer(StatusCode::OK, body))
         }
+        Reply::SetAdded(set) => {
+            let body = single_text(alloc, set)?;
+            Ok(json_answer(StatusCode::CREATED, body))
+        }
+        Reply::Set(set) => {
+            let body = object_text(alloc, set)?;
+            Ok(json_answer(StatusCode::OK, body))
+        }
         Reply::Refused(refusal) => {
             let body = refusal_body(alloc, *refusal)?;
             Ok(json_answer(refusal_status(*refusal), body))

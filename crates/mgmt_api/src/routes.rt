@@ -15,6 +15,12 @@ use std::str;
 pub enum ManageRoute {
     /// `/rest/v1/softwaremodules`
     Modules,
+    /// `/rest/v1/softwaremodules/{module}`
+    Module,
+    /// `/rest/v1/distributionsets`
+    Sets,
+    /// `/rest/v1/distributionsets/{set}`
+    Set,
 }
 
 /// The routes of the management interface, each found by its path.
@@ -28,7 +34,13 @@ pub struct ManageRoutes {
 fn manage_router(alloc: Global) -> Result<Router<ManageRoute>, AllocError>
     ensures { IfOk result (λ r. r ≡ manage_rows) }
 {
-    router_of(alloc, &[("/rest/v1/softwaremodules", ManageRoute::Modules)])
+    let routes = [
+        ("/rest/v1/softwaremodules", ManageRoute::Modules),
+        ("/rest/v1/softwaremodules/{module}", ManageRoute::Module),
+        ("/rest/v1/distributionsets", ManageRoute::Sets),
+        ("/rest/v1/distributionsets/{set}", ManageRoute::Set),
+    ];
+    router_of(alloc, &routes)
 }
 
 impl ManageRoutes {

@@ -6,4 +6,5 @@ pub mod Param
 pub mod Found
 pub mod Apart
 pub mod Segments
+pub mod SegmentLemmas
 pub mod TableRows

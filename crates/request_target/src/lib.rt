@@ -6,6 +6,7 @@
 
 mod numbers;
 mod pairs;
+mod path_segments;
 mod query;
 mod routes;
 #[cfg(test)]
@@ -13,5 +14,6 @@ mod tests;
 
 pub use numbers::read_number;
 pub use pairs::read_pairs;
+pub use path_segments::{number_at, segment_at};
 pub use query::{are_clean, number_or, takes_query, value_of};
 pub use routes::{route_of, router_of};

@@ -26,12 +26,19 @@ fn number_after(n: u32, digits: &[u8]) -> Option<u32>
 }
 
 /// A number written in digits without a leading zero.
-pub fn read_number(text: &str) -> Option<u32>
-    ensures { result ≡ number_of text.now }
+pub(crate) fn read_digits(digits: &[u8]) -> Option<u32>
+    ensures { result ≡ number_of digits.now }
 {
-    match text.as_bytes() {
+    match digits {
         [] => None,
         [b'0', _, ..] => None,
         digits => number_after(0, digits),
     }
+}
+
+/// A number written in digits without a leading zero, at most 2,147,483,647.
+pub fn read_number(text: &str) -> Option<u32>
+    ensures { result ≡ number_of text.now }
+{
+    read_digits(text.as_bytes())
 }

@@ -1,8 +1,8 @@
 -- The rules that the parts of a command keep: those of the words and numbers, ranges, and the limits of lists.
-use Rattle.rollout_model.specs.Rules.{is_between, is_word, is_filename, is_text, is_value, is_detail, is_byte, is_digest, is_number}
+use Rattle.rollout_model.specs.Rules.{is_between, is_word, is_filename, is_text, is_value, is_detail, is_byte, is_digest, is_module_list, is_number}
 use Rattle.rollout_machine.specs.ByteStrings.{contains_word}
 use Rattle.rollout_machine.specs.Commands.{AddArtifact, Cancel, CancelFeedback, RolloutPlan, Start, Command, Attribute, Pause, CreateRollout, SetLabel, PutTargets, Untag, Deny, Approve, AddModule, Feedback, PutAttributes, Tag, Resume, TriggerNext, TargetRow, AddSet, Upload, Bytes, Credential}
-use Rattle.rollout_model.specs.Limits.{artifact_size_limit, group_limit, percentage_limit, attribute_limit, set_module_limit, detail_limit, tag_limit}
+use Rattle.rollout_model.specs.Limits.{artifact_size_limit, group_limit, percentage_limit, attribute_limit, detail_limit, tag_limit}
 use Rattle.std.specs.Prelude.{◌≡◌, ℕ, Bool, true, ◌&&◌, not, nat_eq, nat_le, List, [], ◌∷◌, length, Option, Some, None}
 use Rattle.std.specs.List.{list_any, list_all}
 use Rattle.std.specs.Str.{is_utf8}
@@ -10,10 +10,6 @@ use Rattle.std.specs.Str.{is_utf8}
 abbrev pub are_distinct : List Bytes → Bool
 are_distinct [] = true
 are_distinct (w ∷ ws) = not (contains_word w ws) && are_distinct ws
-
-abbrev pub are_distinct_numbers : List ℕ → Bool
-are_distinct_numbers [] = true
-are_distinct_numbers (n ∷ ns) = not (list_any (λ m. nat_eq m n) ns) && are_distinct_numbers ns
 
 -- ---- parts
 
@@ -34,7 +30,7 @@ abbrev pub is_upload : Upload → Bool
 is_upload u = is_number u.module_number && (is_filename u.filename && (is_digest_or_none u.expected && (nat_le (length u.contents) artifact_size_limit && list_all is_byte u.contents)))
 
 abbrev pub is_set_label : SetLabel → Bool
-is_set_label s = is_text s.name && (is_text s.version && (is_between 1 set_module_limit (length s.modules) && (list_all is_number s.modules && are_distinct_numbers s.modules)))
+is_set_label s = is_text s.name && (is_text s.version && is_module_list s.modules)
 
 abbrev pub is_percentage : ℕ → Bool
 is_percentage p = is_between 1 percentage_limit p

@@ -1,6 +1,7 @@
 -- The commands of a desk as pure values.
 use Rattle.std.specs.Prelude.{ℕ, Bool, List, Option}
 pub use Rattle.rollout_model.specs.declared.module.ModuleLabel.{ModuleLabel}
+pub use Rattle.rollout_model.specs.declared.distribution_set.SetLabel.{SetLabel}
 pub use Rattle.rollout_model.specs.declared.target.Attribute.{Attribute}
 pub use Rattle.rollout_machine.specs.declared.outcome.Outcome.{Outcome}
 pub use Rattle.rollout_machine.specs.declared.outcome.Outcome.TheVariants.{Good, Bad, Gone}
@@ -25,11 +26,6 @@ pub record Upload : Type 0 where
   pub filename : Bytes
   pub expected : Option Bytes
   pub contents : Bytes
-
-pub record SetLabel : Type 0 where
-  pub name : Bytes
-  pub version : Bytes
-  pub modules : List ℕ
 
 -- what a rollout is created from. The thresholds are percentages from 1 to 100
 pub record RolloutPlan : Type 0 where

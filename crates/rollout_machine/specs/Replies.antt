@@ -1,10 +1,11 @@
 -- The replies of a desk as pure values, with the objects that they show.
 use Rattle.std.specs.Prelude.{ℕ, List, Option}
 use Rattle.rollout_machine.specs.Actions.{HistoryEntry}
-use Rattle.rollout_machine.specs.Commands.{Bytes, ModuleLabel, SetLabel, Attribute}
+use Rattle.rollout_machine.specs.Commands.{Bytes, ModuleLabel, Attribute}
 use Rattle.rollout_machine.specs.Offers.{Offer}
 use Rattle.rollout_model.specs.declared.refusal.Refusal.{Refusal}
 pub use Rattle.rollout_model.specs.declared.module.Module.{Module}
+pub use Rattle.rollout_model.specs.declared.distribution_set.DistributionSet.{DistributionSet}
 use Rattle.rollout_machine.specs.StateWords.{RolloutWord, GroupWord, ActionWord, TargetWord}
 
 pub record Artifact : Type 0 where
@@ -12,10 +13,6 @@ pub record Artifact : Type 0 where
   pub filename : Bytes
   pub size : ℕ
   pub digest : Bytes
-
-pub record DistributionSet : Type 0 where
-  pub number : ℕ
-  pub label : SetLabel
 
 -- a target without its token's digest
 pub record ShownTarget : Type 0 where

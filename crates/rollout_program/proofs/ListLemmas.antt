@@ -1,73 +1,80 @@
 -- What the list of kept commands amounts to.
-use Rattle.std.proofs.Common.{◌≡◌, ℕ, suc, Bool, ◌||◌, List, [], ◌∷◌, ◌++◌, map, length, Option, refl, sym, ap, ◌∙◌, append_assoc}
-use Rattle.std.specs.Prelude.{slice_get}
+use Rattle.std.proofs.Common.{◌≡◌, ◌<◌, ◌+◌, ℕ, Bool, ◌||◌, List, [], ◌∷◌, ◌++◌, map, take, length, get_or, Option, Some, None, option_map, refl, sym, ap, ◌∙◌}
+use Rattle.std.specs.Prelude.{slice_get, zero, suc}
+use Rattle.std.specs.Option.{is_none}
 use Rattle.std.specs.List.{list_any}
-use Rattle.std.specs.Option.{option_map}
-use Rattle.std.proofs.lemmas.List.{append-nil, length-map}
+use Rattle.std.proofs.lemmas.List.{take_more, length-map}
 use Rattle.std.proofs.lemmas.Option.{slice_get-map}
 use Rattle.rollout_machine.specs.ByteStrings.{item_numbered}
 use Rattle.rollout_machine.specs.CommandList.{CommandList, Make, ◌▸◌, followed_by}
-use Rattle.rollout_machine.specs.Commands.{ModuleLabel, AddModule}
-use Rattle.rollout_machine.specs.Records.{modules, needs_approval, sets}
+use Rattle.rollout_machine.specs.Commands.{ModuleLabel, SetLabel}
+use Rattle.rollout_machine.specs.Records.{added_modules, added_sets, modules, needs_approval, sets}
 use Rattle.rollout_machine.specs.Views.{command_of}
 use Rattle.rollout_model.specs.declared.request.Command.{Command}
-use Rattle.rollout_model.specs.declared.request.Command.TheVariants as rust
-use Rattle.rollout_program.specs.Lists.{list_from, label_in, is_same}
-
--- ---- after a list
-
-modules_after : (h : CommandList) (commands : List Command) → modules (followed_by h (map command_of commands)) ≡ modules h ++ map label_in commands
-modules_after h [] = sym (append-nil (modules h))
-modules_after h (rust.AddModule label ∷ commands) = modules_after (h ▸ AddModule label) commands ∙ append_assoc (modules h) (label ∷ []) (map label_in commands)
-
-sets_after : (h : CommandList) (commands : List Command) → sets (followed_by h (map command_of commands)) ≡ sets h
-sets_after h [] = refl
-sets_after h (rust.AddModule label ∷ commands) = sets_after (h ▸ AddModule label) commands ∙ append-nil (sets h)
-
-approval_after : (h : CommandList) (commands : List Command) → needs_approval (followed_by h (map command_of commands)) ≡ needs_approval h
-approval_after h [] = refl
-approval_after h (rust.AddModule label ∷ commands) = approval_after (h ▸ AddModule label) commands
+use Rattle.rollout_program.specs.Lists.{list_from}
 
 one_after : (h : CommandList) (commands : List Command) (c : Command) → followed_by h (map command_of (commands ++ c ∷ [])) ≡ followed_by h (map command_of commands) ▸ command_of c
 one_after h [] c = refl
 one_after h (d ∷ commands) c = one_after (h ▸ command_of d) commands c
 
--- ---- the list of these commands
+-- the list of one command more
+pub list_with : (approval : Bool) (commands : List Command) (c : Command) → list_from approval (commands ++ c ∷ []) ≡ list_from approval commands ▸ command_of c
+list_with approval commands c = one_after (Make approval) commands c
 
-modules_from : (approval : Bool) (commands : List Command) → modules (list_from approval commands) ≡ map label_in commands
-modules_from approval commands = modules_after (Make approval) commands
+list_more : (approval : Bool) (commands : List Command) (i : ℕ) (c : Command) → i < length commands → c ≡ get_or commands i c
+    → list_from approval (take (i + 1) commands) ≡ list_from approval (take i commands) ▸ command_of c
+list_more approval commands i c below is =
+    ap (list_from approval) (take_more commands i c below ∙ ap (λ (d : Command). take i commands ++ d ∷ []) (sym is)) ∙ list_with approval (take i commands) c
 
-pub no_sets : (approval : Bool) (commands : List Command) → sets (list_from approval commands) ≡ []
-no_sets approval commands = sets_after (Make approval) commands
+-- ---- a loop's step
+
+pub modules_more : (approval : Bool) (commands : List Command) (i : ℕ) (c : Command) (before after : List ModuleLabel) → i < length commands → c ≡ get_or commands i c
+    → before ≡ modules (list_from approval (take i commands)) → after ≡ before ++ added_modules (command_of c) → after ≡ modules (list_from approval (take (i + 1) commands))
+modules_more approval commands i c before after below is so_far more =
+    more ∙ ap (λ (ms : List ModuleLabel). ms ++ added_modules (command_of c)) so_far ∙ ap modules (sym (list_more approval commands i c below is))
+
+pub sets_more : (approval : Bool) (commands : List Command) (i : ℕ) (c : Command) (before after : List SetLabel) → i < length commands → c ≡ get_or commands i c
+    → before ≡ sets (list_from approval (take i commands)) → after ≡ before ++ added_sets (command_of c) → after ≡ sets (list_from approval (take (i + 1) commands))
+sets_more approval commands i c before after below is so_far more =
+    more ∙ ap (λ (ss : List SetLabel). ss ++ added_sets (command_of c)) so_far ∙ ap sets (sym (list_more approval commands i c below is))
+
+approval_after : (h : CommandList) (commands : List Command) → needs_approval (followed_by h (map command_of commands)) ≡ needs_approval h
+approval_after h [] = refl
+approval_after h (c ∷ commands) = approval_after (h ▸ command_of c) commands
 
 -- the list is made of what is shown of it
 pub shown_whole : (approval : Bool) (commands shown : List Command) → shown ≡ commands → list_from approval commands ≡ list_from (needs_approval (list_from approval commands)) shown
 shown_whole approval commands shown same =
     ap (λ (b : Bool). list_from b commands) (sym (approval_after (Make approval) commands)) ∙ ap (list_from (needs_approval (list_from approval commands))) (sym same)
 
-any_map : (p : ModuleLabel → Bool) (commands : List Command) → list_any p (map label_in commands) ≡ list_any (λ (c : Command). p (label_in c)) commands
-any_map p [] = refl
-any_map p (c ∷ commands) = ap (λ b. p (label_in c) || b) (any_map p commands)
+-- ---- what is found among references is found among what they show
 
-pub any_module : (approval : Bool) (commands shown : List Command) (label : ModuleLabel) (found : Bool) → shown ≡ commands
-    → found ≡ list_any (λ (c : Command). is_same label (label_in c)) shown → found ≡ list_any (is_same label) (modules (list_from approval commands))
-any_module approval commands shown label found same is =
-    is ∙ ap (list_any (λ (c : Command). is_same label (label_in c))) same ∙ sym (ap (list_any (is_same label)) (modules_from approval commands) ∙ any_map (is_same label) commands)
+module _ {X Y : Type 0} (f : X → Y) where
+  any_map : (p : Y → Bool) (xs : List X) → list_any (λ x. p (f x)) xs ≡ list_any p (map f xs)
+  any_map p [] = refl
+  any_map p (x ∷ xs) = ap (λ b. p (f x) || b) (any_map p xs)
 
-module_length : (approval : Bool) (commands : List Command) → length (modules (list_from approval commands)) ≡ length commands
-module_length approval commands = ap length (modules_from approval commands) ∙ length-map commands label_in
+  item_map : (xs : List X) (number : ℕ) → option_map f (item_numbered xs number) ≡ item_numbered (map f xs) number
+  item_map xs zero = refl
+  item_map xs (suc k) = sym (slice_get-map f xs k)
 
-pub module_total : (approval : Bool) (commands shown : List Command) (count : ℕ) → shown ≡ commands → count ≡ length shown → count ≡ length (modules (list_from approval commands))
-module_total approval commands shown count same is = is ∙ ap length same ∙ sym (module_length approval commands)
+  none_map : (o : Option X) → is_none o ≡ is_none (option_map f o)
+  none_map None = refl
+  none_map (Some x) = refl
 
-pub module_at : (approval : Bool) (commands shown : List Command) (number before : ℕ) (found : Option ModuleLabel) → shown ≡ commands → number ≡ suc before
-    → found ≡ option_map label_in (slice_get shown before) → found ≡ item_numbered (modules (list_from approval commands)) number
-module_at approval commands shown number before found same next is =
-    is ∙ ap (λ (cs : List Command). option_map label_in (slice_get cs before)) same
-    ∙ sym (ap (item_numbered (modules (list_from approval commands))) next ∙ ap (λ (ls : List ModuleLabel). slice_get ls before) (modules_from approval commands) ∙ slice_get-map label_in commands before)
+  lacks_map : (xs : List X) (ms : List ℕ) → list_any (λ m. is_none (item_numbered xs m)) ms ≡ list_any (λ m. is_none (item_numbered (map f xs) m)) ms
+  lacks_map xs [] = refl
+  lacks_map xs (m ∷ ms) = λ i. (none_map (item_numbered xs m) ∙ ap is_none (item_map xs m)) i || lacks_map xs ms i
 
--- a command that is kept at the end
-pub kept_last : (approval : Bool) (commands now : List Command) (label kept : ModuleLabel) → now ≡ commands ++ rust.AddModule kept ∷ [] → kept ≡ label
-    → list_from approval now ≡ list_from approval commands ▸ AddModule label
-kept_last approval commands now label kept pushed same =
-    ap (list_from approval) pushed ∙ one_after (Make approval) commands (rust.AddModule kept) ∙ ap (λ (l : ModuleLabel). list_from approval commands ▸ AddModule l) same
+  pub seen_any : (p : Y → Bool) (xs given : List X) (ys : List Y) (b : Bool) → map f xs ≡ ys → given ≡ xs → b ≡ list_any (λ x. p (f x)) given → b ≡ list_any p ys
+  seen_any p xs given ys b same is found = found ∙ any_map p given ∙ ap (λ (zs : List X). list_any p (map f zs)) is ∙ ap (list_any p) same
+
+  pub seen_item : (xs given : List X) (ys : List Y) (number : ℕ) (o : Option X) → map f xs ≡ ys → given ≡ xs → o ≡ item_numbered given number → option_map f o ≡ item_numbered ys number
+  seen_item xs given ys number o same is found = ap (option_map f) found ∙ item_map given number ∙ ap (λ (zs : List X). item_numbered (map f zs) number) is ∙ ap (λ (zs : List Y). item_numbered zs number) same
+
+  pub seen_length : (xs : List X) (ys : List Y) → map f xs ≡ ys → length xs ≡ length ys
+  seen_length xs ys same = sym (length-map xs f) ∙ ap length same
+
+  pub seen_lacks : (xs given : List X) (ys : List Y) (ms : List ℕ) (b : Bool) → map f xs ≡ ys → given ≡ xs → b ≡ list_any (λ m. is_none (item_numbered given m)) ms → b ≡ list_any (λ m. is_none (item_numbered ys m)) ms
+  seen_lacks xs given ys ms b same is found =
+      found ∙ lacks_map given ms ∙ ap (λ (zs : List X). list_any (λ m. is_none (item_numbered (map f zs) m)) ms) is ∙ ap (λ (zs : List Y). list_any (λ m. is_none (item_numbered zs m)) ms) same

@@ -2,7 +2,10 @@
 //! that list alone. It has no database. Tests hold it against the bodies that are fast.
 #![tactic(auto)]
 
+mod listed;
+mod modules;
 mod program;
+mod sets;
 
 pub use program::Program;
 

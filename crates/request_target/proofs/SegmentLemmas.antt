@@ -1,0 +1,48 @@
+-- The first segment of a path, and the segment at a place.
+use Rattle.std.proofs.Common.{◌≡◌, ◌<◌, ◌+◌, ℕ, zero, suc, List, [], ◌∷◌, ◌++◌, length, take, drop, get_or, Bool, true, false, not, ◌&&◌, ◌==◌, Option, Some, None, option_map, refl, sym, ap, ◌∙◌, arith}
+use Rattle.std.specs.Prelude.{slice_get}
+use Rattle.std.specs.List.{list_all}
+use Rattle.std.proofs.lemmas.Bool.{false≢true}
+use Rattle.std.proofs.lemmas.List.{take-append-drop}
+use Rattle.std.proofs.Math.Seq.{drop-cons}
+use Rattle.request_target.specs.Routes.{segments}
+use Rattle.request_target.proofs.Longest.{both}
+
+abbrev pub no_slash : ℕ → Bool
+no_slash b = not (b == 47)
+
+in_front_one : (b : ℕ) (t : List ℕ) (c : Bool) → (b == 47) ≡ c → not c ≡ true → segments t ≡ t ∷ [] → segments (b ∷ t) ≡ (b ∷ t) ∷ []
+in_front_one b t true e h k = absurd (false≢true h)
+in_front_one b t false e h k = rw (e, k) refl
+
+pub one_segment : (t : List ℕ) → list_all no_slash t ≡ true → segments t ≡ t ∷ []
+one_segment [] h = refl
+one_segment (b ∷ t) h =
+    let p = both (no_slash b) (list_all no_slash t) h in
+    in_front_one b t (b == 47) refl p.0 (one_segment t p.1)
+
+in_front_more : (b : ℕ) (t p : List ℕ) (ps : List (List ℕ)) (c : Bool) → (b == 47) ≡ c → not c ≡ true → segments t ≡ p ∷ ps → segments (b ∷ t) ≡ (b ∷ p) ∷ ps
+in_front_more b t p ps true e h k = absurd (false≢true h)
+in_front_more b t p ps false e h k = rw (e, k) refl
+
+first_segment : (p rest : List ℕ) → list_all no_slash p ≡ true → segments (p ++ 47 ∷ rest) ≡ p ∷ segments rest
+first_segment [] rest h = refl
+first_segment (b ∷ p) rest h =
+    let q = both (no_slash b) (list_all no_slash p) h in
+    in_front_more b (p ++ 47 ∷ rest) p (segments rest) (b == 47) refl q.0 (first_segment p rest q.1)
+
+pub cut : (t : List ℕ) (k : ℕ) → k < length t → get_or t k 0 ≡ 47 → list_all no_slash (take k t) ≡ true → segments t ≡ take k t ∷ segments (drop (k + 1) t)
+cut t k l e h =
+    let one : k + 1 ≡ suc k = omega arith in
+    let whole : t ≡ take k t ++ 47 ∷ drop (k + 1) t = sym (take-append-drop k t) ∙ ap (λ y. take k t ++ y) (drop-cons t k 0 l ∙ ap (λ b. b ∷ drop (suc k) t) e ∙ ap (λ n. 47 ∷ drop n t) (sym one)) in
+    ap segments whole ∙ first_segment (take k t) (drop (k + 1) t) h
+
+-- behind the first segment
+pub later_segment : (path first rest : List ℕ) (place before : ℕ) (o : Option (List ℕ)) → segments path ≡ first ∷ segments rest → place ≡ suc before → o ≡ slice_get (segments rest) before → o ≡ slice_get (segments path) place
+later_segment path first rest place before o is next found = found ∙ sym (ap (λ n. slice_get (segments path) n) next ∙ ap (λ (s : List (List ℕ)). slice_get s (suc before)) is)
+
+pub none_later : (path : List ℕ) (place before : ℕ) → segments path ≡ path ∷ [] → place ≡ suc before → None ≡ slice_get (segments path) place
+none_later path place before is next = later_none ∙ sym (ap (λ n. slice_get (segments path) n) next ∙ ap (λ (s : List (List ℕ)). slice_get s (suc before)) is)
+  where
+    later_none : None ≡ slice_get (path ∷ []) (suc before)
+    later_none = refl

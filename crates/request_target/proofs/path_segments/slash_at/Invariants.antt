@@ -1,0 +1,7 @@
+use Rattle.std.proofs.Common.{◌≡◌, take, true}
+use Rattle.std.specs.List.{list_all}
+use Rattle.request_target.proofs.SegmentLemmas.{no_slash}
+use Rattle.request_target.proofs.path_segments.slash_at.Given as goal
+
+abbrev pub invariant-loop-at : goal.invariant-loop-at
+invariant-loop-at l = list_all no_slash (take l.at l.path) ≡ true

@@ -1,0 +1,58 @@
+//! Modules of the list.
+
+ghost use Rattle.rollout_machine.specs.Commands.{AddModule};
+ghost use Rattle.rollout_machine.specs.Requests.{ShowModule};
+ghost use Rattle.rollout_program.specs.Lists.{list_from};
+ghost use Rattle.rollout_program.specs.Steps.{Previews, Shows};
+
+use crate::listed::{has_module, is_named, module_numbered, modules, sets};
+use rollout_model::{Command, Module, ModuleLabel, ModuleNo, Refusal, Reply};
+use std::alloc::Global;
+
+/// How many modules a desk takes.
+const MODULE_LIMIT: usize = 1000;
+
+/// What a module that is added is answered with.
+pub(crate) fn preview_module(
+    alloc: Global,
+    commands: &[Command],
+    label: &ModuleLabel,
+) -> Result<Reply, Refusal>
+    ensures { (approval : _) → Previews (list_from approval commands.now) (AddModule label.now) result }
+{
+    let modules = modules(alloc, commands)?;
+    if has_module(&modules, label) {
+        return Err(Refusal::Exists);
+    }
+    let count = modules.len();
+    if count >= MODULE_LIMIT {
+        return Err(Refusal::Quota);
+    }
+    let number = ModuleNo::new(count as u32 + 1).unwrap();
+    let sets = sets(alloc, commands)?;
+    Ok(Reply::ModuleAdded(Module {
+        number,
+        locked: is_named(&sets, number),
+        label: label.copy(alloc)?,
+    }))
+}
+
+/// The module of a number.
+pub(crate) fn show_module(
+    alloc: Global,
+    commands: &[Command],
+    number: ModuleNo,
+) -> Result<Reply, Refusal>
+    ensures { (approval : _) → Shows (list_from approval commands.now) (ShowModule number) result }
+{
+    let modules = modules(alloc, commands)?;
+    let Some(label) = module_numbered(&modules, number) else {
+        return Err(Refusal::NotFound);
+    };
+    let sets = sets(alloc, commands)?;
+    Ok(Reply::Module(Module {
+        number,
+        locked: is_named(&sets, number),
+        label: label.copy(alloc)?,
+    }))
+}

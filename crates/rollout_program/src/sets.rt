@@ -1,0 +1,50 @@
+//! Distribution sets of the list.
+
+ghost use Rattle.rollout_machine.specs.Commands.{AddSet};
+ghost use Rattle.rollout_machine.specs.Requests.{ShowSet};
+ghost use Rattle.rollout_program.specs.Lists.{list_from};
+ghost use Rattle.rollout_program.specs.Steps.{Previews, Shows};
+
+use crate::listed::{has_set, lacks_a_module, modules, set_numbered, sets};
+use rollout_model::{Command, DistributionSet, Refusal, Reply, SetLabel, SetNo};
+use std::alloc::Global;
+
+/// How many distribution sets a desk takes.
+const SET_LIMIT: usize = 1000;
+
+/// What a set that is added is answered with.
+pub(crate) fn preview_set(
+    alloc: Global,
+    commands: &[Command],
+    label: &SetLabel,
+) -> Result<Reply, Refusal>
+    ensures { (approval : _) → Previews (list_from approval commands.now) (AddSet label.now) result }
+{
+    let modules = modules(alloc, commands)?;
+    if lacks_a_module(&modules, label) {
+        return Err(Refusal::NotFound);
+    }
+    let sets = sets(alloc, commands)?;
+    if has_set(&sets, label) {
+        return Err(Refusal::Exists);
+    }
+    let count = sets.len();
+    if count >= SET_LIMIT {
+        return Err(Refusal::Quota);
+    }
+    let number = SetNo::new(count as u32 + 1).unwrap();
+    let label = label.copy(alloc)?;
+    Ok(Reply::SetAdded(DistributionSet { number, label }))
+}
+
+/// The set of a number.
+pub(crate) fn show_set(alloc: Global, commands: &[Command], number: SetNo) -> Result<Reply, Refusal>
+    ensures { (approval : _) → Shows (list_from approval commands.now) (ShowSet number) result }
+{
+    let sets = sets(alloc, commands)?;
+    let Some(label) = set_numbered(&sets, number) else {
+        return Err(Refusal::NotFound);
+    };
+    let label = label.copy(alloc)?;
+    Ok(Reply::Set(DistributionSet { number, label }))
+}
