@@ -44,14 +44,14 @@ abbrev pub IsViewOf : View → Command → Records → Type 0
 IsViewOf (view.AddModule v) (AddModule label) rs = IsModuleView v label rs
 IsViewOf (view.AddModule v) _ rs = ⊥
 
--- the change of the command takes the old records to the new ones
-abbrev pub Writes : Change → Command → Records → Records → Type 0
-Writes (change.AddModule m) (AddModule label) old new = AddsModule m label old new
-Writes (change.AddModule m) _ old new = ⊥
+-- the change of the command leads from the old records to the new ones
+abbrev pub LeadsTo : Change → Command → Records → Records → Type 0
+LeadsTo (change.AddModule m) (AddModule label) old new = AddsModule m label old new
+LeadsTo (change.AddModule m) _ old new = ⊥
 
 -- the machine's verdict over these records, and its step
 abbrev pub DecidesAt : Records → Command → Result Change Refusal → Type 0
-DecidesAt rs c (Ok change) = (check rs c ≡ None) × Writes change c rs (step_records rs c)
+DecidesAt rs c (Ok change) = (check rs c ≡ None) × LeadsTo change c rs (step_records rs c)
 DecidesAt rs c (Err refusal) = check rs c ≡ Some refusal
 
 -- The verdict and the change are those of all records that the view is of.
@@ -60,7 +60,7 @@ Decides v c result = (rs : Records) → IsViewOf v c rs → DecidesAt rs c resul
 
 -- the machine's verdict at this list, and the records of the longer one
 abbrev pub FollowsAt : CommandList → Command → Result Change Refusal → Type 0
-FollowsAt h c (Ok change) = (verdict h c ≡ None) × Writes change c (records h) (records (h ▸ c))
+FollowsAt h c (Ok change) = (verdict h c ≡ None) × LeadsTo change c (records h) (records (h ▸ c))
 FollowsAt h c (Err refusal) = verdict h c ≡ Some refusal
 
 -- The verdict and the change are those of every list of accepted commands that the view is of.
