@@ -1,12 +1,14 @@
-//! The rules of a staged rollout as functions: how members are cut into groups, when a group has success or error, what
-//! an outcome, a resume and a trigger do to a rollout, and the words for the states.
+//! The rules of a staged rollout as functions: the verdict on a command, how members are cut into groups, when a group has
+//! success or error, what an outcome, a resume and a trigger do to a rollout, and the words for the states.
 #![tactic(auto)]
 
+mod checks;
 mod effects;
 mod groups;
 mod status_words;
 mod thresholds;
 
+pub use checks::{Change, ModuleView, NewModule, View, check};
 pub use effects::{after_feedback, after_resume, after_trigger};
 pub use groups::{cut_groups, group_bounds};
 pub use status_words::{

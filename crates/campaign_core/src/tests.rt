@@ -1,11 +1,13 @@
 //! Runs of small rollouts, worked by hand: ten targets in three groups, of which the first has three members.
 
 use crate::{
-    ActionStatus, Approval, GroupStatus, RolloutStatus, TargetStatus, action_word, after_feedback,
-    after_resume, after_trigger, cut_groups, error_begins, group_bounds, group_word, rollout_word,
-    success_holds, target_word,
+    ActionStatus, Approval, Change, GroupStatus, ModuleView, RolloutStatus, TargetStatus, View,
+    action_word, after_feedback, after_resume, after_trigger, check, cut_groups, error_begins,
+    group_bounds, group_word, rollout_word, success_holds, target_word,
 };
 use rollout_machine::{Bounds, Effects, GroupView, Outcome, RolloutView};
+use rollout_model::{Command, ModuleLabel, Refusal, Text};
+use std::alloc::Global;
 use std::test::Fail;
 
 fn first_group(ok: u32, bad: u32, success: u8, error: u8) -> RolloutView {
@@ -23,6 +25,48 @@ fn first_group(ok: u32, bad: u32, success: u8, error: u8) -> RolloutView {
         own: group,
         last: group,
     }
+}
+
+fn text(alloc: Global, text: &str) -> Result<Text, Fail> {
+    match Text::read(alloc, text)? {
+        Some(text) => Ok(text),
+        None => Err(Fail::from("a text that keeps its rule was refused")),
+    }
+}
+
+/// The command that adds a module.
+fn addition(alloc: Global) -> Result<Command, Fail> {
+    let name = text(alloc, "app")?;
+    let kind = text(alloc, "os")?;
+    let version = text(alloc, "1.0")?;
+    Ok(Command::AddModule(ModuleLabel {
+        name,
+        kind,
+        version,
+    }))
+}
+
+/// The number of the module that a change adds.
+fn number_told(change: Change) -> u32 {
+    match change {
+        Change::AddModule(module) => module.number.get(),
+    }
+}
+
+#[test]
+fn verdicts_on_modules(rt: HostRuntime) -> Result<(), Fail> {
+    let command = addition(rt.alloc())?;
+    for (same, count, told) in [
+        (false, 0, Ok(1)),
+        (false, 999, Ok(1000)),
+        (false, 1000, Err(Refusal::Quota)),
+        (true, 999, Err(Refusal::Exists)),
+        (true, 1000, Err(Refusal::Exists)),
+    ] {
+        let view = View::AddModule(ModuleView { same, count });
+        assert_eq!(rt; check(&view, &command).map(number_told), told);
+    }
+    Ok(())
 }
 
 #[test]

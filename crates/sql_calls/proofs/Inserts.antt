@@ -9,7 +9,7 @@ use Rattle.sqlite_schema.specs.declared.schema.Keys.TheVariants.{Enforced}
 use Rattle.sqlite.specs.Source.{Source}
 use Rattle.sqlite.specs.Source.TheVariants.{Values}
 use Rattle.sqlite.specs.Command.TheVariants.{Insert}
-use Rattle.sqlite.specs.Edit.{edit_of, Applies, taken_by}
+use Rattle.sqlite.specs.Edit.{edit_of, Applies}
 use Rattle.sqlite_schema.specs.declared.schema.Reference.{Reference}
 use Rattle.sqlite_schema.specs.Rules.{ParentKey}
 use Rattle.sqlite_rules.specs.declared.action.Deed.{Deed}

@@ -1,4 +1,5 @@
 pub mod Means
+pub mod Compiling
 pub mod Ends
 pub mod Leavings
 pub mod Changes

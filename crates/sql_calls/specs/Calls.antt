@@ -1,10 +1,10 @@
 -- What one call leaves of the connection, and what it adds to the work.
-use Rattle.std.specs.Prelude.{◌≡◌, ℕ, ◌+◌, ◌-◌, ◌^◌, min, Bool, true, false, List, length, Vec, Option, Some, None, Result, Ok, Err, IsTrue, is_ok}
+use Rattle.std.specs.Prelude.{◌≡◌, ℕ, ◌+◌, ◌-◌, ◌^◌, min, Bool, true, false, List, length, Vec, Option, Some, None, Result, Ok, Err, is_ok}
 use Rattle.std.specs.declared.alloc.Global.{Global}
 use Rattle.sqlite.specs.Order.{Row}
 use Rattle.sqlite.specs.Listing.{understood}
 use Rattle.sqlite.specs.declared.error.Error.{Error}
-use Rattle.sqlite.specs.declared.error.Error.TheVariants.{QueryReturnedNoRows}
+use Rattle.sqlite.specs.declared.error.Error.TheVariants.{SqlInputError, QueryReturnedNoRows}
 use Rattle.sqlite.specs.State.{State, HasCleanDisk, IsUnchanged, IsNotRun, Survives, Shown, Executes, FailsToQuery, QueriesRow, CommitsShowing, CommitsBy}
 use Rattle.sql_calls.specs.declared.calls.Work.{Work}
 use Rattle.sql_calls.specs.declared.fault.Fault.{Fault}
@@ -62,10 +62,14 @@ pub record TakesFirst (old new : State) (sql : List ℕ) (params : Row) (result 
   pub answers : HasCleanDisk new → TakesTo old new sql params result
   pub survives : Survives old new (CommitsShowing sql params old)
 
+abbrev pub is_input_error : Error → Bool
+is_input_error (SqlInputError e) = true
+is_input_error _ = false
+
+-- the answer is whether the text compiles; a fault comes of another error than that the text doesn't
 abbrev pub TriesTo : State → State → List ℕ → Result Bool Fault → Type 0
-TriesTo old new sql (Ok true) = IsTrue (is_ok (understood old.now.schema sql)) × IsUnchanged old new
-TriesTo old new sql (Ok false) = (error : Error) × ((params : Row) → IsNotRun old new sql params error)
-TriesTo old new sql (Err fault) = (error : Error) × (fault ≡ fault_named error) × ((params : Row) → IsNotRun old new sql params error)
+TriesTo old new sql (Ok compiles) = (compiles ≡ is_ok (understood old.now.schema sql)) × IsUnchanged old new
+TriesTo old new sql (Err fault) = (error : Error) × (fault ≡ fault_named error) × (is_input_error error ≡ false) × ((params : Row) → IsNotRun old new sql params error)
 
 -- a text that is compiled and not run
 pub record TriesText (old new : State) (sql : List ℕ) (result : Result Bool Fault) : Type 0 where
