@@ -4,7 +4,8 @@ use crate::{
     CREATE_DESK, CREATE_MODULE, Column, FIND_MODULE, GET_DESK, GET_MODULE, LAST_MODULE, PUT_DESK,
     PUT_MODULE, RowFault, read_module_label,
 };
-use sqlite::{Connection, MemStore, Row, ValueRef, params};
+use sqlite::{Connection, MemStore, Row, params};
+use sqlite_value::value::ValueRef;
 use std::alloc::Global;
 use std::test::Fail;
 
