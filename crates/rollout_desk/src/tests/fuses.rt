@@ -14,8 +14,19 @@ const LINES: [Line<'static>; 2] = [Line::Add("1.0"), Line::Add("1.1")];
 /// The numbers and versions of the modules that they add.
 const MODULES: [(u32, &str); 2] = [(1, "1.0"), (2, "1.1")];
 
-/// Empty files that pass so many calls on, and fail each one after.
-fn fused(alloc: Global, log_calls: u64, db_calls: u64) -> Files<Fuse<Memory>> {
+/// Which of the two files fails.
+#[derive(Clone, Copy, Debug)]
+enum Failing {
+    Log,
+    Database,
+}
+
+/// Empty files of which one passes so many calls on, and fails each one after.
+fn fused(alloc: Global, failing: Failing, calls: u64) -> Files<Fuse<Memory>> {
+    let (log_calls, db_calls) = match failing {
+        Failing::Log => (calls, u64::MAX),
+        Failing::Database => (u64::MAX, calls),
+    };
     Files {
         log: Fuse::new(Memory::new(alloc), log_calls),
         db: Fuse::new(Memory::new(alloc), db_calls),
@@ -112,47 +123,81 @@ fn may_keep(ending: Ending, kept: usize) -> bool {
     }
 }
 
-/// How a run over new files ends that fail after so many calls.
-fn run_over(alloc: Global, log_calls: u64, db_calls: u64) -> Result<Ending, Fail> {
-    let mut desk = match opened(alloc, fused(alloc, log_calls, db_calls)) {
+/// Whether files hold as many modules as they may after a run that ended so.
+fn hold_what_they_may(
+    alloc: Global,
+    files: Files<Fuse<Memory>>,
+    ending: Ending,
+) -> Result<bool, Fail> {
+    let mut desk = opened(alloc, files)?;
+    let count = kept(alloc, &mut desk)?;
+    Ok(may_keep(ending, count))
+}
+
+/// How a run over new files ends, and what a crash leaves of it.
+fn run_over(alloc: Global, files: Files<Fuse<Memory>>) -> Result<Ending, Fail> {
+    let mut desk = match opened(alloc, files) {
         Ok(desk) => desk,
         Err(OpenFault::Store) => return Ok(Ending::Unopened),
         Err(fault) => return Err(fault.into()),
     };
     let ending = run_commands(alloc, &mut desk)?;
-    let mut desk = opened(alloc, left(desk))?;
-    if !may_keep(ending, kept(alloc, &mut desk)?) {
+    if !hold_what_they_may(alloc, left(desk), ending)? {
         return Err("other modules are kept".into());
     }
     Ok(ending)
 }
 
-#[test]
-fn a_log_that_fails_leaves_what_was_accepted(rt: HostRuntime) -> Result<(), Fail> {
-    let mut met = [false; 2];
-    for calls in 0..1000 {
-        match run_over(rt.alloc(), calls, u64::MAX)? {
-            Ending::Unopened => {}
+/// Which endings were met.
+#[derive(Clone, Copy, Debug, PartialEq, Eq)]
+struct Met {
+    unopened: bool,
+    /// The store failed at the first command, and at the second.
+    failed: [bool; 2],
+}
+
+impl Met {
+    fn note(&mut self, ending: Ending) {
+        match ending {
+            Ending::Unopened => self.unopened = true,
             Ending::Failed(count) => {
-                if let Some(one) = met.get_mut(count) {
+                if let Some(one) = self.failed.get_mut(count) {
                     *one = true;
                 }
             }
-            Ending::Done => {
-                assert_eq!(rt; met, [true; 2], "it fails at each command");
-                return Ok(());
-            }
+            Ending::Done => {}
         }
+    }
+}
+
+/// The endings of runs over files that fail after 0, 1, 2 calls and so on, until a run is done.
+fn met_by(alloc: Global, failing: Failing) -> Result<Met, Fail> {
+    let mut met = Met {
+        unopened: false,
+        failed: [false; 2],
+    };
+    for calls in 0..1000 {
+        let ending = run_over(alloc, fused(alloc, failing, calls))?;
+        if ending == Ending::Done {
+            return Ok(met);
+        }
+        met.note(ending);
     }
     Err("no run was done".into())
 }
 
 #[test]
+fn a_log_that_fails_leaves_what_was_accepted(rt: HostRuntime) -> Result<(), Fail> {
+    let met = met_by(rt.alloc(), Failing::Log)?;
+    assert!(rt; met.unopened);
+    assert_eq!(rt; met.failed, [true, true]);
+    Ok(())
+}
+
+#[test]
 fn a_database_file_that_fails_leaves_what_was_accepted(rt: HostRuntime) -> Result<(), Fail> {
-    for calls in 0..1000 {
-        if run_over(rt.alloc(), u64::MAX, calls)? == Ending::Done {
-            return Ok(());
-        }
-    }
-    Err("no run was done".into())
+    let met = met_by(rt.alloc(), Failing::Database)?;
+    assert!(rt; met.unopened);
+    assert!(rt; met.failed != [false, false]);
+    Ok(())
 }
