@@ -7,6 +7,8 @@ mod modules;
 mod opening;
 mod run;
 mod step;
+#[cfg(test)]
+mod tests;
 
 pub use crate::desk::Desk;
 pub use desk_opening::OpenFault;
