@@ -1,6 +1,6 @@
 -- The command line: the program's subcommands, and the order that the words name.
-use Rattle.std.specs.Prelude.{◌≡◌, ℕ, Bool, true, false, List, Option, Some, None, codes, bytes_eq}
-use Rattle.clap.specs.Words.{App, Rule, Row, Text, new_app, new_rule, with_rule, with_subcommand, first_of}
+use Rattle.std.specs.Prelude.{◌≡◌, ◌⊎◌, ℕ, Bool, true, false, List, Option, Some, None, codes, bytes_eq}
+use Rattle.clap.specs.Words.{App, Rule, Row, Text, new_app, new_rule, with_rule, with_subcommand, first_of, subcommand_of, takes}
 use Rattle.clap.specs.declared.builder.ArgAction.TheVariants.{Set, SetTrue}
 use Rattle.desk_server.specs.declared.interface.Interface.{Interface}
 use Rattle.desk_server.specs.declared.interface.Interface.TheVariants.{Management}
@@ -49,3 +49,11 @@ pub record IsRun (found : Option (Text × List Row)) (db : Text) (interface : In
 -- what the words name, in the way that `clap` defines the matches of a simple command
 abbrev pub IsOrder : Option (Text × List Row) → Order → Type 0
 IsOrder found (Run db interface approval) = IsRun found db.now interface approval
+
+-- what the words name is an order
+abbrev pub NamesOrder : Option (Text × List Row) → Type 0
+NamesOrder found = (order : Order) × IsOrder found order
+
+-- `clap` doesn't take the words, or they name no order
+abbrev pub AreRefused : List Text → Type 0
+AreRefused words = (takes program_app words ≡ false) ⊎ ¬ NamesOrder (subcommand_of program_app words)

@@ -1,10 +1,10 @@
 //! The command line.
 
-ghost use Rattle.std.specs.Prelude.{◌≡◌, ◌≢◌, IfOk, IfSome, IfNone, map, false, Some, codes};
+ghost use Rattle.std.specs.Prelude.{◌≡◌, ◌≢◌, IfErr, IfOk, IfSome, IfNone, map, false, Some, codes};
 ghost use Rattle.std.specs.Option.{option_map};
-ghost use Rattle.clap.specs.Words.{rule_of, app_of, rows_of, found_of, subcommand_of, subcommand_rows_of};
+ghost use Rattle.clap.specs.Words.{rule_of, app_of, rows_of, found_of, kind_of, subcommand_of, subcommand_rows_of};
 ghost use Rattle.clap.specs.declared.builder.command.Command.TheViews.{out-Command as fields_of};
-ghost use Rattle.desk_server.specs.Orders.{db_rule, interface_rule, approval_rule, run_app, program_app, interface_word, is_given, IsOrder};
+ghost use Rattle.desk_server.specs.Orders.{db_rule, interface_rule, approval_rule, run_app, program_app, interface_word, is_given, IsOrder, NamesOrder, AreRefused};
 
 use crate::Interface;
 use clap::error::ErrorKind;
@@ -96,7 +96,8 @@ fn is_given(word: Option<&str>) -> bool
 
 /// The order that the values of `run` name.
 fn run_of<'a>(matches: &ArgMatches<'a>) -> Option<Order<'a>>
-    ensures { IfSome result (λ order. IsOrder (Some (codes "run", rows_of (found_of matches.now))) order) }
+    ensures some { IfSome result (IsOrder (Some (codes "run", rows_of (found_of matches.now)))) }
+    ensures none { IfNone result (¬ NamesOrder (Some (codes "run", rows_of (found_of matches.now)))) }
 {
     let db = matches.get_str("db")?;
     let interface = interface_of(matches.get_str("interface")?)?;
@@ -110,7 +111,8 @@ fn run_of<'a>(matches: &ArgMatches<'a>) -> Option<Order<'a>>
 /// The order that the words name, the first being the program's own name. Refused where `clap` refuses the words, where they name no
 /// subcommand, or where the interface is none that is served.
 pub fn read_order<'a, S: AsStr>(alloc: Global, words: &'a [S]) -> Result<Order<'a>, Error>
-    ensures { IfOk result (IsOrder (subcommand_of program_app (map S.text words.entry.now))) }
+    ensures taken { IfOk result (IsOrder (subcommand_of program_app (map S.text words.entry.now))) }
+    ensures refused { IfErr result (λ error. kind_of error ≢ ErrorKind.OutOfMemory → AreRefused (map S.text words.entry.now)) }
 {
     let mut command = program(alloc)?;
     let matches = command.try_get_matches_from_mut(words)?;

@@ -47,68 +47,26 @@ fn members_that_are_not_named_are_ignored(rt: HostRuntime) -> Result<(), Fail> {
     Ok(())
 }
 
+/// Bodies that name no module.
+const NO_MODULE: [&[u8]; 11] = [
+    b"[]",
+    b"",
+    b"{\"name\":\"app\",\"type\":\"os\",\"version\":\"1.0\"}",
+    b"[{\"name\":\"app\",\"type\":\"os\"}]",
+    b"[{\"name\":null,\"type\":\"os\",\"version\":\"1.0\"}]",
+    b"[{\"name\":\"\",\"type\":\"os\",\"version\":\"1.0\"}]",
+    b"[{\"name\":\"a\\u0000\",\"type\":\"os\",\"version\":\"1.0\"}]",
+    b"[{\"name\":\"a\xff\",\"type\":\"os\",\"version\":\"1.0\"}]",
+    b"[{\"x\":1e999,\"name\":\"a\",\"type\":\"os\",\"version\":\"1.0\"}]",
+    b"[{\"x\":\"\\ud800\",\"name\":\"a\",\"type\":\"os\",\"version\":\"1.0\"}]",
+    b"[{\"name\":\"a\",\"type\":\"os\",\"version\":\"1\"},{\"name\":\"b\",\"type\":\"os\",\"version\":\"1\"}]",
+];
+
 #[test]
-fn what_names_no_module(rt: HostRuntime) -> Result<(), Fail> {
-    let alloc = rt.alloc();
-    assert_eq!(rt; is_module(alloc, b"[]"), Some(false));
-    assert_eq!(rt; is_module(alloc, b""), Some(false));
-    assert_eq!(rt;
-        is_module(
-            alloc,
-            b"{\"name\":\"app\",\"type\":\"os\",\"version\":\"1.0\"}"
-        ),
-        Some(false)
-    );
-    assert_eq!(rt;
-        is_module(alloc, b"[{\"name\":\"app\",\"type\":\"os\"}]"),
-        Some(false)
-    );
-    assert_eq!(rt;
-        is_module(
-            alloc,
-            b"[{\"name\":null,\"type\":\"os\",\"version\":\"1.0\"}]"
-        ),
-        Some(false)
-    );
-    assert_eq!(rt;
-        is_module(
-            alloc,
-            b"[{\"name\":\"\",\"type\":\"os\",\"version\":\"1.0\"}]"
-        ),
-        Some(false)
-    );
-    assert_eq!(rt;
-        is_module(
-            alloc,
-            b"[{\"name\":\"a\\u0000\",\"type\":\"os\",\"version\":\"1.0\"}]"
-        ),
-        Some(false)
-    );
-    assert_eq!(rt;
-        is_module(
-            alloc,
-            b"[{\"name\":\"a\xff\",\"type\":\"os\",\"version\":\"1.0\"}]"
-        ),
-        Some(false)
-    );
-    assert_eq!(rt;
-        is_module(
-            alloc,
-            b"[{\"x\":1e999,\"name\":\"a\",\"type\":\"os\",\"version\":\"1.0\"}]"
-        ),
-        Some(false)
-    );
-    assert_eq!(rt;
-        is_module(
-            alloc,
-            b"[{\"x\":\"\\ud800\",\"name\":\"a\",\"type\":\"os\",\"version\":\"1.0\"}]"
-        ),
-        Some(false)
-    );
-    let two =
-        b"[{\"name\":\"a\",\"type\":\"os\",\"version\":\"1\"},{\"name\":\"b\",\"type\":\"os\",\"version\":\"1\"}]";
-    assert_eq!(rt; is_module(alloc, two), Some(false));
-    Ok(())
+fn what_names_no_module(rt: HostRuntime) {
+    for body in NO_MODULE {
+        assert_eq!(rt; is_module(rt.alloc(), body), Some(false));
+    }
 }
 
 #[test]
