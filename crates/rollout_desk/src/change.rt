@@ -5,37 +5,19 @@ ghost use Rattle.sqlite.specs.Held.{state};
 ghost use Rattle.sql_calls.specs.Standing.{Reads};
 ghost use Rattle.desk_records.specs.Holds.{HoldsRecords};
 ghost use Rattle.rollout_machine.specs.Answers.{query_reply};
-ghost use Rattle.rollout_machine.specs.Commands.{AddModule};
-ghost use Rattle.rollout_machine.specs.Requests.{Do, Ask, ShowModule};
+ghost use Rattle.rollout_machine.specs.Requests.{Do, Ask};
 ghost use Rattle.rollout_machine.specs.Views.{command_of, query_of, reply_of};
 ghost use Rattle.rollout_desk.specs.Steps.{Steps, Handles, EndsByCommit, EndsByRollback};
 
 use crate::modules::add_module;
+use crate::sets::add_set;
 use crate::step::{Step, reply_of_fault};
 use desk_store::{DeskStore, Fault, OpenChange};
 use desk_views::show_module;
 use rollout_machine::command_is_well_formed;
-use rollout_model::{Command, ModuleLabel, ModuleNo, Query, Refusal, Reply};
+use rollout_model::{Command, Query, Refusal, Reply};
 use sqlite::Alter;
 use std::alloc::Global;
-
-/// What the only command adds.
-fn module_of(command: &Command) -> &ModuleLabel
-    ensures { command_of command.now ≡ AddModule result.now }
-{
-    match command {
-        Command::AddModule(label) => label,
-    }
-}
-
-/// What the only query asks for.
-fn number_of(query: &Query) -> ModuleNo
-    ensures { query_of query.now ≡ ShowModule result }
-{
-    match query {
-        Query::Module(number) => *number,
-    }
-}
 
 /// Runs a command inside a change.
 fn step<S: Alter>(
@@ -46,7 +28,10 @@ fn step<S: Alter>(
     ensures same_reference { change.new.store.ghost_name ≡ change.old.store.ghost_name }
     ensures steps { Steps HoldsRecords (state S.Store change.old.store.now.calls.conn) (state S.Store change.new.store.now.calls.conn) (command_of command.now) result }
 {
-    add_module(alloc, change, module_of(command))
+    match command {
+        Command::AddModule(label) => add_module(alloc, change, label),
+        Command::AddSet(label) => add_set(alloc, change, label),
+    }
 }
 
 /// Answers a query inside a change.
@@ -55,7 +40,10 @@ fn answer<S: Alter>(change: &mut OpenChange<'_, S>, query: &Query) -> Result<Rep
     ensures reads { Reads HoldsRecords (state S.Store change.old.store.now.calls.conn) (state S.Store change.new.store.now.calls.conn) result
         (λ now reply. reply_of reply ≡ query_reply now (query_of query.now)) }
 {
-    show_module(change, number_of(query))
+    match query {
+        Query::Module(number) => show_module(change, *number),
+        Query::Set(_) => Ok(Reply::Refused(Refusal::NotFound)),
+    }
 }
 
 /// Commits a change, and then gives the reply that was made.

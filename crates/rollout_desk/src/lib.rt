@@ -6,6 +6,7 @@ mod desk;
 mod modules;
 mod opening;
 mod run;
+mod sets;
 mod step;
 #[cfg(test)]
 mod tests;

@@ -22,10 +22,7 @@ const SET_LIMIT: u32 = 1000;
 fn any_past(modules: &ModuleList, last: u32) -> bool
     ensures { result ≡ list_any (λ m. nat_lt last m) modules.now }
 {
-    modules
-        .as_slice()
-        .iter()
-        .any(|number| number.get() > last)
+    modules.as_slice().iter().any(|number| number.get() > last)
 }
 
 /// Whether the list names a module that isn't there.
