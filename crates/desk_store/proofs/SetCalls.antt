@@ -1,36 +1,39 @@
 -- The calls on distribution sets.
-use Rattle.std.proofs.Common.{◌≡◌, ◌≤◌, ℕ, ◌+◌, pos, List, [], ◌∷◌, length, Bool, Option, Some, None, Ok, Err, Result, IsErr, IfOk, option_map, refl, sym, ap, subst, ◌∙◌, codes}
+use Rattle.std.proofs.Common.{◌≡◌, ◌≤◌, ℕ, ◌+◌, pos, List, [], ◌∷◌, length, Bool, Option, Some, None, Ok, Err, Result, IsErr, IfOk, option_map, map, Vec, refl, sym, ap, ap₂, subst, ◌∙◌, codes}
 use Rattle.std.specs.List.{list_any}
+use Rattle.std.specs.declared.alloc.Global.{Global}
 use Rattle.std.specs.Option.{is_some}
 use Rattle.sqlite_value.specs.declared.value.Value.TheVariants.{Int, Text}
 use Rattle.sqlite_value.specs.Order.{Row, column}
 use Rattle.sqlite.specs.Command.TheVariants.{Select, Insert}
 use Rattle.sqlite.specs.Source.TheVariants.{Values}
 use Rattle.sqlite.specs.Term.{col}
-use Rattle.sqlite.specs.Effect.{Database}
+use Rattle.sqlite.specs.Effect.{Database, Reads as Shows}
 use Rattle.sqlite.specs.State.{State}
 use Rattle.sql_calls.specs.declared.fault.Fault.{Fault}
-use Rattle.sql_calls.specs.Calls.{RunsText, TakesFirst}
+use Rattle.sql_calls.specs.Calls.{RunsText, AsksText, TakesFirst}
 use Rattle.sql_calls.specs.Standing.{Reads, Writes}
 use Rattle.sql_calls.proofs.Means.{Known}
 use Rattle.sql_calls.proofs.Changes.{Knows, ShowsFirst}
 use Rattle.sql_calls.proofs.Selects.{simple}
-use Rattle.sql_calls.proofs.TypedCalls.{takes_err, takes_ok, writes}
+use Rattle.sql_calls.proofs.TypedCalls.{asks_err, asks_ok, takes_err, takes_ok, writes}
 use Rattle.rollout_machine.specs.ByteStrings.{item_numbered}
 use Rattle.rollout_machine.specs.Commands.{Bytes, SetLabel}
+use Rattle.rollout_machine.specs.Objects.{modules_of_set}
 use Rattle.rollout_machine.specs.Records.{Records}
+use Rattle.rollout_model.specs.declared.number.ModuleNo.{ModuleNo}
 use Rattle.rollout_machine.specs.Verdicts.{is_named_by_set}
-use Rattle.desk_records.specs.declared.set_texts.TheConstants.{FIND_SET, LAST_SET, GET_SET, MODULE_LOCKED, PUT_SET, PUT_SET_MODULE}
+use Rattle.desk_records.specs.declared.set_texts.TheConstants.{FIND_SET, LAST_SET, GET_SET, LIST_SET_MODULES, MODULE_LOCKED, PUT_SET, PUT_SET_MODULE}
 use Rattle.desk_records.specs.declared.set_row.SetName.{SetName}
 use Rattle.desk_records.specs.Schema.{Sets, SetModules}
 use Rattle.desk_records.specs.Holds.{HoldsRecords}
 use Rattle.desk_records.specs.Modules.{IsLastRow}
-use Rattle.desk_records.specs.Sets.{place_row, is_same_set, names_of, with_set, AddsSetModule}
-use Rattle.desk_records.specs.SetRow.{IsSetNameRow, called}
+use Rattle.desk_records.specs.Sets.{place_row, is_same_set, names_of, module_rows, with_set, AddsSetModule}
+use Rattle.desk_records.specs.SetRow.{IsSetNameRow, StoredNumber, called}
 use Rattle.desk_records.proofs.Meaning.{at_key}
-use Rattle.desk_records.proofs.SetMeaning.{same_names, last_set_query, name_columns, set_terms, locked_query, set_module_terms, find_set_is, last_set_is, get_set_is, module_locked_is, put_set_is, put_set_module_is}
-use Rattle.desk_records.proofs.SetRecords.{finds_set, lasts_set, gets_set, finds_lock, adds_set, adds_set_module}
-use Rattle.desk_store.specs.Rows.{IsReadAsSet}
+use Rattle.desk_records.proofs.SetMeaning.{same_names, last_set_query, name_columns, set_terms, set_modules_query, locked_query, set_module_terms, find_set_is, last_set_is, get_set_is, list_set_modules_is, module_locked_is, put_set_is, put_set_module_is}
+use Rattle.desk_records.proofs.SetRecords.{finds_set, lasts_set, gets_set, lists_set_modules, finds_lock, adds_set, adds_set_module}
+use Rattle.desk_store.specs.Rows.{IsReadAsSet, AreNumbers}
 use Rattle.desk_store.proofs.ModuleCalls.{one_last}
 
 -- ---- what the texts mean where the records are held
@@ -46,6 +49,9 @@ getting db r holds = record {
   command = Select (record { lets = []; body = simple (holds.spot Sets).tree (at_key 0 0 ∷ []) name_columns }) (codes "name" ∷ codes "version" ∷ []);
   means = get_set_is db.schema (holds.spot Sets).at (holds.spot Sets).tree (holds.stands Sets);
 }
+
+abbrev listing : Knows HoldsRecords LIST_SET_MODULES.now
+listing db r holds = record { command = Select (record { lets = []; body = set_modules_query (holds.spot SetModules).tree }) (codes "module" ∷ []); means = list_set_modules_is db.schema (holds.spot SetModules).at (holds.spot SetModules).tree (holds.stands SetModules) }
 
 abbrev locking : Knows HoldsRecords MODULE_LOCKED.now
 locking db r holds = record { command = Select (record { lets = []; body = locked_query (holds.spot SetModules).tree }) (codes "dset" ∷ []); means = module_locked_is db.schema (holds.spot SetModules).at (holds.spot SetModules).tree (holds.stands SetModules) }
@@ -115,6 +121,39 @@ set_read number least old new row h out is = takes_ok HoldsRecords GET_SET.now (
 
 pub set_not_read : (params : Row) (number : ℕ) (old new : State) (fault : Fault) → TakesFirst old new GET_SET.now params (Err fault) → (out : Result (Option SetName) Fault) → IsErr out → Reads HoldsRecords old new out (Gets number)
 set_not_read params number old new fault h out bad = takes_err HoldsRecords GET_SET.now params old new (Gets number) getting fault h out bad
+
+-- ---- a set's modules
+
+abbrev pub Lists : ℕ → Records → Vec ModuleNo Global → Type 0
+Lists number r ms = ms.items ≡ modules_of_set (item_numbered r.sets number)
+
+first_columns : (ms : List ℕ) → map (λ row. column row 0) (module_rows ms) ≡ map StoredNumber ms
+first_columns [] = refl
+first_columns (m ∷ ms) = ap (λ l. StoredNumber m ∷ l) (first_columns ms)
+
+same_numbers : (ns ms : List ℕ) → map StoredNumber ns ≡ map StoredNumber ms → ns ≡ ms
+same_numbers [] [] h = refl
+same_numbers [] (m ∷ ms) h = absurd cc
+same_numbers (n ∷ ns) [] h = absurd cc
+same_numbers (n ∷ ns) (m ∷ ms) h =
+    let first : Int (pos n) ≡ Int (pos m) = cc in
+    let number : n ≡ m = cc in
+    let rest : map StoredNumber ns ≡ map StoredNumber ms = cc in
+    ap₂ ◌∷◌ number (same_numbers ns ms rest)
+
+lists : (number : ℕ) → 1 ≤ number → (rows : List Row) (out : Result (Vec ModuleNo Global) Fault) → IfOk out (λ ms. AreNumbers rows ms.items)
+    → IfOk out (λ ms. (db : Database) (now : Records) (holds : HoldsRecords db now) → Shows (listing db now holds).command db (Int (pos number) ∷ []) rows → ms.items ≡ modules_of_set (item_numbered now.sets number))
+lists number least rows (Ok ms) h = λ db now holds shown.
+    let are : rows ≡ module_rows (modules_of_set (item_numbered now.sets number)) = lists_set_modules db now holds (codes "module" ∷ []) number least rows shown in
+    same_numbers ms.items _ (sym h ∙ ap (map (λ row. column row 0)) are ∙ first_columns _)
+lists number least rows (Err e) h = tt
+
+pub modules_read : (number : ℕ) → 1 ≤ number → (old new : State) (rows : Vec Row Global) → AsksText old new LIST_SET_MODULES.now (Int (pos number) ∷ []) (Ok rows) → (out : Result (Vec ModuleNo Global) Fault)
+    → IfOk out (λ ms. AreNumbers rows.items ms.items) → Reads HoldsRecords old new out (Lists number)
+modules_read number least old new rows h out are = asks_ok HoldsRecords LIST_SET_MODULES.now (Int (pos number) ∷ []) old new (Lists number) listing rows h out (lists number least rows.items out are)
+
+pub modules_not_read : (params : Row) (number : ℕ) (old new : State) (fault : Fault) → AsksText old new LIST_SET_MODULES.now params (Err fault) → (out : Result (Vec ModuleNo Global) Fault) → IsErr out → Reads HoldsRecords old new out (Lists number)
+modules_not_read params number old new fault h out bad = asks_err HoldsRecords LIST_SET_MODULES.now params old new (Lists number) fault h out bad
 
 -- ---- whether a set names a module
 

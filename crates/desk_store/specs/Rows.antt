@@ -1,10 +1,10 @@
 -- What a row is read as.
-use Rattle.std.specs.Prelude.{◌≡◌, Option, Some, None}
-use Rattle.sqlite_value.specs.Order.{Row}
+use Rattle.std.specs.Prelude.{◌≡◌, ℕ, List, map, Option, Some, None}
+use Rattle.sqlite_value.specs.Order.{Row, column}
 use Rattle.rollout_model.specs.declared.module.ModuleLabel.{ModuleLabel}
 use Rattle.desk_records.specs.declared.set_row.SetName.{SetName}
 use Rattle.desk_records.specs.ModuleRow.{IsLabelRow}
-use Rattle.desk_records.specs.SetRow.{IsSetNameRow}
+use Rattle.desk_records.specs.SetRow.{IsSetNameRow, StoredNumber}
 
 -- no row is no module
 abbrev pub IsReadAs : Option ModuleLabel → Option Row → Type 0
@@ -15,3 +15,7 @@ IsReadAs found (Some row) = (label : ModuleLabel) × (found ≡ Some label) × I
 abbrev pub IsReadAsSet : Option SetName → Option Row → Type 0
 IsReadAsSet found None = found ≡ None
 IsReadAsSet found (Some row) = (name : SetName) × (found ≡ Some name) × IsSetNameRow row name
+
+-- a row for each number
+abbrev pub AreNumbers : List Row → List ℕ → Type 0
+AreNumbers rows numbers = map (λ row. column row 0) rows ≡ map StoredNumber numbers

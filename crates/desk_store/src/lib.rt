@@ -3,6 +3,8 @@
 
 mod change;
 mod reading;
+#[cfg(test)]
+mod set_tests;
 mod sets;
 mod store;
 #[cfg(test)]

@@ -1,12 +1,14 @@
 //! What rows and results of statements come to.
 
 ghost use Rattle.std.specs.Prelude.{◌≡◌, IfOk};
+ghost use Rattle.sqlite_value.specs.Order.{column};
 ghost use Rattle.desk_records.specs.Modules.{IsLastRow};
-ghost use Rattle.desk_store.specs.Rows.{IsReadAs, IsReadAsSet};
+ghost use Rattle.desk_records.specs.SetRow.{StoredNumber};
+ghost use Rattle.desk_store.specs.Rows.{AreNumbers, IsReadAs, IsReadAsSet};
 ghost use Rattle.desk_store.specs.Faults.{as_store, fault_of_row};
 
-use desk_records::{RowFault, SetName, read_module_label, read_set_name};
-use rollout_model::ModuleLabel;
+use desk_records::{RowFault, SetName, read_module_label, read_set_module, read_set_name};
+use rollout_model::{ModuleLabel, ModuleNo};
 use sql_calls::{Fault, fault_of};
 use sqlite::Row;
 use std::alloc::Global;
@@ -46,6 +48,30 @@ pub(crate) fn set_name_in(alloc: Global, row: Option<Row>) -> Result<Option<SetN
     };
     match read_set_name(alloc, &row) {
         Ok(name) => Ok(Some(name)),
+        Err(fault) => Err(row_fault(fault)),
+    }
+}
+
+/// The numbers in rows of modules' numbers.
+pub(crate) fn numbers_in(alloc: Global, rows: &[Row]) -> Result<Vec<ModuleNo>, Fault>
+    ensures { IfOk result (λ numbers. AreNumbers rows.now numbers.items) }
+{
+    let mut numbers = Vec::new(alloc);
+    for row in rows {
+        let number = number_in(row)?;
+        match numbers.push(number) {
+            Ok(()) => {}
+            Err(_) => return Err(Fault::Memory),
+        }
+    }
+    Ok(numbers)
+}
+
+fn number_in(row: &Row) -> Result<ModuleNo, Fault>
+    ensures { IfOk result (λ number. column row.now 0 ≡ StoredNumber number) }
+{
+    match read_set_module(row) {
+        Ok(number) => Ok(number),
         Err(fault) => Err(row_fault(fault)),
     }
 }

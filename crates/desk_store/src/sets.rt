@@ -1,11 +1,12 @@
 //! Distribution sets, in a change that is under way.
 
-ghost use Rattle.std.specs.Prelude.{◌≡◌, ◌+◌, length};
+ghost use Rattle.std.specs.Prelude.{◌≡◌, ◌≤◌, ◌+◌, length};
 ghost use Rattle.std.specs.List.{list_any};
 ghost use Rattle.std.specs.Option.{option_map};
 ghost use Rattle.sqlite.specs.Held.{state};
 ghost use Rattle.sql_calls.specs.Standing.{Reads, Writes};
 ghost use Rattle.rollout_machine.specs.ByteStrings.{item_numbered};
+ghost use Rattle.rollout_machine.specs.Objects.{modules_of_set};
 ghost use Rattle.rollout_machine.specs.Verdicts.{is_named_by_set};
 ghost use Rattle.desk_records.specs.Holds.{HoldsRecords};
 ghost use Rattle.desk_records.specs.Sets.{is_same_set, with_set, AddsSetModule};
@@ -13,8 +14,10 @@ ghost use Rattle.desk_records.specs.SetRow.{called};
 ghost use Rattle.desk_store.specs.Counting.{AddsAtMost};
 
 use crate::change::OpenChange;
-use crate::reading::{last_number, set_name_in};
-use desk_records::{FIND_SET, GET_SET, LAST_SET, MODULE_LOCKED, PUT_SET, PUT_SET_MODULE, SetName};
+use crate::reading::{last_number, numbers_in, set_name_in};
+use desk_records::{
+    FIND_SET, GET_SET, LAST_SET, LIST_SET_MODULES, MODULE_LOCKED, PUT_SET, PUT_SET_MODULE, SetName,
+};
 use rollout_model::{ModuleNo, SetNo, Text};
 use sql_calls::Fault;
 use sqlite::{Alter, params};
@@ -55,6 +58,21 @@ impl<'a, S: Alter> OpenChange<'a, S> {
         let alloc = self.store.alloc;
         let row = self.store.calls.first(GET_SET, params![number.get()])?;
         set_name_in(alloc, row)
+    }
+
+    /// The modules of the set of a number, in its order; of a set that isn't there none.
+    pub fn read_set_modules(&mut self, number: SetNo) -> Result<Vec<ModuleNo>, Fault>
+        ensures same_reference { self.new.store.ghost_name ≡ self.old.store.ghost_name }
+        ensures reads { Reads HoldsRecords (state S.Store self.old.store.now.calls.conn) (state S.Store self.new.store.now.calls.conn) result
+            (λ r modules. modules.items ≡ modules_of_set (item_numbered r.sets number)) }
+        ensures work { self.new.store.now.calls.work.statements ≤ self.old.store.now.calls.work.statements + 1 }
+    {
+        let alloc = self.store.alloc;
+        let rows = self
+            .store
+            .calls
+            .ask(LIST_SET_MODULES, params![number.get()])?;
+        numbers_in(alloc, &rows)
     }
 
     /// Whether a set names the module of a number, so that the module takes no further artifact.

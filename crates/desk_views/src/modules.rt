@@ -12,7 +12,7 @@ use desk_store::{Fault, OpenChange};
 use rollout_model::{Module, ModuleNo, Refusal, Reply};
 use sqlite::Alter;
 
-/// Shows the module of a number. No set names one yet.
+/// Shows the module of a number, and whether a set names it.
 pub fn show_module<S: Alter>(
     change: &mut OpenChange<'_, S>,
     number: ModuleNo,
@@ -21,12 +21,14 @@ pub fn show_module<S: Alter>(
     ensures reads { Reads HoldsRecords (state S.Store change.old.store.now.calls.conn) (state S.Store change.new.store.now.calls.conn) result
         (λ now reply. reply_of reply ≡ query_reply now (ShowModule number)) }
 {
-    match change.read_module(number)? {
-        Some(label) => Ok(Reply::Module(Module {
-            number,
-            locked: false,
-            label,
-        })),
-        None => Ok(Reply::Refused(Refusal::NotFound)),
-    }
+    let label = match change.read_module(number)? {
+        Some(label) => label,
+        None => return Ok(Reply::Refused(Refusal::NotFound)),
+    };
+    let locked = change.read_module_is_locked(number)?;
+    Ok(Reply::Module(Module {
+        number,
+        locked,
+        label,
+    }))
 }
