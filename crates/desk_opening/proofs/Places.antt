@@ -19,8 +19,9 @@ use Rattle.sqlite_catalog.specs.Change.{is_used}
 use Rattle.sql_front.specs.Bare.{IsBareTable}
 use Rattle.sql_front.proofs.Write.{Makes, with_create, makes_known}
 use Rattle.sql_calls.proofs.Means.{Means}
-use Rattle.desk_records.specs.Schema.{Place, Desk, Modules, table_at, name_of}
+use Rattle.desk_records.specs.Schema.{Place, Desk, Modules, Sets, SetModules, table_at, name_of}
 use Rattle.desk_records.proofs.Meaning.{create_desk_is, create_module_is, create_desk_makes, create_module_makes}
+use Rattle.desk_records.proofs.SetMeaning.{create_set_is, create_set_module_is, create_set_makes, create_set_module_makes}
 use Rattle.desk_opening.specs.declared.desk_table.DeskTable.{DeskTable}
 use Rattle.desk_opening.specs.declared.desk_table.DeskTable.TheVariants as table
 use Rattle.desk_opening.specs.Places.{places, place_of, create_text_of}
@@ -65,16 +66,40 @@ is_place Modules = record {
   unindexed = λ rest. refl;
   unsequenced = refl;
 }
+is_place Sets = record {
+  means = create_set_is;
+  makes = create_set_makes;
+  whole = refl;
+  defined = refl;
+  named = refl;
+  moved = λ tree. refl;
+  bare = record { checks = refl; references = refl; computed = refl; stamps = refl; uncounted = refl; defaults = (refl, (refl, (refl, tt))) };
+  unindexed = λ rest. refl;
+  unsequenced = refl;
+}
+is_place SetModules = record {
+  means = create_set_module_is;
+  makes = create_set_module_makes;
+  whole = refl;
+  defined = refl;
+  named = refl;
+  moved = λ tree. refl;
+  bare = record { checks = refl; references = refl; computed = refl; stamps = refl; uncounted = refl; defaults = (refl, (refl, (refl, tt))) };
+  unindexed = λ rest. refl;
+  unsequenced = refl;
+}
 
 -- ---- all places
 
 abbrev pub each_place : (P : Place → Type 0) → AllByRecursion P places → (t : Place) → P t
 each_place P all Desk = all.0
 each_place P all Modules = all.1.0
+each_place P all Sets = all.1.1.0
+each_place P all SetModules = all.1.1.1.0
 
 -- the tables of the code
 abbrev pub all_tables : List DeskTable
-all_tables = table.Desk ∷ table.Modules ∷ []
+all_tables = table.Desk ∷ table.Modules ∷ table.Sets ∷ table.SetModules ∷ []
 
 pub next_place : (n : ℕ) (d : DeskTable) → n < length all_tables → drop n places ≡ place_of (get_or all_tables n d) ∷ drop (n + 1) places
 next_place n d within = drop_more places n (place_of d) within ∙ ap (λ t. t ∷ drop (n + 1) places) (get_or-map place_of all_tables n d)
@@ -87,7 +112,7 @@ HaveNamesApart t u = same_name (name_of t) (name_of u) ≡ false
 
 pub names_apart : IsAscending HaveNamesApart places
 unfolding same_name
-names_apart = ((refl, tt), (tt, tt))
+names_apart = ((refl, (refl, (refl, tt))), ((refl, (refl, tt)), ((refl, tt), (tt, tt))))
 
 -- ---- the texts
 

@@ -29,9 +29,11 @@ use Rattle.sql_calls.proofs.Inserts.{Inserted, inserts, uncounted, given_rows}
 use Rattle.sql_calls.proofs.NumberedRows.{cast_int, cast_null}
 use Rattle.rollout_machine.specs.RecordSteps.{no_records}
 use Rattle.rollout_machine.proofs.Answering.{made_records}
-use Rattle.desk_records.specs.Schema.{Place, Desk, Modules, table_at, name_of, desk_table}
-use Rattle.desk_records.specs.Holds.{Spot, rows_of, desk_row}
+use Rattle.desk_records.specs.Schema.{Place, Desk, Modules, Sets, SetModules, table_at, name_of, desk_table}
+use Rattle.desk_records.specs.Holds.{Spot, IsHeld, desk_row}
 use Rattle.desk_records.proofs.Meaning.{desk_terms}
+use Rattle.sql_calls.specs.Keyed.{IsHeldBy}
+use Rattle.std.proofs.lemmas.List.Sorted.{IsPermutation-refl}
 use Rattle.desk_opening.specs.Places.{places, create_text_of}
 use Rattle.desk_opening.specs.Making.{HoldsStage, Partly, Whole, IsEmptyTable, first_records}
 use Rattle.desk_opening.proofs.Places.{is_place, each_place, HaveNamesApart, names_apart}
@@ -162,9 +164,15 @@ module _ (approval : Bool) (old new : State) (text : List ℕ) (count : ℕ) (wa
       let kept : e.tree ≢ was.1.0.tree → new.now.trees e.tree ≡ old.now.trees e.tree = subst (λ n. n ≢ was.1.0.tree → new.now.trees n ≡ old.now.trees n) (same_tree t e.tree) others in
       kept (in_another here Desk t was.1.0.tree e.tree was.1.0.stands.found (found_at t) apart) ∙ e.empty
 
-  rows : (t : Place) → new.now.trees (spot_of t).tree ≡ rows_of (no_records approval) t
+  -- of what is not there, no row is held
+  none_held : (rows : List Row) → rows ≡ [] → IsHeldBy rows []
+  none_held rows empty = subst (λ (rs : List Row). IsHeldBy rs []) (sym empty) (record { order = []; rising = tt; same = IsPermutation-refl [] })
+
+  rows : (t : Place) → IsHeld (no_records approval) t (new.now.trees (spot_of t).tree)
   rows Desk = desk_rows
   rows Modules = stay_empty Modules names_apart.0.0
+  rows Sets = stay_empty Sets names_apart.0.1.0
+  rows SetModules = none_held (new.now.trees (spot_of SetModules).tree) (stay_empty SetModules names_apart.0.1.1.0)
 
   filled_with : HoldsStage new.now (Whole (no_records approval))
   filled_with = record {
@@ -172,7 +180,7 @@ module _ (approval : Bool) (old new : State) (text : List ℕ) (count : ℕ) (wa
     spot = spot_of;
     stands = λ t. subst (λ x. Stands x (name_of t) (at_place t).at (table_at t (at_place t).tree)) (sym made.schema_is) (at_place t).stands;
     rows = rows;
-    bare = record { artifacts = refl; sets = refl; targets = refl; rollouts = refl; actions = refl };
+    bare = record { artifacts = refl; targets = refl; rollouts = refl; actions = refl };
   }
 
   pub desk_filled : HoldsStage new.now (Whole (first_records approval))

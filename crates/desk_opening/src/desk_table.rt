@@ -4,17 +4,24 @@ ghost use Rattle.std.specs.Prelude.{◌≡◌};
 ghost use Rattle.desk_records.specs.Schema.{name_of};
 ghost use Rattle.desk_opening.specs.Places.{place_of, create_text_of};
 
-use desk_records::{CREATE_DESK, CREATE_MODULE};
+use desk_records::{CREATE_DESK, CREATE_MODULE, CREATE_SET, CREATE_SET_MODULE};
 
 /// A table of a desk.
 #[derive(Clone, Copy)]
 pub(crate) enum DeskTable {
     Desk,
     Modules,
+    Sets,
+    SetModules,
 }
 
 /// All of them, in the order in which they are made.
-pub(crate) const TABLES: [DeskTable; 2] = [DeskTable::Desk, DeskTable::Modules];
+pub(crate) const TABLES: [DeskTable; 4] = [
+    DeskTable::Desk,
+    DeskTable::Modules,
+    DeskTable::Sets,
+    DeskTable::SetModules,
+];
 
 impl DeskTable {
     /// Its name in the schema.
@@ -24,6 +31,8 @@ impl DeskTable {
         match self {
             DeskTable::Desk => "desk",
             DeskTable::Modules => "module",
+            DeskTable::Sets => "dset",
+            DeskTable::SetModules => "set_module",
         }
     }
 
@@ -34,6 +43,8 @@ impl DeskTable {
         match self {
             DeskTable::Desk => CREATE_DESK,
             DeskTable::Modules => CREATE_MODULE,
+            DeskTable::Sets => CREATE_SET,
+            DeskTable::SetModules => CREATE_SET_MODULE,
         }
     }
 }

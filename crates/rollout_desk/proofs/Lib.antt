@@ -1,5 +1,6 @@
 pub mod ApplyLemmas
-pub mod ModuleLemmas
+pub mod ComposeLemmas
+pub mod AdditionLemmas
 pub mod DeskLemmas
 pub mod OpeningLemmas
 pub mod RunLemmas

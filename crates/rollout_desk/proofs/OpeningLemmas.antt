@@ -63,7 +63,7 @@ empty_at_rest : (s : State) → IsSettled s → IsEmpty s → IsAtRest HoldsStag
 empty_at_rest s settled e =
     let opens = e.0 in
     let sound = (e.1 opens.is_open).1 in
-    let free : LeavesFree s.now.schema desk_names = rw (e.2) (refl, (refl, tt)) in
+    let free : LeavesFree s.now.schema desk_names = rw (e.2) (refl, (refl, (refl, (refl, tt)))) in
     let kept : HoldsStage s.committed Free = (sound, subst (λ d. LeavesFree d.schema desk_names) opens.clean free) in
     record {
       mode = opens.autocommit;

@@ -1,0 +1,57 @@
+-- What an addition rests on, and what it writes.
+use Rattle.std.specs.Prelude.{◌≡◌, ℕ, ◌+◌, Bool, List, [], ◌∷◌, ◌++◌, length, Some, None, Result, Ok, Err}
+use Rattle.std.specs.List.{list_any}
+use Rattle.std.specs.Option.{is_none}
+use Rattle.sqlite.specs.Effect.{Database}
+use Rattle.sqlite.specs.State.{State, HasCleanDisk}
+use Rattle.sql_calls.specs.Standing.{Wears, Changes, Spoils}
+use Rattle.rollout_machine.specs.ByteStrings.{item_numbered}
+use Rattle.rollout_machine.specs.Commands.{Command, ModuleLabel, SetLabel, AddModule, AddSet}
+use Rattle.rollout_machine.specs.Records.{Records}
+use Rattle.rollout_machine.specs.Verdicts.{check}
+use Rattle.rollout_model.specs.declared.refusal.Refusal.{Refusal}
+
+-- the command is accepted and gets the number after so many, or this refuses it
+abbrev pub GetsNumber : Command → ℕ → Records → Result ℕ Refusal → Type 0
+GetsNumber c count r (Ok number) = (check r c ≡ None) × (number ≡ count + 1)
+GetsNumber c count r (Err refusal) = check r c ≡ Some refusal
+
+abbrev pub GetsModuleNumber : ModuleLabel → Records → Result ℕ Refusal → Type 0
+GetsModuleNumber label r result = GetsNumber (AddModule label) (length r.modules) r result
+
+abbrev pub GetsSetNumber : SetLabel → Records → Result ℕ Refusal → Type 0
+GetsSetNumber label r result = GetsNumber (AddSet label) (length r.sets) r result
+
+-- one of these modules isn't there
+abbrev pub LacksModule : List ℕ → Records → Bool → Type 0
+LacksModule modules r lacks = lacks ≡ list_any (λ m. is_none (item_numbered r.modules m)) modules
+
+-- ---- several writes as one
+
+module _ (Holds : Database → Records → Type 0) where
+  abbrev pub WritesAllTo : {A E : Type 0} → State → State → (Records → Records → Type 0) → Result A E → Type 0
+  WritesAllTo old new Change (Ok a) = (now kept next : Records) → Changes Holds old now kept → (HasCleanDisk new → Change now next) → Changes Holds new next kept
+  WritesAllTo old new Change (Err e) = (now kept next : Records) → Changes Holds old now kept → (HasCleanDisk new → Change now next) → Spoils Holds new kept
+
+  -- Where the change can be made, it is; where one of the writes fails it can only be given up.
+  pub record WritesAll {A E : Type 0} (old new : State) (result : Result A E) (Change : Records → Records → Type 0) : Type 0 where
+    pub wears : Wears old new
+    pub writes : WritesAllTo old new Change result
+
+-- ---- sets
+
+abbrev pub and_modules : SetLabel → List ℕ → SetLabel
+and_modules set modules = record set { modules = set.modules ++ modules }
+
+-- the set of this number is the last one and has so many modules; these come after them
+pub record AddsModules (number before : ℕ) (modules : List ℕ) (r next : Records) : Type 0 where
+  pub others : List SetLabel
+  pub set : SetLabel
+  pub last : r.sets ≡ others ++ set ∷ []
+  pub number_is : number ≡ length others + 1
+  pub before_is : before ≡ length set.modules
+  pub next_is : next ≡ record r { sets = others ++ and_modules set modules ∷ [] }
+
+-- the set gets the next number
+abbrev pub AddsWhole : ℕ → SetLabel → Records → Records → Type 0
+AddsWhole number label r next = (number ≡ length r.sets + 1) × (next ≡ record r { sets = r.sets ++ label ∷ [] })
