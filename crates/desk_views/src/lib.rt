@@ -2,5 +2,7 @@
 #![tactic(auto)]
 
 mod modules;
+mod sets;
 
 pub use crate::modules::show_module;
+pub use crate::sets::show_set;
