@@ -1,5 +1,5 @@
 -- The calls on modules.
-use Rattle.std.proofs.Common.{◌≡◌, ◌≤◌, ℕ, ◌+◌, pos, List, [], ◌∷◌, length, Bool, Option, Some, None, Ok, Err, Result, IsErr, IfOk, refl, sym, ap, subst, ◌∙◌}
+use Rattle.std.proofs.Common.{◌≡◌, ◌≤◌, ℕ, ◌+◌, pos, [], ◌∷◌, length, Bool, Option, Some, None, Ok, Err, Result, IsErr, IfOk, refl, sym, ap, subst, ◌∙◌}
 use Rattle.std.specs.List.{list_any}
 use Rattle.std.specs.Option.{is_some}
 use Rattle.sqlite_value.specs.declared.value.Value.TheVariants.{Int, Text}
@@ -13,7 +13,6 @@ use Rattle.std.specs.Prelude.{codes}
 use Rattle.sql_calls.specs.declared.fault.Fault.{Fault}
 use Rattle.sql_calls.specs.Calls.{RunsText, TakesFirst}
 use Rattle.sql_calls.specs.Standing.{Reads, Writes}
-use Rattle.sql_calls.proofs.Means.{Known}
 use Rattle.sql_calls.proofs.Changes.{Knows, ShowsFirst}
 use Rattle.sql_calls.proofs.Selects.{simple}
 use Rattle.sql_calls.proofs.TypedCalls.{takes_err, takes_ok, writes}

@@ -13,7 +13,6 @@ use Rattle.sqlite.specs.State.{State}
 use Rattle.sql_calls.specs.declared.fault.Fault.{Fault}
 use Rattle.sql_calls.specs.Calls.{RunsText, AsksText, TakesFirst}
 use Rattle.sql_calls.specs.Standing.{Reads, Writes}
-use Rattle.sql_calls.proofs.Means.{Known}
 use Rattle.sql_calls.proofs.Changes.{Knows, ShowsFirst}
 use Rattle.sql_calls.proofs.Selects.{simple}
 use Rattle.sql_calls.proofs.TypedCalls.{asks_err, asks_ok, takes_err, takes_ok, writes}

@@ -1,5 +1,4 @@
-use Rattle.std.proofs.Common.{[], ◌∷◌, Ok}
-use Rattle.sqlite_value.specs.declared.value.Value.TheVariants.{Text}
+use Rattle.std.proofs.Common.{Ok}
 use Rattle.sqlite.specs.Held.{state}
 use Rattle.sql_calls.specs.Calls.{TakesFirst}
 use Rattle.desk_records.specs.declared.texts.TheConstants.{FIND_MODULE}
