@@ -15,7 +15,7 @@ use Rattle.rollout_machine.specs.RecordSteps.{step_records}
 use Rattle.rollout_machine.specs.Verdicts.{check, is_named_by_set}
 use Rattle.rollout_machine.specs.Views.{reply_of}
 use Rattle.rollout_model.specs.declared.refusal.Refusal.TheVariants.{Exists, NotFound, Quota}
-use Rattle.rollout_model.specs.Rules.{is_number, number_of}
+use Rattle.rollout_model.specs.Rules.{is_between, is_module_list, is_number, number_of}
 use Rattle.rollout_model.specs.declared.request.Reply.TheVariants as reply
 use Rattle.rollout_desk.specs.Additions.{AddsModules, AddsWhole, LacksModule, and_modules}
 
@@ -51,12 +51,18 @@ module_added r label shown number locked next named same =
 
 -- ---- sets
 
+lt_suc : (a b : ℕ) → nat_lt a b ≡ nat_lt (suc a) (suc b)
+lt_suc a b = go (nat_lt a b) refl where
+  go : (v : Bool) → nat_lt a b ≡ v → v ≡ nat_lt (suc a) (suc b)
+  go true is = sym (let more : nat_lt (suc a) (suc b) ≡ true = grind (arith, nat_tests) in more)
+  go false is = sym (let less : nat_lt (suc a) (suc b) ≡ false = grind (arith, nat_tests) in less)
+
 -- numbers from 1 on are there up to the last one
 past_is_missing : (ms : List ModuleLabel) (m : ℕ) → 1 ≤ m → is_none (item_numbered ms m) ≡ nat_lt (length ms) m
 past_is_missing ms zero least = absurd (omega (arith, least))
 past_is_missing [] (suc m) least = sym (let less : nat_lt 0 (suc m) ≡ true = grind (arith, nat_tests) in less)
 past_is_missing (x ∷ ms) (suc zero) least = sym (let no : nat_lt (suc (length ms)) (suc zero) ≡ false = grind (arith, nat_tests) in no)
-past_is_missing (x ∷ ms) (suc (suc m)) least = past_is_missing ms (suc m) (omega arith)
+past_is_missing (x ∷ ms) (suc (suc m)) least = past_is_missing ms (suc m) (omega arith) ∙ lt_suc (length ms) (suc m)
 
 both_true : (a b : Bool) → (Rattle.std.proofs.Common.◌&&◌ a b) ≡ true → (a ≡ true) × (b ≡ true)
 both_true true b h = (refl, h)
@@ -133,3 +139,9 @@ whole_is_step number label r next = (next, refl)
 
 pub module_is_step : (number : ℕ) (label : ModuleLabel) (r : Records) → number ≡ length r.modules + 1 → (number ≡ length r.modules + 1) × (step_records r (AddModule label) ≡ with_module r label)
 module_is_step number label r next = (next, refl)
+
+pub lacks : (r : Records) (numbers : List ℕ) (last : ℕ) (found : Bool) → is_module_list numbers ≡ true → found ≡ list_any (λ m. nat_lt last m) numbers → last ≡ length r.modules → LacksModule numbers r found
+lacks r numbers last found good is size =
+    let parts = both_true (is_between 1 8 (length numbers)) _ good in
+    let whole = both_true (list_all is_number numbers) _ parts.1 in
+    is ∙ ap (λ n. list_any (λ m. nat_lt n m) numbers) size ∙ past_are_missing r.modules numbers whole.0

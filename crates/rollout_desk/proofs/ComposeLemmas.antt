@@ -87,6 +87,10 @@ module _ (Holds : Database → Records → Type 0) where
     unread a b e P h (Ok x) bad = absurd (cc)
     unread a b e P h (Err f) bad = record { wears = h.wears; steps = h.reads }
 
+    pub then_unread : {A B E G : Type 0} (a b c : State) (x : A) (P : Records → A → Type 0) → Reads Holds {E = E} a b (Ok x) P → (e : G) (Q : Records → B → Type 0) → Reads Holds b c (Err e) Q → (out : Result Step F) → IsErr out → Steps Holds a c command out
+    then_unread a b c x P first e Q second (Ok y) bad = absurd (cc)
+    then_unread a b c x P first e Q second (Err f) bad = record { wears = omega (arith, first.wears, second.wears); steps = λ now kept was. second.reads now kept (first.reads now kept was).0 }
+
     -- the reply can't be made
     pub uncopied : {A E : Type 0} (a b : State) (x : A) (P : Records → A → Type 0) → Reads Holds {E = E} a b (Ok x) P → (e : F) → Steps Holds a b command (Err e)
     uncopied a b x P h e = record { wears = h.wears; steps = λ now kept was. spoils Holds b now kept (h.reads now kept was).0 }

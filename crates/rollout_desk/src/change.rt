@@ -13,7 +13,7 @@ use crate::modules::add_module;
 use crate::sets::add_set;
 use crate::step::{Step, reply_of_fault};
 use desk_store::{DeskStore, Fault, OpenChange};
-use desk_views::show_module;
+use desk_views::{show_module, show_set};
 use rollout_machine::command_is_well_formed;
 use rollout_model::{Command, Query, Refusal, Reply};
 use sqlite::Alter;
@@ -42,7 +42,7 @@ fn answer<S: Alter>(change: &mut OpenChange<'_, S>, query: &Query) -> Result<Rep
 {
     match query {
         Query::Module(number) => show_module(change, *number),
-        Query::Set(_) => Ok(Reply::Refused(Refusal::NotFound)),
+        Query::Set(number) => show_set(change, *number),
     }
 }
 

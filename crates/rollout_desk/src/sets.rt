@@ -1,6 +1,7 @@
 //! Distribution sets: adding one.
 
-ghost use Rattle.std.specs.Prelude.{◌≡◌, ◌≤◌, ◌+◌, length, nat_lt};
+ghost use Rattle.std.specs.Prelude.{◌≡◌, ◌≤◌, ◌+◌, true, length, nat_lt};
+ghost use Rattle.rollout_model.specs.Rules.{is_module_list};
 ghost use Rattle.std.specs.List.{list_any};
 ghost use Rattle.sqlite.specs.Held.{state};
 ghost use Rattle.sql_calls.specs.Standing.{Reads};
@@ -20,7 +21,8 @@ const SET_LIMIT: u32 = 1000;
 
 /// Whether a number of the list is past the last one.
 fn any_past(modules: &ModuleList, last: u32) -> bool
-    ensures { result ≡ list_any (λ m. nat_lt last m) modules.now }
+    ensures value { result ≡ list_any (λ m. nat_lt last m) modules.now }
+    ensures list { is_module_list modules.now ≡ true }
 {
     modules.as_slice().iter().any(|number| number.get() > last)
 }
