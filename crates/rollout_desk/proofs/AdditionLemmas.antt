@@ -1,8 +1,8 @@
 -- What the reads of an addition say, and what its writes come to.
-use Rattle.std.proofs.Common.{◌≡◌, ◌≤◌, ◌<◌, ℕ, zero, suc, ◌+◌, nat_le, nat_lt, Bool, true, false, ◌||◌, List, [], ◌∷◌, ◌++◌, length, Option, Some, None, Ok, Err, refl, sym, ap, ◌∙◌, arith, append_assoc, append-nil}
+use Rattle.std.proofs.Common.{◌≡◌, ◌≤◌, ◌<◌, ℕ, zero, suc, ◌+◌, nat_le, nat_lt, Bool, true, false, ◌||◌, List, [], ◌∷◌, ◌++◌, length, Option, Some, None, Ok, Err, refl, sym, ap, ◌∙◌, arith, append_assoc, append-nil, get_or, drop, take, ◌-◌, subst}
 use Rattle.std.specs.Prelude.{slice_get}
 use Rattle.std.proofs.lemmas.Bool.Decides.{nat_tests}
-use Rattle.std.proofs.lemmas.List.{length-append}
+use Rattle.std.proofs.lemmas.List.{length-append, take_all}
 use Rattle.std.specs.List.{list_any, list_all}
 use Rattle.std.specs.Option.{is_none}
 use Rattle.desk_records.specs.Modules.{is_same, with_module}
@@ -125,6 +125,15 @@ adds_first number before m ms r next h =
         next_is = h.next_is ∙ ap (λ (ns : List ℕ). with_sets r (h.others ++ (record h.set { modules = ns }) ∷ [])) (sym (append_assoc h.set.modules (m ∷ []) ms));
       },
     )
+
+-- the same of a list by its first item
+pub adds_front : (number before m : ℕ) (all : List ℕ) → 1 ≤ length all → m ≡ get_or all 0 m → (r next : Records) → AddsModules number before all r next
+    → (mid : Records) × AddsSetModule number (before + 1) m r mid × AddsModules number (before + 1) (take (length all - 1) (drop 1 all)) mid next
+adds_front number before m [] some is r next h = absurd (omega (arith, some))
+adds_front number before m (x ∷ ms) some is r next h =
+    let it = adds_first number before m ms r next (subst (λ (y : ℕ). AddsModules number before (y ∷ ms) r next) (sym is) h) in
+    let rest : ms ≡ take (length (x ∷ ms) - 1) (drop 1 (x ∷ ms)) = sym (take_all (length (x ∷ ms) - 1) ms (omega arith)) in
+    (it.0, it.1, subst (λ (ns : List ℕ). AddsModules number (before + 1) ns it.0 next) rest it.2)
 
 pub adds_whole : (number : ℕ) (label : SetLabel) (r next : Records) → AddsWhole number label r next
     → (mid : Records) × ((number ≡ length r.sets + 1) × (mid ≡ with_set r label.name label.version)) × AddsModules number 0 label.modules mid next
