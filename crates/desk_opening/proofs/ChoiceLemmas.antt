@@ -1,5 +1,5 @@
 -- Which of the two ways an open takes.
-use Rattle.std.proofs.Common.{◌≡◌, ℕ, Bool, true, false, ◌||◌, codes, inl, inr, Some, Ok, Err, Result, IfOk, IfErr, arith}
+use Rattle.std.proofs.Common.{◌≡◌, ℕ, Bool, true, codes, inl, inr, Some, Ok, Err, Result, IfOk, IfErr, arith}
 use Rattle.std.proofs.lemmas.Bool.{both_ways}
 use Rattle.sqlite.specs.Schema.{Schema}
 use Rattle.sqlite.specs.Effect.{Database}
@@ -14,7 +14,7 @@ use Rattle.desk_records.specs.Holds.{HoldsRecords}
 use Rattle.desk_opening.specs.Making.{HoldsStage, Free, Makes}
 use Rattle.desk_opening.specs.declared.opening.OpenFault.{OpenFault}
 use Rattle.desk_opening.specs.declared.opening.OpenFault.TheVariants.{NotDesk, NewerVersion, Memory, Store}
-use Rattle.desk_opening.specs.Opening.{Adopts, HasDeskTables, HasRow, IsFailure, Tells, FindsTo, OpensDesk, OpensTo, IsKnownOpen}
+use Rattle.desk_opening.specs.Opening.{Adopts, HasDeskTables, HasRow, LacksDesk, IsFailure, Tells, FindsTo, OpensDesk, OpensTo, IsKnownOpen}
 
 used_at : (s : Schema) (at : ℕ) → table_named s (codes "desk") ≡ Some at → is_used s (codes "desk") ≡ true
 used_at s at h = rw h
@@ -26,11 +26,8 @@ held_is_used old r is_open was clean free =
     both_ways (is_used old.now.schema (codes "desk")) free.0 (used_at old.now.schema (holds.spot Desk).at (holds.stands Desk).named)
 
 -- a database that leaves the names free uses none
-free_is_unused : (old : State) → IsKnownOpen old → Rests HoldsStage old Free → HasCleanDisk old → ¬ ((is_used old.now.schema (codes "desk") || is_used old.now.schema (codes "module")) ≡ true)
-free_is_unused old is_open was clean used =
-    let free = ((was clean).now_holds (is_open clean)).1 in
-    let none : (is_used old.now.schema (codes "desk") || is_used old.now.schema (codes "module")) ≡ false = rw (free.0, free.1.0) in
-    both_ways _ none used
+free_is_unused : (old : State) → IsKnownOpen old → Rests HoldsStage old Free → HasCleanDisk old → ¬ ¬ LeavesFree old.now.schema desk_names
+free_is_unused old is_open was clean used = used ((was clean).now_holds (is_open clean)).1
 
 finds_failure : (A : Type 0) (db : Database) (e : OpenFault) → IsFailure e → FindsTo {A = A} db (Err e)
 finds_failure A db NotDesk fails = absurd fails
@@ -39,12 +36,12 @@ finds_failure A db Memory fails = tt
 finds_failure A db Store fails = tt
 
 module _ {A : Type 0} (old new : State) (approval : Bool) where
-  pub adopts : (out : Result A OpenFault) → Adopts old new out → IfOk out (λ _. HasDeskTables old.now.schema) → (is_used old.now.schema (codes "desk") || is_used old.now.schema (codes "module")) ≡ true → OpensDesk old new approval out
+  pub adopts : (out : Result A OpenFault) → Adopts old new out → IfOk out (λ _. HasDeskTables old.now.schema) → (¬ LeavesFree old.now.schema desk_names) → OpensDesk old new approval out
   adopts out h tables used = record { wears = h.keeps.wears; finds = λ clean. finds out tables (h.tells clean); keeps = λ is_open. h.keeps.keeps; makes = λ is_open. go out is_open }
     where
-      finds : (result : Result A OpenFault) → IfOk result (λ _. HasDeskTables old.now.schema) → Tells (HasRow old.now) result → FindsTo old.now result
+      finds : (result : Result A OpenFault) → IfOk result (λ _. HasDeskTables old.now.schema) → Tells (HasRow old.now) (LacksDesk old.now) result → FindsTo old.now result
       finds (Ok x) there told = inl (record { tables = there; row = told })
-      finds (Err NotDesk) there told = tt
+      finds (Err NotDesk) there told = record { used = used; other = told }
       finds (Err NewerVersion) there told = told
       finds (Err Memory) there told = tt
       finds (Err Store) there told = tt
@@ -62,12 +59,12 @@ pub made_not : {A E F : Type 0} (old new : State) (approval : Bool) (e : E) (f :
 made_not old new approval e f h = record { wears = h.wears; makes = h.makes }
 
 module _ {X : Type 0} (view : X → State) (old : State) (approval : Bool) where
-  pub adopts_ok : (out : Result X OpenFault) → IfOk out (λ x. Adopts old (view x) out) → IfOk out (λ _. HasDeskTables old.now.schema) → (is_used old.now.schema (codes "desk") || is_used old.now.schema (codes "module")) ≡ true
+  pub adopts_ok : (out : Result X OpenFault) → IfOk out (λ x. Adopts old (view x) out) → IfOk out (λ _. HasDeskTables old.now.schema) → ¬ LeavesFree old.now.schema desk_names
       → IfOk out (λ x. OpensDesk old (view x) approval out)
   adopts_ok (Ok x) h tables used = adopts old (view x) approval (Ok x) h tables used
   adopts_ok (Err e) h tables used = tt
 
-  pub adopts_err : (out : Result X OpenFault) → IfErr out (λ _. (x : X) × Adopts old (view x) out) → (is_used old.now.schema (codes "desk") || is_used old.now.schema (codes "module")) ≡ true → IfErr out (λ _. (x : X) × OpensDesk old (view x) approval out)
+  pub adopts_err : (out : Result X OpenFault) → IfErr out (λ _. (x : X) × Adopts old (view x) out) → (¬ LeavesFree old.now.schema desk_names) → IfErr out (λ _. (x : X) × OpensDesk old (view x) approval out)
   adopts_err (Ok x) h used = tt
   adopts_err (Err e) h used = (h.0, adopts old (view h.0) approval (Err e) h.1 tt used)
 

@@ -1,4 +1,5 @@
 pub mod Steps
+pub mod Places
 pub mod Tables
 pub mod MakeLemmas
 pub mod RowLemmas

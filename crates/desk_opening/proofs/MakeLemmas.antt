@@ -1,21 +1,13 @@
 -- A new desk, from BEGIN to COMMIT.
-use Rattle.std.proofs.Common.{◌≡◌, ◌⊎◌, inl, ℕ, Bool, List, [], ◌∷◌, codes, pos, Ok, Err, Result, IsErr, IfErr, if◌then◌else◌, None, false, refl, sym, ap, subst, ◌∙◌, arith}
+use Rattle.std.proofs.Common.{◌≡◌, ◌⊎◌, inl, ℕ, zero, suc, ◌+◌, Bool, List, [], ◌∷◌, ◌++◌, ◌<◌, length, take, drop, get_or, pos, Ok, Err, Result, IsErr, IfErr, if◌then◌else◌, None, refl, sym, subst, arith}
+use Rattle.std.specs.List.{AllByRecursion}
 use Rattle.sqlite_value.specs.declared.value.Value.TheVariants.{Int}
 use Rattle.sqlite.specs.Tree.{Trees}
 use Rattle.sqlite.specs.Effect.{Database}
-use Rattle.sqlite.specs.Schema.{Schema}
-use Rattle.sqlite.specs.Table.{Table}
-use Rattle.sqlite.specs.Listing.{understood}
-use Rattle.sqlite_tied.specs.Compute.{everything}
-use Rattle.sqlite_syntax.specs.declared.statement.Parsed.{Parsed}
-use Rattle.sqlite_resolve.specs.declared.error.CompileError.{CompileError}
-use Rattle.sqlite_resolve.specs.Compile.{first}
-use Rattle.sqlite_catalog.specs.Change.{is_used}
-use Rattle.sql_front.proofs.Write.{Makes as Makes', with_create, makes_known}
+use Rattle.sqlite_trees.specs.Tree.{IsAscending}
 use Rattle.sqlite.specs.Command.TheVariants.{CreateTable, Insert}
 use Rattle.sqlite.specs.Source.TheVariants.{Values}
-use Rattle.sqlite.specs.State.{State, HasCleanDisk, Writes, text_of}
-use Rattle.sqlite.proofs.Callers.{statement_of}
+use Rattle.sqlite.specs.State.{State, HasCleanDisk, Writes}
 use Rattle.sql_calls.specs.declared.fault.Fault.{Fault}
 use Rattle.sql_calls.specs.Calls.{RunsText}
 use Rattle.sql_calls.specs.Standing.{Wears, Rests, Changes}
@@ -25,76 +17,80 @@ use Rattle.sql_calls.proofs.Ends.{begin_is, commit_is}
 use Rattle.sql_calls.proofs.Changes as change
 use Rattle.rollout_machine.specs.Records.{Records}
 use Rattle.desk_records.specs.Holds.{HoldsRecords}
-use Rattle.desk_records.specs.declared.texts.TheConstants.{CREATE_DESK, CREATE_MODULE, PUT_DESK}
-use Rattle.desk_records.proofs.Meaning.{create_desk_is, create_module_is, create_desk_makes, create_module_makes, put_desk_is, desk_terms}
-use Rattle.desk_records.specs.Schema.{desk_table, module_table}
+use Rattle.desk_records.specs.declared.texts.TheConstants.{PUT_DESK}
+use Rattle.desk_records.proofs.Meaning.{put_desk_is, desk_terms}
+use Rattle.desk_records.specs.Schema.{Place}
 use Rattle.desk_opening.specs.declared.making.TheConstants.{BEGIN, COMMIT}
-use Rattle.desk_opening.specs.Making.{HoldsStage, Free, HasDesk, HasTables, Whole, LeavesNoDesk, LeavesDesk, first_records, MakesTables, Makes}
+use Rattle.desk_opening.specs.Making.{HoldsStage, Free, Partly, Whole, LeavesNoDesk, LeavesDesk, first_records, MakesTables, Makes}
 use Rattle.desk_opening.proofs.Steps.{step, step_fails}
-use Rattle.desk_opening.proofs.Tables.{desk_made, modules_made, desk_filled}
+use Rattle.desk_opening.specs.declared.desk_table.DeskTable.{DeskTable}
+use Rattle.desk_opening.specs.Places.{places, place_of, create_text_of}
+use Rattle.desk_opening.proofs.Places.{is_place, all_tables, next_place, places_so_far, HaveNamesApart, names_apart, create_text}
+use Rattle.desk_opening.proofs.Tables.{table_made, desk_filled}
 
 -- ---- what the schema understands on the way
 
-abbrev knows_desk : (db : Database) → HoldsStage db Free → Known db.schema CREATE_DESK.now
-knows_desk db h = record { command = CreateTable; means = create_desk_is db.schema h.1.0 }
+abbrev knows_table : (t : Place) (made left : List Place) (db : Database) → HoldsStage db (Partly made (t ∷ left)) → Known db.schema (create_text_of t)
+knows_table t made left db h = record { command = CreateTable; means = (is_place t).means db.schema h.2.0 }
 
-abbrev knows_modules : (db : Database) → HoldsStage db HasDesk → Known db.schema CREATE_MODULE.now
-knows_modules db h = record { command = CreateTable; means = create_module_is db.schema h.2.0 }
+abbrev knows_row : (db : Database) → HoldsStage db (Partly places []) → Known db.schema PUT_DESK.now
+knows_row db h = record { command = Insert h.1.0.at (Values desk_terms 5); means = put_desk_is db.schema h.1.0.at h.1.0.tree h.1.0.stands }
 
-abbrev knows_row : (db : Database) → HoldsStage db HasTables → Known db.schema PUT_DESK.now
-knows_row db h = record { command = Insert h.1.at (Values desk_terms 5); means = put_desk_is db.schema h.1.at h.1.tree h.1.stands }
+-- ---- the tables
 
-abbrev text_at : Result Parsed CompileError → List ℕ → List ℕ
-text_at (Ok p) sql = text_of sql (with_create p)
-text_at (Err e) sql = []
+module _ (t : Place) (made left : List Place) (a b : State) (was : Changes HoldsStage a (Partly made (t ∷ left)) Free) where
+  has_table : AllByRecursion (HaveNamesApart t) left → RunsText a b (create_text_of t) [] (Ok tt) → Changes HoldsStage b (Partly (made ++ t ∷ []) left) Free
+  has_table apart h = step HoldsStage (create_text_of t) [] a b (Partly made (t ∷ left)) Free was (knows_table t made left a.now) (λ holds. refl) (Partly (made ++ t ∷ []) left) h (λ holds count w.
+      let text = create_text t a.now.schema holds.2.0 in
+      (w, table_made t made left apart a b count holds (subst (λ x. Writes a b None CreateTable x [] count) text w)))
 
-text_made : (sql name : List ℕ) (table : Table) (m : Makes' sql name table) (s : Schema) → is_used s name ≡ false → text_at (first sql) sql ≡ sql → statement_of sql (understood s sql) ≡ sql
-unfolding understood
-text_made sql name table m s free whole = rw (makes_known sql name table m s free) (ap (λ r. text_at r sql) (sym m.read) ∙ whole)
+  has_no_table : (fault : Fault) → RunsText a b (create_text_of t) [] (Err fault) → HasCleanDisk b → (db : Trees) → b.may_leave db → LeavesNoDesk db
+  has_no_table fault h = step_fails HoldsStage (create_text_of t) [] a b (Partly made (t ∷ left)) Free was (knows_table t made left a.now) (λ holds. refl) fault h
 
-desk_whole : text_at (first CREATE_DESK.now) CREATE_DESK.now ≡ CREATE_DESK.now
-unfolding first everything
-desk_whole = refl
+apart_from : (n : ℕ) (ts : List Place) → IsAscending HaveNamesApart ts → IsAscending HaveNamesApart (drop n ts)
+apart_from zero ts h = h
+apart_from (suc n) [] h = tt
+apart_from (suc n) (t ∷ ts) h = apart_from n ts h.1
 
-module_whole : text_at (first CREATE_MODULE.now) CREATE_MODULE.now ≡ CREATE_MODULE.now
-unfolding first everything
-module_whole = refl
+-- the first so many tables are made
+pub record HasMade (old new : State) (n : ℕ) : Type 0 where
+  pub wears : Wears old new
+  pub made : Changes HoldsStage old Free Free → Changes HoldsStage new (Partly (take n places) (drop n places)) Free
 
-create_desk_text : (s : Schema) → is_used s (codes "desk") ≡ false → statement_of CREATE_DESK.now (understood s CREATE_DESK.now) ≡ CREATE_DESK.now
-create_desk_text s free = text_made CREATE_DESK.now (codes "desk") (desk_table 0) create_desk_makes s free desk_whole
+pub none_made : (s : State) → HasMade s s 0
+none_made s = record {
+  wears = omega arith;
+  made = λ was clean. let first = was clean in
+      record { mode = first.mode; is_open = first.is_open; now_holds = (first.now_holds.0, tt, first.now_holds.1); kept_holds = first.kept_holds; crash = first.crash };
+}
 
-create_module_text : (s : Schema) → is_used s (codes "module") ≡ false → statement_of CREATE_MODULE.now (understood s CREATE_MODULE.now) ≡ CREATE_MODULE.now
-create_module_text s free = text_made CREATE_MODULE.now (codes "module") (module_table 0) create_module_makes s free module_whole
+module _ (old a b : State) (n : ℕ) (so_far : HasMade old a n) (d : DeskTable) (within : n < length all_tables) where
+  abbrev next : Place
+  next = place_of (get_or all_tables n d)
 
--- ---- the two tables
+  comes_next : Changes HoldsStage old Free Free → Changes HoldsStage a (Partly (take n places) (next ∷ drop (n + 1) places)) Free
+  comes_next was = subst (λ left. Changes HoldsStage a (Partly (take n places) left) Free) (next_place n d within) (so_far.made was)
 
-module _ (a b : State) (was : Changes HoldsStage a Free Free) where
-  has_desk : RunsText a b CREATE_DESK.now [] (Ok tt) → Changes HoldsStage b HasDesk Free
-  has_desk h = step HoldsStage CREATE_DESK.now [] a b Free Free was (knows_desk a.now) (λ holds. refl) HasDesk h (λ holds count w.
-      let text = create_desk_text a.now.schema holds.1.0 in
-      (w, desk_made a b count holds (subst (λ t. Writes a b None CreateTable t [] count) text w)))
+  pub one_more : (text : List ℕ) → text ≡ create_text_of next → RunsText a b text [] (Ok tt) → HasMade old b (n + 1)
+  one_more text is h =
+      let apart : IsAscending HaveNamesApart (next ∷ drop (n + 1) places) = subst (IsAscending HaveNamesApart) (next_place n d within) (apart_from n places names_apart) in
+      let ran = subst (λ sql. RunsText a b sql [] (Ok tt)) is h in
+      record {
+        wears = omega (arith, so_far.wears, h.survives.clean);
+        made = λ was. subst (λ made. Changes HoldsStage b (Partly made (drop (n + 1) places)) Free) (sym (places_so_far n d within)) (has_table next (take n places) (drop (n + 1) places) a b (comes_next was) apart.0 ran);
+      }
 
-module _ (a b : State) (was : Changes HoldsStage a HasDesk Free) where
-  has_tables : RunsText a b CREATE_MODULE.now [] (Ok tt) → Changes HoldsStage b HasTables Free
-  has_tables h = step HoldsStage CREATE_MODULE.now [] a b HasDesk Free was (knows_modules a.now) (λ holds. refl) HasTables h (λ holds count w.
-      let text = create_module_text a.now.schema holds.2.0 in
-      (w, modules_made a b count holds (subst (λ t. Writes a b None CreateTable t [] count) text w)))
+  pub not_made : {F : Type 0} (fault : Fault) (text : List ℕ) → text ≡ create_text_of next → RunsText a b text [] (Err fault) → (out : Result (Unit {0}) F) → IsErr out → MakesTables old b out
+  not_made fault text is h (Ok x) bad = absurd (cc)
+  not_made fault text is h (Err f) bad =
+      let ran = subst (λ sql. RunsText a b sql [] (Err fault)) is h in
+      record { wears = omega (arith, so_far.wears, h.survives.clean); makes = λ was. has_no_table next (take n places) (drop (n + 1) places) a b (comes_next was) fault ran }
 
-module _ {F : Type 0} (a b : State) where
-  pub first_fails : (fault : Fault) → RunsText a b CREATE_DESK.now [] (Err fault) → (out : Result (Unit {0}) F) → IsErr out → MakesTables a b out
-  first_fails fault h (Ok x) bad = absurd (cc)
-  first_fails fault h (Err f) bad = record { wears = h.survives.clean; makes = λ was. step_fails HoldsStage CREATE_DESK.now [] a b Free Free was (knows_desk a.now) (λ holds. refl) fault h }
-
-  module _ (first : RunsText a b CREATE_DESK.now [] (Ok tt)) (c : State) where
-    pub second_fails : (fault : Fault) → RunsText b c CREATE_MODULE.now [] (Err fault) → (out : Result (Unit {0}) F) → IsErr out → MakesTables a c out
-    second_fails fault h (Ok x) bad = absurd (cc)
-    second_fails fault h (Err f) bad = record {
-      wears = omega (arith, first.survives.clean, h.survives.clean);
-      makes = λ was. step_fails HoldsStage CREATE_MODULE.now [] b c HasDesk Free (has_desk a b was first) (knows_modules b.now) (λ holds. refl) fault h;
-    }
-
-    pub both_made : RunsText b c CREATE_MODULE.now [] (Ok tt) → MakesTables {A = Unit {0}} {E = F} a c (Ok tt)
-    both_made h = record { wears = omega (arith, first.survives.clean, h.survives.clean); makes = λ was. has_tables b c (has_desk a b was first) h }
+pub whole_made : {F : Type 0} (old new : State) (n : ℕ) → take n places ≡ places → drop n places ≡ [] → HasMade old new n → MakesTables {A = Unit {0}} {E = F} old new (Ok tt)
+whole_made old new n all none h = record {
+  wears = h.wears;
+  makes = λ was. subst (λ made. Changes HoldsStage new (Partly made []) Free) all (subst (λ left. Changes HoldsStage new (Partly (take n places) left) Free) none (h.made was));
+}
 
 -- ---- the whole
 
@@ -123,11 +119,11 @@ module _ (approval : Bool) {F : Type 0} (out : Result (Unit {0}) F) where
       module _ {G : Type 0} (second : MakesTables {A = Unit {0}} {E = G} b c (Ok tt)) (d : State) where
         pub no_row : (fault : Fault) → RunsText c d PUT_DESK.now (Int (if approval then pos 1 else pos 0) ∷ []) (Err fault) → IsErr out → Makes a d approval out
         no_row fault h bad = fails a d (omega (arith, first.survives.clean, second.wears, h.survives.clean)) bad
-            (λ was clean db left. inl (step_fails HoldsStage PUT_DESK.now (Int (if approval then pos 1 else pos 0) ∷ []) c d HasTables Free (second.makes (began was)) (knows_row c.now) (λ holds. refl) fault h clean db left))
+            (λ was clean db left. inl (step_fails HoldsStage PUT_DESK.now (Int (if approval then pos 1 else pos 0) ∷ []) c d (Partly places []) Free (second.makes (began was)) (knows_row c.now) (λ holds. refl) fault h clean db left))
 
         module _ (third : RunsText c d PUT_DESK.now (Int (if approval then pos 1 else pos 0) ∷ []) (Ok tt)) (z : State) where
           filled : Rests HoldsStage a Free → Changes HoldsStage d (Whole (first_records approval)) Free
-          filled was = step HoldsStage PUT_DESK.now (Int (if approval then pos 1 else pos 0) ∷ []) c d HasTables Free (second.makes (began was)) (knows_row c.now) (λ holds. refl) (Whole (first_records approval)) third
+          filled was = step HoldsStage PUT_DESK.now (Int (if approval then pos 1 else pos 0) ∷ []) c d (Partly places []) Free (second.makes (began was)) (knows_row c.now) (λ holds. refl) (Whole (first_records approval)) third
               (λ holds count w. (w, desk_filled approval c d _ count holds w))
 
           pub no_commit : (fault : Fault) → RunsText d z COMMIT.now [] (Err fault) → IsErr out → Makes a z approval out

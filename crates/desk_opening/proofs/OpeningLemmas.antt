@@ -17,7 +17,7 @@ use Rattle.desk_records.specs.Holds.{HoldsRecords}
 use Rattle.desk_records.specs.declared.texts.TheConstants.{GET_DESK}
 use Rattle.desk_records.proofs.Meaning.{desk_query, get_desk_is}
 use Rattle.desk_opening.specs.declared.opening.OpenFault.{OpenFault}
-use Rattle.desk_opening.specs.Opening.{Keeps, Adopts, HasDeskTables, HasRow, IsFailure, Tells}
+use Rattle.desk_opening.specs.Opening.{Keeps, Adopts, HasDeskTables, HasNoRow, HasRow, LacksDesk, IsFailure, Tells}
 use Rattle.desk_opening.proofs.RowLemmas.{tells_on, tells_failure}
 
 knows_row : (db : Database) (r : Records) → HoldsRecords db r → Known db.schema GET_DESK.now
@@ -71,28 +71,28 @@ keeps_either a z x h (Err f) = record { wears = h.wears; keeps = leaves_still a 
 -- ---- the connection goes with the result
 
 -- nothing was asked of it
-pub adopts_none : {X A : Type 0} (view : X → State) (conn : X) (e : OpenFault) → Tells {A = A} (HasRow (view conn).now) (Err e) → (out : Result A OpenFault) → out ≡ Err e → IfErr out (λ _. (x : X) × Adopts (view conn) (view x) out)
+pub adopts_none : {X A : Type 0} (view : X → State) (conn : X) (e : OpenFault) → Tells {A = A} (HasRow (view conn).now) (LacksDesk (view conn).now) (Err e) → (out : Result A OpenFault) → out ≡ Err e → IfErr out (λ _. (x : X) × Adopts (view conn) (view x) out)
 adopts_none view conn e tells (Ok a) is = tt
 adopts_none view conn e tells (Err f) is =
-    (conn, record { keeps = record { wears = omega arith; keeps = λ r was clean db left. (was clean).crash db left }; tells = λ _. subst (λ r. Tells (HasRow (view conn).now) r) (sym is) tells })
+    (conn, record { keeps = record { wears = omega arith; keeps = λ r was clean db left. (was clean).crash db left }; tells = λ _. subst (λ r. Tells (HasRow (view conn).now) (LacksDesk (view conn).now) r) (sym is) tells })
 
 pub adopts_failed : {X A : Type 0} (view : X → State) (conn : X) (e : OpenFault) → IsFailure e → (out : Result A OpenFault) → out ≡ Err e → IfErr out (λ _. (x : X) × Adopts (view conn) (view x) out)
-adopts_failed {A = A} view conn e fails out is = adopts_none view conn e (tells_failure A (HasRow (view conn).now) e fails) out is
+adopts_failed {A = A} view conn e fails out is = adopts_none view conn e (tells_failure A (HasRow (view conn).now) (LacksDesk (view conn).now) e fails) out is
 
 -- a connection that was wrapped is the same
 module _ {X B : Type 0} (view : X → State) (old first last : X) (same : first ≡ old) (tables : HasDeskTables (view old).now.schema) where
   pub adopts_wrapped : {A : Type 0} (e : OpenFault) → Keeps {A = B} (view first) (view last) (Err e)
-      → (HasCleanDisk (view last) → HasDeskTables (view first).now.schema → Tells {A = B} (HasRow (view first).now) (Err e)) → (out : Result A OpenFault) → out ≡ Err e
+      → (HasCleanDisk (view last) → HasDeskTables (view first).now.schema → Tells {A = B} (HasRow (view first).now) (HasNoRow (view first).now) (Err e)) → (out : Result A OpenFault) → out ≡ Err e
       → IfErr out (λ _. (x : X) × Adopts (view old) (view x) out)
   adopts_wrapped e h tells (Ok a) is = tt
   adopts_wrapped {A} e h tells (Err f) is =
       let k = subst (λ x. Keeps {A = B} {E = OpenFault} (view x) (view last) (Err e)) same h in
-      let t = subst (λ x. HasCleanDisk (view last) → HasDeskTables (view x).now.schema → Tells {A = B} (HasRow (view x).now) (Err e)) same tells in
-      (last, record { keeps = record { wears = k.wears; keeps = k.keeps }; tells = λ clean. subst (λ r. Tells (HasRow (view old).now) r) (sym is) (tells_on B A (HasRow (view old).now) e (t clean tables)) })
+      let t = subst (λ x. HasCleanDisk (view last) → HasDeskTables (view x).now.schema → Tells {A = B} (HasRow (view x).now) (HasNoRow (view x).now) (Err e)) same tells in
+      (last, record { keeps = record { wears = k.wears; keeps = k.keeps }; tells = λ clean. subst (λ r. Tells (HasRow (view old).now) (LacksDesk (view old).now) r) (sym is) (tells_on B A (HasRow (view old).now) (HasNoRow (view old).now) (LacksDesk (view old).now) inr e (t clean tables)) })
 
   pub adopts_whole : (b : B) (given : X) → given ≡ last → Keeps {A = B} {E = OpenFault} (view first) (view last) (Ok b)
-      → (HasCleanDisk (view last) → HasDeskTables (view first).now.schema → Tells {A = B} (HasRow (view first).now) (Ok b)) → Adopts (view old) (view given) (Ok given)
+      → (HasCleanDisk (view last) → HasDeskTables (view first).now.schema → Tells {A = B} (HasRow (view first).now) (HasNoRow (view first).now) (Ok b)) → Adopts (view old) (view given) (Ok given)
   adopts_whole b given is h tells =
       let k = subst (λ x. Keeps {A = B} {E = OpenFault} (view x) (view last) (Ok b)) same h in
-      let t = subst (λ x. HasCleanDisk (view last) → HasDeskTables (view x).now.schema → Tells {A = B} (HasRow (view x).now) (Ok b)) same tells in
+      let t = subst (λ x. HasCleanDisk (view last) → HasDeskTables (view x).now.schema → Tells {A = B} (HasRow (view x).now) (HasNoRow (view x).now) (Ok b)) same tells in
       subst (λ x. Adopts (view old) (view x) (Ok given)) (sym is) (record { keeps = record { wears = k.wears; keeps = k.keeps }; tells = λ clean. t clean tables })

@@ -23,8 +23,8 @@ use Rattle.desk_records.specs.Schema.{desk_names}
 use Rattle.desk_records.specs.Holds.{HoldsRecords}
 use Rattle.desk_opening.specs.Making.{HoldsStage, Free}
 use Rattle.desk_opening.specs.declared.opening.OpenFault.{OpenFault}
-use Rattle.desk_opening.specs.Opening.{OpensDesk, HasDesk, HasRow, IsNewerRow, FindsTo, IsSettled}
-use Rattle.desk_opening.specs.Reopening.{Reopens, Refuses, HoldsDesk, HoldsNone, HasNewer, IsOpenable, UsesNoName}
+use Rattle.desk_opening.specs.Opening.{OpensDesk, HasDesk, HasNoDesk, HasRow, IsNewerRow, FindsTo, IsSettled}
+use Rattle.desk_opening.specs.Reopening.{Reopens, Refuses, HoldsDesk, HoldsNone, HoldsNoDesk, HasNewer, IsOpenable, UsesNoName}
 use Rattle.desk_opening.proofs.BlankLemmas.{nothing_is_unused}
 
 -- ---- trees list one list of tables alone
@@ -113,6 +113,9 @@ module _ (image : Image) (old : State) (opened : HasCleanDisk old → Opens old 
   newer : HasCleanDisk old → HasRow old.now IsNewerRow → (db : Trees) × AreFoundIn image db × HasNewer db
   newer clean row = let it = opened clean in (old.committed.trees, reads clean, (old.committed.schema, (it.1 it.0.is_open).1, subst (λ d. HasRow d IsNewerRow) it.0.clean row))
 
+  none : HasCleanDisk old → HasNoDesk old.now → (db : Trees) × AreFoundIn image db × HoldsNoDesk db
+  none clean lacks = let it = opened clean in (old.committed.trees, reads clean, (old.committed.schema, (it.1 it.0.is_open).1, subst (λ d. HasNoDesk d) it.0.clean lacks))
+
   pub reopens : {X : Type 0} (view : X → State) (approval : Bool) (out : Result X OpenFault) → IfOk out (λ x. OpensDesk old (view x) approval out) → IfOk out (λ x. Reopens image (view x) approval)
   reopens view approval (Err e) h = tt
   reopens view approval (Ok x) h =
@@ -131,6 +134,7 @@ module _ (image : Image) (old : State) (opened : HasCleanDisk old → Opens old 
         h.0,
         λ clean. record {
           newer = λ is. newer (omega (arith, clean, h.1.wears)) (subst (λ f. FindsTo {A = X} old.now (Err f)) is (h.1.finds clean));
+          none = λ is. none (omega (arith, clean, h.1.wears)) (subst (λ f. FindsTo {A = X} old.now (Err f)) is (h.1.finds clean));
           holds = λ r has. h.1.keeps is_open r (rests r has) clean;
           makes = λ none. h.1.makes is_open (rests_free none) clean;
         },

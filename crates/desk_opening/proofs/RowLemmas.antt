@@ -1,5 +1,5 @@
 -- What the query of the row of `desk` reads.
-use Rattle.std.proofs.Common.{◌≡◌, ◌&&◌, inl, inr, pos, Bool, true, false, List, [], ◌∷◌, cond, map, filter, codes, Option, Some, None, Ok, Err, Result, refl, sym, subst, ◌∙◌, arith}
+use Rattle.std.proofs.Common.{◌≡◌, ◌≢◌, ◌<◌, ◌<ℤ◌, ◌⊎◌, ◌&&◌, inl, inr, ℕ, ℤ, zero, suc, length, pos, Bool, true, false, List, [], ◌∷◌, cond, map, filter, codes, Option, Some, None, Ok, Err, Result, refl, sym, subst, ◌∙◌, arith}
 use Rattle.sqlite_value.specs.declared.value.Value.{Value}
 use Rattle.sqlite_value.specs.declared.value.Value.TheVariants.{Null, Int, Real, Text, Blob}
 use Rattle.sqlite_value.specs.Order.{Row, column, value_cmp}
@@ -7,6 +7,8 @@ use Rattle.sqlite_trees.specs.Tree.{has_rowid}
 use Rattle.sqlite_rules.specs.Lists.{Has}
 use Rattle.std.specs.List.{AllByRecursion}
 use Rattle.sqlite_trees.proofs.ListLemmas.{all-permutation}
+use Rattle.std.proofs.lemmas.List.{length-map}
+use Rattle.std.proofs.lemmas.List.Sorted.{length_permutation}
 use Rattle.sqlite_sql.specs.Ops.{binary, is_true, from_truth}
 use Rattle.sqlite.specs.Term.{Term, col, lit}
 use Rattle.sqlite.specs.Command.TheVariants.{Begin}
@@ -15,14 +17,14 @@ use Rattle.sqlite.specs.State.{State, HasCleanDisk}
 use Rattle.sql_front.specs.Found.{StandsSomewhere}
 use Rattle.sql_calls.specs.Calls.{RunsText, TakesFirst}
 use Rattle.sql_calls.proofs.Ends.{begin_is}
-use Rattle.sql_calls.proofs.Leavings.{first_shown, shows_as, runs_plain}
+use Rattle.sql_calls.proofs.Leavings.{first_shown, none_shown, shows_as, runs_plain}
 use Rattle.sql_calls.proofs.Selects.{passes, shown_of, simple_rows}
 use Rattle.desk_records.specs.Schema.{desk_table}
 use Rattle.desk_records.specs.declared.texts.TheConstants.{GET_DESK}
 use Rattle.desk_records.proofs.Meaning.{get_desk_is, is_equal}
 use Rattle.desk_opening.specs.declared.opening.OpenFault.{OpenFault}
 use Rattle.desk_opening.specs.declared.opening.OpenFault.TheVariants.{NotDesk, NewerVersion, Memory, Store}
-use Rattle.desk_opening.specs.Opening.{HasRow, ReadsRow, Tells, IsDeskRow, IsNewerRow, IsFailure}
+use Rattle.desk_opening.specs.Opening.{HasNoRow, HasRow, ReadsRow, Tells, IsDeskRow, IsNewerRow, IsOtherRow, IsFailure}
 
 judged : (b : Bool) → is_true (from_truth (Some b)) ≡ b
 judged true = refl
@@ -83,32 +85,90 @@ module _ (a b c : State) (first : RunsText a b (codes "BEGIN") [] (Ok tt)) (row 
           let it = (all-permutation (IsShownOf (b.now.trees at.tree)) _ (row ∷ shown.0) same (all_shown (b.now.trees at.tree) (b.now.trees at.tree) (λ r has. has))).0 in
           record { table = at; row = it.0; among = it.1; number = it.2; says = it.3 }
 
+-- ---- no row
+
+none_left : (rows : List Row) → filter is_first rows ≡ [] → AllByRecursion (λ row. has_rowid (pos 1) row ≡ false) rows
+none_left [] none = tt
+none_left (r ∷ rows) none = go (is_first r) refl none (none_left rows)
+  where
+    go : (b : Bool) → is_first r ≡ b → cond b (r ∷ filter is_first rows) (filter is_first rows) ≡ [] → (filter is_first rows ≡ [] → AllByRecursion (λ row. has_rowid (pos 1) row ≡ false) rows)
+        → AllByRecursion (λ row. has_rowid (pos 1) row ≡ false) (r ∷ rows)
+    go true is h more = absurd (cc)
+    go false is h more = (sym (passes_number r) ∙ is, more h)
+
+empty_by_length : {X : Type 0} (xs : List X) → length xs ≡ 0 → xs ≡ []
+empty_by_length [] h = refl
+empty_by_length (x ∷ xs) h = absurd (omega (arith, h))
+
+module _ (a b c : State) (first : RunsText a b (codes "BEGIN") [] (Ok tt)) (second : TakesFirst b c GET_DESK.now [] (Ok None)) (clean : HasCleanDisk c) where
+  seen_now : b.now ≡ a.now
+  seen_now = let done = first.runs (omega (arith, clean, second.survives.clean)) in (runs_plain (codes "BEGIN") Begin [] a b (begin_is a.now.schema) done.0 done.1).1.now_is
+
+  pub reads_none : StandsSomewhere a.now.schema (desk_table 0) → HasNoRow a.now
+  reads_none table = subst (λ db. StandsSomewhere db.schema (desk_table 0) → HasNoRow db) seen_now go table
+    where
+      go : StandsSomewhere b.now.schema (desk_table 0) → HasNoRow b.now
+      go at =
+          let means = get_desk_is b.now.schema at.at at.tree at.stands in
+          let shown = none_shown GET_DESK.now _ [] b c means (second.answers clean) in
+          let answer = (shows_as GET_DESK.now _ [] b c means [] shown).answer in
+          let rows : List Row = filter is_first (b.now.trees at.tree) in
+          let same = simple_rows at.tree (is_equal (col 1 0) (lit (Int (pos 1))) ∷ []) columns [] b.now.trees [] (answer Null) in
+          let count : length rows ≡ 0 = sym (length-map rows (shown_of columns [])) ∙ sym (length_permutation _ [] same) in
+          record { table = at; none = none_left (b.now.trees at.tree) (empty_by_length rows count) }
+
 -- ---- what the answers tell of it
 
 pub reads_rows : (a b c : State) → RunsText a b (codes "BEGIN") [] (Ok tt) → (row : Option Row) → TakesFirst b c GET_DESK.now [] (Ok row) → HasCleanDisk c → ReadsRow a.now row
-reads_rows a b c first None second clean = tt
+reads_rows a b c first None second clean = reads_none a b c first second clean
 reads_rows a b c first (Some row) second clean = reads_row a b c first row second clean
 
-pub tells_row : {A : Type 0} (db : Database) (row : Row) (out : Result A OpenFault) → HasRow db (λ shown. row ≡ shown) → Tells (λ Says. Says row) out → Tells (HasRow db) out
+pub tells_row : {A : Type 0} (db : Database) (row : Row) (out : Result A OpenFault) → HasRow db (λ shown. row ≡ shown) → Tells (λ Says. Says row) ⊥ out → Tells (HasRow db) (HasNoRow db) out
 tells_row db row (Ok a) h told = record { table = h.table; row = h.row; among = h.among; number = h.number; says = subst IsDeskRow h.says told }
-tells_row db row (Err NotDesk) h told = tt
+tells_row db row (Err NotDesk) h (inl told) = inl (record { table = h.table; row = h.row; among = h.among; number = h.number; says = subst IsOtherRow h.says told })
+tells_row db row (Err NotDesk) h (inr never) = absurd never
 tells_row db row (Err NewerVersion) h told = record { table = h.table; row = h.row; among = h.among; number = h.number; says = subst IsNewerRow h.says told }
 tells_row db row (Err Memory) h told = tt
 tells_row db row (Err Store) h told = tt
 
-pub tells_read : {A : Type 0} (db : Database) (found : Option Row) (row : Row) (out : Result A OpenFault) → found ≡ Some row → ReadsRow db found → StandsSomewhere db.schema (desk_table 0) → Tells (λ Says. Says row) out
-    → Tells (HasRow db) out
+pub tells_read : {A : Type 0} (db : Database) (found : Option Row) (row : Row) (out : Result A OpenFault) → found ≡ Some row → ReadsRow db found → StandsSomewhere db.schema (desk_table 0) → Tells (λ Says. Says row) ⊥ out
+    → Tells (HasRow db) (HasNoRow db) out
 tells_read db found row out is reads stands told = tells_row db row out (subst (ReadsRow db) is reads stands) told
 
-pub tells_failure : (A : Type 0) (Says : (Row → Type 0) → Type 0) (e : OpenFault) → IsFailure e → Tells {A = A} Says (Err e)
-tells_failure A Says NotDesk fails = absurd fails
-tells_failure A Says NewerVersion fails = absurd fails
-tells_failure A Says Memory fails = tt
-tells_failure A Says Store fails = tt
+pub tells_none : (db : Database) (found : Option Row) → found ≡ None → ReadsRow db found → StandsSomewhere db.schema (desk_table 0) → HasRow db IsOtherRow ⊎ HasNoRow db
+tells_none db found is reads stands = inr (subst (ReadsRow db) is reads stands)
 
--- the same fault of another call
-pub tells_on : (A B : Type 0) (Says : (Row → Type 0) → Type 0) (e : OpenFault) → Tells {A = A} Says (Err e) → Tells {A = B} Says (Err e)
-tells_on A B Says NotDesk told = tt
-tells_on A B Says NewerVersion told = told
-tells_on A B Says Memory told = tt
-tells_on A B Says Store told = tt
+pub tells_failure : (A : Type 0) (Says : (Row → Type 0) → Type 0) (Lacks : Type 0) (e : OpenFault) → IsFailure e → Tells {A = A} Says Lacks (Err e)
+tells_failure A Says Lacks NotDesk fails = absurd fails
+tells_failure A Says Lacks NewerVersion fails = absurd fails
+tells_failure A Says Lacks Memory fails = tt
+tells_failure A Says Lacks Store fails = tt
+
+-- the same of another call, which may lack more
+pub tells_on : (A B : Type 0) (Says : (Row → Type 0) → Type 0) (Lacks More : Type 0) → (Lacks → More) → (e : OpenFault) → Tells {A = A} Says Lacks (Err e) → Tells {A = B} Says More (Err e)
+tells_on A B Says Lacks More more NotDesk (inl told) = inl told
+tells_on A B Says Lacks More more NotDesk (inr lacks) = inr (more lacks)
+tells_on A B Says Lacks More more NewerVersion told = told
+tells_on A B Says Lacks More more Memory told = tt
+tells_on A B Says Lacks More more Store told = tt
+
+-- ---- what a row says
+
+-- a value that isn't NULL is within the row
+pub within_row : (row : Row) (at : ℕ) (v : Value) → column row at ≡ v → v ≢ Null → at < length row
+within_row [] at v is some = absurd (some (sym is))
+within_row (x ∷ row) zero v is some = omega arith
+within_row (x ∷ row) (suc at) v is some = let more = within_row row at v is some in omega (arith, more)
+
+pub reads_number : (row : Row) (n m : ℤ) → column row 1 ≡ Int n → column row 1 ≡ Int m → n ≡ m
+reads_number row n m h k = let same : Int n ≡ Int m = sym h ∙ k in cc
+
+-- a version of 1 or above 1
+pub other_version : (row : Row) (n : ℤ) → column row 1 ≡ Int n → n ≢ pos 1 → ¬ (pos 1 <ℤ n) → IsOtherRow row
+other_version row n is one above = (λ desk. one (reads_number row n (pos 1) is desk.version), λ newer. above (subst (λ (m : ℤ). pos 1 <ℤ m) (reads_number row newer.number n newer.version is) newer.later))
+
+pub other_format : (row : Row) → column row 0 ≢ Text (codes "fwdesk") → IsOtherRow row
+other_format row other = (λ desk. other desk.format, λ newer. other newer.format)
+
+pub no_version : (row : Row) → ((n : ℤ) → column row 1 ≢ Int n) → IsOtherRow row
+no_version row none = (λ desk. none (pos 1) desk.version, λ newer. none newer.number newer.version)

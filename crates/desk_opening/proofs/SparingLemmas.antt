@@ -14,6 +14,9 @@ use Rattle.sqlite.specs.Recovery.{Image}
 use Rattle.sqlite.specs.Tree.{Trees}
 use Rattle.sqlite_pool.specs.Stored.{is_summed, reserved, stored_size, StandsAs}
 use Rattle.sqlite_pool.proofs.ProbeLemmas.{size_by_log, size_by_file, reserved_word}
+use Rattle.sqlite_trees.specs.declared.error.StoreError.{StoreError}
+use Rattle.sqlite_trees.specs.declared.error.StoreError.TheVariants as stored
+use Rattle.sqlite.specs.State.{store_error}
 use Rattle.sqlite_wal.specs.Files.{outcomes}
 use Rattle.sqlite_wal.specs.Recovery.{IsIgnored, Recovers}
 use Rattle.sqlite.specs.declared.error.Error.{Error}
@@ -29,7 +32,7 @@ use Rattle.desk_records.specs.Holds.{HoldsRecords}
 use Rattle.desk_opening.specs.declared.opening.OpenFault.{OpenFault}
 use Rattle.desk_opening.specs.declared.opening.OpenFault.TheVariants.{NotDesk, NewerVersion, Memory, Store}
 use Rattle.desk_opening.specs.Opening.{IsFailure}
-use Rattle.desk_opening.specs.Reopening.{HoldsPlain, HoldsNone, HoldsDesk, UsesNoName, EachAfter, Spares, IsSpared}
+use Rattle.desk_opening.specs.Reopening.{HoldsPlain, HoldsNone, HoldsDesk, UsesNoName, EachAfter, IsForeign, Spares, IsSpared}
 use Rattle.desk_opening.proofs.BlankLemmas.{nothing_is_unused, empty_is_unused}
 use Rattle.desk_opening.proofs.ReopenLemmas.{found_records, found_none}
 
@@ -83,6 +86,14 @@ plainly : (image : Image) → HoldsNone HoldsPlain image → HoldsNone HoldsData
 plainly image (inl nothing) = inl nothing
 plainly image (inr has) = inr (∥∥₁_map has (λ it. (it.0, whole image it.0 it.1, it.2)))
 
+not_stored : (kind : StoreError) → store_error kind ≢ SqliteFailure code.NotADatabase
+not_stored stored.OutOfMemory is = cc
+not_stored stored.Io is = cc
+not_stored stored.Corrupt is = cc
+not_stored stored.Full is = cc
+not_stored stored.Broken is = cc
+not_stored stored.Unstorable is = cc
+
 module _ {D : Type 0} (g : disk.Ghosts D) (stays : (file : D) → g.may_leave file (g.seen file)) (files : Files D) where
   abbrev before_it : Image → Type 0
   before_it = outcomes g files.log files.db
@@ -116,12 +127,30 @@ module _ {D : Type 0} (g : disk.Ghosts D) (stays : (file : D) → g.may_leave fi
   ]
   makes_none (left.Store now) leaves before = λ db found. let it = leaves db found in found_none (image_of g files) db it.1 (λ nothing. nothing_is_unused (image_of g files) db nothing it.0) (plainly _ (before (image_of g files) seen_is))
 
-  pub spares : (rest : Leftover D g) (e : OpenFault) → e ≢ NewerVersion → LeavesFiles files rest → Spares g before_it rest e
-  spares rest e named leaves = record { named = named; holds = holds_on rest leaves; makes = makes_none rest leaves }
+  -- what is refused as no database is none, and not empty
+  pub foreign : (error : Error) (rest : Leftover D g) (e : OpenFault) → (error ≢ SqliteFailure code.NotADatabase → IsFailure e) → FailsToOpenFiles files rest error → e ≡ NotDesk → (image : Image) × before_it image × IsForeign image
+  foreign error rest e opened fails is = (image_of g files, seen_is, go fails)
+    where
+      never : error ≢ SqliteFailure code.NotADatabase → ⊥
+      never other = subst IsFailure is (opened other)
+
+      go : FailsToOpenFiles files rest error → IsForeign (image_of g files)
+      go (inl memory) = absurd (never (λ no. let x = sym memory ∙ no in cc))
+      go (inr (inl refused)) = (λ nothing. refused.1 (inr nothing), λ held. refused.1 (inl held))
+      go (inr (inr (inl fault))) = absurd (never (λ no. not_stored _ (sym (fault.0) ∙ no)))
+      go (inr (inr (inr full))) = absurd (never (λ no. let x = sym (full.0) ∙ no in cc))
+
+  pub spares : (error : Error) (rest : Leftover D g) (e : OpenFault) → (error ≢ SqliteFailure code.NotADatabase → IsFailure e) → e ≢ NewerVersion → FailsToOpenFiles files rest error × LeavesFiles files rest → Spares g before_it rest e
+  spares error rest e opened named why = record { named = named; foreign = foreign error rest e opened (why.0); holds = holds_on rest (why.1); makes = makes_none rest (why.1) }
 
   -- a crash may leave no more than is named here
   pub spares_at : (named_here : Image → Type 0) → ((image : Image) → before_it image → named_here image) → (rest : Leftover D g) (e : OpenFault) → Spares g before_it rest e → Spares g named_here rest e
-  spares_at named_here all rest e it = record { named = it.named; holds = λ r each. it.holds r (λ image out. each image (all image out)); makes = λ each. it.makes (λ image out. each image (all image out)) }
+  spares_at named_here all rest e it = record {
+    named = it.named;
+    foreign = λ is. let found = it.foreign is in (found.0, all found.0 found.1, found.2);
+    holds = λ r each. it.holds r (λ image out. each image (all image out));
+    makes = λ each. it.makes (λ image out. each image (all image out));
+  }
 
 -- ---- the fault
 
@@ -156,4 +185,4 @@ module _ {D : Type 0} (g : disk.Ghosts D) (stays : (file : D) → g.may_leave fi
   path_refused error (Some rest) e Other opened named unopened cause =
       let files = cause.0 in
       let all = λ (image : Image) (out : outcomes g files.log files.db image). ap₂ (λ (a b : List ℕ). let i : Image = record { log = a; db = b } in i) (logs files.log cause.1 image.log out.0) (dbs files.db cause.2 image.db out.1) in
-      inr (inl (rest, λ clean. spares_at g stays files (λ left. left ≡ at) all rest e (spares g stays files rest e named (cause.3 clean).1)))
+      inr (inl (rest, λ clean. spares_at g stays files (λ left. left ≡ at) all rest e (spares g stays files error rest e opened named (cause.3 clean))))

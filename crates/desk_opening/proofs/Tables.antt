@@ -1,6 +1,6 @@
 -- What each text of the making does.
-use Rattle.std.proofs.Common.{◌≡◌, ◌≢◌, inl, inr, ℕ, ◌<◌, ◌^◌, ◌==◌, Bool, true, false, List, [], ◌∷◌, ◌++◌, length, codes, pos, map, drop, Some, None, Ok, find, bytes_eq, if◌then◌else◌, refl, sym, ap, subst, ◌∙◌, arith}
-use Rattle.std.specs.List.{AllZip}
+use Rattle.std.proofs.Common.{◌≡◌, ◌≢◌, inl, inr, ℕ, ◌+◌, ◌<◌, ◌^◌, ◌==◌, Bool, true, false, List, [], ◌∷◌, ◌++◌, length, codes, pos, map, drop, Some, None, Ok, find, if◌then◌else◌, refl, sym, ap, subst, ◌∙◌, arith}
+use Rattle.std.specs.List.{AllZip, AllByRecursion, position_from}
 use Rattle.std.proofs.lemmas.Bool.{true≢false}
 use Rattle.sqlite_value.specs.declared.value.Value.TheVariants.{Int}
 use Rattle.sqlite.specs.Order.{Row}
@@ -10,31 +10,31 @@ use Rattle.sqlite.specs.Effect.{Database, IsDatabase}
 use Rattle.sqlite.specs.Command.TheVariants.{CreateTable, Insert}
 use Rattle.sqlite.specs.Source.TheVariants.{Values}
 use Rattle.sqlite.specs.State.{State, Writes}
-use Rattle.sqlite_tied.specs.Compute.{everything}
 use Rattle.sqlite_rules.specs.Lists.{Has}
 use Rattle.sqlite_schema.specs.Names.{same_name}
-use Rattle.sqlite_catalog.specs.Change.{next_tree}
+use Rattle.sqlite_schema.specs.declared.schema.Index.{Index}
+use Rattle.sqlite_catalog.specs.Change.{next_tree, is_used, automatics}
 use Rattle.sqlite_catalog.specs.Listing.{IsTableRow}
 use Rattle.sqlite_catalog.proofs.StepLemmas.{same_itself}
 use Rattle.sqlite_keyed.proofs.ListLemmas.{all-slice_get}
-use Rattle.sqlite_resolve.specs.Compile.{table_defined_by, first, table_in}
+use Rattle.sqlite_resolve.specs.Compile.{table_defined_by}
 use Rattle.sql_front.specs.Stands.{Stands}
-use Rattle.sql_front.specs.Found.{StandsSomewhere}
-use Rattle.desk_opening.specs.Opening.{HasDeskTables}
+use Rattle.sql_front.specs.Free.{LeavesFree}
 use Rattle.sql_front.proofs.Created.{stands_kept, stands_last}
-use Rattle.sql_front.proofs.Grown.{grown}
+use Rattle.sql_front.proofs.Grown.{Grown, grown}
 use Rattle.sqlite_rules.specs.Edit.{put_all, numbered}
 use Rattle.sqlite_rules.specs.Cast.{cast_row}
 use Rattle.sqlite.specs.Rowids.TheVariants.{Chosen}
-use Rattle.sql_calls.proofs.Inserts.{inserts, uncounted, given_rows}
+use Rattle.sql_calls.proofs.Inserts.{Inserted, inserts, uncounted, given_rows}
 use Rattle.sql_calls.proofs.NumberedRows.{cast_int, cast_null}
 use Rattle.rollout_machine.specs.RecordSteps.{no_records}
 use Rattle.rollout_machine.proofs.Answering.{made_records}
-use Rattle.desk_records.specs.Schema.{Place, Desk, Modules, table_at, name_of, desk_table, module_table}
+use Rattle.desk_records.specs.Schema.{Place, Desk, Modules, table_at, name_of, desk_table}
 use Rattle.desk_records.specs.Holds.{Spot, rows_of, desk_row}
-use Rattle.desk_records.specs.declared.texts.TheConstants.{CREATE_DESK, CREATE_MODULE}
 use Rattle.desk_records.proofs.Meaning.{desk_terms}
-use Rattle.desk_opening.specs.Making.{HoldsStage, Free, HasDesk, HasTables, Whole, first_records}
+use Rattle.desk_opening.specs.Places.{places, create_text_of}
+use Rattle.desk_opening.specs.Making.{HoldsStage, Partly, Whole, IsEmptyTable, first_records}
+use Rattle.desk_opening.proofs.Places.{is_place, each_place, HaveNamesApart, names_apart}
 
 -- ---- the tree of a table is low
 
@@ -54,93 +54,131 @@ low_tree db front more t sound grown = let low = zip_low _ db.schema.tables soun
 
 -- ---- the tables
 
-desk_defined : table_defined_by CREATE_DESK.now ≡ Ok (desk_table 0)
-unfolding table_defined_by first table_in everything
-desk_defined = refl
+abbrev pub HoldsTables : Database → List Place → List Place → Type 0
+HoldsTables db made left = HoldsStage db (Partly made left)
 
-module_defined : table_defined_by CREATE_MODULE.now ≡ Ok (module_table 0)
-unfolding table_defined_by first table_in everything
-module_defined = refl
+all_kept : {X : Type 0} (P Q : X → Type 0) → ((x : X) → P x → Q x) → (xs : List X) → AllByRecursion P xs → AllByRecursion Q xs
+all_kept P Q f [] h = tt
+all_kept P Q f (x ∷ xs) h = (f x h.0, all_kept P Q f xs h.1)
 
-names_differ : (same_name (codes "desk") (codes "module") ≡ false) × (same_name (codes "sqlite_sequence") (codes "module") ≡ false)
-unfolding same_name
-names_differ = (refl, refl)
+all_last : {X : Type 0} (P : X → Type 0) (xs : List X) (x : X) → AllByRecursion P xs → P x → AllByRecursion P (xs ++ x ∷ [])
+all_last P [] x h k = (k, tt)
+all_last P (y ∷ xs) x h k = (h.0, all_last P xs x h.1 k)
 
-pub desk_made : (old new : State) (count : ℕ) → HoldsStage old.now Free → Writes old new None CreateTable CREATE_DESK.now [] count → HoldsStage new.now HasDesk
-desk_made old new count was w =
-    let s = old.now.schema in
-    let g = grown s (desk_table 0) CREATE_DESK.now desk_defined old new refl [] count w in
-    let low : next_tree s < 2 ^ 31 = low_tree new.now s.tables g.more (desk_table (next_tree s)) w.sound g.tables in (
-      w.sound,
-      record { at = length s.tables; tree = next_tree s; stands = stands_last s new.now.schema (desk_table 0) g.more g.tables was.1.0 (same_itself (codes "desk")) low; empty = g.empty },
-      (g.free (codes "module") was.1.1.0 names_differ.0 (λ tree next i. refl) names_differ.1, tt),
-    )
+same_tree : (t : Place) (n : ℕ) → (table_at t n).tree ≡ n
+same_tree t n = ap (λ (table : Table). table.tree) (sym ((is_place t).moved n))
 
-pub modules_made : (old new : State) (count : ℕ) → HoldsStage old.now HasDesk → Writes old new None CreateTable CREATE_MODULE.now [] count → HoldsStage new.now HasTables
-modules_made old new count was w =
-    let s = old.now.schema in
-    let desk = was.1 in
-    let g = grown s (module_table 0) CREATE_MODULE.now module_defined old new refl [] count w in
-    let new_table : Table = module_table (next_tree s) in
-    let low : next_tree s < 2 ^ 31 = low_tree new.now s.tables g.more new_table w.sound g.tables in
-    let kept : new.now.trees desk.tree ≡ old.now.trees desk.tree = all-slice_get (λ (t : Table). new.now.trees t.tree ≡ old.now.trees t.tree) s.tables desk.at (desk_table desk.tree) desk.stands.got g.others in (
-      w.sound,
-      record { at = desk.at; tree = desk.tree; stands = stands_kept s new.now.schema (codes "desk") desk.at (desk_table desk.tree) (new_table ∷ g.more) g.tables desk.stands; empty = kept ∙ desk.empty },
-      record { at = length s.tables; tree = next_tree s; stands = stands_last s new.now.schema (module_table 0) g.more g.tables was.2.0 (same_itself (codes "module")) low; empty = g.empty },
-    )
+-- no index that SQLite makes for a UNIQUE has such a name
+unindexed : (name : List ℕ) → ((rest : List ℕ) → same_name (codes "sqlite_autoindex_" ++ rest) name ≡ false) → (table : Table) (at next i : ℕ) (keys : List (List ℕ))
+    → position_from (λ (x : Index). same_name x.name name) i (automatics table at next keys) ≡ None
+unindexed name apart table at next i [] = refl
+unindexed name apart table at next i (key ∷ keys) = rw (apart _) (unindexed name apart table (at + 1) (next + 1) (i + 1) keys)
+
+module _ (t : Place) (made left : List Place) (apart : AllByRecursion (HaveNamesApart t) left) (old new : State) (count : ℕ) (was : HoldsTables old.now made (t ∷ left))
+    (w : Writes old new None CreateTable (create_text_of t) [] count) where
+  abbrev s : Schema
+  s = old.now.schema
+
+  abbrev new_table : Table
+  new_table = record (table_at t 0) { tree = next_tree s }
+
+  g : Grown s (table_at t 0) old.now new.now
+  g = grown s (table_at t 0) (create_text_of t) (is_place t).defined old new refl [] count w
+
+  free : is_used s (table_at t 0).name ≡ false
+  free = ap (is_used s) (is_place t).named ∙ was.2.0
+
+  low : next_tree s < 2 ^ 31
+  low = low_tree new.now s.tables g.more new_table w.sound g.tables
+
+  made_last : Stands new.now.schema (name_of t) (length s.tables) (table_at t (next_tree s))
+  made_last =
+      let stands = stands_last s new.now.schema (table_at t 0) g.more g.tables free (same_itself (table_at t 0).name) low in
+      subst (λ name. Stands new.now.schema name (length s.tables) (table_at t (next_tree s))) (is_place t).named
+      (subst (λ (table : Table). Stands new.now.schema (table_at t 0).name (length s.tables) table) ((is_place t).moved (next_tree s)) stands)
+
+  still_empty : (u : Place) → IsEmptyTable old.now u → IsEmptyTable new.now u
+  still_empty u e =
+      let rows : new.now.trees (table_at u e.tree).tree ≡ old.now.trees (table_at u e.tree).tree = all-slice_get (λ (x : Table). new.now.trees x.tree ≡ old.now.trees x.tree) s.tables e.at (table_at u e.tree) e.stands.got g.others in
+      let kept : new.now.trees e.tree ≡ old.now.trees e.tree = subst (λ n. new.now.trees n ≡ old.now.trees n) (same_tree u e.tree) rows in
+      record { at = e.at; tree = e.tree; stands = stands_kept s new.now.schema (name_of u) e.at (table_at u e.tree) (new_table ∷ g.more) g.tables e.stands; empty = kept ∙ e.empty }
+
+  spared : (u : Place) → same_name (table_at t 0).name (name_of u) ≡ false → is_used s (name_of u) ≡ false → is_used new.now.schema (name_of u) ≡ false
+  spared u other unused = g.free (name_of u) unused other (λ tree next i. unindexed (name_of u) (is_place u).unindexed (record (table_at t 0) { tree = tree }) 0 next i (table_at t 0).uniques) (is_place u).unsequenced
+
+  still_free : (us : List Place) → AllByRecursion (HaveNamesApart t) us → LeavesFree s (map name_of us) → LeavesFree new.now.schema (map name_of us)
+  still_free [] h k = tt
+  still_free (u ∷ us) h k = (spared u (ap (λ name. same_name name (name_of u)) (is_place t).named ∙ h.0) k.0, still_free us h.1 k.1)
+
+  pub table_made : HoldsTables new.now (made ++ t ∷ []) left
+  table_made = (
+    w.sound,
+    all_last (IsEmptyTable new.now) made t (all_kept (IsEmptyTable old.now) (IsEmptyTable new.now) still_empty made was.1) (record { at = length s.tables; tree = next_tree s; stands = made_last; empty = g.empty }),
+    still_free left apart was.2.1,
+  )
 
 -- ---- the row of `desk`
-
-apart : (s : Schema) (at there a b : ℕ) → Stands s (codes "desk") at (desk_table a) → Stands s (codes "module") there (module_table b) → b ≢ a
-apart s at there a b desk modules same =
-    let both : Some (module_table b) ≡ Some (desk_table a) = sym modules.found ∙ ap (λ tree. find (λ (x : Table). x.tree == tree) s.tables) same ∙ desk.found in
-    let tables : module_table b ≡ desk_table a = cc in
-    true≢false (ap (λ (t : Table). bytes_eq t.name (codes "module")) tables)
 
 only_row : (approval : Bool) (tree : ℕ) → put_all [] (numbered Chosen [] (map (λ s. cast_row (uncounted (desk_table tree)) (drop 0 s)) (given_rows (uncounted (desk_table tree)) (Int (if approval then pos 1 else pos 0) ∷ []) desk_terms 5))) ≡ desk_row approval ∷ []
 only_row true tree = rw (cast_int 1, cast_null)
 only_row false tree = rw (cast_int 1, cast_int 0, cast_null)
 
-filled_with : (approval : Bool) (old new : State) (text : List ℕ) (count : ℕ) (was : HoldsStage old.now HasTables) → Writes old new None (Insert was.1.at (Values desk_terms 5)) text (Int (if approval then pos 1 else pos 0) ∷ []) count
-    → HoldsStage new.now (Whole (no_records approval))
-filled_with approval old new text count was w =
-    let desk = was.1 in
-    let modules = was.2 in
-    let made = inserts old.now.schema desk.at (desk_table desk.tree) desk_terms 5 desk.stands.got old new refl text (Int (if approval then pos 1 else pos 0) ∷ []) count w in
-    let one : new.now.trees desk.tree ≡ desk_row approval ∷ [] = made.applies.rows ∙ rw (desk.empty) (only_row approval desk.tree) in
-    let none : new.now.trees modules.tree ≡ [] =
-    all-slice_get (λ (t : Table). t.tree ≢ desk.tree → new.now.trees t.tree ≡ old.now.trees t.tree) old.now.schema.tables modules.at (module_table modules.tree) modules.stands.got made.applies.tables
-    (apart old.now.schema desk.at modules.at desk.tree modules.tree desk.stands modules.stands) ∙ modules.empty in
-    record {
-      sound = w.sound;
-      spot = spot desk.at desk.tree modules.at modules.tree;
-      stands = stands desk.at desk.tree modules.at modules.tree (subst (λ s. Stands s (codes "desk") desk.at (desk_table desk.tree)) (sym made.schema_is) desk.stands) (subst (λ s. Stands s (codes "module") modules.at (module_table modules.tree)) (sym made.schema_is) modules.stands);
-      rows = rows desk.at desk.tree modules.at modules.tree one none;
-      bare = record { artifacts = refl; sets = refl; targets = refl; rollouts = refl; actions = refl };
-    }
-  where
-    spot : (a b c d : ℕ) → Place → Spot
-    spot a b c d Desk = record { at = a; tree = b }
-    spot a b c d Modules = record { at = c; tree = d }
+named_at : (t : Place) (n : ℕ) → (table_at t n).name ≡ name_of t
+named_at t n = ap (λ (table : Table). table.name) (sym ((is_place t).moved n)) ∙ (is_place t).named
 
-    stands : (a b c d : ℕ) → Stands new.now.schema (codes "desk") a (desk_table b) → Stands new.now.schema (codes "module") c (module_table d) → (t : Place) → Stands new.now.schema (name_of t) (spot a b c d t).at (table_at t (spot a b c d t).tree)
-    stands a b c d h k Desk = h
-    stands a b c d h k Modules = k
+-- a table of another name is in another tree
+in_another : (s : Schema) (desk other : Place) (m n : ℕ) → find (λ (x : Table). x.tree == m) s.tables ≡ Some (table_at desk m) → find (λ (x : Table). x.tree == n) s.tables ≡ Some (table_at other n)
+    → HaveNamesApart desk other → n ≢ m
+in_another s desk other m n here there apart same =
+    let both : Some (table_at other n) ≡ Some (table_at desk m) = sym there ∙ ap (λ tree. find (λ (x : Table). x.tree == tree) s.tables) same ∙ here in
+    let tables : table_at other n ≡ table_at desk m = cc in
+    let names : name_of other ≡ name_of desk = sym (named_at other n) ∙ ap (λ (t : Table). t.name) tables ∙ named_at desk m in
+    true≢false (sym (same_itself (name_of desk)) ∙ ap (same_name (name_of desk)) (sym names) ∙ apart)
 
-    rows : (a b c d : ℕ) → new.now.trees b ≡ desk_row approval ∷ [] → new.now.trees d ≡ [] → (t : Place) → new.now.trees (spot a b c d t).tree ≡ rows_of (no_records approval) t
-    rows a b c d h k Desk = h
-    rows a b c d h k Modules = k
+module _ (approval : Bool) (old new : State) (text : List ℕ) (count : ℕ) (was : HoldsStage old.now (Partly places [])) (w : Writes old new None (Insert was.1.0.at (Values desk_terms 5)) text (Int (if approval then pos 1 else pos 0) ∷ []) count) where
+  abbrev here : Schema
+  here = old.now.schema
 
-pub desk_filled : (approval : Bool) (old new : State) (text : List ℕ) (count : ℕ) (was : HoldsStage old.now HasTables) → Writes old new None (Insert was.1.at (Values desk_terms 5)) text (Int (if approval then pos 1 else pos 0) ∷ []) count
-    → HoldsStage new.now (Whole (first_records approval))
-desk_filled approval old new text count was w = subst (λ r. HoldsStage new.now (Whole r)) (sym (made_records approval)) (filled_with approval old new text count was w)
+  abbrev at_place : (t : Place) → IsEmptyTable old.now t
+  at_place = each_place (IsEmptyTable old.now) was.1
+
+  abbrev spot_of : Place → Spot
+  spot_of t = record { at = (at_place t).at; tree = (at_place t).tree }
+
+  made : Inserted here (uncounted (desk_table was.1.0.tree)) (given_rows (uncounted (desk_table was.1.0.tree)) (Int (if approval then pos 1 else pos 0) ∷ []) desk_terms 5) old.now new.now
+  made = inserts here was.1.0.at (desk_table was.1.0.tree) desk_terms 5 was.1.0.stands.got old new refl text (Int (if approval then pos 1 else pos 0) ∷ []) count w
+
+  desk_rows : new.now.trees was.1.0.tree ≡ desk_row approval ∷ []
+  desk_rows = made.applies.rows ∙ rw (was.1.0.empty) (only_row approval was.1.0.tree)
+
+  found_at : (t : Place) → find (λ (x : Table). x.tree == (at_place t).tree) here.tables ≡ Some (table_at t (at_place t).tree)
+  found_at t = let e = at_place t in subst (λ n. find (λ (x : Table). x.tree == n) here.tables ≡ Some (table_at t e.tree)) (same_tree t e.tree) e.stands.found
+
+  stay_empty : (t : Place) → HaveNamesApart Desk t → new.now.trees (at_place t).tree ≡ []
+  stay_empty t apart =
+      let e = at_place t in
+      let others : (table_at t e.tree).tree ≢ was.1.0.tree → new.now.trees (table_at t e.tree).tree ≡ old.now.trees (table_at t e.tree).tree =
+      all-slice_get (λ (x : Table). x.tree ≢ was.1.0.tree → new.now.trees x.tree ≡ old.now.trees x.tree) here.tables e.at (table_at t e.tree) e.stands.got made.applies.tables in
+      let kept : e.tree ≢ was.1.0.tree → new.now.trees e.tree ≡ old.now.trees e.tree = subst (λ n. n ≢ was.1.0.tree → new.now.trees n ≡ old.now.trees n) (same_tree t e.tree) others in
+      kept (in_another here Desk t was.1.0.tree e.tree was.1.0.stands.found (found_at t) apart) ∙ e.empty
+
+  rows : (t : Place) → new.now.trees (spot_of t).tree ≡ rows_of (no_records approval) t
+  rows Desk = desk_rows
+  rows Modules = stay_empty Modules names_apart.0.0
+
+  filled_with : HoldsStage new.now (Whole (no_records approval))
+  filled_with = record {
+    sound = w.sound;
+    spot = spot_of;
+    stands = λ t. subst (λ x. Stands x (name_of t) (at_place t).at (table_at t (at_place t).tree)) (sym made.schema_is) (at_place t).stands;
+    rows = rows;
+    bare = record { artifacts = refl; sets = refl; targets = refl; rollouts = refl; actions = refl };
+  }
+
+  pub desk_filled : HoldsStage new.now (Whole (first_records approval))
+  desk_filled = subst (λ r. HoldsStage new.now (Whole r)) (sym (made_records approval)) filled_with
 
 -- ---- the tables that are found are the desk's
 
-pub found_tables : (s : Schema) (desk modules : Table) → table_defined_by CREATE_DESK.now ≡ Ok desk → table_defined_by CREATE_MODULE.now ≡ Ok modules → StandsSomewhere s desk → StandsSomewhere s modules → HasDeskTables s
-found_tables s desk modules d m here there =
-    let first_is : Ok desk ≡ Ok (desk_table 0) = sym d ∙ desk_defined in
-    let second_is : Ok modules ≡ Ok (module_table 0) = sym m ∙ module_defined in
-    let one : desk ≡ desk_table 0 = cc in
-    let two : modules ≡ module_table 0 = cc in
-    record { desk = subst (StandsSomewhere s) one here; modules = subst (StandsSomewhere s) two there }
+pub defined_as : (t : Place) (table : Table) → table_defined_by (create_text_of t) ≡ Ok table → table ≡ table_at t 0
+defined_as t table h = let same : Ok table ≡ Ok (table_at t 0) = sym h ∙ (is_place t).defined in cc

@@ -1,5 +1,6 @@
 -- The making of a new desk in a database that uses none of its names.
-use Rattle.std.specs.Prelude.{◌≡◌, ◌⊎◌, ℕ, Bool, [], ◌∷◌, Result, Ok, Err}
+use Rattle.std.specs.Prelude.{◌≡◌, ◌⊎◌, ℕ, Bool, List, [], map, Result, Ok, Err}
+use Rattle.std.specs.List.{AllByRecursion}
 use Rattle.sqlite.specs.Tree.{Trees}
 use Rattle.sqlite.specs.Effect.{Database, IsDatabase}
 use Rattle.sqlite.specs.State.{State, HasCleanDisk}
@@ -8,17 +9,16 @@ use Rattle.sql_front.specs.Free.{LeavesFree}
 use Rattle.sql_calls.specs.Standing.{Wears, HoldIn, Rests, Changes}
 use Rattle.rollout_machine.specs.CommandList.{Make}
 use Rattle.rollout_machine.specs.Records.{Records, records}
-use Rattle.desk_records.specs.Schema.{Place, Desk, Modules, table_at, name_of, desk_names}
+use Rattle.desk_records.specs.Schema.{Place, table_at, name_of, desk_names}
 use Rattle.desk_records.specs.Holds.{HoldsRecords}
+use Rattle.desk_opening.specs.Places.{places}
 
 -- how far the making has come
 pub data Stage : Type 0 where
   -- no name of a desk is used
   Free : Stage
-  -- the table `desk` is there, with no row
-  HasDesk : Stage
-  -- both tables are there, with no row
-  HasTables : Stage
+  -- the first tables are there, with no row, and the names of the others are free
+  Partly : List Place → List Place → Stage
   -- the tables hold these records
   Whole : Records → Stage
 
@@ -31,8 +31,7 @@ pub record IsEmptyTable (db : Database) (t : Place) : Type 0 where
 
 abbrev pub HoldsStage : Database → Stage → Type 0
 HoldsStage db Free = IsDatabase db × LeavesFree db.schema desk_names
-HoldsStage db HasDesk = IsDatabase db × IsEmptyTable db Desk × LeavesFree db.schema (name_of Modules ∷ [])
-HoldsStage db HasTables = IsDatabase db × IsEmptyTable db Desk × IsEmptyTable db Modules
+HoldsStage db (Partly made left) = IsDatabase db × AllByRecursion (IsEmptyTable db) made × LeavesFree db.schema (map name_of left)
 HoldsStage db (Whole r) = HoldsRecords db r
 
 -- an open of a file with these trees finds no name of a desk
@@ -57,10 +56,10 @@ pub record Makes {A E : Type 0} (old new : State) (approval : Bool) (result : Re
   pub makes : MakesTo old new approval result
 
 abbrev pub MakesTablesTo : {A E : Type 0} → State → State → Result A E → Type 0
-MakesTablesTo old new (Ok _) = Changes HoldsStage old Free Free → Changes HoldsStage new HasTables Free
+MakesTablesTo old new (Ok _) = Changes HoldsStage old Free Free → Changes HoldsStage new (Partly places []) Free
 MakesTablesTo old new (Err e) = Changes HoldsStage old Free Free → HasCleanDisk new → (db : Trees) → new.may_leave db → LeavesNoDesk db
 
--- both tables, within a change
+-- all tables, within a change
 pub record MakesTables {A E : Type 0} (old new : State) (result : Result A E) : Type 0 where
   pub wears : Wears old new
   pub makes : MakesTablesTo old new result

@@ -1,5 +1,6 @@
 -- The taking over of a desk that is there.
-use Rattle.std.specs.Prelude.{◌≡◌, ◌<ℤ◌, ℤ, Bool, true, [], ◌∷◌, pos, codes, Option, Some, None, Result, Ok, Err, IsTrue, ◌⊎◌}
+use Rattle.std.specs.Prelude.{◌≡◌, ◌<ℤ◌, ℤ, Bool, true, [], ◌∷◌, false, pos, codes, Option, Some, None, Result, Ok, Err, IsTrue, ◌⊎◌}
+use Rattle.std.specs.List.{AllByRecursion}
 use Rattle.sqlite_value.specs.declared.value.Value.TheVariants.{Int, Text}
 use Rattle.sqlite_value.specs.Order.{Row, column}
 use Rattle.sqlite.specs.Tree.{Trees}
@@ -12,16 +13,15 @@ use Rattle.sql_front.specs.Free.{LeavesFree}
 use Rattle.sql_front.specs.Found.{StandsSomewhere}
 use Rattle.sql_calls.specs.Standing.{Wears, HoldIn, Rests}
 use Rattle.rollout_machine.specs.Records.{Records}
-use Rattle.desk_records.specs.Schema.{desk_table, module_table, desk_names}
+use Rattle.desk_records.specs.Schema.{Place, table_at, desk_table, desk_names}
 use Rattle.desk_records.specs.Holds.{HoldsRecords}
 use Rattle.desk_opening.specs.declared.opening.OpenFault.{OpenFault}
 use Rattle.desk_opening.specs.declared.opening.OpenFault.TheVariants.{NotDesk, NewerVersion, Memory, Store}
 use Rattle.desk_opening.specs.Making.{HoldsStage, Free, LeavesNoDesk, LeavesDesk, first_records}
 
--- both tables are there as the desk makes them
+-- each table is there as the desk makes it
 pub record HasDeskTables (schema : Schema) : Type 0 where
-  pub desk : StandsSomewhere schema (desk_table 0)
-  pub modules : StandsSomewhere schema (module_table 0)
+  pub stands : (t : Place) → StandsSomewhere schema (table_at t 0)
 
 -- ---- the row of `desk`, as format, version and approval
 
@@ -37,6 +37,10 @@ pub record IsNewerRow (row : Row) : Type 0 where
   pub version : column row 1 ≡ Int number
   pub later : pos 1 <ℤ number
 
+-- a row of another format, or of a version below 1
+abbrev pub IsOtherRow : Row → Type 0
+IsOtherRow row = (¬ IsDeskRow row) × (¬ IsNewerRow row)
+
 -- The table `desk` stands, and its row of number 1 says this.
 pub record HasRow (db : Database) (Says : Row → Type 0) : Type 0 where
   pub table : StandsSomewhere db.schema (desk_table 0)
@@ -45,18 +49,28 @@ pub record HasRow (db : Database) (Says : Row → Type 0) : Type 0 where
   pub number : has_rowid (pos 1) row ≡ true
   pub says : Says (column row 2 ∷ column row 3 ∷ column row 4 ∷ [])
 
+-- The table `desk` stands, and has no row of number 1.
+pub record HasNoRow (db : Database) : Type 0 where
+  pub table : StandsSomewhere db.schema (desk_table 0)
+  pub none : AllByRecursion (λ row. has_rowid (pos 1) row ≡ false) (db.trees table.tree)
+
 -- the row that is read says what the row of the table says
 abbrev pub ReadsRow : Database → Option Row → Type 0
 ReadsRow db (Some row) = StandsSomewhere db.schema (desk_table 0) → HasRow db (λ shown. row ≡ shown)
-ReadsRow db None = Unit {0}
+ReadsRow db None = StandsSomewhere db.schema (desk_table 0) → HasNoRow db
 
--- what each answer tells of the row: a desk's, where it is taken over, and a later version's, where it is refused as that
-abbrev pub Tells : {A : Type 0} → ((Row → Type 0) → Type 0) → Result A OpenFault → Type 0
-Tells Says (Ok _) = Says IsDeskRow
-Tells Says (Err NotDesk) = Unit {0}
-Tells Says (Err NewerVersion) = Says IsNewerRow
-Tells Says (Err Memory) = Unit {0}
-Tells Says (Err Store) = Unit {0}
+-- What each answer tells of the row: a desk's, where it is taken over, a later version's, where it is refused as that, and another, where it
+-- is refused as no desk, unless no row was there to judge.
+abbrev pub Tells : {A : Type 0} → ((Row → Type 0) → Type 0) → Type 0 → Result A OpenFault → Type 0
+Tells Says Lacks (Ok _) = Says IsDeskRow
+Tells Says Lacks (Err NotDesk) = Says IsOtherRow ⊎ Lacks
+Tells Says Lacks (Err NewerVersion) = Says IsNewerRow
+Tells Says Lacks (Err Memory) = Unit {0}
+Tells Says Lacks (Err Store) = Unit {0}
+
+-- a table is not there as the desk makes it, or `desk` has no row of number 1
+abbrev pub LacksDesk : Database → Type 0
+LacksDesk db = (¬ HasDeskTables db.schema) ⊎ HasNoRow db
 
 -- the fault is not of what the database holds
 abbrev pub IsFailure : OpenFault → Type 0
@@ -79,12 +93,17 @@ pub record Keeps {A E : Type 0} (old new : State) (result : Result A E) : Type 0
 -- Records that stood, stand, and the answer is by the row of the database as it was.
 pub record Adopts {A : Type 0} (old new : State) (result : Result A OpenFault) : Type 0 where
   pub keeps : Keeps old new result
-  pub tells : HasCleanDisk new → Tells (HasRow old.now) result
+  pub tells : HasCleanDisk new → Tells (HasRow old.now) (LacksDesk old.now) result
 
 -- a database with a desk of this version
 pub record HasDesk (db : Database) : Type 0 where
   pub tables : HasDeskTables db.schema
   pub row : HasRow db IsDeskRow
+
+-- A name of a desk is used, and by no desk: a table or the row is another's, or is not there.
+pub record HasNoDesk (db : Database) : Type 0 where
+  pub used : ¬ LeavesFree db.schema desk_names
+  pub other : HasRow db IsOtherRow ⊎ LacksDesk db
 
 -- ---- the one or the other
 
@@ -96,10 +115,10 @@ abbrev pub OpensTo : {A E : Type 0} → State → State → Bool → Result A E 
 OpensTo old new approval (Ok _) = Rests HoldsStage old Free → Rests HoldsRecords new (first_records approval)
 OpensTo old new approval (Err e) = Rests HoldsStage old Free → HasCleanDisk new → (db : Trees) → new.may_leave db → LeavesNoDesk db ⊎ LeavesDesk db (first_records approval)
 
--- What is opened is a desk, or uses no name of one.
+-- What is opened is a desk, or uses no name of one. What is refused as no desk is none, and what is refused as a later one says so.
 abbrev pub FindsTo : {A : Type 0} → Database → Result A OpenFault → Type 0
 FindsTo db (Ok _) = HasDesk db ⊎ LeavesFree db.schema desk_names
-FindsTo db (Err NotDesk) = Unit {0}
+FindsTo db (Err NotDesk) = HasNoDesk db
 FindsTo db (Err NewerVersion) = HasRow db IsNewerRow
 FindsTo db (Err Memory) = Unit {0}
 FindsTo db (Err Store) = Unit {0}

@@ -23,9 +23,9 @@ use Rattle.rollout_machine.specs.Records.{Records}
 use Rattle.desk_records.specs.Schema.{desk_names}
 use Rattle.desk_records.specs.Holds.{HoldsRecords}
 use Rattle.desk_opening.specs.declared.opening.OpenFault.{OpenFault}
-use Rattle.desk_opening.specs.declared.opening.OpenFault.TheVariants.{NewerVersion}
+use Rattle.desk_opening.specs.declared.opening.OpenFault.TheVariants.{NotDesk, NewerVersion}
 use Rattle.desk_opening.specs.Making.{LeavesNoDesk, LeavesDesk, first_records}
-use Rattle.desk_opening.specs.Opening.{HasDesk, HasRow, IsNewerRow}
+use Rattle.desk_opening.specs.Opening.{HasDesk, HasNoDesk, HasRow, IsNewerRow}
 
 -- whichever schema the trees list, it leaves the names of a desk free
 abbrev pub UsesNoName : Trees → Type 0
@@ -67,11 +67,19 @@ pub record Reopens (image : Image) (s : State) (approval : Bool) : Type 0 where
 abbrev pub HasNewer : Trees → Type 0
 HasNewer db = (schema : Schema) × IsSound schema db × HasRow (record { schema = schema; trees = db }) IsNewerRow
 
+abbrev pub HoldsNoDesk : Trees → Type 0
+HoldsNoDesk db = (schema : Schema) × IsSound schema db × HasNoDesk (record { schema = schema; trees = db })
+
 -- The database was opened, and this is what the connection leaves. The records of a desk stay. Where there was none there is none, or the new one is whole.
 pub record Refuses (image : Image) (s : State) (approval : Bool) (e : OpenFault) : Type 0 where
   pub newer : e ≡ NewerVersion → (db : Trees) × AreFoundIn image db × HasNewer db
+  pub none : e ≡ NotDesk → (db : Trees) × AreFoundIn image db × HoldsNoDesk db
   pub holds : (r : Records) → HoldsDesk HoldsDatabase image r → (db : Trees) → s.may_leave db → HoldIn HoldsRecords db r
   pub makes : HoldsNone HoldsDatabase image → (db : Trees) → s.may_leave db → LeavesNoDesk db ⊎ LeavesDesk db (first_records approval)
+
+-- the files are not empty, and hold no database
+abbrev pub IsForeign : Image → Type 0
+IsForeign image = (¬ IsNothing image) × (¬ ((db : Trees) × HoldsDatabase image db))
 
 module _ {D : Type 0} (g : disk.Ghosts D) where
   -- whatever a crash leaves of the files, and the trees that an open finds once the store has read them
@@ -83,6 +91,7 @@ module _ {D : Type 0} (g : disk.Ghosts D) where
   -- The database was not opened. Where each file that a crash might have left before held the records of a desk, each still does, and where each held none, each holds none.
   pub record Spares (before : Image → Type 0) (rest : Leftover D g) (e : OpenFault) : Type 0 where
     pub named : e ≢ NewerVersion
+    pub foreign : e ≡ NotDesk → (image : Image) × before image × IsForeign image
     pub holds : (r : Records) → ((image : Image) → before image → HoldsDesk HoldsPlain image r) → EachAfter (λ image. HoldsDesk HoldsPlain image r) (λ db. HoldIn HoldsRecords db r) rest
     pub makes : ((image : Image) → before image → HoldsNone HoldsPlain image) → EachAfter (HoldsNone HoldsDatabase) UsesNoName rest
 

@@ -1,10 +1,13 @@
 //! How a connection's database becomes a desk: a new one is made, or the one that is there is taken over.
 #![tactic(auto)]
 
+mod desk_table;
 mod making;
 mod opening;
 mod reopening;
 mod running;
+#[cfg(test)]
+mod tests;
 
 pub use crate::making::make;
 pub use crate::opening::{OpenFault, adopt, open_desk};

@@ -4,8 +4,9 @@ ghost use Rattle.std.specs.Prelude.{IfOk, IfErr};
 ghost use Rattle.sqlite.specs.Held.{state};
 ghost use Rattle.desk_opening.specs.Making.{Makes, MakesTables};
 
+use crate::desk_table::TABLES;
 use crate::running::run;
-use desk_records::{CREATE_DESK, CREATE_MODULE, PUT_DESK};
+use desk_records::PUT_DESK;
 use sql_calls::Fault;
 use sqlite::{Alter, Connection, params};
 
@@ -13,17 +14,18 @@ const BEGIN: &str = "BEGIN";
 
 const COMMIT: &str = "COMMIT";
 
-/// Makes the two tables.
+/// Makes the tables.
 fn make_tables<S: Alter>(conn: &mut Connection<S>) -> Result<(), Fault>
     ensures { MakesTables (state S.Store conn.old) (state S.Store conn.new) result }
 {
-    run(conn, CREATE_DESK, &[])?;
-    run(conn, CREATE_MODULE, &[])?;
+    for table in &TABLES {
+        run(conn, table.create_text(), &[])?;
+    }
     Ok(())
 }
 
 /// Makes a new desk in one transaction.
-fn fill<S: Alter>(conn: &mut Connection<S>, approval: bool) -> Result<(), Fault>
+pub(crate) fn fill<S: Alter>(conn: &mut Connection<S>, approval: bool) -> Result<(), Fault>
     ensures { Makes (state S.Store conn.old) (state S.Store conn.new) approval result }
 {
     run(conn, BEGIN, &[])?;

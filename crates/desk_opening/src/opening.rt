@@ -1,22 +1,24 @@
 //! A desk that is there already.
 
-ghost use Rattle.std.specs.Prelude.{◌≡◌, ◌≢◌, IfOk, IfErr, IsTrue, Ok, codes, true, false, ◌||◌};
-ghost use Rattle.sqlite_catalog.specs.Change.{is_used};
+ghost use Rattle.std.specs.Prelude.{◌≡◌, ◌≢◌, IfOk, IfErr, IsTrue, Ok, codes, false};
 ghost use Rattle.sql_front.specs.Free.{LeavesFree};
-ghost use Rattle.desk_records.specs.Schema.{desk_names};
+ghost use Rattle.sql_front.specs.Found.{StandsSomewhere};
+ghost use Rattle.desk_records.specs.Schema.{desk_names, table_at};
+ghost use Rattle.desk_opening.specs.Places.{place_of};
 ghost use Rattle.sqlite_value.specs.Order.{column};
 ghost use Rattle.desk_records.specs.ModuleRow.{StoredText};
 ghost use Rattle.sqlite.specs.Compile.{table_defined_by};
 ghost use Rattle.sqlite.specs.Held.{state};
 ghost use Rattle.sqlite.specs.State.{HasCleanDisk};
 ghost use Rattle.desk_opening.specs.Faults.{fault_row};
-ghost use Rattle.desk_opening.specs.Opening.{Adopts, HasDeskTables, HasRow, IsFailure, IsSettled, Keeps, OpensDesk, ReadsRow, Tells};
+ghost use Rattle.desk_opening.specs.Opening.{Adopts, HasDeskTables, HasNoRow, HasRow, IsFailure, IsSettled, Keeps, OpensDesk, ReadsRow, Tells};
 
+use crate::desk_table::{DeskTable, TABLES};
 use crate::making::make;
-use desk_records::{CREATE_DESK, CREATE_MODULE, GET_DESK};
+use desk_records::GET_DESK;
 use sql_calls::{Calls, Fault, fault_of};
 use sql_front::{stands, uses_name};
-use sqlite::{Alter, Connection, Error, Row};
+use sqlite::{Alter, Connection, Error, ErrorCode, Row};
 use sqlite_resolve::{CompileError, define_table};
 use sqlite_schema::schema::{Schema, Table};
 use std::alloc::Global;
@@ -72,17 +74,28 @@ fn table_of(alloc: Global, text: &str) -> Result<Table, OpenFault>
     }
 }
 
-/// Whether the schema has both tables, column for column.
-fn has_desk_tables(alloc: Global, schema: &Schema) -> Result<bool, OpenFault>
-    ensures found { IfOk result (λ found. IsTrue found → HasDeskTables schema.now) }
+/// Whether the schema has one of the tables, column for column.
+fn has_table(alloc: Global, schema: &Schema, table: DeskTable) -> Result<bool, OpenFault>
+    ensures found { IfOk result (λ found. IsTrue found → StandsSomewhere schema.now (table_at (place_of table) 0)) }
+    ensures missing { IfOk result (λ found. found ≡ false → StandsSomewhere schema.now (table_at (place_of table) 0) → ⊥) }
     ensures failed { IfErr result IsFailure }
 {
-    let desk = table_of(alloc, CREATE_DESK)?;
-    let modules = table_of(alloc, CREATE_MODULE)?;
-    if !stands(schema, &desk) {
-        return Ok(false);
+    let wanted = table_of(alloc, table.create_text())?;
+    Ok(stands(schema, &wanted))
+}
+
+/// Whether the schema has all of them.
+fn has_desk_tables(alloc: Global, schema: &Schema) -> Result<bool, OpenFault>
+    ensures found { IfOk result (λ found. IsTrue found → HasDeskTables schema.now) }
+    ensures missing { IfOk result (λ found. found ≡ false → HasDeskTables schema.now → ⊥) }
+    ensures failed { IfErr result IsFailure }
+{
+    for table in &TABLES {
+        if !has_table(alloc, schema, *table)? {
+            return Ok(false);
+        }
     }
-    Ok(stands(schema, &modules))
+    Ok(true)
 }
 
 /// Reads the row of `desk`, and leaves what stood.
@@ -98,7 +111,7 @@ fn read_desk_row<S: Alter>(calls: &mut Calls<S>) -> Result<Option<Row>, Fault>
 
 /// Whether the row is a desk's, of this version.
 fn judge(row: &Row) -> Result<(), OpenFault>
-    ensures { Tells (λ Says. Says row.now) result }
+    ensures { Tells (λ Says. Says row.now) ⊥ result }
 {
     if !has_format(row)? {
         return Err(OpenFault::NotDesk);
@@ -114,7 +127,9 @@ fn judge(row: &Row) -> Result<(), OpenFault>
 /// Whether the row begins with the format of a desk.
 fn has_format(row: &Row) -> Result<bool, OpenFault>
     ensures found { IfOk result (λ found. IsTrue found → column row.now 0 ≡ StoredText (codes "fwdesk")) }
+    ensures other { IfOk result (λ found. found ≡ false → column row.now 0 ≢ StoredText (codes "fwdesk")) }
     ensures unread { IfErr result (λ e. e ≢ OpenFault.NewerVersion) }
+    ensures unreadable { IfErr result (λ e. e ≡ OpenFault.NotDesk → column row.now 0 ≢ StoredText (codes "fwdesk")) }
 {
     match row.get::<String>(0) {
         Ok(format) => Ok(format.as_str() == "fwdesk"),
@@ -124,7 +139,8 @@ fn has_format(row: &Row) -> Result<bool, OpenFault>
 
 /// The fault of a column that can't be read.
 fn unread(error: Error) -> OpenFault
-    ensures { result ≢ OpenFault.NewerVersion }
+    ensures named { result ≢ OpenFault.NewerVersion }
+    ensures memory { result ≡ OpenFault.NotDesk → error ≢ Error.SqliteFailure ErrorCode.OutOfMemory }
 {
     match fault_of(error) {
         Fault::Memory => OpenFault::Memory,
@@ -144,7 +160,7 @@ pub(crate) fn open_fault(fault: Fault) -> OpenFault
 /// Reads the row of `desk`, and judges it.
 fn check_row<S: Alter>(calls: &mut Calls<S>) -> Result<(), OpenFault>
     ensures keeps { Keeps (state S.Store calls.old.conn) (state S.Store calls.new.conn) result }
-    ensures tells { HasCleanDisk (state S.Store calls.new.conn) → HasDeskTables (state S.Store calls.old.conn).now.schema → Tells (HasRow (state S.Store calls.old.conn).now) result }
+    ensures tells { HasCleanDisk (state S.Store calls.new.conn) → HasDeskTables (state S.Store calls.old.conn).now.schema → Tells (HasRow (state S.Store calls.old.conn).now) (HasNoRow (state S.Store calls.old.conn).now) result }
 {
     match read_desk_row(calls) {
         Ok(Some(row)) => judge(&row),
@@ -172,10 +188,10 @@ pub fn adopt<S: Alter + Drop>(
 
 /// Whether a table, an index or a view has a name of a desk's tables, whatever the case of ASCII letters.
 fn uses_desk_name(schema: &Schema) -> bool
-    ensures used { IsTrue result → (is_used schema.now (codes "desk") || is_used schema.now (codes "module")) ≡ true }
+    ensures used { IsTrue result → LeavesFree schema.now desk_names → ⊥ }
     ensures free { result ≡ false → LeavesFree schema.now desk_names }
 {
-    uses_name(schema, "desk") || uses_name(schema, "module")
+    TABLES.iter().any(|table| uses_name(schema, table.name()))
 }
 
 /// Opens the desk in a connection's database: the one that is there, or a new one where no name of a desk is used.

@@ -1,4 +1,4 @@
-use Rattle.std.proofs.Common.{◌∙◌, ap, Err, refl, subst}
+use Rattle.std.proofs.Common.{◌∙◌, ap, Err, inl, inr, refl, sym, subst}
 use Rattle.std.proofs.lemmas.Result.{err_from_is_err_and}
 use Rattle.sqlite.specs.Held.{state}
 use Rattle.desk_opening.specs.Opening.{HasDeskTables}
@@ -12,7 +12,9 @@ returns-in_err-has_desk_tables-clause-refused g c =
     adopts_failed (state g.S.Store) c.args.conn _ c.in_err-has_desk_tables.ensures.failed c.from_residual.result (p.1 ∙ ap Err p.2)
 
 pub returns-then-not-branch-clause-refused : goal.returns-then-not-branch-clause-refused
-returns-then-not-branch-clause-refused g c = adopts_none (state g.S.Store) c.args.conn NotDesk tt (Err NotDesk) refl
+returns-then-not-branch-clause-refused g c =
+    let lacks = λ (whole : HasDeskTables (state g.S.Store c.args.conn).now.schema). c.in_ok-has_desk_tables.ensures.missing c.if-not-branch.true (subst HasDeskTables (sym c.schema.ensures.value) whole) in
+    adopts_none (state g.S.Store) c.args.conn NotDesk (inr (inl lacks)) (Err NotDesk) refl
 
 pub returns-in_err-check_row-clause-refused : goal.returns-in_err-check_row-clause-refused
 returns-in_err-check_row-clause-refused g c =

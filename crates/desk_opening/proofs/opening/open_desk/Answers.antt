@@ -1,6 +1,5 @@
-use Rattle.std.proofs.Common.{◌≡◌, ◌||◌, true, codes, Ok, Err, subst}
+use Rattle.std.proofs.Common.{Ok, Err, subst}
 use Rattle.sqlite.specs.Held.{state}
-use Rattle.sqlite_catalog.specs.Change.{is_used}
 use Rattle.sql_front.specs.Free.{LeavesFree}
 use Rattle.desk_records.specs.Schema.{desk_names}
 use Rattle.desk_opening.proofs.ChoiceLemmas.{adopts_ok, adopts_err, makes_new, made_ok, made_not}
@@ -8,12 +7,12 @@ use Rattle.desk_opening.proofs.opening.open_desk.Goals as goal
 
 pub returns-then-uses_desk_name-clause-opened : goal.returns-then-uses_desk_name-clause-opened
 returns-then-uses_desk_name-clause-opened g c =
-    let used = subst (λ s. (is_used s (codes "desk") || is_used s (codes "module")) ≡ true) c.schema.ensures.value (c.uses_desk_name.ensures.used c.if-uses_desk_name.true) in
+    let used = subst (λ s. LeavesFree s desk_names → ⊥) c.schema.ensures.value (c.uses_desk_name.ensures.used c.if-uses_desk_name.true) in
     adopts_ok (state g.S.Store) (state g.S.Store c.args.conn) c.args.approval_if_new c.adopt.result c.adopt.ensures.adopted c.adopt.ensures.whole used
 
 pub returns-then-uses_desk_name-clause-refused : goal.returns-then-uses_desk_name-clause-refused
 returns-then-uses_desk_name-clause-refused g c =
-    let used = subst (λ s. (is_used s (codes "desk") || is_used s (codes "module")) ≡ true) c.schema.ensures.value (c.uses_desk_name.ensures.used c.if-uses_desk_name.true) in
+    let used = subst (λ s. LeavesFree s desk_names → ⊥) c.schema.ensures.value (c.uses_desk_name.ensures.used c.if-uses_desk_name.true) in
     adopts_err (state g.S.Store) (state g.S.Store c.args.conn) c.args.approval_if_new c.adopt.result c.adopt.ensures.refused used
 
 pub returns-in-Ok-clause-opened : goal.returns-in-Ok-clause-opened

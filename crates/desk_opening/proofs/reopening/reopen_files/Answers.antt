@@ -15,4 +15,5 @@ returns-in-Ok-clause-refused g c =
     (λ e. IsSpared g.D.Disk (outcomes g.D.Disk c.args.files.log c.args.files.db) e) c.open_desk.result c.open_desk.ensures.refused
 
 pub returns-clause-refused : goal.returns-clause-refused
-returns-clause-refused g c = inl (c.in-Err.field-0-1, λ clean. spares g.D.Disk g.met.D.Disk.seen_may_stay c.args.files c.in-Err.field-0-1 c.refused_open.result c.refused_open.ensures.named (c.in-Err.ensures.unharmed clean))
+returns-clause-refused g c =
+    inl (c.in-Err.field-0-1, λ clean. spares g.D.Disk g.met.D.Disk.seen_may_stay c.args.files c.in-Err.error c.in-Err.field-0-1 c.refused_open.result c.refused_open.ensures.opened c.refused_open.ensures.named (c.in-Err.ensures.cause clean, c.in-Err.ensures.unharmed clean))

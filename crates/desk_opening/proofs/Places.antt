@@ -1,0 +1,99 @@
+-- What is known of each table by computing its text.
+use Rattle.std.proofs.Common.{◌≡◌, refl, sym, ap, ◌∙◌, ℕ, ◌+◌, ◌<◌, false, List, [], ◌∷◌, ◌++◌, length, take, drop, get_or, codes, Ok, Err, Result}
+use Rattle.std.specs.List.{AllByRecursion}
+use Rattle.std.proofs.lemmas.List.{drop_more, take_more}
+use Rattle.std.proofs.Math.ListN.{get_or-map}
+use Rattle.sqlite.specs.Schema.{Schema}
+use Rattle.sqlite.specs.Table.{Table}
+use Rattle.sqlite.specs.Listing.{understood}
+use Rattle.sqlite.specs.Command.TheVariants.{CreateTable}
+use Rattle.sqlite.specs.State.{text_of}
+use Rattle.sqlite.proofs.Callers.{statement_of}
+use Rattle.sqlite_tied.specs.Compute.{everything}
+use Rattle.sqlite_trees.specs.Tree.{IsAscending}
+use Rattle.sqlite_schema.specs.Names.{same_name}
+use Rattle.sqlite_syntax.specs.declared.statement.Parsed.{Parsed}
+use Rattle.sqlite_resolve.specs.declared.error.CompileError.{CompileError}
+use Rattle.sqlite_resolve.specs.Compile.{table_defined_by, first, table_in}
+use Rattle.sqlite_catalog.specs.Change.{is_used}
+use Rattle.sql_front.specs.Bare.{IsBareTable}
+use Rattle.sql_front.proofs.Write.{Makes, with_create, makes_known}
+use Rattle.sql_calls.proofs.Means.{Means}
+use Rattle.desk_records.specs.Schema.{Place, Desk, Modules, table_at, name_of}
+use Rattle.desk_records.proofs.Meaning.{create_desk_is, create_module_is, create_desk_makes, create_module_makes}
+use Rattle.desk_opening.specs.declared.desk_table.DeskTable.{DeskTable}
+use Rattle.desk_opening.specs.declared.desk_table.DeskTable.TheVariants as table
+use Rattle.desk_opening.specs.Places.{places, place_of, create_text_of}
+
+abbrev text_at : Result Parsed CompileError → List ℕ → List ℕ
+text_at (Ok p) sql = text_of sql (with_create p)
+text_at (Err e) sql = []
+
+-- the text is a whole statement, which makes the table of the place, and nothing else bears its name
+pub record IsPlace (t : Place) : Type 0 where
+  pub means : (s : Schema) → is_used s (name_of t) ≡ false → Means s (create_text_of t) CreateTable
+  pub makes : Makes (create_text_of t) (name_of t) (table_at t 0)
+  pub whole : text_at (first (create_text_of t)) (create_text_of t) ≡ create_text_of t
+  pub defined : table_defined_by (create_text_of t) ≡ Ok (table_at t 0)
+  pub named : (table_at t 0).name ≡ name_of t
+  pub moved : (tree : ℕ) → (let table : Table = record (table_at t 0) { tree = tree } in table) ≡ table_at t tree
+  pub bare : IsBareTable (table_at t 0)
+  pub unindexed : (rest : List ℕ) → same_name (codes "sqlite_autoindex_" ++ rest) (name_of t) ≡ false
+  pub unsequenced : same_name (codes "sqlite_sequence") (name_of t) ≡ false
+
+pub is_place : (t : Place) → IsPlace t
+unfolding first table_defined_by table_in same_name everything
+is_place Desk = record {
+  means = create_desk_is;
+  makes = create_desk_makes;
+  whole = refl;
+  defined = refl;
+  named = refl;
+  moved = λ tree. refl;
+  bare = record { checks = refl; references = refl; computed = refl; stamps = refl; uncounted = refl; defaults = (refl, (refl, (refl, (refl, tt)))) };
+  unindexed = λ rest. refl;
+  unsequenced = refl;
+}
+is_place Modules = record {
+  means = create_module_is;
+  makes = create_module_makes;
+  whole = refl;
+  defined = refl;
+  named = refl;
+  moved = λ tree. refl;
+  bare = record { checks = refl; references = refl; computed = refl; stamps = refl; uncounted = refl; defaults = (refl, (refl, (refl, (refl, tt)))) };
+  unindexed = λ rest. refl;
+  unsequenced = refl;
+}
+
+-- ---- all places
+
+abbrev pub each_place : (P : Place → Type 0) → AllByRecursion P places → (t : Place) → P t
+each_place P all Desk = all.0
+each_place P all Modules = all.1.0
+
+-- the tables of the code
+abbrev pub all_tables : List DeskTable
+all_tables = table.Desk ∷ table.Modules ∷ []
+
+pub next_place : (n : ℕ) (d : DeskTable) → n < length all_tables → drop n places ≡ place_of (get_or all_tables n d) ∷ drop (n + 1) places
+next_place n d within = drop_more places n (place_of d) within ∙ ap (λ t. t ∷ drop (n + 1) places) (get_or-map place_of all_tables n d)
+
+pub places_so_far : (n : ℕ) (d : DeskTable) → n < length all_tables → take (n + 1) places ≡ take n places ++ place_of (get_or all_tables n d) ∷ []
+places_so_far n d within = take_more places n (place_of d) within ∙ ap (λ t. take n places ++ t ∷ []) (get_or-map place_of all_tables n d)
+
+abbrev pub HaveNamesApart : Place → Place → Type 0
+HaveNamesApart t u = same_name (name_of t) (name_of u) ≡ false
+
+pub names_apart : IsAscending HaveNamesApart places
+unfolding same_name
+names_apart = ((refl, tt), (tt, tt))
+
+-- ---- the texts
+
+text_made : (sql name : List ℕ) (table : Table) (m : Makes sql name table) (s : Schema) → is_used s name ≡ false → text_at (first sql) sql ≡ sql → statement_of sql (understood s sql) ≡ sql
+unfolding understood
+text_made sql name table m s free whole = rw (makes_known sql name table m s free) (ap (λ r. text_at r sql) (sym m.read) ∙ whole)
+
+pub create_text : (t : Place) (s : Schema) → is_used s (name_of t) ≡ false → statement_of (create_text_of t) (understood s (create_text_of t)) ≡ create_text_of t
+create_text t s free = text_made (create_text_of t) (name_of t) (table_at t 0) (is_place t).makes s free (is_place t).whole
