@@ -16,7 +16,7 @@ use Rattle.desk_opening.specs.declared.opening.OpenFault.{OpenFault}
 use Rattle.desk_opening.specs.declared.opening.OpenFault.TheVariants.{NotDesk, NewerVersion, Memory, Store}
 use Rattle.desk_opening.specs.Opening.{Adopts, HasDeskTables, HasRow, LacksDesk, IsFailure, Tells, FindsTo, OpensDesk, OpensTo, IsKnownOpen}
 
-used_at : (s : Schema) (at : ℕ) → table_named s (codes "desk") ≡ Some at → is_used s (codes "desk") ≡ true
+pub used_at : (s : Schema) (at : ℕ) → table_named s (codes "desk") ≡ Some at → is_used s (codes "desk") ≡ true
 used_at s at h = rw h
 
 -- a database that holds records uses the name `desk`

@@ -5,6 +5,7 @@ pub mod MakeLemmas
 pub mod RowLemmas
 pub mod OpeningLemmas
 pub mod ChoiceLemmas
+pub mod HeldLemmas
 pub mod BlankLemmas
 pub mod ReopenLemmas
 pub mod SparingLemmas

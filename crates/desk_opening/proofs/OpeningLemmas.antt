@@ -1,6 +1,5 @@
 -- The row of `desk` is read in a change that is given up.
-use Rattle.std.proofs.Common.{◌≡◌, ◌||◌, inl, inr, Bool, true, false, IsTrue, refl, ◌∙◌, [], codes, Option, Ok, Err, Result, IsErr, IfErr, sym, subst, arith}
-use Rattle.std.proofs.lemmas.Bool.{true≢false}
+use Rattle.std.proofs.Common.{◌≡◌, inl, inr, [], codes, Option, Ok, Err, Result, IsErr, IfErr, sym, subst, arith}
 use Rattle.sqlite.specs.Order.{Row}
 use Rattle.sqlite.specs.Tree.{Trees}
 use Rattle.sqlite.specs.Command.TheVariants.{Select}
@@ -97,15 +96,3 @@ module _ {X B : Type 0} (view : X → State) (old first last : X) (same : first 
       let k = subst (λ x. Keeps {A = B} {E = OpenFault} (view x) (view last) (Ok b)) same h in
       let t = subst (λ x. HasCleanDisk (view last) → HasDeskTables (view x).now.schema → Tells {A = B} (HasRow (view x).now) (HasNoRow (view x).now) (Ok b)) same tells in
       subst (λ x. Adopts (view old) (view x) (Ok given)) (sym is) (record { keeps = record { wears = k.wears; keeps = k.keeps }; tells = λ clean. t clean tables })
-
--- ---- the names of a desk's tables
-
-pub all_free : (a b c d found : Bool) → found ≡ (a || (b || (c || (d || false)))) → found ≡ false → (a ≡ false) × ((b ≡ false) × ((c ≡ false) × ((d ≡ false) × Unit {0})))
-all_free false false false false found is none = (refl, (refl, (refl, (refl, tt))))
-all_free true b c d found is none = absurd (true≢false (sym is ∙ none))
-all_free false true c d found is none = absurd (true≢false (sym is ∙ none))
-all_free false false true d found is none = absurd (true≢false (sym is ∙ none))
-all_free false false false true found is none = absurd (true≢false (sym is ∙ none))
-
-pub one_used : (a b c d found : Bool) → found ≡ (a || (b || (c || (d || false)))) → IsTrue found → (a ≡ false) × ((b ≡ false) × ((c ≡ false) × ((d ≡ false) × Unit {0}))) → ⊥
-one_used a b c d found is some free = absurd (true≢false (sym some ∙ is ∙ (λ i. free.0 i || (free.1.0 i || (free.1.1.0 i || (free.1.1.1.0 i || false))))))

@@ -20,8 +20,8 @@ use Rattle.sql_front.specs.Bare.{IsBareTable}
 use Rattle.sql_front.proofs.Write.{Makes, with_create, makes_known}
 use Rattle.sql_calls.proofs.Means.{Means}
 use Rattle.desk_records.specs.Schema.{Place, Desk, Modules, Sets, SetModules, table_at, name_of}
-use Rattle.desk_records.proofs.Meaning.{create_desk_is, create_module_is, create_desk_makes, create_module_makes}
 use Rattle.desk_records.proofs.SetMeaning.{create_set_is, create_set_module_is, create_set_makes, create_set_module_makes}
+use Rattle.desk_records.proofs.Meaning.{create_desk_is, create_module_is, create_desk_makes, create_module_makes}
 use Rattle.desk_opening.specs.declared.desk_table.DeskTable.{DeskTable}
 use Rattle.desk_opening.specs.declared.desk_table.DeskTable.TheVariants as table
 use Rattle.desk_opening.specs.Places.{places, place_of, create_text_of}

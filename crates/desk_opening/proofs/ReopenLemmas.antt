@@ -23,9 +23,10 @@ use Rattle.desk_records.specs.Schema.{desk_names}
 use Rattle.desk_records.specs.Holds.{HoldsRecords}
 use Rattle.desk_opening.specs.Making.{HoldsStage, Free}
 use Rattle.desk_opening.specs.declared.opening.OpenFault.{OpenFault}
-use Rattle.desk_opening.specs.Opening.{OpensDesk, HasDesk, HasNoDesk, HasRow, IsNewerRow, FindsTo, IsSettled}
+use Rattle.desk_opening.specs.Opening.{OpensDesk, HasDesk, HasNoDesk, HasRow, IsFailure, IsNewerRow, FindsTo, IsSettled}
 use Rattle.desk_opening.specs.Reopening.{Reopens, Refuses, HoldsDesk, HoldsNone, HoldsNoDesk, HasNewer, IsOpenable, UsesNoName}
 use Rattle.desk_opening.proofs.BlankLemmas.{nothing_is_unused}
+use Rattle.desk_opening.proofs.HeldLemmas.{held_fails, free_fails}
 
 -- ---- trees list one list of tables alone
 
@@ -116,6 +117,10 @@ module _ (image : Image) (old : State) (opened : HasCleanDisk old → Opens old 
   none : HasCleanDisk old → HasNoDesk old.now → (db : Trees) × AreFoundIn image db × HoldsNoDesk db
   none clean lacks = let it = opened clean in (old.committed.trees, reads clean, (old.committed.schema, (it.1 it.0.is_open).1, subst (λ d. HasNoDesk d) it.0.clean lacks))
 
+  only_fails : (A : Type 0) (e : OpenFault) → HasCleanDisk old → FindsTo {A = A} old.now (Err e) → ((r : Records) × HoldsDesk HoldsDatabase image r) ⊎ HoldsNone HoldsDatabase image → IsFailure e
+  only_fails A e clean finds (inl has) = held_fails old.now has.0 ((rests has.0 has.1 clean).now_holds (opened clean).0.is_open) A e finds
+  only_fails A e clean finds (inr nothing) = free_fails A old.now ((rests_free nothing clean).now_holds (opened clean).0.is_open).1 e finds
+
   pub reopens : {X : Type 0} (view : X → State) (approval : Bool) (out : Result X OpenFault) → IfOk out (λ x. OpensDesk old (view x) approval out) → IfOk out (λ x. Reopens image (view x) approval)
   reopens view approval (Err e) h = tt
   reopens view approval (Ok x) h =
@@ -135,6 +140,7 @@ module _ (image : Image) (old : State) (opened : HasCleanDisk old → Opens old 
         λ clean. record {
           newer = λ is. newer (omega (arith, clean, h.1.wears)) (subst (λ f. FindsTo {A = X} old.now (Err f)) is (h.1.finds clean));
           none = λ is. none (omega (arith, clean, h.1.wears)) (subst (λ f. FindsTo {A = X} old.now (Err f)) is (h.1.finds clean));
+          fails = only_fails X e (omega (arith, clean, h.1.wears)) (h.1.finds clean);
           holds = λ r has. h.1.keeps is_open r (rests r has) clean;
           makes = λ none. h.1.makes is_open (rests_free none) clean;
         },

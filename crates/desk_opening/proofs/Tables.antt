@@ -16,7 +16,7 @@ use Rattle.sqlite_schema.specs.declared.schema.Index.{Index}
 use Rattle.sqlite_catalog.specs.Change.{next_tree, is_used, automatics}
 use Rattle.sqlite_catalog.specs.Listing.{IsTableRow}
 use Rattle.sqlite_catalog.proofs.StepLemmas.{same_itself}
-use Rattle.sqlite_keyed.proofs.ListLemmas.{all-slice_get}
+use Rattle.sqlite_keyed.proofs.ListLemmas.{all-slice_get, IsPermutation-same}
 use Rattle.sqlite_resolve.specs.Compile.{table_defined_by}
 use Rattle.sql_front.specs.Stands.{Stands}
 use Rattle.sql_front.specs.Free.{LeavesFree}
@@ -30,10 +30,9 @@ use Rattle.sql_calls.proofs.NumberedRows.{cast_int, cast_null}
 use Rattle.rollout_machine.specs.RecordSteps.{no_records}
 use Rattle.rollout_machine.proofs.Answering.{made_records}
 use Rattle.desk_records.specs.Schema.{Place, Desk, Modules, Sets, SetModules, table_at, name_of, desk_table}
+use Rattle.sql_calls.specs.Keyed.{IsHeldBy}
 use Rattle.desk_records.specs.Holds.{Spot, IsHeld, desk_row}
 use Rattle.desk_records.proofs.Meaning.{desk_terms}
-use Rattle.sql_calls.specs.Keyed.{IsHeldBy}
-use Rattle.std.proofs.lemmas.List.Sorted.{IsPermutation-refl}
 use Rattle.desk_opening.specs.Places.{places, create_text_of}
 use Rattle.desk_opening.specs.Making.{HoldsStage, Partly, Whole, IsEmptyTable, first_records}
 use Rattle.desk_opening.proofs.Places.{is_place, each_place, HaveNamesApart, names_apart}
@@ -164,15 +163,11 @@ module _ (approval : Bool) (old new : State) (text : List ℕ) (count : ℕ) (wa
       let kept : e.tree ≢ was.1.0.tree → new.now.trees e.tree ≡ old.now.trees e.tree = subst (λ n. n ≢ was.1.0.tree → new.now.trees n ≡ old.now.trees n) (same_tree t e.tree) others in
       kept (in_another here Desk t was.1.0.tree e.tree was.1.0.stands.found (found_at t) apart) ∙ e.empty
 
-  -- of what is not there, no row is held
-  none_held : (rows : List Row) → rows ≡ [] → IsHeldBy rows []
-  none_held rows empty = subst (λ (rs : List Row). IsHeldBy rs []) (sym empty) (record { order = []; rising = tt; same = IsPermutation-refl [] })
-
   rows : (t : Place) → IsHeld (no_records approval) t (new.now.trees (spot_of t).tree)
   rows Desk = desk_rows
   rows Modules = stay_empty Modules names_apart.0.0
   rows Sets = stay_empty Sets names_apart.0.1.0
-  rows SetModules = none_held (new.now.trees (spot_of SetModules).tree) (stay_empty SetModules names_apart.0.1.1.0)
+  rows SetModules = subst (λ l. IsHeldBy l []) (sym (stay_empty SetModules names_apart.0.1.1.0)) (record { order = []; rising = tt; same = IsPermutation-same [] [] refl })
 
   filled_with : HoldsStage new.now (Whole (no_records approval))
   filled_with = record {

@@ -25,7 +25,7 @@ use Rattle.desk_records.specs.Holds.{HoldsRecords}
 use Rattle.desk_opening.specs.declared.opening.OpenFault.{OpenFault}
 use Rattle.desk_opening.specs.declared.opening.OpenFault.TheVariants.{NotDesk, NewerVersion}
 use Rattle.desk_opening.specs.Making.{LeavesNoDesk, LeavesDesk, first_records}
-use Rattle.desk_opening.specs.Opening.{HasDesk, HasNoDesk, HasRow, IsNewerRow}
+use Rattle.desk_opening.specs.Opening.{HasDesk, HasNoDesk, HasRow, IsFailure, IsNewerRow}
 
 -- whichever schema the trees list, it leaves the names of a desk free
 abbrev pub UsesNoName : Trees → Type 0
@@ -71,9 +71,11 @@ abbrev pub HoldsNoDesk : Trees → Type 0
 HoldsNoDesk db = (schema : Schema) × IsSound schema db × HasNoDesk (record { schema = schema; trees = db })
 
 -- The database was opened, and this is what the connection leaves. The records of a desk stay. Where there was none there is none, or the new one is whole.
+-- Either is refused for a failure alone, and never as no desk or a later version.
 pub record Refuses (image : Image) (s : State) (approval : Bool) (e : OpenFault) : Type 0 where
   pub newer : e ≡ NewerVersion → (db : Trees) × AreFoundIn image db × HasNewer db
   pub none : e ≡ NotDesk → (db : Trees) × AreFoundIn image db × HoldsNoDesk db
+  pub fails : ((r : Records) × HoldsDesk HoldsDatabase image r) ⊎ HoldsNone HoldsDatabase image → IsFailure e
   pub holds : (r : Records) → HoldsDesk HoldsDatabase image r → (db : Trees) → s.may_leave db → HoldIn HoldsRecords db r
   pub makes : HoldsNone HoldsDatabase image → (db : Trees) → s.may_leave db → LeavesNoDesk db ⊎ LeavesDesk db (first_records approval)
 

@@ -1,10 +1,10 @@
 //! A desk that is there already.
 
 ghost use Rattle.std.specs.Prelude.{◌≡◌, ◌≢◌, IfOk, IfErr, IsTrue, Ok, codes, false};
-ghost use Rattle.std.specs.List.{list_any};
-ghost use Rattle.sqlite_catalog.specs.Change.{is_used};
 ghost use Rattle.sql_front.specs.Free.{LeavesFree};
 ghost use Rattle.sql_front.specs.Found.{StandsSomewhere};
+ghost use Rattle.std.specs.List.{list_any};
+ghost use Rattle.sqlite_catalog.specs.Change.{is_used};
 ghost use Rattle.desk_records.specs.Schema.{desk_names, name_of, table_at};
 ghost use Rattle.desk_opening.specs.Places.{place_of};
 ghost use Rattle.sqlite_value.specs.Order.{column};
@@ -188,19 +188,19 @@ pub fn adopt<S: Alter + Drop>(
     Ok(calls.into_connection())
 }
 
-/// Whether a table, an index or a view has a name of one of these.
-fn uses_one_of(schema: &Schema, tables: &[DeskTable]) -> bool
-    ensures { result ≡ list_any (λ t. is_used schema.now (name_of (place_of t))) tables.now }
-{
-    tables.iter().any(|table| uses_name(schema, table.name()))
-}
-
 /// Whether a table, an index or a view has a name of a desk's tables, whatever the case of ASCII letters.
 fn uses_desk_name(schema: &Schema) -> bool
     ensures used { IsTrue result → LeavesFree schema.now desk_names → ⊥ }
     ensures free { result ≡ false → LeavesFree schema.now desk_names }
 {
-    uses_one_of(schema, &TABLES)
+    uses_name_of(schema, &TABLES)
+}
+
+/// Whether one of the tables' names is used.
+fn uses_name_of(schema: &Schema, tables: &[DeskTable]) -> bool
+    ensures { result ≡ list_any (λ table. is_used schema.now (name_of (place_of table))) tables.now }
+{
+    tables.iter().any(|table| uses_name(schema, table.name()))
 }
 
 /// Opens the desk in a connection's database: the one that is there, or a new one where no name of a desk is used.
