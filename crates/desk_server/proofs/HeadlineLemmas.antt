@@ -1,17 +1,17 @@
 -- The headline from the parts.
-use Rattle.std.proofs.Common.{All, ◌≡◌, ◌≢◌, ℕ, ◌⊎◌, Bool, true, false, List, [], ◌∷◌, ◌++◌, Option, Some, None, Result, Ok, Err, inl, inr, refl, sym, ap, ◌∙◌, subst, append_assoc, append-nil}
+use Rattle.std.proofs.Common.{All, ◌≡◌, ◌≢◌, ℕ, ◌⊎◌, Bool, true, false, List, [], ◌∷◌, ◌++◌, Option, Result, Ok, Err, inl, inr, refl, sym, ap, ◌∙◌, subst, append_assoc, append-nil}
 use Rattle.rollout_model.specs.declared.refusal.Refusal.TheVariants.{StoreFailed}
 use Rattle.rollout_machine.specs.Commands.{Command}
 use Rattle.rollout_machine.specs.CommandList.{CommandList, followed_by, Make}
 use Rattle.rollout_machine.specs.Replies.{Reply, Refused}
 use Rattle.rollout_machine.specs.Requests.{one}
-use Rattle.rollout_machine.specs.Standing.{DeskState, StandsFor, IsInDoubt}
+use Rattle.rollout_machine.specs.Standing.{DeskState, IsInDoubt}
 use Rattle.desk_server.specs.declared.interface.Interface.{Interface}
 use Rattle.desk_server.specs.declared.served.ServeFault.{ServeFault}
 use Rattle.desk_server.specs.declared.served.ServeFault.TheVariants as serve_fault
 use Rattle.desk_server.specs.declared.served.Served.{Served}
-use Rattle.desk_server.specs.Run.{Exchange, messages_of, accepted_in, texts_of, IsRun, GoesOn}
-use Rattle.desk_server.specs.Headline.{AnswersEnd, Exits, IsAcknowledged, EndsInDoubt, HoldsFirstPart, Stops, Transcript, Headline, IsRefusedAsStopped}
+use Rattle.desk_server.specs.Run.{Exchange, accepted_in, texts_of, IsRun}
+use Rattle.desk_server.specs.Headline.{AnswersEnd, Exits, HoldsFirstPart, Stops, Transcript, Headline, IsRefusedAsStopped}
 use Rattle.desk_server.specs.Parts.{Conduct, Whole, Broken, CutsReply, running, stopped, ByStopped, Answers, Serves, ServesStream}
 use Rattle.http_wire.specs.Messages.{WireMessage}
 use Rattle.http_wire.specs.Streams.{Begins}

@@ -1,5 +1,5 @@
 -- One message, from what the desk answered and from how much of the reply was written.
-use Rattle.std.proofs.Common.{◌≡◌, ◌≢◌, ℕ, Bool, true, List, [], ◌∷◌, ◌++◌, Option, Some, None, refl, sym, append-nil}
+use Rattle.std.proofs.Common.{◌≡◌, ◌≢◌, ℕ, Bool, true, List, [], ◌∷◌, Option, Some, None, refl, sym, append-nil}
 use Rattle.std.specs.Io.KnownBytes.{Appends}
 use Rattle.http_wire.specs.Messages.{WireMessage}
 use Rattle.rollout_model.specs.declared.refusal.Refusal.TheVariants.{StoreFailed, Stopped}
@@ -10,7 +10,7 @@ use Rattle.desk_server.specs.declared.interface.Interface.{Interface}
 use Rattle.desk_server.specs.declared.served.ServeFault.{ServeFault}
 use Rattle.desk_server.specs.declared.served.ServeFault.TheVariants as serve_fault
 use Rattle.desk_server.specs.Interfaces.{reading, reply_text}
-use Rattle.desk_server.specs.Parts.{Conduct, running, stopped, AnswersOne, Broken, Answers, Serves, SendsPart}
+use Rattle.desk_server.specs.Parts.{Conduct, running, stopped, AnswersOne, Answers, Serves, SendsPart}
 use Rattle.desk_server.proofs.PartLemmas.{whole_one, broken_one}
 
 module _ (File : Type 0) (C : Conduct File) (old new : DeskState File) (m : WireMessage) (reply : Reply) (answered : (h : CommandList) → C.premise new → C.stands old h → AnswersOne C h new m reply) where

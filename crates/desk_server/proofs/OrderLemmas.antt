@@ -1,5 +1,5 @@
 -- What names no order.
-use Rattle.std.proofs.Common.{◌≡◌, ◌≢◌, Bool, true, false, inl, inr, List, [], ℕ, Option, Some, None, IfNone, Result, Ok, Err, IfErr, refl, subst, ap, ◌∙◌, codes}
+use Rattle.std.proofs.Common.{◌≡◌, ◌≢◌, Bool, true, false, inl, List, [], Option, Some, None, IfNone, Result, Ok, Err, IfErr, refl, subst, ap, ◌∙◌, codes}
 use Rattle.std.specs.Option.{option_map}
 use Rattle.std.specs.Result.{IsErrAnd}
 use Rattle.clap.specs.Words.{Row, Text, first_of, kind_of, subcommand_name_of, subcommand_rows_of, takes}
@@ -8,11 +8,9 @@ use Rattle.clap.specs.declared.parser.matches.ArgMatches.TheViews.{out-ArgMatche
 use Rattle.clap.specs.declared.error.Error.{Error}
 use Rattle.clap.specs.declared.error.kind.ErrorKind.{ErrorKind}
 use Rattle.clap.specs.declared.error.kind.ErrorKind.TheVariants.{OutOfMemory}
-use Rattle.desk_server.specs.declared.order.Order.{Order}
 use Rattle.desk_server.specs.declared.order.Order.TheVariants.{Run}
-use Rattle.desk_server.specs.declared.interface.Interface.{Interface}
 use Rattle.desk_server.specs.declared.interface.Interface.TheVariants.{Management}
-use Rattle.desk_server.specs.Orders.{AreRefused, IsOrder, NamesOrder, interface_word, program_app}
+use Rattle.desk_server.specs.Orders.{AreRefused, NamesOrder, interface_word, program_app}
 
 -- the values of a subcommand
 abbrev values_of : Option (Text × List Row) → List Row

@@ -1,6 +1,5 @@
 -- Parts of `serve`: one message, and parts one after the other.
 use Rattle.std.proofs.Common.{◌≡◌, ◌≢◌, ℕ, true, List, [], ◌∷◌, ◌++◌, Option, Some, None, refl, sym, ap, ◌∙◌, subst, append_assoc, append-nil}
-use Rattle.std.specs.Io.KnownBytes.{Appends}
 use Rattle.std.proofs.KnownBytes.{Appends-trans, Appends-nil}
 use Rattle.http_wire.specs.Messages.{WireMessage}
 use Rattle.http_wire.specs.Streams.{Begins}
@@ -13,7 +12,7 @@ use Rattle.rollout_machine.specs.Standing.{DeskState, StaysStopped}
 use Rattle.desk_server.specs.declared.interface.Interface.{Interface}
 use Rattle.desk_server.specs.declared.served.ServeFault.{ServeFault}
 use Rattle.desk_server.specs.Interfaces.{reply_text}
-use Rattle.desk_server.specs.Run.{Exchange, messages_of, accepted_in, texts_of, IsRun, GoesOn}
+use Rattle.desk_server.specs.Run.{Exchange, messages_of, accepted_in, texts_of, IsRun}
 use Rattle.desk_server.specs.Parts.{Conduct, running, stopped, GoesTo, AnswersOne, Whole, Broken, CutsReply, Comes, Answers, Serves, Takes}
 use Rattle.desk_server.proofs.RunLemmas.{messages_append, texts_append, run_append, goes_append, led}
 

@@ -1,15 +1,15 @@
 -- What `serve` promises at every exit.
-use Rattle.std.specs.Prelude.{All, ◌≡◌, ◌≢◌, ℕ, ◌-◌, ◌^◌, ◌<◌, ◌≤◌, ◌⊎◌, min, Bool, true, false, List, [], ◌∷◌, ◌++◌, length, Option, Some, None, Result, Ok, Err}
+use Rattle.std.specs.Prelude.{All, ◌≡◌, ◌≢◌, ℕ, ◌-◌, ◌^◌, ◌<◌, ◌⊎◌, min, Bool, true, false, List, [], ◌∷◌, ◌++◌, length, Option, Some, None, Result, Ok, Err}
 use Rattle.std.specs.Io.KnownBytes.{Appends, Consumes, IsAtEnd}
 use Rattle.http_wire.specs.declared.stream.End.{End}
 use Rattle.http_wire.specs.declared.stream.End.TheVariants.{Input, Cut, Fault}
-use Rattle.http_wire.specs.Messages.{WireMessage, IsUndecided, IsFault}
+use Rattle.http_wire.specs.Messages.{IsUndecided, IsFault}
 use Rattle.http_wire.specs.Streams.{Begins, EndsAs}
 use Rattle.rollout_model.specs.declared.refusal.Refusal.{Refusal}
 use Rattle.rollout_model.specs.declared.refusal.Refusal.TheVariants.{StoreFailed, Stopped}
 use Rattle.rollout_machine.specs.Commands.{Command}
 use Rattle.rollout_machine.specs.CommandList.{CommandList, followed_by}
-use Rattle.rollout_machine.specs.Replies.{Reply, Refused}
+use Rattle.rollout_machine.specs.Replies.{Refused}
 use Rattle.rollout_machine.specs.Requests.{one}
 use Rattle.rollout_machine.specs.Standing.{DeskState, StandsFor, StaysStopped}
 use Rattle.desk_server.specs.declared.interface.Interface.{Interface}

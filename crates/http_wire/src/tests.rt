@@ -63,62 +63,73 @@ fn waits_for_the_last_byte(rt: HostRuntime) -> Result<(), Fail> {
     Ok(())
 }
 
+/// Wrong heads, and their faults.
+const WRONG_HEADS: [(&[u8], WireFault); 17] = [
+    (
+        b"GET / HTTP/1.1\r\nContent-Length: 1048577\r\n\r\n",
+        WireFault::TooLarge,
+    ),
+    (
+        b"GET / HTTP/1.1\r\nContent-Length: 99999999999999999999\r\n\r\n",
+        WireFault::TooLarge,
+    ),
+    (b"GET  /a HTTP/1.1\r\n\r\n", WireFault::BadHead),
+    (b"GET /a HTTP/1.0\r\n\r\n", WireFault::BadHead),
+    (b"GET /a HTTP/1.1\nA: 1\r\n\r\n", WireFault::BadHead),
+    (b"\r\nGET /a HTTP/1.1\r\n\r\n", WireFault::BadHead),
+    (b"GET /a HTTP/1.1\r\nA: 1\r\n 2\r\n\r\n", WireFault::BadHead),
+    (b"GET /a HTTP/1.1\r\nA : 1\r\n\r\n", WireFault::BadHead),
+    (b"GET http://a/ HTTP/1.1\r\n\r\n", WireFault::BadHead),
+    (b"GET /a#b HTTP/1.1\r\n\r\n", WireFault::BadHead),
+    (
+        b"GET / HTTP/1.1\r\nContent-Length: 3\r\nContent-Length: 3\r\n\r\n",
+        WireFault::BadLength,
+    ),
+    (
+        b"GET / HTTP/1.1\r\nContent-Length: +3\r\n\r\n",
+        WireFault::BadLength,
+    ),
+    (
+        b"GET / HTTP/1.1\r\nContent-Length:\r\n\r\n",
+        WireFault::BadLength,
+    ),
+    (
+        b"GET / HTTP/1.1\r\nContent-Length: 9999999x\r\n\r\n",
+        WireFault::BadLength,
+    ),
+    (
+        b"GET / HTTP/1.1\r\nTransfer-Encoding: chunked\r\n\r\n",
+        WireFault::BadCoding,
+    ),
+    (
+        b"GET / HTTP/1.1\r\nContent-Length: +3\r\nTransfer-Encoding: x\r\n\r\n",
+        WireFault::BadCoding,
+    ),
+    (
+        b"GET / HTTP/1.1\r\ncontent-length: 9999999\r\nCONTENT-LENGTH: 1\r\n\r\n",
+        WireFault::BadLength,
+    ),
+];
+
+/// What an inbox answers after a message and a wrong head: the message, the fault, and the fault again though more comes.
+fn faults_after_a_message(
+    alloc: Global,
+    head: &[u8],
+) -> Result<[Option<Result<usize, WireFault>>; 3], Fail> {
+    let mut inbox = Inbox::new(alloc);
+    inbox.feed(ADD_MODULE)?;
+    inbox.feed(head)?;
+    let message = next_of(&mut inbox);
+    let fault = next_of(&mut inbox);
+    inbox.feed(b"GET /a HTTP/1.1\r\n\r\n")?;
+    Ok([message, fault, next_of(&mut inbox)])
+}
+
 #[test]
 fn answers_a_fault_again(rt: HostRuntime) -> Result<(), Fail> {
-    let heads: [(&[u8], WireFault); 17] = [
-        (
-            b"GET / HTTP/1.1\r\nContent-Length: 1048577\r\n\r\n",
-            WireFault::TooLarge,
-        ),
-        (
-            b"GET / HTTP/1.1\r\nContent-Length: 99999999999999999999\r\n\r\n",
-            WireFault::TooLarge,
-        ),
-        (b"GET  /a HTTP/1.1\r\n\r\n", WireFault::BadHead),
-        (b"GET /a HTTP/1.0\r\n\r\n", WireFault::BadHead),
-        (b"GET /a HTTP/1.1\nA: 1\r\n\r\n", WireFault::BadHead),
-        (b"\r\nGET /a HTTP/1.1\r\n\r\n", WireFault::BadHead),
-        (b"GET /a HTTP/1.1\r\nA: 1\r\n 2\r\n\r\n", WireFault::BadHead),
-        (b"GET /a HTTP/1.1\r\nA : 1\r\n\r\n", WireFault::BadHead),
-        (b"GET http://a/ HTTP/1.1\r\n\r\n", WireFault::BadHead),
-        (b"GET /a#b HTTP/1.1\r\n\r\n", WireFault::BadHead),
-        (
-            b"GET / HTTP/1.1\r\nContent-Length: 3\r\nContent-Length: 3\r\n\r\n",
-            WireFault::BadLength,
-        ),
-        (
-            b"GET / HTTP/1.1\r\nContent-Length: +3\r\n\r\n",
-            WireFault::BadLength,
-        ),
-        (
-            b"GET / HTTP/1.1\r\nContent-Length:\r\n\r\n",
-            WireFault::BadLength,
-        ),
-        (
-            b"GET / HTTP/1.1\r\nContent-Length: 9999999x\r\n\r\n",
-            WireFault::BadLength,
-        ),
-        (
-            b"GET / HTTP/1.1\r\nTransfer-Encoding: chunked\r\n\r\n",
-            WireFault::BadCoding,
-        ),
-        (
-            b"GET / HTTP/1.1\r\nContent-Length: +3\r\nTransfer-Encoding: x\r\n\r\n",
-            WireFault::BadCoding,
-        ),
-        (
-            b"GET / HTTP/1.1\r\ncontent-length: 9999999\r\nCONTENT-LENGTH: 1\r\n\r\n",
-            WireFault::BadLength,
-        ),
-    ];
-    for (head, fault) in heads {
-        let mut inbox = Inbox::new(rt.alloc());
-        inbox.feed(ADD_MODULE)?;
-        inbox.feed(head)?;
-        assert_eq!(rt; next_of(&mut inbox), Some(Ok(44)));
-        assert_eq!(rt; next_of(&mut inbox), Some(Err(fault)));
-        inbox.feed(b"GET /a HTTP/1.1\r\n\r\n")?;
-        assert_eq!(rt; next_of(&mut inbox), Some(Err(fault)));
+    for (head, fault) in WRONG_HEADS {
+        let answers = faults_after_a_message(rt.alloc(), head)?;
+        assert_eq!(rt; answers, [Some(Ok(44)), Some(Err(fault)), Some(Err(fault))]);
         assert_eq!(rt;
             reading_of(head),
             Reading {

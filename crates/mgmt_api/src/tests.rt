@@ -37,66 +37,70 @@ fn a_module_is_added(rt: HostRuntime) -> Result<(), Fail> {
     Ok(())
 }
 
+/// Heads and bodies, with the refusal that comes first.
+const FIRST_REFUSALS: [(&str, &str, Option<Refusal>); 15] = [
+    ("POST /rest/v1/x", BODY, Some(Refusal::NotFound)),
+    ("PUT /rest/v1/x?offset=01", "[]", Some(Refusal::NotFound)),
+    (
+        "POST /rest/v1/softwaremodules/",
+        BODY,
+        Some(Refusal::NotFound),
+    ),
+    (
+        "POST /rest//v1/softwaremodules",
+        BODY,
+        Some(Refusal::NotFound),
+    ),
+    (
+        "POST /rest/v1/softwaremodule%73",
+        BODY,
+        Some(Refusal::NotFound),
+    ),
+    ("POST /", BODY, Some(Refusal::NotFound)),
+    (
+        "PUT /rest/v1/softwaremodules",
+        BODY,
+        Some(Refusal::BadMethod),
+    ),
+    (
+        "post /rest/v1/softwaremodules",
+        BODY,
+        Some(Refusal::BadMethod),
+    ),
+    (
+        "HEAD /rest/v1/softwaremodules?x=1",
+        "[]",
+        Some(Refusal::BadMethod),
+    ),
+    (
+        "POST /rest/v1/softwaremodules?offset=01",
+        BODY,
+        Some(Refusal::BadRequest),
+    ),
+    (
+        "POST /rest/v1/softwaremodules?=",
+        BODY,
+        Some(Refusal::BadRequest),
+    ),
+    (
+        "POST /rest/v1/softwaremodules",
+        "[]",
+        Some(Refusal::BadRequest),
+    ),
+    (
+        "POST /rest/v1/softwaremodules",
+        "",
+        Some(Refusal::BadRequest),
+    ),
+    ("POST /rest/v1/softwaremodules?", BODY, None),
+    ("POST /rest/v1/softwaremodules?&", BODY, None),
+];
+
 #[test]
 fn refusals_in_their_order(rt: HostRuntime) -> Result<(), Fail> {
-    let alloc = rt.alloc();
-    let not_found = Some(Refusal::NotFound);
-    let bad_method = Some(Refusal::BadMethod);
-    let bad_request = Some(Refusal::BadRequest);
-    assert_eq!(rt; refusal(alloc, "POST /rest/v1/x", BODY)?, not_found);
-    assert_eq!(rt;
-        refusal(alloc, "PUT /rest/v1/x?offset=01", "[]")?,
-        not_found
-    );
-    assert_eq!(rt;
-        refusal(alloc, "POST /rest/v1/softwaremodules/", BODY)?,
-        not_found
-    );
-    assert_eq!(rt;
-        refusal(alloc, "POST /rest//v1/softwaremodules", BODY)?,
-        not_found
-    );
-    assert_eq!(rt;
-        refusal(alloc, "POST /rest/v1/softwaremodule%73", BODY)?,
-        not_found
-    );
-    assert_eq!(rt; refusal(alloc, "POST /", BODY)?, not_found);
-    assert_eq!(rt;
-        refusal(alloc, "PUT /rest/v1/softwaremodules", BODY)?,
-        bad_method
-    );
-    assert_eq!(rt;
-        refusal(alloc, "post /rest/v1/softwaremodules", BODY)?,
-        bad_method
-    );
-    assert_eq!(rt;
-        refusal(alloc, "HEAD /rest/v1/softwaremodules?x=1", "[]")?,
-        bad_method
-    );
-    assert_eq!(rt;
-        refusal(alloc, "POST /rest/v1/softwaremodules?offset=01", BODY)?,
-        bad_request
-    );
-    assert_eq!(rt;
-        refusal(alloc, "POST /rest/v1/softwaremodules?=", BODY)?,
-        bad_request
-    );
-    assert_eq!(rt;
-        refusal(alloc, "POST /rest/v1/softwaremodules", "[]")?,
-        bad_request
-    );
-    assert_eq!(rt;
-        refusal(alloc, "POST /rest/v1/softwaremodules", "")?,
-        bad_request
-    );
-    assert_eq!(rt;
-        refusal(alloc, "POST /rest/v1/softwaremodules?", BODY)?,
-        None
-    );
-    assert_eq!(rt;
-        refusal(alloc, "POST /rest/v1/softwaremodules?&", BODY)?,
-        None
-    );
+    for (head, body, first) in FIRST_REFUSALS {
+        assert_eq!(rt; refusal(rt.alloc(), head, body)?, first, "{head}");
+    }
     Ok(())
 }
 

@@ -122,22 +122,29 @@ fn tells_why_a_desk_is_not_opened(rt: HostRuntime) -> Result<(), Fail> {
     Ok(())
 }
 
+/// Carries the order of the command line out over a new desk in memory, and answers the status.
+fn status_in_memory<R: Read, W: Write, E: Write>(
+    alloc: Global,
+    input: &mut Watched<R>,
+    output: &mut Watched<W>,
+    errors: &mut Watched<E>,
+) -> Result<u8, Fail> {
+    let order = read_order(alloc, WORDS.as_slice())?;
+    let mut desk = Desk::in_memory(alloc, false);
+    Ok(carry_out(alloc, &order, &mut desk, None, input, output, errors))
+}
+
 #[test]
 fn tells_of_a_read_that_fails(rt: HostRuntime) -> Result<(), Fail> {
     let alloc = rt.alloc();
-    let order = read_order(alloc, WORDS.as_slice())?;
-    let mut desk = Desk::in_memory(alloc, false);
     let mut output: Vec<u8> = Vec::new(alloc);
     let mut told: Vec<u8> = Vec::new(alloc);
-    let status = carry_out(
+    let status = status_in_memory(
         alloc,
-        &order,
-        &mut desk,
-        None,
         &mut Watched::new(ADD.chain(Broken)),
         &mut Watched::new(&mut output),
         &mut Watched::new(&mut told),
-    );
+    )?;
     assert_eq!(rt; status, 1);
     assert_eq!(rt; output.as_slice(), ADDED);
     assert_eq!(rt; told.as_slice(), b"fault 1 read\n".as_slice());
@@ -169,19 +176,13 @@ fn tells_of_a_write_that_fails(rt: HostRuntime) -> Result<(), Fail> {
 
 #[test]
 fn answers_its_status_where_nobody_is_told(rt: HostRuntime) -> Result<(), Fail> {
-    let alloc = rt.alloc();
-    let order = read_order(alloc, WORDS.as_slice())?;
-    let mut desk = Desk::in_memory(alloc, false);
     let mut errors = Watched::new(Broken);
-    let status = carry_out(
-        alloc,
-        &order,
-        &mut desk,
-        None,
+    let status = status_in_memory(
+        rt.alloc(),
         &mut Watched::new(Broken),
         &mut Watched::new(Broken),
         &mut errors,
-    );
+    )?;
     assert_eq!(rt; status, 1);
     assert!(rt; errors.failed());
     Ok(())

@@ -134,22 +134,47 @@ fn may_keep(ending: Ending, kept: usize) -> bool {
     }
 }
 
-/// Whether the files of a stopped machine hold so many modules as they may: as they were written, where the program died, and
-/// without what was not synced, where the power failed.
-fn keep_enough(
-    alloc: Global,
-    mut files: Files<Fuse<Memory>>,
-    ending: Ending,
-) -> Result<bool, Fail> {
-    let written = Files {
+/// Files with all that was written to these, synced or not.
+fn written(alloc: Global, files: &Files<Fuse<Memory>>) -> Result<Files<Memory>, Fail> {
+    Ok(Files {
         log: copy_of(alloc, &files.log)?,
         db: copy_of(alloc, &files.db)?,
-    };
+    })
+}
+
+/// The files without what was not synced.
+fn synced(mut files: Files<Fuse<Memory>>) -> Files<Fuse<Memory>> {
     files.log.crash();
     files.db.crash();
-    let kept_of_written = kept(alloc, opened(alloc, written))?;
-    let kept_of_synced = kept(alloc, opened(alloc, files))?;
-    Ok(may_keep(ending, kept_of_written) && may_keep(ending, kept_of_synced))
+    files
+}
+
+/// Whether the files of a stopped machine hold so many modules as they may.
+fn hold_enough<D: Disk + Drop>(
+    alloc: Global,
+    files: Files<D>,
+    ending: Ending,
+) -> Result<bool, Fail> {
+    Ok(may_keep(ending, kept(alloc, opened(alloc, files))?))
+}
+
+/// Whether they do as they were written, where the program died, and without what was not synced, where the power failed.
+fn keep_enough(alloc: Global, files: Files<Fuse<Memory>>, ending: Ending) -> Result<bool, Fail> {
+    let written = written(alloc, &files)?;
+    Ok(hold_enough(alloc, written, ending)? && hold_enough(alloc, synced(files), ending)?)
+}
+
+/// The ending, where the files that are left hold as many modules as they may.
+fn with_enough_kept(
+    alloc: Global,
+    files: Files<Fuse<Memory>>,
+    ending: Ending,
+) -> Result<Ending, Fail> {
+    if keep_enough(alloc, files, ending)? {
+        Ok(ending)
+    } else {
+        Err(Fail::from("other modules are kept"))
+    }
 }
 
 /// Runs the posts over an opened desk. After a failed store it refuses a further one.
@@ -175,17 +200,26 @@ fn run_posts<S: Alter>(
     }
 }
 
+/// How a run of the posts over a desk ends, whose files then hold as many modules as they may.
+fn run_over_desk(alloc: Global, desk: Desk<FileStore<Fuse<Memory>>>) -> Result<Ending, Fail> {
+    let mut desk = Ok(desk);
+    let ending = run_posts(alloc, &mut desk);
+    match desk {
+        Ok(desk) => with_enough_kept(alloc, left(desk), ending?),
+        Err(fault) => {
+            let _ending = ending?;
+            Err(fault)?
+        }
+    }
+}
+
 /// How a run of the posts over new files ends, whose disks stop after so many calls.
 fn run_over(alloc: Global, log_calls: u64, db_calls: u64) -> Result<Ending, Fail> {
-    let mut desk = opened(alloc, fused(alloc, log_calls, db_calls));
-    if let Err(OpenFault::Store) = &desk {
-        return Ok(Ending::Unopened);
+    match opened(alloc, fused(alloc, log_calls, db_calls)) {
+        Err(OpenFault::Store) => Ok(Ending::Unopened),
+        Err(fault) => Err(fault)?,
+        Ok(desk) => run_over_desk(alloc, desk),
     }
-    let ending = run_posts(alloc, &mut desk)?;
-    if !keep_enough(alloc, left(desk?), ending)? {
-        Err("other modules are kept")?;
-    }
-    Ok(ending)
 }
 
 #[test]

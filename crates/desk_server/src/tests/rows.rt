@@ -7,14 +7,20 @@ use super::messages::{
 };
 use crate::{End, Served};
 use rollout_desk::Desk;
+use std::alloc::Global;
 use std::test::Fail;
+
+/// Serves the requests in one stream to a new desk in memory.
+fn answer_in_memory(alloc: Global, approval: bool, requests: &[&[u8]]) -> Result<Exchange, Fail> {
+    let input = joined(alloc, requests)?;
+    let mut desk = Desk::in_memory(alloc, approval)?;
+    Ok(answer_stream(alloc, &mut desk, input.as_slice()))
+}
 
 #[test]
 fn adds_a_module_once(rt: HostRuntime) -> Result<(), Fail> {
     let alloc = rt.alloc();
-    let mut desk = Desk::in_memory(alloc, false)?;
-    let input = joined(alloc, &[ADD, ADD])?;
-    let Exchange { served, output } = answer_stream(alloc, &mut desk, input.as_slice());
+    let Exchange { served, output } = answer_in_memory(alloc, false, &[ADD, ADD])?;
     assert_eq!(rt;
         served,
         Ok(Served {
@@ -29,9 +35,8 @@ fn adds_a_module_once(rt: HostRuntime) -> Result<(), Fail> {
 #[test]
 fn numbers_modules_in_order(rt: HostRuntime) -> Result<(), Fail> {
     let alloc = rt.alloc();
-    let mut desk = Desk::in_memory(alloc, true)?;
-    let input = joined(alloc, &[ADD, ADD_NEXT, ADD, ADD_LAST])?;
-    let Exchange { served, output } = answer_stream(alloc, &mut desk, input.as_slice());
+    let posts = [ADD, ADD_NEXT, ADD, ADD_LAST];
+    let Exchange { served, output } = answer_in_memory(alloc, true, &posts)?;
     assert_eq!(rt;
         served,
         Ok(Served {

@@ -1,4 +1,4 @@
-use Rattle.std.proofs.Common.{◌≡◌, ℕ, ◌+◌, ◌-◌, ◌^◌, min, List, [], ◌∷◌, ◌++◌, length, Option, Some, None, refl, sym, ap, ◌∙◌, subst, arith, length-append}
+use Rattle.std.proofs.Common.{◌≡◌, ℕ, ◌+◌, ◌-◌, ◌^◌, min, List, [], ◌∷◌, ◌++◌, length, Some, None, refl, ◌∙◌, arith, length-append}
 use Rattle.http_wire.specs.Messages.{WireMessage}
 use Rattle.http_wire.specs.Inbox.{message_of}
 use Rattle.std.proofs.lemmas.Result.{err_from_is_err_and}

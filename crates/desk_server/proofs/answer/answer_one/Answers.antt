@@ -1,7 +1,7 @@
-use Rattle.std.proofs.Common.{◌≡◌, refl}
+use Rattle.std.proofs.Common.{refl}
 use Rattle.std.proofs.lemmas.Bool.{false≢true}
 use Rattle.std.proofs.lemmas.Result.{err_from_is_err_and}
-use Rattle.desk_server.proofs.MessageLemmas.{HasAnswered, serves_whole, serves_in_doubt, serves_part}
+use Rattle.desk_server.proofs.MessageLemmas.{serves_whole, serves_in_doubt, serves_part}
 use Rattle.desk_server.proofs.answer.answer_one.Goals as goal
 
 pub returns-in_err-write_reply-clause-serves : goal.returns-in_err-write_reply-clause-serves

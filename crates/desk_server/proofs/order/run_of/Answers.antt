@@ -1,4 +1,4 @@
-use Rattle.std.proofs.Common.{◌≡◌, List, ℕ, Option, Some, refl, sym, ap, ◌∙◌, codes, Bor}
+use Rattle.std.proofs.Common.{List, ℕ, Some, refl, sym, ap, ◌∙◌, codes, Bor}
 use Rattle.std.specs.Option.{option_map}
 use Rattle.clap.specs.Words.{found_of, rows_of}
 use Rattle.clap.proofs.WalkLemmas.{first_value-rows}

@@ -1,4 +1,4 @@
-use Rattle.std.proofs.Common.{◌≡◌, sym, take, drop, take-append-drop}
+use Rattle.std.proofs.Common.{sym, take, drop, take-append-drop}
 use Rattle.desk_server.proofs.program.tell.Goals as goal
 
 pub returns-in_default : goal.returns-in_default
