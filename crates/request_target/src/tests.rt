@@ -1,5 +1,6 @@
 use crate::{
-    are_clean, number_or, read_number, read_pairs, route_of, router_of, takes_query, value_of,
+    are_clean, number_at, number_or, read_number, read_pairs, route_of, router_of, segment_at,
+    takes_query, value_of,
 };
 use std::test::Fail;
 
@@ -71,4 +72,40 @@ fn numbers(rt: HostRuntime) -> Result<(), Fail> {
     assert_eq!(rt; number_or(1, 500, 50, Some("0")), None);
     assert_eq!(rt; number_or(1, 500, 50, Some("501")), None);
     Ok(())
+}
+
+#[test]
+fn segments_of_paths(rt: HostRuntime) {
+    for (path, place, segment) in [
+        ("/rest/v1/x", 0, Some("")),
+        ("/rest/v1/x", 1, Some("rest")),
+        ("/rest/v1/x", 3, Some("x")),
+        ("/rest/v1/x", 4, None),
+        ("/a//b/", 2, Some("")),
+        ("/a//b/", 4, Some("")),
+        ("/a//b/", 5, None),
+        ("", 0, Some("")),
+        ("", 1, None),
+    ] {
+        assert_eq!(rt;
+            segment_at(path.as_bytes(), place),
+            segment.map(str::as_bytes),
+            "{path}"
+        );
+    }
+}
+
+#[test]
+fn numbers_of_paths(rt: HostRuntime) {
+    for (path, place, number) in [
+        ("/a/12/x", 2, Some(12)),
+        ("/a/2147483647", 2, Some(2147483647)),
+        ("/a/2147483648", 2, None),
+        ("/a/012", 2, None),
+        ("/a/1%32", 2, None),
+        ("/a//12", 2, None),
+        ("/a/12", 3, None),
+    ] {
+        assert_eq!(rt; number_at(path.as_bytes(), place), number, "{path}");
+    }
 }

@@ -1,7 +1,7 @@
 -- The rules at their borders.
-use Rattle.rollout_model.specs.Rules.{is_word, is_token, is_filename, is_text, is_value, is_detail, is_number, is_digest}
+use Rattle.rollout_model.specs.Rules.{is_word, is_token, is_filename, is_text, is_value, is_detail, is_number, is_module_list, is_digest}
 use Rattle.std.proofs.Common.{◌≡◌, true, false, [], ◌∷◌, refl}
-use Rattle.std.specs.Prelude.{map, replicate, codes}
+use Rattle.std.specs.Prelude.{ℕ, List, map, replicate, codes}
 use Rattle.std.specs.Str.{is_utf8, chars}
 use lib.Utf8.{encode}
 
@@ -29,6 +29,13 @@ details = refl
 
 item_numbers : map is_number (0 ∷ 1 ∷ 2147483647 ∷ 2147483648 ∷ []) ≡ false ∷ true ∷ true ∷ false ∷ []
 item_numbers = refl
+
+eight : List ℕ
+eight = 8 ∷ 7 ∷ 6 ∷ 5 ∷ 4 ∷ 3 ∷ 2 ∷ 1 ∷ []
+
+module_lists : map is_module_list ([] ∷ (2147483647 ∷ []) ∷ (0 ∷ []) ∷ (1 ∷ 2 ∷ 1 ∷ []) ∷ eight ∷ (9 ∷ eight) ∷ []) ≡ false ∷ true ∷ false ∷ false ∷ true ∷ false ∷ []
+unfolding eight
+module_lists = refl
 
 digests : map is_digest (replicate 31 1 ∷ replicate 32 255 ∷ replicate 33 1 ∷ replicate 32 256 ∷ []) ≡ false ∷ true ∷ false ∷ false ∷ []
 digests = refl

@@ -1,9 +1,10 @@
 //! What no clause says: that the calls which take memory succeed, and that the table of refusals is the one agreed on.
 
 use crate::{
-    Attribute, Attributes, ControllerId, Digest, Filename, ModuleLabel, ModuleNo, Refusal, Tags,
-    Text, Value, Word,
+    Attribute, Attributes, ControllerId, Digest, Filename, ModuleLabel, ModuleList, ModuleNo,
+    Refusal, SetNo, Tags, Text, Value, Word,
 };
+use std::alloc::Global;
 use std::test::Fail;
 
 #[test]
@@ -105,4 +106,45 @@ fn lists_of_a_target(rt: HostRuntime) -> Result<(), Fail> {
     attributes.push(Attribute { key, value })?;
     assert_eq!(rt; attributes.as_slice().len(), 1);
     Ok(())
+}
+
+/// The list of the modules of these numbers, which are not 0; `None` for want of memory.
+fn module_list(alloc: Global, numbers: &[u32]) -> Option<Option<ModuleList>> {
+    let mut modules = Vec::new(alloc);
+    for number in numbers {
+        modules.push(ModuleNo::new(*number)?).ok()?;
+    }
+    Some(ModuleList::from_numbers(modules))
+}
+
+/// Lists of numbers, and whether a set may have these modules.
+const MODULE_LISTS: [(&[u32], bool); 7] = [
+    (&[], false),
+    (&[2147483647], true),
+    (&[2, 1], true),
+    (&[1, 1], false),
+    (&[1, 2, 3, 1], false),
+    (&[8, 7, 6, 5, 4, 3, 2, 1], true),
+    (&[1, 2, 3, 4, 5, 6, 7, 8, 9], false),
+];
+
+#[test]
+fn modules_of_a_set(rt: HostRuntime) {
+    for (numbers, is_list) in MODULE_LISTS {
+        let list = module_list(rt.alloc(), numbers);
+        assert_eq!(rt; list.map(|list| list.is_some()), Some(is_list));
+    }
+}
+
+#[test]
+fn numbers_of_sets(rt: HostRuntime) {
+    for (number, is_number) in [
+        (0, false),
+        (1, true),
+        (2147483647, true),
+        (2147483648, false),
+    ] {
+        assert_eq!(rt; SetNo::new(number).is_some(), is_number, "{number}");
+    }
+    assert_eq!(rt; SetNo::new(7).map(|n| n.get()), Some(7));
 }
