@@ -5,3 +5,4 @@ mod files;
 mod fuses;
 mod lines;
 mod memory;
+mod sets;
