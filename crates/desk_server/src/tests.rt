@@ -9,6 +9,7 @@ mod memory;
 mod messages;
 mod orders;
 mod rows;
+mod sets;
 mod shelf;
 mod streams;
 mod wire;

@@ -52,7 +52,7 @@ impl Handler for Shelf {
                 Ok(reply) => reply,
                 Err(refusal) => Reply::Refused(refusal),
             },
-            Request::Ask(_) => Reply::Refused(Refusal::NotFound),
+            Request::Do(Command::AddSet(_)) | Request::Ask(_) => Reply::Refused(Refusal::NotFound),
         }
     }
 
