@@ -1,7 +1,7 @@
 //! The management interface: what a message asks, and the text of each reply.
 //!
 //! A message is refused by the first of these that applies: its path has no route, its method is not one of the route's,
-//! its query is not one of the call's, its body is not one of the call's.
+//! a number in its path is none that an item can have, its query is not one of the call's, its body is not one of the call's.
 #![tactic(auto)]
 
 mod call;
@@ -9,6 +9,8 @@ mod laws;
 mod reading;
 mod reply;
 mod routes;
+#[cfg(test)]
+mod set_tests;
 #[cfg(test)]
 mod tests;
 

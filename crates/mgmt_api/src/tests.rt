@@ -8,7 +8,11 @@ use std::test::Fail;
 const BODY: &str = "[{\"name\":\"app\",\"type\":\"os\",\"version\":\"1.0\"}]";
 
 /// What the interface reads of a message with this head and body.
-fn reading(alloc: Global, head: &str, body: &str) -> Result<Result<Request, Refusal>, Fail> {
+pub(crate) fn reading(
+    alloc: Global,
+    head: &str,
+    body: &str,
+) -> Result<Result<Request, Refusal>, Fail> {
     let routes = ManageRoutes::make(alloc).ok().ok_or("routes")?;
     let mut inbox = Inbox::new(alloc);
     let size = body.len();
@@ -18,7 +22,7 @@ fn reading(alloc: Global, head: &str, body: &str) -> Result<Result<Request, Refu
     Ok(read_manage(&routes, &message))
 }
 
-fn refusal(alloc: Global, head: &str, body: &str) -> Result<Option<Refusal>, Fail> {
+pub(crate) fn refusal(alloc: Global, head: &str, body: &str) -> Result<Option<Refusal>, Fail> {
     Ok(reading(alloc, head, body)?.err())
 }
 
@@ -121,7 +125,7 @@ fn routes_and_calls(rt: HostRuntime) -> Result<(), Fail> {
     Ok(())
 }
 
-fn text(alloc: Global, text: &str) -> Option<Text> {
+pub(crate) fn text(alloc: Global, text: &str) -> Option<Text> {
     Text::read(alloc, text).ok()?
 }
 
