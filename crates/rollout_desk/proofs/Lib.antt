@@ -3,3 +3,4 @@ pub mod ModuleLemmas
 pub mod DeskLemmas
 pub mod OpeningLemmas
 pub mod RunLemmas
+pub mod CheckedSteps
