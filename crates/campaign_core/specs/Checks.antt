@@ -1,22 +1,24 @@
 -- What the verdict on a command rests on, what its change is, and that both are those of the records and of a command list.
-use Rattle.std.specs.Prelude.{◌≡◌, ◌+◌, Bool, ◌&&◌, nat_le, [], ◌∷◌, ◌++◌, length, Option, Some, None, Result, Ok, Err}
+use Rattle.std.specs.Prelude.{◌≡◌, ◌+◌, Bool, ◌&&◌, nat_le, [], ◌∷◌, ◌++◌, length, Option, Some, None, is_none, Result, Ok, Err}
 use Rattle.std.specs.List.{list_any}
-use Rattle.rollout_machine.specs.ByteStrings.{same_bytes}
+use Rattle.rollout_machine.specs.ByteStrings.{item_numbered, same_bytes}
 use Rattle.rollout_machine.specs.CommandList.{CommandList, ◌▸◌}
-use Rattle.rollout_machine.specs.Commands.{Command, AddModule, ModuleLabel}
+use Rattle.rollout_machine.specs.Commands.{Command, AddModule, AddSet, ModuleLabel, SetLabel}
 use Rattle.rollout_machine.specs.RecordSteps.{step_records}
 use Rattle.rollout_machine.specs.Records.{Records, records}
 use Rattle.rollout_machine.specs.Validity.{IsValid}
 use Rattle.rollout_machine.specs.Verdicts.{first_refusal, check, verdict}
-use Rattle.rollout_model.specs.Limits.{module_limit}
+use Rattle.rollout_model.specs.Limits.{module_limit, set_limit}
 use Rattle.rollout_model.specs.declared.refusal.Refusal.{Refusal}
-use Rattle.rollout_model.specs.declared.refusal.Refusal.TheVariants.{Exists, Quota}
+use Rattle.rollout_model.specs.declared.refusal.Refusal.TheVariants.{NotFound, Exists, Quota}
 use Rattle.campaign_core.specs.declared.checks.View.{View}
 use Rattle.campaign_core.specs.declared.checks.View.TheVariants as view
 use Rattle.campaign_core.specs.declared.checks.Change.{Change}
 use Rattle.campaign_core.specs.declared.checks.Change.TheVariants as change
 use Rattle.campaign_core.specs.declared.checks.modules.ModuleView.{ModuleView}
 use Rattle.campaign_core.specs.declared.checks.modules.NewModule.{NewModule}
+use Rattle.campaign_core.specs.declared.checks.sets.SetView.{SetView}
+use Rattle.campaign_core.specs.declared.checks.sets.NewSet.{NewSet}
 
 -- ---- adding a module
 
@@ -37,17 +39,39 @@ pub record AddsModule (m : NewModule) (label : ModuleLabel) (old new : Records) 
   pub next : m.number ≡ length old.modules + 1
   pub added : new ≡ record old { modules = old.modules ++ label ∷ [] }
 
+-- ---- adding a distribution set
+
+-- the name and the version of the label
+abbrev pub is_same_set : SetLabel → SetLabel → Bool
+is_same_set label v = same_bytes v.name label.name && same_bytes v.version label.version
+
+-- of a label, in these records
+pub record IsSetView (v : SetView) (label : SetLabel) (rs : Records) : Type 0 where
+  pub misses_module : v.misses_module ≡ list_any (λ m. is_none (item_numbered rs.modules m)) label.modules
+  pub same : v.same ≡ list_any (is_same_set label) rs.sets
+  pub count : v.count ≡ length rs.sets
+
+abbrev pub set_refusal : SetView → Option Refusal
+set_refusal v = first_refusal ((v.misses_module, NotFound) ∷ (v.same, Exists) ∷ (nat_le set_limit v.count, Quota) ∷ [])
+
+-- the label is put behind the sets that are there, under the next number
+pub record AddsSet (s : NewSet) (label : SetLabel) (old new : Records) : Type 0 where
+  pub next : s.number ≡ length old.sets + 1
+  pub added : new ≡ record old { sets = old.sets ++ label ∷ [] }
+
 -- ---- any command
 
 -- the view is of the command, in these records
 abbrev pub IsViewOf : View → Command → Records → Type 0
 IsViewOf (view.AddModule v) (AddModule label) rs = IsModuleView v label rs
-IsViewOf (view.AddModule v) _ rs = ⊥
+IsViewOf (view.AddSet v) (AddSet label) rs = IsSetView v label rs
+IsViewOf _ _ rs = ⊥
 
--- the change of the command leads from the old records to the new ones
+-- the change of the command takes the old records to the new ones
 abbrev pub LeadsTo : Change → Command → Records → Records → Type 0
 LeadsTo (change.AddModule m) (AddModule label) old new = AddsModule m label old new
-LeadsTo (change.AddModule m) _ old new = ⊥
+LeadsTo (change.AddSet s) (AddSet label) old new = AddsSet s label old new
+LeadsTo _ _ old new = ⊥
 
 -- the machine's verdict over these records, and its step
 abbrev pub DecidesAt : Records → Command → Result Change Refusal → Type 0

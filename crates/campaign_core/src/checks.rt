@@ -4,20 +4,24 @@ ghost use Rattle.rollout_machine.specs.Views.{command_of};
 ghost use Rattle.campaign_core.specs.Checks.{Decides, Follows};
 
 mod modules;
+mod sets;
 
 pub use modules::{ModuleView, NewModule};
 use rollout_model::{Command, Refusal};
+pub use sets::{NewSet, SetView};
 
 /// What the verdict on a command and its change rest on.
 #[derive(Clone, Copy, Debug, PartialEq, Eq)]
 pub enum View {
     AddModule(ModuleView),
+    AddSet(SetView),
 }
 
 /// What is written of an accepted command, beside what the command itself says.
 #[derive(Clone, Copy, Debug, PartialEq, Eq)]
 pub enum Change {
     AddModule(NewModule),
+    AddSet(NewSet),
 }
 
 /// The verdict on a command and its change, over all records that the view is of.
@@ -29,6 +33,13 @@ fn decide(view: &View, command: &Command) -> Result<Change, Refusal>
             Ok(module) => Ok(Change::AddModule(module)),
             Err(refusal) => Err(refusal),
         },
+        (View::AddSet(view), Command::AddSet(_)) => match sets::add_set(view) {
+            Ok(set) => Ok(Change::AddSet(set)),
+            Err(refusal) => Err(refusal),
+        },
+        (View::AddModule(_), Command::AddSet(_)) | (View::AddSet(_), Command::AddModule(_)) => {
+            Err(Refusal::WrongState)
+        }
     }
 }
 

@@ -8,7 +8,7 @@ mod groups;
 mod status_words;
 mod thresholds;
 
-pub use checks::{Change, ModuleView, NewModule, View, check};
+pub use checks::{Change, ModuleView, NewModule, NewSet, SetView, View, check};
 pub use effects::{after_feedback, after_resume, after_trigger};
 pub use groups::{cut_groups, group_bounds};
 pub use status_words::{

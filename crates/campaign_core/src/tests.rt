@@ -1,12 +1,12 @@
 //! Runs of small rollouts, worked by hand: ten targets in three groups, of which the first has three members.
 
 use crate::{
-    ActionStatus, Approval, Change, GroupStatus, ModuleView, RolloutStatus, TargetStatus, View,
-    action_word, after_feedback, after_resume, after_trigger, check, cut_groups, error_begins,
-    group_bounds, group_word, rollout_word, success_holds, target_word,
+    ActionStatus, Approval, Change, GroupStatus, ModuleView, RolloutStatus, SetView, TargetStatus,
+    View, action_word, after_feedback, after_resume, after_trigger, check, cut_groups,
+    error_begins, group_bounds, group_word, rollout_word, success_holds, target_word,
 };
 use rollout_machine::{Bounds, Effects, GroupView, Outcome, RolloutView};
-use rollout_model::{Command, ModuleLabel, Refusal, Text};
+use rollout_model::{Command, ModuleLabel, ModuleList, ModuleNo, Refusal, SetLabel, Text};
 use std::alloc::Global;
 use std::test::Fail;
 
@@ -46,11 +46,47 @@ fn addition(alloc: Global) -> Result<Command, Fail> {
     }))
 }
 
-/// The number of the module that a change adds.
+/// The command that adds a set of one module.
+fn set_addition(alloc: Global) -> Result<Command, Fail> {
+    let name = text(alloc, "r1")?;
+    let version = text(alloc, "1")?;
+    let mut numbers = Vec::new(alloc);
+    numbers.push(ModuleNo::new(1).unwrap())?;
+    match ModuleList::from_numbers(numbers) {
+        Some(modules) => Ok(Command::AddSet(SetLabel {
+            name,
+            version,
+            modules,
+        })),
+        None => Err(Fail::from("a list that keeps its rule was refused")),
+    }
+}
+
+/// The number of what a change adds.
 fn number_told(change: Change) -> u32 {
     match change {
         Change::AddModule(module) => module.number.get(),
+        Change::AddSet(set) => set.number.get(),
     }
+}
+
+#[test]
+fn verdicts_on_sets(rt: HostRuntime) -> Result<(), Fail> {
+    let command = set_addition(rt.alloc())?;
+    for (misses_module, same, count, told) in [
+        (false, false, 999, Ok(1000)),
+        (false, false, 1000, Err(Refusal::Quota)),
+        (false, true, 1000, Err(Refusal::Exists)),
+        (true, true, 1000, Err(Refusal::NotFound)),
+    ] {
+        let view = View::AddSet(SetView {
+            misses_module,
+            same,
+            count,
+        });
+        assert_eq!(rt; check(&view, &command).map(number_told), told);
+    }
+    Ok(())
 }
 
 #[test]

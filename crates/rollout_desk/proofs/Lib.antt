@@ -4,3 +4,4 @@ pub mod AdditionLemmas
 pub mod DeskLemmas
 pub mod OpeningLemmas
 pub mod RunLemmas
+pub mod CheckedSteps
