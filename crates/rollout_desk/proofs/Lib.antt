@@ -4,4 +4,3 @@ pub mod AdditionLemmas
 pub mod DeskLemmas
 pub mod OpeningLemmas
 pub mod RunLemmas
-pub mod CheckedSteps
