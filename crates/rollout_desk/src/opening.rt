@@ -78,8 +78,9 @@ impl<S: Start> Desk<FileStore<FileFrom<S>>> {
 }
 
 impl Desk<MemStore> {
-    /// A new desk in memory.
+    /// A new desk in memory. Refused for want of memory or by the store alone.
     pub fn in_memory(alloc: Global, approval: bool) -> Result<Desk<MemStore>, OpenFault>
+        ensures refused { IfErr result IsFailure }
         ensures made { IfOk result (λ desk. StandsFor (desk_state over_memory desk) (Make approval)) }
     {
         let Ok(conn) = Connection::open_in_memory(alloc) else {
