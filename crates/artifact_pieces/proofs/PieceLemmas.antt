@@ -12,7 +12,7 @@ use Rattle.artifact_pieces.specs.Pieces.{piece_at, piece_bytes, piece_count, pie
 use Rattle.rollout_model.specs.Limits.{piece_length}
 
 -- a piece is the next bytes, as many as there are
-one_piece : (bs : List ℕ) (k : ℕ) → piece_bytes bs (piece_at (length bs) k) ≡ take piece_length (drop (k * piece_length) bs)
+pub one_piece : (bs : List ℕ) (k : ℕ) → piece_bytes bs (piece_at (length bs) k) ≡ take piece_length (drop (k * piece_length) bs)
 one_piece bs k = rw (← length-drop (k * piece_length) bs) (take_min piece_length (drop (k * piece_length) bs))
 
 more_pieces : (n p : ℕ) (bs : List ℕ) → take p bs ++ take (n * p) (drop p bs) ≡ take (suc n * p) bs

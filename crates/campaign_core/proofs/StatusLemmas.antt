@@ -13,7 +13,7 @@ use Rattle.rollout_machine.specs.Rollouts.{Rollout, rollout_at}
 use Rattle.rollout_machine.specs.StateWords.{RolloutWord, GroupWord, ActionWord, all_final, word_from, group_holding, group_is_started, is_started_in, has_started, TargetWord, Unknown, Pending, InSync, InError, word_by_last, started_actions_of}
 use Rattle.rollout_machine.proofs.Ties.{find_holding}
 use Rattle.rollout_machine.proofs.Whole.{rollout_numbered}
-use Rattle.campaign_core.specs.StatusWords.{approval_seen, is_final, group_word_from, action_word_from, status_of_group, FollowsRollout, FollowsGroup, FollowsAction, last_word, last_outcome, target_word_from, FollowsTarget}
+use Rattle.campaign_core.specs.StatusWords.{is_final, group_word_from, action_word_from, status_of_group, FollowsRollout, FollowsGroup, FollowsAction, last_word, last_outcome, target_word_from, FollowsTarget}
 use Rattle.campaign_core.specs.declared.status_words.RolloutStatus.{RolloutStatus}
 use Rattle.campaign_core.specs.declared.status_words.GroupStatus.{GroupStatus}
 use Rattle.campaign_core.specs.declared.status_words.ActionStatus.{ActionStatus}
@@ -36,7 +36,7 @@ same_word : (a b : Approval) (s t f g p q : Bool) → a ≡ b → s ≡ t → f 
 same_word a b s t f g p q approval started over paused = λ i. word_from (approval i) (started i) (over i) (paused i)
 
 pub rollout_follows : (s : RolloutStatus) (groups : List GroupStatus) (over : Bool) (word : RolloutWord) → over ≡ list_all (λ (g : GroupStatus). g.started && is_final g) groups
-    → word ≡ word_from (approval_seen s.approval) s.started over s.paused → FollowsRollout s groups word
+    → word ≡ word_from s.approval s.started over s.paused → FollowsRollout s groups word
 rollout_follows s groups over word all is x r h status whole =
     is ∙ same_word _ (approval_of r h) _ (is_rollout_started r h) _ _ _ (is_paused x r h) status.approval status.started (all ∙ ap (list_all is_over) whole ∙ groups_over x r h 1 x.plan.groups) status.paused
 

@@ -1,24 +1,31 @@
 -- What the verdict on a command rests on, what its change is, and that both are those of the records and of a command list.
-use Rattle.std.specs.Prelude.{◌≡◌, ◌+◌, Bool, ◌&&◌, nat_le, [], ◌∷◌, ◌++◌, length, Option, Some, None, is_none, Result, Ok, Err}
+use Rattle.std.specs.Prelude.{◌≡◌, ◌+◌, ℕ, Bool, ◌&&◌, ◌||◌, not, nat_eq, nat_le, nat_lt, List, [], ◌∷◌, ◌++◌, map, filter, length, Option, Some, None, is_none, Result, Ok, Err}
 use Rattle.std.specs.List.{list_any}
-use Rattle.rollout_machine.specs.ByteStrings.{item_numbered, same_bytes}
+use Rattle.rollout_machine.specs.ByteStrings.{contains_word, item_numbered, same_bytes, with_word, with_words, without_word}
 use Rattle.rollout_machine.specs.CommandList.{CommandList, ◌▸◌}
-use Rattle.rollout_machine.specs.Commands.{Command, AddModule, AddSet, ModuleLabel, SetLabel}
-use Rattle.rollout_machine.specs.RecordSteps.{step_records}
-use Rattle.rollout_machine.specs.Records.{Records, records}
+use Rattle.rollout_machine.specs.Commands.{Bytes, Command, AddArtifact, AddModule, AddSet, PutTargets, Tag, Untag, ModuleLabel, SetLabel, TargetRow, Upload}
+use Rattle.rollout_machine.specs.Digests.{digest_of}
+use Rattle.rollout_machine.specs.RecordSteps.{change_target, put_targets, step_records}
+use Rattle.rollout_machine.specs.Records.{ArtifactRecord, Records, records}
+use Rattle.rollout_machine.specs.Targets.{Target}
 use Rattle.rollout_machine.specs.Validity.{IsValid}
-use Rattle.rollout_machine.specs.Verdicts.{first_refusal, check, verdict}
-use Rattle.rollout_model.specs.Limits.{module_limit, set_limit}
+use Rattle.rollout_machine.specs.Verdicts.{first_refusal, check, is_named_by_set, tags_of, target_of, verdict, wrong_digest}
+use Rattle.rollout_model.specs.Limits.{artifact_limit, module_artifact_limit, module_limit, set_limit, tag_limit, target_limit}
 use Rattle.rollout_model.specs.declared.refusal.Refusal.{Refusal}
-use Rattle.rollout_model.specs.declared.refusal.Refusal.TheVariants.{NotFound, Exists, Quota}
+use Rattle.rollout_model.specs.declared.refusal.Refusal.TheVariants.{NotFound, Locked, Exists, Quota, WrongDigest}
 use Rattle.campaign_core.specs.declared.checks.View.{View}
 use Rattle.campaign_core.specs.declared.checks.View.TheVariants as view
 use Rattle.campaign_core.specs.declared.checks.Change.{Change}
 use Rattle.campaign_core.specs.declared.checks.Change.TheVariants as change
+use Rattle.campaign_core.specs.declared.checks.artifacts.ArtifactView.{ArtifactView}
+use Rattle.campaign_core.specs.declared.checks.artifacts.NewArtifact.{NewArtifact}
 use Rattle.campaign_core.specs.declared.checks.modules.ModuleView.{ModuleView}
 use Rattle.campaign_core.specs.declared.checks.modules.NewModule.{NewModule}
 use Rattle.campaign_core.specs.declared.checks.sets.SetView.{SetView}
 use Rattle.campaign_core.specs.declared.checks.sets.NewSet.{NewSet}
+use Rattle.campaign_core.specs.declared.checks.targets.ImportView.{ImportView}
+use Rattle.campaign_core.specs.declared.checks.targets.TagView.{TagView}
+use Rattle.campaign_core.specs.declared.checks.targets.UntagView.{UntagView}
 
 -- ---- adding a module
 
@@ -38,6 +45,35 @@ module_refusal v = first_refusal ((v.same, Exists) ∷ (nat_le module_limit v.co
 pub record AddsModule (m : NewModule) (label : ModuleLabel) (old new : Records) : Type 0 where
   pub next : m.number ≡ length old.modules + 1
   pub added : new ≡ record old { modules = old.modules ++ label ∷ [] }
+
+-- ---- adding an artifact
+
+-- the module and the filename of the upload
+abbrev pub is_same_artifact : Upload → ArtifactRecord → Bool
+is_same_artifact u v = nat_eq v.module_number u.module_number && same_bytes v.filename u.filename
+
+abbrev pub is_of_module : ℕ → ArtifactRecord → Bool
+is_of_module m v = nat_eq v.module_number m
+
+-- of an upload, in these records
+pub record IsArtifactView (v : ArtifactView) (u : Upload) (rs : Records) : Type 0 where
+  pub misses_module : v.misses_module ≡ is_none (item_numbered rs.modules u.module_number)
+  pub locked : v.locked ≡ is_named_by_set rs.sets u.module_number
+  pub same : v.same ≡ list_any (is_same_artifact u) rs.artifacts
+  pub module_count : v.module_count ≡ length (filter (is_of_module u.module_number) rs.artifacts)
+  pub count : v.count ≡ length rs.artifacts
+  pub wrong_digest : v.wrong_digest ≡ wrong_digest u
+  pub size : v.size ≡ length u.contents
+  pub digest : v.digest ≡ digest_of u.contents
+
+abbrev pub artifact_refusal : ArtifactView → Option Refusal
+artifact_refusal v =
+    first_refusal ((v.misses_module, NotFound) ∷ (v.locked, Locked) ∷ (v.same, Exists) ∷ (nat_le module_artifact_limit v.module_count || nat_le artifact_limit v.count, Quota) ∷ (v.wrong_digest, WrongDigest) ∷ [])
+
+-- the upload is put behind the artifacts that are there, with its size and digest, under the next number
+pub record AddsArtifact (a : NewArtifact) (u : Upload) (old new : Records) : Type 0 where
+  pub next : a.number ≡ length old.artifacts + 1
+  pub added : new ≡ record old { artifacts = old.artifacts ++ record { module_number = u.module_number; filename = u.filename; size = a.size; digest = a.digest; contents = u.contents } ∷ [] }
 
 -- ---- adding a distribution set
 
@@ -59,18 +95,57 @@ pub record AddsSet (s : NewSet) (label : SetLabel) (old new : Records) : Type 0 
   pub next : s.number ≡ length old.sets + 1
   pub added : new ≡ record old { sets = old.sets ++ label ∷ [] }
 
+-- ---- putting targets
+
+-- of these rows, in these records
+pub record IsImportView (v : ImportView) (rows : List TargetRow) (rs : Records) : Type 0 where
+  pub count_after : v.count_after ≡ length (with_words (map (λ (row : TargetRow). row.id) rows) (map (λ (t : Target). t.id) rs.targets))
+
+abbrev pub import_refusal : ImportView → Option Refusal
+import_refusal v = first_refusal ((nat_lt target_limit v.count_after, Quota) ∷ [])
+
+-- ---- tags
+
+-- of the tag x of target t, in these records
+pub record IsTagView (v : TagView) (t x : Bytes) (rs : Records) : Type 0 where
+  pub misses_target : v.misses_target ≡ is_none (target_of rs t)
+  pub same : v.same ≡ contains_word x (tags_of (target_of rs t))
+  pub count : v.count ≡ length (tags_of (target_of rs t))
+
+abbrev pub tag_refusal : TagView → Option Refusal
+tag_refusal v = first_refusal ((v.misses_target, NotFound) ∷ (not v.same && nat_le tag_limit v.count, Quota) ∷ [])
+
+-- of a tag of target t, in these records
+pub record IsUntagView (v : UntagView) (t : Bytes) (rs : Records) : Type 0 where
+  pub misses_target : v.misses_target ≡ is_none (target_of rs t)
+
+abbrev pub untag_refusal : UntagView → Option Refusal
+untag_refusal v = first_refusal ((v.misses_target, NotFound) ∷ [])
+
+-- the tags of target t are changed, where it is there
+abbrev pub ChangesTags : (List Bytes → List Bytes) → Bytes → Records → Records → Type 0
+ChangesTags f t old new = new ≡ record old { targets = change_target t (λ (u : Target). record u { tags = f u.tags }) old.targets }
+
 -- ---- any command
 
 -- the view is of the command, in these records
 abbrev pub IsViewOf : View → Command → Records → Type 0
 IsViewOf (view.AddModule v) (AddModule label) rs = IsModuleView v label rs
+IsViewOf (view.AddArtifact v) (AddArtifact u) rs = IsArtifactView v u rs
 IsViewOf (view.AddSet v) (AddSet label) rs = IsSetView v label rs
+IsViewOf (view.PutTargets v) (PutTargets rows) rs = IsImportView v rows rs
+IsViewOf (view.Tag v) (Tag t x) rs = IsTagView v t x rs
+IsViewOf (view.Untag v) (Untag t x) rs = IsUntagView v t rs
 IsViewOf _ _ rs = ⊥
 
 -- the change of the command takes the old records to the new ones
 abbrev pub LeadsTo : Change → Command → Records → Records → Type 0
 LeadsTo (change.AddModule m) (AddModule label) old new = AddsModule m label old new
+LeadsTo (change.AddArtifact a) (AddArtifact u) old new = AddsArtifact a u old new
 LeadsTo (change.AddSet s) (AddSet label) old new = AddsSet s label old new
+LeadsTo change.PutTargets (PutTargets rows) old new = new ≡ record old { targets = put_targets rows old.targets }
+LeadsTo change.Tag (Tag t x) old new = ChangesTags (with_word x) t old new
+LeadsTo change.Untag (Untag t x) old new = ChangesTags (without_word x) t old new
 LeadsTo _ _ old new = ⊥
 
 -- the machine's verdict over these records, and its step

@@ -13,56 +13,10 @@ use Rattle.rollout_machine.specs.Ranges.{each_from}
 use Rattle.rollout_machine.specs.Records as records
 use Rattle.rollout_machine.specs.Rollouts.{Rollout, rollout_at, error_at, size_in}
 use Rattle.rollout_machine.specs.StateWords as words
-use Rattle.campaign_core.specs.declared.status_words.Approval.{Approval}
-use Rattle.campaign_core.specs.declared.status_words.Approval.TheVariants.{Waiting, Denied, Given}
 use Rattle.campaign_core.specs.declared.status_words.RolloutStatus.{RolloutStatus}
 use Rattle.campaign_core.specs.declared.status_words.GroupStatus.{GroupStatus}
 use Rattle.campaign_core.specs.declared.status_words.ActionStatus.{ActionStatus}
-use Rattle.campaign_core.specs.declared.status_words.RolloutWord.{RolloutWord}
-use Rattle.campaign_core.specs.declared.status_words.RolloutWord.TheVariants as rollout
-use Rattle.campaign_core.specs.declared.status_words.GroupWord.{GroupWord}
-use Rattle.campaign_core.specs.declared.status_words.GroupWord.TheVariants as group
-use Rattle.campaign_core.specs.declared.status_words.ActionWord.{ActionWord}
-use Rattle.campaign_core.specs.declared.status_words.ActionWord.TheVariants as action
 use Rattle.campaign_core.specs.declared.status_words.TargetStatus.{TargetStatus}
-use Rattle.campaign_core.specs.declared.status_words.TargetWord.{TargetWord}
-use Rattle.campaign_core.specs.declared.status_words.TargetWord.TheVariants as target
-
--- ---- the definitions' own values of the types
-
-abbrev pub approval_seen : Approval → records.Approval
-approval_seen Waiting = records.Waiting
-approval_seen Denied = records.Denied
-approval_seen Given = records.Given
-
-abbrev pub rollout_word_seen : RolloutWord → words.RolloutWord
-rollout_word_seen rollout.ApprovalDenied = words.ApprovalDenied
-rollout_word_seen rollout.WaitingForApproval = words.WaitingForApproval
-rollout_word_seen rollout.Ready = words.ReadyRollout
-rollout_word_seen rollout.Finished = words.FinishedRollout
-rollout_word_seen rollout.Paused = words.PausedRollout
-rollout_word_seen rollout.Running = words.RunningRollout
-
-abbrev pub group_word_seen : GroupWord → words.GroupWord
-group_word_seen group.Ready = words.ReadyGroup
-group_word_seen group.Scheduled = words.ScheduledGroup
-group_word_seen group.Finished = words.FinishedGroup
-group_word_seen group.Error = words.ErrorGroup
-group_word_seen group.Running = words.RunningGroup
-
-abbrev pub action_word_seen : ActionWord → words.ActionWord
-action_word_seen action.Finished = words.FinishedAction
-action_word_seen action.Error = words.ErrorAction
-action_word_seen action.Canceled = words.CanceledAction
-action_word_seen action.Scheduled = words.ScheduledAction
-action_word_seen action.Canceling = words.CancelingAction
-action_word_seen action.Running = words.RunningAction
-
-abbrev pub target_word_seen : TargetWord → words.TargetWord
-target_word_seen target.Unknown = words.Unknown
-target_word_seen target.Pending = words.Pending
-target_word_seen target.InSync = words.InSync
-target_word_seen target.Error = words.InError
 
 -- ---- the words by the status alone, the first that applies
 
@@ -93,7 +47,7 @@ target_word_from t = cond t.any_open words.Pending (last_word t.last)
 
 -- the status of rollout r at h
 pub record IsRolloutStatus (s : RolloutStatus) (x : Rollout) (r : ℕ) (h : CommandList) : Type 0 where
-  pub approval : approval_seen s.approval ≡ records.approval_of r h
+  pub approval : s.approval ≡ records.approval_of r h
   pub started : s.started ≡ is_rollout_started r h
   pub paused : s.paused ≡ is_paused x r h
 

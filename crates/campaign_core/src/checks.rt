@@ -3,25 +3,37 @@
 ghost use Rattle.rollout_machine.specs.Views.{command_of};
 ghost use Rattle.campaign_core.specs.Checks.{Decides, Follows};
 
+mod artifacts;
 mod modules;
 mod sets;
+mod targets;
 
+pub use artifacts::{ArtifactView, NewArtifact};
 pub use modules::{ModuleView, NewModule};
 use rollout_model::{Command, Refusal};
 pub use sets::{NewSet, SetView};
+pub use targets::{ImportView, TagView, UntagView};
 
 /// What the verdict on a command and its change rest on.
 #[derive(Clone, Copy, Debug, PartialEq, Eq)]
 pub enum View {
     AddModule(ModuleView),
+    AddArtifact(ArtifactView),
     AddSet(SetView),
+    PutTargets(ImportView),
+    Tag(TagView),
+    Untag(UntagView),
 }
 
 /// What is written of an accepted command, beside what the command itself says.
 #[derive(Clone, Copy, Debug, PartialEq, Eq)]
 pub enum Change {
     AddModule(NewModule),
+    AddArtifact(NewArtifact),
     AddSet(NewSet),
+    PutTargets,
+    Tag,
+    Untag,
 }
 
 /// The verdict on a command and its change, over all records that the view is of.
@@ -33,13 +45,35 @@ fn decide(view: &View, command: &Command) -> Result<Change, Refusal>
             Ok(module) => Ok(Change::AddModule(module)),
             Err(refusal) => Err(refusal),
         },
+        (View::AddArtifact(view), Command::AddArtifact(_)) => match artifacts::add_artifact(view) {
+            Ok(artifact) => Ok(Change::AddArtifact(artifact)),
+            Err(refusal) => Err(refusal),
+        },
         (View::AddSet(view), Command::AddSet(_)) => match sets::add_set(view) {
             Ok(set) => Ok(Change::AddSet(set)),
             Err(refusal) => Err(refusal),
         },
-        (View::AddModule(_), Command::AddSet(_)) | (View::AddSet(_), Command::AddModule(_)) => {
-            Err(Refusal::WrongState)
-        }
+        (View::PutTargets(view), Command::PutTargets(_)) => match targets::put_targets(view) {
+            Ok(()) => Ok(Change::PutTargets),
+            Err(refusal) => Err(refusal),
+        },
+        (View::Tag(view), Command::Tag(_, _)) => match targets::tag(view) {
+            Ok(()) => Ok(Change::Tag),
+            Err(refusal) => Err(refusal),
+        },
+        (View::Untag(view), Command::Untag(_, _)) => match targets::untag(view) {
+            Ok(()) => Ok(Change::Untag),
+            Err(refusal) => Err(refusal),
+        },
+        (
+            View::AddModule(_)
+            | View::AddArtifact(_)
+            | View::AddSet(_)
+            | View::PutTargets(_)
+            | View::Tag(_)
+            | View::Untag(_),
+            _,
+        ) => Err(Refusal::WrongState),
     }
 }
 

@@ -8,12 +8,15 @@ mod groups;
 mod status_words;
 mod thresholds;
 
-pub use checks::{Change, ModuleView, NewModule, NewSet, SetView, View, check};
+pub use checks::{
+    ArtifactView, Change, ImportView, ModuleView, NewArtifact, NewModule, NewSet, SetView, TagView,
+    UntagView, View, check,
+};
 pub use effects::{after_feedback, after_resume, after_trigger};
 pub use groups::{cut_groups, group_bounds};
 pub use status_words::{
-    ActionStatus, ActionWord, Approval, GroupStatus, GroupWord, RolloutStatus, RolloutWord,
-    TargetStatus, TargetWord, action_word, group_word, rollout_word, target_word,
+    ActionStatus, GroupStatus, RolloutStatus, TargetStatus, action_word, group_word, rollout_word,
+    target_word,
 };
 pub use thresholds::{error_begins, success_holds};
 

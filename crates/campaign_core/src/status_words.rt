@@ -3,19 +3,11 @@
 ghost use Rattle.std.specs.Prelude.{◌≡◌, ◌&&◌};
 ghost use Rattle.std.specs.List.{list_all};
 ghost use Rattle.rollout_machine.specs.StateWords.{word_from};
-ghost use Rattle.campaign_core.specs.StatusTexts.{rollout_text, group_text, action_text, target_text};
-ghost use Rattle.campaign_core.specs.StatusWords.{approval_seen, rollout_word_seen, group_word_seen, action_word_seen, target_word_seen, is_final, group_word_from, action_word_from, target_word_from, FollowsRollout, FollowsGroup, FollowsAction, FollowsTarget};
+ghost use Rattle.campaign_core.specs.StatusWords.{is_final, group_word_from, action_word_from, target_word_from, FollowsRollout, FollowsGroup, FollowsAction, FollowsTarget};
 
 use crate::thresholds;
 use rollout_machine::Outcome;
-
-/// Whether a rollout may be started.
-#[derive(Clone, Copy, Debug, PartialEq, Eq)]
-pub enum Approval {
-    Waiting,
-    Denied,
-    Given,
-}
+use rollout_model::{ActionWord, Approval, GroupWord, RolloutWord, TargetWord};
 
 /// What a rollout's word rests on, beside its groups.
 #[derive(Clone, Copy, Debug, PartialEq, Eq)]
@@ -51,108 +43,6 @@ pub struct TargetStatus {
     pub last: Option<Outcome>,
 }
 
-/// The state of a rollout.
-#[derive(Clone, Copy, Debug, PartialEq, Eq)]
-pub enum RolloutWord {
-    ApprovalDenied,
-    WaitingForApproval,
-    Ready,
-    Finished,
-    Paused,
-    Running,
-}
-
-/// The state of a group.
-#[derive(Clone, Copy, Debug, PartialEq, Eq)]
-pub enum GroupWord {
-    Ready,
-    Scheduled,
-    Finished,
-    Error,
-    Running,
-}
-
-/// The state of an action.
-#[derive(Clone, Copy, Debug, PartialEq, Eq)]
-pub enum ActionWord {
-    Finished,
-    Error,
-    Canceled,
-    Scheduled,
-    Canceling,
-    Running,
-}
-
-/// The state of a target.
-#[derive(Clone, Copy, Debug, PartialEq, Eq)]
-pub enum TargetWord {
-    Unknown,
-    Pending,
-    InSync,
-    Error,
-}
-
-impl RolloutWord {
-    /// The word as it is printed. Takes no memory.
-    pub fn as_str(&self) -> &'static str
-        ensures { result.now ≡ rollout_text (rollout_word_seen self.now) }
-    {
-        match self {
-            RolloutWord::ApprovalDenied => "approval_denied",
-            RolloutWord::WaitingForApproval => "waiting_for_approval",
-            RolloutWord::Ready => "ready",
-            RolloutWord::Finished => "finished",
-            RolloutWord::Paused => "paused",
-            RolloutWord::Running => "running",
-        }
-    }
-}
-
-impl GroupWord {
-    /// The word as it is printed. Takes no memory.
-    pub fn as_str(&self) -> &'static str
-        ensures { result.now ≡ group_text (group_word_seen self.now) }
-    {
-        match self {
-            GroupWord::Ready => "ready",
-            GroupWord::Scheduled => "scheduled",
-            GroupWord::Finished => "finished",
-            GroupWord::Error => "error",
-            GroupWord::Running => "running",
-        }
-    }
-}
-
-impl ActionWord {
-    /// The word as it is printed. Takes no memory.
-    pub fn as_str(&self) -> &'static str
-        ensures { result.now ≡ action_text (action_word_seen self.now) }
-    {
-        match self {
-            ActionWord::Finished => "finished",
-            ActionWord::Error => "error",
-            ActionWord::Canceled => "canceled",
-            ActionWord::Scheduled => "scheduled",
-            ActionWord::Canceling => "canceling",
-            ActionWord::Running => "running",
-        }
-    }
-}
-
-impl TargetWord {
-    /// The word as it is printed. Takes no memory.
-    pub fn as_str(&self) -> &'static str
-        ensures { result.now ≡ target_text (target_word_seen self.now) }
-    {
-        match self {
-            TargetWord::Unknown => "unknown",
-            TargetWord::Pending => "pending",
-            TargetWord::InSync => "in_sync",
-            TargetWord::Error => "error",
-        }
-    }
-}
-
 /// Whether each action of a group has its outcome.
 fn all_final(group: &GroupStatus) -> bool
     ensures { result ≡ is_final group.now }
@@ -176,7 +66,7 @@ fn are_over(groups: &[GroupStatus]) -> bool
 
 /// The first word that applies to a rollout.
 fn first_rollout_word(rollout: &RolloutStatus, are_over: bool) -> RolloutWord
-    ensures { rollout_word_seen result ≡ word_from (approval_seen rollout.now.approval) rollout.now.started are_over rollout.now.paused }
+    ensures { result ≡ word_from rollout.now.approval rollout.now.started are_over rollout.now.paused }
 {
     match rollout.approval {
         Approval::Denied => RolloutWord::ApprovalDenied,
@@ -197,7 +87,7 @@ fn first_rollout_word(rollout: &RolloutStatus, are_over: bool) -> RolloutWord
 
 /// The first word that applies to a group.
 fn first_group_word(rollout_started: bool, group: &GroupStatus) -> GroupWord
-    ensures { group_word_seen result ≡ group_word_from rollout_started group.now }
+    ensures { result ≡ group_word_from rollout_started group.now }
 {
     if !rollout_started {
         GroupWord::Ready
@@ -214,7 +104,7 @@ fn first_group_word(rollout_started: bool, group: &GroupStatus) -> GroupWord
 
 /// The first word that applies to an action.
 fn first_action_word(action: &ActionStatus) -> ActionWord
-    ensures { action_word_seen result ≡ action_word_from action.now }
+    ensures { result ≡ action_word_from action.now }
 {
     match action.outcome {
         Some(Outcome::Good) => ActionWord::Finished,
@@ -234,7 +124,7 @@ fn first_action_word(action: &ActionStatus) -> ActionWord
 
 /// The first word that applies to a target.
 fn first_target_word(target: &TargetStatus) -> TargetWord
-    ensures { target_word_seen result ≡ target_word_from target.now }
+    ensures { result ≡ target_word_from target.now }
 {
     if target.any_open {
         return TargetWord::Pending;
@@ -248,32 +138,32 @@ fn first_target_word(target: &TargetStatus) -> TargetWord
 
 /// The state of a rollout with these groups. Takes no memory.
 pub fn rollout_word(rollout: &RolloutStatus, groups: &[GroupStatus]) -> RolloutWord
-    ensures word { rollout_word_seen result ≡ word_from (approval_seen rollout.now.approval) rollout.now.started (list_all (λ group. group.started && is_final group) groups.now) rollout.now.paused }
-    ensures follows { FollowsRollout rollout.now groups.now (rollout_word_seen result) }
+    ensures word { result ≡ word_from rollout.now.approval rollout.now.started (list_all (λ group. group.started && is_final group) groups.now) rollout.now.paused }
+    ensures follows { FollowsRollout rollout.now groups.now result }
 {
     first_rollout_word(rollout, are_over(groups))
 }
 
 /// The state of a group of a rollout. Takes no memory.
 pub fn group_word(rollout_started: bool, group: &GroupStatus) -> GroupWord
-    ensures word { group_word_seen result ≡ group_word_from rollout_started group.now }
-    ensures follows { FollowsGroup rollout_started group.now (group_word_seen result) }
+    ensures word { result ≡ group_word_from rollout_started group.now }
+    ensures follows { FollowsGroup rollout_started group.now result }
 {
     first_group_word(rollout_started, group)
 }
 
 /// The state of an action. Takes no memory.
 pub fn action_word(action: &ActionStatus) -> ActionWord
-    ensures word { action_word_seen result ≡ action_word_from action.now }
-    ensures follows { FollowsAction action.now (action_word_seen result) }
+    ensures word { result ≡ action_word_from action.now }
+    ensures follows { FollowsAction action.now result }
 {
     first_action_word(action)
 }
 
 /// The state of a target. Takes no memory.
 pub fn target_word(target: &TargetStatus) -> TargetWord
-    ensures word { target_word_seen result ≡ target_word_from target.now }
-    ensures follows { FollowsTarget target.now (target_word_seen result) }
+    ensures word { result ≡ target_word_from target.now }
+    ensures follows { FollowsTarget target.now result }
 {
     first_target_word(target)
 }

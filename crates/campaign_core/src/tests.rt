@@ -1,12 +1,16 @@
 //! Runs of small rollouts, worked by hand: ten targets in three groups, of which the first has three members.
 
 use crate::{
-    ActionStatus, Approval, Change, GroupStatus, ModuleView, RolloutStatus, SetView, TargetStatus,
-    View, action_word, after_feedback, after_resume, after_trigger, check, cut_groups,
-    error_begins, group_bounds, group_word, rollout_word, success_holds, target_word,
+    ActionStatus, ArtifactView, Change, GroupStatus, ImportView, ModuleView, RolloutStatus,
+    SetView, TagView, TargetStatus, UntagView, View, action_word, after_feedback, after_resume,
+    after_trigger, check, cut_groups, error_begins, group_bounds, group_word, rollout_word,
+    success_holds, target_word,
 };
 use rollout_machine::{Bounds, Effects, GroupView, Outcome, RolloutView};
-use rollout_model::{Command, ModuleLabel, ModuleList, ModuleNo, Refusal, SetLabel, Text};
+use rollout_model::{
+    Approval, Command, Contents, ControllerId, Digest, Filename, ModuleLabel, ModuleList, ModuleNo,
+    Refusal, SetLabel, TargetRows, Text, Upload, Word,
+};
 use std::alloc::Global;
 use std::test::Fail;
 
@@ -62,12 +66,78 @@ fn set_addition(alloc: Global) -> Result<Command, Fail> {
     }
 }
 
-/// The number of what a change adds.
+/// The number of what is added, or 0 where nothing gets a number.
 fn number_told(change: Change) -> u32 {
     match change {
         Change::AddModule(module) => module.number.get(),
+        Change::AddArtifact(artifact) => artifact.number.get(),
         Change::AddSet(set) => set.number.get(),
+        Change::PutTargets | Change::Tag | Change::Untag => 0,
     }
+}
+
+/// The command that adds an empty artifact to a module.
+fn upload(alloc: Global) -> Option<Command> {
+    Some(Command::AddArtifact(Upload {
+        module_number: ModuleNo::new(1)?,
+        filename: Filename::read("empty.bin")?,
+        expected: None,
+        contents: Contents::from_bytes(Vec::new(alloc))?,
+    }))
+}
+
+/// The view of a module with room for one artifact more.
+fn with_room() -> ArtifactView {
+    ArtifactView {
+        misses_module: false,
+        locked: false,
+        same: false,
+        module_count: 7,
+        count: 255,
+        wrong_digest: false,
+        size: 0,
+        digest: Digest::new([7; 32]),
+    }
+}
+
+#[test]
+fn verdicts_on_artifacts(rt: HostRuntime) -> Result<(), Fail> {
+    let command = upload(rt.alloc()).ok_or("upload")?;
+    let few = with_room();
+    let wrong = ArtifactView {
+        wrong_digest: true,
+        ..few
+    };
+    let full = ArtifactView {
+        module_count: 8,
+        ..wrong
+    };
+    let full_desk = ArtifactView {
+        count: 256,
+        ..wrong
+    };
+    let same = ArtifactView { same: true, ..full };
+    let locked = ArtifactView {
+        locked: true,
+        ..same
+    };
+    let missing = ArtifactView {
+        misses_module: true,
+        ..locked
+    };
+    for (view, told) in [
+        (few, Ok(256)),
+        (wrong, Err(Refusal::WrongDigest)),
+        (full, Err(Refusal::Quota)),
+        (full_desk, Err(Refusal::Quota)),
+        (same, Err(Refusal::Exists)),
+        (locked, Err(Refusal::Locked)),
+        (missing, Err(Refusal::NotFound)),
+    ] {
+        let view = View::AddArtifact(view);
+        assert_eq!(rt; check(&view, &command).map(number_told), told);
+    }
+    Ok(())
 }
 
 #[test]
@@ -103,6 +173,42 @@ fn verdicts_on_modules(rt: HostRuntime) -> Result<(), Fail> {
         assert_eq!(rt; check(&view, &command).map(number_told), told);
     }
     Ok(())
+}
+
+#[test]
+fn verdicts_on_tags(rt: HostRuntime) -> Result<(), Fail> {
+    let id = ControllerId::read("dev-01").ok_or("id")?;
+    let tag = Word::read("lab").ok_or("tag")?;
+    for (misses_target, same, count, told) in [
+        (false, false, 15, Ok(Change::Tag)),
+        (false, false, 16, Err(Refusal::Quota)),
+        (false, true, 16, Ok(Change::Tag)),
+        (true, false, 0, Err(Refusal::NotFound)),
+    ] {
+        let view = View::Tag(TagView {
+            misses_target,
+            same,
+            count,
+        });
+        assert_eq!(rt; check(&view, &Command::Tag(id, tag)), told);
+    }
+    for (misses_target, told) in [(false, Ok(Change::Untag)), (true, Err(Refusal::NotFound))] {
+        let view = View::Untag(UntagView { misses_target });
+        assert_eq!(rt; check(&view, &Command::Untag(id, tag)), told);
+    }
+    Ok(())
+}
+
+#[test]
+fn verdicts_on_targets(rt: HostRuntime) {
+    let command = Command::PutTargets(TargetRows::from_rows(Vec::new(rt.alloc())));
+    for (count_after, told) in [
+        (10_000, Ok(Change::PutTargets)),
+        (10_001, Err(Refusal::Quota)),
+    ] {
+        let view = View::PutTargets(ImportView { count_after });
+        assert_eq!(rt; check(&view, &command), told);
+    }
 }
 
 #[test]

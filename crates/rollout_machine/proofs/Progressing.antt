@@ -4,13 +4,12 @@ use Rattle.rollout_machine.specs.Commands.{Command}
 use Rattle.rollout_machine.specs.Counts.{success_holds}
 use Rattle.rollout_machine.specs.Effects.{IsLast}
 use Rattle.rollout_machine.specs.Progress.{is_group_started, is_paused, next_started, is_trigger_of}
-use Rattle.rollout_machine.specs.Promises.{StartsGroup, OneGroupStarts, NoGroupIsLeft}
-use Rattle.rollout_machine.specs.Rollouts.{Rollout}
-use Rattle.rollout_machine.proofs.Induction.{accepted}
+use Rattle.rollout_machine.specs.Promises.{StartsGroup, NoGroupIsLeft}
+use Rattle.rollout_machine.specs.Rollouts.{Rollout, rollout_at}
 use Rattle.rollout_machine.proofs.Starts.{starts_one_more, last_made}
-use Rattle.rollout_machine.proofs.Ties.{IsFollowed, follow_on}
+use Rattle.rollout_machine.proofs.Ties.{IsCalm, IsFollowed, calm_last, follow_on}
 use Rattle.rollout_machine.proofs.Whole.{IsAccepted}
-use Rattle.std.proofs.Common.{◌≡◌, ℕ, zero, suc, ◌≤◌, ◌<◌, Bool, true, false, cond, ◌&&◌, ◌||◌, not, refl, sym, ◌∙◌, arith, inl, inr, ◌⊎◌}
+use Rattle.std.proofs.Common.{◌≡◌, ℕ, Some, zero, suc, ◌≤◌, ◌<◌, Bool, true, false, cond, ◌&&◌, ◌||◌, not, refl, sym, ◌∙◌, arith, inl, inr, ◌⊎◌}
 use Rattle.std.specs.Prelude.{nat_lt}
 use Rattle.std.proofs.lemmas.Bool.{false≢true, lt-ltb}
 
@@ -51,13 +50,20 @@ next_starts x r i l h c b last next s =
       go true high low = omega (arith, high, low)
       go false high low = absurd (omega (arith, high, low))
 
-pub one_group_starts : OneGroupStarts
-one_group_starts h c r i j x v d s t =
-    let w : IsAccepted h c = accepted h c v.0 v.2 in
+-- of one rollout at most one group starts
+pub one_of_rollout : (h : CommandList) (c : Command) (r i j : ℕ) (x : Rollout) → IsAccepted h c → rollout_at h r ≡ Some x → StartsGroup x r i h c → StartsGroup x r j h c → i ≡ j
+one_of_rollout h c r i j x w d s t =
     let f : IsFollowed x r h (w.last r) = w.follows r x d in
     let b : Bool = starts_one_more x r h c (w.last r) in
     let g : IsFollowed x r (h ▸ c) (cond b (suc (w.last r)) (w.last r)) = follow_on x r (w.last r) h c f (w.started r x d) in
     next_starts x r i (w.last r) h c b f.is_last g.is_last s ∙ sym (next_starts x r j (w.last r) h c b f.is_last g.is_last t)
+
+-- a command that changes nothing of a rollout starts none of its groups
+pub none_starts : (h : CommandList) (c : Command) (r i : ℕ) (x : Rollout) → IsAccepted h c → rollout_at h r ≡ Some x → IsCalm r h c → StartsGroup x r i h c → ⊥
+none_starts h c r i x w d calm s =
+    let f : IsFollowed x r h (w.last r) = w.follows r x d in
+    let after : IsLast x r (h ▸ c) (w.last r) = calm_last x r (w.last r) h c f (w.started r x d) calm in
+    false≢true (sym (after.beyond i (behind x r i (w.last r) h f.is_last s.before (positive x r i (h ▸ c) s.now))) ∙ s.now)
 
 pub no_group_is_left : NoGroupIsLeft
 no_group_is_left (Make approval) r i x low high e p s = absurd (false≢true (sym ((last_made x r approval).beyond i (omega (arith, low))) ∙ e))

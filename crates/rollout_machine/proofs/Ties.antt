@@ -194,7 +194,7 @@ calm_opens x r (suc k) h c f w = elim (cases_Bool (nat_lt (suc k) x.plan.groups)
 pub last_goes : (x : Rollout) (r l : ℕ) (h : CommandList) (c : Command) → IsFollowed x r h l → StartedOnly x r h c → IsLast x r (h ▸ c) (cond (starts_one_more x r h c l) (suc l) l)
 last_goes x r l h c f s = last_after x r h c l f.sound.some_groups f.is_last (no_success x r h c f.sound s f.outcomes (suc l) (omega arith) (f.is_last.beyond (suc l) (omega arith)))
 
-calm_last : (x : Rollout) (r l : ℕ) (h : CommandList) (c : Command) → IsFollowed x r h l → StartedOnly x r h c → IsCalm r h c → IsLast x r (h ▸ c) l
+pub calm_last : (x : Rollout) (r l : ℕ) (h : CommandList) (c : Command) → IsFollowed x r h l → StartedOnly x r h c → IsCalm r h c → IsLast x r (h ▸ c) l
 calm_last x r l h c f s w = let moved : IsLast x r (h ▸ c) (cond (starts_one_more x r h c l) (suc l) l) = last_goes x r l h c f s in by_test (starts_one_more x r h c l) (calm_opens x r l h c f w) moved
   where
     by_test : (b : Bool) → b ≡ false → IsLast x r (h ▸ c) (cond b (suc l) l) → IsLast x r (h ▸ c) l

@@ -1,15 +1,10 @@
 -- The rules that the parts of a command keep: those of the words and numbers, ranges, and the limits of lists.
-use Rattle.rollout_model.specs.Rules.{is_between, is_word, is_filename, is_text, is_value, is_detail, is_byte, is_digest, is_module_list, is_number}
-use Rattle.rollout_machine.specs.ByteStrings.{contains_word}
+use Rattle.rollout_model.specs.Rules.{is_between, is_word, is_filename, is_text, is_value, is_detail, is_byte, is_digest, is_module_list, is_number, is_tag_list}
 use Rattle.rollout_machine.specs.Commands.{AddArtifact, Cancel, CancelFeedback, RolloutPlan, Start, Command, Attribute, Pause, CreateRollout, SetLabel, PutTargets, Untag, Deny, Approve, AddModule, Feedback, PutAttributes, Tag, Resume, TriggerNext, TargetRow, AddSet, Upload, Bytes, Credential}
-use Rattle.rollout_model.specs.Limits.{artifact_size_limit, group_limit, percentage_limit, attribute_limit, detail_limit, tag_limit}
-use Rattle.std.specs.Prelude.{◌≡◌, ℕ, Bool, true, ◌&&◌, not, nat_eq, nat_le, List, [], ◌∷◌, length, Option, Some, None}
-use Rattle.std.specs.List.{list_any, list_all}
+use Rattle.rollout_model.specs.Limits.{artifact_size_limit, group_limit, percentage_limit, attribute_limit, detail_limit}
+use Rattle.std.specs.Prelude.{◌≡◌, ℕ, Bool, true, ◌&&◌, nat_le, List, length, Option, Some, None}
+use Rattle.std.specs.List.{list_all}
 use Rattle.std.specs.Str.{is_utf8}
-
-abbrev pub are_distinct : List Bytes → Bool
-are_distinct [] = true
-are_distinct (w ∷ ws) = not (contains_word w ws) && are_distinct ws
 
 -- ---- parts
 
@@ -17,7 +12,7 @@ abbrev pub is_credential : Credential → Bool
 is_credential device = is_word device.id && is_digest device.digest
 
 abbrev pub is_target_row : TargetRow → Bool
-is_target_row row = is_word row.id && (is_text row.name && (is_digest row.digest && (nat_le (length row.tags) tag_limit && (list_all is_word row.tags && are_distinct row.tags))))
+is_target_row row = is_word row.id && (is_text row.name && (is_digest row.digest && is_tag_list row.tags))
 
 abbrev pub is_attribute : Attribute → Bool
 is_attribute a = is_word a.key && is_value a.value

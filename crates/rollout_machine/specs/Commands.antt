@@ -1,8 +1,10 @@
 -- The commands of a desk as pure values.
-use Rattle.std.specs.Prelude.{ℕ, Bool, List, Option}
+use Rattle.std.specs.Prelude.{ℕ, Bool, List}
 pub use Rattle.rollout_model.specs.declared.module.ModuleLabel.{ModuleLabel}
+pub use Rattle.rollout_model.specs.declared.artifact.Upload.{Upload}
 pub use Rattle.rollout_model.specs.declared.distribution_set.SetLabel.{SetLabel}
 pub use Rattle.rollout_model.specs.declared.target.Attribute.{Attribute}
+pub use Rattle.rollout_model.specs.declared.target_row.TargetRow.{TargetRow}
 pub use Rattle.rollout_machine.specs.declared.outcome.Outcome.{Outcome}
 pub use Rattle.rollout_machine.specs.declared.outcome.Outcome.TheVariants.{Good, Bad, Gone}
 
@@ -14,18 +16,6 @@ Bytes = List ℕ
 pub record Credential : Type 0 where
   pub id : Bytes
   pub digest : Bytes
-
-pub record TargetRow : Type 0 where
-  pub id : Bytes
-  pub name : Bytes
-  pub digest : Bytes
-  pub tags : List Bytes
-
-pub record Upload : Type 0 where
-  pub module_number : ℕ
-  pub filename : Bytes
-  pub expected : Option Bytes
-  pub contents : Bytes
 
 -- what a rollout is created from. The thresholds are percentages from 1 to 100
 pub record RolloutPlan : Type 0 where

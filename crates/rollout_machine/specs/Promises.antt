@@ -1,22 +1,22 @@
 -- What users of a desk rely on, said of every list of accepted commands.
-use Rattle.std.specs.Prelude.{None, Option, Some, cond, false, filter, is_none, length, nat_eq, suc, true, ℕ, ◌+◌, ◌<◌, ◌≡◌, ◌≤◌}
+use Rattle.std.specs.Prelude.{None, Option, Some, cond, false, filter, is_none, length, nat_eq, suc, true, ℕ, ◌+◌, ◌<◌, ◌≡◌, ◌≢◌, ◌≤◌, ◌⊎◌}
 use Rattle.std.specs.List.{list_any}
 use Rattle.std.specs.Option.{option_map}
-use Rattle.rollout_machine.specs.Actions.{ActionPlace, action_of, entries_of}
+use Rattle.rollout_machine.specs.Actions.{ActionPlace, action_of, action_place, entries_of, outcome}
 use Rattle.rollout_machine.specs.Effects.{IsInGroup}
 use Rattle.rollout_machine.specs.RecordSteps.{action_after}
 use Rattle.rollout_machine.specs.Verdicts.{is_note, notes_of}
 use Rattle.rollout_machine.specs.Answers.{answer, artifact_named}
 use Rattle.rollout_machine.specs.ByteStrings.{item_numbered}
 use Rattle.rollout_machine.specs.CommandList.{CommandList, ◌▸◌}
-use Rattle.rollout_machine.specs.Commands.{Bytes, Command, Credential}
+use Rattle.rollout_machine.specs.Commands.{Bytes, Command, Credential, Approve, Deny, Start, Pause, Resume, TriggerNext}
 use Rattle.rollout_machine.specs.Counts.{success_holds}
 use Rattle.rollout_machine.specs.Kinds.{derived, recounted, stored}
 use Rattle.rollout_machine.specs.Meanings.{IsOfferable}
 use Rattle.rollout_machine.specs.Objects.{modules_of_action}
 use Rattle.rollout_machine.specs.Offers.{Offer, offer}
 use Rattle.rollout_machine.specs.Progress.{is_group_started, is_paused}
-use Rattle.rollout_machine.specs.Records.{ActionRecord, ArtifactRecord, records}
+use Rattle.rollout_machine.specs.Records.{ActionRecord, ArtifactRecord, records, rollout_in}
 use Rattle.rollout_machine.specs.Replies.{Reply, PollShown, DeploymentShown, CancelShown, ContentsShown}
 use Rattle.rollout_machine.specs.Requests.{Query, Download, Ask, Asks}
 use Rattle.rollout_machine.specs.Rollouts.{Rollout, rollout_at}
@@ -29,9 +29,23 @@ pub record StartsGroup (x : Rollout) (r i : ℕ) (h : CommandList) (c : Command)
   pub before : is_group_started x r i h ≡ false
   pub now : is_group_started x r i (h ▸ c) ≡ true
 
--- a command starts at most one group of a rollout
+-- a command starts at most one group, of all groups of all rollouts
 abbrev pub OneGroupStarts : Type 0
-OneGroupStarts = (h : CommandList) (c : Command) (r i j : ℕ) (x : Rollout) → IsValid (h ▸ c) → rollout_at h r ≡ Some x → StartsGroup x r i h c → StartsGroup x r j h c → i ≡ j
+OneGroupStarts = (h : CommandList) (c : Command) (r i q j : ℕ) (x y : Rollout) → IsValid (h ▸ c) → rollout_at h r ≡ Some x → rollout_at h q ≡ Some y → StartsGroup x r i h c → StartsGroup y q j h c → (r ≡ q) × (i ≡ j)
+
+-- the rollout that a command is on, itself or by one of its actions
+abbrev pub rollout_of : CommandList → Command → Option ℕ
+rollout_of h (Approve r) = Some r
+rollout_of h (Deny r) = Some r
+rollout_of h (Start r) = Some r
+rollout_of h (Pause r) = Some r
+rollout_of h (Resume r) = Some r
+rollout_of h (TriggerNext r) = Some r
+rollout_of h c = option_map (λ (p : ActionPlace). p.rollout) (action_of h c)
+
+-- a command leaves all rollouts as they are but the one that it is on: their groups, counts, pauses and approvals
+abbrev pub OthersStay : Type 0
+OthersStay = (h : CommandList) (c : Command) (r : ℕ) (x : Rollout) → IsValid (h ▸ c) → rollout_at h r ≡ Some x → rollout_of h c ≢ Some r → rollout_in (h ▸ c) r x ≡ rollout_in h r x
 
 -- after a command no group is left to start: behind a started one with success the next is started, unless the rollout is paused
 abbrev pub NoGroupIsLeft : Type 0
@@ -82,6 +96,27 @@ pub record IsUntouched (h : CommandList) (c : Command) (t : Bytes) : Type 0 wher
 -- the offers of the targets that a command doesn't touch stay
 abbrev pub OffersStay : Type 0
 OffersStay = (h : CommandList) (c : Command) (t : Bytes) → IsValid (h ▸ c) → IsUntouched h c t → offer (records (h ▸ c)) t ≡ offer (records h) t
+
+-- the action is offerable, and the command gives it no outcome
+pub record StaysOfferable (h : CommandList) (c : Command) (t : Bytes) (k : ℕ) (p : ActionPlace) : Type 0 where
+  pub offerable : IsOfferable h t k p
+  pub is_open : outcome (h ▸ c) p.rollout p.position ≡ None
+
+-- the command starts the group of the target's action
+pub record BecomesOfferable (h : CommandList) (c : Command) (t : Bytes) (k : ℕ) (p : ActionPlace) : Type 0 where
+  pub numbered : action_place (h ▸ c) k ≡ Some p
+  pub rollout : Rollout
+  pub there : rollout_at h p.rollout ≡ Some rollout
+  pub member : item_numbered rollout.members p.position ≡ Some t
+  pub group : ℕ
+  pub first : 1 ≤ group
+  pub within : IsInGroup rollout group p.position
+  pub starts : StartsGroup rollout p.rollout group h c
+
+-- what can be offered to a target after a command: what could be before it and got no outcome, and its action in the group that the command starts
+abbrev pub OffersFollow : Type 0
+OffersFollow = (h : CommandList) (c : Command) (t : Bytes) (k : ℕ) (p : ActionPlace) → IsValid (h ▸ c)
+    → (IsOfferable (h ▸ c) t k p → StaysOfferable h c t k p ⊎ BecomesOfferable h c t k p) × (StaysOfferable h c t k p ⊎ BecomesOfferable h c t k p → IsOfferable (h ▸ c) t k p)
 
 -- an action has as many notes more as its feedback adds, and a closed one none
 abbrev pub NotesGrow : Type 0

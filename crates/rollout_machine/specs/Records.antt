@@ -11,11 +11,8 @@ use Rattle.rollout_machine.specs.Ranges.{each_from}
 use Rattle.rollout_machine.specs.Rollouts.{Rollout, rollouts, bounds_in}
 use Rattle.rollout_machine.specs.Targets.{Target, targets}
 use Rattle.rollout_machine.specs.declared.bounds.Bounds.{Bounds}
-
-pub data Approval : Type 0 where
-  Waiting : Approval
-  Denied : Approval
-  Given : Approval
+pub use Rattle.rollout_model.specs.declared.approval.Approval.{Approval}
+pub use Rattle.rollout_model.specs.declared.approval.Approval.TheVariants.{Waiting, Denied, Given}
 
 -- what is kept of an artifact: whether its request named a digest, and which, is no part of it
 pub record ArtifactRecord : Type 0 where

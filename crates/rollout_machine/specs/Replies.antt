@@ -4,15 +4,10 @@ use Rattle.rollout_machine.specs.Actions.{HistoryEntry}
 use Rattle.rollout_machine.specs.Commands.{Bytes, ModuleLabel, Attribute}
 use Rattle.rollout_machine.specs.Offers.{Offer}
 use Rattle.rollout_model.specs.declared.refusal.Refusal.{Refusal}
+pub use Rattle.rollout_model.specs.declared.artifact.Artifact.{Artifact}
 pub use Rattle.rollout_model.specs.declared.module.Module.{Module}
 pub use Rattle.rollout_model.specs.declared.distribution_set.DistributionSet.{DistributionSet}
 use Rattle.rollout_machine.specs.StateWords.{RolloutWord, GroupWord, ActionWord, TargetWord}
-
-pub record Artifact : Type 0 where
-  pub number : ℕ
-  pub filename : Bytes
-  pub size : ℕ
-  pub digest : Bytes
 
 -- a target without its token's digest
 pub record ShownTarget : Type 0 where

@@ -1,12 +1,8 @@
 -- What can be asked of a desk: its commands, its queries, and what a message asks.
 use Rattle.std.specs.Prelude.{ℕ, List, [], ◌∷◌, Option, Some, None}
 use Rattle.rollout_machine.specs.Commands.{Bytes, Command, Credential}
+pub use Rattle.rollout_model.specs.declared.page.Page.{Page}
 use Rattle.rollout_model.specs.declared.refusal.Refusal.{Refusal}
-
--- the part of a list that is asked for: so many entries, after so many
-pub record Page : Type 0 where
-  pub offset : ℕ
-  pub limit : ℕ
 
 pub data Query : Type 0 where
   -- of a device

@@ -8,35 +8,14 @@ use Rattle.rollout_machine.specs.Counts.{reaches}
 use Rattle.rollout_machine.specs.Groups.{size_of_bounds, holds_position}
 use Rattle.rollout_machine.specs.Records.{Approval, Waiting, Denied, Given, GroupRecord, RolloutRecord, ActionRecord, Records}
 use Rattle.rollout_machine.specs.Rollouts.{error_at}
-
-pub data RolloutWord : Type 0 where
-  ApprovalDenied : RolloutWord
-  WaitingForApproval : RolloutWord
-  ReadyRollout : RolloutWord
-  FinishedRollout : RolloutWord
-  PausedRollout : RolloutWord
-  RunningRollout : RolloutWord
-
-pub data GroupWord : Type 0 where
-  ReadyGroup : GroupWord
-  ScheduledGroup : GroupWord
-  FinishedGroup : GroupWord
-  ErrorGroup : GroupWord
-  RunningGroup : GroupWord
-
-pub data ActionWord : Type 0 where
-  FinishedAction : ActionWord
-  ErrorAction : ActionWord
-  CanceledAction : ActionWord
-  ScheduledAction : ActionWord
-  CancelingAction : ActionWord
-  RunningAction : ActionWord
-
-pub data TargetWord : Type 0 where
-  Unknown : TargetWord
-  Pending : TargetWord
-  InSync : TargetWord
-  InError : TargetWord
+pub use Rattle.rollout_model.specs.declared.rollout_word.RolloutWord.{RolloutWord}
+pub use Rattle.rollout_model.specs.declared.rollout_word.RolloutWord.TheVariants.{ApprovalDenied, WaitingForApproval, Ready as ReadyRollout, Finished as FinishedRollout, Paused as PausedRollout, Running as RunningRollout}
+pub use Rattle.rollout_model.specs.declared.group_word.GroupWord.{GroupWord}
+pub use Rattle.rollout_model.specs.declared.group_word.GroupWord.TheVariants.{Ready as ReadyGroup, Scheduled as ScheduledGroup, Finished as FinishedGroup, Error as ErrorGroup, Running as RunningGroup}
+pub use Rattle.rollout_model.specs.declared.action_word.ActionWord.{ActionWord}
+pub use Rattle.rollout_model.specs.declared.action_word.ActionWord.TheVariants.{Finished as FinishedAction, Error as ErrorAction, Canceled as CanceledAction, Scheduled as ScheduledAction, Canceling as CancelingAction, Running as RunningAction}
+pub use Rattle.rollout_model.specs.declared.target_word.TargetWord.{TargetWord}
+pub use Rattle.rollout_model.specs.declared.target_word.TargetWord.TheVariants.{Unknown, Pending, InSync, Error as InError}
 
 abbrev pub size_of_group : GroupRecord → ℕ
 size_of_group g = size_of_bounds g.bounds

@@ -1,7 +1,7 @@
 //! What the definitions of the machine mean: laws of all command lists.
 
 ghost use Rattle.rollout_machine.specs.Meanings.{NumbersActions, NumbersDiffer, RowIsLast, TagsAreSaid, OutcomeIsFirst, CancelingIsLast, PausedIs, FirstStartedIs, StartedIs, FinalIsAll, OfferIsLeast, TargetsAreNamed, ValueIsLast};
-ghost use Rattle.rollout_machine.specs.Promises.{OneGroupStarts, NoGroupIsLeft, NamedIsOfferable, DownloadsAreOffered, StoredSayAll, DerivedFollow, OffersStay, NotesGrow};
+ghost use Rattle.rollout_machine.specs.Promises.{OneGroupStarts, OthersStay, NoGroupIsLeft, NamedIsOfferable, DownloadsAreOffered, StoredSayAll, DerivedFollow, OffersStay, OffersFollow, NotesGrow};
 ghost use Rattle.rollout_machine.specs.Repeats.{RepeatsLeaveNoTrace};
 ghost use Rattle.rollout_machine.specs.Validity.{StepsRecords};
 
@@ -80,9 +80,14 @@ pub fn final_is_all()
     ensures { FinalIsAll }
 {}
 
-/// A command starts at most one group of a rollout.
+/// A command starts at most one group, of all groups of all rollouts.
 pub fn one_group_starts()
     ensures { OneGroupStarts }
+{}
+
+/// A command leaves all rollouts as they are but the one that it is on.
+pub fn others_stay()
+    ensures { OthersStay }
 {}
 
 /// After a command no group is left to start.
@@ -113,6 +118,11 @@ pub fn derived_follow()
 /// The offers of the targets that a command doesn't touch stay.
 pub fn offers_stay()
     ensures { OffersStay }
+{}
+
+/// What can be offered after a command is what could be before it and got no outcome, and the group that it starts.
+pub fn offers_follow()
+    ensures { OffersFollow }
 {}
 
 /// An action has as many notes more as its feedback adds.

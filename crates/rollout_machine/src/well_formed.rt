@@ -1,10 +1,13 @@
 //! What the types of a command's parts promise.
 
-ghost use Rattle.rollout_machine.specs.CommandRules.{IsWellFormed};
-ghost use Rattle.rollout_machine.specs.Commands.{AddModule, AddSet};
+ghost use Rattle.std.specs.Prelude.{◌≡◌, true};
+ghost use Rattle.rollout_machine.specs.CommandRules.{IsWellFormed, is_target_row};
+ghost use Rattle.rollout_machine.specs.Commands.{AddModule, AddArtifact, AddSet, PutTargets, Tag, Untag};
 ghost use Rattle.rollout_machine.specs.Views.{command_of};
 
-use rollout_model::{Command, ModuleLabel, SetLabel};
+use rollout_model::{
+    Command, ControllerId, ModuleLabel, SetLabel, TargetRow, TargetRows, Upload, Word,
+};
 
 /// Every command keeps the rules of commands: its parts' types keep theirs.
 pub fn command_is_well_formed(command: &Command)
@@ -12,7 +15,11 @@ pub fn command_is_well_formed(command: &Command)
 {
     match command {
         Command::AddModule(label) => label_is_well_formed(label),
+        Command::AddArtifact(upload) => upload_is_well_formed(upload),
         Command::AddSet(label) => set_label_is_well_formed(label),
+        Command::PutTargets(rows) => rows_are_well_formed(rows),
+        Command::Tag(id, tag) => tag_is_well_formed(id, tag),
+        Command::Untag(id, tag) => untag_is_well_formed(id, tag),
     }
 }
 
@@ -24,10 +31,52 @@ fn label_is_well_formed(label: &ModuleLabel)
     let _version = label.version.as_str();
 }
 
+fn upload_is_well_formed(upload: &Upload)
+    ensures { IsWellFormed (AddArtifact upload.now) }
+{
+    let _module = upload.module_number.get();
+    let _filename = upload.filename.as_str();
+    if let Some(expected) = &upload.expected {
+        let _digest = expected.as_bytes();
+    }
+    let _contents = upload.contents.as_slice();
+}
+
 fn set_label_is_well_formed(label: &SetLabel)
     ensures { IsWellFormed (AddSet label.now) }
 {
     let _name = label.name.as_str();
     let _version = label.version.as_str();
     let _modules = label.modules.as_slice();
+}
+
+fn row_is_well_formed(row: &TargetRow)
+    ensures { is_target_row row.now ≡ true }
+{
+    let _id = row.id.as_str();
+    let _name = row.name.as_str();
+    let _digest = row.digest.as_bytes();
+    let _tags = row.tags.as_slice();
+}
+
+fn rows_are_well_formed(rows: &TargetRows)
+    ensures { IsWellFormed (PutTargets rows.now) }
+{
+    for row in rows.as_slice() {
+        row_is_well_formed(row);
+    }
+}
+
+fn tag_is_well_formed(id: &ControllerId, tag: &Word)
+    ensures { IsWellFormed (Tag id.now tag.now) }
+{
+    let _id = id.as_str();
+    let _tag = tag.as_str();
+}
+
+fn untag_is_well_formed(id: &ControllerId, tag: &Word)
+    ensures { IsWellFormed (Untag id.now tag.now) }
+{
+    let _id = id.as_str();
+    let _tag = tag.as_str();
 }

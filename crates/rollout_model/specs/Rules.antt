@@ -1,7 +1,8 @@
 -- The rules of the short texts and the numbers: which letters, how long, in which range.
-use Rattle.rollout_model.specs.Limits.{word_length_limit, filename_length_limit, text_length_limit, detail_length_limit, digest_length, number_limit, set_module_limit, token_length_least, token_length_limit}
+use Rattle.rollout_model.specs.Limits.{word_length_limit, filename_length_limit, text_length_limit, detail_length_limit, digest_length, artifact_size_limit, number_limit, set_module_limit, tag_limit, token_length_least, token_length_limit}
 use Rattle.std.specs.Prelude.{ℕ, Bool, true, ◌&&◌, ◌||◌, not, nat_eq, nat_le, List, [], ◌∷◌, length, codes, Option, Some, None, if◌then◌else◌}
 use Rattle.std.specs.List.{list_any, list_all}
+use Rattle.std.specs.Cmp.Lexicographic.{pointwise}
 use Rattle.std.specs.Char.{is_ascii_alphanumeric}
 use Rattle.std.specs.Str.{is_utf8}
 
@@ -24,6 +25,7 @@ is_spelled letter low high bs = is_between low high (length bs) && list_all lett
 abbrev pub is_word : List ℕ → Bool
 is_word bs = is_spelled is_word_letter 1 word_length_limit bs
 
+-- what a device is known by
 abbrev pub is_token : List ℕ → Bool
 is_token bs = is_spelled is_word_letter token_length_least token_length_limit bs
 
@@ -49,7 +51,11 @@ is_byte b = nat_le b 255
 abbrev pub is_digest : List ℕ → Bool
 is_digest bs = nat_eq (length bs) digest_length && list_all is_byte bs
 
--- a number of a module, set, rollout or action
+-- the contents of an artifact
+abbrev pub is_contents : List ℕ → Bool
+is_contents bs = nat_le (length bs) artifact_size_limit && list_all is_byte bs
+
+-- a number of a module, artifact, set, rollout or action
 abbrev pub is_number : ℕ → Bool
 is_number n = is_between 1 number_limit n
 
@@ -62,10 +68,22 @@ are_distinct_numbers (n ∷ ns) = not (list_any (λ m. nat_eq m n) ns) && are_di
 abbrev pub is_module_list : List ℕ → Bool
 is_module_list ns = is_between 1 set_module_limit (length ns) && (list_all is_number ns && are_distinct_numbers ns)
 
+-- no word stands twice
+abbrev pub are_distinct_words : List (List ℕ) → Bool
+are_distinct_words [] = true
+are_distinct_words (w ∷ ws) = not (list_any (λ v. pointwise nat_eq v w) ws) && are_distinct_words ws
+
+-- the tags of a target
+abbrev pub is_tag_list : List (List ℕ) → Bool
+is_tag_list ws = nat_le (length ws) tag_limit && (list_all is_word ws && are_distinct_words ws)
+
 -- ---- what the readers answer
 
 abbrev pub word_of : List ℕ → Option (List ℕ)
 word_of bs = if is_word bs then Some bs else None
+
+abbrev pub token_of : List ℕ → Option (List ℕ)
+token_of bs = if is_token bs then Some bs else None
 
 abbrev pub filename_of : List ℕ → Option (List ℕ)
 filename_of bs = if is_filename bs then Some bs else None
@@ -81,6 +99,12 @@ number_of n = if is_number n then Some n else None
 
 abbrev pub sha256_digest_of : List ℕ → Option (List ℕ)
 sha256_digest_of bs = if is_digest bs then Some bs else None
+
+abbrev pub contents_of : List ℕ → Option (List ℕ)
+contents_of bs = if is_contents bs then Some bs else None
+
+abbrev pub tag_list_of : List (List ℕ) → Option (List (List ℕ))
+tag_list_of ws = if is_tag_list ws then Some ws else None
 
 abbrev pub module_list_of : List ℕ → Option (List ℕ)
 module_list_of ns = if is_module_list ns then Some ns else None

@@ -2,11 +2,19 @@
 
 ghost use Rattle.std.specs.Prelude.{◌≡◌, IfOk};
 
+use crate::artifact::{Artifact, Upload};
+use crate::artifact_number::ArtifactNo;
+use crate::contents::Contents;
+use crate::controller_id::ControllerId;
 use crate::distribution_set::{DistributionSet, SetLabel};
 use crate::module::{Module, ModuleLabel};
 use crate::number::ModuleNo;
+use crate::page::{Page, PageOf};
 use crate::refusal::Refusal;
 use crate::set_number::SetNo;
+use crate::shown_target::ShownTarget;
+use crate::target_row::TargetRows;
+use crate::word::Word;
 use std::alloc::{AllocError, Global};
 
 /// What changes a desk.
@@ -14,8 +22,16 @@ use std::alloc::{AllocError, Global};
 pub enum Command {
     /// Adds a software module.
     AddModule(ModuleLabel),
+    /// Adds an artifact to a software module.
+    AddArtifact(Upload),
     /// Adds a distribution set.
     AddSet(SetLabel),
+    /// Puts targets: new ones, and new names, tokens and tags of those that are there.
+    PutTargets(TargetRows),
+    /// Gives a target a tag.
+    Tag(ControllerId, Word),
+    /// Takes a tag from a target.
+    Untag(ControllerId, Word),
 }
 
 impl Command {
@@ -25,7 +41,11 @@ impl Command {
     {
         match self {
             Command::AddModule(label) => Ok(Command::AddModule(label.copy(alloc)?)),
+            Command::AddArtifact(upload) => Ok(Command::AddArtifact(upload.copy(alloc)?)),
             Command::AddSet(label) => Ok(Command::AddSet(label.copy(alloc)?)),
+            Command::PutTargets(rows) => Ok(Command::PutTargets(rows.copy(alloc)?)),
+            Command::Tag(id, tag) => Ok(Command::Tag(*id, *tag)),
+            Command::Untag(id, tag) => Ok(Command::Untag(*id, *tag)),
         }
     }
 }
@@ -33,10 +53,22 @@ impl Command {
 /// What asks a desk and changes nothing.
 #[derive(Clone, Copy, Debug, PartialEq, Eq)]
 pub enum Query {
+    /// A page of the modules, in the order of their numbers.
+    Modules(Page),
     /// The module of this number.
     Module(ModuleNo),
+    /// A page of the artifacts of a module, in the order of their numbers.
+    Artifacts(ModuleNo, Page),
+    /// An artifact of a module, by its number.
+    Artifact(ModuleNo, ArtifactNo),
+    /// The contents of an artifact of a module.
+    Contents(ModuleNo, ArtifactNo),
+    /// A page of the distribution sets, in the order of their numbers.
+    Sets(Page),
     /// The distribution set of this number.
     Set(SetNo),
+    /// The target of this id.
+    Target(ControllerId),
 }
 
 /// A command or a query.
@@ -49,12 +81,25 @@ pub enum Request {
 /// What a desk answers to a request.
 #[derive(Debug, PartialEq, Eq, Drop)]
 pub enum Reply {
+    /// A command that has nothing to show was accepted.
+    Done,
     /// The module was added.
     ModuleAdded(Module),
+    Modules(PageOf<Module>),
     Module(Module),
+    /// The artifact was added.
+    ArtifactAdded(Artifact),
+    Artifacts(PageOf<Artifact>),
+    Artifact(Artifact),
+    Contents(Contents),
     /// The distribution set was added.
     SetAdded(DistributionSet),
+    Sets(PageOf<DistributionSet>),
     Set(DistributionSet),
+    /// As many rows of targets were accepted.
+    TargetsPut(u32),
+    Targets(PageOf<ShownTarget>),
+    Target(ShownTarget),
     /// The request was refused: nothing changed, except perhaps after `StoreFailed`.
     Refused(Refusal),
 }

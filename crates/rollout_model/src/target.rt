@@ -1,59 +1,37 @@
 //! Targets, the devices of a fleet.
 
-ghost use Rattle.std.specs.Prelude.{◌≡◌, [], ◌∷◌, ◌++◌, OnOk, OnErr};
+ghost use Rattle.std.specs.Prelude.{◌≡◌, [], ◌∷◌, ◌++◌, nat_eq, OnOk, OnErr};
+ghost use Rattle.std.specs.Cmp.{on_equiv, on_per, partial_equiv_from_equiv};
+ghost use Rattle.std.specs.Cmp.Lexicographic.{pointwise, lists_equiv, nat_list_eq_equiv};
+ghost use Rattle.rollout_model.specs.Pairs.{is_same_attribute, pair_of};
 
 use crate::controller_id::ControllerId;
+use crate::tags::Tags;
 use crate::text::Text;
 use crate::value::Value;
 use crate::word::Word;
 use std::alloc::{AllocError, Global};
 use std::marker::Model;
 
-/// The tags of a target, a list of words.
-#[derive(Debug, Drop)]
-pub struct Tags {
-    words: Vec<Word>,
-}
-
-impl Model for Tags {
-    ghost use Rattle.std.specs.Prelude.{List, ℕ};
-
-    ghost Value = { List (List ℕ) };
-
-    ghost view = { λ s. s.words.items };
-}
-
-impl Tags {
-    /// No tags.
-    pub fn new(alloc: Global) -> Tags
-        ensures { result ≡ [] }
-    {
-        Tags {
-            words: Vec::new(alloc),
-        }
-    }
-
-    /// Adds a tag at the end.
-    pub fn push(&mut self, tag: Word) -> Result<(), AllocError>
-        ensures ok { OnOk result (self.new ≡ self.old ++ tag ∷ []) }
-        ensures err { OnErr result (self.new ≡ self.old) }
-    {
-        self.words.push(tag)?;
-        Ok(())
-    }
-
-    pub fn as_slice(&self) -> &[Word]
-        ensures { result.now ≡ self.now }
-    {
-        self.words.as_slice()
-    }
-}
-
 /// A key with its value.
-#[derive(Debug, PartialEq, Eq, Drop)]
+#[derive(Debug, Drop)]
 pub struct Attribute {
     pub key: Word,
     pub value: Value,
+}
+
+impl PartialEq for Attribute {
+    ghost eq = { is_same_attribute };
+
+    ghost laws = { on_per pair_of (partial_equiv_from_equiv (lists_equiv nat_list_eq_equiv)) };
+
+    fn eq(&self, other: &Self) -> bool {
+        self.key == other.key && self.value == other.value
+    }
+}
+
+impl Eq for Attribute {
+    ghost laws = { on_equiv pair_of (lists_equiv nat_list_eq_equiv) };
 }
 
 /// The attributes of a target, a list of keys with their values.
@@ -97,7 +75,21 @@ impl Attributes {
     }
 }
 
-/// A device of the fleet, as it is shown and as filters see it.
+impl PartialEq for Attributes {
+    ghost eq = { λ s t. pointwise is_same_attribute s t };
+
+    ghost laws = { partial_equiv_from_equiv (lists_equiv (on_equiv pair_of (lists_equiv nat_list_eq_equiv))) };
+
+    fn eq(&self, other: &Self) -> bool {
+        self.as_slice() == other.as_slice()
+    }
+}
+
+impl Eq for Attributes {
+    ghost laws = { lists_equiv (on_equiv pair_of (lists_equiv nat_list_eq_equiv)) };
+}
+
+/// A device of the fleet, as filters see it.
 #[derive(Debug, Drop)]
 pub struct Target {
     pub id: ControllerId,

@@ -1,8 +1,8 @@
 //! What no clause says: that the calls which take memory succeed, and that the table of refusals is the one agreed on.
 
 use crate::{
-    Attribute, Attributes, ControllerId, Digest, Filename, ModuleLabel, ModuleList, ModuleNo,
-    Refusal, SetNo, Tags, Text, Value, Word,
+    ArtifactNo, Attribute, Attributes, Contents, ControllerId, Digest, Filename, ModuleLabel,
+    ModuleList, ModuleNo, Refusal, SetNo, Text, Upload, Value, Word,
 };
 use std::alloc::Global;
 use std::test::Fail;
@@ -94,14 +94,11 @@ fn copies(rt: HostRuntime) -> Result<(), Fail> {
 }
 
 #[test]
-fn lists_of_a_target(rt: HostRuntime) -> Result<(), Fail> {
+fn attributes_of_a_target(rt: HostRuntime) -> Result<(), Fail> {
     let alloc = rt.alloc();
     let (Some(key), Some(value)) = (Word::read("hw"), Value::read(alloc, "rev2")?) else {
         return Err(Fail::from("a text that keeps its rule was refused"));
     };
-    let mut tags = Tags::new(alloc);
-    tags.push(key)?;
-    assert_eq!(rt; tags.as_slice().len(), 1);
     let mut attributes = Attributes::new(alloc);
     attributes.push(Attribute { key, value })?;
     assert_eq!(rt; attributes.as_slice().len(), 1);
@@ -147,4 +144,48 @@ fn numbers_of_sets(rt: HostRuntime) {
         assert_eq!(rt; SetNo::new(number).is_some(), is_number, "{number}");
     }
     assert_eq!(rt; SetNo::new(7).map(|n| n.get()), Some(7));
+}
+
+#[test]
+fn numbers_of_artifacts(rt: HostRuntime) {
+    for (number, is_number) in [
+        (0, false),
+        (1, true),
+        (2147483647, true),
+        (2147483648, false),
+    ] {
+        assert_eq!(rt; ArtifactNo::new(number).is_some(), is_number, "{number}");
+    }
+    assert_eq!(rt; ArtifactNo::new(2).map(|n| n.get()), Some(2));
+}
+
+#[test]
+fn sizes_of_contents(rt: HostRuntime) -> Result<(), Fail> {
+    for (size, are_contents) in [(0, true), (1_048_576, true), (1_048_577, false)] {
+        let bytes = vec![in rt.alloc(); 7; size]?;
+        let contents = Contents::from_bytes(bytes);
+        assert_eq!(rt; contents.is_some(), are_contents, "{size}");
+        if let Some(contents) = contents {
+            assert_eq!(rt; contents.as_slice().len(), size);
+        }
+    }
+    Ok(())
+}
+
+/// An upload of these bytes, whose digest is named.
+fn upload(bytes: Vec<u8>) -> Option<Upload> {
+    Some(Upload {
+        module_number: ModuleNo::new(2)?,
+        filename: Filename::read("abc.bin")?,
+        expected: Some(Digest::new([7; 32])),
+        contents: Contents::from_bytes(bytes)?,
+    })
+}
+
+#[test]
+fn copies_of_uploads(rt: HostRuntime) -> Result<(), Fail> {
+    let alloc = rt.alloc();
+    let upload = upload(vec![in alloc; 1, 2, 3]?).ok_or("upload")?;
+    assert_eq!(rt; upload.copy(alloc)?, upload);
+    Ok(())
 }

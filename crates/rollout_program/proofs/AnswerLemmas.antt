@@ -1,26 +1,29 @@
 -- The answers of a list.
-use Rattle.std.proofs.Common.{◌≡◌, ◌≢◌, ◌⊎◌, inl, inr, ◌≤◌, ◌<◌, ℕ, ◌+◌, nat_le, nat_eq, Bool, true, false, List, [], ◌∷◌, ◌++◌, map, length, Option, Some, None, option_map, Result, refl, sym, subst, ap, ◌∙◌, arith}
+use Rattle.std.proofs.Common.{◌≡◌, ◌≢◌, ◌⊎◌, inl, inr, ◌≤◌, ◌<◌, ℕ, ◌+◌, ◌||◌, nat_le, nat_eq, Bool, true, false, List, [], ◌∷◌, ◌++◌, length, Option, Some, None, refl, sym, subst, ap, ◌∙◌, arith}
+use Rattle.std.proofs.lemmas.Bool.{false≢true}
 use Rattle.std.proofs.lemmas.Bool.Decides.{nat_tests}
-use Rattle.std.proofs.lemmas.List.{append-nil, length-append, length-map}
+use Rattle.std.proofs.lemmas.List.{append-nil, length-append}
+use Rattle.std.specs.Prelude.{filter, suc}
 use Rattle.std.specs.List.{list_any}
 use Rattle.std.specs.Option.{is_none}
-use Rattle.rollout_machine.specs.Answers.{Answer, answer, if_found, command_reply, query_reply}
+use Rattle.rollout_machine.specs.Answers.{Answer, added_artifact, answer, artifact_if, if_found, command_reply, query_reply}
 use Rattle.rollout_machine.specs.ByteStrings.{item_numbered}
 use Rattle.rollout_machine.specs.CommandList.{CommandList, ◌▸◌, followed_by}
 use Rattle.rollout_machine.specs.CommandRules.{IsWellFormed}
-use Rattle.rollout_machine.specs.Commands.{Command, ModuleLabel, SetLabel, AddModule, AddSet}
-use Rattle.rollout_machine.specs.Objects.{module_shown, set_shown}
-use Rattle.rollout_machine.specs.Records.{records, modules, sets}
-use Rattle.rollout_machine.specs.Replies.{Reply, Refused, ModuleAdded, ModuleShown, SetAdded, SetShown, Module, DistributionSet}
-use Rattle.rollout_machine.specs.Requests.{Request, Do, Ask, Query, ShowModule, ShowSet, Asks, one}
+use Rattle.rollout_machine.specs.Commands.{Bytes, Command, ModuleLabel, SetLabel, Upload, AddArtifact, AddModule, AddSet}
+use Rattle.rollout_machine.specs.Objects.{artifact_shown, artifacts_shown, module_shown, numbered, page_of, set_shown}
+use Rattle.rollout_machine.specs.Records.{ArtifactRecord, artifact_from, artifacts, records, modules, sets}
+use Rattle.rollout_machine.specs.Replies.{Reply, Refused, ArtifactAdded, ArtifactShown, ArtifactsShown, ContentsShown, ModuleAdded, ModuleShown, ModulesShown, SetAdded, SetShown, SetsShown, Artifact, Module, DistributionSet, PageOf}
+use Rattle.rollout_machine.specs.Requests.{Request, Do, Ask, Page, Query, ShowArtifact, ShowArtifacts, ShowContents, ShowModule, ShowModules, ShowSet, ShowSets, Asks, one}
 use Rattle.rollout_machine.specs.Validity.{IsValid}
-use Rattle.rollout_machine.specs.Verdicts.{verdict, is_named_by_set}
+use Rattle.rollout_machine.specs.Verdicts.{verdict, is_named_by_set, wrong_digest}
 use Rattle.rollout_machine.proofs.Answering.{query_answer, refused_answer, accepted_answer}
-use Rattle.rollout_machine.proofs.StoreFailures.{answer_never_stores}
+use Rattle.rollout_machine.proofs.StoreFailures.{answer_never_stores, check_never_stores, is_store}
 use Rattle.rollout_model.specs.declared.refusal.Refusal.{Refusal}
 use Rattle.rollout_model.specs.declared.refusal.Refusal.TheVariants.{Exists, Quota, NotFound, NoMemory, StoreFailed}
 use Rattle.rollout_model.specs.Rules.{is_number, number_of}
-use Rattle.rollout_program.specs.Lists.{is_same, is_same_set}
+use Rattle.rollout_program.specs.Lists.{is_same, is_same_artifact, is_same_set, modules_seen}
+use Rattle.rollout_program.specs.Refusals.{upload_refusal}
 use Rattle.rollout_program.specs.Steps.{AnswersAt}
 
 -- ---- from the machine's answer
@@ -92,6 +95,76 @@ unfolding records
 module_found h number locked label shown is named same =
     ap (if_found (λ (x : ModuleLabel). ModuleShown (module_shown (records h) number x))) (sym is) ∙ (λ i. ModuleShown (record { number = number; locked = sym named i; label = sym same i }))
 
+pub modules_paged : (h : CommandList) (page : Page) (ss : List SetLabel) (ms : List ModuleLabel) (shown : List Module) (p : PageOf Module) → ss ≡ sets h → ms ≡ modules h → shown ≡ modules_seen ss ms → p ≡ page_of page shown
+    → query_reply (records h) (ShowModules page) ≡ ModulesShown p
+unfolding records
+modules_paged h page ss ms shown p all_sets all same is = ap ModulesShown (sym (is ∙ ap (page_of page) (same ∙ (λ i. modules_seen (all_sets i) (all i)))))
+
+-- ---- artifacts
+
+pub artifact_verdict : (h : CommandList) (u : Upload) (missing named same full : Bool) → missing ≡ is_none (item_numbered (modules h) u.module_number) → named ≡ is_named_by_set (sets h) u.module_number
+    → same ≡ list_any (is_same_artifact u) (artifacts h)
+    → full ≡ (nat_le 8 (length (filter (λ (v : ArtifactRecord). nat_eq v.module_number u.module_number) (artifacts h))) || nat_le 256 (length (artifacts h)))
+    → verdict h (AddArtifact u) ≡ upload_refusal missing named same full (wrong_digest u)
+unfolding records
+artifact_verdict h u missing named same full m n s f = λ i. upload_refusal (sym m i) (sym n i) (sym s i) (sym f i) (wrong_digest u)
+
+pub artifact_refused : (h : CommandList) (u : Upload) (e : Refusal) → verdict h (AddArtifact u) ≡ Some e → (e ≡ NoMemory) ⊎ ((e ≢ StoreFailed) × (verdict h (AddArtifact u) ≡ Some e))
+artifact_refused h u e is = inr ((λ failed. false≢true (sym (check_never_stores (records h) (AddArtifact u) e is) ∙ ap is_store failed)), is)
+
+last_item : {X : Type 0} (xs : List X) (x : X) → item_numbered (xs ++ x ∷ []) (suc (length xs)) ≡ Some x
+last_item [] x = refl
+last_item (y ∷ xs) x = last_item xs x
+
+last_shown : (as' : List ArtifactRecord) (a : ArtifactRecord) (number : ℕ) (shown : Artifact) → number ≡ length as' + 1 → shown ≡ artifact_shown number a
+    → added_artifact (length (as' ++ a ∷ [])) (item_numbered (as' ++ a ∷ []) (length (as' ++ a ∷ []))) ≡ ArtifactAdded shown
+last_shown as' a number shown next same =
+    let count : length (as' ++ a ∷ []) ≡ number = length-append as' (a ∷ []) ∙ sym next in
+    let place : number ≡ suc (length as') = omega (arith, next) in
+    let is : item_numbered (as' ++ a ∷ []) number ≡ Some a = ap (item_numbered (as' ++ a ∷ [])) place ∙ last_item as' a in
+    ap (λ n. added_artifact n (item_numbered (as' ++ a ∷ []) n)) count ∙ ap (added_artifact number) is ∙ ap ArtifactAdded (sym same)
+
+pub artifact_added : (h : CommandList) (u : Upload) (number : ℕ) (shown : Artifact) → number ≡ length (artifacts h) + 1 → shown ≡ artifact_shown number (artifact_from u)
+    → command_reply (AddArtifact u) (records (h ▸ AddArtifact u)) ≡ ArtifactAdded shown
+unfolding records
+artifact_added h u number shown next same = last_shown (artifacts h) (artifact_from u) number shown next same
+
+pub artifact_missing : (h : CommandList) (m number : ℕ) → None ≡ artifact_if m (item_numbered (artifacts h) number) → query_reply (records h) (ShowArtifact m number) ≡ Refused NotFound
+unfolding records
+artifact_missing h m number is = ap (if_found (λ (a : ArtifactRecord). ArtifactShown (artifact_shown number a))) (sym is)
+
+pub artifact_found : (h : CommandList) (m number : ℕ) (a : ArtifactRecord) (shown : Artifact) → Some a ≡ artifact_if m (item_numbered (artifacts h) number) → shown ≡ artifact_shown number a
+    → query_reply (records h) (ShowArtifact m number) ≡ ArtifactShown shown
+unfolding records
+artifact_found h m number a shown is same = ap (if_found (λ (x : ArtifactRecord). ArtifactShown (artifact_shown number x))) (sym is) ∙ ap ArtifactShown (sym same)
+
+pub contents_missing : (h : CommandList) (m number : ℕ) → None ≡ artifact_if m (item_numbered (artifacts h) number) → query_reply (records h) (ShowContents m number) ≡ Refused NotFound
+unfolding records
+contents_missing h m number is = ap (if_found (λ (a : ArtifactRecord). ContentsShown a.contents)) (sym is)
+
+pub contents_found : (h : CommandList) (m number : ℕ) (a : ArtifactRecord) (contents : Bytes) → Some a ≡ artifact_if m (item_numbered (artifacts h) number) → contents ≡ a.contents
+    → query_reply (records h) (ShowContents m number) ≡ ContentsShown contents
+unfolding records
+contents_found h m number a contents is same = ap (if_found (λ (x : ArtifactRecord). ContentsShown x.contents)) (sym is) ∙ ap ContentsShown (sym same)
+
+none_found : {X : Type 0} (reply : X → Reply) (o : Option X) → true ≡ is_none o → if_found reply o ≡ Refused NotFound
+none_found reply None is = refl
+none_found reply (Some x) is = absurd (false≢true (sym is))
+
+some_found : {X : Type 0} (reply : Reply) (o : Option X) → false ≡ is_none o → if_found (λ _. reply) o ≡ reply
+some_found reply None is = absurd (false≢true is)
+some_found reply (Some x) is = refl
+
+pub artifacts_lack : (h : CommandList) (m : ℕ) (page : Page) → true ≡ is_none (item_numbered (modules h) m) → query_reply (records h) (ShowArtifacts m page) ≡ Refused NotFound
+unfolding records
+artifacts_lack h m page is = none_found (λ (label : ModuleLabel). ArtifactsShown (page_of page (artifacts_shown m 1 (artifacts h)))) (item_numbered (modules h) m) is
+
+pub artifacts_paged : (h : CommandList) (m : ℕ) (page : Page) (as' : List ArtifactRecord) (shown : List Artifact) (p : PageOf Artifact) → false ≡ is_none (item_numbered (modules h) m) → as' ≡ artifacts h
+    → shown ≡ artifacts_shown m 1 as' → p ≡ page_of page shown → query_reply (records h) (ShowArtifacts m page) ≡ ArtifactsShown p
+unfolding records
+artifacts_paged h m page as' shown p there all same is =
+    some_found (ArtifactsShown (page_of page (artifacts_shown m 1 (artifacts h)))) (item_numbered (modules h) m) there ∙ ap ArtifactsShown (sym (is ∙ ap (page_of page) (same ∙ ap (artifacts_shown m 1) all)))
+
 -- ---- sets
 
 pub set_lacks : (h : CommandList) (label : SetLabel) → true ≡ list_any (λ m. is_none (item_numbered (modules h) m)) label.modules → verdict h (AddSet label) ≡ Some NotFound
@@ -131,6 +204,11 @@ pub set_found : (h : CommandList) (number : ℕ) (label shown : SetLabel) → So
 unfolding records
 set_found h number label shown is same =
     ap (if_found (λ (x : SetLabel). SetShown (set_shown number x))) (sym is) ∙ (λ i. SetShown (record { number = number; label = sym same i }))
+
+pub sets_paged : (h : CommandList) (page : Page) (ss : List SetLabel) (shown : List DistributionSet) (p : PageOf DistributionSet) → ss ≡ sets h → shown ≡ numbered set_shown 1 ss → p ≡ page_of page shown
+    → query_reply (records h) (ShowSets page) ≡ SetsShown p
+unfolding records
+sets_paged h page ss shown p all same is = ap SetsShown (sym (is ∙ ap (page_of page) (same ∙ ap (numbered set_shown 1) all)))
 
 -- a number in its range is itself
 pub some_number : (n k : ℕ) → number_of n ≡ Some k → k ≡ n

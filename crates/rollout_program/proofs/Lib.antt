@@ -1,2 +1,7 @@
 mod ListLemmas
+mod PageLemmas
 mod AnswerLemmas
+mod UploadLemmas
+mod WordLemmas
+mod RowLemmas
+mod TargetLemmas

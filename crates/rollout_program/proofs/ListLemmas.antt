@@ -1,14 +1,14 @@
 -- What the list of kept commands amounts to.
-use Rattle.std.proofs.Common.{◌≡◌, ◌<◌, ◌+◌, ℕ, Bool, ◌||◌, List, [], ◌∷◌, ◌++◌, map, take, length, get_or, Option, Some, None, option_map, refl, sym, ap, ◌∙◌}
-use Rattle.std.specs.Prelude.{slice_get, zero, suc}
+use Rattle.std.proofs.Common.{◌≡◌, ◌<◌, ◌+◌, ℕ, Bool, true, false, ◌||◌, List, [], ◌∷◌, ◌++◌, map, take, length, get_or, Option, Some, None, option_map, refl, sym, ap, ◌∙◌}
+use Rattle.std.specs.Prelude.{cond, filter, zero, suc}
 use Rattle.std.specs.Option.{is_none}
 use Rattle.std.specs.List.{list_any}
 use Rattle.std.proofs.lemmas.List.{take_more, length-map}
 use Rattle.std.proofs.lemmas.Option.{slice_get-map}
 use Rattle.rollout_machine.specs.ByteStrings.{item_numbered}
 use Rattle.rollout_machine.specs.CommandList.{CommandList, Make, ◌▸◌, followed_by}
-use Rattle.rollout_machine.specs.Commands.{ModuleLabel, SetLabel}
-use Rattle.rollout_machine.specs.Records.{added_modules, added_sets, modules, needs_approval, sets}
+use Rattle.rollout_machine.specs.Commands.{Command as MachineCommand, ModuleLabel, SetLabel}
+use Rattle.rollout_machine.specs.Records.{ArtifactRecord, added_artifacts, added_modules, added_sets, artifacts, modules, needs_approval, sets}
 use Rattle.rollout_machine.specs.Views.{command_of}
 use Rattle.rollout_model.specs.declared.request.Command.{Command}
 use Rattle.rollout_program.specs.Lists.{list_from}
@@ -28,6 +28,12 @@ list_more approval commands i c below is =
 
 -- ---- a loop's step
 
+-- of whatever follows from what it was before a command
+pub said_more : {S : Type 0} (of : CommandList → S) (step : MachineCommand → S → S) → ((h : CommandList) (c : MachineCommand) → of (h ▸ c) ≡ step c (of h)) → (approval : Bool) (commands : List Command) (i : ℕ) (c : Command) (before after : S)
+    → i < length commands → c ≡ get_or commands i c → before ≡ of (list_from approval (take i commands)) → after ≡ step (command_of c) before → after ≡ of (list_from approval (take (i + 1) commands))
+said_more of step follows approval commands i c before after below is so_far more =
+    more ∙ ap (step (command_of c)) so_far ∙ sym (follows (list_from approval (take i commands)) (command_of c)) ∙ ap of (sym (list_more approval commands i c below is))
+
 pub modules_more : (approval : Bool) (commands : List Command) (i : ℕ) (c : Command) (before after : List ModuleLabel) → i < length commands → c ≡ get_or commands i c
     → before ≡ modules (list_from approval (take i commands)) → after ≡ before ++ added_modules (command_of c) → after ≡ modules (list_from approval (take (i + 1) commands))
 modules_more approval commands i c before after below is so_far more =
@@ -37,6 +43,11 @@ pub sets_more : (approval : Bool) (commands : List Command) (i : ℕ) (c : Comma
     → before ≡ sets (list_from approval (take i commands)) → after ≡ before ++ added_sets (command_of c) → after ≡ sets (list_from approval (take (i + 1) commands))
 sets_more approval commands i c before after below is so_far more =
     more ∙ ap (λ (ss : List SetLabel). ss ++ added_sets (command_of c)) so_far ∙ ap sets (sym (list_more approval commands i c below is))
+
+pub artifacts_more : (approval : Bool) (commands : List Command) (i : ℕ) (c : Command) (before after : List ArtifactRecord) → i < length commands → c ≡ get_or commands i c
+    → before ≡ artifacts (list_from approval (take i commands)) → after ≡ before ++ added_artifacts (command_of c) → after ≡ artifacts (list_from approval (take (i + 1) commands))
+artifacts_more approval commands i c before after below is so_far more =
+    more ∙ ap (λ (as' : List ArtifactRecord). as' ++ added_artifacts (command_of c)) so_far ∙ ap artifacts (sym (list_more approval commands i c below is))
 
 approval_after : (h : CommandList) (commands : List Command) → needs_approval (followed_by h (map command_of commands)) ≡ needs_approval h
 approval_after h [] = refl
@@ -65,6 +76,22 @@ module _ {X Y : Type 0} (f : X → Y) where
   lacks_map : (xs : List X) (ms : List ℕ) → list_any (λ m. is_none (item_numbered xs m)) ms ≡ list_any (λ m. is_none (item_numbered (map f xs) m)) ms
   lacks_map xs [] = refl
   lacks_map xs (m ∷ ms) = λ i. (none_map (item_numbered xs m) ∙ ap is_none (item_map xs m)) i || lacks_map xs ms i
+
+  count_map : (p : Y → Bool) (xs : List X) → length (filter (λ x. p (f x)) xs) ≡ length (filter p (map f xs))
+  count_map p [] = refl
+  count_map p (x ∷ xs) = go (p (f x)) (count_map p xs) where
+    go : (b : Bool) → length (filter (λ x. p (f x)) xs) ≡ length (filter p (map f xs)) → length (cond b (x ∷ filter (λ x. p (f x)) xs) (filter (λ x. p (f x)) xs)) ≡ length (cond b (f x ∷ filter p (map f xs)) (filter p (map f xs)))
+    go true same = ap suc same
+    go false same = same
+
+  pub seen_count : (p : Y → Bool) (xs given : List X) (ys : List Y) → map f xs ≡ ys → given ≡ xs → length (filter (λ x. p (f x)) given) ≡ length (filter p ys)
+  seen_count p xs given ys same is = count_map p given ∙ ap (λ (zs : List X). length (filter p (map f zs))) is ∙ ap (λ (zs : List Y). length (filter p zs)) same
+
+  pub seen_place : (xs given : List X) (ys : List Y) (number : ℕ) → map f xs ≡ ys → given ≡ xs → option_map f (item_numbered given number) ≡ item_numbered ys number
+  seen_place xs given ys number same is = item_map given number ∙ ap (λ (zs : List X). item_numbered (map f zs) number) is ∙ ap (λ (zs : List Y). item_numbered zs number) same
+
+  pub seen_missing : (xs given : List X) (ys : List Y) (number : ℕ) → map f xs ≡ ys → given ≡ xs → is_none (item_numbered given number) ≡ is_none (item_numbered ys number)
+  seen_missing xs given ys number same is = none_map (item_numbered given number) ∙ ap is_none (seen_place xs given ys number same is)
 
   pub seen_any : (p : Y → Bool) (xs given : List X) (ys : List Y) (b : Bool) → map f xs ≡ ys → given ≡ xs → b ≡ list_any (λ x. p (f x)) given → b ≡ list_any p ys
   seen_any p xs given ys b same is found = found ∙ any_map p given ∙ ap (λ (zs : List X). list_any p (map f zs)) is ∙ ap (list_any p) same

@@ -2,12 +2,19 @@
 //! that list alone. It has no database. Tests hold it against the bodies that are fast.
 #![tactic(auto)]
 
+mod artifacts;
 mod listed;
 mod modules;
+mod pages;
 mod program;
+mod rows;
 mod sets;
+mod targets;
+mod words;
 
 pub use program::Program;
 
+#[cfg(test)]
+mod target_tests;
 #[cfg(test)]
 mod tests;

@@ -1,14 +1,15 @@
 //! What the accepted commands amount to, found by looking at each of them.
 
-ghost use Rattle.std.specs.Prelude.{◌≡◌, ◌++◌, map, nat_eq, IfOk, OnOk};
+ghost use Rattle.std.specs.Prelude.{◌≡◌, ◌++◌, filter, length, map, nat_eq, option_map, IfOk, OnOk};
 ghost use Rattle.std.specs.List.{list_any};
 ghost use Rattle.std.specs.Option.{is_none};
+ghost use Rattle.rollout_machine.specs.Answers.{artifact_if};
 ghost use Rattle.rollout_machine.specs.ByteStrings.{item_numbered};
-ghost use Rattle.rollout_machine.specs.Records.{added_modules, added_sets, modules, sets};
+ghost use Rattle.rollout_machine.specs.Records.{added_artifacts, added_modules, added_sets, artifact_from, artifacts, modules, sets};
 ghost use Rattle.rollout_machine.specs.Views.{command_of};
-ghost use Rattle.rollout_program.specs.Lists.{list_from, is_same, is_same_set};
+ghost use Rattle.rollout_program.specs.Lists.{list_from, is_same, is_same_artifact, is_same_set};
 
-use rollout_model::{Command, ModuleLabel, ModuleNo, SetLabel, SetNo};
+use rollout_model::{ArtifactNo, Command, ModuleLabel, ModuleNo, SetLabel, SetNo, Upload};
 use std::alloc::{AllocError, Global};
 
 /// Notes the module that a command adds, if it adds one.
@@ -20,6 +21,20 @@ fn push_module<'a>(
 {
     match command {
         Command::AddModule(label) => modules.push(label)?,
+        _ => (),
+    }
+    Ok(())
+}
+
+/// Notes the artifact that a command adds, if it adds one.
+fn push_artifact<'a>(
+    artifacts: &mut Vec<&'a Upload>,
+    command: &'a Command,
+) -> Result<(), AllocError>
+    ensures { OnOk result (map (λ a. artifact_from a.now) artifacts.new.items ≡ map (λ a. artifact_from a.now) artifacts.old.items ++ added_artifacts (command_of command.now)) }
+{
+    match command {
+        Command::AddArtifact(upload) => artifacts.push(upload)?,
         _ => (),
     }
     Ok(())
@@ -47,6 +62,17 @@ pub(crate) fn modules(alloc: Global, commands: &[Command]) -> Result<Vec<&Module
     Ok(modules)
 }
 
+/// The artifacts that were added, to whatever module, in order of their numbers.
+pub(crate) fn artifacts(alloc: Global, commands: &[Command]) -> Result<Vec<&Upload>, AllocError>
+    ensures { IfOk result (λ found. (approval : _) → map (λ a. artifact_from a.now) found.items ≡ artifacts (list_from approval commands.now)) }
+{
+    let mut artifacts = Vec::new(alloc);
+    for command in commands {
+        push_artifact(&mut artifacts, command)?;
+    }
+    Ok(artifacts)
+}
+
 /// The distribution sets that were added, in order of their numbers.
 pub(crate) fn sets(alloc: Global, commands: &[Command]) -> Result<Vec<&SetLabel>, AllocError>
     ensures { IfOk result (λ found. (approval : _) → map (λ l. l.now) found.items ≡ sets (list_from approval commands.now)) }
@@ -69,6 +95,30 @@ pub(crate) fn has_module(modules: &[&ModuleLabel], label: &ModuleLabel) -> bool
     ensures { result ≡ list_any (λ l. is_same label.now l.now) modules.now }
 {
     modules.iter().any(|added| same_module(added, label))
+}
+
+fn same_artifact(added: &Upload, upload: &Upload) -> bool
+    ensures { result ≡ is_same_artifact upload.now (artifact_from added.now) }
+{
+    added.module_number == upload.module_number
+        && added.filename.as_str() == upload.filename.as_str()
+}
+
+/// Whether an artifact of this name is in the upload's module.
+pub(crate) fn has_artifact(artifacts: &[&Upload], upload: &Upload) -> bool
+    ensures { result ≡ list_any (λ a. is_same_artifact upload.now (artifact_from a.now)) artifacts.now }
+{
+    artifacts.iter().any(|added| same_artifact(added, upload))
+}
+
+/// How many artifacts this module has.
+pub(crate) fn count_of_module(artifacts: &[&Upload], module_number: ModuleNo) -> usize
+    ensures { result ≡ length (filter (λ a. nat_eq a.now.module_number module_number) artifacts.now) }
+{
+    artifacts
+        .iter()
+        .filter(|added| added.module_number == module_number)
+        .count()
 }
 
 fn same_set(added: &SetLabel, label: &SetLabel) -> bool
@@ -107,6 +157,22 @@ pub(crate) fn module_numbered<'a>(
     modules.get(number.get() as usize - 1).copied()
 }
 
+/// The artifact of this number, where it is one of the module's.
+pub(crate) fn artifact_numbered<'a>(
+    artifacts: &[&'a Upload],
+    module_number: ModuleNo,
+    number: ArtifactNo,
+) -> Option<&'a Upload>
+    ensures { option_map (λ a. artifact_from a.now) result ≡ artifact_if module_number (option_map (λ a. artifact_from a.now) (item_numbered artifacts.now number)) }
+{
+    let added = artifacts.get(number.get() as usize - 1).copied()?;
+    if added.module_number == module_number {
+        Some(added)
+    } else {
+        None
+    }
+}
+
 /// The set of this number.
 pub(crate) fn set_numbered<'a>(sets: &[&'a SetLabel], number: SetNo) -> Option<&'a SetLabel>
     ensures { result ≡ item_numbered sets.now number }
@@ -114,7 +180,8 @@ pub(crate) fn set_numbered<'a>(sets: &[&'a SetLabel], number: SetNo) -> Option<&
     sets.get(number.get() as usize - 1).copied()
 }
 
-fn is_missing(modules: &[&ModuleLabel], number: ModuleNo) -> bool
+/// Whether no module has this number.
+pub(crate) fn is_missing(modules: &[&ModuleLabel], number: ModuleNo) -> bool
     ensures { result ≡ is_none (item_numbered modules.now number) }
 {
     module_numbered(modules, number).is_none()

@@ -1,12 +1,15 @@
 //! Modules of the list.
 
+ghost use Rattle.std.specs.Prelude.{◌≡◌, map, MatchResult};
 ghost use Rattle.rollout_machine.specs.Commands.{AddModule};
-ghost use Rattle.rollout_machine.specs.Requests.{ShowModule};
-ghost use Rattle.rollout_program.specs.Lists.{list_from};
+ghost use Rattle.rollout_machine.specs.Requests.{ShowModule, ShowModules};
+ghost use Rattle.rollout_model.specs.declared.refusal.Refusal.TheVariants.{NoMemory};
+ghost use Rattle.rollout_program.specs.Lists.{list_from, modules_seen};
 ghost use Rattle.rollout_program.specs.Steps.{Previews, Shows};
 
 use crate::listed::{has_module, is_named, module_numbered, modules, sets};
-use rollout_model::{Command, Module, ModuleLabel, ModuleNo, Refusal, Reply};
+use crate::pages::{count_of, page_of};
+use rollout_model::{Command, Module, ModuleLabel, ModuleNo, Page, Refusal, Reply, SetLabel};
 use std::alloc::Global;
 
 /// How many modules a desk takes.
@@ -55,4 +58,40 @@ pub(crate) fn show_module(
         locked: is_named(&sets, number),
         label: label.copy(alloc)?,
     }))
+}
+
+/// The modules as they are shown, in order of their numbers.
+fn shown_modules(
+    alloc: Global,
+    modules: &[&ModuleLabel],
+    sets: &[&SetLabel],
+) -> Result<Vec<Module>, Refusal>
+    ensures { MatchResult result
+        (λ shown. shown.items ≡ modules_seen (map (λ s. s.now) sets.now) (map (λ l. l.now) modules.now))
+        (λ e. e ≡ NoMemory) }
+{
+    let mut shown = Vec::new(alloc);
+    for (place, label) in modules.iter().enumerate() {
+        let number = ModuleNo::new(count_of(place)? + 1).unwrap();
+        shown.push(Module {
+            number,
+            locked: is_named(sets, number),
+            label: label.copy(alloc)?,
+        })?;
+    }
+    Ok(shown)
+}
+
+/// A page of the modules.
+pub(crate) fn show_modules(
+    alloc: Global,
+    commands: &[Command],
+    page: Page,
+) -> Result<Reply, Refusal>
+    ensures { (approval : _) → Shows (list_from approval commands.now) (ShowModules page) result }
+{
+    let modules = modules(alloc, commands)?;
+    let sets = sets(alloc, commands)?;
+    let shown = shown_modules(alloc, &modules, &sets)?;
+    Ok(Reply::Modules(page_of(shown, page)?))
 }

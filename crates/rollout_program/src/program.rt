@@ -9,8 +9,10 @@ ghost use Rattle.rollout_program.specs.Lists.{list_from};
 ghost use Rattle.rollout_program.specs.Programs.{list_of};
 ghost use Rattle.rollout_program.specs.Steps.{AnswersAt, Previews, Shows};
 
-use crate::modules::{preview_module, show_module};
-use crate::sets::{preview_set, show_set};
+use crate::artifacts::{preview_artifact, show_artifact, show_artifacts, show_contents};
+use crate::modules::{preview_module, show_module, show_modules};
+use crate::sets::{preview_set, show_set, show_sets};
+use crate::targets::{preview_put, preview_tag, preview_untag, show_target};
 use rollout_machine::command_is_well_formed;
 use rollout_model::{Command, Query, Refusal, Reply, Request};
 use std::alloc::{AllocError, Global};
@@ -49,7 +51,11 @@ impl Program {
         let commands = self.commands.as_slice();
         match command {
             Command::AddModule(label) => preview_module(self.alloc, commands, label),
+            Command::AddArtifact(upload) => preview_artifact(self.alloc, commands, upload),
             Command::AddSet(label) => preview_set(self.alloc, commands, label),
+            Command::PutTargets(rows) => preview_put(self.alloc, commands, rows),
+            Command::Tag(id, tag) => preview_tag(self.alloc, commands, id, tag),
+            Command::Untag(id, tag) => preview_untag(commands, id, tag),
         }
     }
 
@@ -59,8 +65,20 @@ impl Program {
     {
         let commands = self.commands.as_slice();
         match query {
+            Query::Modules(page) => show_modules(self.alloc, commands, *page),
             Query::Module(number) => show_module(self.alloc, commands, *number),
+            Query::Artifacts(module_number, page) => {
+                show_artifacts(self.alloc, commands, *module_number, *page)
+            }
+            Query::Artifact(module_number, number) => {
+                show_artifact(self.alloc, commands, *module_number, *number)
+            }
+            Query::Contents(module_number, number) => {
+                show_contents(self.alloc, commands, *module_number, *number)
+            }
+            Query::Sets(page) => show_sets(self.alloc, commands, *page),
             Query::Set(number) => show_set(self.alloc, commands, *number),
+            Query::Target(id) => show_target(self.alloc, commands, id),
         }
     }
 

@@ -1,12 +1,16 @@
 //! Distribution sets of the list.
 
+ghost use Rattle.std.specs.Prelude.{◌≡◌, map, MatchResult};
 ghost use Rattle.rollout_machine.specs.Commands.{AddSet};
-ghost use Rattle.rollout_machine.specs.Requests.{ShowSet};
+ghost use Rattle.rollout_machine.specs.Objects.{numbered, set_shown};
+ghost use Rattle.rollout_machine.specs.Requests.{ShowSet, ShowSets};
+ghost use Rattle.rollout_model.specs.declared.refusal.Refusal.TheVariants.{NoMemory};
 ghost use Rattle.rollout_program.specs.Lists.{list_from};
 ghost use Rattle.rollout_program.specs.Steps.{Previews, Shows};
 
 use crate::listed::{has_set, lacks_a_module, modules, set_numbered, sets};
-use rollout_model::{Command, DistributionSet, Refusal, Reply, SetLabel, SetNo};
+use crate::pages::{count_of, page_of};
+use rollout_model::{Command, DistributionSet, Page, Refusal, Reply, SetLabel, SetNo};
 use std::alloc::Global;
 
 /// How many distribution sets a desk takes.
@@ -47,4 +51,28 @@ pub(crate) fn show_set(alloc: Global, commands: &[Command], number: SetNo) -> Re
     };
     let label = label.copy(alloc)?;
     Ok(Reply::Set(DistributionSet { number, label }))
+}
+
+/// The sets as they are shown, in order of their numbers.
+fn shown_sets(alloc: Global, sets: &[&SetLabel]) -> Result<Vec<DistributionSet>, Refusal>
+    ensures { MatchResult result
+        (λ shown. shown.items ≡ numbered set_shown 1 (map (λ s. s.now) sets.now))
+        (λ e. e ≡ NoMemory) }
+{
+    let mut shown = Vec::new(alloc);
+    for (place, label) in sets.iter().enumerate() {
+        let number = SetNo::new(count_of(place)? + 1).unwrap();
+        let label = label.copy(alloc)?;
+        shown.push(DistributionSet { number, label })?;
+    }
+    Ok(shown)
+}
+
+/// A page of the distribution sets.
+pub(crate) fn show_sets(alloc: Global, commands: &[Command], page: Page) -> Result<Reply, Refusal>
+    ensures { (approval : _) → Shows (list_from approval commands.now) (ShowSets page) result }
+{
+    let sets = sets(alloc, commands)?;
+    let shown = shown_sets(alloc, &sets)?;
+    Ok(Reply::Sets(page_of(shown, page)?))
 }

@@ -1,4 +1,4 @@
-use Rattle.rollout_machine.proofs.Progressing.{one_group_starts as law}
+use Rattle.rollout_machine.proofs.Elsewhere.{one_group_starts as law}
 use Rattle.rollout_machine.proofs.laws.one_group_starts.Goals as goal
 
 pub returns : goal.returns

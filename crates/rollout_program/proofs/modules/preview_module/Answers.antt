@@ -1,4 +1,4 @@
-use Rattle.std.proofs.Common.{◌≡◌, ◌+◌, ◌∙◌, Bool, inr, arith, sym, false, true}
+use Rattle.std.proofs.Common.{◌≡◌, ◌+◌, ◌∙◌, inr, arith, sym, false, true}
 use Rattle.std.specs.List.{list_any}
 use Rattle.rollout_machine.specs.Records.{modules, sets}
 use Rattle.rollout_machine.specs.Verdicts.{is_named_by_set}

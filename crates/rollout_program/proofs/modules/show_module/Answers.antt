@@ -1,4 +1,4 @@
-use Rattle.std.proofs.Common.{◌≡◌, ◌∙◌, Bool, Some, None, option_map, inr, ap, sym}
+use Rattle.std.proofs.Common.{◌≡◌, Some, None, inr}
 use Rattle.std.specs.List.{list_any}
 use Rattle.rollout_machine.specs.ByteStrings.{item_numbered}
 use Rattle.rollout_machine.specs.Records.{modules, sets}

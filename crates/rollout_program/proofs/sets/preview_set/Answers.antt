@@ -1,4 +1,4 @@
-use Rattle.std.proofs.Common.{◌≡◌, ◌+◌, ◌∙◌, Bool, inr, arith, sym, false, true}
+use Rattle.std.proofs.Common.{◌≡◌, ◌+◌, ◌∙◌, inr, arith, sym, false, true}
 use Rattle.std.specs.List.{list_any}
 use Rattle.std.specs.Option.{is_none}
 use Rattle.rollout_machine.specs.ByteStrings.{item_numbered}

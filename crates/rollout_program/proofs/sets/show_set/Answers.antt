@@ -1,4 +1,4 @@
-use Rattle.std.proofs.Common.{◌≡◌, Bool, Some, None, inr}
+use Rattle.std.proofs.Common.{◌≡◌, Some, None, inr}
 use Rattle.rollout_machine.specs.ByteStrings.{item_numbered}
 use Rattle.rollout_machine.specs.Records.{sets}
 use Rattle.rollout_program.specs.Lists.{list_from}

@@ -1,4 +1,4 @@
-use Rattle.std.proofs.Common.{◌≡◌, ap, ◌∙◌, ◌++◌, ◌∷◌, []}
+use Rattle.std.proofs.Common.{ap, ◌∙◌}
 use Rattle.rollout_machine.specs.CommandList.{◌▸◌}
 use Rattle.rollout_machine.specs.Views.{command_of}
 use Rattle.rollout_program.specs.Lists.{list_from}

@@ -1,0 +1,70 @@
+//! Putting targets, and tagging them.
+
+ghost use Rattle.std.specs.Prelude.{◌≡◌, Some, None, MatchResult};
+ghost use Rattle.campaign_core.specs.Checks.{import_refusal, tag_refusal, untag_refusal};
+
+use rollout_model::Refusal;
+
+/// How many targets a desk takes.
+const TARGET_LIMIT: u32 = 10_000;
+
+/// How many tags a target takes.
+const TAG_LIMIT: u32 = 16;
+
+/// What putting targets rests on.
+#[derive(Clone, Copy, Debug, PartialEq, Eq)]
+pub struct ImportView {
+    /// How many targets there are with the new ones.
+    pub count_after: u32,
+}
+
+/// What tagging a target rests on.
+#[derive(Clone, Copy, Debug, PartialEq, Eq)]
+pub struct TagView {
+    /// Whether the target is not there.
+    pub misses_target: bool,
+    /// Whether it has the tag.
+    pub same: bool,
+    /// How many tags it has.
+    pub count: u32,
+}
+
+/// What untagging a target rests on.
+#[derive(Clone, Copy, Debug, PartialEq, Eq)]
+pub struct UntagView {
+    /// Whether the target is not there.
+    pub misses_target: bool,
+}
+
+/// Nothing, or the first refusal that applies.
+pub(crate) fn put_targets(view: &ImportView) -> Result<(), Refusal>
+    ensures { MatchResult result (λ _. import_refusal view.now ≡ None) (λ refusal. import_refusal view.now ≡ Some refusal) }
+{
+    if view.count_after > TARGET_LIMIT {
+        return Err(Refusal::Quota);
+    }
+    Ok(())
+}
+
+/// Nothing, or the first refusal that applies.
+pub(crate) fn tag(view: &TagView) -> Result<(), Refusal>
+    ensures { MatchResult result (λ _. tag_refusal view.now ≡ None) (λ refusal. tag_refusal view.now ≡ Some refusal) }
+{
+    if view.misses_target {
+        return Err(Refusal::NotFound);
+    }
+    if !view.same && view.count >= TAG_LIMIT {
+        return Err(Refusal::Quota);
+    }
+    Ok(())
+}
+
+/// Nothing, or the first refusal that applies.
+pub(crate) fn untag(view: &UntagView) -> Result<(), Refusal>
+    ensures { MatchResult result (λ _. untag_refusal view.now ≡ None) (λ refusal. untag_refusal view.now ≡ Some refusal) }
+{
+    if view.misses_target {
+        return Err(Refusal::NotFound);
+    }
+    Ok(())
+}

@@ -1,0 +1,11 @@
+//! The approval of a rollout.
+
+/// Whether a rollout may be started.
+#[derive(Clone, Copy, Debug, PartialEq, Eq)]
+pub enum Approval {
+    /// Nobody decided yet.
+    Waiting,
+    Denied,
+    /// It was approved, or needs no approval.
+    Given,
+}

@@ -1,0 +1,17 @@
+//! Pages of lists.
+
+/// The part of a list that is asked for.
+#[derive(Clone, Copy, Debug, PartialEq, Eq)]
+pub struct Page {
+    /// How many entries come before it.
+    pub offset: u32,
+    /// How many entries it has at most.
+    pub limit: u32,
+}
+
+/// A part of a list, and how many entries the whole has.
+#[derive(Debug, PartialEq, Eq, Drop)]
+pub struct PageOf<T> {
+    pub content: Vec<T>,
+    pub total: u32,
+}

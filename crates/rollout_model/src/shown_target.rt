@@ -1,0 +1,19 @@
+//! Targets as they are shown.
+
+use crate::controller_id::ControllerId;
+use crate::tags::Tags;
+use crate::target::Attributes;
+use crate::target_word::TargetWord;
+use crate::text::Text;
+
+/// A target as it is shown, without anything of its token.
+#[derive(Debug, PartialEq, Eq, Drop)]
+pub struct ShownTarget {
+    pub id: ControllerId,
+    pub name: Text,
+    /// In byte order.
+    pub tags: Tags,
+    /// In byte order of their keys.
+    pub attributes: Attributes,
+    pub word: TargetWord,
+}
