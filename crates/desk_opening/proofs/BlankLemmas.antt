@@ -81,7 +81,7 @@ empty_is_unused db none s sound =
     let tables : s.tables ≡ [] = none_zipped IsTableRow s.tables listed.tables in
     let indexes : s.indexes ≡ [] = none_zipped (IsIndexRow s.tables) s.indexes listed.indexes in
     let views : s.views ≡ [] = none_zipped IsViewRow s.views listed.views in
-    rw (tables, indexes, views) (refl, (refl, (refl, (refl, tt))))
+    rw (tables, indexes, views) (refl, (refl, (refl, (refl, (refl, (refl, (refl, (refl, (refl, tt)))))))))
 
 pub nothing_is_unused : (image : Image) (db : Trees) → IsNothing image → AreFoundIn image db → UsesNoName db
 nothing_is_unused image db nothing (inl found) = absurd (∥∥₁_elim found.4 (λ x. absurd x) (λ ours. not_nothing found.0 image found.1 found.3 ours.file.sound nothing))

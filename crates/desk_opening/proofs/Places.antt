@@ -1,7 +1,7 @@
 -- What is known of each table by computing its text.
-use Rattle.std.proofs.Common.{◌≡◌, refl, sym, ap, ◌∙◌, ℕ, ◌+◌, ◌<◌, false, List, [], ◌∷◌, ◌++◌, length, take, drop, get_or, codes, Ok, Err, Result}
+use Rattle.std.proofs.Common.{◌≡◌, refl, sym, ap, subst, ◌∙◌, ℕ, ◌+◌, ◌<◌, ◌≤◌, false, List, [], ◌∷◌, ◌++◌, length, take, drop, get_or, codes, Ok, Err, Result}
 use Rattle.std.specs.List.{AllByRecursion}
-use Rattle.std.proofs.lemmas.List.{drop_more, take_more}
+use Rattle.std.proofs.lemmas.List.{drop_more, take_all, take_more}
 use Rattle.std.proofs.Math.ListN.{get_or-map}
 use Rattle.sqlite.specs.Schema.{Schema}
 use Rattle.sqlite.specs.Table.{Table}
@@ -19,7 +19,9 @@ use Rattle.sqlite_catalog.specs.Change.{is_used}
 use Rattle.sql_front.specs.Bare.{IsBareTable}
 use Rattle.sql_front.proofs.Write.{Makes, with_create, makes_known}
 use Rattle.sql_calls.proofs.Means.{Means}
-use Rattle.desk_records.specs.Schema.{Place, Desk, Modules, Sets, SetModules, table_at, name_of}
+use Rattle.desk_records.specs.Schema.{Place, Desk, Modules, Sets, SetModules, Artifacts, Pieces, Targets, TargetTags, TargetAttributes, table_at, name_of}
+use Rattle.desk_records.proofs.ArtifactMeaning.{create_artifact_is, create_piece_is, create_artifact_makes, create_piece_makes}
+use Rattle.desk_records.proofs.TargetMeaning.{create_target_is, create_target_tag_is, create_target_attribute_is, create_target_makes, create_target_tag_makes, create_target_attribute_makes}
 use Rattle.desk_records.proofs.SetMeaning.{create_set_is, create_set_module_is, create_set_makes, create_set_module_makes}
 use Rattle.desk_records.proofs.Meaning.{create_desk_is, create_module_is, create_desk_makes, create_module_makes}
 use Rattle.desk_opening.specs.declared.desk_table.DeskTable.{DeskTable}
@@ -88,6 +90,61 @@ is_place SetModules = record {
   unindexed = λ rest. refl;
   unsequenced = refl;
 }
+is_place Artifacts = record {
+  means = create_artifact_is;
+  makes = create_artifact_makes;
+  whole = refl;
+  defined = refl;
+  named = refl;
+  moved = λ tree. refl;
+  bare = record { checks = refl; references = refl; computed = refl; stamps = refl; uncounted = refl; defaults = (refl, (refl, (refl, (refl, (refl, tt))))) };
+  unindexed = λ rest. refl;
+  unsequenced = refl;
+}
+is_place Pieces = record {
+  means = create_piece_is;
+  makes = create_piece_makes;
+  whole = refl;
+  defined = refl;
+  named = refl;
+  moved = λ tree. refl;
+  bare = record { checks = refl; references = refl; computed = refl; stamps = refl; uncounted = refl; defaults = (refl, (refl, (refl, tt))) };
+  unindexed = λ rest. refl;
+  unsequenced = refl;
+}
+is_place Targets = record {
+  means = create_target_is;
+  makes = create_target_makes;
+  whole = refl;
+  defined = refl;
+  named = refl;
+  moved = λ tree. refl;
+  bare = record { checks = refl; references = refl; computed = refl; stamps = refl; uncounted = refl; defaults = (refl, (refl, (refl, tt))) };
+  unindexed = λ rest. refl;
+  unsequenced = refl;
+}
+is_place TargetTags = record {
+  means = create_target_tag_is;
+  makes = create_target_tag_makes;
+  whole = refl;
+  defined = refl;
+  named = refl;
+  moved = λ tree. refl;
+  bare = record { checks = refl; references = refl; computed = refl; stamps = refl; uncounted = refl; defaults = (refl, (refl, tt)) };
+  unindexed = λ rest. refl;
+  unsequenced = refl;
+}
+is_place TargetAttributes = record {
+  means = create_target_attribute_is;
+  makes = create_target_attribute_makes;
+  whole = refl;
+  defined = refl;
+  named = refl;
+  moved = λ tree. refl;
+  bare = record { checks = refl; references = refl; computed = refl; stamps = refl; uncounted = refl; defaults = (refl, (refl, (refl, tt))) };
+  unindexed = λ rest. refl;
+  unsequenced = refl;
+}
 
 -- ---- all places
 
@@ -96,10 +153,19 @@ each_place P all Desk = all.0
 each_place P all Modules = all.1.0
 each_place P all Sets = all.1.1.0
 each_place P all SetModules = all.1.1.1.0
+each_place P all Artifacts = all.1.1.1.1.0
+each_place P all Pieces = all.1.1.1.1.1.0
+each_place P all Targets = all.1.1.1.1.1.1.0
+each_place P all TargetTags = all.1.1.1.1.1.1.1.0
+each_place P all TargetAttributes = all.1.1.1.1.1.1.1.1.0
+
+-- what holds of all places that a loop has seen, once it has seen them all
+pub in_all_places : (P : Place → Type 0) (n : ℕ) → length places ≤ n → AllByRecursion P (take n places) → (t : Place) → P t
+in_all_places P n seen all = each_place P (subst (AllByRecursion P) (take_all n places seen) all)
 
 -- the tables of the code
 abbrev pub all_tables : List DeskTable
-all_tables = table.Desk ∷ table.Modules ∷ table.Sets ∷ table.SetModules ∷ []
+all_tables = table.Desk ∷ table.Modules ∷ table.Sets ∷ table.SetModules ∷ table.Artifacts ∷ table.Pieces ∷ table.Targets ∷ table.TargetTags ∷ table.TargetAttributes ∷ []
 
 pub next_place : (n : ℕ) (d : DeskTable) → n < length all_tables → drop n places ≡ place_of (get_or all_tables n d) ∷ drop (n + 1) places
 next_place n d within = drop_more places n (place_of d) within ∙ ap (λ t. t ∷ drop (n + 1) places) (get_or-map place_of all_tables n d)
@@ -112,7 +178,7 @@ HaveNamesApart t u = same_name (name_of t) (name_of u) ≡ false
 
 pub names_apart : IsAscending HaveNamesApart places
 unfolding same_name
-names_apart = ((refl, (refl, (refl, tt))), ((refl, (refl, tt)), ((refl, tt), (tt, tt))))
+names_apart = ((refl, (refl, (refl, (refl, (refl, (refl, (refl, (refl, tt)))))))), ((refl, (refl, (refl, (refl, (refl, (refl, (refl, tt))))))), ((refl, (refl, (refl, (refl, (refl, (refl, tt)))))), ((refl, (refl, (refl, (refl, (refl, tt))))), ((refl, (refl, (refl, (refl, tt)))), ((refl, (refl, (refl, tt))), ((refl, (refl, tt)), ((refl, tt), (tt, tt)))))))))
 
 -- ---- the texts
 

@@ -53,14 +53,14 @@ same_tables : (s z : Schema) (db : Trees) → IsSound s db → IsSound z db → 
 same_tables s z db h k = zip_same IsTableRow one_table _ s.tables z.tables h.lists.listed.tables k.lists.listed.tables
 
 stands_over : (s z : Schema) (name : List ℕ) (at : ℕ) (table : Table) → z.tables ≡ s.tables → Stands s name at table → Stands z name at table
-stands_over s z name at table same stands = record { named = rw same stands.named; got = rw same stands.got; found = rw same stands.found; stored = stands.stored }
+stands_over s z name at table same stands = record { named = rw same stands.named; got = rw same stands.got; found = rw same stands.found; keyless = rw same stands.keyless; stored = stands.stored }
 
 -- whichever schema an open finds, it finds the records
 holds_over : (z : Schema) (trees : Trees) (r : Records) → IsSound z trees → HoldIn HoldsRecords trees r → HoldsRecords (record { schema = z; trees = trees }) r
 holds_over z trees r sound held =
     let h = held.1 in
     let same = same_tables z held.0 trees sound h.sound in
-    record { sound = sound; spot = h.spot; stands = λ t. stands_over held.0 z _ _ _ same (h.stands t); rows = h.rows; bare = h.bare }
+    record { sound = sound; spot = h.spot; stands = λ t. stands_over held.0 z _ _ _ same (h.stands t); rows = h.rows; sorted = h.sorted; bare = h.bare }
 
 -- ---- a connection that was just opened
 

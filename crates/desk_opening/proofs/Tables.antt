@@ -25,11 +25,12 @@ use Rattle.sql_front.proofs.Grown.{Grown, grown}
 use Rattle.sqlite_rules.specs.Edit.{put_all, numbered}
 use Rattle.sqlite_rules.specs.Cast.{cast_row}
 use Rattle.sqlite.specs.Rowids.TheVariants.{Chosen}
+use Rattle.sql_calls.specs.Apart.{HasNoForeignKey}
 use Rattle.sql_calls.proofs.Inserts.{Inserted, inserts, uncounted, given_rows}
 use Rattle.sql_calls.proofs.NumberedRows.{cast_int, cast_null}
 use Rattle.rollout_machine.specs.RecordSteps.{no_records}
 use Rattle.rollout_machine.proofs.Answering.{made_records}
-use Rattle.desk_records.specs.Schema.{Place, Desk, Modules, Sets, SetModules, table_at, name_of, desk_table}
+use Rattle.desk_records.specs.Schema.{Place, Desk, Modules, Sets, SetModules, Artifacts, Pieces, Targets, TargetTags, TargetAttributes, table_at, name_of, desk_table}
 use Rattle.sql_calls.specs.Keyed.{IsHeldBy}
 use Rattle.desk_records.specs.Holds.{Spot, IsHeld, desk_row}
 use Rattle.desk_records.proofs.Meaning.{desk_terms}
@@ -94,7 +95,7 @@ module _ (t : Place) (made left : List Place) (apart : AllByRecursion (HaveNames
 
   made_last : Stands new.now.schema (name_of t) (length s.tables) (table_at t (next_tree s))
   made_last =
-      let stands = stands_last s new.now.schema (table_at t 0) g.more g.tables free (same_itself (table_at t 0).name) low in
+      let stands = stands_last s new.now.schema (table_at t 0) g.more g.tables ((is_place t).bare.references, g.bare) free (same_itself (table_at t 0).name) low in
       subst (λ name. Stands new.now.schema name (length s.tables) (table_at t (next_tree s))) (is_place t).named
       (subst (λ (table : Table). Stands new.now.schema (table_at t 0).name (length s.tables) table) ((is_place t).moved (next_tree s)) stands)
 
@@ -102,7 +103,7 @@ module _ (t : Place) (made left : List Place) (apart : AllByRecursion (HaveNames
   still_empty u e =
       let rows : new.now.trees (table_at u e.tree).tree ≡ old.now.trees (table_at u e.tree).tree = all-slice_get (λ (x : Table). new.now.trees x.tree ≡ old.now.trees x.tree) s.tables e.at (table_at u e.tree) e.stands.got g.others in
       let kept : new.now.trees e.tree ≡ old.now.trees e.tree = subst (λ n. new.now.trees n ≡ old.now.trees n) (same_tree u e.tree) rows in
-      record { at = e.at; tree = e.tree; stands = stands_kept s new.now.schema (name_of u) e.at (table_at u e.tree) (new_table ∷ g.more) g.tables e.stands; empty = kept ∙ e.empty }
+      record { at = e.at; tree = e.tree; stands = stands_kept s new.now.schema (name_of u) e.at (table_at u e.tree) (new_table ∷ g.more) g.tables ((is_place t).bare.references, g.bare) e.stands; empty = kept ∙ e.empty }
 
   spared : (u : Place) → same_name (table_at t 0).name (name_of u) ≡ false → is_used s (name_of u) ≡ false → is_used new.now.schema (name_of u) ≡ false
   spared u other unused = g.free (name_of u) unused other (λ tree next i. unindexed (name_of u) (is_place u).unindexed (record (table_at t 0) { tree = tree }) 0 next i (table_at t 0).uniques) (is_place u).unsequenced
@@ -159,15 +160,23 @@ module _ (approval : Bool) (old new : State) (text : List ℕ) (count : ℕ) (wa
   stay_empty t apart =
       let e = at_place t in
       let others : (table_at t e.tree).tree ≢ was.1.0.tree → new.now.trees (table_at t e.tree).tree ≡ old.now.trees (table_at t e.tree).tree =
-      all-slice_get (λ (x : Table). x.tree ≢ was.1.0.tree → new.now.trees x.tree ≡ old.now.trees x.tree) here.tables e.at (table_at t e.tree) e.stands.got made.applies.tables in
+      all-slice_get (λ (x : Table). HasNoForeignKey here x.tree → x.tree ≢ was.1.0.tree → new.now.trees x.tree ≡ old.now.trees x.tree) here.tables e.at (table_at t e.tree) e.stands.got made.applies.tables e.stands.keyless in
       let kept : e.tree ≢ was.1.0.tree → new.now.trees e.tree ≡ old.now.trees e.tree = subst (λ n. n ≢ was.1.0.tree → new.now.trees n ≡ old.now.trees n) (same_tree t e.tree) others in
       kept (in_another here Desk t was.1.0.tree e.tree was.1.0.stands.found (found_at t) apart) ∙ e.empty
+
+  no_parts : (t : Place) → HaveNamesApart Desk t → IsHeldBy (new.now.trees (at_place t).tree) []
+  no_parts t apart = subst (λ l. IsHeldBy l []) (sym (stay_empty t apart)) (record { order = []; rising = tt; same = IsPermutation-same [] [] refl })
 
   rows : (t : Place) → IsHeld (no_records approval) t (new.now.trees (spot_of t).tree)
   rows Desk = desk_rows
   rows Modules = stay_empty Modules names_apart.0.0
   rows Sets = stay_empty Sets names_apart.0.1.0
-  rows SetModules = subst (λ l. IsHeldBy l []) (sym (stay_empty SetModules names_apart.0.1.1.0)) (record { order = []; rising = tt; same = IsPermutation-same [] [] refl })
+  rows SetModules = no_parts SetModules names_apart.0.1.1.0
+  rows Artifacts = stay_empty Artifacts names_apart.0.1.1.1.0
+  rows Pieces = no_parts Pieces names_apart.0.1.1.1.1.0
+  rows Targets = no_parts Targets names_apart.0.1.1.1.1.1.0
+  rows TargetTags = no_parts TargetTags names_apart.0.1.1.1.1.1.1.0
+  rows TargetAttributes = no_parts TargetAttributes names_apart.0.1.1.1.1.1.1.1.0
 
   filled_with : HoldsStage new.now (Whole (no_records approval))
   filled_with = record {
@@ -175,7 +184,8 @@ module _ (approval : Bool) (old new : State) (text : List ℕ) (count : ℕ) (wa
     spot = spot_of;
     stands = λ t. subst (λ x. Stands x (name_of t) (at_place t).at (table_at t (at_place t).tree)) (sym made.schema_is) (at_place t).stands;
     rows = rows;
-    bare = record { artifacts = refl; targets = refl; rollouts = refl; actions = refl };
+    sorted = refl;
+    bare = record { rollouts = refl; actions = refl };
   }
 
   pub desk_filled : HoldsStage new.now (Whole (first_records approval))

@@ -116,6 +116,14 @@ fn a_database_with_no_desk_is_opened_by_its_names(rt: HostRuntime) -> Result<(),
             Err(OpenFault::NotDesk),
         ),
         (
+            "CREATE TABLE piece (number INTEGER PRIMARY KEY)",
+            Err(OpenFault::NotDesk),
+        ),
+        (
+            "CREATE TABLE target_attribute (number INTEGER PRIMARY KEY)",
+            Err(OpenFault::NotDesk),
+        ),
+        (
             "CREATE TABLE desk (id INTEGER PRIMARY KEY, format TEXT NOT NULL, version INTEGER NOT NULL, approval INTEGER NOT NULL) STRICT; INSERT INTO desk VALUES (1, 'fwdesk', 1, 0)",
             Err(OpenFault::NotDesk),
         ),

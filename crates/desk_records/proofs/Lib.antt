@@ -1,9 +1,20 @@
 pub mod Meaning
 pub mod SetMeaning
+pub mod ArtifactMeaning
+pub mod TargetMeaning
 mod Comparisons
+pub mod ByteOrder
+pub mod Targets
+pub mod Attributes
 mod NumberedReads
+mod Parts
+mod PieceLists
 pub mod Sets
 pub mod HoldsAfter
 mod RowLemmas
 pub mod Modules
 pub mod SetRecords
+pub mod Artifacts
+pub mod ArtifactRecords
+pub mod TargetRecords
+pub mod AttributeRecords

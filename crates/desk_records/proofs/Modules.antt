@@ -20,7 +20,7 @@ use Rattle.rollout_machine.specs.Commands.{ModuleLabel}
 use Rattle.rollout_machine.specs.ByteStrings.{same_bytes, item_numbered}
 use Rattle.rollout_machine.specs.Records.{Records}
 use Rattle.desk_records.specs.Modules.{words_of, with_module, is_same, IsLastRow, IsModuleRow}
-use Rattle.desk_records.specs.Schema.{Place, Desk, Modules, Sets, SetModules, module_table}
+use Rattle.desk_records.specs.Schema.{Place, Desk, Modules, Sets, SetModules, Artifacts, Pieces, Targets, TargetTags, TargetAttributes, module_table}
 use Rattle.desk_records.specs.Holds.{HoldsRecords, IsHeld, module_row}
 use Rattle.desk_records.proofs.HoldsAfter.{holds_after}
 use Rattle.desk_records.proofs.Comparisons.{judged, words_equal, and_true}
@@ -69,10 +69,15 @@ adds_module label number old new text count now holds next w =
     let made = inserts old.now.schema spot.at (module_table spot.tree) module_terms 5 (holds.stands Modules).got old new refl text params count w in
     let at : number ≡ 1 + length now.modules = omega (arith, next) in
     let table : new.now.trees spot.tree ≡ rows_from module_row 1 (now.modules ++ label ∷ []) = made.applies.rows ∙ rw (cast_int number, cast_null, holds.rows Modules, at) (put_next module_row (λ n x. refl) 1 now.modules label) in
-    holds_after Modules now (with_module now label) old.now new.now holds made.schema_is w.sound table made.applies.tables only (record { artifacts = holds.bare.artifacts; targets = holds.bare.targets; rollouts = holds.bare.rollouts; actions = holds.bare.actions })
+    holds_after Modules now (with_module now label) old.now new.now holds made.schema_is w.sound table made.applies.tables only holds.sorted (record { rollouts = holds.bare.rollouts; actions = holds.bare.actions })
   where
     only : (t : Place) → t ≢ Modules → (rows : List Row) → IsHeld now t rows → IsHeld (with_module now label) t rows
     only Desk apart rows held = held
     only Modules apart rows held = absurd (apart refl)
     only Sets apart rows held = held
     only SetModules apart rows held = held
+    only Artifacts apart rows held = held
+    only Pieces apart rows held = held
+    only Targets apart rows held = held
+    only TargetTags apart rows held = held
+    only TargetAttributes apart rows held = held

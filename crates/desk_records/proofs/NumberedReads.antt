@@ -1,7 +1,7 @@
 -- What the usual reads of a table show whose k-th row has number k: one that passes a test, the last number, one by its number.
 use Rattle.std.proofs.Common.{◌≡◌, ◌≤◌, ◌==◌, ◌||◌, ℕ, zero, suc, ◌+◌, pos, List, [], ◌∷◌, map, filter, length, slice_get, Bool, true, false, not, Option, Some, None, option_map, refl, sym, ap, ap₂, subst, ◌∙◌, arith, IsPermutation}
 use Rattle.std.specs.List.{list_any}
-use Rattle.std.specs.Option.{is_some}
+use Rattle.std.specs.Option.{is_some, option_to_list}
 use Rattle.std.proofs.lemmas.Bool.Decides.{nat_tests}
 use Rattle.std.proofs.lemmas.List.{length-map}
 use Rattle.std.proofs.lemmas.List.Sorted.{length_permutation}
@@ -9,6 +9,7 @@ use Rattle.sqlite_value.specs.declared.value.Value.TheVariants.{Null, Int}
 use Rattle.sqlite_value.specs.Order.{Row, column}
 use Rattle.sqlite_trees.specs.Tree.{rowid}
 use Rattle.sqlite.specs.Term.{Term}
+use Rattle.sqlite.specs.Command.{Command}
 use Rattle.sqlite.specs.Command.TheVariants.{Select}
 use Rattle.sqlite.specs.Effect.{Database, Reads as Shows}
 use Rattle.sqlite.proofs.Callers.{one_permutation}
@@ -31,6 +32,24 @@ some_pass p xs = ap not (none_counted p xs) ∙ not_not (list_any p xs)
 
 pub some_row : (row : Row) (tail : List Row) → not (length (row ∷ tail) == 0) ≡ true
 some_row row tail = grind (arith, nat_tests)
+
+-- ---- a query that shows at most one row
+
+module _ {X : Type 0} (g : Row → Row) (f : X → Row) where
+  none_found : (found : Option X) → IsPermutation (map g (option_to_list (option_map f found))) [] → None ≡ option_map (λ x. g (f x)) found
+  none_found None alike = refl
+  none_found (Some x) alike = absurd (omega (arith, length_permutation _ _ alike))
+
+  one_found : (found : Option X) (row : Row) (tail : List Row) → IsPermutation (map g (option_to_list (option_map f found))) (row ∷ tail) → Some row ≡ option_map (λ x. g (f x)) found
+  one_found None row tail alike = absurd (omega (arith, length_permutation _ _ alike))
+  one_found (Some x) row tail alike = let all : row ∷ tail ≡ g (f x) ∷ [] = one_permutation (g (f x)) _ alike in let it : row ≡ g (f x) = cc in ap Some it
+
+  pub first_found : (command : Command) (db : Database) (params : Row) (found : Option X) → ((rows : List Row) → Shows command db params rows → IsPermutation (map g (option_to_list (option_map f found))) rows)
+      → (row : Option Row) → ShowsFirst command db params row → row ≡ option_map (λ x. g (f x)) found
+  first_found command db params found alike None shown = none_found found (alike [] shown)
+  first_found command db params found alike (Some row) shown = one_found found row shown.0 (alike (row ∷ shown.0) shown.1)
+
+-- ---- tables whose k-th row has number k
 
 module _ {X : Type 0} (f : ℕ → X → Row) where
   any_row : (p : Row → Bool) (q : X → Bool) → ((n : ℕ) (x : X) → p (f n x) ≡ q x) → (n : ℕ) (xs : List X) → list_any p (rows_from f n xs) ≡ list_any q xs
@@ -88,15 +107,7 @@ module _ {X : Type 0} (f : ℕ → X → Row) where
         abbrev pub shown_at : ℕ → X → Row
         shown_at number x = shown_of shows (Int (pos number) ∷ []) (f number x)
 
+        -- the record of this number
         pub gets : (number : ℕ) → 1 ≤ number → (row : Option Row) → ShowsFirst (Select (record { lets = []; body = simple tree test shows }) names) db (Int (pos number) ∷ []) row → row ≡ option_map (shown_at number) (item_numbered xs number)
         gets zero least row shown = absurd (omega (arith, least))
-        gets (suc k) least None shown = none_of (slice_get xs k) (numbered_rows k [] shown)
-          where
-            none_of : (found : Option X) → IsPermutation (map (shown_of shows (Int (pos (suc k)) ∷ [])) (row_of f ids (suc k) found)) [] → None ≡ option_map (shown_at (suc k)) found
-            none_of None alike = refl
-            none_of (Some x) alike = absurd (omega (arith, length_permutation _ _ alike))
-        gets (suc k) least (Some row) shown = one_of (slice_get xs k) (numbered_rows k (row ∷ shown.0) shown.1)
-          where
-            one_of : (found : Option X) → IsPermutation (map (shown_of shows (Int (pos (suc k)) ∷ [])) (row_of f ids (suc k) found)) (row ∷ shown.0) → Some row ≡ option_map (shown_at (suc k)) found
-            one_of None alike = absurd (omega (arith, length_permutation _ _ alike))
-            one_of (Some x) alike = let all : row ∷ shown.0 ≡ shown_at (suc k) x ∷ [] = one_permutation (shown_at (suc k) x) _ alike in let it : row ≡ shown_at (suc k) x = cc in ap Some it
+        gets (suc k) least row shown = first_found (shown_of shows (Int (pos (suc k)) ∷ [])) (f (suc k)) (Select (record { lets = []; body = simple tree test shows }) names) db (Int (pos (suc k)) ∷ []) (slice_get xs k) (numbered_rows k) row shown

@@ -1,5 +1,5 @@
 -- A column that is not read breaks its rule.
-use Rattle.std.proofs.Common.{◌≡◌, ◌≢◌, ◌⊎◌, inl, inr, ◌<◌, ℕ, false, List, refl, ap, length, arith, nat_lt}
+use Rattle.std.proofs.Common.{◌≡◌, ◌≢◌, ◌⊎◌, inl, inr, ◌<◌, ℕ, Bool, false, List, refl, ap, ◌∙◌, length, arith, nat_lt}
 use Rattle.std.specs.Str.{IsUtf8}
 use Rattle.std.proofs.lemmas.Bool.{cases_Bool, and_parts}
 use Rattle.std.proofs.lemmas.Str.{IsUtf8-from_is_utf8}
@@ -12,10 +12,11 @@ use Rattle.sqlite.specs.declared.error.Error.{Error}
 use Rattle.sqlite.specs.declared.error.Error.TheVariants.{SqliteFailure}
 use Rattle.sqlite.specs.declared.error.ErrorCode.{ErrorCode}
 use Rattle.sqlite.specs.declared.error.ErrorCode.TheVariants.{OutOfMemory}
-use Rattle.rollout_model.specs.Rules.{is_text}
+use Rattle.rollout_model.specs.Rules.{is_text, is_value}
 use Rattle.desk_records.specs.declared.module_row.Column.{Column}
 use Rattle.desk_records.specs.declared.module_row.RowFault.TheVariants.{Memory, Broken}
 use Rattle.desk_records.specs.ModuleRow.{has_text, fault_at}
+use Rattle.desk_records.specs.TargetRow.{has_value}
 
 unread_text : (t : List ℕ) → ((s : List ℕ) × (Text t ≡ Text s) × IsUtf8 s → ⊥) → is_text t ≡ false
 unread_text t h = elim (cases_Bool (is_text t)) [
@@ -30,6 +31,19 @@ unread (Real x) h = refl
 unread (Text t) h = unread_text t h
 unread (Blob b) h = refl
 
+unread_spelled : (t : List ℕ) → ((s : List ℕ) × (Text t ≡ Text s) × IsUtf8 s → ⊥) → is_value t ≡ false
+unread_spelled t h = elim (cases_Bool (is_value t)) [
+  | inl kept ↦ absurd (h (t, refl, IsUtf8-from_is_utf8 t (and_parts _ _ kept).1))
+  | inr broken ↦ broken
+]
+
+pub unread_value : (v : Value) → ((s : List ℕ) × (v ≡ Text s) × IsUtf8 s → ⊥) → has_value v ≡ false
+unread_value Null h = refl
+unread_value (Int n) h = refl
+unread_value (Real x) h = refl
+unread_value (Text t) h = unread_spelled t h
+unread_value (Blob b) h = refl
+
 code_told : (code : ErrorCode) (c : Column) → (fault_at (SqliteFailure code) c ≡ Memory) ⊎ ((fault_at (SqliteFailure code) c ≡ Broken c) × (SqliteFailure code ≢ SqliteFailure OutOfMemory))
 code_told OutOfMemory c = inl refl
 code_told _ c = inr (refl, λ e. cc)
@@ -38,16 +52,16 @@ pub told : (e : Error) (c : Column) → (fault_at e c ≡ Memory) ⊎ ((fault_at
 told (SqliteFailure code) c = code_told code c
 told _ c = inr (refl, λ e. cc)
 
--- the fault of a column that was not read
-pub fails_at : (row : Row) (at : ℕ) (e : Error) (c : Column) → (e ≢ SqliteFailure OutOfMemory → at < length row → (s : List ℕ) × (column row at ≡ Text s) × IsUtf8 s → ⊥)
-    → (fault_at e c ≡ Memory) ⊎ ((fault_at e c ≡ Broken c) × (has_text (column row at) ≡ false))
-fails_at row at e c kind = elim (told e c) [
+-- the fault of a column that was not read, where only a text can keep the rule
+pub fails_at : (keeps : Value → Bool) → ((v : Value) → ((s : List ℕ) × (v ≡ Text s) × IsUtf8 s → ⊥) → keeps v ≡ false) → (row : Row) (at : ℕ) (e : Error) (c : Column)
+    → (e ≢ SqliteFailure OutOfMemory → at < length row → (s : List ℕ) × (column row at ≡ Text s) × IsUtf8 s → ⊥) → (fault_at e c ≡ Memory) ⊎ ((fault_at e c ≡ Broken c) × (keeps (column row at) ≡ false))
+fails_at keeps fails row at e c kind = elim (told e c) [
   | inl memory ↦ inl memory
   | inr it ↦ inr (
     it.0,
     elim (cases_Bool (nat_lt at (length row))) [
-      | inl low ↦ unread (column row at) (kind it.1 (grind (arith, nat_tests)))
-      | inr past ↦ ap has_text (get_or_past row at Null (grind (arith, nat_tests)))
+      | inl low ↦ fails (column row at) (kind it.1 (grind (arith, nat_tests)))
+      | inr past ↦ ap keeps (get_or_past row at Null (grind (arith, nat_tests))) ∙ fails Null (λ none. absurd (let e = none.1 in cc))
     ],
   )
 ]

@@ -1,13 +1,12 @@
 -- The statements on distribution sets, in lists of them.
-use Rattle.std.proofs.Common.{◌≡◌, ◌≤◌, ◌<◌, ◌==◌, ◌||◌, ◌++◌, ℕ, zero, suc, ◌+◌, pos, List, [], ◌∷◌, map, filter, take, length, slice_get, Bool, true, false, not, cond, Option, Some, None, option_map, refl, sym, ap, ap₂, subst, ◌∙◌, arith, IsPermutation, Less, nat_eq, append_assoc, append-nil}
+use Rattle.std.proofs.Common.{◌≡◌, ◌≤◌, ◌<◌, ◌==◌, ◌||◌, ◌++◌, ℕ, zero, suc, ◌+◌, pos, List, [], ◌∷◌, map, filter, take, length, slice_get, Bool, true, not, Option, Some, None, option_map, refl, sym, ap, ap₂, subst, ◌∙◌, arith, IsPermutation, Less, nat_eq}
 use Rattle.std.specs.List.{list_any, AllByRecursion}
 use Rattle.std.specs.Option.{is_some}
 use Rattle.std.proofs.lemmas.Int.{ints}
 use Rattle.std.proofs.lemmas.Bool.Decides.{nat_tests}
 use Rattle.std.proofs.lemmas.List.{length-map}
-use Rattle.std.proofs.lemmas.List.Elements.{filter-append}
 use Rattle.std.proofs.lemmas.List.Folds.{list_any-append}
-use Rattle.std.proofs.lemmas.List.Sorted.{IsPermutation-trans, IsPermutation-to_front, length_permutation}
+use Rattle.std.proofs.lemmas.List.Sorted.{IsPermutation-trans, length_permutation}
 use Rattle.sqlite_value.specs.declared.value.Value.TheVariants.{Null, Int}
 use Rattle.sqlite_value.specs.Order.{Row, value_cmp}
 use Rattle.sqlite_value.proofs.OrderLemmas.{value_cmp-Int}
@@ -27,18 +26,19 @@ use Rattle.sql_calls.proofs.Selects.{simple, passes, shown_in, ordered_rows}
 use Rattle.sql_calls.proofs.Inserts.{Inserted, given_rows}
 use Rattle.sql_calls.proofs.NumberedRows.{put_next, cast_int, cast_null}
 use Rattle.sql_calls.proofs.NumberedTables.{has_number}
-use Rattle.sql_calls.proofs.KeyedRows.{on_content, held_seen, held_added}
+use Rattle.sql_calls.proofs.KeyedRows.{on_content, held_seen}
 use Rattle.rollout_machine.specs.Commands.{Bytes, SetLabel}
 use Rattle.rollout_machine.specs.ByteStrings.{same_bytes, item_numbered}
 use Rattle.rollout_machine.specs.Objects.{modules_of_set}
 use Rattle.rollout_machine.specs.Verdicts.{is_named_by_set}
 use Rattle.desk_records.specs.Modules.{IsLastRow}
 use Rattle.desk_records.specs.Schema.{set_table, set_module_table}
-use Rattle.desk_records.specs.Sets.{set_row, place_row, places_of, places_from, is_same_set, names_of, module_rows, set_named, and_module}
+use Rattle.desk_records.specs.Sets.{set_row, place_row, places_from, is_same_set, names_of, module_rows, set_named, and_module}
 use Rattle.desk_records.proofs.Meaning.{at_key}
 use Rattle.desk_records.proofs.SetMeaning.{same_names, last_set_query, name_columns, set_terms, set_modules_query, locked_query, set_module_terms}
 use Rattle.desk_records.proofs.Comparisons.{judged, words_equal, numbers_equal, and_true}
 use Rattle.desk_records.proofs.NumberedReads.{finds, lasts, gets, some_pass, some_row}
+use Rattle.desk_records.proofs.Parts.{same_rows, all_pass, no_parts, its_parts, part_added}
 
 -- ---- sets by name, the last one, and by number
 
@@ -69,24 +69,18 @@ set_added name version number tree schema old new sets has next made =
     let at : number ≡ 1 + length sets = omega (arith, next) in
     made.applies.rows ∙ rw (cast_int number, cast_null, has, at) (put_next set_row (λ n x. refl) 1 sets (set_named name version))
 
+-- ---- the rows of their modules
+
+abbrev modules : SetLabel → List ℕ
+modules set = set.modules
+
 -- it has no modules yet
 pub no_places : (name version : Bytes) (n : ℕ) (sets : List SetLabel) → places_from n (sets ++ set_named name version ∷ []) ≡ places_from n sets
-no_places name version n [] = refl
-no_places name version n (set ∷ sets) = ap (λ l. places_of n set.modules ++ l) (no_places name version (n + 1) sets)
+no_places name version n sets = no_parts place_row modules (set_named name version) refl n sets
 
 -- a further module leaves the rows of the sets
 pub same_sets : (n : ℕ) (before : List SetLabel) (set : SetLabel) (m : ℕ) → rows_from set_row n (before ++ and_module set m ∷ []) ≡ rows_from set_row n (before ++ set ∷ [])
-same_sets n [] set m = refl
-same_sets n (first ∷ before) set m = ap (λ l. set_row n first ∷ l) (same_sets (n + 1) before set m)
-
--- ---- the rows of their modules
-
--- a test that a set's number decides passes all of its modules, or none
-of_one_set : (p : Row → Bool) (number : ℕ) (b : Bool) → ((place m : ℕ) → p (place_row number place m) ≡ b) → (place : ℕ) (ms : List ℕ) → filter p (rows_from (place_row number) place ms) ≡ cond b (rows_from (place_row number) place ms) []
-of_one_set p number true is place [] = refl
-of_one_set p number false is place [] = refl
-of_one_set p number true is place (m ∷ ms) = rw (is place m) (ap (λ l. place_row number place m ∷ l) (of_one_set p number true is (place + 1) ms))
-of_one_set p number false is place (m ∷ ms) = rw (is place m) (of_one_set p number false is (place + 1) ms)
+same_sets n before set m = same_rows set_row set (and_module set m) (λ n. refl) n before
 
 abbrev is_of : ℕ → Row → Bool
 is_of number = on_content (passes (at_key 1 0 ∷ []) (Int (pos number) ∷ []))
@@ -94,27 +88,11 @@ is_of number = on_content (passes (at_key 1 0 ∷ []) (Int (pos number) ∷ []))
 names_it : (number n place m : ℕ) → is_of number (place_row n place m) ≡ nat_eq n number
 names_it number n place m = and_true _ ∙ numbers_equal n number
 
-none_later : (number n : ℕ) (sets : List SetLabel) → number < n → filter (is_of number) (places_from n sets) ≡ []
-none_later number n [] low = refl
-none_later number n (set ∷ sets) low =
-    let apart : nat_eq n number ≡ false = grind (arith, nat_tests) in
-    filter-append (is_of number) (places_of n set.modules) (places_from (n + 1) sets)
-    ∙ ap₂ ◌++◌ (of_one_set (is_of number) n false (λ place m. names_it number n place m ∙ apart) 1 set.modules) (none_later number (n + 1) sets (omega (arith, low)))
-
-its_places : (n k : ℕ) (sets : List SetLabel) → filter (is_of (n + k)) (places_from n sets) ≡ places_of (n + k) (modules_of_set (slice_get sets k))
-its_places n k [] = refl
-its_places n zero (set ∷ sets) =
-    let at : n + zero ≡ n = omega arith in
-    let same : nat_eq n (n + zero) ≡ true = grind (arith, nat_tests) in
-    filter-append (is_of (n + zero)) (places_of n set.modules) (places_from (n + 1) sets)
-    ∙ ap₂ ◌++◌ (of_one_set (is_of (n + zero)) n true (λ place m. names_it (n + zero) n place m ∙ same) 1 set.modules) (none_later (n + zero) (n + 1) sets (omega arith))
-    ∙ append-nil (places_of n set.modules) ∙ ap (λ number. places_of number set.modules) (sym at)
-its_places n (suc k) (set ∷ sets) =
-    let next : n + suc k ≡ (n + 1) + k = omega arith in
-    let apart : nat_eq n (n + suc k) ≡ false = grind (arith, nat_tests) in
-    filter-append (is_of (n + suc k)) (places_of n set.modules) (places_from (n + 1) sets)
-    ∙ ap₂ ◌++◌ (of_one_set (is_of (n + suc k)) n false (λ place m. names_it (n + suc k) n place m ∙ apart) 1 set.modules)
-    (ap (λ number. filter (is_of number) (places_from (n + 1) sets)) next ∙ its_places (n + 1) k sets ∙ ap (λ number. places_of number (modules_of_set (slice_get sets k))) (sym next))
+its_places : (k : ℕ) (sets : List SetLabel) → filter (is_of (suc k)) (places_from 1 sets) ≡ rows_from (place_row (suc k)) 1 (modules_of_set (slice_get sets k))
+its_places k sets =
+    let its : (place m : ℕ) → is_of (suc k) (place_row (suc k) place m) ≡ true = λ place m. names_it (suc k) (suc k) place m ∙ grind (arith, nat_tests) in
+    its_parts place_row modules (is_of (suc k)) (suc k) (λ n place m apart. names_it (suc k) n place m ∙ apart) modules_of_set refl (λ set. refl) 1 k (omega arith) sets
+    ∙ all_pass (place_row (suc k)) (is_of (suc k)) its 1 (modules_of_set (slice_get sets k))
 
 -- ---- the modules of a set, in its order
 
@@ -152,11 +130,9 @@ module _ (tree : ℕ) (db : Database) (sets : List SetLabel) (held : IsHeldBy (d
       let query = set_modules_query tree in
       let test = at_key 1 0 ∷ [] in
       let ms = modules_of_set (slice_get sets k) in
-      let next : 1 + k ≡ suc k = omega arith in
-      let its : filter (is_of (suc k)) (places_from 1 sets) ≡ places_of (suc k) ms = ap (λ n. filter (is_of n) (places_from 1 sets)) (sym next) ∙ its_places 1 k sets ∙ ap (λ n. places_of n ms) next in
       let it = ordered_rows tree test (col 1 3 ∷ []) query.order query.limit query.offset params db.trees rows (shows.answer Null) in
       let seen = held_seen (passes test params) (λ id x. refl) (shown_in query params) (λ id x. refl) (db.trees tree) (places_from 1 sets) held in
-      let all : IsPermutation (map (shown tree (suc k)) (places_of (suc k) ms)) it.ordered = subst (λ l. IsPermutation (map (shown tree (suc k)) l) it.ordered) its (IsPermutation-trans _ _ _ seen it.same) in
+      let all : IsPermutation (map (shown tree (suc k)) (rows_from (place_row (suc k)) 1 ms)) it.ordered = subst (λ l. IsPermutation (map (shown tree (suc k)) l) it.ordered) (its_places k sets) (IsPermutation-trans _ _ _ seen it.same) in
       it.is ∙ ap (map (λ (o : Output). o.1)) (sorted_unique (output_cmp query) (output_cmp_total query) _ it.ordered (in_order tree (suc k) 1 ms) all it.sorted) ∙ shown_modules tree (suc k) 1 ms
 
   -- ---- whether a set names a module
@@ -170,7 +146,7 @@ module _ (tree : ℕ) (db : Database) (sets : List SetLabel) (held : IsHeldBy (d
 
   any_set : (m n : ℕ) (sets : List SetLabel) → list_any (is_at m) (places_from n sets) ≡ is_named_by_set sets m
   any_set m n [] = refl
-  any_set m n (set ∷ sets) = list_any-append (is_at m) (places_of n set.modules) (places_from (n + 1) sets) ∙ ap₂ ◌||◌ (any_place m n 1 set.modules) (any_set m (n + 1) sets)
+  any_set m n (set ∷ sets) = list_any-append (is_at m) (rows_from (place_row n) 1 set.modules) (places_from (n + 1) sets) ∙ ap₂ ◌||◌ (any_place m n 1 set.modules) (any_set m (n + 1) sets)
 
   first_left : {X : Type 0} (xs : List X) → not (length (take 1 xs) == 0) ≡ not (length xs == 0)
   first_left [] = refl
@@ -195,30 +171,9 @@ module _ (tree : ℕ) (db : Database) (sets : List SetLabel) (held : IsHeldBy (d
 
 -- ---- a further module of the last set
 
-next_place : (number place : ℕ) (ms : List ℕ) (m : ℕ) → rows_from (place_row number) place (ms ++ m ∷ []) ≡ rows_from (place_row number) place ms ++ place_row number (place + length ms) m ∷ []
-next_place number place [] m = let at : place ≡ place + 0 = omega arith in ap (λ p. place_row number p m ∷ []) at
-next_place number place (k ∷ ms) m =
-    let at : (place + 1) + length ms ≡ place + length (k ∷ ms) = omega arith in
-    ap (λ l. place_row number place k ∷ l) (next_place number (place + 1) ms m ∙ ap (λ p. rows_from (place_row number) (place + 1) ms ++ place_row number p m ∷ []) at)
-
-last_place : (n : ℕ) (before : List SetLabel) (set : SetLabel) (m : ℕ)
-    → places_from n (before ++ and_module set m ∷ []) ≡ places_from n (before ++ set ∷ []) ++ place_row (n + length before) (1 + length set.modules) m ∷ []
-last_place n [] set m =
-    let at : n ≡ n + 0 = omega arith in
-    append-nil (places_of n (set.modules ++ m ∷ [])) ∙ next_place n 1 set.modules m
-    ∙ ap₂ (λ l number. l ++ place_row number (1 + length set.modules) m ∷ []) (sym (append-nil (places_of n set.modules))) at
-last_place n (first ∷ before) set m =
-    let at : (n + 1) + length before ≡ n + length (first ∷ before) = omega arith in
-    ap (λ l. places_of n first.modules ++ l) (last_place (n + 1) before set m ∙ ap (λ number. places_from (n + 1) (before ++ set ∷ []) ++ place_row number (1 + length set.modules) m ∷ []) at)
-    ∙ sym (append_assoc (places_of n first.modules) (places_from (n + 1) (before ++ set ∷ [])) _)
-
 pub set_module_added : (number place m tree : ℕ) (schema : Schema) (old new : Database) (before : List SetLabel) (set : SetLabel) → IsHeldBy (old.trees tree) (places_from 1 (before ++ set ∷ []))
     → number ≡ length before + 1 → place ≡ length set.modules + 1 → Inserted schema (set_module_table tree) (given_rows (set_module_table tree) (place_row number place m) set_module_terms 4) old new
     → IsHeldBy (new.trees tree) (places_from 1 (before ++ and_module set m ∷ []))
 set_module_added number place m tree schema old new before set held last next made =
-    let rows = places_from 1 (before ++ set ∷ []) in
     let put : new.trees tree ≡ put_row (Int (next_rowid (old.trees tree)) ∷ place_row number place m) (old.trees tree) = made.applies.rows ∙ rw (cast_null, cast_int number, cast_int place, cast_int m) refl in
-    let it : IsHeldBy (new.trees tree) (place_row number place m ∷ rows) = subst (λ l. IsHeldBy l (place_row number place m ∷ rows)) (sym put) (held_added (old.trees tree) rows held (place_row number place m)) in
-    let here : place_row number place m ≡ place_row (1 + length before) (1 + length set.modules) m = ap₂ (λ n p. place_row n p m) (omega (arith, last)) (omega (arith, next)) in
-    let all : places_from 1 (before ++ and_module set m ∷ []) ≡ rows ++ place_row number place m ∷ [] = last_place 1 before set m ∙ ap (λ r. rows ++ r ∷ []) (sym here) in
-    record { order = it.order; rising = it.rising; same = IsPermutation-trans _ _ _ (subst (λ l. IsPermutation l (place_row number place m ∷ rows)) (sym all) (IsPermutation-to_front rows (place_row number place m))) it.same }
+    subst (λ rows. IsHeldBy rows (places_from 1 (before ++ and_module set m ∷ []))) (sym put) (part_added place_row modules set (and_module set m) m refl number place before (old.trees tree) held last next)

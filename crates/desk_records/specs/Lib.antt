@@ -1,6 +1,11 @@
 pub mod ModuleRow
 pub mod Schema
+pub mod Targets
 pub mod Holds
 pub mod Modules
 pub mod Sets
 pub mod SetRow
+pub mod Parts
+pub mod Artifacts
+pub mod ArtifactRow
+pub mod TargetRow

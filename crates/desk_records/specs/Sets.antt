@@ -2,10 +2,10 @@
 use Rattle.std.specs.Prelude.{◌≡◌, ◌&&◌, ℕ, ◌+◌, Bool, List, [], ◌∷◌, ◌++◌, map, length, pos}
 use Rattle.sqlite_value.specs.declared.value.Value.TheVariants.{Null, Int, Text}
 use Rattle.sqlite_value.specs.Order.{Row}
-use Rattle.sql_calls.specs.Keyed.{rows_from}
 use Rattle.rollout_machine.specs.Commands.{Bytes, SetLabel}
 use Rattle.rollout_machine.specs.ByteStrings.{same_bytes}
 use Rattle.rollout_machine.specs.Records.{Records}
+use Rattle.desk_records.specs.Parts.{parts_from}
 
 -- ---- the rows
 
@@ -17,14 +17,9 @@ set_row number set = Int (pos number) ∷ Null ∷ Text set.name ∷ Text set.ve
 abbrev pub place_row : ℕ → ℕ → ℕ → Row
 place_row number place m = Int (pos number) ∷ Int (pos place) ∷ Int (pos m) ∷ []
 
--- of all modules of the set of a number: the k-th has place k
-abbrev pub places_of : ℕ → List ℕ → List Row
-places_of number ms = rows_from (place_row number) 1 ms
-
--- of all modules of sets that are numbered from a number on
+-- of all modules of sets that are numbered from a number on: the k-th module of a set has place k
 abbrev pub places_from : ℕ → List SetLabel → List Row
-places_from n [] = []
-places_from n (set ∷ sets) = places_of n set.modules ++ places_from (n + 1) sets
+places_from n sets = parts_from place_row (λ (set : SetLabel). set.modules) n sets
 
 -- ---- what is asked and written
 

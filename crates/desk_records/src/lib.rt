@@ -1,20 +1,39 @@
 //! The tables of a desk: their texts, the texts of the statements on them, and rows read to records.
 #![tactic(auto)]
 
+mod artifact_row;
+#[cfg(test)]
+mod artifact_tests;
+mod artifact_texts;
 mod module_row;
 mod set_row;
 #[cfg(test)]
 mod set_tests;
 mod set_texts;
+mod target_row;
+#[cfg(test)]
+mod target_tests;
+mod target_texts;
 #[cfg(test)]
 mod tests;
 mod texts;
 
+pub use crate::artifact_row::{StoredArtifact, read_artifact, read_piece, read_stored_artifact};
+pub use crate::artifact_texts::{
+    CREATE_ARTIFACT, CREATE_PIECE, FIND_ARTIFACT, GET_ARTIFACT, GET_PIECE, LAST_ARTIFACT,
+    LIST_ARTIFACTS, PUT_ARTIFACT, PUT_PIECE,
+};
 pub use crate::module_row::{Column, RowFault, read_module_label};
 pub use crate::set_row::{SetName, read_set_module, read_set_name};
 pub use crate::set_texts::{
     CREATE_SET, CREATE_SET_MODULE, FIND_SET, GET_SET, LAST_SET, LIST_SET_MODULES, MODULE_LOCKED,
     PUT_SET, PUT_SET_MODULE,
+};
+pub use crate::target_row::{StoredTarget, read_attribute, read_stored_target, read_tag};
+pub use crate::target_texts::{
+    COUNT_TARGETS, CREATE_TARGET, CREATE_TARGET_ATTRIBUTE, CREATE_TARGET_TAG, DROP_TARGET_TAG,
+    GET_TARGET, LIST_TARGET_ATTRIBUTES, LIST_TARGET_TAGS, PUT_TARGET, PUT_TARGET_ATTRIBUTE,
+    PUT_TARGET_TAG, SET_TARGET, SET_TARGET_ATTRIBUTE,
 };
 pub use crate::texts::{
     CREATE_DESK, CREATE_MODULE, FIND_MODULE, GET_DESK, GET_MODULE, LAST_MODULE, PUT_DESK,

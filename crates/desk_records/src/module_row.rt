@@ -17,6 +17,17 @@ pub enum Column {
     SetName,
     SetVersion,
     SetModule,
+    ArtifactNumber,
+    ArtifactModule,
+    ArtifactFilename,
+    ArtifactSize,
+    ArtifactDigest,
+    PieceBytes,
+    TargetName,
+    TargetDigest,
+    TargetTag,
+    AttributeKey,
+    AttributeValue,
 }
 
 /// Why a row gives no record.

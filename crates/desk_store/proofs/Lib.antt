@@ -1,3 +1,6 @@
 pub mod ModuleCalls
 pub mod EndLemmas
 pub mod SetCalls
+pub mod ArtifactCalls
+pub mod TargetCalls
+pub mod AttributeCalls

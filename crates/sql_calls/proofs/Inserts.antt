@@ -9,7 +9,7 @@ use Rattle.sqlite_schema.specs.declared.schema.Keys.TheVariants.{Enforced}
 use Rattle.sqlite.specs.Source.{Source}
 use Rattle.sqlite.specs.Source.TheVariants.{Values}
 use Rattle.sqlite.specs.Command.TheVariants.{Insert}
-use Rattle.sqlite.specs.Edit.{edit_of, Applies}
+use Rattle.sqlite.specs.Edit.{edit_of}
 use Rattle.sqlite_schema.specs.declared.schema.Reference.{Reference}
 use Rattle.sqlite_schema.specs.Rules.{ParentKey}
 use Rattle.sqlite_rules.specs.declared.action.Deed.{Deed}
@@ -20,6 +20,7 @@ use Rattle.sqlite.specs.Rows.{Written, Task, Inserts, stamped}
 use Rattle.sqlite.specs.Effect.{Database, IsSource, value_rows}
 use Rattle.sqlite.specs.State.{State, mode_of, Writes}
 use Rattle.sqlite.proofs.Callers.{one_step}
+use Rattle.sql_calls.proofs.Actions.{Rewritten, applied}
 
 pub went : {B E R : Type 0} {b : B} {Stops : E → Type 0} → ((stop : E) × Stops stop × (Ok b ≡ Err stop)) ⊎ R → R
 went (inl stopped) = absurd (let e = stopped.2 in cc)
@@ -28,17 +29,13 @@ went (inr on) = on
 pub same_value : {B E : Type 0} {a b : B} → ◌≡◌ {A = Result B E} (Ok a) (Ok b) → a ≡ b
 same_value e = cc
 
--- no foreign key acts on the table's rows
-abbrev pub IsQuiet : Schema → Table → Type 0
-IsQuiet schema table = (olds news : List Row) → works schema Enforced 0 table.tree olds news ≡ []
-
 abbrev pub given_rows : Table → Row → List Term → ℕ → List Row
 given_rows table params terms width = value_rows (stamped table params) width (length terms / width) terms
 
 -- the schema stays, and the table has the rows as it casts them
 pub record Inserted (schema : Schema) (table : Table) (rows : List Row) (old new : Database) : Type 0 where
   pub schema_is : new.schema ≡ schema
-  pub applies : Applies schema Enforced old.trees (edit_of old.trees table [] Chosen 0 rows) new.trees
+  pub applies : Rewritten schema old.trees (edit_of old.trees table [] Chosen 0 rows) new.trees
 
 -- a table without AUTOINCREMENT; a table that is written out is its own
 abbrev pub uncounted : Table → Table
@@ -76,10 +73,10 @@ no_works schema tree news = go schema.tables
     go (child ∷ more) = rw (none_for (work_for schema Enforced 0 tree [] news child) (λ ref. no_work 0 tree child ref _ _) child.references) (go more)
 
 placed : (schema : Schema) (table : Table) (db next : Trees) (rows wanted : List Row) → rows ≡ wanted → Edits schema Enforced db (edit_of db table [] Chosen 0 rows) (Ok next)
-    → Applies schema Enforced db (edit_of db table [] Chosen 0 wanted) next
+    → Rewritten schema db (edit_of db table [] Chosen 0 wanted) next
 placed schema table db next rows wanted same h =
     let edit = edit_of db table [] Chosen 0 rows in
-    subst (λ rs. Applies schema Enforced db (edit_of db table [] Chosen 0 rs) next) same (one_step schema Enforced db next edit (no_works schema table.tree edit.news) h)
+    subst (λ rs. Rewritten schema db (edit_of db table [] Chosen 0 rs) next) same (applied schema Enforced db next edit (one_step schema Enforced db next edit (no_works schema table.tree edit.news) h))
 
 pub inserts : (schema : Schema) (at : ℕ) (table : Table) (terms : List Term) (width : ℕ) → slice_get schema.tables at ≡ Some (uncounted table)
     → (old new : State) → old.now.schema ≡ schema → (text : List ℕ) (params : Row) (count : ℕ) → Writes old new None (Insert at (Values terms width)) text params count

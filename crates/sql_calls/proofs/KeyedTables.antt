@@ -1,8 +1,6 @@
 -- What the usual statements do to a table that has a text or composite key, in contents: rows less their rowids, in any order.
-use Rattle.std.proofs.Common.{◌≡◌, ◌⊎◌, inl, inr, ◌≤◌, ℕ, pos, Bool, true, false, not, ◌&&◌, cond, List, [], ◌∷◌, ◌++◌, map, filter, drop, length, slice_get, Option, Some, None, refl, sym, ap, ap₂, ◌∙◌, subst, arith, IsPermutation}
-use Rattle.std.specs.List.{AllByRecursion}
+use Rattle.std.proofs.Common.{get_or, ◌≡◌, ◌⊎◌, inl, inr, ◌≤◌, ℕ, pos, Bool, true, false, not, cond, List, [], ◌∷◌, ◌++◌, map, filter, drop, length, slice_get, Option, Some, None, refl, sym, ap, ap₂, ◌∙◌, subst, arith, IsPermutation}
 use Rattle.std.specs.Ordering.{is_eq}
-use Rattle.std.proofs.lemmas.Bool.{not-true}
 use Rattle.std.proofs.lemmas.List.{length-map}
 use Rattle.std.proofs.lemmas.List.Sorted.{IsPermutation-sym, IsPermutation-trans, IsPermutation-map, length_permutation}
 use Rattle.sqlite_value.specs.declared.value.Value.{Value}
@@ -12,10 +10,9 @@ use Rattle.sqlite.specs.Tree.{Trees}
 use Rattle.sqlite_trees.specs.Tree.{rowid, put_row, without_rowid}
 use Rattle.sqlite.specs.Table.{Table}
 use Rattle.sqlite.specs.Schema.{Schema}
-use Rattle.sqlite_schema.specs.declared.schema.Index.{Index}
 use Rattle.sqlite_schema.specs.declared.schema.Keys.TheVariants.{Enforced}
-use Rattle.sqlite_schema.specs.declared.schema.Constraint.TheVariants.{Unique, NotNull}
-use Rattle.sqlite_schema.specs.Rules.{Keeps, agree, clashes, guards, are_present}
+use Rattle.sqlite_schema.specs.declared.schema.Constraint.TheVariants.{NotNull}
+use Rattle.sqlite_schema.specs.Rules.{agree, clashes, are_present}
 use Rattle.sqlite_rules.specs.Keys.{conflicts, AreConflicts}
 use Rattle.sqlite_rules.specs.Lists.{Has}
 use Rattle.sqlite_rules.specs.Cast.{cast, cast_all, cast_row}
@@ -31,8 +28,12 @@ use Rattle.sqlite.specs.Effect.{Database}
 use Rattle.sqlite.specs.Rows.{shown}
 use Rattle.sqlite.proofs.Callers.{one_permutation}
 use Rattle.sqlite_keyed.specs.Lists.{sort_by}
-use Rattle.sqlite_keyed.proofs.ListLemmas.{all_weaker, all-slice_get, all_from_test, map-map}
-use Rattle.sql_calls.specs.Keyed.{IsHeldBy}
+use Rattle.sqlite_keyed.proofs.ListLemmas.{all-slice_get, map-map}
+use Rattle.sqlite_value.specs.Keys.{plain}
+use Rattle.sqlite_catalog.specs.Listing.{IsSound}
+use Rattle.sqlite_catalog.proofs.AlterLemmas.{keys_are_unique}
+use Rattle.sqlite_rules.proofs.ListLemmas.{all_from, has_got}
+use Rattle.sql_calls.specs.Keyed.{IsHeldBy, HaveKeysApart, AreWhole}
 use Rattle.sql_calls.proofs.KeyedRows.{IsBlind, on_content, IsKey, changed, held_added, held_seen, held_dropped, held_unchanged, held_changed, one_at_most, no_ties, sorted_of, next_is, found_id}
 use Rattle.sqlite_value.specs.declared.keys.Key.{Key}
 use Rattle.sqlite_schema.specs.declared.program.Program.{Program}
@@ -87,31 +88,32 @@ module _ (table : Table) (rows : List Row) (f : Row → Row) where
   pub one_written : (n : ℕ) (x : Row) → written ((Int (pos n) ∷ Int (pos n) ∷ x) ∷ []) ≡ put_row (Int (pos n) ∷ cast_all table.columns x) (without_rowid (pos n) rows)
   one_written n x = rw (cast_int n) refl
 
-module _ (schema : Schema) (table : Table) (at ix : ℕ) (index : Index) (there : slice_get schema.tables at ≡ Some table) (listed : slice_get schema.indexes ix ≡ Some index) (guarded : guards index table ≡ true) where
-  pub none_clash : (db : Trees) → Keeps Unique schema db → AllByRecursion (λ row. clashes index.order index.columns (db table.tree) row ≡ false) (db table.tree)
-  none_clash db keeps = all_weaker _ (λ row. clashes index.order index.columns (db table.tree) row ≡ false)
-      (λ row h. not-true _ (rw guarded at (all-slice_get (λ i. not (guards i table && clashes i.order i.columns (db table.tree) row) ≡ true) schema.indexes ix index listed (all_from_test _ _ h))))
-      (db table.tree) (all-slice_get _ schema.tables at table there keeps)
+-- In a sound database a UNIQUE keeps the keys of its table apart, whatever else the database has.
+pub keys_apart : (schema : Schema) (db : Trees) (at : ℕ) (table : Table) (k : ℕ) (key : List ℕ) → IsSound schema db → slice_get schema.tables at ≡ Some table → slice_get table.uniques k ≡ Some key → get_or table.orders k plain ≡ plain
+    → HaveKeysApart key (db table.tree)
+keys_apart schema db at table k key sound there unique in_order = all_from _ (db table.tree) (λ row among.
+    subst (λ o. clashes o key (db table.tree) row ≡ false) in_order (keys_are_unique schema db table k key row sound (has_got schema.tables at table there) unique among))
 
-  pub all_present : (db : Trees) → Keeps NotNull schema db → AllByRecursion (λ row. are_present table.key 0 table.columns row ≡ true) (db table.tree)
-  all_present db keeps = all-slice_get _ schema.tables at table there keeps
+pub are_whole : (schema : Schema) (db : Trees) (at : ℕ) (table : Table) → IsSound schema db → slice_get schema.tables at ≡ Some table → AreWhole table (db table.tree)
+are_whole schema db at table sound there = all-slice_get _ schema.tables at table there (sound.obeys.rules NotNull)
 
-  module _ (test : List Term) (params : Row) (blind : IsBlind (passes test params)) (ks : List ℕ) (keyed : (r : Row) → passes test params r ≡ true → agree index.order index.columns r ks params ≡ true) where
+module _ (schema : Schema) (table : Table) (key : List ℕ) where
+  module _ (test : List Term) (params : Row) (blind : IsBlind (passes test params)) (ks : List ℕ) (keyed : (r : Row) → passes test params r ≡ true → agree plain key r ks params ≡ true) where
     abbrev p : Row → Bool
     p = passes test params
 
-    pub key_is : IsKey p index.order index.columns
-    key_is r s h k = agree_chain index.order index.columns ks index.columns r params s (keyed r h) (agree_back index.order index.columns ks s params (keyed s k))
+    pub key_is : IsKey p plain key
+    key_is r s h k = agree_chain plain key ks key r params s (keyed r h) (agree_back plain key ks s params (keyed s k))
 
-    pub found_once : (db : Trees) (wanted : List Row) → Keeps Unique schema db → IsHeldBy (db table.tree) wanted → (filter p (db table.tree) ≡ []) ⊎ ((found : Row) × (filter p (db table.tree) ≡ found ∷ []))
-    found_once db wanted unique held = one_at_most p index.order index.columns key_is 1 (db table.tree) held.order held.rising (none_clash db unique)
+    pub found_once : (db : Trees) (wanted : List Row) → HaveKeysApart key (db table.tree) → IsHeldBy (db table.tree) wanted → (filter p (db table.tree) ≡ []) ⊎ ((found : Row) × (filter p (db table.tree) ≡ found ∷ []))
+    found_once db wanted unique held = one_at_most p plain key key_is 1 (db table.tree) held.order held.rising unique
 
     few : (rows : List Row) → (filter p rows ≡ []) ⊎ ((found : Row) × (filter p rows ≡ found ∷ [])) → length (filter p rows) ≤ 1
     few rows (inl none) = rw none (omega arith)
     few rows (inr one) = rw one.1 (omega arith)
 
     -- SELECT .. WHERE key: the one row, or none
-    pub reads_key : (shows : List Term) → IsBlind (shown_of shows params) → (db : Trees) (wanted : List Row) → Keeps Unique schema db → IsHeldBy (db table.tree) wanted
+    pub reads_key : (shows : List Term) → IsBlind (shown_of shows params) → (db : Trees) (wanted : List Row) → HaveKeysApart key (db table.tree) → IsHeldBy (db table.tree) wanted
         → (rows : List Row) → IsAnswer (simple table.tree test shows) (overlay db []) params rows → rows ≡ map (on_content (shown_of shows params)) (filter (on_content p) wanted)
     reads_key shows fair db wanted unique held rows answer =
         let f = shown_of shows params in
@@ -122,7 +124,7 @@ module _ (schema : Schema) (table : Table) (at ix : ℕ) (index : Index) (there 
         short _ rows (IsPermutation-trans _ _ _ first (simple_rows table.tree test shows params db rows answer)) (omega (arith, low, size, same))
 
     -- UPDATE .. WHERE key
-    pub changes_key : (values : List Term) → IsBlind (shown_of values params) → (old new : Database) (wanted : List Row) → Keeps Unique schema old.trees → IsHeldBy (old.trees table.tree) wanted
+    pub changes_key : (values : List Term) → IsBlind (shown_of values params) → (old new : Database) (wanted : List Row) → HaveKeysApart key (old.trees table.tree) → IsHeldBy (old.trees table.tree) wanted
         → Updated schema table (record { lets = []; body = simple table.tree test (col 1 0 ∷ col 1 0 ∷ values) }) params old new
         → IsHeldBy (new.trees table.tree) (changed (on_content p) (λ x. cast_all table.columns (on_content (shown_of values params) x)) wanted)
     changes_key values fair old new wanted unique held u =
@@ -145,7 +147,7 @@ module _ (schema : Schema) (table : Table) (at ix : ℕ) (index : Index) (there 
         ]
 
     -- INSERT .. ON CONFLICT (key) DO ..: the row goes in where no row has the key; else the row that has it changes, or stays
-    module _ (target : Option (List ℕ)) (update : Option Program) (source : Row) (old new : Database) (wanted : List Row) (unique : Keeps Unique schema old.trees) (held : IsHeldBy (old.trees table.tree) wanted) where
+    module _ (target : Option (List ℕ)) (update : Option Program) (source : Row) (old new : Database) (wanted : List Row) (unique : HaveKeysApart key (old.trees table.tree)) (held : IsHeldBy (old.trees table.tree) wanted) where
       abbrev fresh : Row
       fresh = cast_all table.columns source
 
@@ -255,18 +257,18 @@ module _ (schema : Schema) (table : Table) (at ix : ℕ) (index : Index) (there 
     module _ (shows : List Term) (order : List (Term × Key)) (limit offset : Term) (fair : IsBlind (shown_in (by (simple table.tree test shows) order limit offset) params))
         (tie : (r s : Row) → are_present table.key 0 table.columns r ≡ true → are_present table.key 0 table.columns s ≡ true → passes test params r ≡ true → passes test params s ≡ true
         → is_eq (output_cmp (by (simple table.tree test shows) order limit offset) (shown_in (by (simple table.tree test shows) order limit offset) params r) (shown_in (by (simple table.tree test shows) order limit offset) params s)) ≡ true
-        → agree index.order index.columns s index.columns r ≡ true) where
-      pub reads_in_order : (db : Trees) (wanted : List Row) → Keeps Unique schema db → Keeps NotNull schema db → IsHeldBy (db table.tree) wanted
+        → agree plain key s key r ≡ true) where
+      pub reads_in_order : (db : Trees) (wanted : List Row) → HaveKeysApart key (db table.tree) → AreWhole table (db table.tree) → IsHeldBy (db table.tree) wanted
           → (rows : List Row) → IsAnswer (by (simple table.tree test shows) order limit offset) (overlay db []) params rows
           → rows ≡ page (by (simple table.tree test shows) order limit offset) params (map (λ (o : Output). o.1) (sort_by (output_cmp (by (simple table.tree test shows) order limit offset))
           (map (on_content (shown_in (by (simple table.tree test shows) order limit offset) params)) (filter (on_content (passes test params)) wanted))))
-      reads_in_order db wanted unique notnull held rows answer =
+      reads_in_order db wanted unique whole held rows answer =
           let q = by (simple table.tree test shows) order limit offset in
           let p = passes test params in
           let f = shown_in q params in
           let it = ordered_rows table.tree test shows order limit offset params db rows answer in
           let first = held_seen p blind f fair (db table.tree) wanted held in
-          let apart = no_ties p index.order index.columns f (output_cmp q) (λ r. are_present table.key 0 table.columns r ≡ true) tie 1 (db table.tree) held.order held.rising (all_present db notnull) (none_clash db unique) in
+          let apart = no_ties p plain key f (output_cmp q) (λ r. are_present table.key 0 table.columns r ≡ true) tie 1 (db table.tree) held.order held.rising whole unique in
           it.is ∙ ap (λ l. page q params (map (λ (o : Output). o.1) l)) (sorted_of (output_cmp q) (output_cmp_total q) _ _ it.ordered first apart (IsPermutation-trans _ _ _ first it.same) it.sorted)
 
   -- INSERT .. VALUES of one row, whose rowid SQLite chooses

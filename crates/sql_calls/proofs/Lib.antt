@@ -6,11 +6,15 @@ pub mod Changes
 pub mod TypedCalls
 pub mod Selects
 pub mod Inserts
+pub mod Actions
 pub mod Updates
 pub mod Upserts
 pub mod Creates
 pub mod KeyedRows
 pub mod NumberedRows
 pub mod KeyedTables
+pub mod KeyedOrder
+pub mod KeyedExamples
 pub mod NumberedTables
+pub mod Counts
 pub mod Schemas

@@ -1,4 +1,4 @@
--- What UPDATE and DELETE do, for any schema.
+-- What UPDATE and DELETE do to a table that has no foreign key, for any schema, whatever foreign keys refer to the table.
 use Rattle.std.proofs.Common.{[], ◌≡◌, ℕ, List, slice_get, Option, Some, None, Ok, sym, ap, subst}
 use Rattle.sqlite.specs.Order.{Row}
 use Rattle.sqlite.specs.Tree.{Trees}
@@ -7,7 +7,7 @@ use Rattle.sqlite.specs.Schema.{Schema}
 use Rattle.sqlite_schema.specs.declared.schema.Keys.TheVariants.{Enforced}
 use Rattle.sqlite_schema.specs.declared.program.Program.{Program}
 use Rattle.sqlite.specs.Command.TheVariants.{Update, Delete}
-use Rattle.sqlite.specs.Edit.{edit_of, Applies, taken_by}
+use Rattle.sqlite.specs.Edit.{edit_of}
 use Rattle.sqlite_rules.specs.Calls.{ids_of}
 use Rattle.sqlite_rules.specs.Action.{Writes as Edits}
 use Rattle.sqlite.specs.Rowids.TheVariants.{Given}
@@ -15,15 +15,17 @@ use Rattle.sqlite.specs.Does.{Tally, Does, OnRows}
 use Rattle.sqlite.specs.Rows.{Written, Task, Updates, Deletes}
 use Rattle.sqlite.specs.Effect.{Database, Answers}
 use Rattle.sqlite.specs.State.{State, mode_of, Writes}
-use Rattle.sqlite.proofs.Callers.{one_step}
-use Rattle.sql_calls.proofs.Inserts.{went, same_value, IsQuiet}
+use Rattle.sqlite_rules.proofs.ListLemmas.{has_got}
+use Rattle.sql_calls.specs.Apart.{HasNoForeignKey}
+use Rattle.sql_calls.proofs.Actions.{Rewritten, rewritten}
+use Rattle.sql_calls.proofs.Inserts.{went, same_value}
 
 -- the rows that the query shows, each its old rowid and then the new row, take the place of those
 pub record Updated (schema : Schema) (table : Table) (q : Program) (params : Row) (old new : Database) : Type 0 where
   pub schema_is : new.schema ≡ schema
   pub rows : List Row
   pub answers : Answers (record { schema = schema; trees = old.trees }) q params rows
-  pub applies : Applies schema Enforced old.trees (edit_of old.trees table (ids_of rows) Given 1 rows) new.trees
+  pub applies : Rewritten schema old.trees (edit_of old.trees table (ids_of rows) Given 1 rows) new.trees
 
 pub updated_in : (limit : Option ℕ) (schema : Schema) (table : Table) (params : Row) (q : Program) (db : Trees) (w : Written)
     → Updates (record { limit = limit; keys = Enforced; schema = schema; table = table; params = params }) q params db (Ok w)
@@ -34,10 +36,10 @@ updated_in limit schema table params q db w h =
     let trees : w.trees ≡ written.0 = ap (λ (it : Written). it.trees) (same_value written.2) in
     (given.0, given.1, subst (λ next. Edits schema Enforced db (edit_of db table (ids_of given.0) Given 1 given.0) (Ok next)) (sym trees) written.1)
 
-pub updates : (schema : Schema) (at : ℕ) (table : Table) (q : Program) → slice_get schema.tables at ≡ Some table → IsQuiet schema table
+pub updates : (schema : Schema) (at : ℕ) (table : Table) (q : Program) → slice_get schema.tables at ≡ Some table → HasNoForeignKey schema table.tree
     → (old new : State) → old.now.schema ≡ schema → (text : List ℕ) (params : Row) (count : ℕ) → Writes old new None (Update at q) text params count
     → Updated schema table q params old.now new.now
-updates schema at table q there quiet old new has text params count w =
+updates schema at table q there free old new has text params count w =
     let db = old.now.trees in
     let on = subst (λ s. Does old.step_limit (mode_of old) params (record old.now { schema = s }) text None (Update at q) (Ok (w.tally, new.now))) has w.changed in
     let task : Task = record { limit = old.step_limit; keys = Enforced; schema = schema; table = table; params = params } in
@@ -50,7 +52,7 @@ updates schema at table q there quiet old new has text params count w =
       schema_is = ap (λ (d : Database). d.schema) now;
       rows = made.0;
       answers = made.1;
-      applies = one_step schema Enforced db new.now.trees edit (quiet (taken_by db edit) edit.news) (subst (λ next. Edits schema Enforced db edit (Ok next)) (sym (ap (λ (d : Database). d.trees) now)) made.2);
+      applies = rewritten schema Enforced db new.now.trees edit free (has_got schema.tables at table there) (subst (λ next. Edits schema Enforced db edit (Ok next)) (sym (ap (λ (d : Database). d.trees) now)) made.2);
     }
 
 -- ---- DELETE
@@ -59,7 +61,7 @@ pub record Deleted (schema : Schema) (table : Table) (q : Program) (params : Row
   pub schema_is : new.schema ≡ schema
   pub rows : List Row
   pub answers : Answers (record { schema = schema; trees = old.trees }) q params rows
-  pub applies : Applies schema Enforced old.trees (edit_of old.trees table (ids_of rows) Given 0 []) new.trees
+  pub applies : Rewritten schema old.trees (edit_of old.trees table (ids_of rows) Given 0 []) new.trees
 
 deleted_in : (limit : Option ℕ) (schema : Schema) (table : Table) (params : Row) (q : Program) (db : Trees) (w : Written)
     → Deletes (record { limit = limit; keys = Enforced; schema = schema; table = table; params = params }) q db (Ok w)
@@ -70,10 +72,10 @@ deleted_in limit schema table params q db w h =
     let trees : w.trees ≡ written.0 = ap (λ (it : Written). it.trees) (same_value written.2) in
     (given.0, given.1, subst (λ next. Edits schema Enforced db (edit_of db table (ids_of given.0) Given 0 []) (Ok next)) (sym trees) written.1)
 
-pub deletes : (schema : Schema) (at : ℕ) (table : Table) (q : Program) → slice_get schema.tables at ≡ Some table → IsQuiet schema table
+pub deletes : (schema : Schema) (at : ℕ) (table : Table) (q : Program) → slice_get schema.tables at ≡ Some table → HasNoForeignKey schema table.tree
     → (old new : State) → old.now.schema ≡ schema → (text : List ℕ) (params : Row) (count : ℕ) → Writes old new None (Delete at q) text params count
     → Deleted schema table q params old.now new.now
-deletes schema at table q there quiet old new has text params count w =
+deletes schema at table q there free old new has text params count w =
     let db = old.now.trees in
     let on = subst (λ s. Does old.step_limit (mode_of old) params (record old.now { schema = s }) text None (Delete at q) (Ok (w.tally, new.now))) has w.changed in
     let task : Task = record { limit = old.step_limit; keys = Enforced; schema = schema; table = table; params = params } in
@@ -86,5 +88,5 @@ deletes schema at table q there quiet old new has text params count w =
       schema_is = ap (λ (d : Database). d.schema) now;
       rows = made.0;
       answers = made.1;
-      applies = one_step schema Enforced db new.now.trees edit (quiet (taken_by db edit) edit.news) (subst (λ next. Edits schema Enforced db edit (Ok next)) (sym (ap (λ (d : Database). d.trees) now)) made.2);
+      applies = rewritten schema Enforced db new.now.trees edit free (has_got schema.tables at table there) (subst (λ next. Edits schema Enforced db edit (Ok next)) (sym (ap (λ (d : Database). d.trees) now)) made.2);
     }

@@ -1,4 +1,4 @@
--- What INSERT .. VALUES of one row with one clause ON CONFLICT does, for any schema.
+-- What INSERT .. VALUES of one row with one clause ON CONFLICT does to a table that has no foreign key, for any schema.
 use Rattle.std.proofs.Common.{[], ◌≡◌, ◌≢◌, ◌⊎◌, inl, inr, ℕ, ℤ, List, ◌∷◌, ◌++◌, slice_get, Option, Some, None, Ok, sym, ap, subst, ◌∙◌}
 use Rattle.std.specs.List.{AllByRecursion}
 use Rattle.sqlite_keyed.proofs.ListLemmas.{all_of}
@@ -11,7 +11,7 @@ use Rattle.sqlite_schema.specs.declared.schema.Keys.TheVariants.{Enforced}
 use Rattle.sqlite_schema.specs.declared.program.Program.{Program}
 use Rattle.sqlite.specs.Source.TheVariants.{Values}
 use Rattle.sqlite.specs.Command.TheVariants.{InsertOr}
-use Rattle.sqlite.specs.Edit.{edit_of, Applies, taken_by}
+use Rattle.sqlite.specs.Edit.{edit_of, Applies}
 use Rattle.sqlite_rules.specs.Calls.{ids_of}
 use Rattle.sqlite_rules.specs.Action.{Writes as Edits}
 use Rattle.sqlite.specs.Rowids.TheVariants.{Chosen, Given}
@@ -28,13 +28,17 @@ use Rattle.sqlite_schema.specs.declared.command.Conflict.TheVariants.{Abort}
 use Rattle.sqlite.specs.Effect.{Database, Answers}
 use Rattle.sqlite.specs.State.{State, mode_of, Writes}
 use Rattle.sqlite.proofs.Callers.{one_step}
-use Rattle.sql_calls.proofs.Inserts.{went, same_value, IsQuiet, uncounted, given_rows}
+use Rattle.sqlite_rules.specs.Lists.{Has}
+use Rattle.sqlite_rules.proofs.ListLemmas.{all_has, all_from, has_got}
+use Rattle.sql_calls.specs.Apart.{HasNoForeignKey}
+use Rattle.sql_calls.proofs.Actions.{Rewritten, rewritten}
+use Rattle.sql_calls.proofs.Inserts.{went, same_value, no_works, uncounted, given_rows}
 use Rattle.sql_calls.proofs.Updates.{updated_in}
 
 abbrev pub Resolved : Schema → Table → Row → Option Program → Row → Row → Trees → Trees → Type 0
 Resolved schema table params None there new db next = next ≡ db
 Resolved schema table params (Some q) there new db next =
-    (rows : List Row) × Answers (record { schema = schema; trees = db }) q (params ++ rowid there ∷ shown table new) rows × Applies schema Enforced db (edit_of db table (ids_of rows) Given 1 rows) next
+    (rows : List Row) × Answers (record { schema = schema; trees = db }) q (params ++ rowid there ∷ shown table new) rows × Rewritten schema db (edit_of db table (ids_of rows) Given 1 rows) next
 
 -- the row goes in where no row has its key, and else the clause says what becomes of the row that has it
 abbrev pub Puts : Schema → Table → Row → Option (List ℕ) → Option Program → Row → Trees → Trees → Type 0
@@ -42,7 +46,7 @@ Puts schema table params target update new db next =
     (AreConflicts target schema.indexes table (db table.tree) new [] × Applies schema Enforced db (edit_of db table [] Given 0 (new ∷ [])) next)
     ⊎ ((there : Row) × (more : List Row) × AreConflicts target schema.indexes table (db table.tree) new (there ∷ more) × Resolved schema table params update there new db next)
 
-module _ (limit : Option ℕ) (schema : Schema) (bare : Table) (params : Row) (target : Option (List ℕ)) (update : Option Program) (quiet : IsQuiet schema (uncounted bare)) (db : Trees) where
+module _ (limit : Option ℕ) (schema : Schema) (bare : Table) (params : Row) (target : Option (List ℕ)) (update : Option Program) (listed : Has schema.tables (uncounted bare)) (free : HasNoForeignKey schema bare.tree) (db : Trees) where
   abbrev table : Table
   table = uncounted bare
 
@@ -57,7 +61,7 @@ module _ (limit : Option ℕ) (schema : Schema) (bare : Table) (params : Row) (t
       let written = went h in
       let edit = edit_of db table [] Given 0 (new ∷ []) in
       let trees : w.trees ≡ written.0 = ap (λ (it : Written). it.trees) (same_value written.2) in
-      one_step schema Enforced db w.trees edit (quiet (taken_by db edit) edit.news) (subst (λ next. Edits schema Enforced db edit (Ok next)) (sym trees) written.1)
+      one_step schema Enforced db w.trees edit (no_works schema table.tree edit.news) (subst (λ next. Edits schema Enforced db edit (Ok next)) (sym trees) written.1)
 
   cleared : (new : Row) (w : Written) (found : List Row) → rows.Clears task Abort new db found (Ok w) → Applies schema Enforced db (edit_of db table [] Given 0 (new ∷ [])) w.trees
   cleared new w [] h = put_in new w h
@@ -68,7 +72,7 @@ module _ (limit : Option ℕ) (schema : Schema) (bare : Table) (params : Row) (t
   resolved new there w (Some q) h =
       let made = updated_in limit schema table (params ++ rowid there ∷ shown table new) q db w (as_updates q w h) in
       let edit = edit_of db table (ids_of made.0) Given 1 made.0 in
-      (made.0, made.1, one_step schema Enforced db w.trees edit (quiet (taken_by db edit) edit.news) made.2)
+      (made.0, made.1, rewritten schema Enforced db w.trees edit free listed made.2)
     where
       as_updates : (q : Program) (w : Written) → Updates task q (params ++ rowid there ∷ shown table new) db (Ok w) → Updates (record { limit = limit; keys = Enforced; schema = schema; table = table; params = params ++ rowid there ∷ shown table new }) q (params ++ rowid there ∷ shown table new) db (Ok w)
       as_updates q w h = h
@@ -110,11 +114,11 @@ pub record Upserted (schema : Schema) (table : Table) (params : Row) (target : O
   pub schema_is : new.schema ≡ schema
   pub puts : Puts schema table params target update (with_rowid Chosen (old.trees table.tree) (cast_row table source)) old.trees new.trees
 
-pub upserts : (schema : Schema) (at : ℕ) (table : Table) (terms : List Term) (width : ℕ) (target : Option (List ℕ)) (update : Option Program) → slice_get schema.tables at ≡ Some (uncounted table) → IsQuiet schema (uncounted table)
+pub upserts : (schema : Schema) (at : ℕ) (table : Table) (terms : List Term) (width : ℕ) (target : Option (List ℕ)) (update : Option Program) → slice_get schema.tables at ≡ Some (uncounted table) → HasNoForeignKey schema table.tree
     → (old new : State) → old.now.schema ≡ schema → (text : List ℕ) (params : Row) (source : Row) → given_rows (uncounted table) params terms width ≡ source ∷ []
     → (count : ℕ) → Writes old new None (InsertOr at Abort (Values terms width) (record { target = target; update = update } ∷ [])) text params count
     → Upserted schema (uncounted table) params target update source old.now new.now
-upserts schema at table terms width target update there quiet old new has text params source one count w =
+upserts schema at table terms width target update there free old new has text params source one count w =
     let db = old.now.trees in
     let command = InsertOr at Abort (Values terms width) (record { target = target; update = update } ∷ []) in
     let on = subst (λ s. Does old.step_limit (mode_of old) params (record old.now { schema = s }) text None command (Ok (w.tally, new.now))) has w.changed in
@@ -125,11 +129,11 @@ upserts schema at table terms width target update there quiet old new has text p
     record {
       schema_is = ap (λ (d : Database). d.schema) now;
       puts = subst (λ (d : Database). Puts schema (uncounted table) params target update (with_rowid Chosen (db table.tree) (cast_row (uncounted table) source)) db d.trees) (sym now)
-          (put_by old.step_limit schema table params target update quiet db terms width source one done.0 done.1);
+          (put_by old.step_limit schema table params target update (has_got schema.tables at (uncounted table) there) free db terms width source one done.0 done.1);
     }
 
 pub upserted_keeps : (schema : Schema) (table : Table) (params : Row) (target : Option (List ℕ)) (update : Option Program) (new : Row) (db next : Trees) → Puts schema table params target update new db next
-    → AllByRecursion (λ (s : Table). s.tree ≢ table.tree → next s.tree ≡ db s.tree) schema.tables
-upserted_keeps schema it_ params target update new db next (inl it) = it.1.tables
-upserted_keeps schema it_ params target None new db next (inr it) = all_of (λ (s : Table). s.tree ≢ it_.tree → next s.tree ≡ db s.tree) (λ s apart. ap (λ (d : Trees). d s.tree) it.3) schema.tables
+    → AllByRecursion (λ (s : Table). HasNoForeignKey schema s.tree → s.tree ≢ table.tree → next s.tree ≡ db s.tree) schema.tables
+upserted_keeps schema it_ params target update new db next (inl it) = all_from _ schema.tables (λ s there free apart. all_has (λ (s : Table). s.tree ≢ it_.tree → next s.tree ≡ db s.tree) schema.tables s it.1.tables there apart)
+upserted_keeps schema it_ params target None new db next (inr it) = all_of (λ (s : Table). HasNoForeignKey schema s.tree → s.tree ≢ it_.tree → next s.tree ≡ db s.tree) (λ s free apart. ap (λ (d : Trees). d s.tree) it.3) schema.tables
 upserted_keeps schema it_ params target (Some q) new db next (inr it) = it.3.2.tables

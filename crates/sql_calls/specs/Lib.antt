@@ -1,4 +1,5 @@
 pub mod Tables
+pub mod Apart
 pub mod Keyed
 pub mod Faults
 pub mod Calls

@@ -1,6 +1,6 @@
 -- What a table that is made leaves of the tables before it, and how it stands itself.
 use Rattle.std.proofs.Common.{◌≡◌, refl, sym, ap, ◌∙◌, ℕ, zero, suc, ◌+◌, ◌^◌, ◌<◌, ◌==◌, Bool, true, false, cond, List, [], ◌∷◌, ◌++◌, length, Option, Some, None, slice_get, find, arith}
-use Rattle.std.specs.List.{position_from}
+use Rattle.std.specs.List.{AllByRecursion, position_from}
 use Rattle.std.specs.Option.{is_some}
 use Rattle.std.proofs.lemmas.Bool.{eq-eqb, lt-leb}
 use Rattle.sqlite_schema.specs.declared.schema.Table.{Table}
@@ -9,7 +9,9 @@ use Rattle.sqlite_schema.specs.declared.schema.Schema.{Schema}
 use Rattle.sqlite_schema.specs.Names.{same_name, table_named, index_named, view_named}
 use Rattle.sqlite_catalog.specs.Change.{next_tree, is_used, created, automatics}
 use Rattle.sqlite_resolve.specs.Scope.{Name}
-use Rattle.sql_front.specs.Stands.{Stands}
+use Rattle.sqlite_catalog.proofs.StepLemmas.{table_below}
+use Rattle.sqlite_rules.proofs.ListLemmas.{all_from}
+use Rattle.sql_front.specs.Stands.{Stands, HasNoForeignKey}
 use Rattle.sql_front.proofs.Past.{position_past, slice_past, find_past, unused, above_all}
 
 -- ---- tables that are added come last
@@ -35,25 +37,35 @@ find_front test x (y ∷ xs) ys h = go (test y) h (find_front test x xs ys)
     go true h more = h
     go false h more = more h
 
--- a table stands as it stood
-pub stands_kept : (s later : Schema) (name : Name) (at : ℕ) (table : Table) (more : List Table) → later.tables ≡ s.tables ++ more → Stands s name at table → Stands later name at table
-stands_kept s later name at table more grown stands = record {
+abbrev pub AreKeyless : List Table → Type 0
+AreKeyless = AllByRecursion (λ t. t.references ≡ [])
+
+keyless_more : (tree : ℕ) (xs ys : List Table) → HasNoForeignKey xs tree → AreKeyless ys → HasNoForeignKey (xs ++ ys) tree
+keyless_more tree [] [] h k = tt
+keyless_more tree [] (y ∷ ys) h k = ((λ same. k.0), keyless_more tree [] ys tt k.1)
+keyless_more tree (x ∷ xs) ys h k = (h.0, keyless_more tree xs ys h.1 k)
+
+-- a table stands as it stood, where those that are added have no foreign key
+pub stands_kept : (s later : Schema) (name : Name) (at : ℕ) (table : Table) (more : List Table) → later.tables ≡ s.tables ++ more → AreKeyless more → Stands s name at table → Stands later name at table
+stands_kept s later name at table more grown bare stands = record {
   named = rw grown (position_front (λ t. same_name t.name name) 0 at s.tables more stands.named);
   got = rw grown (slice_front s.tables more at table stands.got);
   found = rw grown (find_front (λ t. t.tree == table.tree) table s.tables more stands.found);
+  keyless = rw grown (keyless_more table.tree s.tables more stands.keyless bare);
   stored = stands.stored;
 }
 
 -- a table with a free name stands last
-pub stands_last : (s later : Schema) (table : Table) (more : List Table) → later.tables ≡ s.tables ++ record table { tree = next_tree s } ∷ more → is_used s table.name ≡ false → same_name table.name table.name ≡ true
+pub stands_last : (s later : Schema) (table : Table) (more : List Table) → later.tables ≡ s.tables ++ record table { tree = next_tree s } ∷ more → AreKeyless (table ∷ more) → is_used s table.name ≡ false → same_name table.name table.name ≡ true
     → next_tree s < 2 ^ 31 → Stands later table.name (length s.tables) (record table { tree = next_tree s })
-stands_last s later table more grown free itself low =
+stands_last s later table more grown bare free itself low =
     let new : Table = record table { tree = next_tree s } in
     let zero_more : length s.tables + 0 ≡ length s.tables = omega arith in
     record {
       named = rw grown (position_past (λ t. same_name t.name table.name) 0 s.tables (new ∷ more) (unused s table.name free).0 ∙ rw itself (ap Some zero_more));
       got = rw grown (ap (slice_get (s.tables ++ new ∷ more)) (sym zero_more) ∙ slice_past s.tables (new ∷ more) 0);
       found = rw grown (find_past (λ t. t.tree == next_tree s) s.tables (new ∷ more) (λ t h. above_all s t (next_tree s) h (omega arith)) ∙ rw (eq-eqb (next_tree s) (next_tree s) refl));
+      keyless = rw grown (keyless_more (next_tree s) s.tables (new ∷ more) (all_from _ s.tables (λ t h same. absurd (omega (arith, same, table_below s t h)))) bare);
       stored = lt-leb (2 ^ 31) (next_tree s) low;
     }
 

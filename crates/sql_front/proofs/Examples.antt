@@ -20,10 +20,10 @@ use Rattle.sql_front.specs.Bare.{IsBareTable}
 use Rattle.sql_front.proofs.Texts.{Reads}
 use Rattle.sql_front.proofs.Write.{Adds, Makes}
 
-abbrev strict : List ℕ → Kind → Bool → Column
+abbrev pub strict : List ℕ → Kind → Bool → Column
 strict name kind not_null = record { name = name; kind = kind; is_strict = true; not_null = not_null; default = Null; collation = Binary }
 
-abbrev desk_table : ℕ → Table
+abbrev pub desk_table : ℕ → Table
 desk_table tree = record {
   name = codes "desk";
   tree = tree;
@@ -53,10 +53,10 @@ desk_is_bare tree = record { checks = refl; references = refl; computed = refl; 
 pub modules_are_bare : (tree : ℕ) → IsBareTable (module_table tree)
 modules_are_bare tree = record { checks = refl; references = refl; computed = refl; stamps = refl; uncounted = refl; defaults = (refl, (refl, (refl, (refl, tt)))) }
 
-abbrev is_equal : Term → Term → Term
+abbrev pub is_equal : Term → Term → Term
 is_equal = op2 (Compare Eq Binary)
 
-abbrev simple : ℕ → List Term → List Term → Query
+abbrev pub simple : ℕ → List Term → List Term → Query
 simple tree filter project = record { from = inner tree end; filter = filter; group = None; project = project; distinct = false; collations = []; order = []; limit = lit (Int (negsuc 0)); offset = lit (Int (pos 0)) }
 
 pub desk_reads : (tree : ℕ) → Reads (codes "SELECT format, version, approval FROM desk WHERE id = 1") (codes "desk") (desk_table tree) (simple tree (is_equal (col 1 0) (lit (Int (pos 1))) ∷ []) (col 1 2 ∷ col 1 3 ∷ col 1 4 ∷ [])) (codes "format" ∷ codes "version" ∷ codes "approval" ∷ [])

@@ -15,7 +15,8 @@ use Rattle.sqlite_catalog.specs.Change.{next_tree, is_used, created, KeepsRows}
 use Rattle.sqlite_resolve.specs.Compile.{table_defined_by, first, table_in}
 use Rattle.sqlite_resolve.specs.Scope.{Name}
 use Rattle.sqlite_resolve.specs.declared.error.CompileError.{CompileError}
-use Rattle.sql_front.proofs.Created.{SparesIndexes, still_free}
+use Rattle.sqlite_schema.specs.declared.schema.Reference.{Reference}
+use Rattle.sql_front.proofs.Created.{AreKeyless, SparesIndexes, still_free}
 
 went : {B E R : Type 0} {b : B} {Stops : E → Type 0} → ((stop : E) × Stops stop × (Ok b ≡ Err stop)) ⊎ R → R
 went (inl stopped) = absurd (let e = stopped.2 in cc)
@@ -28,6 +29,7 @@ same_value e = cc
 pub record Grown (s : Schema) (table : Table) (old new : Database) : Type 0 where
   pub more : List Table
   pub tables : new.schema.tables ≡ s.tables ++ record table { tree = next_tree s } ∷ more
+  pub bare : AreKeyless more
   pub empty : new.trees (next_tree s) ≡ []
   pub others : KeepsRows s.tables old.trees new.trees
   pub free : (name : Name) → is_used s name ≡ false → same_name table.name name ≡ false → SparesIndexes table name → same_name (codes "sqlite_sequence") name ≡ false → is_used new.schema name ≡ false
@@ -48,16 +50,21 @@ abbrev uniques_in : Result Table CompileError → List (List ℕ)
 uniques_in (Ok t) = t.uniques
 uniques_in (Err e) = []
 
+abbrev references_in : Result Table CompileError → List Reference
+references_in (Ok t) = t.references
+references_in (Err e) = []
+
 -- the table of AUTOINCREMENT's numbers
-sequence_defined : (t : Table) → table_defined_by sequence_text ≡ Ok t → (t.name ≡ codes "sqlite_sequence") × (t.uniques ≡ [])
+sequence_defined : (t : Table) → table_defined_by sequence_text ≡ Ok t → (t.name ≡ codes "sqlite_sequence") × (t.uniques ≡ []) × (t.references ≡ [])
 unfolding table_defined_by first table_in everything
-sequence_defined t h = (ap name_in (sym h), ap uniques_in (sym h))
+sequence_defined t h = (ap name_in (sym h), ap uniques_in (sym h), ap references_in (sym h))
 
 finish : (s : Schema) (table : Table) (old mid final : Database) → mid.schema ≡ created s table → mid.trees (next_tree s) ≡ [] → KeepsRows s.tables old.trees mid.trees → MakesSequence mid (Ok final) → Grown s table old final
 finish s table old mid final is empty others h = elim (cases_Bool (lacks_sequence mid.schema)) [
   | inl lacks ↦ with_sequence (rw lacks at h)
   | inr whole ↦ let same : mid ≡ final = same_value (sym (rw whole at h)) in subst (Grown s table old) same (record {
     more = [];
+    bare = tt;
     tables = ap (λ (x : Schema). x.tables) is;
     empty = empty;
     others = others;
@@ -73,6 +80,7 @@ finish s table old mid final is empty others h = elim (cases_Bool (lacks_sequenc
         let rows : KeepsRows (s.tables ++ new ∷ []) mid.trees final.trees = subst (λ ts. KeepsRows ts mid.trees final.trees) tables made.others in
         record {
           more = record made.table { tree = next_tree mid.schema } ∷ [];
+          bare = (known.2, tt);
           tables = ap (λ (x : Schema). x.tables) made.is ∙ ap (λ ts. ts ++ record made.table { tree = next_tree mid.schema } ∷ []) tables ∙ append_assoc s.tables (new ∷ []) _;
           empty = keeps_last s.tables new mid.trees final.trees rows ∙ empty;
           others = keeps_both s.tables (new ∷ []) old.trees mid.trees final.trees others rows;

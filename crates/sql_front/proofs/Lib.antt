@@ -5,7 +5,9 @@ pub mod Query
 pub mod Texts
 pub mod Past
 pub mod Write
+pub mod Change
 pub mod Examples
+pub mod ChangeExamples
 pub mod Created
 pub mod Grown
 pub mod Found

@@ -9,7 +9,10 @@ use Rattle.sqlite_ast.specs.declared.Expr.{Expr, out-Expr}
 use Rattle.sqlite_ast.specs.declared.Binary.{Binary}
 use Rattle.sqlite_ast.specs.Layer.{Layer}
 use Rattle.sqlite_ast.specs.declared.Expr.TheOpen.{Expr-F}
-use Rattle.sqlite_resolve.specs.Expr.{operator, applied, both, operation, node_at, between, bounded, is_identity, tests_truth, tests_alias, wanted_truth}
+use Rattle.sqlite_sql.specs.declared.aggregate.AggregateOp.TheVariants as folding
+use Rattle.sqlite_resolve.specs.declared.function.Function.{Function}
+use Rattle.sqlite_resolve.specs.declared.function.Function.TheVariants as function
+use Rattle.sqlite_resolve.specs.Expr.{operator, applied, both, operation, node_at, between, bounded, is_identity, tests_truth, tests_alias, wanted_truth, count_rows, function_named, star, star_by}
 use Rattle.sqlite_resolve.specs.Lowering.{again}
 use Rattle.sqlite_sql.specs.declared.ops.CompareOp.{CompareOp}
 use Rattle.sqlite_sql.specs.declared.ops.CompareOp.TheVariants as compare
@@ -22,18 +25,20 @@ use Rattle.sqlite_resolve.specs.Expr.{lower_to, node, opened, combine, passes}
 pub record Same (a b : Context) : Type 0 where
   pub columns : (table : Option Name) (name : Name) → column a table name ≡ column b table name
   pub affinities : (slot at : ℕ) → of_column a slot at ≡ of_column b slot at
+  pub aggregates : a.may_aggregate ≡ b.may_aggregate
 
 -- the operators that are neither IS, IS NOT nor ||
 abbrev pub IsSimple : Binary → Type 0
 IsSimple op = (is_identity op ≡ false) × ((cx : Context) (how : Collation) (x y : Term) → combine cx op how x y ≡ applied cx (operator how op) x y)
 
--- literals, parameters, columns, simple operators and BETWEEN
+-- literals, parameters, columns, count(*), simple operators and BETWEEN
 abbrev pub PlainLayer : (Expr → Type 0) → Layer → Type 0
 PlainLayer P Expr-F.Null = ⊤
 PlainLayer P (Expr-F.Integer text) = ⊤
 PlainLayer P (Expr-F.Text text) = ⊤
 PlainLayer P (Expr-F.Parameter k) = ⊤
 PlainLayer P (Expr-F.Column table name) = ⊤
+PlainLayer P (Expr-F.CallStar name) = ⊤
 PlainLayer P (Expr-F.Binary op x y) = IsSimple op × P x × P y
 PlainLayer P (Expr-F.Between x low high) = P x × P low × P high
 PlainLayer P _ = ⊥
@@ -72,13 +77,18 @@ module _ (a b : Context) (same : Same a b) where
   applied_same (Some (by.Is k)) x y = λ i. pure (compared_same (by.Is k) x y i)
   applied_same (Some o) x y = refl
 
+  star_same : (f : Function) → star_by a f ≡ star_by b f
+  star_same (function.Aggregate folding.Count) = λ i. count_rows (same.aggregates i)
+  star_same _ = refl
+
   layer_same : (low : Context → Expr → Lowering Term) (P : Expr → Type 0) → ((e : Expr) → P e → low a e ≡ low b e) → (l : Layer) → PlainLayer P l → node_at low a l ≡ node_at low b l
-  unfolding between
+  unfolding between star
   layer_same low P below Expr-F.Null h = refl
   layer_same low P below (Expr-F.Integer text) h = refl
   layer_same low P below (Expr-F.Text text) h = refl
   layer_same low P below (Expr-F.Parameter k) h = refl
   layer_same low P below (Expr-F.Column table name) h = same.columns table name
+  layer_same low P below (Expr-F.CallStar name) h = star_same (function_named name)
   layer_same low P below (Expr-F.Binary op x y) h =
       is_two_sides low a op x y h.0
       ∙ (λ i. below x h.1 i >>= (λ t. last >>= (λ p. below y h.2 i >>= (λ u. last >>= (λ q. applied_same (operator (chosen p q) op) t u i)))))

@@ -82,7 +82,7 @@ module _ (s z : Schema) (at there : ℕ) (table : Table) (got : slice_get s.tabl
       both_ways false = refl
 
   pub same_columns : Same (over_one s at) (over_one z there)
-  same_columns = record { columns = columns; affinities = affinities }
+  same_columns = record { columns = columns; affinities = affinities; aggregates = refl }
 
   -- ---- the name of a shown column
 

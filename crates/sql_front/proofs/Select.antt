@@ -66,7 +66,7 @@ abbrev pub bound_at : Name → ℕ → Bound
 bound_at name at = record { name = name; table = at; slot = 1; shared = [] }
 
 module _ (a b : Context) (same : Same a b) where
-  tests_same : (done : List Term) (e : Option Expr) → IsPlainTest e → tests lower a done e ≡ tests lower b done e
+  pub tests_same : (done : List Term) (e : Option Expr) → IsPlainTest e → tests lower a done e ≡ tests lower b done e
   unfolding tests
   tests_same done None h = refl
   tests_same done (Some e) h = λ i. lower_same a b same 700 e h i >>= (λ t. pure (done ++ conjuncts t))

@@ -6,6 +6,7 @@ ghost use Rattle.std.specs.Option.{option_copied};
 ghost use Rattle.sqlite_catalog.specs.Change.{is_used};
 ghost use Rattle.sql_front.specs.Bare.{IsBareTable};
 ghost use Rattle.sql_front.specs.Found.{StandsSomewhere, HasFirst};
+ghost use Rattle.sql_front.specs.Stands.{HasNoForeignKey};
 
 use crate::comparison::same_table;
 use sqlite_catalog::layout;
@@ -33,15 +34,16 @@ pub fn stands(schema: &Schema, table: &Table) -> bool
     is_first(schema, named, table)
 }
 
-/// Whether the two tables are the same but for their trees, and the first is found by its own.
+/// Whether the two tables are the same but for their trees, and the first is found by its own, which no foreign key changes.
 fn is_first(schema: &Schema, named: &Table, table: &Table) -> bool
     ensures same { IsTrue result → named.now ≡ record table.now { tree = named.now.tree } }
     ensures stored { IsTrue result → named.now.tree < 2 ^ 31 }
     ensures first { IsTrue result → HasFirst schema.now named.now table.now }
+    ensures keyless { IsTrue result → HasNoForeignKey schema.now.tables named.now.tree }
     ensures bare { IsTrue result → IsBareTable table.now }
     ensures missing { result ≡ false → IsBareTable table.now
         → named.now ≡ record table.now { tree = named.now.tree } → named.now.tree < 2 ^ 31
-        → HasFirst schema.now named.now table.now → ⊥ }
+        → HasFirst schema.now named.now table.now → HasNoForeignKey schema.now.tables named.now.tree → ⊥ }
 {
     let Some(first) = first_beside(schema.tables.as_slice(), named) else {
         return false;
@@ -49,7 +51,23 @@ fn is_first(schema: &Schema, named: &Table, table: &Table) -> bool
     if named.tree >= FIRST_COMPUTED || !same_table(named, table) {
         return false;
     }
+    if !has_no_foreign_key(schema.tables.as_slice(), named.tree) {
+        return false;
+    }
     same_table(first, table)
+}
+
+/// Whether no table that has its rows in this tree has a foreign key.
+fn has_no_foreign_key(tables: &[Table], tree: u32) -> bool
+    ensures none { IsTrue result → HasNoForeignKey tables.now tree }
+    ensures some { result ≡ false → HasNoForeignKey tables.now tree → ⊥ }
+{
+    match tables {
+        [] => true,
+        [first, more @ ..] => {
+            (first.tree != tree || first.references.is_empty()) && has_no_foreign_key(more, tree)
+        }
+    }
 }
 
 /// The tables that a statement computes have trees from this one on.

@@ -1,0 +1,163 @@
+-- The statements on artifacts and their pieces, in lists of them.
+use Rattle.std.proofs.Common.{◌≡◌, ◌≤◌, ◌&&◌, ◌++◌, ℕ, zero, suc, ◌+◌, ◌-◌, ◌*◌, pos, negsuc, List, [], ◌∷◌, map, filter, length, slice_get, Bool, true, false, cond, Option, option_map, refl, sym, ap, subst, ◌∙◌, arith, IsPermutation, nat_eq}
+use Rattle.std.specs.List.{list_any}
+use Rattle.std.specs.Option.{is_some, option_to_list}
+use Rattle.std.proofs.lemmas.Bool.Decides.{nat_tests}
+use Rattle.std.proofs.lemmas.List.Sorted.{IsPermutation-trans}
+use Rattle.sqlite_value.specs.declared.value.Value.TheVariants.{Null, Int, Blob}
+use Rattle.sqlite_value.specs.Order.{Row}
+use Rattle.sqlite_trees.specs.Tree.{put_row}
+use Rattle.sqlite_rules.specs.Edit.{next_rowid}
+use Rattle.sqlite_sql.specs.Ops.{binary}
+use Rattle.sqlite.specs.Term.{lit, col}
+use Rattle.sqlite.specs.Query.{Query}
+use Rattle.sqlite.specs.Command.TheVariants.{Select}
+use Rattle.sqlite.specs.Schema.{Schema}
+use Rattle.sqlite.specs.Effect.{Database, Reads as Shows}
+use Rattle.sql_calls.specs.Keyed.{rows_from, IsHeldBy}
+use Rattle.sql_calls.proofs.Changes.{ShowsFirst}
+use Rattle.sql_calls.proofs.Selects.{simple, passes, shown_of, simple_rows}
+use Rattle.sql_calls.proofs.Inserts.{Inserted, given_rows}
+use Rattle.sql_calls.proofs.NumberedRows.{put_next, cast_int, cast_null}
+use Rattle.sql_calls.proofs.NumberedTables.{has_number, numbered_in_order}
+use Rattle.sql_calls.proofs.KeyedRows.{on_content, held_seen}
+use Rattle.rollout_model.specs.Limits.{piece_length}
+use Rattle.rollout_machine.specs.Commands.{Bytes}
+use Rattle.rollout_machine.specs.ByteStrings.{same_bytes, item_numbered}
+use Rattle.rollout_machine.specs.Objects.{artifact_shown, artifacts_shown}
+use Rattle.rollout_machine.specs.Records.{ArtifactRecord}
+use Rattle.desk_records.specs.Modules.{IsLastRow}
+use Rattle.desk_records.specs.Schema.{artifact_table, piece_table}
+use Rattle.desk_records.specs.Artifacts.{told_of, artifact_row, piece_row, pieces_in, pieces_from, is_same_artifact, file_of, shown_rows, pieces_of_artifact, piece_numbered, artifact_filed, and_piece}
+use Rattle.desk_records.proofs.Meaning.{at_key}
+use Rattle.desk_records.proofs.ArtifactMeaning.{same_file, last_artifact_query, told_columns, shown_columns, artifacts_query, artifact_terms, at_piece, piece_terms}
+use Rattle.desk_records.proofs.Comparisons.{judged, words_equal, numbers_equal, and_true}
+use Rattle.desk_records.proofs.NumberedReads.{finds, lasts, gets, first_found}
+use Rattle.desk_records.proofs.Parts.{same_rows, none_after, at_place, no_parts, its_parts, part_added}
+use Rattle.desk_records.proofs.PieceLists.{count_whole, one_more}
+
+-- ---- artifacts by module and filename, the last one, and by number
+
+module _ (tree : ℕ) (db : Database) (artifacts : List ArtifactRecord) (has : db.trees tree ≡ rows_from artifact_row 1 artifacts) (names : List (List ℕ)) where
+  passes_file : (m : ℕ) (filename : Bytes) (number : ℕ) (a : ArtifactRecord) → passes same_file (file_of m filename) (artifact_row number a) ≡ is_same_artifact m filename a
+  passes_file m filename number a = rw (numbers_equal a.module_number m, words_equal a.filename filename, and_true (same_bytes a.filename filename)) refl
+
+  pub finds_artifact : (m : ℕ) (filename : Bytes) (row : Option Row) → ShowsFirst (Select (record { lets = []; body = simple tree same_file (col 1 0 ∷ []) }) names) db (file_of m filename) row
+      → is_some row ≡ list_any (is_same_artifact m filename) artifacts
+  finds_artifact m filename row shown = finds artifact_row tree db artifacts has names same_file (col 1 0 ∷ []) (file_of m filename) (is_same_artifact m filename) (passes_file m filename) row shown
+
+  pub lasts_artifact : (row : Option Row) → ShowsFirst (Select (record { lets = []; body = last_artifact_query tree }) names) db [] row → IsLastRow (length artifacts) row
+  lasts_artifact row shown = lasts artifact_row tree db artifacts has names (λ n x. refl) row shown
+
+  passes_number : (number n : ℕ) (a : ArtifactRecord) → passes (at_key 0 0 ∷ []) (Int (pos number) ∷ []) (artifact_row n a) ≡ has_number artifact_row (λ n x. refl) number (artifact_row n a)
+  unfolding binary
+  passes_number number n a = and_true _ ∙ judged _
+
+  pub gets_artifact : (number : ℕ) → 1 ≤ number → (row : Option Row) → ShowsFirst (Select (record { lets = []; body = simple tree (at_key 0 0 ∷ []) told_columns }) names) db (Int (pos number) ∷ []) row
+      → row ≡ option_map told_of (item_numbered artifacts number)
+  gets_artifact number least row shown = gets artifact_row tree db artifacts has names (λ n x. refl) (at_key 0 0 ∷ []) told_columns passes_number number least row shown
+
+  -- ---- those of a module, in the order of their numbers
+
+  abbrev is_of : ℕ → Row → Bool
+  is_of m = passes (at_key 2 0 ∷ []) (Int (pos m) ∷ [])
+
+  abbrev listed : ℕ → Row → Row
+  listed m = shown_of shown_columns (Int (pos m) ∷ [])
+
+  of_module : (m n : ℕ) (xs : List ArtifactRecord) → map (listed m) (filter (is_of m) (rows_from artifact_row n xs)) ≡ shown_rows (artifacts_shown m n xs)
+  of_module m n [] = refl
+  of_module m n (a ∷ xs) =
+      let next : n + 1 ≡ suc n = omega arith in
+      go (nat_eq a.module_number m) (and_true _ ∙ numbers_equal a.module_number m) (of_module m (n + 1) xs ∙ ap (λ k. shown_rows (artifacts_shown m k xs)) next)
+    where
+      go : (b : Bool) → is_of m (artifact_row n a) ≡ b → map (listed m) (filter (is_of m) (rows_from artifact_row (n + 1) xs)) ≡ shown_rows (artifacts_shown m (suc n) xs)
+          → map (listed m) (filter (is_of m) (artifact_row n a ∷ rows_from artifact_row (n + 1) xs)) ≡ shown_rows (cond b (artifact_shown n a ∷ artifacts_shown m (suc n) xs) (artifacts_shown m (suc n) xs))
+      go true is rest = rw is (ap (λ l. listed m (artifact_row n a) ∷ l) rest)
+      go false is rest = rw is rest
+
+  pub lists_artifacts : (m : ℕ) (rows : List Row) → Shows (Select (record { lets = []; body = artifacts_query tree }) names) db (Int (pos m) ∷ []) rows → rows ≡ shown_rows (artifacts_shown m 1 artifacts)
+  lists_artifacts m rows shows =
+      numbered_in_order artifact_row (λ n x. refl) tree (at_key 2 0 ∷ []) shown_columns (lit (Int (negsuc 0))) (lit (Int (pos 0))) (Int (pos m) ∷ []) db.trees artifacts has rows (shows.answer Null) ∙ of_module m 1 artifacts
+
+-- ---- a new artifact
+
+pub artifact_added : (m : ℕ) (filename : Bytes) (size : ℕ) (digest : Bytes) (number tree : ℕ) (schema : Schema) (old new : Database) (artifacts : List ArtifactRecord) → old.trees tree ≡ rows_from artifact_row 1 artifacts → number ≡ length artifacts + 1
+    → Inserted schema (artifact_table tree) (given_rows (artifact_table tree) (Int (pos number) ∷ told_of (artifact_filed m filename size digest)) artifact_terms 6) old new
+    → new.trees tree ≡ rows_from artifact_row 1 (artifacts ++ artifact_filed m filename size digest ∷ [])
+artifact_added m filename size digest number tree schema old new artifacts has next made =
+    let at : number ≡ 1 + length artifacts = omega (arith, next) in
+    made.applies.rows ∙ rw (cast_int number, cast_null, cast_int m, cast_int size, has, at) (put_next artifact_row (λ n x. refl) 1 artifacts (artifact_filed m filename size digest))
+
+-- ---- the rows of pieces
+
+abbrev pieces : ArtifactRecord → List Bytes
+pieces a = pieces_in a.contents
+
+-- an artifact without contents has none
+pub no_pieces : (m : ℕ) (filename : Bytes) (size : ℕ) (digest : Bytes) (n : ℕ) (artifacts : List ArtifactRecord) → pieces_from n (artifacts ++ artifact_filed m filename size digest ∷ []) ≡ pieces_from n artifacts
+no_pieces m filename size digest n artifacts = no_parts piece_row pieces (artifact_filed m filename size digest) refl n artifacts
+
+-- a further piece leaves the rows of the artifacts
+pub same_artifacts : (n : ℕ) (before : List ArtifactRecord) (a : ArtifactRecord) (bytes : Bytes) → rows_from artifact_row n (before ++ and_piece a bytes ∷ []) ≡ rows_from artifact_row n (before ++ a ∷ [])
+same_artifacts n before a bytes = same_rows artifact_row a (and_piece a bytes) (λ n. refl) n before
+
+-- ---- a piece at its place
+
+module _ (tree : ℕ) (db : Database) (artifacts : List ArtifactRecord) (held : IsHeldBy (db.trees tree) (pieces_from 1 artifacts)) (names : List (List ℕ)) where
+  abbrev is_at : ℕ → ℕ → Row → Bool
+  is_at number sequence = on_content (passes at_piece (Int (pos number) ∷ Int (pos sequence) ∷ []))
+
+  names_it : (number sequence n place : ℕ) (bytes : Bytes) → is_at number sequence (piece_row n place bytes) ≡ (nat_eq n number && nat_eq place sequence)
+  names_it number sequence n place bytes = rw (numbers_equal n number, numbers_equal place sequence, and_true (nat_eq place sequence)) refl
+
+  of_artifact : (number sequence place : ℕ) (bytes : Bytes) → is_at number sequence (piece_row number place bytes) ≡ nat_eq place sequence
+  of_artifact number sequence place bytes = let same : nat_eq number number ≡ true = grind (arith, nat_tests) in names_it number sequence number place bytes ∙ rw same refl
+
+  others : (number sequence n place : ℕ) (bytes : Bytes) → nat_eq n number ≡ false → is_at number sequence (piece_row n place bytes) ≡ false
+  others number sequence n place bytes apart = names_it number sequence n place bytes ∙ rw apart refl
+
+  found_in : (number sequence : ℕ) (ps : List Bytes) → filter (is_at number sequence) (rows_from (piece_row number) 1 ps) ≡ option_to_list (option_map (piece_row number sequence) (item_numbered ps sequence))
+  found_in number zero ps = none_after (piece_row number) (is_at number zero) zero (λ place bytes. of_artifact number zero place bytes) 1 ps (omega arith)
+  found_in number (suc k) ps =
+      let next : 1 + k ≡ suc k = omega arith in
+      at_place (piece_row number) (is_at number (suc k)) 1 k (λ place bytes. of_artifact number (suc k) place bytes ∙ ap (nat_eq place) (sym next)) ps
+      ∙ ap (λ n. option_to_list (option_map (piece_row number n) (slice_get ps k))) next
+
+  its_piece : (number sequence : ℕ) → 1 ≤ number → filter (is_at number sequence) (pieces_from 1 artifacts) ≡ option_to_list (option_map (piece_row number sequence) (piece_numbered artifacts number sequence))
+  its_piece zero sequence least = absurd (omega (arith, least))
+  its_piece (suc k) sequence least =
+      its_parts piece_row pieces (is_at (suc k) sequence) (suc k) (others (suc k) sequence) pieces_of_artifact refl (λ a. refl) 1 k (omega arith) artifacts
+      ∙ found_in (suc k) sequence (pieces_of_artifact (slice_get artifacts k))
+
+  abbrev query : Query
+  query = simple tree at_piece (col 1 3 ∷ [])
+
+  abbrev shown : ℕ → ℕ → Row → Row
+  shown number sequence = shown_of (col 1 3 ∷ []) (Int (pos number) ∷ Int (pos sequence) ∷ [])
+
+  pieces_shown : (number sequence : ℕ) → 1 ≤ number → (rows : List Row) → Shows (Select (record { lets = []; body = query }) names) db (Int (pos number) ∷ Int (pos sequence) ∷ []) rows
+      → IsPermutation (map (on_content (shown number sequence)) (option_to_list (option_map (piece_row number sequence) (piece_numbered artifacts number sequence)))) rows
+  pieces_shown number sequence least rows shows =
+      let params = Int (pos number) ∷ Int (pos sequence) ∷ [] in
+      let f = shown number sequence in
+      let seen = held_seen (passes at_piece params) (λ id x. refl) f (λ id x. refl) (db.trees tree) (pieces_from 1 artifacts) held in
+      subst (λ l. IsPermutation (map (on_content f) l) rows) (its_piece number sequence least) (IsPermutation-trans _ _ _ seen (simple_rows tree at_piece (col 1 3 ∷ []) params db.trees rows (shows.answer Null)))
+
+  pub gets_piece : (number sequence : ℕ) → 1 ≤ number → (row : Option Row) → ShowsFirst (Select (record { lets = []; body = query }) names) db (Int (pos number) ∷ Int (pos sequence) ∷ []) row
+      → row ≡ option_map (λ bytes. Blob bytes ∷ []) (piece_numbered artifacts number sequence)
+  gets_piece number sequence least row shown_first =
+      first_found (on_content (shown number sequence)) (piece_row number sequence) (Select (record { lets = []; body = query }) names) db (Int (pos number) ∷ Int (pos sequence) ∷ []) (piece_numbered artifacts number sequence)
+      (pieces_shown number sequence least) row shown_first
+
+-- ---- a further piece of the last artifact
+
+pub piece_added : (number sequence : ℕ) (bytes : Bytes) (tree : ℕ) (schema : Schema) (old new : Database) (before : List ArtifactRecord) (a : ArtifactRecord) → IsHeldBy (old.trees tree) (pieces_from 1 (before ++ a ∷ []))
+    → number ≡ length before + 1 → 1 ≤ sequence → length a.contents ≡ (sequence - 1) * piece_length → 1 ≤ length bytes → length bytes ≤ piece_length
+    → Inserted schema (piece_table tree) (given_rows (piece_table tree) (piece_row number sequence bytes) piece_terms 4) old new
+    → IsHeldBy (new.trees tree) (pieces_from 1 (before ++ and_piece a bytes ∷ []))
+piece_added number sequence bytes tree schema old new before a held last least whole some limit made =
+    let put : new.trees tree ≡ put_row (Int (next_rowid (old.trees tree)) ∷ piece_row number sequence bytes) (old.trees tree) = made.applies.rows ∙ rw (cast_null, cast_int number, cast_int sequence) refl in
+    let place : sequence ≡ length (pieces_in a.contents) + 1 = omega (arith, count_whole a.contents (sequence - 1) whole, least) in
+    subst (λ rows. IsHeldBy rows (pieces_from 1 (before ++ and_piece a bytes ∷ []))) (sym put)
+    (part_added piece_row pieces a (and_piece a bytes) bytes (one_more a.contents bytes (sequence - 1) whole some limit) number sequence before (old.trees tree) held last place)

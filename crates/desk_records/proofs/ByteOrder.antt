@@ -1,0 +1,97 @@
+-- Lists of words in byte order.
+use Rattle.std.proofs.Common.{◌≡◌, ℕ, Bool, true, false, cond, ◌||◌, ◌&&◌, List, [], ◌∷◌, refl, sym, ap, ◌∙◌, subst, nat_eq, nat_lt, nat_cmp, IsPermutation, Ordering}
+use Rattle.std.specs.List.{list_all}
+use Rattle.std.specs.Ordering.{is_gt, ordering_then}
+use Rattle.std.specs.Cmp.Lexicographic.{slice_cmp}
+use Rattle.std.proofs.lemmas.Bool.{and_parts, or_parts, false≢true}
+use Rattle.std.proofs.lemmas.List.Sorted.{IsPermutation-refl, IsPermutation-trans, IsPermutation-cons, IsPermutation-middle}
+use Rattle.sqlite_value.specs.declared.value.Value.TheVariants.{Text}
+use Rattle.sqlite_value.specs.Order.{value_cmp}
+use Rattle.sqlite_value.proofs.OrderLemmas.{value_cmp-Text}
+use Rattle.rollout_machine.specs.ByteStrings.{same_bytes, bytes_below, contains_word, with_word, without_word}
+use Rattle.rollout_machine.specs.Commands.{Bytes}
+use Rattle.rollout_machine.proofs.Imports.{AllAbove, IsSorted, sorted_with}
+use Rattle.rollout_machine.proofs.TargetTies.{same_refl, same_true}
+use Rattle.desk_records.specs.Targets.{in_byte_order}
+
+-- ---- two words
+
+pub same_by : (a b : Bytes) → a ≡ b → same_bytes a b ≡ true
+same_by a b is = subst (λ (c : Bytes). same_bytes a c ≡ true) is (same_refl a)
+
+pub same_sym : (a b : Bytes) → same_bytes a b ≡ same_bytes b a
+same_sym a b = go (same_bytes a b) (same_bytes b a) refl refl
+  where
+    go : (s t : Bool) → same_bytes a b ≡ s → same_bytes b a ≡ t → s ≡ t
+    go true true one two = refl
+    go false false one two = refl
+    go true false one two = absurd (false≢true (sym two ∙ same_by b a (sym (same_true a b one))))
+    go false true one two = absurd (false≢true (sym one ∙ same_by a b (sym (same_true b a two))))
+
+-- a word that is below another doesn't come after it in a column
+pub below_rises : (a b : Bytes) → bytes_below a b ≡ true → is_gt (value_cmp (Text a) (Text b)) ≡ false
+below_rises a b below = ap is_gt (value_cmp-Text a b) ∙ go a b below
+  where
+    go : (a b : Bytes) → bytes_below a b ≡ true → is_gt (slice_cmp nat_cmp a b) ≡ false
+    go a [] below = absurd (false≢true below)
+    go [] (y ∷ ys) below = refl
+    go (x ∷ xs) (y ∷ ys) below = step x y (slice_cmp nat_cmp xs ys) below (go xs ys)
+      where
+        step : (x y : ℕ) (rest : Ordering) → (nat_lt x y || (nat_eq x y && bytes_below xs ys)) ≡ true → (bytes_below xs ys ≡ true → is_gt rest ≡ false) → is_gt (ordering_then (nat_cmp x y) rest) ≡ false
+        step x y rest below more = by (nat_lt x y) (nat_eq x y) refl refl below
+          where
+            by : (l s : Bool) → nat_lt x y ≡ l → nat_eq x y ≡ s → (l || (s && bytes_below xs ys)) ≡ true → is_gt (ordering_then (nat_cmp x y) rest) ≡ false
+            by true s low same is = rw low refl
+            by false true low same is = rw (low, same) (more is)
+            by false false low same is = absurd (false≢true is)
+
+-- ---- lists
+
+all_above : (w : Bytes) (ws : List Bytes) → list_all (bytes_below w) ws ≡ true → AllAbove w ws
+all_above w [] all = tt
+all_above w (v ∷ ws) all = let parts = and_parts (bytes_below w v) (list_all (bytes_below w) ws) all in (parts.0, all_above w ws parts.1)
+
+above_all : (w : Bytes) (ws : List Bytes) → AllAbove w ws → list_all (bytes_below w) ws ≡ true
+above_all w [] above = refl
+above_all w (v ∷ ws) above = rw (above.0) (above_all w ws above.1)
+
+pub sorted_from : (ws : List Bytes) → in_byte_order ws ≡ true → IsSorted ws
+sorted_from [] ordered = tt
+sorted_from (w ∷ ws) ordered = let parts = and_parts (list_all (bytes_below w) ws) (in_byte_order ws) ordered in (all_above w ws parts.0, sorted_from ws parts.1)
+
+pub in_order_from : (ws : List Bytes) → IsSorted ws → in_byte_order ws ≡ true
+in_order_from [] sorted = refl
+in_order_from (w ∷ ws) sorted = rw (above_all w ws sorted.0) (in_order_from ws sorted.1)
+
+pub in_order_with : (w : Bytes) (ws : List Bytes) → in_byte_order ws ≡ true → in_byte_order (with_word w ws) ≡ true
+in_order_with w ws ordered = in_order_from (with_word w ws) (sorted_with w ws (sorted_from ws ordered))
+
+above_without : (v w : Bytes) (ws : List Bytes) → AllAbove v ws → AllAbove v (without_word w ws)
+above_without v w [] above = tt
+above_without v w (u ∷ ws) above = go (same_bytes w u) (above_without v w ws above.1)
+  where
+    go : (s : Bool) → AllAbove v (without_word w ws) → AllAbove v (cond s (without_word w ws) (u ∷ without_word w ws))
+    go true rest = rest
+    go false rest = (above.0, rest)
+
+sorted_without : (w : Bytes) (ws : List Bytes) → IsSorted ws → IsSorted (without_word w ws)
+sorted_without w [] sorted = tt
+sorted_without w (u ∷ ws) sorted = go (same_bytes w u) (sorted_without w ws sorted.1)
+  where
+    go : (s : Bool) → IsSorted (without_word w ws) → IsSorted (cond s (without_word w ws) (u ∷ without_word w ws))
+    go true rest = rest
+    go false rest = (above_without u w ws sorted.0, rest)
+
+pub in_order_without : (w : Bytes) (ws : List Bytes) → in_byte_order ws ≡ true → in_byte_order (without_word w ws) ≡ true
+in_order_without w ws ordered = in_order_from (without_word w ws) (sorted_without w ws (sorted_from ws ordered))
+
+-- a word that isn't there comes in somewhere
+pub with_is_more : (w : Bytes) (ws : List Bytes) → contains_word w ws ≡ false → IsPermutation (with_word w ws) (w ∷ ws)
+with_is_more w [] new = IsPermutation-refl (w ∷ [])
+with_is_more w (v ∷ ws) new =
+    let parts = or_parts (same_bytes w v) (contains_word w ws) new in
+    subst (λ s. IsPermutation (cond s (v ∷ ws) (cond (bytes_below w v) (w ∷ v ∷ ws) (v ∷ with_word w ws))) (w ∷ v ∷ ws)) (sym parts.0) (go (bytes_below w v) (with_is_more w ws parts.1))
+  where
+    go : (l : Bool) → IsPermutation (with_word w ws) (w ∷ ws) → IsPermutation (cond l (w ∷ v ∷ ws) (v ∷ with_word w ws)) (w ∷ v ∷ ws)
+    go true rest = IsPermutation-refl (w ∷ v ∷ ws)
+    go false rest = IsPermutation-trans _ _ _ (IsPermutation-cons v _ _ rest) (IsPermutation-middle (v ∷ []) w ws)

@@ -1,0 +1,54 @@
+-- Contents in pieces, and what one more piece makes of them.
+use Rattle.std.proofs.Common.{◌≡◌, ◌≤◌, ◌++◌, ℕ, zero, suc, ◌+◌, ◌*◌, [], ◌∷◌, map, take, drop, length, refl, sym, ap, ap₂, ◌∙◌, arith, length-append}
+use Rattle.std.specs.List.{range_with_len}
+use Rattle.std.proofs.Math.Nat.{sub-zero}
+use Rattle.std.proofs.Math.Seq.{drop-append_seam}
+use Rattle.std.proofs.lemmas.Grind.{div_ceil_times}
+use Rattle.std.proofs.lemmas.List.{length-drop, take_all, take-append-le, drop-append-le}
+use Rattle.std.proofs.lemmas.List.FromFn.{length-map-range_with_len, map-range_with_len_more}
+use Rattle.sqlite_keyed.proofs.ListLemmas.{map-map, map_same}
+use Rattle.rollout_machine.specs.Commands.{Bytes}
+use Rattle.rollout_model.specs.Limits.{piece_length}
+use Rattle.artifact_pieces.specs.Pieces.{piece_at, piece_bytes, piece_count}
+use Rattle.artifact_pieces.proofs.PieceLemmas.{one_piece}
+use Rattle.desk_records.specs.Artifacts.{pieces_in}
+
+-- how many pieces contents have whose last piece has so many bytes
+whole_count : (total k : ℕ) → total ≡ k * piece_length → piece_count total ≡ k
+whole_count total k is = let bounds = div_ceil_times total piece_length (omega arith) in omega (arith, bounds.0, bounds.1, is)
+
+next_count : (total k last : ℕ) → total ≡ k * piece_length + last → 1 ≤ last → last ≤ piece_length → piece_count total ≡ k + 1
+next_count total k last is least limit = let bounds = div_ceil_times total piece_length (omega arith) in omega (arith, bounds.0, bounds.1, is, least, limit)
+
+-- the piece at a place, counted from 0
+abbrev piece : Bytes → ℕ → Bytes
+piece contents k = take piece_length (drop (k * piece_length) contents)
+
+by_place : (contents : Bytes) (n : ℕ) → piece_count (length contents) ≡ n → pieces_in contents ≡ map (piece contents) (range_with_len 0 n)
+by_place contents n count =
+    map-map (piece_bytes contents) (piece_at (length contents)) _ ∙ map_same _ (piece contents) (λ k. one_piece contents k) _ ∙ ap (λ m. map (piece contents) (range_with_len 0 m)) (sub-zero (piece_count (length contents)) ∙ count)
+
+-- further bytes leave whole pieces as they are
+same_piece : (contents bytes : Bytes) (k : ℕ) → (k + 1) * piece_length ≤ length contents → piece (contents ++ bytes) k ≡ piece contents k
+same_piece contents bytes k within =
+    ap (take piece_length) (drop-append-le (k * piece_length) contents bytes (omega (arith, within)))
+    ∙ take-append-le piece_length (drop (k * piece_length) contents) bytes (omega (arith, length-drop (k * piece_length) contents, within))
+
+same_pieces : (contents bytes : Bytes) (from n : ℕ) → (from + n) * piece_length ≤ length contents → map (piece (contents ++ bytes)) (range_with_len from n) ≡ map (piece contents) (range_with_len from n)
+same_pieces contents bytes from zero within = refl
+same_pieces contents bytes from (suc n) within = ap₂ ◌∷◌ (same_piece contents bytes from (omega (arith, within))) (same_pieces contents bytes (from + 1) n (omega (arith, within)))
+
+last_piece : (contents bytes : Bytes) (k : ℕ) → length contents ≡ k * piece_length → length bytes ≤ piece_length → piece (contents ++ bytes) k ≡ bytes
+last_piece contents bytes k whole limit = ap (λ n. take piece_length (drop n (contents ++ bytes))) (sym whole) ∙ ap (take piece_length) (drop-append_seam contents bytes) ∙ take_all piece_length bytes limit
+
+-- how many there are of contents in whole pieces
+pub count_whole : (contents : Bytes) (k : ℕ) → length contents ≡ k * piece_length → length (pieces_in contents) ≡ k
+count_whole contents k whole = ap length (by_place contents k (whole_count (length contents) k whole)) ∙ length-map-range_with_len (piece contents) 0 k
+
+-- one more piece after whole ones
+pub one_more : (contents bytes : Bytes) (k : ℕ) → length contents ≡ k * piece_length → 1 ≤ length bytes → length bytes ≤ piece_length → pieces_in (contents ++ bytes) ≡ pieces_in contents ++ bytes ∷ []
+one_more contents bytes k whole least limit =
+    let total : length (contents ++ bytes) ≡ k * piece_length + length bytes = omega (arith, length-append contents bytes, whole) in
+    by_place (contents ++ bytes) (k + 1) (next_count (length (contents ++ bytes)) k (length bytes) total least limit)
+    ∙ map-range_with_len_more (piece (contents ++ bytes)) 0 k k (omega arith)
+    ∙ ap₂ ◌++◌ (same_pieces contents bytes 0 k (omega (arith, whole)) ∙ sym (by_place contents k (whole_count (length contents) k whole))) (ap (λ b. b ∷ []) (last_piece contents bytes k whole limit))

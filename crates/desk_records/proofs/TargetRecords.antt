@@ -1,0 +1,240 @@
+-- The statements on targets and their tags, in records.
+use Rattle.std.proofs.Common.{◌≡◌, ◌≢◌, ◌∷◌, ◌&&◌, ℕ, min, pos, negsuc, List, [], Bool, true, false, cond, not, map, filter, flat_map, length, slice_get, Option, Some, None, option_map, refl, sym, ap, ap₂, subst, ◌∙◌, codes, IsPermutation}
+use Rattle.std.specs.List.{list_all}
+use Rattle.std.proofs.lemmas.Bool.{and_parts}
+use Rattle.std.proofs.lemmas.List.{length-map}
+use Rattle.std.proofs.lemmas.List.Sorted.{IsPermutation-map, IsPermutation-trans}
+use Rattle.sqlite_value.specs.declared.value.Value.TheVariants.{Null, Int, Text, Blob}
+use Rattle.sqlite_value.specs.Order.{Row}
+use Rattle.sqlite_value.specs.Keys.{plain, first_key}
+use Rattle.sqlite_schema.specs.Rules.{agree}
+use Rattle.sqlite_rules.specs.Cast.{cast_all}
+use Rattle.sqlite.specs.Kind.TheVariants as kind
+use Rattle.sqlite.specs.Term.{lit, col}
+use Rattle.sqlite.specs.Command.{Command}
+use Rattle.sqlite.specs.Command.TheVariants.{Select, Insert, Update, Delete}
+use Rattle.sqlite.specs.Source.TheVariants.{Values}
+use Rattle.sqlite.specs.Effect.{Database, Reads as Shows}
+use Rattle.sqlite.specs.State.{State, Writes}
+use Rattle.sql_calls.specs.Keyed.{IsHeldBy, Rise}
+use Rattle.sql_calls.specs.Tables.{strict}
+use Rattle.sql_calls.proofs.Changes.{ShowsFirst}
+use Rattle.sql_calls.proofs.Counts.{count_query, count_rows, length_held}
+use Rattle.sql_calls.proofs.Inserts.{inserts}
+use Rattle.sql_calls.proofs.KeyedRows.{on_content, changed}
+use Rattle.sql_calls.proofs.KeyedTables.{keys_apart, are_whole, reads_key, changes_key, drops, adds_row}
+use Rattle.sql_calls.proofs.KeyedOrder.{reads_risen}
+use Rattle.sql_calls.proofs.Selects.{simple, passes, shown_of}
+use Rattle.sql_calls.proofs.Updates.{updates, deletes}
+use Rattle.rollout_machine.specs.ByteStrings.{same_bytes, with_word, without_word}
+use Rattle.rollout_machine.specs.Commands.{Bytes, TargetRow}
+use Rattle.rollout_machine.specs.RecordSteps.{change_target}
+use Rattle.rollout_machine.specs.Records.{Records}
+use Rattle.rollout_machine.specs.Targets.{Target}
+use Rattle.rollout_machine.specs.Verdicts.{tags_of, target_of}
+use Rattle.desk_records.specs.Schema.{Place, Desk, Modules, Sets, SetModules, Artifacts, Pieces, Targets, TargetTags, TargetAttributes, target_table, target_tag_table}
+use Rattle.desk_records.specs.Targets.{target_row, tag_rows, attribute_rows, in_byte_order, ids_of, keys_of, is_sorted, renamed, tagged, untagged, with_target, with_changed, AddsTarget, AddsTag}
+use Rattle.desk_records.specs.Holds.{HoldsRecords, IsHeld}
+use Rattle.desk_records.proofs.HoldsAfter.{holds_after}
+use Rattle.desk_records.proofs.TargetMeaning.{of_target, target_columns, target_terms, new_values, set_target_query, tags_query, tag_terms, of_tag, drop_tag_query}
+use Rattle.desk_records.proofs.Comparisons.{words_equal, and_true}
+use Rattle.desk_records.proofs.ByteOrder.{sorted_from, in_order_with, in_order_without}
+use Rattle.desk_records.proofs.Targets.{has_id, first_found, changed_map, changed_rows, changed_sorted, rows_of, its_rows, put_is_more, put_rows, put_sorted, tag_row, tags_rise, tags_sorted, tag_is_more, tag_is_less}
+
+-- ---- which rows a statement names
+
+pub first_fixed : (params r : Row) → passes of_target params r ≡ true → agree plain (1 ∷ []) r (0 ∷ []) params ≡ true
+unfolding first_key
+first_fixed params r h = h
+
+abbrev pub is_of : Bytes → Row → Bool
+is_of id = on_content (passes of_target (Text id ∷ []))
+
+-- of all rows a statement may name, those whose first column is the id
+pub names_it : (id other : Bytes) (more params : Row) → on_content (passes of_target (Text id ∷ params)) (Text other ∷ more) ≡ same_bytes other id
+names_it id other more params = and_true _ ∙ words_equal other id
+
+-- what the records say of all targets
+pub ids_sorted : (db : Database) (now : Records) → HoldsRecords db now → in_byte_order (ids_of now.targets) ≡ true
+ids_sorted db now holds = (and_parts (in_byte_order (ids_of now.targets)) (list_all is_sorted now.targets) holds.sorted).0
+
+pub each_sorted : (db : Database) (now : Records) → HoldsRecords db now → list_all is_sorted now.targets ≡ true
+each_sorted db now holds = (and_parts (in_byte_order (ids_of now.targets)) (list_all is_sorted now.targets) holds.sorted).1
+
+-- contents that are others only in their order
+pub held_as : (rows wanted other : List Row) → IsHeldBy rows wanted → IsPermutation other wanted → IsHeldBy rows other
+held_as rows wanted other h same = record { order = h.order; rising = h.rising; same = IsPermutation-trans _ _ _ same h.same }
+
+-- ---- what is read
+
+-- what is told of a target: name and digest
+abbrev pub told_target : Target → Row
+told_target t = Text t.name ∷ Blob t.digest ∷ []
+
+abbrev pub shown_tags : List Bytes → List Row
+shown_tags ws = map (λ (w : Bytes). Text w ∷ []) ws
+
+first_row : (command : Command) (db : Database) (params : Row) (is : Option Row) → ((rows : List Row) → Shows command db params rows → slice_get rows 0 ≡ is) → (row : Option Row) → ShowsFirst command db params row → row ≡ is
+first_row command db params is all None shown = all [] shown
+first_row command db params is all (Some row) shown = all (row ∷ shown.0) shown.1
+
+-- the rows of tags of one target
+module _ (id : Bytes) where
+  its_tags : (i : Bytes) (b : Bool) → same_bytes i id ≡ b → (ws : List Bytes) → filter (is_of id) (map (tag_row i) ws) ≡ cond b (map (tag_row i) ws) []
+  its_tags i true e [] = refl
+  its_tags i false e [] = refl
+  its_tags i true e (w ∷ ws) = rw (names_it id i (Text w ∷ []) [], e) (ap (λ l. tag_row i w ∷ l) (its_tags i true e ws))
+  its_tags i false e (w ∷ ws) = rw (names_it id i (Text w ∷ []) [], e) (its_tags i false e ws)
+
+  tags_shown : (found : Option Target) → map (on_content (shown_of (col 1 2 ∷ []) (Text id ∷ []))) (rows_of tag_rows found) ≡ shown_tags (tags_of found)
+  tags_shown None = refl
+  tags_shown (Some t) = each t.tags
+    where
+      each : (ws : List Bytes) → map (on_content (shown_of (col 1 2 ∷ []) (Text id ∷ []))) (map (tag_row t.id) ws) ≡ shown_tags ws
+      each [] = refl
+      each (w ∷ ws) = ap (λ l. (Text w ∷ []) ∷ l) (each ws)
+
+  found_rise : (found : Option Target) → in_byte_order (tags_of found) ≡ true → Rise 1 (rows_of tag_rows found)
+  found_rise None ordered = tt
+  found_rise (Some t) ordered = tags_rise t.id t.tags ordered
+
+module _ (db : Database) (now : Records) (holds : HoldsRecords db now) (names : List (List ℕ)) where
+  -- a target by its id
+  pub gets_target : (id : Bytes) (row : Option Row) → ShowsFirst (Select (record { lets = []; body = simple (holds.spot Targets).tree of_target target_columns }) names) db (Text id ∷ []) row
+      → row ≡ option_map told_target (target_of now id)
+  gets_target id row shown =
+      let spot = holds.spot Targets in
+      let params = Text id ∷ [] in
+      let table = target_table spot.tree in
+      first_row (Select (record { lets = []; body = simple spot.tree of_target target_columns }) names) db params _ (λ rows shows.
+      ap (λ (l : List Row). slice_get l 0) (reads_key db.schema table (1 ∷ []) of_target params (λ i x. refl) (0 ∷ []) (first_fixed params) target_columns (λ i x. refl) db.trees (map target_row now.targets)
+      (keys_apart db.schema db.trees spot.at table 0 (1 ∷ []) holds.sound (holds.stands Targets).got refl refl) (holds.rows Targets) rows (shows.answer Null))
+      ∙ first_found target_row (is_of id) (on_content (shown_of target_columns params)) (has_id id) (λ t. names_it id t.id (Text t.name ∷ Blob t.digest ∷ []) []) now.targets) row shown
+
+  -- how many there are
+  pub counts_targets : (row : Option Row) → ShowsFirst (Select (record { lets = []; body = count_query (holds.spot Targets).tree }) names) db [] row → row ≡ Some (Int (pos (min (length now.targets) 9223372036854775807)) ∷ [])
+  counts_targets row shown =
+      let spot = holds.spot Targets in
+      let size : length (db.trees spot.tree) ≡ length now.targets = length_held _ _ (holds.rows Targets) ∙ length-map now.targets target_row in
+      first_row (Select (record { lets = []; body = count_query spot.tree }) names) db [] _ (λ rows shows.
+      ap (λ (l : List Row). slice_get l 0) (count_rows spot.tree [] db.trees rows (shows.answer Null)) ∙ ap (λ n. Some (Int (pos (min n 9223372036854775807)) ∷ [])) size) row shown
+
+  -- the tags of a target, in byte order
+  pub lists_target_tags : (id : Bytes) (rows : List Row) → Shows (Select (record { lets = []; body = tags_query (holds.spot TargetTags).tree }) names) db (Text id ∷ []) rows → rows ≡ shown_tags (tags_of (target_of now id))
+  lists_target_tags id rows shows =
+      let spot = holds.spot TargetTags in
+      let params = Text id ∷ [] in
+      let table = target_tag_table spot.tree in
+      let wanted = flat_map tag_rows now.targets in
+      let found = target_of now id in
+      let its : filter (is_of id) wanted ≡ rows_of tag_rows found =
+      its_rows tag_rows (is_of id) id (λ t. its_tags id t.id (same_bytes t.id id) refl t.tags) now.targets (sorted_from (ids_of now.targets) (ids_sorted db now holds)) in
+      let rise = subst (Rise 1) (sym its) (found_rise id found (tags_sorted id now.targets (each_sorted db now holds))) in
+      reads_risen db.schema table (1 ∷ []) 1 (strict (codes "tag") kind.Text true) refl refl refl of_target params (λ i x. refl) (0 ∷ []) (first_fixed params) (col 1 2 ∷ []) (λ i x. refl) (lit (Int (negsuc 0))) (lit (Int (pos 0)))
+      db.trees wanted (keys_apart db.schema db.trees spot.at table 0 (1 ∷ 2 ∷ []) holds.sound (holds.stands TargetTags).got refl refl) (are_whole db.schema db.trees spot.at table holds.sound (holds.stands TargetTags).got) (holds.rows TargetTags) rise
+      rows (shows.answer Null)
+      ∙ ap (map (on_content (shown_of (col 1 2 ∷ []) params))) its ∙ tags_shown id found
+
+-- ---- a new target
+
+pub adds_target : (id name digest : Bytes) (old new : State) (text : List ℕ) (count : ℕ) (now next : Records) (holds : HoldsRecords old.now now) → AddsTarget id name digest now next
+    → (w : Writes old new None (Insert (holds.spot Targets).at (Values target_terms 4)) text (Text id ∷ Text name ∷ Blob digest ∷ []) count) → HoldsRecords new.now next
+adds_target id name digest old new text count now next holds change w =
+    let spot = holds.spot Targets in
+    let params = Text id ∷ Text name ∷ Blob digest ∷ [] in
+    let made = inserts old.now.schema spot.at (target_table spot.tree) target_terms 4 (holds.stands Targets).got old new refl text params count w in
+    let more = adds_row old.now.schema (target_table spot.tree) (1 ∷ []) params target_terms 4 params refl old.now new.now (map target_row now.targets) (holds.rows Targets) made in
+    let table : IsHeld (with_target now id name digest) Targets (new.now.trees spot.tree) = held_as _ _ _ more (IsPermutation-map target_row _ _ (put_is_more row now.targets change.is_new)) in
+    subst (HoldsRecords new.now) (sym change.next_is)
+    (holds_after Targets now (with_target now id name digest) old.now new.now holds made.schema_is w.sound table made.applies.tables only (put_sorted row refl now.targets change.is_new holds.sorted)
+    (record { rollouts = holds.bare.rollouts; actions = holds.bare.actions }))
+  where
+    row : TargetRow
+    row = record { id = id; name = name; digest = digest; tags = [] }
+
+    only : (t : Place) → t ≢ Targets → (rows : List Row) → IsHeld now t rows → IsHeld (with_target now id name digest) t rows
+    only Desk apart rows held = held
+    only Modules apart rows held = held
+    only Sets apart rows held = held
+    only SetModules apart rows held = held
+    only Artifacts apart rows held = held
+    only Pieces apart rows held = held
+    only Targets apart rows held = absurd (apart refl)
+    only TargetTags apart rows held = subst (IsHeldBy rows) (sym (put_rows row tag_rows refl now.targets change.is_new)) held
+    only TargetAttributes apart rows held = subst (IsHeldBy rows) (sym (put_rows row attribute_rows refl now.targets change.is_new)) held
+
+-- ---- another name and digest
+
+changed_targets : (p : Row → Bool) (g : Row → Row) (id : Bytes) (f : Target → Target) → ((t : Target) → p (target_row t) ≡ same_bytes t.id id) → ((t : Target) → g (target_row t) ≡ target_row (f t))
+    → (ts : List Target) → changed p g (map target_row ts) ≡ map target_row (change_target id f ts)
+changed_targets p g id f same becomes [] = refl
+changed_targets p g id f same becomes (t ∷ ts) =
+    ap₂ ◌∷◌ (ap (λ b. cond b (g (target_row t)) (target_row t)) (same t) ∙ elim (same_bytes t.id id) as (λ b. cond b (g (target_row t)) (target_row t) ≡ target_row (cond b (f t) t)) [ true ↦ becomes t | false ↦ refl ])
+    (changed_targets p g id f same becomes ts)
+
+pub sets_target : (id name digest : Bytes) (old new : State) (text : List ℕ) (count : ℕ) (now : Records) (holds : HoldsRecords old.now now)
+    → (w : Writes old new None (Update (holds.spot Targets).at (record { lets = []; body = set_target_query (holds.spot Targets).tree })) text (Text id ∷ Text name ∷ Blob digest ∷ []) count)
+    → HoldsRecords new.now (with_changed now id (renamed name digest))
+sets_target id name digest old new text count now holds w =
+    let spot = holds.spot Targets in
+    let params = Text id ∷ Text name ∷ Blob digest ∷ [] in
+    let table = target_table spot.tree in
+    let made = updates old.now.schema spot.at table (record { lets = []; body = set_target_query spot.tree }) (holds.stands Targets).got (holds.stands Targets).keyless old new refl text params count w in
+    let set = changes_key old.now.schema table (1 ∷ []) of_target params (λ i x. refl) (0 ∷ []) (first_fixed params) new_values (λ i x. refl) old.now new.now (map target_row now.targets)
+    (keys_apart old.now.schema old.now.trees spot.at table 0 (1 ∷ []) holds.sound (holds.stands Targets).got refl refl) (holds.rows Targets) made in
+    let is = changed_targets (on_content (passes of_target params)) (λ x. cast_all table.columns (on_content (shown_of new_values params) x)) id (renamed name digest) (λ t. names_it id t.id (Text t.name ∷ Blob t.digest ∷ []) (Text name ∷ Blob digest ∷ [])) (λ t. refl) now.targets in
+    holds_after Targets now (with_changed now id (renamed name digest)) old.now new.now holds made.schema_is w.sound (subst (IsHeldBy (new.now.trees spot.tree)) is set) made.applies.tables only
+    (changed_sorted id (renamed name digest) (λ t. refl) (λ t sorted. sorted) now.targets holds.sorted) (record { rollouts = holds.bare.rollouts; actions = holds.bare.actions })
+  where
+    only : (t : Place) → t ≢ Targets → (rows : List Row) → IsHeld now t rows → IsHeld (with_changed now id (renamed name digest)) t rows
+    only Desk apart rows held = held
+    only Modules apart rows held = held
+    only Sets apart rows held = held
+    only SetModules apart rows held = held
+    only Artifacts apart rows held = held
+    only Pieces apart rows held = held
+    only Targets apart rows held = absurd (apart refl)
+    only TargetTags apart rows held = subst (IsHeldBy rows) (sym (changed_rows id (renamed name digest) tag_rows (λ t. refl) now.targets)) held
+    only TargetAttributes apart rows held = subst (IsHeldBy rows) (sym (changed_rows id (renamed name digest) attribute_rows (λ t. refl) now.targets)) held
+
+-- ---- tags
+
+-- a change of tags alone leaves the other tables
+only_tags : (now : Records) (id : Bytes) (tags : List Bytes → List Bytes) (t : Place) → t ≢ TargetTags → (rows : List Row) → IsHeld now t rows → IsHeld (with_changed now id (λ (it : Target). record it { tags = tags it.tags })) t rows
+only_tags now id tags Desk apart rows held = held
+only_tags now id tags Modules apart rows held = held
+only_tags now id tags Sets apart rows held = held
+only_tags now id tags SetModules apart rows held = held
+only_tags now id tags Artifacts apart rows held = held
+only_tags now id tags Pieces apart rows held = held
+only_tags now id tags Targets apart rows held = subst (IsHeldBy rows) (sym (changed_map id (λ (it : Target). record it { tags = tags it.tags }) target_row (λ t. refl) now.targets)) held
+only_tags now id tags TargetTags apart rows held = absurd (apart refl)
+only_tags now id tags TargetAttributes apart rows held = subst (IsHeldBy rows) (sym (changed_rows id (λ (it : Target). record it { tags = tags it.tags }) attribute_rows (λ t. refl) now.targets)) held
+
+tags_keep : (tags : List Bytes → List Bytes) → ((ws : List Bytes) → in_byte_order ws ≡ true → in_byte_order (tags ws) ≡ true) → (t : Target) → is_sorted t ≡ true → is_sorted (record t { tags = tags t.tags }) ≡ true
+tags_keep tags keeps t sorted = let parts = and_parts (in_byte_order t.tags) (in_byte_order (keys_of t.attributes)) sorted in rw (keeps t.tags parts.0) parts.1
+
+pub adds_tag : (id w : Bytes) (old new : State) (text : List ℕ) (count : ℕ) (now next : Records) (holds : HoldsRecords old.now now) → AddsTag id w now next
+    → (done : Writes old new None (Insert (holds.spot TargetTags).at (Values tag_terms 3)) text (tag_row id w) count) → HoldsRecords new.now next
+adds_tag id w old new text count now next holds change done =
+    let spot = holds.spot TargetTags in
+    let made = inserts old.now.schema spot.at (target_tag_table spot.tree) tag_terms 3 (holds.stands TargetTags).got old new refl text (tag_row id w) count done in
+    let more = adds_row old.now.schema (target_tag_table spot.tree) (1 ∷ 2 ∷ []) (tag_row id w) tag_terms 3 (tag_row id w) refl old.now new.now (flat_map tag_rows now.targets) (holds.rows TargetTags) made in
+    let table : IsHeld (with_changed now id (tagged w)) TargetTags (new.now.trees spot.tree) = held_as _ _ _ more (tag_is_more id w now.targets (sorted_from (ids_of now.targets) (ids_sorted old.now now holds)) change.is_there change.is_new) in
+    subst (HoldsRecords new.now) (sym change.next_is)
+    (holds_after TargetTags now (with_changed now id (tagged w)) old.now new.now holds made.schema_is done.sound table made.applies.tables (only_tags now id (with_word w))
+    (changed_sorted id (tagged w) (λ t. refl) (tags_keep (with_word w) (in_order_with w)) now.targets holds.sorted) (record { rollouts = holds.bare.rollouts; actions = holds.bare.actions }))
+
+names_tag : (id w i v : Bytes) → not (passes of_tag (tag_row id w) (Null ∷ tag_row i v)) ≡ not (same_bytes i id && same_bytes v w)
+names_tag id w i v = ap not (rw (words_equal i id, words_equal v w) (ap (λ b. same_bytes i id && b) (and_true (same_bytes v w))))
+
+pub drops_tag : (id w : Bytes) (old new : State) (text : List ℕ) (count : ℕ) (now : Records) (holds : HoldsRecords old.now now)
+    → (done : Writes old new None (Delete (holds.spot TargetTags).at (record { lets = []; body = drop_tag_query (holds.spot TargetTags).tree })) text (tag_row id w) count) → HoldsRecords new.now (with_changed now id (untagged w))
+drops_tag id w old new text count now holds done =
+    let spot = holds.spot TargetTags in
+    let table = target_tag_table spot.tree in
+    let made = deletes old.now.schema spot.at table (record { lets = []; body = drop_tag_query spot.tree }) (holds.stands TargetTags).got (holds.stands TargetTags).keyless old new refl text (tag_row id w) count done in
+    let left = drops old.now.schema table (1 ∷ 2 ∷ []) of_tag (tag_row id w) (λ i x. refl) old.now new.now (flat_map tag_rows now.targets) (holds.rows TargetTags) made in
+    let is = tag_is_less id w (λ x. not (passes of_tag (tag_row id w) (Null ∷ x))) (names_tag id w) now.targets in
+    holds_after TargetTags now (with_changed now id (untagged w)) old.now new.now holds made.schema_is done.sound (subst (IsHeldBy (new.now.trees spot.tree)) is left) made.applies.tables (only_tags now id (without_word w))
+    (changed_sorted id (untagged w) (λ t. refl) (tags_keep (without_word w) (in_order_without w)) now.targets holds.sorted) (record { rollouts = holds.bare.rollouts; actions = holds.bare.actions })

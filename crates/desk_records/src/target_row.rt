@@ -1,0 +1,83 @@
+//! The rows of targets, of their tags and of their attributes.
+
+ghost use Rattle.std.specs.Prelude.{◌≡◌, ◌⊎◌, IfOk, IfErr, true, false, Some};
+ghost use Rattle.sqlite_value.specs.Order.{column};
+ghost use Rattle.desk_records.specs.ModuleRow.{StoredText};
+ghost use Rattle.desk_records.specs.TargetRow.{IsAttributeRow, IsTargetRow, broken_attribute_column, broken_target_column, has_value, has_word};
+
+use crate::artifact_row::digest_at;
+use crate::module_row::{Column, RowFault, row_fault, text_at};
+use rollout_model::{Attribute, Digest, Text, Value, Word};
+use sqlite::Row;
+use sqlite_value::value::ValueRef;
+use std::alloc::Global;
+use std::str;
+
+/// What is kept of a target beside its id, its tags and its attributes.
+#[derive(Debug, PartialEq, Eq, Drop)]
+pub struct StoredTarget {
+    pub name: Text,
+    /// The SHA-256 of the target's token.
+    pub digest: Digest,
+}
+
+/// The target in a row of name and digest.
+pub fn read_stored_target(alloc: Global, row: &Row) -> Result<StoredTarget, RowFault>
+    ensures ok { IfOk result (IsTargetRow row.now) }
+    ensures err { IfErr result (λ e. (e ≡ RowFault.Memory) ⊎ ((c : _) × (e ≡ RowFault.Broken c) × (broken_target_column row.now ≡ Some c))) }
+{
+    let name = text_at(alloc, row, 0, Column::TargetName)?;
+    let digest = digest_at(row, 1, Column::TargetDigest)?;
+    Ok(StoredTarget { name, digest })
+}
+
+/// The tag in a row of one. Takes no memory.
+pub fn read_tag(row: &Row) -> Result<Word, RowFault>
+    ensures ok { IfOk result (λ tag. column row.now 0 ≡ StoredText tag) }
+    ensures err { IfErr result (λ e. (e ≡ RowFault.Broken Column.TargetTag) × (has_word (column row.now 0) ≡ false)) }
+{
+    word_at(row, 0, Column::TargetTag)
+}
+
+/// The attribute in a row of key and value.
+pub fn read_attribute(alloc: Global, row: &Row) -> Result<Attribute, RowFault>
+    ensures ok { IfOk result (IsAttributeRow row.now) }
+    ensures err { IfErr result (λ e. (e ≡ RowFault.Memory) ⊎ ((c : _) × (e ≡ RowFault.Broken c) × (broken_attribute_column row.now ≡ Some c))) }
+{
+    let key = word_at(row, 0, Column::AttributeKey)?;
+    let value = value_at(alloc, row, 1)?;
+    Ok(Attribute { key, value })
+}
+
+/// The word of a column.
+fn word_at(row: &Row, at: usize, at_column: Column) -> Result<Word, RowFault>
+    ensures ok { IfOk result (λ word. column row.now at ≡ StoredText word) }
+    ensures kept { IfOk result (λ word. has_word (column row.now at) ≡ true) }
+    ensures err { IfErr result (λ e. (e ≡ RowFault.Broken at_column) × (has_word (column row.now at) ≡ false)) }
+{
+    let broken = RowFault::Broken(at_column);
+    let Ok(ValueRef::Text(text)) = row.get_ref(at) else {
+        return Err(broken);
+    };
+    let Ok(text) = str::from_utf8(text) else {
+        return Err(broken);
+    };
+    Word::read(text).ok_or(broken)
+}
+
+/// The value of an attribute in a column.
+fn value_at(alloc: Global, row: &Row, at: usize) -> Result<Value, RowFault>
+    ensures ok { IfOk result (λ value. column row.now at ≡ StoredText value) }
+    ensures kept { IfOk result (λ value. has_value (column row.now at) ≡ true) }
+    ensures err { IfErr result (λ e. (e ≡ RowFault.Memory) ⊎ ((e ≡ RowFault.Broken Column.AttributeValue) × (has_value (column row.now at) ≡ false))) }
+{
+    let text = match row.get::<String>(at) {
+        Ok(text) => text,
+        Err(error) => return Err(row_fault(error, Column::AttributeValue)),
+    };
+    match Value::read(alloc, text.as_str()) {
+        Ok(Some(value)) => Ok(value),
+        Ok(None) => Err(RowFault::Broken(Column::AttributeValue)),
+        Err(_) => Err(RowFault::Memory),
+    }
+}

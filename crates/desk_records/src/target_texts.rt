@@ -1,0 +1,38 @@
+//! The texts of targets.
+
+pub const CREATE_TARGET: &str =
+    "CREATE TABLE target (controller TEXT NOT NULL PRIMARY KEY, name TEXT NOT NULL, digest BLOB NOT NULL) STRICT";
+
+/// The tags of the targets; no tag stands twice at a target.
+pub const CREATE_TARGET_TAG: &str =
+    "CREATE TABLE target_tag (controller TEXT NOT NULL, tag TEXT NOT NULL, PRIMARY KEY (controller, tag)) STRICT";
+
+/// The attributes of the targets; no key stands twice at a target.
+pub const CREATE_TARGET_ATTRIBUTE: &str =
+    "CREATE TABLE target_attribute (controller TEXT NOT NULL, key TEXT NOT NULL, value TEXT NOT NULL, PRIMARY KEY (controller, key)) STRICT";
+
+pub const GET_TARGET: &str = "SELECT name, digest FROM target WHERE controller = ?1";
+
+/// How many targets there are.
+pub const COUNT_TARGETS: &str = "SELECT count(*) FROM target";
+
+/// The tags of a target, in byte order.
+pub const LIST_TARGET_TAGS: &str = "SELECT tag FROM target_tag WHERE controller = ?1 ORDER BY tag";
+
+pub const PUT_TARGET: &str = "INSERT INTO target (controller, name, digest) VALUES (?1, ?2, ?3)";
+
+pub const SET_TARGET: &str = "UPDATE target SET name = ?2, digest = ?3 WHERE controller = ?1";
+
+pub const PUT_TARGET_TAG: &str = "INSERT INTO target_tag (controller, tag) VALUES (?1, ?2)";
+
+pub const DROP_TARGET_TAG: &str = "DELETE FROM target_tag WHERE controller = ?1 AND tag = ?2";
+
+/// The attributes of a target, by their keys in byte order.
+pub const LIST_TARGET_ATTRIBUTES: &str =
+    "SELECT key, value FROM target_attribute WHERE controller = ?1 ORDER BY key";
+
+pub const PUT_TARGET_ATTRIBUTE: &str =
+    "INSERT INTO target_attribute (controller, key, value) VALUES (?1, ?2, ?3)";
+
+pub const SET_TARGET_ATTRIBUTE: &str =
+    "UPDATE target_attribute SET value = ?3 WHERE controller = ?1 AND key = ?2";

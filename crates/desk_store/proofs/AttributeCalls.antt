@@ -1,0 +1,97 @@
+-- The calls on attributes of targets.
+use Rattle.std.proofs.Common.{◌≡◌, ◌<◌, ◌++◌, ℕ, ◌+◌, get_or, take, List, [], ◌∷◌, length, Ok, Err, Result, IsErr, IfOk, Vec, refl, sym, ap₂, subst, codes}
+use Rattle.std.proofs.lemmas.List.{take_more}
+use Rattle.std.proofs.lemmas.Slice.Zip.{all_zipped_more}
+use Rattle.std.specs.declared.alloc.Global.{Global}
+use Rattle.sqlite_value.specs.declared.value.Value.TheVariants.{Text}
+use Rattle.sqlite_value.specs.Order.{Row}
+use Rattle.sqlite.specs.Command.TheVariants.{Select, Insert, Update}
+use Rattle.sqlite.specs.Source.TheVariants.{Values}
+use Rattle.sqlite.specs.Effect.{Database, Reads as Shows}
+use Rattle.sqlite.specs.State.{State}
+use Rattle.sql_calls.specs.declared.fault.Fault.{Fault}
+use Rattle.sql_calls.specs.Calls.{RunsText, AsksText}
+use Rattle.sql_calls.specs.Standing.{Reads, Writes}
+use Rattle.sql_calls.proofs.Changes.{Knows}
+use Rattle.sql_calls.proofs.TypedCalls.{asks_err, asks_ok, writes}
+use Rattle.rollout_machine.specs.Commands.{Bytes, Attribute}
+use Rattle.rollout_machine.specs.Records.{Records}
+use Rattle.rollout_machine.specs.Verdicts.{target_of}
+use Rattle.desk_records.specs.declared.target_texts.TheConstants.{LIST_TARGET_ATTRIBUTES, PUT_TARGET_ATTRIBUTE, SET_TARGET_ATTRIBUTE}
+use Rattle.desk_records.specs.Schema.{TargetAttributes}
+use Rattle.desk_records.specs.Holds.{HoldsRecords}
+use Rattle.desk_records.specs.TargetRow.{IsAttributeRow}
+use Rattle.desk_records.specs.Targets.{attributes_of, AddsAttribute, SetsAttribute}
+use Rattle.desk_records.proofs.Attributes.{attribute_row}
+use Rattle.desk_records.proofs.TargetMeaning.{attributes_query, attribute_terms, set_attribute_query, list_target_attributes_is, put_target_attribute_is, set_target_attribute_is}
+use Rattle.desk_records.proofs.AttributeRecords.{shown_attributes, lists_target_attributes, adds_attribute, sets_attribute}
+use Rattle.desk_store.specs.Rows.{AreAttributes}
+
+-- ---- what the texts mean where the records are held
+
+abbrev listing : Knows HoldsRecords LIST_TARGET_ATTRIBUTES.now
+listing db r holds = record {
+  command = Select (record { lets = []; body = attributes_query (holds.spot TargetAttributes).tree }) (codes "key" ∷ codes "value" ∷ []);
+  means = list_target_attributes_is db.schema (holds.spot TargetAttributes).at (holds.spot TargetAttributes).tree (holds.stands TargetAttributes);
+}
+
+abbrev putting : Knows HoldsRecords PUT_TARGET_ATTRIBUTE.now
+putting db r holds = record {
+  command = Insert (holds.spot TargetAttributes).at (Values attribute_terms 4);
+  means = put_target_attribute_is db.schema (holds.spot TargetAttributes).at (holds.spot TargetAttributes).tree (holds.stands TargetAttributes);
+}
+
+abbrev setting : Knows HoldsRecords SET_TARGET_ATTRIBUTE.now
+setting db r holds = record {
+  command = Update (holds.spot TargetAttributes).at (record { lets = []; body = set_attribute_query (holds.spot TargetAttributes).tree });
+  means = set_target_attribute_is db.schema (holds.spot TargetAttributes).at (holds.spot TargetAttributes).tree (holds.stands TargetAttributes);
+}
+
+-- ---- the attributes of a target
+
+abbrev pub Lists : Bytes → Records → List Attribute → Type 0
+Lists id r attributes = attributes ≡ attributes_of (target_of r id)
+
+-- a row shows one attribute
+one_shown : (a b : Attribute) → IsAttributeRow (Text b.key ∷ Text b.value ∷ []) a → a ≡ b
+one_shown a b h =
+    let first : Text b.key ≡ Text a.key = h.key in
+    let second : Text b.value ≡ Text a.value = h.value in
+    let key : a.key ≡ b.key = cc in
+    let value : a.value ≡ b.value = cc in
+    λ i. record { key = key i; value = value i }
+
+-- a further row, and its attribute
+pub attributes_more : (rows : List Row) (attributes : List Attribute) (at : ℕ) (row : Row) (a : Attribute) → at < length rows → row ≡ get_or rows at row → AreAttributes (take at rows) attributes → IsAttributeRow row a
+    → AreAttributes (take (at + 1) rows) (attributes ++ a ∷ [])
+attributes_more rows attributes at row a within is so_far one =
+    subst (λ l. AreAttributes l (attributes ++ a ∷ [])) (sym (take_more rows at row within)) (all_zipped_more IsAttributeRow (take at rows) attributes (get_or rows at row) a so_far (subst (λ r. IsAttributeRow r a) is one))
+
+all_shown : (attributes shown : List Attribute) → AreAttributes (shown_attributes shown) attributes → attributes ≡ shown
+all_shown [] [] h = refl
+all_shown [] (b ∷ shown) h = absurd h
+all_shown (a ∷ attributes) [] h = absurd h
+all_shown (a ∷ attributes) (b ∷ shown) h = ap₂ ◌∷◌ (one_shown a b h.0) (all_shown attributes shown h.1)
+
+lists : (id : Bytes) (rows : List Row) (out : Result (List Attribute) Fault) → IfOk out (AreAttributes rows)
+    → IfOk out (λ attributes. (db : Database) (now : Records) (holds : HoldsRecords db now) → Shows (listing db now holds).command db (Text id ∷ []) rows → Lists id now attributes)
+lists id rows (Ok attributes) h = λ db now holds shown.
+    all_shown attributes (attributes_of (target_of now id)) (subst (λ l. AreAttributes l attributes) (lists_target_attributes db now holds (codes "key" ∷ codes "value" ∷ []) id rows shown) h)
+lists id rows (Err e) h = tt
+
+pub attributes_read : (id : Bytes) (old new : State) (rows : Vec Row Global) → AsksText old new LIST_TARGET_ATTRIBUTES.now (Text id ∷ []) (Ok rows) → (out : Result (List Attribute) Fault) → IfOk out (AreAttributes rows.items)
+    → Reads HoldsRecords old new out (Lists id)
+attributes_read id old new rows h out are = asks_ok HoldsRecords LIST_TARGET_ATTRIBUTES.now (Text id ∷ []) old new (Lists id) listing rows h out (lists id rows.items out are)
+
+pub attributes_not_read : (params : Row) (id : Bytes) (old new : State) (fault : Fault) → AsksText old new LIST_TARGET_ATTRIBUTES.now params (Err fault) → (out : Result (List Attribute) Fault) → IsErr out → Reads HoldsRecords old new out (Lists id)
+attributes_not_read params id old new fault h out bad = asks_err HoldsRecords LIST_TARGET_ATTRIBUTES.now params old new (Lists id) fault h out bad
+
+-- ---- what is written
+
+pub attribute_written : (id : Bytes) (a : Attribute) (old new : State) (out : Result (Unit {0}) Fault) → RunsText old new PUT_TARGET_ATTRIBUTE.now (attribute_row id a) out → Writes HoldsRecords old new out (AddsAttribute id a)
+attribute_written id a old new out h = writes HoldsRecords PUT_TARGET_ATTRIBUTE.now (attribute_row id a) old new (AddsAttribute id a) putting (λ db r holds. refl) out h
+    (λ now next change holds count done. (done, adds_attribute id a old new _ count now next holds change done))
+
+pub attribute_set : (id : Bytes) (a : Attribute) (old new : State) (out : Result (Unit {0}) Fault) → RunsText old new SET_TARGET_ATTRIBUTE.now (attribute_row id a) out → Writes HoldsRecords old new out (SetsAttribute id a)
+attribute_set id a old new out h = writes HoldsRecords SET_TARGET_ATTRIBUTE.now (attribute_row id a) old new (SetsAttribute id a) setting (λ db r holds. refl) out h
+    (λ now next change holds count done. (done, sets_attribute id a old new _ count now next holds change done))

@@ -1,0 +1,174 @@
+-- The calls on targets and their tags.
+use Rattle.std.proofs.Common.{◌≡◌, ◌<◌, ◌^◌, ℕ, min, pos, List, [], ◌∷◌, length, map, Option, Some, None, option_map, Ok, Err, Result, IsErr, IfOk, Vec, refl, sym, ap, ap₂, subst, ◌∙◌, arith, codes}
+use Rattle.std.specs.declared.alloc.Global.{Global}
+use Rattle.sqlite_value.specs.declared.value.Value.TheVariants.{Int, Text, Blob}
+use Rattle.sqlite_value.specs.Order.{Row, column}
+use Rattle.sqlite.specs.Command.TheVariants.{Select, Insert, Update, Delete}
+use Rattle.sqlite.specs.Source.TheVariants.{Values}
+use Rattle.sqlite.specs.Effect.{Database, Reads as Shows}
+use Rattle.sqlite.specs.State.{State}
+use Rattle.sql_calls.specs.declared.fault.Fault.{Fault}
+use Rattle.sql_calls.specs.Calls.{RunsText, AsksText, TakesFirst}
+use Rattle.sql_calls.specs.Standing.{Reads, Writes}
+use Rattle.sql_calls.proofs.Changes.{Knows, ShowsFirst}
+use Rattle.sql_calls.proofs.Counts.{count_query}
+use Rattle.sql_calls.proofs.Selects.{simple}
+use Rattle.sql_calls.proofs.TypedCalls.{asks_err, asks_ok, takes_err, takes_ok, writes}
+use Rattle.rollout_machine.specs.Commands.{Bytes}
+use Rattle.rollout_machine.specs.Records.{Records}
+use Rattle.rollout_machine.specs.Targets.{Target}
+use Rattle.rollout_machine.specs.Verdicts.{tags_of, target_of}
+use Rattle.rollout_model.specs.declared.word.Word.{Word}
+use Rattle.desk_records.specs.declared.target_texts.TheConstants.{COUNT_TARGETS, DROP_TARGET_TAG, GET_TARGET, LIST_TARGET_TAGS, PUT_TARGET, PUT_TARGET_TAG, SET_TARGET}
+use Rattle.desk_records.specs.declared.target_row.StoredTarget.{StoredTarget}
+use Rattle.desk_records.specs.Schema.{Targets, TargetTags}
+use Rattle.desk_records.specs.Holds.{HoldsRecords}
+use Rattle.desk_records.specs.ModuleRow.{StoredText}
+use Rattle.desk_records.specs.TargetRow.{IsTargetRow, stored_target}
+use Rattle.desk_records.specs.Targets.{AddsTag, AddsTarget, renamed, untagged, with_changed}
+use Rattle.desk_records.proofs.Targets.{tag_row}
+use Rattle.desk_records.proofs.TargetMeaning.{of_target, target_columns, target_terms, set_target_query, tags_query, tag_terms, drop_tag_query, get_target_is, count_targets_is, list_target_tags_is, put_target_is, set_target_is, put_target_tag_is, drop_target_tag_is}
+use Rattle.desk_records.proofs.TargetRecords.{told_target, shown_tags, gets_target, counts_targets, lists_target_tags, adds_target, sets_target, adds_tag, drops_tag}
+use Rattle.desk_store.specs.Rows.{AreTags, IsCount, IsReadAsTarget}
+
+-- ---- what the texts mean where the records are held
+
+abbrev getting : Knows HoldsRecords GET_TARGET.now
+getting db r holds = record {
+  command = Select (record { lets = []; body = simple (holds.spot Targets).tree of_target target_columns }) (codes "name" ∷ codes "digest" ∷ []);
+  means = get_target_is db.schema (holds.spot Targets).at (holds.spot Targets).tree (holds.stands Targets);
+}
+
+abbrev counting : Knows HoldsRecords COUNT_TARGETS.now
+counting db r holds = record { command = Select (record { lets = []; body = count_query (holds.spot Targets).tree }) (codes "count(*)" ∷ []); means = count_targets_is db.schema (holds.spot Targets).at (holds.spot Targets).tree (holds.stands Targets) }
+
+abbrev listing : Knows HoldsRecords LIST_TARGET_TAGS.now
+listing db r holds = record { command = Select (record { lets = []; body = tags_query (holds.spot TargetTags).tree }) (codes "tag" ∷ []); means = list_target_tags_is db.schema (holds.spot TargetTags).at (holds.spot TargetTags).tree (holds.stands TargetTags) }
+
+abbrev putting : Knows HoldsRecords PUT_TARGET.now
+putting db r holds = record { command = Insert (holds.spot Targets).at (Values target_terms 4); means = put_target_is db.schema (holds.spot Targets).at (holds.spot Targets).tree (holds.stands Targets) }
+
+abbrev setting : Knows HoldsRecords SET_TARGET.now
+setting db r holds = record { command = Update (holds.spot Targets).at (record { lets = []; body = set_target_query (holds.spot Targets).tree }); means = set_target_is db.schema (holds.spot Targets).at (holds.spot Targets).tree (holds.stands Targets) }
+
+abbrev tagging : Knows HoldsRecords PUT_TARGET_TAG.now
+tagging db r holds = record { command = Insert (holds.spot TargetTags).at (Values tag_terms 3); means = put_target_tag_is db.schema (holds.spot TargetTags).at (holds.spot TargetTags).tree (holds.stands TargetTags) }
+
+abbrev dropping : Knows HoldsRecords DROP_TARGET_TAG.now
+dropping db r holds = record {
+  command = Delete (holds.spot TargetTags).at (record { lets = []; body = drop_tag_query (holds.spot TargetTags).tree });
+  means = drop_target_tag_is db.schema (holds.spot TargetTags).at (holds.spot TargetTags).tree (holds.stands TargetTags);
+}
+
+-- ---- a target by its id
+
+abbrev pub Gets : Bytes → Records → Option StoredTarget → Type 0
+Gets id r found = found ≡ option_map stored_target (target_of r id)
+
+-- a row tells of one target
+one_told : (told : StoredTarget) (t : Target) (row : Row) → IsTargetRow row told → row ≡ told_target t → told ≡ stored_target t
+one_told told t row h is =
+    let first : Text told.name ≡ Text t.name = sym h.name ∙ ap (λ r. column r 0) is in
+    let second : Blob told.digest ≡ Blob t.digest = sym h.digest ∙ ap (λ r. column r 1) is in
+    let name : told.name ≡ t.name = cc in
+    let digest : told.digest ≡ t.digest = cc in
+    λ i. record { name = name i; digest = digest i }
+
+one_read : (wanted : Option Target) (found : Option StoredTarget) (row : Option Row) → IsReadAsTarget found row → row ≡ option_map told_target wanted → found ≡ option_map stored_target wanted
+one_read None found None h is = h
+one_read (Some t) found None h is = absurd cc
+one_read None found (Some row) h is = absurd cc
+one_read (Some t) found (Some row) h is = let same : row ≡ told_target t = cc in h.1 ∙ ap Some (one_told h.0 t row h.2 same)
+
+gets : (id : Bytes) (row : Option Row) (out : Result (Option StoredTarget) Fault) → IfOk out (λ found. IsReadAsTarget found row)
+    → IfOk out (λ found. (db : Database) (now : Records) (holds : HoldsRecords db now) → ShowsFirst (getting db now holds).command db (Text id ∷ []) row → Gets id now found)
+gets id row (Ok found) h = λ db now holds shown. one_read (target_of now id) found row h (gets_target db now holds (codes "name" ∷ codes "digest" ∷ []) id row shown)
+gets id row (Err e) h = tt
+
+pub target_read : (id : Bytes) (old new : State) (row : Option Row) → TakesFirst old new GET_TARGET.now (Text id ∷ []) (Ok row) → (out : Result (Option StoredTarget) Fault) → IfOk out (λ found. IsReadAsTarget found row)
+    → Reads HoldsRecords old new out (Gets id)
+target_read id old new row h out is = takes_ok HoldsRecords GET_TARGET.now (Text id ∷ []) old new (Gets id) getting (λ db r holds at given. tt) row h out (gets id row out is)
+
+pub target_not_read : (params : Row) (id : Bytes) (old new : State) (fault : Fault) → TakesFirst old new GET_TARGET.now params (Err fault) → (out : Result (Option StoredTarget) Fault) → IsErr out → Reads HoldsRecords old new out (Gets id)
+target_not_read params id old new fault h out bad = takes_err HoldsRecords GET_TARGET.now params old new (Gets id) getting fault h out bad
+
+-- ---- how many there are
+
+abbrev pub Counts : Records → ℕ → Type 0
+Counts r count = count ≡ length r.targets
+
+-- a number of 32 bits is below what SQLite counts to
+same_count : (count size : ℕ) (row : Option Row) → IsCount count row → count < 2 ^ 32 → row ≡ Some (Int (pos (min size 9223372036854775807)) ∷ []) → count ≡ size
+same_count count size None h small is = absurd h
+same_count count size (Some row) h small is =
+    let it : row ≡ Int (pos (min size 9223372036854775807)) ∷ [] = cc in
+    let value : Int (pos count) ≡ Int (pos (min size 9223372036854775807)) = sym h ∙ ap (λ r. column r 0) it in
+    let number : count ≡ min size 9223372036854775807 = cc in
+    omega (arith, number, small)
+
+counts : (row : Option Row) (out : Result ℕ Fault) → IfOk out (λ n. IsCount n row) → IfOk out (λ n. n < 2 ^ 32)
+    → IfOk out (λ n. (db : Database) (now : Records) (holds : HoldsRecords db now) → ShowsFirst (counting db now holds).command db [] row → Counts now n)
+counts row (Ok n) h small = λ db now holds shown. same_count n (length now.targets) row h small (counts_targets db now holds (codes "count(*)" ∷ []) row shown)
+counts row (Err e) h small = tt
+
+pub count_read : (old new : State) (row : Option Row) → TakesFirst old new COUNT_TARGETS.now [] (Ok row) → (out : Result ℕ Fault) → IfOk out (λ n. IsCount n row) → IfOk out (λ n. n < 2 ^ 32) → Reads HoldsRecords old new out Counts
+count_read old new row h out is small = takes_ok HoldsRecords COUNT_TARGETS.now [] old new Counts counting (λ db r holds at given. tt) row h out (counts row out is small)
+
+pub count_not_read : (old new : State) (fault : Fault) → TakesFirst old new COUNT_TARGETS.now [] (Err fault) → (out : Result ℕ Fault) → IsErr out → Reads HoldsRecords old new out Counts
+count_not_read old new fault h out bad = takes_err HoldsRecords COUNT_TARGETS.now [] old new Counts counting fault h out bad
+
+-- ---- the tags of a target
+
+abbrev pub Lists : Bytes → Records → Vec Word Global → Type 0
+Lists id r tags = tags.items ≡ tags_of (target_of r id)
+
+first_columns : (ws : List Bytes) → map (λ row. column row 0) (shown_tags ws) ≡ map StoredText ws
+first_columns [] = refl
+first_columns (w ∷ ws) = ap (λ l. StoredText w ∷ l) (first_columns ws)
+
+same_texts : (vs ws : List Bytes) → map StoredText vs ≡ map StoredText ws → vs ≡ ws
+same_texts [] [] h = refl
+same_texts [] (w ∷ ws) h = absurd cc
+same_texts (v ∷ vs) [] h = absurd cc
+same_texts (v ∷ vs) (w ∷ ws) h =
+    let first : Text v ≡ Text w = cc in
+    let word : v ≡ w = cc in
+    let rest : map StoredText vs ≡ map StoredText ws = cc in
+    ap₂ ◌∷◌ word (same_texts vs ws rest)
+
+lists : (id : Bytes) (rows : List Row) (out : Result (Vec Word Global) Fault) → IfOk out (λ tags. AreTags rows tags.items)
+    → IfOk out (λ tags. (db : Database) (now : Records) (holds : HoldsRecords db now) → Shows (listing db now holds).command db (Text id ∷ []) rows → Lists id now tags)
+lists id rows (Ok tags) h = λ db now holds shown.
+    let are : rows ≡ shown_tags (tags_of (target_of now id)) = lists_target_tags db now holds (codes "tag" ∷ []) id rows shown in
+    same_texts tags.items _ (sym h ∙ ap (map (λ row. column row 0)) are ∙ first_columns _)
+lists id rows (Err e) h = tt
+
+pub tags_read : (id : Bytes) (old new : State) (rows : Vec Row Global) → AsksText old new LIST_TARGET_TAGS.now (Text id ∷ []) (Ok rows) → (out : Result (Vec Word Global) Fault) → IfOk out (λ tags. AreTags rows.items tags.items)
+    → Reads HoldsRecords old new out (Lists id)
+tags_read id old new rows h out are = asks_ok HoldsRecords LIST_TARGET_TAGS.now (Text id ∷ []) old new (Lists id) listing rows h out (lists id rows.items out are)
+
+pub tags_not_read : (params : Row) (id : Bytes) (old new : State) (fault : Fault) → AsksText old new LIST_TARGET_TAGS.now params (Err fault) → (out : Result (Vec Word Global) Fault) → IsErr out → Reads HoldsRecords old new out (Lists id)
+tags_not_read params id old new fault h out bad = asks_err HoldsRecords LIST_TARGET_TAGS.now params old new (Lists id) fault h out bad
+
+-- ---- what is written
+
+abbrev pub named_row : Bytes → Bytes → Bytes → Row
+named_row id name digest = Text id ∷ Text name ∷ Blob digest ∷ []
+
+pub target_written : (id name digest : Bytes) (old new : State) (out : Result (Unit {0}) Fault) → RunsText old new PUT_TARGET.now (named_row id name digest) out → Writes HoldsRecords old new out (AddsTarget id name digest)
+target_written id name digest old new out h = writes HoldsRecords PUT_TARGET.now (named_row id name digest) old new (AddsTarget id name digest) putting (λ db r holds. refl) out h
+    (λ now next change holds count w. (w, adds_target id name digest old new _ count now next holds change w))
+
+abbrev pub Changes : Bytes → (Target → Target) → Records → Records → Type 0
+Changes id f r next = next ≡ with_changed r id f
+
+pub target_changed : (id name digest : Bytes) (old new : State) (out : Result (Unit {0}) Fault) → RunsText old new SET_TARGET.now (named_row id name digest) out → Writes HoldsRecords old new out (Changes id (renamed name digest))
+target_changed id name digest old new out h = writes HoldsRecords SET_TARGET.now (named_row id name digest) old new (Changes id (renamed name digest)) setting (λ db r holds. refl) out h
+    (λ now next change holds count w. (w, subst (HoldsRecords new.now) (sym change) (sets_target id name digest old new _ count now holds w)))
+
+pub tag_written : (id w : Bytes) (old new : State) (out : Result (Unit {0}) Fault) → RunsText old new PUT_TARGET_TAG.now (tag_row id w) out → Writes HoldsRecords old new out (AddsTag id w)
+tag_written id w old new out h = writes HoldsRecords PUT_TARGET_TAG.now (tag_row id w) old new (AddsTag id w) tagging (λ db r holds. refl) out h (λ now next change holds count done. (done, adds_tag id w old new _ count now next holds change done))
+
+pub tag_dropped : (id w : Bytes) (old new : State) (out : Result (Unit {0}) Fault) → RunsText old new DROP_TARGET_TAG.now (tag_row id w) out → Writes HoldsRecords old new out (Changes id (untagged w))
+tag_dropped id w old new out h = writes HoldsRecords DROP_TARGET_TAG.now (tag_row id w) old new (Changes id (untagged w)) dropping (λ db r holds. refl) out h
+    (λ now next change holds count done. (done, subst (HoldsRecords new.now) (sym change) (drops_tag id w old new _ count now holds done)))

@@ -1,0 +1,16 @@
+use Rattle.std.proofs.Common.{[], ◌∷◌, Ok, pos, subst, ◌≤◌}
+use Rattle.sqlite_value.specs.declared.value.Value.TheVariants.{Int}
+use Rattle.sqlite.specs.Held.{state}
+use Rattle.sql_calls.specs.Calls.{TakesFirst}
+use Rattle.desk_records.specs.declared.artifact_texts.TheConstants.{GET_ARTIFACT}
+use Rattle.desk_store.proofs.ArtifactCalls.{artifact_read, artifact_not_read}
+use Rattle.desk_store.proofs.change.OpenChange.read_artifact.Goals as goal
+
+pub returns-in_err-row-clause-reads : goal.returns-in_err-row-clause-reads
+returns-in_err-row-clause-reads g c = artifact_not_read _ _ _ _ _ c.in_err-row.ensures.takes c.from_residual.result c.from_residual.ensures.0
+
+pub returns-clause-reads : goal.returns-clause-reads
+returns-clause-reads g c =
+    let taken : TakesFirst (state g.S.Store c.args.self.now.store.now.calls.conn) (state g.S.Store c.first.new.self.conn) GET_ARTIFACT.now (Int (pos c.args.number) ∷ []) (Ok c.in_ok-row.row) =
+    rw (c.params-to_sql.ensures, c.get.ensures.value) at c.in_ok-row.ensures.takes in
+    artifact_read c.args.number (subst (λ n. 1 ≤ n) c.get.ensures.value c.get.ensures.least) _ _ c.in_ok-row.row taken c.stored_artifact_in.result c.stored_artifact_in.ensures

@@ -1,0 +1,16 @@
+use Rattle.std.proofs.Common.{[], ◌∷◌, Ok, pos}
+use Rattle.sqlite_value.specs.declared.value.Value.TheVariants.{Int}
+use Rattle.sqlite.specs.Held.{state}
+use Rattle.sql_calls.specs.Calls.{AsksText}
+use Rattle.desk_records.specs.declared.artifact_texts.TheConstants.{LIST_ARTIFACTS}
+use Rattle.desk_store.proofs.ArtifactCalls.{artifacts_read, artifacts_not_read}
+use Rattle.desk_store.proofs.change.OpenChange.read_module_artifacts.Goals as goal
+
+pub returns-in_err-rows-clause-reads : goal.returns-in_err-rows-clause-reads
+returns-in_err-rows-clause-reads g c = artifacts_not_read _ _ _ _ _ c.in_err-rows.ensures.asks c.from_residual.result c.from_residual.ensures.0
+
+pub returns-clause-reads : goal.returns-clause-reads
+returns-clause-reads g c =
+    let asked : AsksText (state g.S.Store c.args.self.now.store.now.calls.conn) (state g.S.Store c.ask.new.self.conn) LIST_ARTIFACTS.now (Int (pos c.args.module_number) ∷ []) (Ok c.in_ok-rows.rows) =
+    rw (c.params-to_sql.ensures, c.get.ensures.value) at c.in_ok-rows.ensures.asks in
+    artifacts_read c.args.module_number _ _ c.in_ok-rows.rows asked c.artifacts_in.result (rw c.deref.ensures.value at c.artifacts_in.ensures)

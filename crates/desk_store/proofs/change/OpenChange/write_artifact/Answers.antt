@@ -1,0 +1,26 @@
+use Rattle.std.proofs.Common.{◌∷◌, pos}
+use Rattle.sqlite_value.specs.declared.value.Value.TheVariants.{Int}
+use Rattle.sqlite.specs.Held.{state}
+use Rattle.sql_calls.specs.Calls.{RunsText}
+use Rattle.desk_records.specs.declared.artifact_texts.TheConstants.{PUT_ARTIFACT}
+use Rattle.desk_records.specs.Artifacts.{told_of, artifact_filed}
+use Rattle.desk_store.proofs.ArtifactCalls.{artifact_written}
+use Rattle.desk_store.proofs.change.OpenChange.write_artifact.Goals as goal
+
+pub returns-clause-writes : goal.returns-clause-writes
+returns-clause-writes g c =
+    let told = artifact_filed c.args.module_number c.args.filename.now c.args.size c.args.digest.now in
+    let ran : RunsText (state g.S.Store c.args.self.now.store.now.calls.conn) (state g.S.Store c.run.new.self.conn) PUT_ARTIFACT.now (Int (pos c.args.number) ∷ told_of told) c.run.result =
+    rw (
+      c.params-to_sql.ensures,
+      c.params-to_sql-2.ensures,
+      c.params-to_sql-3.ensures,
+      c.params-to_sql-4.ensures,
+      c.params-to_sql-5.ensures,
+      c.get.ensures.value,
+      c.get-2.ensures.value,
+      c.as_str.ensures.value,
+      c.as_slice.ensures,
+      c.as_bytes.ensures.value,
+    ) at c.run.ensures.runs in
+    artifact_written c.args.number c.args.module_number c.args.filename.now c.args.size c.args.digest.now _ _ c.run.result ran

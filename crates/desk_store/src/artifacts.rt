@@ -1,0 +1,142 @@
+//! Artifacts and the pieces of their contents, in a change that is under way.
+
+ghost use Rattle.std.specs.Prelude.{◌≡◌, ◌≤◌, ◌+◌, length, vec_items};
+ghost use Rattle.std.specs.List.{list_any};
+ghost use Rattle.std.specs.Option.{option_map};
+ghost use Rattle.sqlite.specs.Held.{state};
+ghost use Rattle.sql_calls.specs.Standing.{Reads, Writes};
+ghost use Rattle.rollout_machine.specs.ByteStrings.{item_numbered};
+ghost use Rattle.rollout_machine.specs.Objects.{artifacts_shown};
+ghost use Rattle.desk_records.specs.Holds.{HoldsRecords};
+ghost use Rattle.desk_records.specs.ArtifactRow.{stored};
+ghost use Rattle.desk_records.specs.Artifacts.{is_same_artifact, piece_numbered, with_artifact, AddsPiece};
+ghost use Rattle.desk_store.specs.Counting.{AddsAtMost};
+
+use crate::change::OpenChange;
+use crate::reading::{artifacts_in, last_number, piece_in, stored_artifact_in};
+use desk_records::{
+    FIND_ARTIFACT, GET_ARTIFACT, GET_PIECE, LAST_ARTIFACT, LIST_ARTIFACTS, PUT_ARTIFACT, PUT_PIECE,
+    StoredArtifact,
+};
+use rollout_model::{Artifact, ArtifactNo, Digest, Filename, ModuleNo};
+use sql_calls::Fault;
+use sqlite::{Alter, params};
+
+impl<'a, S: Alter> OpenChange<'a, S> {
+    /// Whether the module has an artifact of this name.
+    pub fn read_same_artifact(
+        &mut self,
+        module_number: ModuleNo,
+        filename: &Filename,
+    ) -> Result<bool, Fault>
+        ensures same_reference { self.new.store.ghost_name ≡ self.old.store.ghost_name }
+        ensures reads { Reads HoldsRecords (state S.Store self.old.store.now.calls.conn) (state S.Store self.new.store.now.calls.conn) result
+            (λ r found. found ≡ list_any (is_same_artifact module_number filename.now) r.artifacts) }
+        ensures work { AddsAtMost 1 self.old.store.now.calls.work self.new.store.now.calls.work }
+    {
+        let row = self.store.calls.first(
+            FIND_ARTIFACT,
+            params![module_number.get(), filename.as_str()],
+        )?;
+        Ok(row.is_some())
+    }
+
+    /// The number of the last artifact, which is how many there are.
+    pub fn read_last_artifact(&mut self) -> Result<u32, Fault>
+        ensures same_reference { self.new.store.ghost_name ≡ self.old.store.ghost_name }
+        ensures reads { Reads HoldsRecords (state S.Store self.old.store.now.calls.conn) (state S.Store self.new.store.now.calls.conn) result
+            (λ r last. last ≡ length r.artifacts) }
+        ensures work { AddsAtMost 1 self.old.store.now.calls.work self.new.store.now.calls.work }
+    {
+        let row = self.store.calls.first(LAST_ARTIFACT, &[])?;
+        last_number(row)
+    }
+
+    /// What is kept of the artifact of a number, without its contents. A row that breaks a column's rule is a failed store.
+    pub fn read_artifact(&mut self, number: ArtifactNo) -> Result<Option<StoredArtifact>, Fault>
+        ensures same_reference { self.new.store.ghost_name ≡ self.old.store.ghost_name }
+        ensures reads { Reads HoldsRecords (state S.Store self.old.store.now.calls.conn) (state S.Store self.new.store.now.calls.conn) result
+            (λ r found. found ≡ option_map stored (item_numbered r.artifacts number)) }
+        ensures work { AddsAtMost 1 self.old.store.now.calls.work self.new.store.now.calls.work }
+    {
+        let row = self.store.calls.first(GET_ARTIFACT, params![number.get()])?;
+        stored_artifact_in(row)
+    }
+
+    /// The artifacts of a module, in the order of their numbers. A row that breaks a column's rule is a failed store.
+    pub fn read_module_artifacts(&mut self, module_number: ModuleNo) -> Result<Vec<Artifact>, Fault>
+        ensures same_reference { self.new.store.ghost_name ≡ self.old.store.ghost_name }
+        ensures reads { Reads HoldsRecords (state S.Store self.old.store.now.calls.conn) (state S.Store self.new.store.now.calls.conn) result
+            (λ r artifacts. artifacts.items ≡ artifacts_shown module_number 1 r.artifacts) }
+        ensures work { self.new.store.now.calls.work.statements ≤ self.old.store.now.calls.work.statements + 1 }
+    {
+        let alloc = self.store.alloc;
+        let rows = self
+            .store
+            .calls
+            .ask(LIST_ARTIFACTS, params![module_number.get()])?;
+        artifacts_in(alloc, &rows)
+    }
+
+    /// The piece at a place of an artifact's contents; places are counted from 1. A row that breaks a column's rule is a
+    /// failed store.
+    pub fn read_piece(
+        &mut self,
+        number: ArtifactNo,
+        sequence: u32,
+    ) -> Result<Option<Vec<u8>>, Fault>
+        ensures same_reference { self.new.store.ghost_name ≡ self.old.store.ghost_name }
+        ensures reads { Reads HoldsRecords (state S.Store self.old.store.now.calls.conn) (state S.Store self.new.store.now.calls.conn) result
+            (λ r found. option_map vec_items found ≡ piece_numbered r.artifacts number sequence) }
+        ensures work { AddsAtMost 1 self.old.store.now.calls.work self.new.store.now.calls.work }
+    {
+        let row = self
+            .store
+            .calls
+            .first(GET_PIECE, params![number.get(), sequence])?;
+        piece_in(row)
+    }
+
+    /// Adds the artifact of the next number, with no contents yet. The size is in bytes.
+    pub fn write_artifact(
+        &mut self,
+        number: ArtifactNo,
+        module_number: ModuleNo,
+        filename: &Filename,
+        size: u32,
+        digest: &Digest,
+    ) -> Result<(), Fault>
+        ensures same_reference { self.new.store.ghost_name ≡ self.old.store.ghost_name }
+        ensures writes { Writes HoldsRecords (state S.Store self.old.store.now.calls.conn) (state S.Store self.new.store.now.calls.conn) result
+            (λ r next. (number ≡ length r.artifacts + 1) × (next ≡ with_artifact r module_number filename.now size digest.now)) }
+        ensures work { AddsAtMost 0 self.old.store.now.calls.work self.new.store.now.calls.work }
+    {
+        self.store.calls.run(
+            PUT_ARTIFACT,
+            params![
+                number.get(),
+                module_number.get(),
+                filename.as_str(),
+                size,
+                digest.as_bytes().as_slice()
+            ],
+        )
+    }
+
+    /// Adds a piece of at most 65,536 bytes to the contents of the last artifact, at its next place; places are counted from 1.
+    pub fn write_piece(
+        &mut self,
+        number: ArtifactNo,
+        sequence: u32,
+        bytes: &[u8],
+    ) -> Result<(), Fault>
+        ensures same_reference { self.new.store.ghost_name ≡ self.old.store.ghost_name }
+        ensures writes { Writes HoldsRecords (state S.Store self.old.store.now.calls.conn) (state S.Store self.new.store.now.calls.conn) result
+            (AddsPiece number sequence bytes.now) }
+        ensures work { AddsAtMost 0 self.old.store.now.calls.work self.new.store.now.calls.work }
+    {
+        self.store
+            .calls
+            .run(PUT_PIECE, params![number.get(), sequence, bytes])
+    }
+}

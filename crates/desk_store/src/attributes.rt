@@ -1,0 +1,76 @@
+//! The attributes of targets, in a change that is under way.
+
+ghost use Rattle.std.specs.Prelude.{◌≡◌, ◌≤◌, ◌+◌};
+ghost use Rattle.sqlite.specs.Held.{state};
+ghost use Rattle.sql_calls.specs.Standing.{Reads, Writes};
+ghost use Rattle.rollout_machine.specs.Verdicts.{target_of};
+ghost use Rattle.desk_records.specs.Holds.{HoldsRecords};
+ghost use Rattle.desk_records.specs.Targets.{AddsAttribute, SetsAttribute, attributes_of};
+ghost use Rattle.desk_store.specs.Counting.{AddsAtMost};
+
+use crate::change::OpenChange;
+use crate::reading::attributes_in;
+use desk_records::{LIST_TARGET_ATTRIBUTES, PUT_TARGET_ATTRIBUTE, SET_TARGET_ATTRIBUTE};
+use rollout_model::{Attribute, Attributes, ControllerId};
+use sql_calls::Fault;
+use sqlite::{Alter, params};
+
+impl<'a, S: Alter> OpenChange<'a, S> {
+    /// The attributes of the target of an id, by their keys in byte order; none where there is no such target. A row that
+    /// breaks a column's rule is a failed store.
+    pub fn read_target_attributes(&mut self, id: &ControllerId) -> Result<Attributes, Fault>
+        ensures same_reference { self.new.store.ghost_name ≡ self.old.store.ghost_name }
+        ensures reads { Reads HoldsRecords (state S.Store self.old.store.now.calls.conn) (state S.Store self.new.store.now.calls.conn) result
+            (λ r attributes. attributes ≡ attributes_of (target_of r id.now)) }
+        ensures work { self.new.store.now.calls.work.statements ≤ self.old.store.now.calls.work.statements + 1 }
+    {
+        let alloc = self.store.alloc;
+        let rows = self
+            .store
+            .calls
+            .ask(LIST_TARGET_ATTRIBUTES, params![id.as_str()])?;
+        attributes_in(alloc, &rows)
+    }
+
+    /// Gives a target that is there an attribute of a key that it hasn't.
+    pub fn write_target_attribute(
+        &mut self,
+        id: &ControllerId,
+        attribute: &Attribute,
+    ) -> Result<(), Fault>
+        ensures same_reference { self.new.store.ghost_name ≡ self.old.store.ghost_name }
+        ensures writes { Writes HoldsRecords (state S.Store self.old.store.now.calls.conn) (state S.Store self.new.store.now.calls.conn) result
+            (AddsAttribute id.now attribute.now) }
+        ensures work { AddsAtMost 0 self.old.store.now.calls.work self.new.store.now.calls.work }
+    {
+        self.store.calls.run(
+            PUT_TARGET_ATTRIBUTE,
+            params![
+                id.as_str(),
+                attribute.key.as_str(),
+                attribute.value.as_str()
+            ],
+        )
+    }
+
+    /// Gives the attribute of a target that has this key another value.
+    pub fn change_target_attribute(
+        &mut self,
+        id: &ControllerId,
+        attribute: &Attribute,
+    ) -> Result<(), Fault>
+        ensures same_reference { self.new.store.ghost_name ≡ self.old.store.ghost_name }
+        ensures writes { Writes HoldsRecords (state S.Store self.old.store.now.calls.conn) (state S.Store self.new.store.now.calls.conn) result
+            (SetsAttribute id.now attribute.now) }
+        ensures work { AddsAtMost 0 self.old.store.now.calls.work self.new.store.now.calls.work }
+    {
+        self.store.calls.run(
+            SET_TARGET_ATTRIBUTE,
+            params![
+                id.as_str(),
+                attribute.key.as_str(),
+                attribute.value.as_str()
+            ],
+        )
+    }
+}

@@ -1,0 +1,121 @@
+//! Targets and their tags, in a change that is under way.
+
+ghost use Rattle.std.specs.Prelude.{◌≡◌, ◌≤◌, ◌+◌, length};
+ghost use Rattle.std.specs.Option.{option_map};
+ghost use Rattle.sqlite.specs.Held.{state};
+ghost use Rattle.sql_calls.specs.Standing.{Reads, Writes};
+ghost use Rattle.rollout_machine.specs.Verdicts.{tags_of, target_of};
+ghost use Rattle.desk_records.specs.Holds.{HoldsRecords};
+ghost use Rattle.desk_records.specs.TargetRow.{stored_target};
+ghost use Rattle.desk_records.specs.Targets.{AddsTag, AddsTarget, renamed, untagged, with_changed};
+ghost use Rattle.desk_store.specs.Counting.{AddsAtMost};
+
+use crate::change::OpenChange;
+use crate::reading::{counted_in, stored_target_in, tags_in};
+use desk_records::{
+    COUNT_TARGETS, DROP_TARGET_TAG, GET_TARGET, LIST_TARGET_TAGS, PUT_TARGET, PUT_TARGET_TAG,
+    SET_TARGET, StoredTarget,
+};
+use rollout_model::{ControllerId, Digest, Text, Word};
+use sql_calls::Fault;
+use sqlite::{Alter, params};
+
+impl<'a, S: Alter> OpenChange<'a, S> {
+    /// What is kept of the target of an id, without its tags and attributes. A row that breaks a column's rule is a failed store.
+    pub fn read_target(&mut self, id: &ControllerId) -> Result<Option<StoredTarget>, Fault>
+        ensures same_reference { self.new.store.ghost_name ≡ self.old.store.ghost_name }
+        ensures reads { Reads HoldsRecords (state S.Store self.old.store.now.calls.conn) (state S.Store self.new.store.now.calls.conn) result
+            (λ r found. found ≡ option_map stored_target (target_of r id.now)) }
+        ensures work { AddsAtMost 1 self.old.store.now.calls.work self.new.store.now.calls.work }
+    {
+        let alloc = self.store.alloc;
+        let row = self.store.calls.first(GET_TARGET, params![id.as_str()])?;
+        stored_target_in(alloc, row)
+    }
+
+    /// The tags of the target of an id, in byte order; none where there is no such target. A row that breaks the column's rule is a failed store.
+    pub fn read_target_tags(&mut self, id: &ControllerId) -> Result<Vec<Word>, Fault>
+        ensures same_reference { self.new.store.ghost_name ≡ self.old.store.ghost_name }
+        ensures reads { Reads HoldsRecords (state S.Store self.old.store.now.calls.conn) (state S.Store self.new.store.now.calls.conn) result
+            (λ r tags. tags.items ≡ tags_of (target_of r id.now)) }
+        ensures work { self.new.store.now.calls.work.statements ≤ self.old.store.now.calls.work.statements + 1 }
+    {
+        let alloc = self.store.alloc;
+        let rows = self
+            .store
+            .calls
+            .ask(LIST_TARGET_TAGS, params![id.as_str()])?;
+        tags_in(alloc, &rows)
+    }
+
+    /// How many targets there are.
+    pub fn read_target_count(&mut self) -> Result<u32, Fault>
+        ensures same_reference { self.new.store.ghost_name ≡ self.old.store.ghost_name }
+        ensures reads { Reads HoldsRecords (state S.Store self.old.store.now.calls.conn) (state S.Store self.new.store.now.calls.conn) result
+            (λ r count. count ≡ length r.targets) }
+        ensures work { AddsAtMost 1 self.old.store.now.calls.work self.new.store.now.calls.work }
+    {
+        let row = self.store.calls.first(COUNT_TARGETS, &[])?;
+        counted_in(row)
+    }
+
+    /// Adds a target that isn't there, with no tags and no attributes yet.
+    pub fn write_target(
+        &mut self,
+        id: &ControllerId,
+        name: &Text,
+        digest: &Digest,
+    ) -> Result<(), Fault>
+        ensures same_reference { self.new.store.ghost_name ≡ self.old.store.ghost_name }
+        ensures writes { Writes HoldsRecords (state S.Store self.old.store.now.calls.conn) (state S.Store self.new.store.now.calls.conn) result
+            (AddsTarget id.now name.now digest.now) }
+        ensures work { AddsAtMost 0 self.old.store.now.calls.work self.new.store.now.calls.work }
+    {
+        self.store.calls.run(
+            PUT_TARGET,
+            params![id.as_str(), name.as_str(), digest.as_bytes().as_slice()],
+        )
+    }
+
+    /// Gives the target of an id, where there is one, another name and another token's digest.
+    pub fn change_target(
+        &mut self,
+        id: &ControllerId,
+        name: &Text,
+        digest: &Digest,
+    ) -> Result<(), Fault>
+        ensures same_reference { self.new.store.ghost_name ≡ self.old.store.ghost_name }
+        ensures writes { Writes HoldsRecords (state S.Store self.old.store.now.calls.conn) (state S.Store self.new.store.now.calls.conn) result
+            (λ r next. next ≡ with_changed r id.now (renamed name.now digest.now)) }
+        ensures work { AddsAtMost 0 self.old.store.now.calls.work self.new.store.now.calls.work }
+    {
+        self.store.calls.run(
+            SET_TARGET,
+            params![id.as_str(), name.as_str(), digest.as_bytes().as_slice()],
+        )
+    }
+
+    /// Gives a target that is there a tag that it hasn't.
+    pub fn write_target_tag(&mut self, id: &ControllerId, tag: &Word) -> Result<(), Fault>
+        ensures same_reference { self.new.store.ghost_name ≡ self.old.store.ghost_name }
+        ensures writes { Writes HoldsRecords (state S.Store self.old.store.now.calls.conn) (state S.Store self.new.store.now.calls.conn) result
+            (AddsTag id.now tag.now) }
+        ensures work { AddsAtMost 0 self.old.store.now.calls.work self.new.store.now.calls.work }
+    {
+        self.store
+            .calls
+            .run(PUT_TARGET_TAG, params![id.as_str(), tag.as_str()])
+    }
+
+    /// Takes a tag from the target of an id, where it has it.
+    pub fn drop_target_tag(&mut self, id: &ControllerId, tag: &Word) -> Result<(), Fault>
+        ensures same_reference { self.new.store.ghost_name ≡ self.old.store.ghost_name }
+        ensures writes { Writes HoldsRecords (state S.Store self.old.store.now.calls.conn) (state S.Store self.new.store.now.calls.conn) result
+            (λ r next. next ≡ with_changed r id.now (untagged tag.now)) }
+        ensures work { AddsAtMost 0 self.old.store.now.calls.work self.new.store.now.calls.work }
+    {
+        self.store
+            .calls
+            .run(DROP_TARGET_TAG, params![id.as_str(), tag.as_str()])
+    }
+}

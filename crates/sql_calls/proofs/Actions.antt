@@ -1,0 +1,123 @@
+-- What foreign keys set off: their actions change tables that have some, and no others.
+use Rattle.std.proofs.Common.{◌≡◌, ◌≢◌, ℤ, ◌+◌, nat_lt, Err, MatchBool, inl, inr, ℕ, zero, suc, ◌==◌, ◌&&◌, Bool, true, false, cond, List, [], ◌∷◌, ◌++◌, Option, Some, None, Ok, refl, sym, ap, subst, ◌∙◌, flat_map, filter_map}
+use Rattle.std.specs.List.{AllByRecursion, list_any}
+use Rattle.sqlite.specs.Order.{Row}
+use Rattle.sqlite.specs.Tree.{Trees}
+use Rattle.sqlite.specs.Table.{Table}
+use Rattle.sqlite.specs.Schema.{Schema}
+use Rattle.sqlite.specs.Edit.{Edit, edited, taken_by, Applies}
+use Rattle.sqlite_schema.specs.declared.schema.Keys.{Keys}
+use Rattle.sqlite_schema.specs.declared.schema.Reference.{Reference}
+use Rattle.sqlite_schema.specs.Rules.{ParentKey}
+use Rattle.sqlite_rules.specs.declared.action.Deed.{Deed}
+use Rattle.sqlite_schema.specs.declared.schema.Constraint.TheVariants.{ForeignKey}
+use Rattle.sqlite_rules.specs.declared.error.Refusal.TheVariants.{Violates, TooDeep}
+use Rattle.sqlite_rules.specs.Lists.{Has}
+use Rattle.sqlite_rules.specs.Action.{Work, pairs, loses, work_by, work_for, works, End, Goes, ActsOn, Acts, Leads, AreChildren, action_edit, refuses, max_depth, Writes as Edits}
+use Rattle.sqlite_rules.proofs.ListLemmas.{all_has, all_from}
+use Rattle.sql_calls.specs.Apart.{HasNoForeignKey}
+
+its_child : (depth tree : ℕ) (moves : List (Row × Row)) (child : Table) (ref : Reference) (deed : Option Deed) (key : Option ParentKey) (w : Work) → work_by depth tree moves child ref deed key ≡ Some w → w.child ≡ child
+its_child depth tree moves child ref None key w h = absurd cc
+its_child depth tree moves child ref (Some deed) None w h = absurd cc
+its_child depth tree moves child ref (Some deed) (Some key) w h = go ((key.0 == tree) && list_any (loses key.2 key.1) moves) h
+  where
+    work : Work
+    work = record { depth = depth; child = child; ref = ref; places = key.1; order = key.2; deed = deed; moves = moves }
+
+    go : (b : Bool) → cond b (Some work) None ≡ Some w → w.child ≡ child
+    go true is = let same : work ≡ w = cc in ap (λ (x : Work). x.child) (sym same)
+    go false is = absurd cc
+
+all_mapped : {A B : Type 0} (f : A → Option B) (P : B → Type 0) (xs : List A) → ((x : A) → Has xs x → (b : B) → f x ≡ Some b → P b) → AllByRecursion P (filter_map f xs)
+all_mapped f P [] each = tt
+all_mapped {A} {B} f P (x ∷ xs) each = go (f x) refl (all_mapped f P xs (λ y there. each y (inr there)))
+  where
+    go : (o : Option B) → f x ≡ o → AllByRecursion P (filter_map f xs) → AllByRecursion P (filter_map f (x ∷ xs))
+    go None e more = rw e more
+    go (Some b) e more = rw e (each x (inl refl) b e, more)
+
+all_both : {X : Type 0} (P : X → Type 0) (xs ys : List X) → AllByRecursion P xs → AllByRecursion P ys → AllByRecursion P (xs ++ ys)
+all_both P [] ys h k = k
+all_both P (x ∷ xs) ys h k = (h.0, all_both P xs ys h.1 k)
+
+all_flat : {A B : Type 0} (f : A → List B) (P : B → Type 0) (xs : List A) → ((x : A) → Has xs x → AllByRecursion P (f x)) → AllByRecursion P (flat_map f xs)
+all_flat f P [] each = tt
+all_flat f P (x ∷ xs) each = all_both P (f x) (flat_map f xs) (each x (inl refl)) (all_flat f P xs (λ y there. each y (inr there)))
+
+all_split : {X : Type 0} (P : X → Type 0) (xs : List X) (y : X) → AllByRecursion P (xs ++ y ∷ []) → AllByRecursion P xs × P y
+all_split P [] y h = (tt, h.0)
+all_split P (x ∷ xs) y h = let more = all_split P xs y h.1 in ((h.0, more.0), more.1)
+
+has_some : {X : Type 0} (xs : List X) (x : X) → Has xs x → xs ≡ [] → ⊥
+has_some [] x there none = there
+has_some (y ∷ xs) x there none = cc
+
+module _ (schema : Schema) (keys : Keys) where
+  -- it is on a table that has foreign keys
+  abbrev IsOnChild : Work → Type 0
+  IsOnChild w = Has schema.tables w.child × (w.child.references ≡ [] → ⊥)
+
+  on_children : (depth tree : ℕ) (olds news : List Row) → AllByRecursion IsOnChild (works schema keys depth tree olds news)
+  on_children depth tree olds news = all_flat (λ child. filter_map (work_for schema keys depth tree olds news child) child.references) IsOnChild schema.tables (λ child listed.
+      all_mapped (work_for schema keys depth tree olds news child) IsOnChild child.references (λ ref there w is.
+      subst (λ (t : Table). Has schema.tables t × (t.references ≡ [] → ⊥)) (sym (its_child depth tree (pairs olds news) child ref _ _ w is)) (listed, has_some child.references ref there)))
+
+  -- a table that has none keeps its rows
+  module _ (t : Table) (listed : Has schema.tables t) (apart : (child : Table) → Has schema.tables child → (child.references ≡ [] → ⊥) → t.tree ≢ child.tree) (next : Trees) where
+    abbrev Keeps : (Trees → List Work → End → Type 0) → Type 0
+    Keeps Then = (mid : Trees) (stack : List Work) → AllByRecursion IsOnChild stack → Then mid stack (Ok next) → next t.tree ≡ mid t.tree
+
+    edit_keeps : (Then : Trees → List Work → End → Type 0) → Keeps Then → (db : Trees) (edit : Edit) (depth : ℕ) (below : List Work) → AllByRecursion IsOnChild below → t.tree ≢ edit.table.tree → Goes schema keys Then db edit depth below (Ok next) → next t.tree ≡ db t.tree
+    edit_keeps Then more db edit depth below all other (inl refused) = absurd (let e = refused.2 in cc)
+    edit_keeps Then more db edit depth below all other (inr (inl big)) = absurd (let e = big.3 in cc)
+    edit_keeps Then more db edit depth below all other (inr (inr went)) =
+        more went.0 _ (all_both IsOnChild below _ all (on_children depth edit.table.tree (taken_by db edit) edit.news)) went.2
+        ∙ all_has (λ (u : Table). u.tree ≢ edit.table.tree → went.0 u.tree ≡ db u.tree) schema.tables t went.1.tables listed other
+
+    action_keeps : (Then : Trees → List Work → End → Type 0) → Keeps Then → (db : Trees) (below : List Work) (w : Work) → AllByRecursion IsOnChild below → IsOnChild w → Acts schema keys Then db w below (Ok next) → next t.tree ≡ db t.tree
+    action_keeps Then more db below w all on h = deep (nat_lt w.depth max_depth) h
+      where
+        judged : (id : ℤ) (ids : List ℤ) (b : Bool) → MatchBool b (◌≡◌ {A = End} (Ok next) (Err (Some (Violates ForeignKey)))) (Goes schema keys Then db (action_edit db w (id ∷ ids)) (w.depth + 1) below (Ok next)) → next t.tree ≡ db t.tree
+        judged id ids true it = absurd cc
+        judged id ids false it = edit_keeps Then more db (action_edit db w (id ∷ ids)) (w.depth + 1) below all (apart w.child on.0 on.1) it
+
+        found : (ids : List ℤ) → ActsOn schema keys Then db w below (Ok next) ids → next t.tree ≡ db t.tree
+        found [] it = more db below all it
+        found (id ∷ ids) it = judged id ids (refuses w.deed) it
+
+        deep : (b : Bool) → MatchBool b ((ids : List ℤ) × AreChildren db w ids × ActsOn schema keys Then db w below (Ok next) ids) (◌≡◌ {A = End} (Ok next) (Err (Some TooDeep))) → next t.tree ≡ db t.tree
+        deep true it = found it.0 it.2
+        deep false it = absurd cc
+
+    kept : (n : ℕ) → Keeps (Leads schema keys n)
+    kept zero db stack all h = let same : next ≡ db = cc in ap (λ (d : Trees). d t.tree) same
+    kept (suc n) db stack all h =
+        let parts = all_split IsOnChild h.0 h.1 (subst (AllByRecursion IsOnChild) h.2 all) in
+        action_keeps (Leads schema keys n) (kept n) db h.0 h.1 parts.0 parts.1 h.3
+
+-- The table has the rows of the edit, and each other tree that no foreign key changes has its rows.
+pub record Rewritten (schema : Schema) (db : Trees) (edit : Edit) (next : Trees) : Type 0 where
+  pub rows : next edit.table.tree ≡ edited db edit
+  pub tables : AllByRecursion (λ t. HasNoForeignKey schema t.tree → t.tree ≢ edit.table.tree → next t.tree ≡ db t.tree) schema.tables
+
+-- a step that sets off no action
+pub applied : (schema : Schema) (keys : Keys) (db next : Trees) (edit : Edit) → Applies schema keys db edit next → Rewritten schema db edit next
+applied schema keys db next edit a = record {
+  rows = a.rows;
+  tables = all_from _ schema.tables (λ t there none other. all_has (λ (u : Table). u.tree ≢ edit.table.tree → next u.tree ≡ db u.tree) schema.tables t a.tables there other);
+}
+
+-- whatever foreign keys refer to the table
+pub rewritten : (schema : Schema) (keys : Keys) (db next : Trees) (edit : Edit) → HasNoForeignKey schema edit.table.tree → Has schema.tables edit.table → Edits schema keys db edit (Ok next) → Rewritten schema db edit next
+rewritten schema keys db next edit free listed (inl refused) = absurd (let e = refused.2 in cc)
+rewritten schema keys db next edit free listed (inr (inl big)) = absurd (let e = big.3 in cc)
+rewritten schema keys db next edit free listed (inr (inr went)) = record {
+  rows = stays edit.table listed free ∙ went.1.rows;
+  tables = all_from _ schema.tables (λ t there none other. stays t there none ∙ all_has (λ (u : Table). u.tree ≢ edit.table.tree → went.0 u.tree ≡ db u.tree) schema.tables t went.1.tables there other);
+}
+  where
+    stays : (t : Table) → Has schema.tables t → HasNoForeignKey schema t.tree → next t.tree ≡ went.0 t.tree
+    stays t there none =
+        kept schema keys t there (λ child listed' some same. some (all_has (λ (u : Table). u.tree ≡ t.tree → u.references ≡ []) schema.tables child none listed' (sym same))) next went.2.0 went.0 _
+        (on_children schema keys 0 edit.table.tree (taken_by db edit) edit.news) went.2.1

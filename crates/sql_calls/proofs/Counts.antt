@@ -1,0 +1,75 @@
+-- What SELECT count(*) shows of a table.
+use Rattle.std.proofs.Common.{◌≡◌, ℕ, ◌+◌, suc, min, pos, List, [], ◌∷◌, map, filter, flat_map, length, Some, false, refl, sym, ap, subst, ◌∙◌, IsPermutation}
+use Rattle.std.specs.List.{list_all, AllZip}
+use Rattle.std.proofs.lemmas.List.{length-map}
+use Rattle.std.proofs.lemmas.List.Sorted.{length_permutation}
+use Rattle.sqlite_value.specs.declared.value.Value.{Value}
+use Rattle.sqlite_value.specs.declared.value.Value.TheVariants.{Null, Int}
+use Rattle.sqlite_value.specs.Order.{Row}
+use Rattle.sqlite_sql.specs.Group.{Aggregate, Grouping, Summarizes, IsSummary, value_over}
+use Rattle.sqlite_sql.specs.declared.aggregate.AggregateOp.TheVariants.{CountRows}
+use Rattle.sqlite.specs.Collation.TheVariants.{Binary}
+use Rattle.sqlite.specs.Tree.{Trees}
+use Rattle.sqlite.specs.Term.{Env, lit, col, eval, holds}
+use Rattle.sqlite.specs.Query.{Query, IsAnswer, Output, output, page}
+use Rattle.sqlite.specs.Program.{overlay}
+use Rattle.sqlite.proofs.Callers.{one_permutation}
+use Rattle.sql_calls.specs.Keyed.{AreIn, IsHeldBy}
+use Rattle.sql_calls.proofs.Selects.{simple, matched, no_overlay}
+
+abbrev counting : Aggregate
+counting = record { op = CountRows; distinct = false; collation = Binary; argument = lit Null }
+
+abbrev count_all : Grouping
+count_all = record { keys = []; collations = []; aggregates = counting ∷ []; having = [] }
+
+-- SELECT count(*) FROM table
+abbrev pub count_query : ℕ → Query
+count_query tree = record (simple tree [] (col 1 0 ∷ [])) { group = Some count_all }
+
+abbrev counted : List Env → Value
+counted envs = Int (pos (min (length envs) 9223372036854775807))
+
+one_value : (order : List Env) (values : Row) → AllZip (λ a v. value_over order a ≡ Some v) (counting ∷ []) values → values ≡ counted order ∷ []
+one_value order [] h = absurd h
+one_value order (v ∷ []) h =
+    let size : length (map (eval (lit Null)) order) ≡ length order = length-map order (eval (lit Null)) in
+    let is : Some (Int (pos (min (length (map (eval (lit Null)) order)) 9223372036854775807))) ≡ Some v = h.0 in
+    let value : Some (counted order) ≡ Some v = rw size at is in
+    let same : counted order ≡ v = cc in
+    ap (λ x. x ∷ []) (sym same)
+one_value order (v ∷ w ∷ more) h = absurd h.1
+
+one_summary : (order : List Env) (rows : List Row) → AllZip (IsSummary count_all) (order ∷ []) rows → rows ≡ (counted order ∷ []) ∷ []
+one_summary order [] h = absurd h
+one_summary order (r ∷ []) h = ap (λ x. x ∷ []) (h.0.2 ∙ one_value order h.0.0 h.0.1)
+one_summary order (r ∷ s ∷ more) h = absurd h.1
+
+all_matched : (params : Row) (rows : List Row) → length (flat_map (matched [] params) rows) ≡ length rows
+all_matched params [] = refl
+all_matched params (r ∷ rows) = ap suc (all_matched params rows)
+
+-- one row with the number of rows, which SQLite keeps below 2^63
+pub count_rows : (tree : ℕ) (params : Row) (db : Trees) (rows : List Row) → IsAnswer (count_query tree) (overlay db []) params rows → rows ≡ (Int (pos (min (length (db tree)) 9223372036854775807)) ∷ []) ∷ []
+count_rows tree params db rows a =
+    let summed : Summarizes count_all params (flat_map (matched [] params) (overlay db [] tree)) a.staged = a.grouped in
+    let order = summed.grouping.0 in
+    let size : length order ≡ length (db tree) = length_permutation _ order summed.grouping.1 ∙ all_matched params (overlay db [] tree) ∙ ap length (no_overlay db tree) in
+    let summary = one_summary order summed.rows (subst (λ gs. AllZip (IsSummary count_all) gs summed.rows) summed.grouping.2 summed.summaries) in
+    let staged : a.staged ≡ (params ∷ (counted order ∷ []) ∷ []) ∷ [] = summed.having ∙ ap (λ rs. filter (λ env. list_all (holds env) []) (map (λ r. params ∷ r ∷ []) rs)) summary in
+    let o : Output = ([], counted order ∷ []) in
+    let kept : a.kept ≡ o ∷ [] = a.distinct ∙ ap (map (output (count_query tree))) staged in
+    let ordered = one_permutation o a.ordered (subst (λ k. IsPermutation k a.ordered) kept a.same) in
+    let shown : rows ≡ (counted order ∷ []) ∷ [] = a.shown ∙ ap (λ xs. page (count_query tree) params (map (λ (p : Output). p.1) xs)) ordered in
+    shown ∙ ap (λ n. (Int (pos (min n 9223372036854775807)) ∷ []) ∷ []) size
+
+-- ---- a table that has these contents
+
+length_in : (low : ℕ) (rows xs : List Row) → AreIn low rows xs → length rows ≡ length xs
+length_in low [] [] h = refl
+length_in low [] (x ∷ xs) h = absurd h
+length_in low (r ∷ rows) [] h = absurd h
+length_in low (r ∷ rows) (x ∷ xs) h = ap suc (length_in (h.0 + 1) rows xs h.3)
+
+pub length_held : (rows wanted : List Row) → IsHeldBy rows wanted → length rows ≡ length wanted
+length_held rows wanted h = length_in 1 rows h.order h.rising ∙ length_permutation wanted h.order h.same

@@ -1,0 +1,125 @@
+-- UPDATE and DELETE mean the same wherever the table stands in the schema.
+use Rattle.std.proofs.Common.{◌≡◌, refl, sym, subst, ◌∙◌, ℕ, true, false, ◌&&◌, Ok, List, [], ◌∷◌, ◌++◌, Option, Some, None, slice_get}
+use Rattle.std.specs.Bool.{⊤, if◌then◌else◌}
+use Rattle.sqlite_sql.specs.Query.{Query, inner, end}
+use Rattle.sqlite_sql.specs.Term.{Term, col}
+use Rattle.sqlite_ast.specs.declared.Expr.{Expr}
+use Rattle.sqlite_ast.specs.declared.Statement.TheVariants as written
+use Rattle.sqlite_syntax.specs.declared.statement.Parsed.{Parsed}
+use Rattle.sqlite_draft.specs.declared.join.Step.TheVariants.{Inner}
+use Rattle.sqlite_draft.specs.declared.query.Draft.{Draft}
+use Rattle.sqlite_draft.specs.Query.{query_of}
+use Rattle.sqlite_schema.specs.declared.schema.Schema.{Schema}
+use Rattle.sqlite_schema.specs.declared.schema.Table.{Table}
+use Rattle.sqlite_schema.specs.declared.command.Command.TheVariants.{Update, Delete}
+use Rattle.sqlite_typing.specs.Types.{accepts_program, accepts_after, is_count, row_classes}
+use Rattle.sqlite_resolve.specs.declared.error.CompileError.TheVariants.{Unsupported}
+use Rattle.sqlite_resolve.specs.declared.compiled.Compiled.{Compiled}
+use Rattle.sqlite_resolve.specs.Lowering.{◌>>=◌, and_then, pure, fail, get, take_steps, fresh, max_budget}
+use Rattle.sqlite_resolve.specs.Reach.{any_scans}
+use Rattle.sqlite_resolve.specs.Select.{value_of}
+use Rattle.sqlite_resolve.specs.Scope.{Name, Context}
+use Rattle.sqlite_resolve.specs.Write.{over, with_place, sets_from, sets, assigned, picked, row, simple, updated_in, updated, deleted}
+use Rattle.sqlite_resolve.specs.Program.{program}
+use Rattle.sqlite_resolve.specs.Compile.{compiled, first, planned, meaning, timed, returning, command, shows, update, delete}
+use Rattle.sql_front.specs.Stands.{Stands}
+use Rattle.sql_front.proofs.Lower.{Same, IsPlain, lower_same}
+use Rattle.sql_front.proofs.OneTable.{same_columns}
+use Rattle.sql_front.proofs.Select.{IsPlainTest, tests_same}
+use Rattle.sql_front.proofs.Query.{accepted}
+use Rattle.sql_front.proofs.Texts.{alone}
+
+abbrev pub ArePlainSets : List (Name × Expr) → Type 0
+ArePlainSets [] = ⊤
+ArePlainSets (set ∷ more) = IsPlain 700 set.1 × ArePlainSets more
+
+module _ (a b : Context) (same : Same a b) (table : Table) where
+  sets_same : (done : List ℕ × List Term) (all : List (Name × Expr)) → ArePlainSets all → sets_from a table done all ≡ sets_from b table done all
+  sets_same done [] h = refl
+  sets_same done (set ∷ more) h =
+      λ i s. and_then (with_place table done.0 set.0) (λ at. and_then (lower_same a b same 700 set.1 h.0 i s) (λ r. sets_same (at, done.1 ++ r.0 ∷ []) more h.1 i r.1))
+
+  assigned_same : (all : List (Name × Expr)) → ArePlainSets all → assigned a table all ≡ assigned b table all
+  unfolding assigned sets
+  assigned_same all h = λ i. sets_same ([], []) all h i >>= (λ found. get >>= (λ s. if any_scans table.tree s.steps then fail Unsupported else pure found))
+
+  picked_same : (project : List Term) (test : Option Expr) → IsPlainTest test → picked a table project test ≡ picked b table project test
+  unfolding picked
+  picked_same project test h = λ i. tests_same a b same [] test h i >>= (λ filter. take_steps >>= (λ steps. pure (simple (Inner table.tree ∷ steps) filter project)))
+
+  updated_same : (all : List (Name × Expr)) (test : Option Expr) → ArePlainSets all → IsPlainTest test → updated_in a table all test ≡ updated_in b table all test
+  unfolding updated_in
+  updated_same all test h k =
+      λ i. and_then (assigned_same all h i (fresh 2 max_budget)) (λ r. and_then (row table None r.0.0 (col 1 0 ∷ []) r.0.1) (λ project. value_of (picked_same project test k i r.1)))
+
+-- ---- the draft is that over the table alone
+
+module _ (s : Schema) (at : ℕ) (table : Table) (got : slice_get s.tables at ≡ Some table) where
+  columns_alone : Same (over s at table.name) (over (alone table) 0 table.name)
+  columns_alone = same_columns s (alone table) at 0 table got refl table.name 1 [] [] false true
+
+  update_alone : (all : List (Name × Expr)) (test : Option Expr) → ArePlainSets all → IsPlainTest test → updated s at table all test ≡ updated (alone table) 0 table all test
+  unfolding updated
+  update_alone all test h k = updated_same _ _ columns_alone table all test h k
+
+  delete_alone : (test : Option Expr) → IsPlainTest test → deleted s at table test ≡ deleted (alone table) 0 table test
+  unfolding deleted
+  delete_alone test k = λ i. value_of (picked_same _ _ columns_alone table (col 1 0 ∷ []) test k i (fresh 2 max_budget))
+
+-- ---- UPDATE
+
+-- what computes of a text that changes rows of one table, over that table alone
+pub record Changes (text : List ℕ) (name : Name) (table : Table) (body : Query) : Type 0 where
+  pub parsed : Parsed
+  pub sets : List (Name × Expr)
+  pub test : Option Expr
+  pub draft : Draft
+  pub read : first text ≡ Ok parsed
+  pub statement : parsed.statement ≡ written.Update name sets test []
+  pub formats : parsed.formats ≡ []
+  pub values : ArePlainSets sets
+  pub filter : IsPlainTest test
+  pub known : updated (alone table) 0 table sets test ≡ Ok draft
+  pub is_body : query_of draft ≡ body
+  pub over : body.from ≡ inner table.tree end
+  pub fits : (accepts_after [] body (Some (row_classes table ∷ [])) && (is_count [] body.limit && is_count [] body.offset)) ≡ true
+
+abbrev pub with_update : Parsed → ℕ → Query → Compiled
+with_update p at body = record { command = Update at (record { lets = []; body = body }); returning = None; names = p.names; formats = []; start = p.start; end = p.end; tail = p.tail }
+
+module _ (text : List ℕ) (name : Name) (table : Table) (body : Query) (c : Changes text name table body) (s : Schema) (at : ℕ) (stands : Stands s name at table) where
+  pub changes_known : compiled s text ≡ Ok (with_update c.parsed at body)
+  unfolding compiled planned meaning timed returning command shows update program
+  changes_known =
+      let draft : updated s at table c.sets c.test ≡ Ok c.draft = update_alone s at table stands.got c.sets c.test c.values c.filter ∙ c.known in
+      let fits : accepts_program s [] (query_of c.draft) [] ≡ true = subst (λ b. accepts_program s [] b [] ≡ true) (sym c.is_body) (accepted s body table c.over stands.stored stands.found c.fits) in
+      let is : compiled s text ≡ Ok (with_update c.parsed at (query_of c.draft)) = rw (c.read) (rw (c.statement) (rw (c.formats) (rw (stands.named) (rw (stands.got) (rw draft (rw fits)))))) in
+      rw (c.is_body) at is
+
+-- ---- DELETE
+
+-- what computes of a text that removes rows of one table, over that table alone
+pub record Removes (text : List ℕ) (name : Name) (table : Table) (body : Query) : Type 0 where
+  pub parsed : Parsed
+  pub test : Option Expr
+  pub draft : Draft
+  pub read : first text ≡ Ok parsed
+  pub statement : parsed.statement ≡ written.Delete name test []
+  pub formats : parsed.formats ≡ []
+  pub filter : IsPlainTest test
+  pub known : deleted (alone table) 0 table test ≡ Ok draft
+  pub is_body : query_of draft ≡ body
+  pub over : body.from ≡ inner table.tree end
+  pub fits : (accepts_after [] body (Some (row_classes table ∷ [])) && (is_count [] body.limit && is_count [] body.offset)) ≡ true
+
+abbrev pub with_delete : Parsed → ℕ → Query → Compiled
+with_delete p at body = record { command = Delete at (record { lets = []; body = body }); returning = None; names = p.names; formats = []; start = p.start; end = p.end; tail = p.tail }
+
+module _ (text : List ℕ) (name : Name) (table : Table) (body : Query) (r : Removes text name table body) (s : Schema) (at : ℕ) (stands : Stands s name at table) where
+  pub removes_known : compiled s text ≡ Ok (with_delete r.parsed at body)
+  unfolding compiled planned meaning timed returning command shows delete program
+  removes_known =
+      let draft : deleted s at table r.test ≡ Ok r.draft = delete_alone s at table stands.got r.test r.filter ∙ r.known in
+      let fits : accepts_program s [] (query_of r.draft) [] ≡ true = subst (λ b. accepts_program s [] b [] ≡ true) (sym r.is_body) (accepted s body table r.over stands.stored stands.found r.fits) in
+      let is : compiled s text ≡ Ok (with_delete r.parsed at (query_of r.draft)) = rw (r.read) (rw (r.statement) (rw (r.formats) (rw (stands.named) (rw (stands.got) (rw draft (rw fits)))))) in
+      rw (r.is_body) at is
