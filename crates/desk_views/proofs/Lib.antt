@@ -1,2 +1,6 @@
-pub mod ShowLemmas
+pub mod ReadLemmas
+pub mod PageLemmas
+pub mod ModuleViews
 pub mod SetViews
+pub mod ArtifactViews
+pub mod TargetViews

@@ -1,8 +1,15 @@
 //! What queries show, read inside an open change.
 #![tactic(auto)]
 
+mod artifacts;
 mod modules;
+mod pages;
 mod sets;
+mod targets;
+#[cfg(test)]
+mod tests;
 
-pub use crate::modules::show_module;
-pub use crate::sets::show_set;
+pub use crate::artifacts::{show_artifact, show_artifacts, show_contents};
+pub use crate::modules::{show_module, show_modules};
+pub use crate::sets::{show_set, show_sets};
+pub use crate::targets::show_target;

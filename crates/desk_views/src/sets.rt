@@ -1,17 +1,22 @@
 //! Distribution sets.
 
-ghost use Rattle.std.specs.Prelude.{◌≡◌, IfOk};
+ghost use Rattle.std.specs.Prelude.{◌≡◌, length, take, drop, Some, IfOk};
 ghost use Rattle.sqlite.specs.Held.{state};
 ghost use Rattle.sql_calls.specs.Standing.{Reads};
 ghost use Rattle.desk_records.specs.Holds.{HoldsRecords};
 ghost use Rattle.rollout_machine.specs.Answers.{query_reply};
 ghost use Rattle.rollout_machine.specs.ByteStrings.{item_numbered};
-ghost use Rattle.rollout_machine.specs.Requests.{ShowSet};
+ghost use Rattle.rollout_machine.specs.Objects.{numbered, set_shown};
+ghost use Rattle.rollout_machine.specs.Requests.{ShowSet, ShowSets};
 ghost use Rattle.rollout_machine.specs.Views.{reply_of};
 
+use crate::pages::count_on;
 use desk_store::{Fault, OpenChange, SetName};
-use rollout_model::{DistributionSet, ModuleList, ModuleNo, Refusal, Reply, SetLabel, SetNo};
+use rollout_model::{
+    DistributionSet, ModuleList, ModuleNo, Page, PageOf, Refusal, Reply, SetLabel, SetNo,
+};
 use sqlite::Alter;
+use std::alloc::Global;
 
 /// Shows the set of a number, with its modules in their order.
 pub fn show_set<S: Alter>(change: &mut OpenChange<'_, S>, number: SetNo) -> Result<Reply, Fault>
@@ -22,6 +27,61 @@ pub fn show_set<S: Alter>(change: &mut OpenChange<'_, S>, number: SetNo) -> Resu
     match read_label(change, number)? {
         Some(label) => Ok(Reply::Set(DistributionSet { number, label })),
         None => Ok(Reply::Refused(Refusal::NotFound)),
+    }
+}
+
+/// Shows a page of the sets, in the order of their numbers. Its memory is taken once it is known how many there are.
+pub fn show_sets<S: Alter>(
+    alloc: Global,
+    change: &mut OpenChange<'_, S>,
+    page: Page,
+) -> Result<Reply, Fault>
+    ensures same_reference { change.new.store.ghost_name ≡ change.old.store.ghost_name }
+    ensures reads { Reads HoldsRecords (state S.Store change.old.store.now.calls.conn) (state S.Store change.new.store.now.calls.conn) result
+        (λ now reply. reply_of reply ≡ query_reply now (ShowSets page)) }
+{
+    let total = change.read_last_set()?;
+    let content = read_page(alloc, change, page, total)?;
+    Ok(Reply::Sets(PageOf { content, total }))
+}
+
+/// The sets on a page, where there are so many in all.
+fn read_page<S: Alter>(
+    alloc: Global,
+    change: &mut OpenChange<'_, S>,
+    page: Page,
+    total: u32,
+) -> Result<Vec<DistributionSet>, Fault>
+    ensures same_reference { change.new.store.ghost_name ≡ change.old.store.ghost_name }
+    ensures reads { Reads HoldsRecords (state S.Store change.old.store.now.calls.conn) (state S.Store change.new.store.now.calls.conn) result
+        (λ now content. total ≡ length now.sets → content.items ≡ take page.limit (drop page.offset (numbered set_shown 1 now.sets))) }
+{
+    let mut content = Vec::new(alloc);
+    for place in 0..count_on(page, total) {
+        let shown = read_entry(change, page.offset + place + 1)?;
+        match content.push(shown) {
+            Ok(()) => {}
+            Err(_) => return Err(Fault::Memory),
+        }
+    }
+    Ok(content)
+}
+
+/// The set of a number up to the last one. Where it isn't there the store has failed.
+fn read_entry<S: Alter>(
+    change: &mut OpenChange<'_, S>,
+    number: u32,
+) -> Result<DistributionSet, Fault>
+    ensures same_reference { change.new.store.ghost_name ≡ change.old.store.ghost_name }
+    ensures reads { Reads HoldsRecords (state S.Store change.old.store.now.calls.conn) (state S.Store change.new.store.now.calls.conn) result
+        (λ now shown. item_numbered (numbered set_shown 1 now.sets) number ≡ Some shown) }
+{
+    let Some(number) = SetNo::new(number) else {
+        return Err(Fault::Store);
+    };
+    match read_label(change, number)? {
+        Some(label) => Ok(DistributionSet { number, label }),
+        None => Err(Fault::Store),
     }
 }
 

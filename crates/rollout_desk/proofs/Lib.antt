@@ -4,3 +4,10 @@ pub mod AdditionLemmas
 pub mod DeskLemmas
 pub mod OpeningLemmas
 pub mod RunLemmas
+pub mod ArtifactLemmas
+pub mod ByteOrderLemmas
+pub mod TargetLemmas
+pub mod TagLemmas
+pub mod WriteLemmas
+pub mod ImportLemmas
+pub mod TagStepLemmas

@@ -66,7 +66,7 @@ module _ {D : Type 0} {g : disk.Ghosts D} (given old : Held (FileStore D g)) (sa
 -- ---- in memory
 
 empty_is_free : (s : State) → IsEmpty s → LeavesFree s.now.schema desk_names
-empty_is_free s e = rw (e.2) (refl, (refl, (refl, (refl, tt))))
+empty_is_free s e = rw (e.2) (refl, (refl, (refl, (refl, (refl, (refl, (refl, (refl, (refl, tt)))))))))
 
 empty_at_rest : (s : State) → IsSettled s → IsEmpty s → IsAtRest HoldsStage s Free
 empty_at_rest s settled e =

@@ -4,3 +4,4 @@ pub mod Steps
 pub mod Additions
 pub mod Openings
 pub mod Runs
+pub mod Imports

@@ -9,11 +9,17 @@ ghost use Rattle.rollout_machine.specs.Requests.{Do, Ask};
 ghost use Rattle.rollout_machine.specs.Views.{command_of, query_of, reply_of};
 ghost use Rattle.rollout_desk.specs.Steps.{Steps, Handles, EndsByCommit, EndsByRollback};
 
+use crate::artifacts::add_artifact;
 use crate::modules::add_module;
 use crate::sets::add_set;
 use crate::step::{Step, reply_of_fault};
+use crate::tags::{tag_target, untag_target};
+use crate::targets::put_targets;
 use desk_store::{DeskStore, Fault, OpenChange};
-use desk_views::{show_module, show_set};
+use desk_views::{
+    show_artifact, show_artifacts, show_contents, show_module, show_modules, show_set, show_sets,
+    show_target,
+};
 use rollout_machine::command_is_well_formed;
 use rollout_model::{Command, Query, Refusal, Reply};
 use sqlite::Alter;
@@ -30,19 +36,37 @@ fn step<S: Alter>(
 {
     match command {
         Command::AddModule(label) => add_module(alloc, change, label),
+        Command::AddArtifact(upload) => add_artifact(change, upload),
         Command::AddSet(label) => add_set(alloc, change, label),
+        Command::PutTargets(rows) => put_targets(change, rows),
+        Command::Tag(id, tag) => tag_target(change, id, tag),
+        Command::Untag(id, tag) => untag_target(change, id, tag),
     }
 }
 
 /// Answers a query inside a change.
-fn answer<S: Alter>(change: &mut OpenChange<'_, S>, query: &Query) -> Result<Reply, Fault>
+fn answer<S: Alter>(
+    alloc: Global,
+    change: &mut OpenChange<'_, S>,
+    query: &Query,
+) -> Result<Reply, Fault>
     ensures same_reference { change.new.store.ghost_name ≡ change.old.store.ghost_name }
     ensures reads { Reads HoldsRecords (state S.Store change.old.store.now.calls.conn) (state S.Store change.new.store.now.calls.conn) result
         (λ now reply. reply_of reply ≡ query_reply now (query_of query.now)) }
 {
     match query {
+        Query::Modules(page) => show_modules(alloc, change, *page),
         Query::Module(number) => show_module(change, *number),
+        Query::Artifacts(module_number, page) => {
+            show_artifacts(alloc, change, *module_number, *page)
+        }
+        Query::Artifact(module_number, number) => show_artifact(change, *module_number, *number),
+        Query::Contents(module_number, number) => {
+            show_contents(alloc, change, *module_number, *number)
+        }
+        Query::Sets(page) => show_sets(alloc, change, *page),
         Query::Set(number) => show_set(change, *number),
+        Query::Target(id) => show_target(change, *id),
     }
 }
 
@@ -87,14 +111,14 @@ pub(crate) fn run_command<S: Alter>(
 }
 
 /// Answers a query inside a transaction that changes nothing.
-pub(crate) fn run_query<S: Alter>(store: &mut DeskStore<S>, query: &Query) -> Reply
+pub(crate) fn run_query<S: Alter>(alloc: Global, store: &mut DeskStore<S>, query: &Query) -> Reply
     ensures { Handles HoldsRecords (state S.Store store.old.calls.conn) (state S.Store store.new.calls.conn) (Ask (query_of query.now)) (reply_of result) }
 {
     let mut change = match store.begin() {
         Ok(change) => change,
         Err(fault) => return reply_of_fault(fault),
     };
-    match answer(&mut change, query) {
+    match answer(alloc, &mut change, query) {
         Ok(reply) => give_up(change, reply),
         Err(fault) => give_up(change, reply_of_fault(fault)),
     }

@@ -60,7 +60,7 @@ impl<S: Alter> Desk<S> {
         if self.stopped {
             return Reply::Refused(Refusal::Stopped);
         }
-        let reply = run_query(&mut self.store, query);
+        let reply = run_query(self.alloc, &mut self.store, query);
         self.stopped = says_store_failed(&reply);
         reply
     }

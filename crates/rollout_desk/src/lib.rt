@@ -1,6 +1,7 @@
 //! A desk: the records of a rollout server in one database, one transaction a command.
 #![tactic(auto)]
 
+mod artifacts;
 mod change;
 mod desk;
 mod modules;
@@ -8,6 +9,8 @@ mod opening;
 mod run;
 mod sets;
 mod step;
+mod tags;
+mod targets;
 #[cfg(test)]
 mod tests;
 

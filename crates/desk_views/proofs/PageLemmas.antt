@@ -1,0 +1,60 @@
+-- Entries of a list by their numbers, and the part of it that is on a page.
+use Rattle.std.proofs.Common.{◌≡◌, ℕ, zero, suc, ◌+◌, ◌-◌, min, Bool, true, false, List, [], ◌∷◌, ◌++◌, length, take, drop, Some, None, refl, sym, ap, ◌∙◌, arith, add-one, length-drop}
+use Rattle.std.proofs.Math.Seq.{take-nil}
+use Rattle.std.specs.Prelude.{slice_get}
+use Rattle.std.specs.Option.{option_map}
+use Rattle.rollout_machine.specs.ByteStrings.{item_numbered}
+use Rattle.rollout_machine.specs.Objects.{numbered}
+use Rattle.rollout_model.specs.Rules.{is_number, number_of}
+
+pub numbered_length : {X Y : Type 0} (f : ℕ → X → Y) (n : ℕ) (xs : List X) → length (numbered f n xs) ≡ length xs
+numbered_length f n [] = refl
+numbered_length f n (x ∷ xs) = ap suc (numbered_length f (suc n) xs)
+
+-- a number in its range is itself
+pub same_number : (n k : ℕ) → number_of n ≡ Some k → k ≡ n
+same_number n k is = go (is_number n) refl where
+  go : (b : Bool) → is_number n ≡ b → k ≡ n
+  go true good = let same : Some n ≡ Some k = (rw good at is) in sym (cc)
+  go false bad = let none : None ≡ Some k = (rw bad at is) in absurd (cc)
+
+numbered_get : {X Y : Type 0} (f : ℕ → X → Y) (n : ℕ) (xs : List X) (i k : ℕ) → k ≡ n + i → slice_get (numbered f n xs) i ≡ option_map (f k) (slice_get xs i)
+numbered_get f n [] i k is = refl
+numbered_get f n (x ∷ xs) zero k is = let same : n ≡ k = omega (arith, is) in ap (λ m. Some (f m x)) same
+numbered_get f n (x ∷ xs) (suc i) k is = numbered_get f (suc n) xs i k (omega (arith, is))
+
+-- the entry of a number is made of the item of that number
+pub entry_numbered : {X Y : Type 0} (f : ℕ → X → Y) (xs : List X) (k : ℕ) → item_numbered (numbered f 1 xs) k ≡ option_map (f k) (item_numbered xs k)
+entry_numbered f xs zero = refl
+entry_numbered f xs (suc i) = numbered_get f 1 xs i (suc i) (omega arith)
+
+drop_get : {X : Type 0} (n : ℕ) (xs : List X) (i k : ℕ) → k ≡ n + i → slice_get (drop n xs) i ≡ slice_get xs k
+drop_get zero xs i k is = ap (slice_get xs) (omega (arith, is))
+drop_get (suc n) [] i k is = refl
+drop_get (suc n) (x ∷ xs) i zero is = absurd (omega (arith, is))
+drop_get (suc n) (x ∷ xs) i (suc k) is = drop_get n xs i k (omega (arith, is))
+
+-- what is taken grows by the next item
+pub one_more : {X : Type 0} (xs : List X) (i : ℕ) (x : X) → slice_get xs i ≡ Some x → take (suc i) xs ≡ take i xs ++ x ∷ []
+one_more [] i x is = absurd cc
+one_more (y ∷ ys) zero x is = let same : y ≡ x = cc in ap (λ z. z ∷ []) same
+one_more (y ∷ ys) (suc i) x is = ap (λ l. y ∷ l) (one_more ys i x is)
+
+-- the next entry of a page is read
+pub page_grows : {X : Type 0} (xs items more : List X) (offset place number : ℕ) (x : X) → items ≡ take place (drop offset xs) → item_numbered xs number ≡ Some x → number ≡ offset + place + 1 → more ≡ items ++ x ∷ []
+    → more ≡ take (place + 1) (drop offset xs)
+page_grows xs items more offset place zero x is found at one = absurd cc
+page_grows xs items more offset place (suc k) x is found at one =
+    one ∙ ap (λ l. l ++ x ∷ []) is ∙ sym (one_more (drop offset xs) place x (drop_get offset xs place k (omega (arith, at)) ∙ found)) ∙ ap (λ n. take n (drop offset xs)) (sym (add-one place))
+
+take_within : {X : Type 0} (n : ℕ) (xs : List X) (m : ℕ) → m ≡ min n (length xs) → take m xs ≡ take n xs
+take_within n [] zero is = sym (take-nil n)
+take_within n [] (suc m) is = absurd (omega (arith, is))
+take_within zero (x ∷ xs) zero is = refl
+take_within (suc n) (x ∷ xs) zero is = absurd (omega (arith, is))
+take_within zero (x ∷ xs) (suc m) is = absurd (omega (arith, is))
+take_within (suc n) (x ∷ xs) (suc m) is = ap (λ l. x ∷ l) (take_within n xs m (omega (arith, is)))
+
+-- as many entries as are on the page are all of them
+pub page_ends : {X : Type 0} (xs items : List X) (offset limit total place : ℕ) → place ≡ min limit (total - offset) → items ≡ take place (drop offset xs) → total ≡ length xs → items ≡ take limit (drop offset xs)
+page_ends xs items offset limit total place end is count = is ∙ take_within limit (drop offset xs) place (omega (arith, end, count, length-drop offset xs))

@@ -1,0 +1,78 @@
+-- From typed reads of targets to what is shown.
+use Rattle.std.proofs.Common.{◌≡◌, ◌∷◌, Bool, true, false, cond, ◌&&◌, List, [], filter, find, Option, Some, None, is_none, refl, sym, ap, ◌∙◌}
+use Rattle.std.specs.List.{list_any}
+use Rattle.std.specs.Option.{option_map}
+use Rattle.desk_records.specs.declared.target_row.StoredTarget.{StoredTarget}
+use Rattle.desk_records.specs.Holds.{HasNoRollouts}
+use Rattle.desk_records.specs.TargetRow.{stored_target}
+use Rattle.desk_records.specs.Targets.{attributes_of}
+use Rattle.desk_records.proofs.Targets.{has_id}
+use Rattle.rollout_machine.specs.Answers.{if_found, query_reply}
+use Rattle.rollout_machine.specs.ByteStrings.{same_bytes}
+use Rattle.rollout_machine.specs.Commands.{Attribute, Bytes}
+use Rattle.rollout_machine.specs.Objects.{target_shown}
+use Rattle.rollout_machine.specs.Records.{ActionRecord, Records}
+use Rattle.rollout_machine.specs.Replies.{TargetShown}
+use Rattle.rollout_machine.specs.Requests.{ShowTarget}
+use Rattle.rollout_machine.specs.StateWords.{has_started, is_for, target_word, word_by_last, Pending, TargetWord, Unknown}
+use Rattle.rollout_machine.specs.Targets.{Target}
+use Rattle.rollout_machine.specs.Verdicts.{tags_of, target_of}
+use Rattle.rollout_machine.specs.Views.{reply_of, shown_target}
+use Rattle.rollout_machine.proofs.TargetTies.{same_true}
+use Rattle.rollout_model.specs.declared.refusal.Refusal.TheVariants.{NotFound}
+use Rattle.rollout_model.specs.declared.request.Reply.{Reply}
+use Rattle.rollout_model.specs.declared.request.Reply.TheVariants as reply
+use Rattle.rollout_model.specs.declared.shown_target.ShownTarget.{ShownTarget}
+
+-- no action was assigned
+bare_word : (r : Records) (t : Bytes) → HasNoRollouts r → target_word r t ≡ Unknown
+bare_word r t bare = ap (λ (actions : List ActionRecord). word_by (filter (λ a. is_for r t a && has_started r a) actions)) bare.actions
+  where
+    word_by : List ActionRecord → TargetWord
+    word_by actions = cond (list_any (λ (a : ActionRecord). is_none a.outcome) actions) Pending (word_by_last Unknown actions)
+
+-- what is found by an id has it
+id_found : (id : Bytes) (t : Target) (ts : List Target) → find (has_id id) ts ≡ Some t → t.id ≡ id
+id_found id t [] found = absurd cc
+id_found id t (x ∷ ts) found = go (same_bytes x.id id) refl found (id_found id t ts)
+  where
+    go : (b : Bool) → same_bytes x.id id ≡ b → cond b (Some x) (find (has_id id) ts) ≡ Some t → (find (has_id id) ts ≡ Some t → t.id ≡ id) → t.id ≡ id
+    go true same is rest = let here : x ≡ t = cc in ap (λ (y : Target). y.id) (sym here) ∙ same_true x.id id same
+    go false other is rest = rest is
+
+module _ (r : Records) (id : Bytes) where
+  pub no_target : (wanted : Option Target) → None ≡ option_map stored_target wanted → None ≡ option_map (target_shown r) wanted
+  no_target None is = refl
+  no_target (Some t) is = absurd cc
+
+  -- what was read of the target, its tags and its attributes
+  module _ (stored : StoredTarget) (tags : List Bytes) (attributes : List Attribute) (bare : HasNoRollouts r) where
+    abbrev unassigned : ShownTarget
+    unassigned = record { id = id; name = stored.name; tags = tags; attributes = attributes; word = Unknown }
+
+    pub one_target : Some stored ≡ option_map stored_target (target_of r id) → tags ≡ tags_of (target_of r id) → attributes ≡ attributes_of (target_of r id)
+        → Some (shown_target unassigned) ≡ option_map (target_shown r) (target_of r id)
+    one_target = go (target_of r id) refl
+      where
+        go : (wanted : Option Target) → target_of r id ≡ wanted → Some stored ≡ option_map stored_target wanted → tags ≡ tags_of wanted → attributes ≡ attributes_of wanted → Some (shown_target unassigned) ≡ option_map (target_shown r) wanted
+        go None found is tagged attributed = absurd cc
+        go (Some t) found is tagged attributed =
+            let same : stored ≡ stored_target t = cc in
+            let here = sym (id_found id t r.targets found) in
+            let named = ap (λ (s : StoredTarget). s.name) same in
+            let word = sym (bare_word r t.id bare) in
+            λ i. Some (record { id = here i; name = named i; tags = tagged i; attributes = attributed i; word = word i })
+
+  -- the reply to a query for it
+  abbrev reply_for : Option ShownTarget → Reply
+  reply_for None = reply.Refused NotFound
+  reply_for (Some shown) = reply.Target shown
+
+  pub replied : (found : Option ShownTarget) → option_map shown_target found ≡ option_map (target_shown r) (target_of r id) → reply_of (reply_for found) ≡ query_reply r (ShowTarget id)
+  replied found is = go found (target_of r id) is
+    where
+      go : (found : Option ShownTarget) (wanted : Option Target) → option_map shown_target found ≡ option_map (target_shown r) wanted → reply_of (reply_for found) ≡ if_found (λ (x : Target). TargetShown (target_shown r x)) wanted
+      go None None is = refl
+      go None (Some t) is = absurd cc
+      go (Some shown) None is = absurd cc
+      go (Some shown) (Some t) is = let same : shown_target shown ≡ target_shown r t = cc in ap TargetShown same

@@ -1,0 +1,167 @@
+//! Artifacts and their contents.
+
+ghost use Rattle.std.specs.Prelude.{◌≡◌, ◌++◌, length, take, drop, IfOk};
+ghost use Rattle.std.specs.Option.{option_map};
+ghost use Rattle.sqlite.specs.Held.{state};
+ghost use Rattle.sql_calls.specs.Standing.{Reads};
+ghost use Rattle.desk_records.specs.ArtifactRow.{stored};
+ghost use Rattle.desk_records.specs.Holds.{HoldsRecords};
+ghost use Rattle.rollout_machine.specs.Answers.{artifact_of_module, query_reply};
+ghost use Rattle.rollout_machine.specs.ByteStrings.{item_numbered};
+ghost use Rattle.rollout_machine.specs.Requests.{ShowArtifacts, ShowArtifact, ShowContents};
+ghost use Rattle.rollout_machine.specs.Views.{reply_of};
+ghost use Rattle.desk_views.specs.Contents.{contents_found};
+
+use desk_store::{Fault, OpenChange, StoredArtifact};
+use rollout_model::{Artifact, ArtifactNo, Contents, ModuleNo, Page, PageOf, Refusal, Reply};
+use sqlite::Alter;
+use std::alloc::Global;
+
+/// How many pieces the contents of an artifact have at most.
+const PIECE_LIMIT: u32 = 16;
+
+/// Shows a page of the artifacts of a module, in the order of their numbers.
+pub fn show_artifacts<S: Alter>(
+    alloc: Global,
+    change: &mut OpenChange<'_, S>,
+    module_number: ModuleNo,
+    page: Page,
+) -> Result<Reply, Fault>
+    ensures same_reference { change.new.store.ghost_name ≡ change.old.store.ghost_name }
+    ensures reads { Reads HoldsRecords (state S.Store change.old.store.now.calls.conn) (state S.Store change.new.store.now.calls.conn) result
+        (λ now reply. reply_of reply ≡ query_reply now (ShowArtifacts module_number page)) }
+{
+    if change.read_module(module_number)?.is_none() {
+        return Ok(Reply::Refused(Refusal::NotFound));
+    }
+    let artifacts = change.read_module_artifacts(module_number)?;
+    let shown = part_of(alloc, &artifacts, page)?;
+    Ok(Reply::Artifacts(shown))
+}
+
+/// Shows an artifact of a module by its number.
+pub fn show_artifact<S: Alter>(
+    change: &mut OpenChange<'_, S>,
+    module_number: ModuleNo,
+    number: ArtifactNo,
+) -> Result<Reply, Fault>
+    ensures same_reference { change.new.store.ghost_name ≡ change.old.store.ghost_name }
+    ensures reads { Reads HoldsRecords (state S.Store change.old.store.now.calls.conn) (state S.Store change.new.store.now.calls.conn) result
+        (λ now reply. reply_of reply ≡ query_reply now (ShowArtifact module_number number)) }
+{
+    match read_of_module(change, module_number, number)? {
+        Some(found) => Ok(Reply::Artifact(shown_as(number, found))),
+        None => Ok(Reply::Refused(Refusal::NotFound)),
+    }
+}
+
+/// Shows the contents of an artifact of a module. Where the pieces aren't as many bytes as the artifact has, or more than
+/// contents have, the store has failed.
+pub fn show_contents<S: Alter>(
+    alloc: Global,
+    change: &mut OpenChange<'_, S>,
+    module_number: ModuleNo,
+    number: ArtifactNo,
+) -> Result<Reply, Fault>
+    ensures same_reference { change.new.store.ghost_name ≡ change.old.store.ghost_name }
+    ensures reads { Reads HoldsRecords (state S.Store change.old.store.now.calls.conn) (state S.Store change.new.store.now.calls.conn) result
+        (λ now reply. reply_of reply ≡ query_reply now (ShowContents module_number number)) }
+{
+    let found = match read_of_module(change, module_number, number)? {
+        Some(found) => found,
+        None => return Ok(Reply::Refused(Refusal::NotFound)),
+    };
+    let bytes = read_pieces(alloc, change, number)?;
+    let contents = whole_contents(bytes, found.size)?;
+    Ok(Reply::Contents(contents))
+}
+
+/// The entries of a list that are on a page.
+fn part_of(alloc: Global, all: &[Artifact], page: Page) -> Result<PageOf<Artifact>, Fault>
+    ensures content { IfOk result (λ part. part.content.items ≡ take page.limit (drop page.offset all.now)) }
+    ensures total { IfOk result (λ part. part.total ≡ length all.now) }
+{
+    let Ok(total) = u32::try_from(all.len()) else {
+        return Err(Fault::Store);
+    };
+    let after = &all[all.len().min(page.offset as usize)..];
+    let part = &after[..after.len().min(page.limit as usize)];
+    match Vec::from_slice(alloc, part) {
+        Ok(content) => Ok(PageOf { content, total }),
+        Err(_) => Err(Fault::Memory),
+    }
+}
+
+/// What is kept of the artifact of a number, where it is one of the module's.
+fn read_of_module<S: Alter>(
+    change: &mut OpenChange<'_, S>,
+    module_number: ModuleNo,
+    number: ArtifactNo,
+) -> Result<Option<StoredArtifact>, Fault>
+    ensures same_reference { change.new.store.ghost_name ≡ change.old.store.ghost_name }
+    ensures reads { Reads HoldsRecords (state S.Store change.old.store.now.calls.conn) (state S.Store change.new.store.now.calls.conn) result
+        (λ now found. found ≡ option_map stored (artifact_of_module now module_number number)) }
+{
+    let found = match change.read_artifact(number)? {
+        Some(found) => found,
+        None => return Ok(None),
+    };
+    if found.module_number != module_number {
+        return Ok(None);
+    }
+    Ok(Some(found))
+}
+
+fn shown_as(number: ArtifactNo, found: StoredArtifact) -> Artifact
+    ensures { result ≡ record { number = number; filename = found.filename; size = found.size; digest = found.digest } }
+{
+    Artifact {
+        number,
+        filename: found.filename,
+        size: found.size,
+        digest: found.digest,
+    }
+}
+
+/// The pieces of an artifact's contents, one after the other. It reads on until there is none, since the artifact's size
+/// alone doesn't say which is the last one.
+fn read_pieces<S: Alter>(
+    alloc: Global,
+    change: &mut OpenChange<'_, S>,
+    number: ArtifactNo,
+) -> Result<Vec<u8>, Fault>
+    ensures same_reference { change.new.store.ghost_name ≡ change.old.store.ghost_name }
+    ensures reads { Reads HoldsRecords (state S.Store change.old.store.now.calls.conn) (state S.Store change.new.store.now.calls.conn) result
+        (λ now bytes. bytes.items ≡ contents_found (item_numbered now.artifacts number)) }
+{
+    let mut bytes = Vec::new(alloc);
+    for place in 0..=PIECE_LIMIT {
+        match change.read_piece(number, place + 1)? {
+            Some(piece) => append(&mut bytes, &piece)?,
+            None => return Ok(bytes),
+        }
+    }
+    Err(Fault::Store)
+}
+
+fn append(bytes: &mut Vec<u8>, piece: &[u8]) -> Result<(), Fault>
+    ensures { IfOk result (λ _. bytes.new.items ≡ bytes.old.items ++ piece.now) }
+{
+    match bytes.extend_from_slice(piece) {
+        Ok(()) => Ok(()),
+        Err(_) => Err(Fault::Memory),
+    }
+}
+
+/// The contents of these bytes, where there are as many as the artifact says.
+fn whole_contents(bytes: Vec<u8>, size: u32) -> Result<Contents, Fault>
+    ensures { IfOk result (λ contents. contents ≡ bytes.items) }
+{
+    if bytes.len() != size as usize {
+        return Err(Fault::Store);
+    }
+    match Contents::from_bytes(bytes) {
+        Some(contents) => Ok(contents),
+        None => Err(Fault::Store),
+    }
+}

@@ -1,0 +1,82 @@
+//! Targets.
+
+ghost use Rattle.std.specs.Prelude.{◌≡◌, IfOk};
+ghost use Rattle.std.specs.Option.{option_map};
+ghost use Rattle.sqlite.specs.Held.{state};
+ghost use Rattle.sql_calls.specs.Standing.{Reads};
+ghost use Rattle.desk_records.specs.Holds.{HoldsRecords};
+ghost use Rattle.rollout_machine.specs.Answers.{query_reply};
+ghost use Rattle.rollout_machine.specs.Objects.{target_shown};
+ghost use Rattle.rollout_machine.specs.Requests.{ShowTarget};
+ghost use Rattle.rollout_machine.specs.StateWords.{Unknown};
+ghost use Rattle.rollout_machine.specs.Verdicts.{target_of};
+ghost use Rattle.rollout_machine.specs.Views.{reply_of, shown_target};
+
+use desk_store::{Fault, OpenChange, StoredTarget};
+use rollout_model::{
+    Attributes, ControllerId, Refusal, Reply, ShownTarget, Tags, TargetWord, Word,
+};
+use sqlite::Alter;
+
+/// Shows the target of an id, with its tags and its attributes.
+pub fn show_target<S: Alter>(
+    change: &mut OpenChange<'_, S>,
+    id: ControllerId,
+) -> Result<Reply, Fault>
+    ensures same_reference { change.new.store.ghost_name ≡ change.old.store.ghost_name }
+    ensures reads { Reads HoldsRecords (state S.Store change.old.store.now.calls.conn) (state S.Store change.new.store.now.calls.conn) result
+        (λ now reply. reply_of reply ≡ query_reply now (ShowTarget id)) }
+{
+    match read_shown(change, id)? {
+        Some(shown) => Ok(Reply::Target(shown)),
+        None => Ok(Reply::Refused(Refusal::NotFound)),
+    }
+}
+
+/// The target of an id as it is shown.
+fn read_shown<S: Alter>(
+    change: &mut OpenChange<'_, S>,
+    id: ControllerId,
+) -> Result<Option<ShownTarget>, Fault>
+    ensures same_reference { change.new.store.ghost_name ≡ change.old.store.ghost_name }
+    ensures reads { Reads HoldsRecords (state S.Store change.old.store.now.calls.conn) (state S.Store change.new.store.now.calls.conn) result
+        (λ now found. option_map shown_target found ≡ option_map (target_shown now) (target_of now id)) }
+{
+    let stored = match change.read_target(&id)? {
+        Some(stored) => stored,
+        None => return Ok(None),
+    };
+    let words = change.read_target_tags(&id)?;
+    let attributes = change.read_target_attributes(&id)?;
+    let tags = tag_list(words)?;
+    Ok(Some(unassigned(id, stored, tags, attributes)))
+}
+
+/// The tags of a target. Where they are more than 16, or one stands twice, the store has failed, since no target was given such tags.
+fn tag_list(words: Vec<Word>) -> Result<Tags, Fault>
+    ensures { IfOk result (λ tags. tags ≡ words.items) }
+{
+    match Tags::from_words(words) {
+        Some(tags) => Ok(tags),
+        None => Err(Fault::Store),
+    }
+}
+
+/// The target as it is shown before any rollout has assigned it an action.
+fn unassigned(
+    id: ControllerId,
+    stored: StoredTarget,
+    tags: Tags,
+    attributes: Attributes,
+) -> ShownTarget
+    ensures { result ≡ record { id = id; name = stored.name; tags = tags; attributes = attributes; word = Unknown } }
+{
+    let StoredTarget { name, digest: _ } = stored;
+    ShownTarget {
+        id,
+        name,
+        tags,
+        attributes,
+        word: TargetWord::Unknown,
+    }
+}

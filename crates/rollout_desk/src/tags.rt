@@ -1,0 +1,67 @@
+//! Tags: giving a target one, and taking it.
+
+ghost use Rattle.std.specs.Prelude.{◌≡◌, is_none};
+ghost use Rattle.std.specs.Option.{option_map};
+ghost use Rattle.sqlite.specs.Held.{state};
+ghost use Rattle.sql_calls.specs.Standing.{Reads};
+ghost use Rattle.desk_records.specs.Holds.{HoldsRecords};
+ghost use Rattle.rollout_machine.specs.Commands.{Tag, Untag};
+ghost use Rattle.rollout_machine.specs.Verdicts.{target_of};
+ghost use Rattle.rollout_desk.specs.Steps.{Steps};
+
+use crate::step::Step;
+use desk_store::{Fault, OpenChange};
+use rollout_model::{ControllerId, Refusal, Reply, Word};
+use sqlite::Alter;
+
+/// How many tags a target takes.
+const TAG_LIMIT: usize = 16;
+
+/// Whether the target of an id isn't there.
+fn lacks_target<S: Alter>(change: &mut OpenChange<'_, S>, id: &ControllerId) -> Result<bool, Fault>
+    ensures same_reference { change.new.store.ghost_name ≡ change.old.store.ghost_name }
+    ensures reads { Reads HoldsRecords (state S.Store change.old.store.now.calls.conn) (state S.Store change.new.store.now.calls.conn) result
+        (λ r lacks. lacks ≡ is_none (target_of r id.now)) }
+{
+    let found = change.read_target(id)?;
+    Ok(found.is_none())
+}
+
+/// Gives a target a tag. One that it has stays.
+pub(crate) fn tag_target<S: Alter>(
+    change: &mut OpenChange<'_, S>,
+    id: &ControllerId,
+    tag: &Word,
+) -> Result<Step, Fault>
+    ensures same_reference { change.new.store.ghost_name ≡ change.old.store.ghost_name }
+    ensures steps { Steps HoldsRecords (state S.Store change.old.store.now.calls.conn) (state S.Store change.new.store.now.calls.conn) (Tag id.now tag.now) result }
+{
+    if lacks_target(change, id)? {
+        return Ok(Step::Refused(Refusal::NotFound));
+    }
+    let had = change.read_target_tags(id)?;
+    if had.contains(tag) {
+        return Ok(Step::Accepted(Reply::Done));
+    }
+    if had.len() >= TAG_LIMIT {
+        return Ok(Step::Refused(Refusal::Quota));
+    }
+    change.write_target_tag(id, tag)?;
+    Ok(Step::Accepted(Reply::Done))
+}
+
+/// Takes a tag from a target. One that it hasn't is taken already.
+pub(crate) fn untag_target<S: Alter>(
+    change: &mut OpenChange<'_, S>,
+    id: &ControllerId,
+    tag: &Word,
+) -> Result<Step, Fault>
+    ensures same_reference { change.new.store.ghost_name ≡ change.old.store.ghost_name }
+    ensures steps { Steps HoldsRecords (state S.Store change.old.store.now.calls.conn) (state S.Store change.new.store.now.calls.conn) (Untag id.now tag.now) result }
+{
+    if lacks_target(change, id)? {
+        return Ok(Step::Refused(Refusal::NotFound));
+    }
+    change.drop_target_tag(id, tag)?;
+    Ok(Step::Accepted(Reply::Done))
+}
