@@ -1,5 +1,6 @@
 //! Tests. The bytes of requests and replies stand in `messages`.
 
+mod artifacts;
 mod carried;
 mod exchange;
 mod faults;
@@ -12,4 +13,5 @@ mod rows;
 mod sets;
 mod shelf;
 mod streams;
+mod targets;
 mod wire;

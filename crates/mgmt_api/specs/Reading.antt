@@ -1,24 +1,27 @@
 -- What a message of the management interface asks.
-use Rattle.std.specs.Prelude.{◌≡◌, ◌⊎◌, ℕ, Bool, true, false, [], if◌then◌else◌, Option, Some, None, Result, MatchResult, option_and_then, slice_get}
+use Rattle.std.specs.Prelude.{◌≡◌, ◌⊎◌, ℕ, Bool, true, false, List, [], if◌then◌else◌, Option, Some, None, Result, MatchResult, option_and_then, slice_get}
 use Rattle.std.specs.Option.{is_some}
 use Rattle.http_wire.specs.Messages.{WireMessage}
 use Rattle.http_wire.specs.Targets.{path_of, query_of}
 use Rattle.rollout_model.specs.declared.refusal.Refusal.{Refusal}
 use Rattle.rollout_model.specs.declared.refusal.Refusal.TheVariants.{BadRequest, NotFound, BadMethod, NoMemory}
 use Rattle.rollout_model.specs.declared.request.Request.{Request as RustRequest}
-use Rattle.rollout_model.specs.Rules.{number_of as item_number_of}
-use Rattle.rollout_machine.specs.Commands.{Command, AddModule, AddSet}
-use Rattle.rollout_machine.specs.Requests.{Do, Ask, Query, ShowModule, ShowSet, Asked, Rejected, Asks}
+use Rattle.rollout_model.specs.Rules.{number_of as item_number_of, word_of}
+use Rattle.rollout_machine.specs.Commands.{Command, AddModule, AddArtifact, AddSet, PutTargets, Tag, Untag}
+use Rattle.rollout_machine.specs.Requests.{Do, Ask, Query, Page, ShowModules, ShowModule, ShowArtifacts, ShowArtifact, ShowContents, ShowSets, ShowSet, ShowTarget, Asked, Rejected, Asks}
 use Rattle.rollout_machine.specs.Views.{request_of}
 use Rattle.request_target.specs.Numbers.{number_of}
 use Rattle.request_target.specs.Queries.{query_pairs_of}
 use Rattle.request_target.specs.Routes.{segments}
 use Rattle.mgmt_objects.specs.ModuleBodies.{module_body}
 use Rattle.mgmt_objects.specs.SetBodies.{set_body}
+use Rattle.mgmt_objects.specs.TargetBodies.{targets_body}
 use Rattle.mgmt_api.specs.Table.{manage_route}
 use Rattle.mgmt_api.specs.Calls.{call_of}
+use Rattle.mgmt_api.specs.PageQueries.{page_asked}
+use Rattle.mgmt_api.specs.UploadQueries.{upload_asked}
 use Rattle.mgmt_api.specs.declared.call.ManageCall.{ManageCall}
-use Rattle.mgmt_api.specs.declared.call.ManageCall.TheVariants.{AddModule as AddModuleCall, ShowModule as ShowModuleCall, AddSet as AddSetCall, ShowSet as ShowSetCall}
+use Rattle.mgmt_api.specs.declared.call.ManageCall.TheVariants.{ShowModules as ShowModulesCall, AddModule as AddModuleCall, ShowModule as ShowModuleCall, ShowArtifacts as ShowArtifactsCall, AddArtifact as AddArtifactCall, ShowArtifact as ShowArtifactCall, ShowContents as ShowContentsCall, ShowSets as ShowSetsCall, AddSet as AddSetCall, ShowSet as ShowSetCall, PutTargets as PutTargetsCall, ShowTarget as ShowTargetCall, Tag as TagCall, Untag as UntagCall}
 
 -- a part of a message that can't be read rejects it
 abbrev pub or_rejected : {A : Type 0} → Refusal → (A → Asked) → Option A → Asked
@@ -45,15 +48,53 @@ path_number m place = option_and_then number_of (slice_get (segments (path_of m.
 abbrev pub item_in : WireMessage → ℕ → Option ℕ
 item_in m place = option_and_then item_number_of (path_number m place)
 
--- the item of a number in the path, where what is no such number is not found, and no query
+-- what is asked of the item whose number stands at this place of the path; what is no such number is not found
+abbrev pub of_item : ℕ → (ℕ → Asked) → WireMessage → Asked
+of_item place asked m = or_rejected NotFound asked (item_in m place)
+
+-- an item, and no query
 abbrev pub shown_by : (ℕ → Query) → WireMessage → Asked
-shown_by query m = or_rejected NotFound (λ number. without_query m (Asks (Ask (query number)))) (item_in m 4)
+shown_by query m = of_item 4 (λ number. without_query m (Asks (Ask (query number)))) m
+
+-- an artifact of a module, and no query
+abbrev pub of_artifact : (ℕ → ℕ → Query) → WireMessage → Asked
+of_artifact query m = of_item 4 (λ number. of_item 6 (λ artifact. without_query m (Asks (Ask (query number artifact)))) m) m
+
+-- the word that the segment at this place of the path is
+abbrev pub word_in : WireMessage → ℕ → Option (List ℕ)
+word_in m place = option_and_then word_of (slice_get (segments (path_of m.target)) place)
+
+-- what is asked of the target or tag that stands at this place of the path; what is no word is not found
+abbrev pub of_word : ℕ → (List ℕ → Asked) → WireMessage → Asked
+of_word place asked m = or_rejected NotFound asked (word_in m place)
+
+-- a tag of a target, and no query
+abbrev pub of_tag : (List ℕ → List ℕ → Command) → WireMessage → Asked
+of_tag command m = of_word 4 (λ id. of_word 6 (λ tag. without_query m (Asks (Do (command id tag)))) m) m
+
+-- a page of a list
+abbrev pub listed_by : (Page → Query) → WireMessage → Asked
+listed_by query m = or_rejected BadRequest (λ page. Asks (Ask (query page))) (page_asked (query_of m.target))
+
+-- an artifact for a module
+abbrev pub uploaded_to : ℕ → WireMessage → Asked
+uploaded_to number m = or_rejected BadRequest (λ upload. Asks (Do (AddArtifact upload))) (upload_asked number (query_of m.target) m.body)
 
 abbrev pub asked_by : ManageCall → WireMessage → Asked
+asked_by ShowModulesCall m = listed_by ShowModules m
 asked_by AddModuleCall m = added_by (module_body m.body) AddModule m
 asked_by ShowModuleCall m = shown_by ShowModule m
+asked_by ShowArtifactsCall m = of_item 4 (λ number. listed_by (ShowArtifacts number) m) m
+asked_by AddArtifactCall m = of_item 4 (λ number. uploaded_to number m) m
+asked_by ShowArtifactCall m = of_artifact ShowArtifact m
+asked_by ShowContentsCall m = of_artifact ShowContents m
+asked_by ShowSetsCall m = listed_by ShowSets m
 asked_by AddSetCall m = added_by (set_body m.body) AddSet m
 asked_by ShowSetCall m = shown_by ShowSet m
+asked_by PutTargetsCall m = added_by (targets_body m.body) PutTargets m
+asked_by ShowTargetCall m = of_word 4 (λ id. without_query m (Asks (Ask (ShowTarget id)))) m
+asked_by TagCall m = of_tag Tag m
+asked_by UntagCall m = of_tag Untag m
 
 -- the first refusal that applies: the route, the method, and then the call's own
 abbrev pub manage_reading : WireMessage → Asked

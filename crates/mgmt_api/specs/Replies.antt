@@ -1,14 +1,17 @@
 -- The text of each reply.
 use Rattle.std.specs.Prelude.{◌≡◌, ℕ, Bool, false, List, [], map, codes}
+use Rattle.serde_json.specs.Data.{Data}
 use Rattle.serde_json.specs.Written.{compact_text}
 use Rattle.http_wire.specs.Replies.{reply_text as wire_text, refusal_body}
 use Rattle.http_wire.specs.declared.reply.ContentType.{ContentType}
-use Rattle.http_wire.specs.declared.reply.ContentType.TheVariants.{Json}
+use Rattle.http_wire.specs.declared.reply.ContentType.TheVariants.{Json, Octets}
 use Rattle.http_wire.specs.declared.reply.Answer.{Answer}
 use Rattle.rollout_model.specs.Refusals.{refusal_row}
-use Rattle.rollout_machine.specs.Replies.{Reply, Refused, Done, ModuleAdded, ModulesShown, ModuleShown, SetAdded, SetsShown, SetShown}
+use Rattle.rollout_machine.specs.Replies.{Reply, PageOf, Refused, Done, ModuleAdded, ModulesShown, ModuleShown, ArtifactAdded, ArtifactsShown, ArtifactShown, ContentsShown, SetAdded, SetsShown, SetShown, ShownTarget, TargetsPut, TargetsShown, TargetShown}
+use Rattle.mgmt_objects.specs.ArtifactObjects.{artifact_data}
 use Rattle.mgmt_objects.specs.ModuleObjects.{module_data}
 use Rattle.mgmt_objects.specs.SetObjects.{set_data}
+use Rattle.mgmt_objects.specs.TargetObjects.{accepted_data, target_object}
 use Rattle.mgmt_objects.specs.Pages.{single, page_data}
 
 pub record ReplyParts : Type 0 where
@@ -21,16 +24,34 @@ pub record ReplyParts : Type 0 where
 abbrev pub json_reply : ℕ → List ℕ → ReplyParts
 json_reply status body = record { status = status; content_type = Json; ends = false; body = body }
 
+-- a page of what is shown so
+abbrev pub page_reply : {X : Type 0} → (X → Data) → PageOf X → ReplyParts
+page_reply shows page = json_reply 200 (compact_text (page_data (map shows page.content) page.total))
+
+-- the bytes of contents as they are
+abbrev pub octets_reply : List ℕ → ReplyParts
+octets_reply contents = record { status = 200; content_type = Octets; ends = false; body = contents }
+
+abbrev pub shown_target_data : ShownTarget → Data
+shown_target_data t = target_object t.id t.name t.tags t.attributes t.word
+
 -- a refusal by its row of the table, 201 where something was added, 200 otherwise; the kinds that no request of this
 -- interface is answered by yet have no body
 abbrev pub parts_of : Reply → ReplyParts
 parts_of (Refused refusal) = record { status = (refusal_row refusal).status; content_type = Json; ends = (refusal_row refusal).ends; body = refusal_body refusal }
 parts_of (ModuleAdded m) = json_reply 201 (compact_text (single (module_data m)))
 parts_of (ModuleShown m) = json_reply 200 (compact_text (module_data m))
-parts_of (ModulesShown page) = json_reply 200 (compact_text (page_data (map module_data page.content) page.total))
+parts_of (ModulesShown page) = page_reply module_data page
+parts_of (ArtifactAdded a) = json_reply 201 (compact_text (artifact_data a))
+parts_of (ArtifactShown a) = json_reply 200 (compact_text (artifact_data a))
+parts_of (ArtifactsShown page) = page_reply artifact_data page
+parts_of (ContentsShown contents) = octets_reply contents
 parts_of (SetAdded s) = json_reply 201 (compact_text (single (set_data s)))
 parts_of (SetShown s) = json_reply 200 (compact_text (set_data s))
-parts_of (SetsShown page) = json_reply 200 (compact_text (page_data (map set_data page.content) page.total))
+parts_of (SetsShown page) = page_reply set_data page
+parts_of (TargetsPut accepted) = json_reply 201 (compact_text (accepted_data accepted))
+parts_of (TargetShown t) = json_reply 200 (compact_text (shown_target_data t))
+parts_of (TargetsShown page) = page_reply shown_target_data page
 parts_of Done = json_reply 200 (codes "{}")
 parts_of _ = json_reply 200 []
 

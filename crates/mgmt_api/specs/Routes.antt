@@ -4,15 +4,21 @@ use Rattle.matchit.specs.Rows.{RowsOf}
 use Rattle.matchit.specs.Router.{RouteOf}
 use Rattle.request_target.specs.Rows.{rows_with}
 use Rattle.mgmt_api.specs.declared.routes.ManageRoute.{ManageRoute}
-use Rattle.mgmt_api.specs.declared.routes.ManageRoute.TheVariants.{Modules, Module, Sets, Set}
+use Rattle.mgmt_api.specs.declared.routes.ManageRoute.TheVariants.{Modules, Module, Artifacts, Artifact, Contents, Sets, Set, Targets, Target, TargetTag}
 
 -- a segment in braces is a parameter
 abbrev pub manage_table : List (List ℕ × ManageRoute)
 manage_table =
     (codes "/rest/v1/softwaremodules", Modules)
     ∷ (codes "/rest/v1/softwaremodules/{module}", Module)
+    ∷ (codes "/rest/v1/softwaremodules/{module}/artifacts", Artifacts)
+    ∷ (codes "/rest/v1/softwaremodules/{module}/artifacts/{artifact}", Artifact)
+    ∷ (codes "/rest/v1/softwaremodules/{module}/artifacts/{artifact}/download", Contents)
     ∷ (codes "/rest/v1/distributionsets", Sets)
-    ∷ (codes "/rest/v1/distributionsets/{set}", Set) ∷ []
+    ∷ (codes "/rest/v1/distributionsets/{set}", Set)
+    ∷ (codes "/rest/v1/targets", Targets)
+    ∷ (codes "/rest/v1/targets/{target}", Target)
+    ∷ (codes "/rest/v1/targets/{target}/tags/{tag}", TargetTag) ∷ []
 
 -- the router's rows
 abbrev pub manage_rows : RowsOf (RouteOf ManageRoute)

@@ -1,21 +1,41 @@
 //! The calls: what a route is asked by a method.
 
 ghost use Rattle.std.specs.Prelude.{◌≡◌};
-ghost use Rattle.mgmt_api.specs.Calls.{call_of, only_by};
+ghost use Rattle.mgmt_api.specs.Calls.{call_of, of_list, of_tag, only_by};
 
 use crate::routes::ManageRoute;
 
 /// A call of the management interface.
 #[derive(Clone, Copy, Debug, PartialEq, Eq)]
 pub enum ManageCall {
+    /// `GET /rest/v1/softwaremodules`
+    ShowModules,
     /// `POST /rest/v1/softwaremodules`
     AddModule,
     /// `GET /rest/v1/softwaremodules/{module}`
     ShowModule,
+    /// `GET /rest/v1/softwaremodules/{module}/artifacts`
+    ShowArtifacts,
+    /// `POST /rest/v1/softwaremodules/{module}/artifacts`
+    AddArtifact,
+    /// `GET /rest/v1/softwaremodules/{module}/artifacts/{artifact}`
+    ShowArtifact,
+    /// `GET /rest/v1/softwaremodules/{module}/artifacts/{artifact}/download`
+    ShowContents,
+    /// `GET /rest/v1/distributionsets`
+    ShowSets,
     /// `POST /rest/v1/distributionsets`
     AddSet,
     /// `GET /rest/v1/distributionsets/{set}`
     ShowSet,
+    /// `POST /rest/v1/targets`
+    PutTargets,
+    /// `GET /rest/v1/targets/{target}`
+    ShowTarget,
+    /// `POST /rest/v1/targets/{target}/tags/{tag}`
+    Tag,
+    /// `DELETE /rest/v1/targets/{target}/tags/{tag}`
+    Untag,
 }
 
 /// The call of a route that has one method.
@@ -29,14 +49,44 @@ fn only_by(its_method: &[u8], call: ManageCall, method: &[u8]) -> Option<ManageC
     }
 }
 
+/// The call of a list's route, which shows the list or adds to it.
+fn of_list(shown: ManageCall, added: ManageCall, method: &[u8]) -> Option<ManageCall>
+    ensures { result ≡ of_list shown added method.now }
+{
+    if method == b"GET".as_slice() {
+        Some(shown)
+    } else {
+        only_by(b"POST", added, method)
+    }
+}
+
+/// The call of a tag's route, which gives the tag or takes it.
+fn of_tag(method: &[u8]) -> Option<ManageCall>
+    ensures { result ≡ of_tag method.now }
+{
+    if method == b"POST".as_slice() {
+        Some(ManageCall::Tag)
+    } else {
+        only_by(b"DELETE", ManageCall::Untag, method)
+    }
+}
+
 /// The call of a route by a method, if the route has the method.
 pub fn call_of(route: ManageRoute, method: &[u8]) -> Option<ManageCall>
     ensures { result ≡ call_of route method.now }
 {
     match route {
-        ManageRoute::Modules => only_by(b"POST", ManageCall::AddModule, method),
+        ManageRoute::Modules => of_list(ManageCall::ShowModules, ManageCall::AddModule, method),
         ManageRoute::Module => only_by(b"GET", ManageCall::ShowModule, method),
-        ManageRoute::Sets => only_by(b"POST", ManageCall::AddSet, method),
+        ManageRoute::Artifacts => {
+            of_list(ManageCall::ShowArtifacts, ManageCall::AddArtifact, method)
+        }
+        ManageRoute::Artifact => only_by(b"GET", ManageCall::ShowArtifact, method),
+        ManageRoute::Contents => only_by(b"GET", ManageCall::ShowContents, method),
+        ManageRoute::Sets => of_list(ManageCall::ShowSets, ManageCall::AddSet, method),
         ManageRoute::Set => only_by(b"GET", ManageCall::ShowSet, method),
+        ManageRoute::Targets => only_by(b"POST", ManageCall::PutTargets, method),
+        ManageRoute::Target => only_by(b"GET", ManageCall::ShowTarget, method),
+        ManageRoute::TargetTag => of_tag(method),
     }
 }

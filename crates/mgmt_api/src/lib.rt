@@ -4,15 +4,23 @@
 //! a number in its path is none that an item can have, its query is not one of the call's, its body is not one of the call's.
 #![tactic(auto)]
 
+#[cfg(test)]
+mod artifact_tests;
 mod call;
 mod laws;
+mod page_query;
+#[cfg(test)]
+mod page_tests;
 mod reading;
 mod reply;
 mod routes;
 #[cfg(test)]
 mod set_tests;
 #[cfg(test)]
+mod target_tests;
+#[cfg(test)]
 mod tests;
+mod upload_query;
 
 pub use call::{ManageCall, call_of};
 pub use laws::{manage_routes_are_apart, refused_text, worked_module_added};

@@ -1,19 +1,25 @@
 //! From a message to the request that it asks.
 
-ghost use Rattle.std.specs.Prelude.{◌≡◌, ◌≢◌, ◌⊎◌, IfOk, IfErr};
+ghost use Rattle.std.specs.Prelude.{◌≡◌, ◌≢◌, ◌⊎◌, IfOk, IfErr, option_and_then, option_map};
+ghost use Rattle.rollout_model.specs.Rules.{word_of};
 ghost use Rattle.rollout_model.specs.declared.refusal.Refusal.TheVariants.{NoMemory, StoreFailed, Stopped};
 ghost use Rattle.rollout_machine.specs.Requests.{Asks, Rejected};
 ghost use Rattle.rollout_machine.specs.Views.{request_of};
 ghost use Rattle.http_wire.specs.Inbox.{message_of};
-ghost use Rattle.mgmt_api.specs.Reading.{Reads, TakesNoQuery, asked_by, item_in, manage_reading, path_number};
+ghost use Rattle.mgmt_api.specs.Reading.{Reads, TakesNoQuery, asked_by, item_in, manage_reading, path_number, word_in};
 
 use crate::call::{ManageCall, call_of};
+use crate::page_query::read_page;
 use crate::routes::ManageRoutes;
+use crate::upload_query::read_upload;
 use http_wire::Message;
-use mgmt_objects::{read_module_body, read_set_body};
-use request_target::{number_at, takes_query};
-use rollout_model::{Command, ModuleNo, Query, Refusal, Request, SetNo};
+use mgmt_objects::{read_module_body, read_set_body, read_targets_body};
+use request_target::{number_at, segment_at, takes_query};
+use rollout_model::{
+    ArtifactNo, Command, ControllerId, ModuleNo, Query, Refusal, Request, SetNo, Word,
+};
 use std::alloc::Global;
+use std::str;
 
 /// A call that takes no query is refused where there is one.
 fn take_no_query(alloc: Global, message: &Message<'_>) -> Result<(), Refusal>
@@ -26,25 +32,69 @@ fn take_no_query(alloc: Global, message: &Message<'_>) -> Result<(), Refusal>
     }
 }
 
-/// The number that the fifth segment of the path writes, the empty one before the first slash counted.
-fn read_path_number(message: &Message<'_>) -> Option<u32>
-    ensures { result ≡ path_number (message_of message.now) 4 }
+/// The number that the segment at a place writes, the empty one before the first slash at 0.
+fn read_path_number(message: &Message<'_>, place: usize) -> Option<u32>
+    ensures { result ≡ path_number (message_of message.now) place }
 {
-    number_at(message.path(), 4)
+    number_at(message.path(), place)
 }
 
+/// The module whose number stands in the fifth segment.
 fn read_module_number(message: &Message<'_>) -> Option<ModuleNo>
     ensures { result ≡ item_in (message_of message.now) 4 }
 {
-    let number = read_path_number(message)?;
+    let number = read_path_number(message, 4)?;
     ModuleNo::new(number)
 }
 
+/// The artifact whose number stands in the seventh segment.
+fn read_artifact_number(message: &Message<'_>) -> Option<ArtifactNo>
+    ensures { result ≡ item_in (message_of message.now) 6 }
+{
+    let number = read_path_number(message, 6)?;
+    ArtifactNo::new(number)
+}
+
+/// The set whose number stands in the fifth segment.
 fn read_set_number(message: &Message<'_>) -> Option<SetNo>
     ensures { result ≡ item_in (message_of message.now) 4 }
 {
-    let number = read_path_number(message)?;
+    let number = read_path_number(message, 4)?;
     SetNo::new(number)
+}
+
+/// The text of the segment at a place; `None` where there is none, or it is no UTF-8.
+fn text_in<'a>(message: &'a Message<'_>, place: usize) -> Option<&'a str>
+    ensures { option_and_then word_of (option_map (λ s. s.now) result) ≡ word_in (message_of message.now) place }
+{
+    let segment = segment_at(message.path(), place)?;
+    let Ok(text) = str::from_utf8(segment) else {
+        return None;
+    };
+    Some(text)
+}
+
+/// The target whose id stands in the fifth segment.
+fn read_target_id(message: &Message<'_>) -> Option<ControllerId>
+    ensures { result ≡ word_in (message_of message.now) 4 }
+{
+    let text = text_in(message, 4)?;
+    ControllerId::read(text)
+}
+
+/// The tag that stands in the seventh segment.
+fn read_tag(message: &Message<'_>) -> Option<Word>
+    ensures { result ≡ word_in (message_of message.now) 6 }
+{
+    let text = text_in(message, 6)?;
+    Word::read(text)
+}
+
+fn read_show_modules(alloc: Global, message: &Message<'_>) -> Result<Request, Refusal>
+    ensures { Reads (asked_by ManageCall.ShowModules (message_of message.now)) result }
+{
+    let page = read_page(alloc, message.query())?;
+    Ok(Request::Ask(Query::Modules(page)))
 }
 
 fn read_add_module(alloc: Global, message: &Message<'_>) -> Result<Request, Refusal>
@@ -65,6 +115,59 @@ fn read_show_module(alloc: Global, message: &Message<'_>) -> Result<Request, Ref
     Ok(Request::Ask(Query::Module(number)))
 }
 
+fn read_show_artifacts(alloc: Global, message: &Message<'_>) -> Result<Request, Refusal>
+    ensures { Reads (asked_by ManageCall.ShowArtifacts (message_of message.now)) result }
+{
+    let Some(number) = read_module_number(message) else {
+        return Err(Refusal::NotFound);
+    };
+    let page = read_page(alloc, message.query())?;
+    Ok(Request::Ask(Query::Artifacts(number, page)))
+}
+
+fn read_add_artifact(alloc: Global, message: &Message<'_>) -> Result<Request, Refusal>
+    ensures { Reads (asked_by ManageCall.AddArtifact (message_of message.now)) result }
+{
+    let Some(number) = read_module_number(message) else {
+        return Err(Refusal::NotFound);
+    };
+    let upload = read_upload(alloc, number, message.query(), message.body)?;
+    Ok(Request::Do(Command::AddArtifact(upload)))
+}
+
+fn read_show_artifact(alloc: Global, message: &Message<'_>) -> Result<Request, Refusal>
+    ensures { Reads (asked_by ManageCall.ShowArtifact (message_of message.now)) result }
+{
+    let Some(number) = read_module_number(message) else {
+        return Err(Refusal::NotFound);
+    };
+    let Some(artifact) = read_artifact_number(message) else {
+        return Err(Refusal::NotFound);
+    };
+    take_no_query(alloc, message)?;
+    Ok(Request::Ask(Query::Artifact(number, artifact)))
+}
+
+fn read_show_contents(alloc: Global, message: &Message<'_>) -> Result<Request, Refusal>
+    ensures { Reads (asked_by ManageCall.ShowContents (message_of message.now)) result }
+{
+    let Some(number) = read_module_number(message) else {
+        return Err(Refusal::NotFound);
+    };
+    let Some(artifact) = read_artifact_number(message) else {
+        return Err(Refusal::NotFound);
+    };
+    take_no_query(alloc, message)?;
+    Ok(Request::Ask(Query::Contents(number, artifact)))
+}
+
+fn read_show_sets(alloc: Global, message: &Message<'_>) -> Result<Request, Refusal>
+    ensures { Reads (asked_by ManageCall.ShowSets (message_of message.now)) result }
+{
+    let page = read_page(alloc, message.query())?;
+    Ok(Request::Ask(Query::Sets(page)))
+}
+
 fn read_add_set(alloc: Global, message: &Message<'_>) -> Result<Request, Refusal>
     ensures { Reads (asked_by ManageCall.AddSet (message_of message.now)) result }
 {
@@ -83,14 +186,68 @@ fn read_show_set(alloc: Global, message: &Message<'_>) -> Result<Request, Refusa
     Ok(Request::Ask(Query::Set(number)))
 }
 
+fn read_put_targets(alloc: Global, message: &Message<'_>) -> Result<Request, Refusal>
+    ensures { Reads (asked_by ManageCall.PutTargets (message_of message.now)) result }
+{
+    take_no_query(alloc, message)?;
+    let rows = read_targets_body(alloc, message.body)?;
+    Ok(Request::Do(Command::PutTargets(rows)))
+}
+
+fn read_show_target(alloc: Global, message: &Message<'_>) -> Result<Request, Refusal>
+    ensures { Reads (asked_by ManageCall.ShowTarget (message_of message.now)) result }
+{
+    let Some(id) = read_target_id(message) else {
+        return Err(Refusal::NotFound);
+    };
+    take_no_query(alloc, message)?;
+    Ok(Request::Ask(Query::Target(id)))
+}
+
+fn read_tag_target(alloc: Global, message: &Message<'_>) -> Result<Request, Refusal>
+    ensures { Reads (asked_by ManageCall.Tag (message_of message.now)) result }
+{
+    let Some(id) = read_target_id(message) else {
+        return Err(Refusal::NotFound);
+    };
+    let Some(tag) = read_tag(message) else {
+        return Err(Refusal::NotFound);
+    };
+    take_no_query(alloc, message)?;
+    Ok(Request::Do(Command::Tag(id, tag)))
+}
+
+fn read_untag_target(alloc: Global, message: &Message<'_>) -> Result<Request, Refusal>
+    ensures { Reads (asked_by ManageCall.Untag (message_of message.now)) result }
+{
+    let Some(id) = read_target_id(message) else {
+        return Err(Refusal::NotFound);
+    };
+    let Some(tag) = read_tag(message) else {
+        return Err(Refusal::NotFound);
+    };
+    take_no_query(alloc, message)?;
+    Ok(Request::Do(Command::Untag(id, tag)))
+}
+
 fn read_call(alloc: Global, call: ManageCall, message: &Message<'_>) -> Result<Request, Refusal>
     ensures { Reads (asked_by call (message_of message.now)) result }
 {
     match call {
+        ManageCall::ShowModules => read_show_modules(alloc, message),
         ManageCall::AddModule => read_add_module(alloc, message),
         ManageCall::ShowModule => read_show_module(alloc, message),
+        ManageCall::ShowArtifacts => read_show_artifacts(alloc, message),
+        ManageCall::AddArtifact => read_add_artifact(alloc, message),
+        ManageCall::ShowArtifact => read_show_artifact(alloc, message),
+        ManageCall::ShowContents => read_show_contents(alloc, message),
+        ManageCall::ShowSets => read_show_sets(alloc, message),
         ManageCall::AddSet => read_add_set(alloc, message),
         ManageCall::ShowSet => read_show_set(alloc, message),
+        ManageCall::PutTargets => read_put_targets(alloc, message),
+        ManageCall::ShowTarget => read_show_target(alloc, message),
+        ManageCall::Tag => read_tag_target(alloc, message),
+        ManageCall::Untag => read_untag_target(alloc, message),
     }
 }
 

@@ -4,14 +4,15 @@ ghost use Rattle.std.specs.Prelude.{◌≡◌, false, IfOk, IfErr, string_bytes}
 ghost use Rattle.serde_json.specs.Written.{compact_text};
 ghost use Rattle.rollout_model.specs.declared.refusal.Refusal.TheVariants.{NoMemory};
 ghost use Rattle.rollout_model.specs.Refusals.{refusal_row};
-ghost use Rattle.rollout_machine.specs.Views.{reply_of};
+ghost use Rattle.rollout_machine.specs.Replies.{Done, Refused, TargetsPut};
+ghost use Rattle.rollout_machine.specs.Views.{listed, listed_targets, reply_of};
 ghost use Rattle.http_wire.specs.Replies.{answer_text, line_member, refusal_body};
-ghost use Rattle.mgmt_api.specs.Replies.{Has, parts_of, reply_text, json_reply};
+ghost use Rattle.mgmt_api.specs.Replies.{Has, parts_of, reply_text, json_reply, octets_reply, page_reply, shown_target_data};
 
 use http::StatusCode;
 use http_wire::{Answer, ContentType};
-use mgmt_objects::{object_text, single_text};
-use rollout_model::{Refusal, Reply};
+use mgmt_objects::{Shown, accepted_text, done_text, object_text, page_text, single_text};
+use rollout_model::{Contents, PageOf, Refusal, Reply, ShownTarget};
 use std::alloc::{AllocError, Global};
 
 fn json_answer(status: StatusCode, body: String) -> Answer
@@ -22,6 +23,30 @@ fn json_answer(status: StatusCode, body: String) -> Answer
         content_type: ContentType::Json,
         body: body.into_bytes(),
     }
+}
+
+fn page_answer<T: Shown>(alloc: Global, page: &PageOf<T>) -> Result<Answer, AllocError>
+    ensures { IfOk result (Has (page_reply T.shows (listed page.now))) }
+{
+    let body = page_text(alloc, page.content.as_slice(), page.total)?;
+    Ok(json_answer(StatusCode::OK, body))
+}
+
+fn targets_answer(alloc: Global, page: &PageOf<ShownTarget>) -> Result<Answer, AllocError>
+    ensures { IfOk result (Has (page_reply shown_target_data (listed_targets page.now))) }
+{
+    page_answer(alloc, page)
+}
+
+fn octets_answer(alloc: Global, contents: &Contents) -> Result<Answer, AllocError>
+    ensures { IfOk result (Has (octets_reply contents.now)) }
+{
+    let body = Vec::from_slice(alloc, contents.as_slice())?;
+    Ok(Answer {
+        status: StatusCode::OK,
+        content_type: ContentType::Octets,
+        body,
+    })
 }
 
 fn line_member(alloc: Global, refusal: Refusal) -> Result<String, AllocError>
@@ -56,10 +81,32 @@ fn refusal_status(refusal: Refusal) -> StatusCode
     StatusCode::from_u16(refusal.status()).unwrap_or(StatusCode::INTERNAL_SERVER_ERROR)
 }
 
+fn refused_answer(alloc: Global, refusal: Refusal) -> Result<Answer, AllocError>
+    ensures { IfOk result (Has (parts_of (Refused refusal))) }
+{
+    let body = refusal_body(alloc, refusal)?;
+    Ok(json_answer(refusal_status(refusal), body))
+}
+
+fn done_answer(alloc: Global) -> Result<Answer, AllocError>
+    ensures { IfOk result (Has (parts_of Done)) }
+{
+    let body = done_text(alloc)?;
+    Ok(json_answer(StatusCode::OK, body))
+}
+
+fn accepted_answer(alloc: Global, accepted: u32) -> Result<Answer, AllocError>
+    ensures { IfOk result (Has (parts_of (TargetsPut accepted))) }
+{
+    let body = accepted_text(alloc, accepted)?;
+    Ok(json_answer(StatusCode::CREATED, body))
+}
+
 fn answer_to(alloc: Global, reply: &Reply) -> Result<Answer, AllocError>
     ensures { IfOk result (Has (parts_of (reply_of reply.now))) }
 {
     match reply {
+        Reply::Done => done_answer(alloc),
         Reply::ModuleAdded(module) => {
             let body = single_text(alloc, module)?;
             Ok(json_answer(StatusCode::CREATED, body))
@@ -68,6 +115,17 @@ fn answer_to(alloc: Global, reply: &Reply) -> Result<Answer, AllocError>
             let body = object_text(alloc, module)?;
             Ok(json_answer(StatusCode::OK, body))
         }
+        Reply::Modules(page) => page_answer(alloc, page),
+        Reply::ArtifactAdded(artifact) => {
+            let body = object_text(alloc, artifact)?;
+            Ok(json_answer(StatusCode::CREATED, body))
+        }
+        Reply::Artifact(artifact) => {
+            let body = object_text(alloc, artifact)?;
+            Ok(json_answer(StatusCode::OK, body))
+        }
+        Reply::Artifacts(page) => page_answer(alloc, page),
+        Reply::Contents(contents) => octets_answer(alloc, contents),
         Reply::SetAdded(set) => {
             let body = single_text(alloc, set)?;
             Ok(json_answer(StatusCode::CREATED, body))
@@ -76,10 +134,14 @@ fn answer_to(alloc: Global, reply: &Reply) -> Result<Answer, AllocError>
             let body = object_text(alloc, set)?;
             Ok(json_answer(StatusCode::OK, body))
         }
-        Reply::Refused(refusal) => {
-            let body = refusal_body(alloc, *refusal)?;
-            Ok(json_answer(refusal_status(*refusal), body))
+        Reply::Sets(page) => page_answer(alloc, page),
+        Reply::TargetsPut(accepted) => accepted_answer(alloc, *accepted),
+        Reply::Target(target) => {
+            let body = object_text(alloc, target)?;
+            Ok(json_answer(StatusCode::OK, body))
         }
+        Reply::Targets(page) => targets_answer(alloc, page),
+        Reply::Refused(refusal) => refused_answer(alloc, *refusal),
     }
 }
 

@@ -17,10 +17,22 @@ pub enum ManageRoute {
     Modules,
     /// `/rest/v1/softwaremodules/{module}`
     Module,
+    /// `/rest/v1/softwaremodules/{module}/artifacts`
+    Artifacts,
+    /// `/rest/v1/softwaremodules/{module}/artifacts/{artifact}`
+    Artifact,
+    /// `/rest/v1/softwaremodules/{module}/artifacts/{artifact}/download`
+    Contents,
     /// `/rest/v1/distributionsets`
     Sets,
     /// `/rest/v1/distributionsets/{set}`
     Set,
+    /// `/rest/v1/targets`
+    Targets,
+    /// `/rest/v1/targets/{target}`
+    Target,
+    /// `/rest/v1/targets/{target}/tags/{tag}`
+    TargetTag,
 }
 
 /// The routes of the management interface, each found by its path.
@@ -37,8 +49,26 @@ fn manage_router(alloc: Global) -> Result<Router<ManageRoute>, AllocError>
     let routes = [
         ("/rest/v1/softwaremodules", ManageRoute::Modules),
         ("/rest/v1/softwaremodules/{module}", ManageRoute::Module),
+        (
+            "/rest/v1/softwaremodules/{module}/artifacts",
+            ManageRoute::Artifacts,
+        ),
+        (
+            "/rest/v1/softwaremodules/{module}/artifacts/{artifact}",
+            ManageRoute::Artifact,
+        ),
+        (
+            "/rest/v1/softwaremodules/{module}/artifacts/{artifact}/download",
+            ManageRoute::Contents,
+        ),
         ("/rest/v1/distributionsets", ManageRoute::Sets),
         ("/rest/v1/distributionsets/{set}", ManageRoute::Set),
+        ("/rest/v1/targets", ManageRoute::Targets),
+        ("/rest/v1/targets/{target}", ManageRoute::Target),
+        (
+            "/rest/v1/targets/{target}/tags/{tag}",
+            ManageRoute::TargetTag,
+        ),
     ];
     router_of(alloc, &routes)
 }

@@ -66,7 +66,7 @@ const REFUSED: [(&str, Refusal); 14] = [
     ("GET /rest/v1/distributionsets/01", Refusal::NotFound),
     ("GET /rest/v1/distributionsets/1/x", Refusal::NotFound),
     ("POST /rest/v1/softwaremodules/1", Refusal::BadMethod),
-    ("GET /rest/v1/distributionsets", Refusal::BadMethod),
+    ("DELETE /rest/v1/distributionsets", Refusal::BadMethod),
     ("PUT /rest/v1/distributionsets/x", Refusal::BadMethod),
     ("GET /rest/v1/softwaremodules/1?a=1", Refusal::BadRequest),
     ("POST /rest/v1/distributionsets?a=1", Refusal::BadRequest),

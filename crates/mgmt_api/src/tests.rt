@@ -13,13 +13,29 @@ pub(crate) fn reading(
     head: &str,
     body: &str,
 ) -> Result<Result<Request, Refusal>, Fail> {
+    reading_of_bytes(alloc, head, body.as_bytes())
+}
+
+pub(crate) fn reading_of_bytes(
+    alloc: Global,
+    head: &str,
+    body: &[u8],
+) -> Result<Result<Request, Refusal>, Fail> {
     let routes = ManageRoutes::make(alloc).ok().ok_or("routes")?;
     let mut inbox = Inbox::new(alloc);
     let size = body.len();
-    let bytes = format!(in alloc; "{head} HTTP/1.1\r\nContent-Length: {size}\r\n\r\n{body}")?;
-    inbox.feed(bytes.as_bytes()).ok().ok_or("feed")?;
+    let head = format!(in alloc; "{head} HTTP/1.1\r\nContent-Length: {size}\r\n\r\n")?;
+    inbox.feed(head.as_bytes()).ok().ok_or("feed")?;
+    inbox.feed(body).ok().ok_or("feed")?;
     let message = inbox.next().ok_or("no message")?.ok().ok_or("fault")?;
     Ok(read_manage(&routes, &message))
+}
+
+/// Whether the reply is this text on the wire; `None` for want of memory.
+pub(crate) fn is_written(alloc: Global, reply: &Reply, text: &[u8]) -> Option<bool> {
+    let answer = manage_reply(alloc, reply).ok()?;
+    let bytes = reply_bytes(alloc, &answer).ok()?;
+    Some(bytes.as_slice() == text)
 }
 
 pub(crate) fn refusal(alloc: Global, head: &str, body: &str) -> Result<Option<Refusal>, Fail> {
@@ -121,7 +137,12 @@ fn routes_and_calls(rt: HostRuntime) -> Result<(), Fail> {
         call_of(ManageRoute::Modules, b"POST"),
         Some(ManageCall::AddModule)
     );
-    assert_eq!(rt; call_of(ManageRoute::Modules, b"GET"), None);
+    assert_eq!(rt;
+        call_of(ManageRoute::Modules, b"GET"),
+        Some(ManageCall::ShowModules)
+    );
+    assert_eq!(rt; call_of(ManageRoute::Modules, b"PUT"), None);
+    assert_eq!(rt; call_of(ManageRoute::Contents, b"POST"), None);
     Ok(())
 }
 
@@ -129,7 +150,7 @@ pub(crate) fn text(alloc: Global, text: &str) -> Option<Text> {
     Text::read(alloc, text).ok()?
 }
 
-fn app(alloc: Global) -> Option<Module> {
+pub(crate) fn app(alloc: Global) -> Option<Module> {
     let label = ModuleLabel {
         name: text(alloc, "app")?,
         kind: text(alloc, "os")?,

@@ -3,3 +3,4 @@ pub mod TraverseLemmas
 pub mod LettersLemmas
 pub mod PageLemmas
 pub mod SetLemmas
+pub mod TargetLemmas

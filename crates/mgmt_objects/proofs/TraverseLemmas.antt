@@ -1,12 +1,14 @@
 -- A reading of each item of a list, in a loop.
-use Rattle.std.proofs.Common.{◌≡◌, ◌<◌, ◌+◌, ◌++◌, ℕ, zero, suc, List, [], ◌∷◌, length, get_or, take, map, Option, Some, None, option_map, option_and_then, refl, arith, ◌∙◌, ◌⊎◌, inl, inr}
+use Rattle.std.proofs.Common.{◌≡◌, ◌<◌, ◌+◌, ◌++◌, ℕ, zero, suc, List, [], ◌∷◌, length, get_or, take, map, Option, Some, None, option_map, option_and_then, refl, arith, ap, sym, ◌∙◌, ◌⊎◌, inl, inr}
 use Rattle.rollout_model.specs.declared.refusal.Refusal.{Refusal}
 use Rattle.rollout_model.specs.declared.refusal.Refusal.TheVariants.{BadRequest, NoMemory}
 use Rattle.std.proofs.lemmas.List.{map_more}
 use Rattle.serde_json.specs.Data.{Data}
 use Rattle.serde_json.specs.View.{items_of}
-use Rattle.mgmt_objects.specs.Traverse.{list_of}
-use Rattle.mgmt_objects.specs.Traverse.{traverse}
+use Rattle.serde_json.specs.Find.{as_array}
+use Rattle.serde_json.specs.View.{view, items_view}
+use Rattle.serde_json.specs.declared.value.Value.{Value}
+use Rattle.mgmt_objects.specs.Traverse.{array_of, list_of, traverse}
 
 after_none : {A B : Type 0} (y : Option A) → option_and_then {T = A} {U = B} (λ _. None) y ≡ None
 after_none (Some y) = refl
@@ -48,6 +50,10 @@ traverse_fails f h (w ∷ xs) (suc i) x below is none = rw (traverse_fails f h x
 pub list_of_items : (ds : List Data) → list_of (items_of ds) ≡ ds
 list_of_items [] = refl
 list_of_items (d ∷ ds) = rw (list_of_items ds) refl
+
+-- the items of an array
+pub array_listed : {B : Type 0} (f : Data → Option B) (d : Data) (vs : List Value) → Some (items_view vs) ≡ as_array d → traverse f (map view vs) ≡ array_of f d
+array_listed f d vs listed = rw (← listed) (ap (traverse f) (sym (list_of_items (map view vs))))
 
 -- the same, as the refusal of an item
 pub traverse_refuses : {A B X : Type 0} (f : A → Option B) (h : X → A) (xs : List X) (i : ℕ) (x : X) (e : Refusal) → i < length xs → x ≡ get_or xs i x → (e ≡ NoMemory) ⊎ ((e ≡ BadRequest) × (f (h x) ≡ None)) → (e ≡ NoMemory) ⊎ ((e ≡ BadRequest) × (traverse f (map h xs) ≡ None))

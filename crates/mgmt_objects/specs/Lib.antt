@@ -7,3 +7,6 @@ pub mod Pages
 pub mod Floats
 pub mod SetBodies
 pub mod SetObjects
+pub mod ArtifactObjects
+pub mod TargetBodies
+pub mod TargetObjects

@@ -1,5 +1,5 @@
 -- The objects of distribution sets.
-use Rattle.std.specs.Prelude.{ℕ, List, codes, map}
+use Rattle.std.specs.Prelude.{ℕ, codes, map}
 use Rattle.serde_json.specs.Data.{Data, array, string, object, member, no_members}
 use Rattle.serde_json.specs.View.{items_of}
 use Rattle.rollout_model.specs.declared.distribution_set.DistributionSet.{DistributionSet}

@@ -1,13 +1,18 @@
 //! Worked bodies and texts.
 
-ghost use Rattle.std.specs.Prelude.{◌≡◌, Some, codes, false, [], ◌∷◌};
+ghost use Rattle.std.specs.Prelude.{◌≡◌, Some, codes, false, [], ◌∷◌, replicate};
 ghost use Rattle.serde_json.specs.Written.{compact_text};
 ghost use Rattle.rollout_model.specs.declared.module.Module.{Module};
+ghost use Rattle.mgmt_objects.specs.ArtifactObjects.{artifact_data};
 ghost use Rattle.mgmt_objects.specs.ModuleBodies.{module_body, new_label};
 ghost use Rattle.mgmt_objects.specs.ModuleObjects.{module_data, module_letters};
 ghost use Rattle.mgmt_objects.specs.Pages.{single};
 ghost use Rattle.mgmt_objects.specs.SetBodies.{new_set_label, set_body};
 ghost use Rattle.mgmt_objects.specs.SetObjects.{set_data};
+ghost use Rattle.artifact_pieces.specs.Digests.{digest_of};
+ghost use Rattle.rollout_model.specs.declared.target_word.TargetWord.TheVariants.{InSync};
+ghost use Rattle.mgmt_objects.specs.TargetBodies.{new_row, targets_body};
+ghost use Rattle.mgmt_objects.specs.TargetObjects.{accepted_data, target_data};
 
 /// A worked body names the module that it spells.
 pub fn worked_module_body()
@@ -32,4 +37,24 @@ pub fn worked_set_body()
 /// The text of a worked distribution set.
 pub fn worked_set_text()
     ensures { compact_text (set_data (record { number = 1; label = new_set_label (codes "r1") (codes "1") (1 ∷ []) })) ≡ codes "{\"id\":1,\"modules\":[{\"id\":1}],\"name\":\"r1\",\"version\":\"1\"}" }
+{}
+
+/// The text of a worked artifact, whose digest is the same byte 32 times.
+pub fn worked_artifact_text()
+    ensures { compact_text (artifact_data (record { number = 1; filename = codes "abc.bin"; size = 3; digest = replicate 32 171 })) ≡ codes "{\"hashes\":{\"sha256\":\"abababababababababababababababababababababababababababababababab\"},\"id\":1,\"providedFilename\":\"abc.bin\",\"size\":3}" }
+{}
+
+/// A worked body puts the target that it spells, known by its token's digest alone.
+pub fn worked_targets_body()
+    ensures { targets_body (codes "[{\"controllerId\":\"dev-01\",\"name\":\"press\",\"securityToken\":\"tok-dev-01\",\"tags\":[\"lab\"]}]") ≡ Some (new_row (codes "dev-01") (codes "press") (digest_of (codes "tok-dev-01")) (codes "lab" ∷ []) ∷ []) }
+{}
+
+/// The text of a worked target.
+pub fn worked_target_text()
+    ensures { compact_text (target_data (record { id = codes "dev-01"; name = codes "press"; tags = codes "hall" ∷ codes "lab" ∷ []; attributes = record { key = codes "os"; value = codes "linux" } ∷ []; word = InSync })) ≡ codes "{\"attributes\":{\"os\":\"linux\"},\"controllerId\":\"dev-01\",\"name\":\"press\",\"tags\":[\"hall\",\"lab\"],\"updateStatus\":\"in_sync\"}" }
+{}
+
+/// The text of a worked number of accepted rows.
+pub fn worked_accepted_text()
+    ensures { compact_text (accepted_data 100) ≡ codes "{\"accepted\":100}" }
 {}

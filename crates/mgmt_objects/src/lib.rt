@@ -4,6 +4,9 @@
 //! writer gives exactly the compact text of its object.
 #![tactic(auto)]
 
+mod artifact_object;
+#[cfg(test)]
+mod artifact_tests;
 mod body;
 mod laws;
 mod list;
@@ -15,15 +18,22 @@ mod set_object;
 #[cfg(test)]
 mod set_tests;
 mod shown;
+mod target_body;
+mod target_object;
+#[cfg(test)]
+mod target_tests;
 #[cfg(test)]
 mod tests;
 
 pub use body::{only_item, read_value};
 pub use laws::{
-    module_text_letters, worked_module_body, worked_module_text, worked_set_body, worked_set_text,
+    module_text_letters, worked_accepted_text, worked_artifact_text, worked_module_body,
+    worked_module_text, worked_set_body, worked_set_text, worked_target_text, worked_targets_body,
 };
-pub use list::{Item, read_list};
+pub use list::{Item, read_array, read_list};
 pub use member::{read_number, read_text};
 pub use module_body::read_module_body;
 pub use set_body::read_set_body;
 pub use shown::{Shown, array_text, object_text, page_text, single_text};
+pub use target_body::read_targets_body;
+pub use target_object::{accepted_text, done_text};

@@ -6,7 +6,7 @@ ghost use Rattle.serde_json.specs.Find.{as_str};
 ghost use Rattle.serde_json.specs.View.{view};
 ghost use Rattle.rollout_model.specs.Rules.{text_of};
 ghost use Rattle.mgmt_objects.specs.Readings.{ReadsAs, ReadsBy};
-ghost use Rattle.mgmt_objects.specs.Traverse.{traverse};
+ghost use Rattle.mgmt_objects.specs.Traverse.{array_of, traverse};
 
 use rollout_model::{Refusal, Text};
 use serde_json::Value;
@@ -49,4 +49,14 @@ pub fn read_list<T: Item>(alloc: Global, values: &[Value]) -> Result<Vec<T>, Ref
         items.push(item)?;
     }
     Ok(items)
+}
+
+/// Reads each item of an array, or `BadRequest` where one can't be, or where the value is none.
+pub fn read_array<T: Item>(alloc: Global, value: &Value) -> Result<Vec<T>, Refusal>
+    ensures { ReadsBy (λ v. v.items) (array_of T.reads (view value.now)) result }
+{
+    match value.as_array() {
+        Some(items) => read_list::<T>(alloc, items),
+        None => Err(Refusal::BadRequest),
+    }
 }

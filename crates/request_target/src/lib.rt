@@ -15,5 +15,5 @@ mod tests;
 pub use numbers::read_number;
 pub use pairs::read_pairs;
 pub use path_segments::{number_at, segment_at};
-pub use query::{are_clean, number_or, takes_query, value_of};
+pub use query::{are_clean, number_or, read_query, takes_query, value_of};
 pub use routes::{route_of, router_of};

@@ -72,10 +72,26 @@ pub fn number_or(low: u32, high: u32, default: u32, value: Option<&str>) -> Opti
     }
 }
 
+/// The pairs of a query, decoded, where a call that names these keys takes the query.
+pub fn read_query(
+    alloc: Global,
+    keys: &[&str],
+    query: &[u8],
+) -> Result<Option<Vec<(String, String)>>, AllocError>
+    ensures { IfOk result (λ taken. option_map (λ v. map seen v.items) taken ≡ query_pairs_of (map (λ k. k.now) keys.now) query.now) }
+{
+    let pairs = read_pairs(alloc, query)?;
+    if are_clean(keys, &pairs) {
+        Ok(Some(pairs))
+    } else {
+        Ok(None)
+    }
+}
+
 /// Whether a call that names these keys takes the query.
 pub fn takes_query(alloc: Global, keys: &[&str], query: &[u8]) -> Result<bool, AllocError>
     ensures { IfOk result (λ takes. takes ≡ is_some (query_pairs_of (map (λ k. k.now) keys.now) query.now)) }
 {
-    let pairs = read_pairs(alloc, query)?;
-    Ok(are_clean(keys, &pairs))
+    let taken = read_query(alloc, keys, query)?;
+    Ok(taken.is_some())
 }

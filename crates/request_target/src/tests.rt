@@ -1,6 +1,6 @@
 use crate::{
-    are_clean, number_at, number_or, read_number, read_pairs, route_of, router_of, segment_at,
-    takes_query, value_of,
+    are_clean, number_at, number_or, read_number, read_pairs, read_query, route_of, router_of,
+    segment_at, takes_query, value_of,
 };
 use std::test::Fail;
 
@@ -56,6 +56,20 @@ fn queries_that_a_call_takes(rt: HostRuntime) -> Result<(), Fail> {
     assert!(rt; !takes_query(alloc, keys, b"offset=%FF")?);
     assert!(rt; !takes_query(alloc, keys, b"q=x")?);
     assert!(rt; !takes_query(alloc, keys, b"=")?);
+    Ok(())
+}
+
+#[test]
+fn the_pairs_that_a_call_takes(rt: HostRuntime) -> Result<(), Fail> {
+    let alloc = rt.alloc();
+    let keys = ["offset", "limit"].as_slice();
+    let taken = read_query(alloc, keys, b"limit=%35&offset=2")?;
+    let pairs = taken.ok_or("pairs")?;
+    assert_eq!(rt; pairs.len(), 2);
+    assert_eq!(rt; value_of(&pairs, "limit"), Some("5"));
+    assert_eq!(rt; value_of(&pairs, "offset"), Some("2"));
+    let other = read_query(alloc, keys, b"limit=5&q=x")?;
+    assert!(rt; other.is_none());
     Ok(())
 }
 

@@ -21,18 +21,22 @@ fn target(
     let (Some(name), Some(id)) = (Text::read(alloc, id)?, ControllerId::read(id)) else {
         return Err(Fail::from(refused));
     };
-    let mut target = Target {
-        id,
-        name,
-        tags: Tags::new(alloc),
-        attributes: Attributes::new(alloc),
-    };
+    let mut words = Vec::new(alloc);
     for tag in tags {
         let Some(tag) = Word::read(tag) else {
             return Err(Fail::from(refused));
         };
-        target.tags.push(tag)?;
+        words.push(tag)?;
     }
+    let Some(tags) = Tags::from_words(words) else {
+        return Err(Fail::from(refused));
+    };
+    let mut target = Target {
+        id,
+        name,
+        tags,
+        attributes: Attributes::new(alloc),
+    };
     for (key, value) in attributes {
         let (Some(key), Some(value)) = (Word::read(key), Value::read(alloc, value)?) else {
             return Err(Fail::from(refused));

@@ -52,7 +52,14 @@ impl Handler for Shelf {
                 Ok(reply) => reply,
                 Err(refusal) => Reply::Refused(refusal),
             },
-            Request::Do(Command::AddSet(_)) | Request::Ask(_) => Reply::Refused(Refusal::NotFound),
+            Request::Do(
+                Command::AddArtifact(_)
+                | Command::AddSet(_)
+                | Command::PutTargets(_)
+                | Command::Tag(_, _)
+                | Command::Untag(_, _),
+            )
+            | Request::Ask(_) => Reply::Refused(Refusal::NotFound),
         }
     }
 

@@ -1,0 +1,86 @@
+//! Artifacts and pages, to the byte, from a desk in memory.
+
+use super::exchange::reply_to;
+use super::messages::{ADD, ADDED, EXISTS, NOT_FOUND};
+use rollout_desk::Desk;
+use std::test::Fail;
+
+/// Adds an artifact of three bytes to the first module.
+const ADD_ABC: &[u8] =
+    b"POST /rest/v1/softwaremodules/1/artifacts?filename=abc.bin HTTP/1.1\r\nContent-Length: 3\r\n\r\nabc";
+
+const ADDED_ABC: &[u8] =
+    b"HTTP/1.1 201 Created\r\nContent-Type: application/json\r\nContent-Length: 133\r\n\r\n{\"hashes\":{\"sha256\":\"ba7816bf8f01cfea414140de5dae2223b00361a396177a9cb410ff61f20015ad\"},\"id\":1,\"providedFilename\":\"abc.bin\",\"size\":3}";
+
+/// Adds an artifact of no bytes.
+const ADD_EMPTY: &[u8] =
+    b"POST /rest/v1/softwaremodules/1/artifacts?filename=empty.bin HTTP/1.1\r\nContent-Length: 0\r\n\r\n";
+
+const ADDED_EMPTY: &[u8] =
+    b"HTTP/1.1 201 Created\r\nContent-Type: application/json\r\nContent-Length: 135\r\n\r\n{\"hashes\":{\"sha256\":\"e3b0c44298fc1c149afbf4c8996fb92427ae41e4649b934ca495991b7852b855\"},\"id\":2,\"providedFilename\":\"empty.bin\",\"size\":0}";
+
+/// Names another digest than that of the bytes.
+const ADD_ANOTHER: &[u8] =
+    b"POST /rest/v1/softwaremodules/1/artifacts?filename=x.bin&sha256=0000000000000000000000000000000000000000000000000000000000000000 HTTP/1.1\r\nContent-Length: 3\r\n\r\nabc";
+
+const WRONG_DIGEST: &[u8] =
+    b"HTTP/1.1 400 Bad Request\r\nContent-Type: application/json\r\nContent-Length: 30\r\n\r\n{\"error\":\"digest\",\"number\":13}";
+
+const SHOW_PAGE: &[u8] =
+    b"GET /rest/v1/softwaremodules/1/artifacts?offset=1&limit=1 HTTP/1.1\r\n\r\n";
+
+const PAGE: &[u8] =
+    b"HTTP/1.1 200 OK\r\nContent-Type: application/json\r\nContent-Length: 168\r\n\r\n{\"content\":[{\"hashes\":{\"sha256\":\"e3b0c44298fc1c149afbf4c8996fb92427ae41e4649b934ca495991b7852b855\"},\"id\":2,\"providedFilename\":\"empty.bin\",\"size\":0}],\"size\":1,\"total\":2}";
+
+const SHOW_ABC: &[u8] = b"GET /rest/v1/softwaremodules/1/artifacts/1 HTTP/1.1\r\n\r\n";
+
+const ABC: &[u8] =
+    b"HTTP/1.1 200 OK\r\nContent-Type: application/json\r\nContent-Length: 133\r\n\r\n{\"hashes\":{\"sha256\":\"ba7816bf8f01cfea414140de5dae2223b00361a396177a9cb410ff61f20015ad\"},\"id\":1,\"providedFilename\":\"abc.bin\",\"size\":3}";
+
+const DOWNLOAD_ABC: &[u8] = b"GET /rest/v1/softwaremodules/1/artifacts/1/download HTTP/1.1\r\n\r\n";
+
+const BYTES_OF_ABC: &[u8] =
+    b"HTTP/1.1 200 OK\r\nContent-Type: application/octet-stream\r\nContent-Length: 3\r\n\r\nabc";
+
+const DOWNLOAD_EMPTY: &[u8] =
+    b"GET /rest/v1/softwaremodules/1/artifacts/2/download HTTP/1.1\r\n\r\n";
+
+const NO_BYTES: &[u8] =
+    b"HTTP/1.1 200 OK\r\nContent-Type: application/octet-stream\r\nContent-Length: 0\r\n\r\n";
+
+const SHOW_MODULES: &[u8] = b"GET /rest/v1/softwaremodules HTTP/1.1\r\n\r\n";
+
+const MODULES: &[u8] =
+    b"HTTP/1.1 200 OK\r\nContent-Type: application/json\r\nContent-Length: 97\r\n\r\n{\"content\":[{\"id\":1,\"locked\":false,\"name\":\"app\",\"type\":\"os\",\"version\":\"1.0\"}],\"size\":1,\"total\":1}";
+
+const SHOW_SETS: &[u8] = b"GET /rest/v1/distributionsets?limit=500 HTTP/1.1\r\n\r\n";
+
+const NO_SETS: &[u8] =
+    b"HTTP/1.1 200 OK\r\nContent-Type: application/json\r\nContent-Length: 33\r\n\r\n{\"content\":[],\"size\":0,\"total\":0}";
+
+/// Requests in their order, and their replies.
+const STEPS: [(&[u8], &[u8]); 13] = [
+    (ADD_ABC, NOT_FOUND),
+    (ADD, ADDED),
+    (DOWNLOAD_ABC, NOT_FOUND),
+    (ADD_ABC, ADDED_ABC),
+    (ADD_ABC, EXISTS),
+    (ADD_ANOTHER, WRONG_DIGEST),
+    (ADD_EMPTY, ADDED_EMPTY),
+    (SHOW_ABC, ABC),
+    (DOWNLOAD_ABC, BYTES_OF_ABC),
+    (DOWNLOAD_EMPTY, NO_BYTES),
+    (SHOW_PAGE, PAGE),
+    (SHOW_MODULES, MODULES),
+    (SHOW_SETS, NO_SETS),
+];
+
+#[test]
+fn adds_and_shows_artifacts(rt: HostRuntime) -> Result<(), Fail> {
+    let alloc = rt.alloc();
+    let mut desk = Desk::in_memory(alloc, false)?;
+    for (request, reply) in STEPS {
+        assert_eq!(rt; reply_to(alloc, &mut desk, request)?.as_slice(), reply);
+    }
+    Ok(())
+}

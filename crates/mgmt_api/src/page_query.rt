@@ -1,0 +1,44 @@
+//! The page that a query asks for.
+
+ghost use Rattle.std.specs.Prelude.{◌≡◌, map};
+ghost use Rattle.request_target.specs.Pairs.{seen};
+ghost use Rattle.mgmt_objects.specs.Readings.{ReadsAs};
+ghost use Rattle.mgmt_api.specs.PageQueries.{limit_of, offset_of, page_asked, page_of};
+
+use request_target::{number_or, read_query, value_of};
+use rollout_model::{Page, Refusal};
+use std::alloc::Global;
+
+fn offset_of(pairs: &[(String, String)]) -> Option<u32>
+    ensures { result ≡ offset_of (map seen pairs.now) }
+{
+    number_or(0, 2147483647, 0, value_of(pairs, "offset"))
+}
+
+fn limit_of(pairs: &[(String, String)]) -> Option<u32>
+    ensures { result ≡ limit_of (map seen pairs.now) }
+{
+    number_or(1, 500, 50, value_of(pairs, "limit"))
+}
+
+fn page_of(pairs: &[(String, String)]) -> Option<Page>
+    ensures { result ≡ page_of (map seen pairs.now) }
+{
+    let offset = offset_of(pairs)?;
+    let limit = limit_of(pairs)?;
+    Some(Page { offset, limit })
+}
+
+/// The page that a query asks for: `offset` from 0 to 2,147,483,647, 0 where it isn't given, and `limit` from 1 to 500, or 50.
+pub(crate) fn read_page(alloc: Global, query: &[u8]) -> Result<Page, Refusal>
+    ensures { ReadsAs (page_asked query.now) result }
+{
+    let keys = ["offset", "limit"];
+    let Some(pairs) = read_query(alloc, &keys, query)? else {
+        return Err(Refusal::BadRequest);
+    };
+    match page_of(&pairs) {
+        Some(page) => Ok(page),
+        None => Err(Refusal::BadRequest),
+    }
+}

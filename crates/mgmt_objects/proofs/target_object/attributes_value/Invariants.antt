@@ -1,0 +1,9 @@
+use Rattle.std.proofs.Common.{◌≡◌, drop}
+use Rattle.serde_json.specs.Data.{no_members}
+use Rattle.serde_json.specs.View.{members_view}
+use Rattle.mgmt_objects.specs.TargetObjects.{with_attributes}
+use Rattle.mgmt_objects.proofs.target_object.attributes_value.Given as goal
+
+-- those that are left, put into those that are there, give them all
+abbrev pub invariant-loop-attribute : goal.invariant-loop-attribute
+invariant-loop-attribute l = with_attributes (members_view l.members.entries) (drop l.attribute-index l.attributes) ≡ with_attributes no_members l.attributes

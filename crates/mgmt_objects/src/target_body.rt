@@ -1,0 +1,133 @@
+//! The body that puts targets.
+
+ghost use Rattle.std.specs.Prelude.{◌≡◌};
+ghost use Rattle.serde_json.specs.View.{view};
+ghost use Rattle.mgmt_objects.specs.Readings.{ReadsAs, ReadsBy};
+ghost use Rattle.mgmt_objects.specs.TargetBodies.{has_row_of, have_distinct_ids, posted_rows, tags_member, target_row_of, targets_body, token_digest_member, word_in, word_member, words_member};
+
+use crate::body::read_value;
+use crate::list::{Item, read_array};
+use crate::member::read_text;
+use artifact_pieces::describe;
+use rollout_model::{ControllerId, Digest, Refusal, Tags, TargetRow, TargetRows, Token, Word};
+use serde_json::Value;
+use std::alloc::Global;
+
+fn word_in(value: &Value) -> Option<Word>
+    ensures { result ≡ word_in (view value.now) }
+{
+    let text = value.as_str()?;
+    Word::read(text)
+}
+
+/// A tag in an array of tags.
+impl Item for Word {
+    ghost reads = { word_in };
+
+    fn read(_alloc: Global, value: &Value) -> Result<Self, Refusal> {
+        match word_in(value) {
+            Some(word) => Ok(word),
+            None => Err(Refusal::BadRequest),
+        }
+    }
+}
+
+fn read_id(object: &Value, key: &str) -> Option<ControllerId>
+    ensures { result ≡ word_member key.now (view object.now) }
+{
+    let text = object.get(key).and_then(Value::as_str)?;
+    ControllerId::read(text)
+}
+
+/// The digest of a member that is a token. The token itself is kept nowhere.
+fn read_token_digest(object: &Value, key: &str) -> Option<Digest>
+    ensures { result ≡ token_digest_member key.now (view object.now) }
+{
+    let text = object.get(key).and_then(Value::as_str)?;
+    let token = Token::read(text)?;
+    let description = describe(token.as_bytes());
+    Some(description.digest)
+}
+
+/// The words of a member that is an array, and none where it is missing.
+fn read_words(alloc: Global, object: &Value, key: &str) -> Result<Vec<Word>, Refusal>
+    ensures { ReadsBy (λ v. v.items) (words_member key.now (view object.now)) result }
+{
+    match object.get(key) {
+        Some(list) => read_array::<Word>(alloc, list),
+        None => Ok(Vec::new(alloc)),
+    }
+}
+
+fn read_tags(alloc: Global, object: &Value) -> Result<Tags, Refusal>
+    ensures { ReadsAs (tags_member (view object.now)) result }
+{
+    let words = read_words(alloc, object, "tags")?;
+    match Tags::from_words(words) {
+        Some(tags) => Ok(tags),
+        None => Err(Refusal::BadRequest),
+    }
+}
+
+/// An object with `controllerId`, `name`, `securityToken` and perhaps `tags`.
+impl Item for TargetRow {
+    ghost reads = { target_row_of };
+
+    fn read(alloc: Global, value: &Value) -> Result<Self, Refusal> {
+        let Some(id) = read_id(value, "controllerId") else {
+            return Err(Refusal::BadRequest);
+        };
+        let name = read_text(alloc, value, "name")?;
+        let Some(digest) = read_token_digest(value, "securityToken") else {
+            return Err(Refusal::BadRequest);
+        };
+        let tags = read_tags(alloc, value)?;
+        Ok(TargetRow {
+            id,
+            name,
+            digest,
+            tags,
+        })
+    }
+}
+
+/// Whether some row is one of the target of this id.
+fn has_row_of(rows: &[TargetRow], id: &ControllerId) -> bool
+    ensures { result ≡ has_row_of id.now rows.now }
+{
+    rows.iter().any(|row| row.id == *id)
+}
+
+/// Whether no two rows are of one id.
+fn have_distinct_ids(rows: &[TargetRow]) -> bool
+    ensures { result ≡ have_distinct_ids rows.now }
+{
+    match rows {
+        [] => true,
+        [first, rest @ ..] => !has_row_of(rest, &first.id) && have_distinct_ids(rest),
+    }
+}
+
+fn posted(rows: Vec<TargetRow>) -> Option<TargetRows>
+    ensures { result ≡ posted_rows rows.items }
+{
+    let count = rows.len();
+    let are_posted = 1 <= count && count <= 100 && have_distinct_ids(&rows);
+    if !are_posted {
+        return None;
+    }
+    Some(TargetRows::from_rows(rows))
+}
+
+/// What the body of `POST /rest/v1/targets` puts: an array of 1 to 100 objects, no two of one `controllerId`, each with
+/// `controllerId`, `name`, `securityToken` and perhaps `tags`, at most 16 words, none of them twice.
+pub fn read_targets_body(alloc: Global, bytes: &[u8]) -> Result<TargetRows, Refusal>
+    ensures { ReadsAs (targets_body bytes.now) result }
+{
+    let value = read_value(alloc, bytes)?;
+    let rows = read_array::<TargetRow>(alloc, &value)?;
+    match posted(rows) {
+        Some(rows) => Ok(rows),
+        None => Err(Refusal::BadRequest),
+    }
+}
