@@ -1,5 +1,7 @@
 """What `run` and `crash` share: requests, replies, and where the programs are."""
+import hashlib
 import os
+import random
 import subprocess
 
 HERE = os.path.dirname(os.path.abspath(__file__))
@@ -43,6 +45,42 @@ def reply(status, body):
 def added(number):
     """The reply to the request that added the module."""
     return reply("201 Created", f"[{module(number)}]")
+
+
+def contents(number):
+    """The bytes of the artifact that is added in this place: 1 MiB."""
+    return random.Random(number).randbytes(1 << 20)
+
+
+def holder(number):
+    """The module that takes the artifact."""
+    return (number - 1) // 8 + 1
+
+
+def uploading(number):
+    """The request that adds the artifact."""
+    head = f"POST /rest/v1/softwaremodules/{holder(number)}/artifacts?filename=f{number}.bin HTTP/1.1"
+    return f"{head}\r\nContent-Length: {1 << 20}\r\n\r\n".encode() + contents(number)
+
+
+def uploaded(number):
+    """The reply to it."""
+    digest = hashlib.sha256(contents(number)).hexdigest()
+    return reply(
+        "201 Created",
+        f'{{"hashes":{{"sha256":"{digest}"}},"id":{number},"providedFilename":"f{number}.bin","size":{1 << 20}}}',
+    )
+
+
+def downloading(number):
+    """The request for the artifact's bytes."""
+    return f"GET /rest/v1/softwaremodules/{holder(number)}/artifacts/{number}/download HTTP/1.1\r\n\r\n".encode()
+
+
+def downloaded(number):
+    """The reply to it."""
+    head = f"HTTP/1.1 200 OK\r\nContent-Type: application/octet-stream\r\nContent-Length: {1 << 20}\r\n\r\n"
+    return head.encode() + contents(number)
 
 
 EXISTS = reply("409 Conflict", '{"error":"exists","number":5}')

@@ -8,12 +8,14 @@
 #include <unistd.h>
 
 enum { HEAD_LIMIT = 8192, BODY_LIMIT = 1048576, TEXT_LIMIT = 128, MODULE_LIMIT = 1000 };
+enum { MODULE_ARTIFACT_LIMIT = 8, ARTIFACT_LIMIT = 256, PIECE_LENGTH = 65536 };
 
 typedef struct { char bytes[TEXT_LIMIT + 1]; size_t len; } Text;
 typedef struct { Text name, type, version; } Label;
 
 static sqlite3 *db;
 static sqlite3_stmt *begin, *commit, *rollback, *find_label, *last_number, *put_module, *get_module;
+static sqlite3_stmt *find_artifact, *count_artifacts, *last_artifact, *put_artifact, *put_piece, *get_artifact, *get_piece;
 
 static void die(const char *what) {
     fprintf(stderr, "%s: %s\n", what, db ? sqlite3_errmsg(db) : "");
@@ -34,6 +36,13 @@ static void open_store(const char *path) {
         "PRAGMA locking_mode=EXCLUSIVE; PRAGMA journal_mode=WAL; PRAGMA synchronous=FULL; BEGIN;"
         "CREATE TABLE IF NOT EXISTS desk (id INTEGER PRIMARY KEY, format TEXT NOT NULL, version INTEGER NOT NULL, approval INTEGER NOT NULL) STRICT;"
         "CREATE TABLE IF NOT EXISTS module (number INTEGER PRIMARY KEY, name TEXT NOT NULL, type TEXT NOT NULL, version TEXT NOT NULL, UNIQUE (name, type, version)) STRICT;"
+        "CREATE TABLE IF NOT EXISTS dset (number INTEGER PRIMARY KEY, name TEXT NOT NULL, version TEXT NOT NULL, UNIQUE (name, version)) STRICT;"
+        "CREATE TABLE IF NOT EXISTS set_module (dset INTEGER NOT NULL, place INTEGER NOT NULL, module INTEGER NOT NULL, PRIMARY KEY (dset, place), UNIQUE (module, dset)) STRICT;"
+        "CREATE TABLE IF NOT EXISTS artifact (number INTEGER PRIMARY KEY, module INTEGER NOT NULL, filename TEXT NOT NULL, size INTEGER NOT NULL, sha256 BLOB NOT NULL, UNIQUE (module, filename)) STRICT;"
+        "CREATE TABLE IF NOT EXISTS piece (artifact INTEGER NOT NULL, sequence INTEGER NOT NULL, bytes BLOB NOT NULL, PRIMARY KEY (artifact, sequence)) STRICT;"
+        "CREATE TABLE IF NOT EXISTS target (controller TEXT NOT NULL PRIMARY KEY, name TEXT NOT NULL, digest BLOB NOT NULL) STRICT;"
+        "CREATE TABLE IF NOT EXISTS target_tag (controller TEXT NOT NULL, tag TEXT NOT NULL, PRIMARY KEY (controller, tag)) STRICT;"
+        "CREATE TABLE IF NOT EXISTS target_attribute (controller TEXT NOT NULL, key TEXT NOT NULL, value TEXT NOT NULL, PRIMARY KEY (controller, key)) STRICT;"
         "INSERT OR IGNORE INTO desk (id, format, version, approval) VALUES (1, 'fwdesk', 1, 0);"
         "COMMIT;";
     if (sqlite3_exec(db, setup, NULL, NULL, NULL) != SQLITE_OK) die("setup");
@@ -44,6 +53,13 @@ static void open_store(const char *path) {
     last_number = prepared("SELECT number FROM module ORDER BY number DESC LIMIT 1");
     put_module = prepared("INSERT INTO module (number, name, type, version) VALUES (?1, ?2, ?3, ?4)");
     get_module = prepared("SELECT name, type, version FROM module WHERE number = ?1");
+    find_artifact = prepared("SELECT number FROM artifact WHERE module = ?1 AND filename = ?2");
+    count_artifacts = prepared("SELECT count(*) FROM artifact WHERE module = ?1");
+    last_artifact = prepared("SELECT number FROM artifact ORDER BY number DESC LIMIT 1");
+    put_artifact = prepared("INSERT INTO artifact (number, module, filename, size, sha256) VALUES (?1, ?2, ?3, ?4, ?5)");
+    put_piece = prepared("INSERT INTO piece (artifact, sequence, bytes) VALUES (?1, ?2, ?3)");
+    get_artifact = prepared("SELECT size FROM artifact WHERE number = ?1 AND module = ?2");
+    get_piece = prepared("SELECT bytes FROM piece WHERE artifact = ?1 AND sequence = ?2");
 }
 
 static int row_of(sqlite3_stmt *statement) {
@@ -80,6 +96,116 @@ static int64_t add_module(const Label *label) {
     done(put_module);
     done(commit);
     return last + 1;
+}
+
+// ---- SHA-256 (FIPS 180-4)
+
+static uint32_t turned(uint32_t word, int by) { return word >> by | word << (32 - by); }
+
+// The first 32 bits of the fractional part of a root of a prime: the square root, or the cube root.
+static uint32_t root_bits(int prime, int cube) {
+    long double low = 0, high = prime;
+    for (int i = 0; i < 100; i++) {
+        long double middle = (low + high) / 2;
+        if ((cube ? middle * middle * middle : middle * middle) <= prime) low = middle;
+        else high = middle;
+    }
+    return (uint32_t)((low - (long double)(int)low) * 4294967296.0L);
+}
+
+static uint32_t first_state[8], constants[64];
+
+static void make_constants(void) {
+    for (int prime = 2, found = 0; found < 64; prime++) {
+        int is_prime = 1;
+        for (int d = 2; d * d <= prime; d++) is_prime &= prime % d != 0;
+        if (!is_prime) continue;
+        if (found < 8) first_state[found] = root_bits(prime, 0);
+        constants[found++] = root_bits(prime, 1);
+    }
+}
+
+static void take_block(uint32_t state[8], const unsigned char *block) {
+    uint32_t w[64], v[8];
+    for (int i = 0; i < 16; i++)
+        w[i] = (uint32_t)block[4 * i] << 24 | (uint32_t)block[4 * i + 1] << 16 | (uint32_t)block[4 * i + 2] << 8 | block[4 * i + 3];
+    for (int i = 16; i < 64; i++) {
+        uint32_t a = w[i - 15], b = w[i - 2];
+        w[i] = w[i - 16] + w[i - 7] + (turned(a, 7) ^ turned(a, 18) ^ a >> 3) + (turned(b, 17) ^ turned(b, 19) ^ b >> 10);
+    }
+    memcpy(v, state, sizeof v);
+    for (int i = 0; i < 64; i++) {
+        uint32_t t = v[7] + (turned(v[4], 6) ^ turned(v[4], 11) ^ turned(v[4], 25)) + ((v[4] & v[5]) ^ (~v[4] & v[6])) + constants[i] + w[i];
+        uint32_t u = (turned(v[0], 2) ^ turned(v[0], 13) ^ turned(v[0], 22)) + ((v[0] & v[1]) ^ (v[0] & v[2]) ^ (v[1] & v[2]));
+        memmove(v + 1, v, 7 * sizeof *v);
+        v[4] += t;
+        v[0] = t + u;
+    }
+    for (int i = 0; i < 8; i++) state[i] += v[i];
+}
+
+static void digest_of(const unsigned char *bytes, size_t len, unsigned char digest[32]) {
+    uint32_t state[8];
+    unsigned char last[128] = {0};
+    size_t whole = len / 64 * 64, rest = len - whole, size = rest < 56 ? 64 : 128;
+    memcpy(state, first_state, sizeof state);
+    for (size_t at = 0; at < whole; at += 64) take_block(state, bytes + at);
+    memcpy(last, bytes + whole, rest);
+    last[rest] = 0x80;
+    for (int i = 0; i < 8; i++) last[size - 1 - i] = (unsigned char)((uint64_t)len * 8 >> 8 * i);
+    for (size_t at = 0; at < size; at += 64) take_block(state, last + at);
+    for (int i = 0; i < 32; i++) digest[i] = (unsigned char)(state[i / 4] >> (24 - 8 * (i % 4)));
+}
+
+// ---- artifacts
+
+static int64_t number_in(sqlite3_stmt *statement) {
+    int64_t number = row_of(statement) ? sqlite3_column_int64(statement, 0) : 0;
+    sqlite3_reset(statement);
+    return number;
+}
+
+static int has_module(int64_t module) {
+    sqlite3_bind_int64(get_module, 1, module);
+    int is_there = row_of(get_module);
+    sqlite3_reset(get_module);
+    return is_there;
+}
+
+// The refusal's number, or 0 where the module takes the file.
+static int artifact_refusal(int64_t module, const char *name, size_t name_len, int64_t last) {
+    if (!has_module(module)) return 3;
+    sqlite3_bind_int64(find_artifact, 1, module);
+    sqlite3_bind_text(find_artifact, 2, name, (int)name_len, SQLITE_STATIC);
+    if (number_in(find_artifact)) return 5;
+    sqlite3_bind_int64(count_artifacts, 1, module);
+    return number_in(count_artifacts) >= MODULE_ARTIFACT_LIMIT || last >= ARTIFACT_LIMIT ? 10 : 0;
+}
+
+// The new number, or the refusal's number negated.
+static int64_t add_artifact(int64_t module, const char *name, size_t name_len, const char *bytes, size_t len, unsigned char digest[32]) {
+    done(begin);
+    int64_t number = number_in(last_artifact) + 1;
+    int refusal = artifact_refusal(module, name, name_len, number - 1);
+    if (refusal) {
+        done(rollback);
+        return -refusal;
+    }
+    digest_of((const unsigned char *)bytes, len, digest);
+    sqlite3_bind_int64(put_artifact, 1, number);
+    sqlite3_bind_int64(put_artifact, 2, module);
+    sqlite3_bind_text(put_artifact, 3, name, (int)name_len, SQLITE_STATIC);
+    sqlite3_bind_int64(put_artifact, 4, (int64_t)len);
+    sqlite3_bind_blob(put_artifact, 5, digest, 32, SQLITE_STATIC);
+    done(put_artifact);
+    for (size_t at = 0; at < len; at += PIECE_LENGTH) {
+        sqlite3_bind_int64(put_piece, 1, number);
+        sqlite3_bind_int64(put_piece, 2, (int64_t)(at / PIECE_LENGTH) + 1);
+        sqlite3_bind_blob(put_piece, 3, bytes + at, (int)(len - at < PIECE_LENGTH ? len - at : PIECE_LENGTH), SQLITE_STATIC);
+        done(put_piece);
+    }
+    done(commit);
+    return number;
 }
 
 // ---- JSON
@@ -212,7 +338,50 @@ static void answer_get(int64_t number) {
     sqlite3_reset(get_module);
 }
 
+static void answer_upload(int64_t module, const char *name, const char *body, size_t len) {
+    unsigned char digest[32];
+    size_t name_len = strcspn(name, " &");
+    if (name_len == 0 || name_len > TEXT_LIMIT) return refuse("400 Bad Request", "bad_request", 1);
+    int64_t number = add_artifact(module, name, name_len, body, len, digest);
+    if (number == -3) return refuse("404 Not Found", "not_found", 3);
+    if (number == -5) return refuse("409 Conflict", "exists", 5);
+    if (number == -10) return refuse("403 Forbidden", "quota", 10);
+    char text[512], digits[65];
+    for (int i = 0; i < 32; i++) sprintf(digits + 2 * i, "%02x", digest[i]);
+    int size = sprintf(text, "{\"hashes\":{\"sha256\":\"%s\"},\"id\":%lld,\"providedFilename\":\"%.*s\",\"size\":%zu}",
+                       digits, (long long)number, (int)name_len, name, len);
+    reply("201 Created", text, (size_t)size);
+}
+
+static void answer_download(int64_t module, int64_t number) {
+    static char contents[BODY_LIMIT];
+    char head[128];
+    sqlite3_bind_int64(get_artifact, 1, number);
+    sqlite3_bind_int64(get_artifact, 2, module);
+    int is_there = row_of(get_artifact);
+    size_t size = is_there ? (size_t)sqlite3_column_int64(get_artifact, 0) : 0;
+    sqlite3_reset(get_artifact);
+    if (!is_there) return refuse("404 Not Found", "not_found", 3);
+    for (size_t at = 0; at < size;) {
+        sqlite3_bind_int64(get_piece, 1, number);
+        sqlite3_bind_int64(get_piece, 2, (int64_t)(at / PIECE_LENGTH) + 1);
+        if (!row_of(get_piece)) die("piece");
+        size_t len = (size_t)sqlite3_column_bytes(get_piece, 0);
+        memcpy(contents + at, sqlite3_column_blob(get_piece, 0), len);
+        sqlite3_reset(get_piece);
+        at += len;
+    }
+    send_all(head, (size_t)sprintf(head, "HTTP/1.1 200 OK\r\nContent-Type: application/octet-stream\r\nContent-Length: %zu\r\n\r\n", size));
+    send_all(contents, size);
+}
+
 static void answer(const char *head, const char *body, size_t len) {
+    long long module, number;
+    int at = 0;
+    if (sscanf(head, "POST /rest/v1/softwaremodules/%lld/artifacts?filename=%n", &module, &at) == 1 && at)
+        return answer_upload(module, head + at, body, len);
+    if (sscanf(head, "GET /rest/v1/softwaremodules/%lld/artifacts/%lld/download HTTP/1.1%n", &module, &number, &at) == 2 && at)
+        return answer_download(module, number);
     const char *post = "POST /rest/v1/softwaremodules HTTP/1.1\r\n", *get = "GET /rest/v1/softwaremodules/";
     if (!strncmp(head, post, strlen(post))) return answer_post(body, len);
     if (!strncmp(head, get, strlen(get))) return answer_get(atoll(head + strlen(get)));
@@ -239,6 +408,7 @@ int main(int count, char **words) {
     for (int i = 1; i + 1 < count; i++)
         if (!strcmp(words[i], "--db")) path = words[i + 1];
     if (!path) die("run --db PATH --interface mgmt");
+    make_constants();
     open_store(path);
     static char bytes[HEAD_LIMIT + BODY_LIMIT + 65536];
     size_t len = 0;
@@ -250,7 +420,8 @@ int main(int count, char **words) {
         while ((taken = answer_first(bytes + at, len - at))) at += taken;
         memmove(bytes, bytes + at, len -= at);
     }
-    sqlite3_stmt *all[] = {begin, commit, rollback, find_label, last_number, put_module, get_module};
+    sqlite3_stmt *all[] = {begin,         commit,          rollback,      find_label,   last_number, put_module,   get_module,
+                           find_artifact, count_artifacts, last_artifact, put_artifact, put_piece,   get_artifact, get_piece};
     for (size_t i = 0; i < sizeof all / sizeof *all; i++) sqlite3_finalize(all[i]);
     return sqlite3_close(db) != SQLITE_OK;
 }
