@@ -1,7 +1,7 @@
 -- The rows of the verdicts at their borders, by computing.
 use Rattle.std.proofs.Common.{◌≡◌, ℕ, Bool, true, false, Some, None, [], refl}
-use Rattle.rollout_model.specs.declared.refusal.Refusal.TheVariants.{NotFound, Locked, Exists, Quota, WrongDigest}
-use Rattle.campaign_core.specs.Checks.{module_refusal, artifact_refusal, set_refusal}
+use Rattle.rollout_model.specs.declared.refusal.Refusal.TheVariants.{Unauthorized, NotFound, Locked, Exists, Quota, WrongDigest}
+use Rattle.campaign_core.specs.Checks.{module_refusal, artifact_refusal, attributes_refusal, set_refusal}
 use Rattle.campaign_core.specs.declared.checks.artifacts.ArtifactView.{ArtifactView}
 
 module_999 : module_refusal (record { same = false; count = 999 }) ≡ None
@@ -48,3 +48,12 @@ set_again = refl
 
 set_of_nothing : set_refusal (record { misses_module = true; same = true; count = 1000 }) ≡ Some NotFound
 set_of_nothing = refl
+
+attributes_32 : attributes_refusal (record { misses_device = false; count_after = 32 }) ≡ None
+attributes_32 = refl
+
+attributes_33 : attributes_refusal (record { misses_device = false; count_after = 33 }) ≡ Some Quota
+attributes_33 = refl
+
+attributes_of_a_stranger : attributes_refusal (record { misses_device = true; count_after = 33 }) ≡ Some Unauthorized
+attributes_of_a_stranger = refl

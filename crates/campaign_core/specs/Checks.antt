@@ -3,16 +3,16 @@ use Rattle.std.specs.Prelude.{◌≡◌, ◌+◌, ℕ, Bool, ◌&&◌, ◌||◌,
 use Rattle.std.specs.List.{list_any}
 use Rattle.rollout_machine.specs.ByteStrings.{contains_word, item_numbered, same_bytes, with_word, with_words, without_word}
 use Rattle.rollout_machine.specs.CommandList.{CommandList, ◌▸◌}
-use Rattle.rollout_machine.specs.Commands.{Bytes, Command, AddArtifact, AddModule, AddSet, PutTargets, Tag, Untag, ModuleLabel, SetLabel, TargetRow, Upload}
+use Rattle.rollout_machine.specs.Commands.{Attribute, Bytes, Command, Credential, AddArtifact, AddModule, AddSet, PutAttributes, PutTargets, Tag, Untag, ModuleLabel, SetLabel, TargetRow, Upload}
 use Rattle.rollout_machine.specs.Digests.{digest_of}
 use Rattle.rollout_machine.specs.RecordSteps.{change_target, put_targets, step_records}
 use Rattle.rollout_machine.specs.Records.{ArtifactRecord, Records, records}
-use Rattle.rollout_machine.specs.Targets.{Target}
+use Rattle.rollout_machine.specs.Targets.{Target, with_attributes}
 use Rattle.rollout_machine.specs.Validity.{IsValid}
-use Rattle.rollout_machine.specs.Verdicts.{first_refusal, check, is_named_by_set, tags_of, target_of, verdict, wrong_digest}
-use Rattle.rollout_model.specs.Limits.{artifact_limit, module_artifact_limit, module_limit, set_limit, tag_limit, target_limit}
+use Rattle.rollout_machine.specs.Verdicts.{first_refusal, check, is_known, is_named_by_set, keys_of, tags_of, target_of, verdict, wrong_digest}
+use Rattle.rollout_model.specs.Limits.{artifact_limit, attribute_limit, module_artifact_limit, module_limit, set_limit, tag_limit, target_limit}
 use Rattle.rollout_model.specs.declared.refusal.Refusal.{Refusal}
-use Rattle.rollout_model.specs.declared.refusal.Refusal.TheVariants.{NotFound, Locked, Exists, Quota, WrongDigest}
+use Rattle.rollout_model.specs.declared.refusal.Refusal.TheVariants.{Unauthorized, NotFound, Locked, Exists, Quota, WrongDigest}
 use Rattle.campaign_core.specs.declared.checks.View.{View}
 use Rattle.campaign_core.specs.declared.checks.View.TheVariants as view
 use Rattle.campaign_core.specs.declared.checks.Change.{Change}
@@ -23,6 +23,7 @@ use Rattle.campaign_core.specs.declared.checks.modules.ModuleView.{ModuleView}
 use Rattle.campaign_core.specs.declared.checks.modules.NewModule.{NewModule}
 use Rattle.campaign_core.specs.declared.checks.sets.SetView.{SetView}
 use Rattle.campaign_core.specs.declared.checks.sets.NewSet.{NewSet}
+use Rattle.campaign_core.specs.declared.checks.targets.AttributesView.{AttributesView}
 use Rattle.campaign_core.specs.declared.checks.targets.ImportView.{ImportView}
 use Rattle.campaign_core.specs.declared.checks.targets.TagView.{TagView}
 use Rattle.campaign_core.specs.declared.checks.targets.UntagView.{UntagView}
@@ -126,6 +127,20 @@ untag_refusal v = first_refusal ((v.misses_target, NotFound) ∷ [])
 abbrev pub ChangesTags : (List Bytes → List Bytes) → Bytes → Records → Records → Type 0
 ChangesTags f t old new = new ≡ record old { targets = change_target t (λ (u : Target). record u { tags = f u.tags }) old.targets }
 
+-- ---- attributes
+
+-- of what a device gives, in these records
+pub record IsAttributesView (v : AttributesView) (device : Credential) (given : List Attribute) (rs : Records) : Type 0 where
+  pub misses_device : v.misses_device ≡ not (is_known rs device)
+  pub count_after : v.count_after ≡ length (with_words (map (λ (a : Attribute). a.key) given) (keys_of (target_of rs device.id)))
+
+abbrev pub attributes_refusal : AttributesView → Option Refusal
+attributes_refusal v = first_refusal ((v.misses_device, Unauthorized) ∷ (nat_lt attribute_limit v.count_after, Quota) ∷ [])
+
+-- the attributes of target t get the values that are given, where it is there
+abbrev pub GivesAttributes : List Attribute → Bytes → Records → Records → Type 0
+GivesAttributes given t old new = new ≡ record old { targets = change_target t (λ (u : Target). record u { attributes = with_attributes given u.attributes }) old.targets }
+
 -- ---- any command
 
 -- the view is of the command, in these records
@@ -136,6 +151,7 @@ IsViewOf (view.AddSet v) (AddSet label) rs = IsSetView v label rs
 IsViewOf (view.PutTargets v) (PutTargets rows) rs = IsImportView v rows rs
 IsViewOf (view.Tag v) (Tag t x) rs = IsTagView v t x rs
 IsViewOf (view.Untag v) (Untag t x) rs = IsUntagView v t rs
+IsViewOf (view.PutAttributes v) (PutAttributes device given) rs = IsAttributesView v device given rs
 IsViewOf _ _ rs = ⊥
 
 -- the change of the command takes the old records to the new ones
@@ -146,6 +162,7 @@ LeadsTo (change.AddSet s) (AddSet label) old new = AddsSet s label old new
 LeadsTo change.PutTargets (PutTargets rows) old new = new ≡ record old { targets = put_targets rows old.targets }
 LeadsTo change.Tag (Tag t x) old new = ChangesTags (with_word x) t old new
 LeadsTo change.Untag (Untag t x) old new = ChangesTags (without_word x) t old new
+LeadsTo change.PutAttributes (PutAttributes device given) old new = GivesAttributes given device.id old new
 LeadsTo _ _ old new = ⊥
 
 -- the machine's verdict over these records, and its step

@@ -12,7 +12,7 @@ pub use artifacts::{ArtifactView, NewArtifact};
 pub use modules::{ModuleView, NewModule};
 use rollout_model::{Command, Refusal};
 pub use sets::{NewSet, SetView};
-pub use targets::{ImportView, TagView, UntagView};
+pub use targets::{AttributesView, ImportView, TagView, UntagView};
 
 /// What the verdict on a command and its change rest on.
 #[derive(Clone, Copy, Debug, PartialEq, Eq)]
@@ -23,6 +23,7 @@ pub enum View {
     PutTargets(ImportView),
     Tag(TagView),
     Untag(UntagView),
+    PutAttributes(AttributesView),
 }
 
 /// What is written of an accepted command, beside what the command itself says.
@@ -34,6 +35,7 @@ pub enum Change {
     PutTargets,
     Tag,
     Untag,
+    PutAttributes,
 }
 
 /// The verdict on a command and its change, over all records that the view is of.
@@ -65,13 +67,20 @@ fn decide(view: &View, command: &Command) -> Result<Change, Refusal>
             Ok(()) => Ok(Change::Untag),
             Err(refusal) => Err(refusal),
         },
+        (View::PutAttributes(view), Command::PutAttributes(_, _)) => {
+            match targets::put_attributes(view) {
+                Ok(()) => Ok(Change::PutAttributes),
+                Err(refusal) => Err(refusal),
+            }
+        }
         (
             View::AddModule(_)
             | View::AddArtifact(_)
             | View::AddSet(_)
             | View::PutTargets(_)
             | View::Tag(_)
-            | View::Untag(_),
+            | View::Untag(_)
+            | View::PutAttributes(_),
             _,
         ) => Err(Refusal::WrongState),
     }

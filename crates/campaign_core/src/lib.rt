@@ -9,8 +9,8 @@ mod status_words;
 mod thresholds;
 
 pub use checks::{
-    ArtifactView, Change, ImportView, ModuleView, NewArtifact, NewModule, NewSet, SetView, TagView,
-    UntagView, View, check,
+    ArtifactView, AttributesView, Change, ImportView, ModuleView, NewArtifact, NewModule, NewSet,
+    SetView, TagView, UntagView, View, check,
 };
 pub use effects::{after_feedback, after_resume, after_trigger};
 pub use groups::{cut_groups, group_bounds};

@@ -1,15 +1,15 @@
 //! Runs of small rollouts, worked by hand: ten targets in three groups, of which the first has three members.
 
 use crate::{
-    ActionStatus, ArtifactView, Change, GroupStatus, ImportView, ModuleView, RolloutStatus,
-    SetView, TagView, TargetStatus, UntagView, View, action_word, after_feedback, after_resume,
-    after_trigger, check, cut_groups, error_begins, group_bounds, group_word, rollout_word,
-    success_holds, target_word,
+    ActionStatus, ArtifactView, AttributesView, Change, GroupStatus, ImportView, ModuleView,
+    RolloutStatus, SetView, TagView, TargetStatus, UntagView, View, action_word, after_feedback,
+    after_resume, after_trigger, check, cut_groups, error_begins, group_bounds, group_word,
+    rollout_word, success_holds, target_word,
 };
 use rollout_machine::{Bounds, Effects, GroupView, Outcome, RolloutView};
 use rollout_model::{
-    Approval, Command, Contents, ControllerId, Digest, Filename, ModuleLabel, ModuleList, ModuleNo,
-    Refusal, SetLabel, TargetRows, Text, Upload, Word,
+    Approval, Attributes, Command, ConfigData, Contents, ControllerId, Credential, Digest,
+    Filename, ModuleLabel, ModuleList, ModuleNo, Refusal, SetLabel, TargetRows, Text, Upload, Word,
 };
 use std::alloc::Global;
 use std::test::Fail;
@@ -72,7 +72,7 @@ fn number_told(change: Change) -> u32 {
         Change::AddModule(module) => module.number.get(),
         Change::AddArtifact(artifact) => artifact.number.get(),
         Change::AddSet(set) => set.number.get(),
-        Change::PutTargets | Change::Tag | Change::Untag => 0,
+        Change::PutTargets | Change::Tag | Change::Untag | Change::PutAttributes => 0,
     }
 }
 
@@ -209,6 +209,34 @@ fn verdicts_on_targets(rt: HostRuntime) {
         let view = View::PutTargets(ImportView { count_after });
         assert_eq!(rt; check(&view, &command), told);
     }
+}
+
+/// The command by which the device `dev-01` gives no attribute.
+fn attributes_given(alloc: Global) -> Option<Command> {
+    let device = Credential {
+        id: ControllerId::read("dev-01")?,
+        digest: Digest::new([7; 32]),
+    };
+    let given = ConfigData::from_attributes(Attributes::new(alloc))?;
+    Some(Command::PutAttributes(device, given))
+}
+
+#[test]
+fn verdicts_on_attributes(rt: HostRuntime) -> Result<(), Fail> {
+    let command = attributes_given(rt.alloc()).ok_or("command")?;
+    for (misses_device, count_after, told) in [
+        (false, 32, Ok(Change::PutAttributes)),
+        (false, 33, Err(Refusal::Quota)),
+        (true, 32, Err(Refusal::Unauthorized)),
+        (true, 33, Err(Refusal::Unauthorized)),
+    ] {
+        let view = View::PutAttributes(AttributesView {
+            misses_device,
+            count_after,
+        });
+        assert_eq!(rt; check(&view, &command), told);
+    }
+    Ok(())
 }
 
 #[test]

@@ -5,17 +5,13 @@ pub use Rattle.rollout_model.specs.declared.artifact.Upload.{Upload}
 pub use Rattle.rollout_model.specs.declared.distribution_set.SetLabel.{SetLabel}
 pub use Rattle.rollout_model.specs.declared.target.Attribute.{Attribute}
 pub use Rattle.rollout_model.specs.declared.target_row.TargetRow.{TargetRow}
+pub use Rattle.rollout_model.specs.declared.credential.Credential.{Credential}
 pub use Rattle.rollout_machine.specs.declared.outcome.Outcome.{Outcome}
 pub use Rattle.rollout_machine.specs.declared.outcome.Outcome.TheVariants.{Good, Bad, Gone}
 
 -- a text, a word, a token's digest or a file, by its bytes
 abbrev pub Bytes : Type 0
 Bytes = List ℕ
-
--- who a device says it is, with the digest of the token that it showed
-pub record Credential : Type 0 where
-  pub id : Bytes
-  pub digest : Bytes
 
 -- what a rollout is created from. The thresholds are percentages from 1 to 100
 pub record RolloutPlan : Type 0 where

@@ -1,18 +1,18 @@
 -- The pure values of the types of commands, queries and replies.
 use Rattle.std.specs.Prelude.{map}
 use Rattle.rollout_model.specs.declared.request.Command.{Command as RustCommand}
-use Rattle.rollout_model.specs.declared.request.Command.TheVariants.{AddModule as RustAddModule, AddArtifact as RustAddArtifact, AddSet as RustAddSet, PutTargets as RustPutTargets, Tag as RustTag, Untag as RustUntag}
+use Rattle.rollout_model.specs.declared.request.Command.TheVariants.{AddModule as RustAddModule, AddArtifact as RustAddArtifact, AddSet as RustAddSet, PutTargets as RustPutTargets, Tag as RustTag, Untag as RustUntag, PutAttributes as RustPutAttributes}
 use Rattle.rollout_model.specs.declared.request.Query.{Query as RustQuery}
-use Rattle.rollout_model.specs.declared.request.Query.TheVariants.{Modules as RustModules, Module as RustModule, Artifacts as RustArtifacts, Artifact as RustArtifact, Contents as RustContents, Sets as RustSets, Set as RustSet, Target as RustTarget}
+use Rattle.rollout_model.specs.declared.request.Query.TheVariants.{Modules as RustModules, Module as RustModule, Artifacts as RustArtifacts, Artifact as RustArtifact, Contents as RustContents, Sets as RustSets, Set as RustSet, Targets as RustTargets, Target as RustTarget}
 use Rattle.rollout_model.specs.declared.request.Request.{Request as RustRequest}
 use Rattle.rollout_model.specs.declared.request.Request.TheVariants.{Do as RustDo, Ask as RustAsk}
 use Rattle.rollout_model.specs.declared.page.PageOf.{PageOf as RustPageOf}
 use Rattle.rollout_model.specs.declared.shown_target.ShownTarget.{ShownTarget as RustShownTarget}
 use Rattle.rollout_model.specs.declared.request.Reply.{Reply as RustReply}
 use Rattle.rollout_model.specs.declared.request.Reply.TheVariants.{Done as RustDone, ModuleAdded as RustModuleAdded, Modules as RustModulesShown, Module as RustModuleShown, ArtifactAdded as RustArtifactAdded, Artifacts as RustArtifactsShown, Artifact as RustArtifactShown, Contents as RustContentsShown, SetAdded as RustSetAdded, Sets as RustSetsShown, Set as RustSetShown, TargetsPut as RustTargetsPut, Targets as RustTargetsShown, Target as RustTargetShown, Refused as RustRefused}
-use Rattle.rollout_machine.specs.Commands.{Command, AddModule, AddArtifact, AddSet, PutTargets, Tag, Untag}
+use Rattle.rollout_machine.specs.Commands.{Command, AddModule, AddArtifact, AddSet, PutTargets, Tag, Untag, PutAttributes}
 use Rattle.rollout_machine.specs.Replies.{PageOf, ShownTarget, Reply, Done, ModuleAdded, ModulesShown, ModuleShown, ArtifactAdded, ArtifactsShown, ArtifactShown, ContentsShown, SetAdded, SetsShown, SetShown, TargetsPut, TargetsShown, TargetShown, Refused}
-use Rattle.rollout_machine.specs.Requests.{Query, ShowModules, ShowModule, ShowArtifacts, ShowArtifact, ShowContents, ShowSets, ShowSet, ShowTarget, Request, Do, Ask}
+use Rattle.rollout_machine.specs.Requests.{Query, ShowModules, ShowModule, ShowArtifacts, ShowArtifact, ShowContents, ShowSets, ShowSet, ShowTargets, ShowTarget, Request, Do, Ask}
 
 abbrev pub command_of : RustCommand → Command
 command_of (RustAddModule label) = AddModule label
@@ -21,6 +21,7 @@ command_of (RustAddSet label) = AddSet label
 command_of (RustPutTargets rows) = PutTargets rows
 command_of (RustTag id tag) = Tag id tag
 command_of (RustUntag id tag) = Untag id tag
+command_of (RustPutAttributes device given) = PutAttributes device given
 
 abbrev pub query_of : RustQuery → Query
 query_of (RustModules page) = ShowModules page
@@ -30,6 +31,7 @@ query_of (RustArtifact m number) = ShowArtifact m number
 query_of (RustContents m number) = ShowContents m number
 query_of (RustSets page) = ShowSets page
 query_of (RustSet number) = ShowSet number
+query_of (RustTargets filter_text page) = ShowTargets filter_text page
 query_of (RustTarget id) = ShowTarget id
 
 abbrev pub request_of : RustRequest → Request

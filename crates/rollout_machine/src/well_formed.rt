@@ -1,12 +1,13 @@
 //! What the types of a command's parts promise.
 
 ghost use Rattle.std.specs.Prelude.{◌≡◌, true};
-ghost use Rattle.rollout_machine.specs.CommandRules.{IsWellFormed, is_target_row};
-ghost use Rattle.rollout_machine.specs.Commands.{AddModule, AddArtifact, AddSet, PutTargets, Tag, Untag};
+ghost use Rattle.rollout_machine.specs.CommandRules.{IsWellFormed, is_attribute, is_target_row};
+ghost use Rattle.rollout_machine.specs.Commands.{AddModule, AddArtifact, AddSet, PutTargets, Tag, Untag, PutAttributes};
 ghost use Rattle.rollout_machine.specs.Views.{command_of};
 
 use rollout_model::{
-    Command, ControllerId, ModuleLabel, SetLabel, TargetRow, TargetRows, Upload, Word,
+    Attribute, Command, ConfigData, ControllerId, Credential, ModuleLabel, SetLabel, TargetRow,
+    TargetRows, Upload, Word,
 };
 
 /// Every command keeps the rules of commands: its parts' types keep theirs.
@@ -20,6 +21,7 @@ pub fn command_is_well_formed(command: &Command)
         Command::PutTargets(rows) => rows_are_well_formed(rows),
         Command::Tag(id, tag) => tag_is_well_formed(id, tag),
         Command::Untag(id, tag) => untag_is_well_formed(id, tag),
+        Command::PutAttributes(device, given) => config_data_is_well_formed(device, given),
     }
 }
 
@@ -79,4 +81,21 @@ fn untag_is_well_formed(id: &ControllerId, tag: &Word)
 {
     let _id = id.as_str();
     let _tag = tag.as_str();
+}
+
+fn attribute_is_well_formed(attribute: &Attribute)
+    ensures { is_attribute attribute.now ≡ true }
+{
+    let _key = attribute.key.as_str();
+    let _value = attribute.value.as_str();
+}
+
+fn config_data_is_well_formed(device: &Credential, given: &ConfigData)
+    ensures { IsWellFormed (PutAttributes device.now given.now) }
+{
+    let _id = device.id.as_str();
+    let _digest = device.digest.as_bytes();
+    for attribute in given.as_slice() {
+        attribute_is_well_formed(attribute);
+    }
 }

@@ -4,9 +4,12 @@ ghost use Rattle.std.specs.Prelude.{◌≡◌, IfOk};
 
 use crate::artifact::{Artifact, Upload};
 use crate::artifact_number::ArtifactNo;
+use crate::config_data::ConfigData;
 use crate::contents::Contents;
 use crate::controller_id::ControllerId;
+use crate::credential::Credential;
 use crate::distribution_set::{DistributionSet, SetLabel};
+use crate::filter_text::FilterText;
 use crate::module::{Module, ModuleLabel};
 use crate::number::ModuleNo;
 use crate::page::{Page, PageOf};
@@ -32,6 +35,8 @@ pub enum Command {
     Tag(ControllerId, Word),
     /// Takes a tag from a target.
     Untag(ControllerId, Word),
+    /// Gives the device's target new values of attributes. The others stay.
+    PutAttributes(Credential, ConfigData),
 }
 
 impl Command {
@@ -46,12 +51,15 @@ impl Command {
             Command::PutTargets(rows) => Ok(Command::PutTargets(rows.copy(alloc)?)),
             Command::Tag(id, tag) => Ok(Command::Tag(*id, *tag)),
             Command::Untag(id, tag) => Ok(Command::Untag(*id, *tag)),
+            Command::PutAttributes(device, given) => {
+                Ok(Command::PutAttributes(*device, given.copy(alloc)?))
+            }
         }
     }
 }
 
 /// What asks a desk and changes nothing.
-#[derive(Clone, Copy, Debug, PartialEq, Eq)]
+#[derive(Debug, PartialEq, Eq, Drop)]
 pub enum Query {
     /// A page of the modules, in the order of their numbers.
     Modules(Page),
@@ -67,6 +75,8 @@ pub enum Query {
     Sets(Page),
     /// The distribution set of this number.
     Set(SetNo),
+    /// A page of the targets in byte order of their ids: of those that match the filter, or else of all.
+    Targets(Option<FilterText>, Page),
     /// The target of this id.
     Target(ControllerId),
 }

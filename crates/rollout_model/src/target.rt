@@ -1,6 +1,6 @@
 //! Targets, the devices of a fleet.
 
-ghost use Rattle.std.specs.Prelude.{◌≡◌, [], ◌∷◌, ◌++◌, nat_eq, OnOk, OnErr};
+ghost use Rattle.std.specs.Prelude.{◌≡◌, [], ◌∷◌, ◌++◌, nat_eq, IfOk, OnOk, OnErr};
 ghost use Rattle.std.specs.Cmp.{on_equiv, on_per, partial_equiv_from_equiv};
 ghost use Rattle.std.specs.Cmp.Lexicographic.{pointwise, lists_equiv, nat_list_eq_equiv};
 ghost use Rattle.rollout_model.specs.Pairs.{is_same_attribute, pair_of};
@@ -18,6 +18,19 @@ use std::marker::Model;
 pub struct Attribute {
     pub key: Word,
     pub value: Value,
+}
+
+impl Attribute {
+    /// The same attribute in memory of its own.
+    pub fn copy(&self, alloc: Global) -> Result<Attribute, AllocError>
+        ensures { IfOk result (λ attribute. attribute ≡ self.now) }
+    {
+        let value = self.value.copy(alloc)?;
+        Ok(Attribute {
+            key: self.key,
+            value,
+        })
+    }
 }
 
 impl PartialEq for Attribute {
@@ -72,6 +85,17 @@ impl Attributes {
         ensures { result.now ≡ self.now }
     {
         self.pairs.as_slice()
+    }
+
+    /// The same attributes in memory of their own.
+    pub fn copy(&self, alloc: Global) -> Result<Attributes, AllocError>
+        ensures { IfOk result (λ attributes. attributes ≡ self.now) }
+    {
+        let mut pairs = Vec::with_capacity(alloc, self.pairs.len())?;
+        for pair in self.as_slice() {
+            pairs.push(pair.copy(alloc)?)?;
+        }
+        Ok(Attributes { pairs })
     }
 }
 

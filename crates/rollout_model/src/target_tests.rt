@@ -1,8 +1,8 @@
-//! Targets as they are put: how many tags there may be, copies, equal attributes.
+//! Targets as they are put and asked for: how many tags and attributes there may be, copies, equal attributes, filter texts.
 
 use crate::{
-    Attribute, Attributes, ControllerId, Digest, Tags, TargetRow, TargetRows, TargetWord, Text,
-    Token, Value, Word,
+    Attribute, Attributes, ConfigData, ControllerId, Digest, FilterText, Tags, TargetRow,
+    TargetRows, TargetWord, Text, Token, Value, Word,
 };
 use std::alloc::Global;
 use std::test::Fail;
@@ -96,6 +96,62 @@ fn equal_attributes(rt: HostRuntime) -> Result<(), Fail> {
     assert!(rt; linux == again);
     assert!(rt; linux != other);
     assert!(rt; linux != Attributes::new(alloc));
+    Ok(())
+}
+
+/// As many attributes, each with the key `os`; `None` for want of memory.
+fn many_attributes(alloc: Global, count: u32) -> Option<Attributes> {
+    let mut attributes = Attributes::new(alloc);
+    for _ in 0..count {
+        let value = Value::read(alloc, "linux").ok()?;
+        let pushed = attributes.push(Attribute {
+            key: Word::read("os")?,
+            value: value?,
+        });
+        pushed.ok()?;
+    }
+    Some(attributes)
+}
+
+#[test]
+fn config_data(rt: HostRuntime) {
+    for (count, is_taken) in [(0, true), (1, true), (32, true), (33, false)] {
+        let attributes = many_attributes(rt.alloc(), count);
+        let data = attributes.map(ConfigData::from_attributes);
+        assert_eq!(rt; data.map(|data| data.is_some()), Some(is_taken));
+    }
+}
+
+#[test]
+fn copies_of_attributes(rt: HostRuntime) -> Result<(), Fail> {
+    let alloc = rt.alloc();
+    let attributes = attributes_of(alloc, "linux").ok_or("linux")?;
+    let copy = attributes.copy(alloc)?;
+    assert_eq!(rt; copy, attributes);
+    for pair in attributes.as_slice() {
+        let copy = pair.copy(alloc)?;
+        assert_eq!(rt; copy.key.as_str(), "os");
+        assert_eq!(rt; copy.value.as_str(), "linux");
+    }
+    let data = ConfigData::from_attributes(attributes).ok_or("data")?;
+    let copy = data.copy(alloc)?;
+    assert_eq!(rt; copy, data);
+    assert_eq!(rt; copy.as_slice().len(), 1);
+    Ok(())
+}
+
+#[test]
+fn filter_texts(rt: HostRuntime) -> Result<(), Fail> {
+    let alloc = rt.alloc();
+    for text in ["tag==lab;name!=x*", "no filter at all", ""] {
+        let filter = FilterText::from_text(alloc, text)?;
+        assert_eq!(rt; filter.as_str(), text);
+    }
+    let lab = FilterText::from_text(alloc, "tag==lab")?;
+    let again = FilterText::from_text(alloc, "tag==lab")?;
+    let other = FilterText::from_text(alloc, "tag==la")?;
+    assert!(rt; lab == again);
+    assert!(rt; lab != other);
     Ok(())
 }
 

@@ -1,7 +1,7 @@
-//! Putting targets, and tagging them.
+//! Putting targets, tagging them, and the attributes that devices give.
 
 ghost use Rattle.std.specs.Prelude.{◌≡◌, Some, None, MatchResult};
-ghost use Rattle.campaign_core.specs.Checks.{import_refusal, tag_refusal, untag_refusal};
+ghost use Rattle.campaign_core.specs.Checks.{attributes_refusal, import_refusal, tag_refusal, untag_refusal};
 
 use rollout_model::Refusal;
 
@@ -10,6 +10,9 @@ const TARGET_LIMIT: u32 = 10_000;
 
 /// How many tags a target takes.
 const TAG_LIMIT: u32 = 16;
+
+/// How many attributes a target takes.
+const ATTRIBUTE_LIMIT: u32 = 32;
 
 /// What putting targets rests on.
 #[derive(Clone, Copy, Debug, PartialEq, Eq)]
@@ -34,6 +37,15 @@ pub struct TagView {
 pub struct UntagView {
     /// Whether the target is not there.
     pub misses_target: bool,
+}
+
+/// What putting attributes rests on.
+#[derive(Clone, Copy, Debug, PartialEq, Eq)]
+pub struct AttributesView {
+    /// Whether no target has the device's id and the digest of its token.
+    pub misses_device: bool,
+    /// How many attributes the target of this id has with the new ones.
+    pub count_after: u32,
 }
 
 /// Nothing, or the first refusal that applies.
@@ -65,6 +77,19 @@ pub(crate) fn untag(view: &UntagView) -> Result<(), Refusal>
 {
     if view.misses_target {
         return Err(Refusal::NotFound);
+    }
+    Ok(())
+}
+
+/// Nothing, or the first refusal that applies.
+pub(crate) fn put_attributes(view: &AttributesView) -> Result<(), Refusal>
+    ensures { MatchResult result (λ _. attributes_refusal view.now ≡ None) (λ refusal. attributes_refusal view.now ≡ Some refusal) }
+{
+    if view.misses_device {
+        return Err(Refusal::Unauthorized);
+    }
+    if view.count_after > ATTRIBUTE_LIMIT {
+        return Err(Refusal::Quota);
     }
     Ok(())
 }
