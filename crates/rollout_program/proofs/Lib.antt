@@ -4,4 +4,6 @@ mod AnswerLemmas
 mod UploadLemmas
 mod WordLemmas
 mod RowLemmas
+mod AttributeLemmas
+mod FleetLemmas
 mod TargetLemmas

@@ -1,6 +1,7 @@
 -- The answers of a list on targets.
 use Rattle.std.proofs.Common.{◌≡◌, ◌<◌, ◌≤◌, Bool, true, false, ◌||◌, ◌&&◌, not, cond, nat_le, nat_lt, List, [], ◌∷◌, map, length, Option, Some, None, option_map, refl, sym, ap, ◌∙◌, arith}
 use Rattle.std.proofs.lemmas.Bool.{false≢true}
+use Rattle.std.proofs.lemmas.List.{length-map}
 use Rattle.std.proofs.lemmas.Bool.Decides.{nat_tests}
 use Rattle.std.specs.Prelude.{filter, is_some}
 use Rattle.std.specs.List.{find, list_any}
@@ -9,23 +10,27 @@ use Rattle.rollout_machine.specs.Actions.{ActionPlace, action_places}
 use Rattle.rollout_machine.specs.Answers.{if_found, query_reply}
 use Rattle.rollout_machine.specs.ByteStrings.{contains_word, same_bytes, with_words}
 use Rattle.rollout_machine.specs.CommandList.{CommandList, Make, followed_by}
-use Rattle.rollout_machine.specs.Commands.{Attribute, Bytes, TargetRow, PutTargets, Tag, Untag}
+use Rattle.rollout_machine.specs.Commands.{Attribute, Bytes, Credential, TargetRow, PutAttributes, PutTargets, Tag, Untag}
+use Rattle.rollout_machine.specs.Filters.{seen}
 use Rattle.rollout_machine.specs.Objects.{target_shown}
 use Rattle.rollout_machine.specs.Records.{ActionRecord, action_in, records}
-use Rattle.rollout_machine.specs.Replies.{Refused, TargetShown}
+use Rattle.rollout_machine.specs.Replies.{Refused, ShownTarget, TargetShown}
 use Rattle.rollout_machine.specs.Requests.{ShowTarget}
 use Rattle.rollout_machine.specs.StateWords.{Unknown, Pending, has_started, is_for, target_word, word_by_last}
-use Rattle.rollout_machine.specs.Targets.{Target, attributes_in, last_row_of, tags_in, target_ids, target_in}
-use Rattle.rollout_machine.specs.Verdicts.{first_refusal, tags_of, target_of, verdict}
+use Rattle.rollout_machine.specs.Targets.{Target, attributes_in, last_row_of, tags_in, target_ids, target_in, with_attributes}
+use Rattle.rollout_machine.specs.Verdicts.{first_refusal, is_known, keys_of, tags_of, target_of, verdict}
 use Rattle.rollout_machine.specs.Views.{command_of}
 use Rattle.rollout_machine.proofs.TargetMeanings.{targets_are_named}
 use Rattle.rollout_machine.proofs.TargetTies.{same_refl, same_true}
 use Rattle.rollout_model.specs.declared.refusal.Refusal.{Refusal}
-use Rattle.rollout_model.specs.declared.refusal.Refusal.TheVariants.{NotFound, Quota}
+use Rattle.rollout_model.specs.declared.refusal.Refusal.TheVariants.{NotFound, Quota, Unauthorized}
 use Rattle.rollout_model.specs.declared.request.Command.{Command}
-use Rattle.rollout_model.specs.declared.request.Command.TheVariants.{AddModule as RustAddModule, AddArtifact as RustAddArtifact, AddSet as RustAddSet, PutTargets as RustPutTargets, Tag as RustTag, Untag as RustUntag}
+use Rattle.rollout_model.specs.declared.request.Command.TheVariants.{AddModule as RustAddModule, AddArtifact as RustAddArtifact, AddSet as RustAddSet, PutTargets as RustPutTargets, Tag as RustTag, Untag as RustUntag, PutAttributes as RustPutAttributes}
+use Rattle.rollout_model.specs.declared.target.Target.{Target as SeenTarget}
 use Rattle.rollout_model.specs.Rules.{is_tag_list, tag_list_of}
+use Rattle.rollout_program.specs.Fleet.{unassigned}
 use Rattle.rollout_program.specs.Lists.{list_from}
+use Rattle.rollout_program.proofs.AttributeLemmas.{keys_are}
 
 -- ---- who is there
 
@@ -117,7 +122,7 @@ untag_accepted h t x row is = ap untag_verdict (target_by h t (Some row) is)
 
 -- ---- what is shown of a target
 
--- no command here starts a rollout or gives an attribute
+-- no command here starts a rollout
 no_actions_after : (h : CommandList) (commands : List Command) → action_places h ≡ [] → action_places (followed_by h (map command_of commands)) ≡ []
 no_actions_after h [] none = none
 no_actions_after h (RustAddModule label ∷ commands) none = no_actions_after _ commands (rw none refl)
@@ -126,15 +131,7 @@ no_actions_after h (RustAddSet label ∷ commands) none = no_actions_after _ com
 no_actions_after h (RustPutTargets rows ∷ commands) none = no_actions_after _ commands (rw none refl)
 no_actions_after h (RustTag t x ∷ commands) none = no_actions_after _ commands (rw none refl)
 no_actions_after h (RustUntag t x ∷ commands) none = no_actions_after _ commands (rw none refl)
-
-no_attributes_after : (t : Bytes) (h : CommandList) (commands : List Command) → attributes_in t h ≡ [] → attributes_in t (followed_by h (map command_of commands)) ≡ []
-no_attributes_after t h [] none = none
-no_attributes_after t h (RustAddModule label ∷ commands) none = no_attributes_after t _ commands none
-no_attributes_after t h (RustAddArtifact upload ∷ commands) none = no_attributes_after t _ commands none
-no_attributes_after t h (RustAddSet label ∷ commands) none = no_attributes_after t _ commands none
-no_attributes_after t h (RustPutTargets rows ∷ commands) none = no_attributes_after t _ commands none
-no_attributes_after t h (RustTag u x ∷ commands) none = no_attributes_after t _ commands none
-no_attributes_after t h (RustUntag u x ∷ commands) none = no_attributes_after t _ commands none
+no_actions_after h (RustPutAttributes device given ∷ commands) none = no_actions_after _ commands (rw none refl)
 
 word_without_actions : (h : CommandList) (t : Bytes) → action_places h ≡ [] → target_word (records h) t ≡ Unknown
 unfolding records
@@ -142,21 +139,96 @@ word_without_actions h t none =
     let started : ActionRecord → Bool = λ (a : ActionRecord). is_for (records h) t a && has_started (records h) a in
     ap (λ (ps : List ActionPlace). cond (list_any (λ (a : ActionRecord). is_none a.outcome) (filter started (map (action_in h) ps))) Pending (word_by_last Unknown (filter started (map (action_in h) ps)))) none
 
-pub target_missing : (h : CommandList) (t : Bytes) → None ≡ last_row_of t h → query_reply (records h) (ShowTarget t) ≡ Refused NotFound
-target_missing h t is = ap (if_found (λ (x : Target). TargetShown (target_shown (records h) x))) (target_by h t None is)
+pub unassigned_word : (approval : Bool) (commands : List Command) (t : Bytes) → target_word (records (list_from approval commands)) t ≡ Unknown
+unassigned_word approval commands t = word_without_actions (list_from approval commands) t (no_actions_after (Make approval) commands refl)
+
+pub target_missing : (h : CommandList) (t : Bytes) → None ≡ option_map seen (target_of (records h) t) → query_reply (records h) (ShowTarget t) ≡ Refused NotFound
+target_missing h t is = go (target_of (records h) t) is where
+  go : (o : Option Target) → None ≡ option_map seen o → if_found (λ (x : Target). TargetShown (target_shown (records h) x)) o ≡ Refused NotFound
+  go None same = refl
+  go (Some x) same = absurd (cc)
+
+pub target_found : (approval : Bool) (commands : List Command) (t : Bytes) (found : SeenTarget) (shown : ShownTarget) → Some found ≡ option_map seen (target_of (records (list_from approval commands)) t) → shown ≡ unassigned found
+    → query_reply (records (list_from approval commands)) (ShowTarget t) ≡ TargetShown shown
+target_found approval commands t found shown is same = go (target_of (records (list_from approval commands)) t) is where
+  go : (o : Option Target) → Some found ≡ option_map seen o → if_found (λ (x : Target). TargetShown (target_shown (records (list_from approval commands)) x)) o ≡ TargetShown shown
+  go None e = absurd (cc)
+  go (Some x) e =
+      let seen_is : found ≡ seen x = (cc) in
+      (λ i. TargetShown (record { id = x.id; name = x.name; tags = x.tags; attributes = x.attributes; word = unassigned_word approval commands x.id i })) ∙ ap (λ (v : SeenTarget). TargetShown (unassigned v)) (sym seen_is) ∙ ap TargetShown (sym same)
 
 name_by : (h : CommandList) (t : Bytes) (row : TargetRow) → Some row ≡ last_row_of t h → (target_in h t).name ≡ row.name
 name_by h t row is = rw (sym is) refl
 
-pub target_found : (approval : Bool) (commands : List Command) (t : Bytes) (row : TargetRow) (name : Bytes) (tags : List Bytes) (attributes : List Attribute) → Some row ≡ last_row_of t (list_from approval commands) → name ≡ row.name
-    → tags ≡ tags_in t (list_from approval commands) → attributes ≡ []
-    → query_reply (records (list_from approval commands)) (ShowTarget t) ≡ TargetShown (record { id = t; name = name; tags = tags; attributes = attributes; word = Unknown })
-target_found approval commands t row name tags attributes is named all none =
-    let h = list_from approval commands in
-    let names : (target_in h t).name ≡ name = name_by h t row is ∙ sym named in
-    let given : attributes_in t h ≡ attributes = no_attributes_after t (Make approval) commands refl ∙ sym none in
-    let word : target_word (records h) t ≡ Unknown = word_without_actions h t (no_actions_after (Make approval) commands refl) in
-    ap (if_found (λ (x : Target). TargetShown (target_shown (records h) x))) (target_by h t (Some row) is) ∙ (λ i. TargetShown (record { id = t; name = names i; tags = sym all i; attributes = given i; word = word i }))
+digest_by : (h : CommandList) (t : Bytes) (row : TargetRow) → Some row ≡ last_row_of t h → (target_in h t).digest ≡ row.digest
+digest_by h t row is = rw (sym is) refl
+
+-- ---- the target as filters see it
+
+pub nobody_seen : (h : CommandList) (t : Bytes) → None ≡ last_row_of t h → None ≡ option_map seen (target_of (records h) t)
+nobody_seen h t is = sym (ap (option_map seen) (target_by h t None is))
+
+pub somebody_seen : (h : CommandList) (t : Bytes) (row : TargetRow) (found : SeenTarget) → Some row ≡ last_row_of t h → found.id ≡ t → found.name ≡ row.name → found.tags ≡ tags_in t h → found.attributes ≡ attributes_in t h
+    → Some found ≡ option_map seen (target_of (records h) t)
+somebody_seen h t row found is named called tagged given =
+    let name : found.name ≡ (target_in h t).name = called ∙ sym (name_by h t row is) in
+    (λ i. Some (record { id = named i; name = name i; tags = tagged i; attributes = given i })) ∙ sym (ap (option_map seen) (target_by h t (Some row) is))
+
+-- ---- attributes
+
+absorbed : (a b : Bool) → (a || (b && a)) ≡ a
+absorbed true b = refl
+absorbed false true = refl
+absorbed false false = refl
+
+module _ (h : CommandList) (t d : Bytes) where
+  known_in : (ids : List Bytes) → list_any (λ (x : Target). same_bytes x.id t && same_bytes x.digest d) (map (target_in h) ids) ≡ (contains_word t ids && same_bytes (target_in h t).digest d)
+  known_in [] = refl
+  known_in (u ∷ us) = go (same_bytes u t) (same_bytes t u) refl refl (known_in us) where
+    go : (b e : Bool) → same_bytes u t ≡ b → same_bytes t u ≡ e → list_any (λ (x : Target). same_bytes x.id t && same_bytes x.digest d) (map (target_in h) us) ≡ (contains_word t us && same_bytes (target_in h t).digest d)
+        → (b && same_bytes (target_in h u).digest d || list_any (λ (x : Target). same_bytes x.id t && same_bytes x.digest d) (map (target_in h) us)) ≡ ((e || contains_word t us) && same_bytes (target_in h t).digest d)
+    go true true p q rest =
+        ap (λ (v : Bytes). same_bytes (target_in h v).digest d || list_any (λ (x : Target). same_bytes x.id t && same_bytes x.digest d) (map (target_in h) us)) (same_true u t p)
+        ∙ ap (λ a. same_bytes (target_in h t).digest d || a) rest ∙ absorbed (same_bytes (target_in h t).digest d) (contains_word t us)
+    go true false p q rest = absurd (false≢true (sym q ∙ same_by t u (sym (same_true u t p))))
+    go false true p q rest = absurd (false≢true (sym p ∙ same_by u t (sym (same_true t u q))))
+    go false false p q rest = rest
+
+  known_is : is_known (records h) (record { id = t; digest = d }) ≡ (is_some (last_row_of t h) && same_bytes (target_in h t).digest d)
+  unfolding records
+  known_is = known_in (target_ids h) ∙ ap (λ b. b && same_bytes (target_in h t).digest d) (targets_are_named t h)
+
+  pub unknown : None ≡ last_row_of t h → false ≡ is_known (records h) (record { id = t; digest = d })
+  unknown is = sym (known_is ∙ ap (λ (o : Option TargetRow). is_some o && same_bytes (target_in h t).digest d) (sym is))
+
+  pub known_by : (row : TargetRow) → Some row ≡ last_row_of t h → same_bytes row.digest d ≡ is_known (records h) (record { id = t; digest = d })
+  known_by row is = ap (λ (e : Bytes). same_bytes e d) (sym (digest_by h t row is)) ∙ ap (λ (o : Option TargetRow). is_some o && same_bytes (target_in h t).digest d) is ∙ sym known_is
+
+  there : true ≡ is_known (records h) (record { id = t; digest = d }) → target_of (records h) t ≡ Some (target_in h t)
+  there is = target_is h t ∙ go (last_row_of t h) (is ∙ known_is) where
+    go : (o : Option TargetRow) → true ≡ (is_some o && same_bytes (target_in h t).digest d) → option_map (λ (row : TargetRow). target_in h t) o ≡ Some (target_in h t)
+    go None e = absurd (false≢true (sym e))
+    go (Some row) e = refl
+
+module _ (h : CommandList) (device : Credential) (given : List Attribute) where
+  module _ (all : List Attribute) (are : all ≡ with_attributes given (attributes_in device.id h)) (known : true ≡ is_known (records h) device) where
+    count : length (with_words (map (λ (a : Attribute). a.key) given) (keys_of (target_of (records h) device.id))) ≡ length all
+    count =
+        ap (λ (o : Option Target). length (with_words (map (λ (a : Attribute). a.key) given) (keys_of o))) (there h device.id device.digest known)
+        ∙ ap length (sym (keys_are given (attributes_in device.id h))) ∙ length-map (with_attributes given (attributes_in device.id h)) (λ (a : Attribute). a.key) ∙ ap length (sym are)
+
+    put_is : verdict h (PutAttributes device given) ≡ cond (nat_lt 32 (length all)) (Some Quota) None
+    put_is = λ i. first_refusal ((not (sym known i), Unauthorized) ∷ (nat_lt 32 (count i), Quota) ∷ [])
+
+    pub attributes_full : 32 < length all → verdict h (PutAttributes device given) ≡ Some Quota
+    attributes_full many =
+        let full : nat_lt 32 (length all) ≡ true = grind (arith, nat_tests) in
+        put_is ∙ ap (λ b. cond b (Some Quota) None) full
+
+    pub attributes_accepted : length all ≤ 32 → verdict h (PutAttributes device given) ≡ None
+    attributes_accepted few =
+        let room : nat_lt 32 (length all) ≡ false = grind (arith, nat_tests) in
+        put_is ∙ ap (λ b. cond b (Some Quota) None) room
 
 -- a list of tags is itself
 pub some_tags : (ws tags : List Bytes) → Some tags ≡ tag_list_of ws → tags ≡ ws

@@ -32,7 +32,8 @@ const MODULE_ARTIFACT_LIMIT: usize = 8;
 /// How many artifacts a desk takes.
 const ARTIFACT_LIMIT: usize = 256;
 
-fn same_digest(digest: &Digest, other: &Digest) -> bool
+/// Whether they are one digest.
+pub(crate) fn same_digest(digest: &Digest, other: &Digest) -> bool
     ensures { result ≡ same_bytes digest.now other.now }
 {
     digest.as_bytes().as_slice() == other.as_bytes().as_slice()

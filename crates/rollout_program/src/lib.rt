@@ -3,6 +3,8 @@
 #![tactic(auto)]
 
 mod artifacts;
+mod attributes;
+mod fleet;
 mod listed;
 mod modules;
 mod pages;

@@ -12,7 +12,9 @@ ghost use Rattle.rollout_program.specs.Steps.{AnswersAt, Previews, Shows};
 use crate::artifacts::{preview_artifact, show_artifact, show_artifacts, show_contents};
 use crate::modules::{preview_module, show_module, show_modules};
 use crate::sets::{preview_set, show_set, show_sets};
-use crate::targets::{preview_put, preview_tag, preview_untag, show_target};
+use crate::targets::{
+    preview_put, preview_put_attributes, preview_tag, preview_untag, show_target, show_targets,
+};
 use rollout_machine::command_is_well_formed;
 use rollout_model::{Command, Query, Refusal, Reply, Request};
 use std::alloc::{AllocError, Global};
@@ -56,6 +58,9 @@ impl Program {
             Command::PutTargets(rows) => preview_put(self.alloc, commands, rows),
             Command::Tag(id, tag) => preview_tag(self.alloc, commands, id, tag),
             Command::Untag(id, tag) => preview_untag(commands, id, tag),
+            Command::PutAttributes(device, given) => {
+                preview_put_attributes(self.alloc, commands, device, given)
+            }
         }
     }
 
@@ -78,6 +83,7 @@ impl Program {
             }
             Query::Sets(page) => show_sets(self.alloc, commands, *page),
             Query::Set(number) => show_set(self.alloc, commands, *number),
+            Query::Targets(filter, page) => show_targets(self.alloc, commands, filter, *page),
             Query::Target(id) => show_target(self.alloc, commands, id),
         }
     }

@@ -1,25 +1,35 @@
 //! Targets of the list.
 
-ghost use Rattle.std.specs.Prelude.{◌≡◌};
-ghost use Rattle.rollout_machine.specs.Commands.{PutTargets, Tag, Untag};
-ghost use Rattle.rollout_machine.specs.Requests.{ShowTarget};
+ghost use Rattle.std.specs.Prelude.{◌≡◌, map, IfOk};
+ghost use Rattle.rollout_machine.specs.Commands.{PutAttributes, PutTargets, Tag, Untag};
+ghost use Rattle.rollout_machine.specs.Records.{records};
+ghost use Rattle.rollout_machine.specs.Requests.{ShowTarget, ShowTargets};
+ghost use Rattle.rollout_machine.specs.Verdicts.{is_known};
+ghost use Rattle.rollout_machine.specs.Views.{shown_target};
+ghost use Rattle.rollout_program.specs.Fleet.{unassigned};
 ghost use Rattle.rollout_program.specs.Lists.{list_from};
 ghost use Rattle.rollout_program.specs.Steps.{Previews, Shows};
 
-use crate::pages::count_of;
+use crate::artifacts::same_digest;
+use crate::attributes::{add_attributes, attributes_in};
+use crate::fleet::{chosen, target_of, targets};
+use crate::pages::{count_of, page_of};
 use crate::rows::{add_ids, last_row_of, tags_in, target_ids};
 use crate::words::has_word;
 use rollout_model::{
-    Attributes, Command, ControllerId, Refusal, Reply, ShownTarget, Tags, TargetRows, TargetWord,
-    Word,
+    Command, ConfigData, ControllerId, Credential, FilterText, Page, PageOf, Refusal, Reply,
+    ShownTarget, Target, TargetRows, TargetWord, Word,
 };
-use std::alloc::Global;
+use std::alloc::{AllocError, Global};
 
 /// How many targets a desk takes.
 const TARGET_LIMIT: usize = 10_000;
 
 /// How many tags a target takes.
 const TAG_LIMIT: usize = 16;
+
+/// How many attributes a target takes.
+const ATTRIBUTE_LIMIT: usize = 32;
 
 /// What targets that are put are answered with.
 pub(crate) fn preview_put(
@@ -73,7 +83,53 @@ pub(crate) fn preview_untag(
     }
 }
 
-/// The target of an id. More tags than a target takes, which none has in a list of accepted commands, count as want of memory.
+/// Whether the target is there and the token is its own.
+fn is_known(commands: &[Command], device: &Credential) -> bool
+    ensures { (approval : _) → result ≡ is_known (records (list_from approval commands.now)) device.now }
+{
+    match last_row_of(commands, &device.id) {
+        Some(row) => same_digest(&row.digest, &device.digest),
+        None => false,
+    }
+}
+
+/// What attributes that a device gives are answered with.
+pub(crate) fn preview_put_attributes(
+    alloc: Global,
+    commands: &[Command],
+    device: &Credential,
+    given: &ConfigData,
+) -> Result<Reply, Refusal>
+    ensures { (approval : _) → Previews (list_from approval commands.now) (PutAttributes device.now given.now) result }
+{
+    if !is_known(commands, device) {
+        return Err(Refusal::Unauthorized);
+    }
+    let mut attributes = attributes_in(alloc, commands, &device.id)?;
+    add_attributes(alloc, &mut attributes, given.as_slice())?;
+    if attributes.len() > ATTRIBUTE_LIMIT {
+        return Err(Refusal::Quota);
+    }
+    Ok(Reply::Done)
+}
+
+/// The target as it is shown: no command here gives it another word.
+fn shown(alloc: Global, target: &Target) -> Result<ShownTarget, AllocError>
+    ensures { IfOk result (λ shown. shown_target shown ≡ unassigned target.now) }
+{
+    let name = target.name.copy(alloc)?;
+    let tags = target.tags.copy(alloc)?;
+    let attributes = target.attributes.copy(alloc)?;
+    Ok(ShownTarget {
+        id: target.id,
+        name,
+        tags,
+        attributes,
+        word: TargetWord::Unknown,
+    })
+}
+
+/// The target of an id.
 pub(crate) fn show_target(
     alloc: Global,
     commands: &[Command],
@@ -81,19 +137,38 @@ pub(crate) fn show_target(
 ) -> Result<Reply, Refusal>
     ensures { (approval : _) → Shows (list_from approval commands.now) (ShowTarget id.now) result }
 {
-    let Some(row) = last_row_of(commands, id) else {
-        return Err(Refusal::NotFound);
-    };
-    let name = row.name.copy(alloc)?;
-    let tags = tags_in(alloc, commands, id)?;
-    let Some(tags) = Tags::from_words(tags) else {
-        return Err(Refusal::NoMemory);
-    };
-    Ok(Reply::Target(ShownTarget {
-        id: *id,
-        name,
-        tags,
-        attributes: Attributes::new(alloc),
-        word: TargetWord::Unknown,
+    match target_of(alloc, commands, id)? {
+        Some(target) => Ok(Reply::Target(shown(alloc, &target)?)),
+        None => Err(Refusal::NotFound),
+    }
+}
+
+/// The targets as they are shown.
+fn all_shown(alloc: Global, targets: &[Target]) -> Result<Vec<ShownTarget>, AllocError>
+    ensures { IfOk result (λ all. map shown_target all.items ≡ map unassigned targets.now) }
+{
+    let mut all = Vec::new(alloc);
+    for target in targets {
+        all.push(shown(alloc, target)?)?;
+    }
+    Ok(all)
+}
+
+/// A page of the targets: of those that match the filter, or else of all.
+pub(crate) fn show_targets(
+    alloc: Global,
+    commands: &[Command],
+    filter: &Option<FilterText>,
+    page: Page,
+) -> Result<Reply, Refusal>
+    ensures { (approval : _) → Shows (list_from approval commands.now) (ShowTargets filter.now page) result }
+{
+    let targets = targets(alloc, commands)?;
+    let targets = chosen(alloc, targets, filter)?;
+    let targets = page_of(targets, page)?;
+    let content = all_shown(alloc, &targets.content)?;
+    Ok(Reply::Targets(PageOf {
+        content,
+        total: targets.total,
     }))
 }

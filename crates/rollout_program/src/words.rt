@@ -8,13 +8,15 @@ ghost use Rattle.rollout_program.specs.Words.{IsGap};
 use rollout_model::Word;
 use std::alloc::{AllocError, Global};
 
-fn same_word(word: &Word, other: &Word) -> bool
+/// Whether they are one word.
+pub(crate) fn same_word(word: &Word, other: &Word) -> bool
     ensures { result ≡ same_bytes word.now other.now }
 {
     word == other
 }
 
-fn is_below(word: &Word, other: &Word) -> bool
+/// Whether the first comes before the other.
+pub(crate) fn is_below(word: &Word, other: &Word) -> bool
     ensures { result ≡ bytes_below word.now other.now }
 {
     word < other
