@@ -20,7 +20,7 @@ use Rattle.sql_front.proofs.Change.{Changes, Removes, changes_known, removes_kno
 use Rattle.sql_calls.proofs.Means.{Means}
 use Rattle.sql_calls.proofs.Selects.{simple, by}
 use Rattle.sql_calls.proofs.Counts.{count_query}
-use Rattle.desk_records.specs.declared.target_texts.TheConstants.{CREATE_TARGET, CREATE_TARGET_TAG, CREATE_TARGET_ATTRIBUTE, GET_TARGET, COUNT_TARGETS, LIST_TARGET_TAGS, PUT_TARGET, SET_TARGET, PUT_TARGET_TAG, DROP_TARGET_TAG, LIST_TARGET_ATTRIBUTES, PUT_TARGET_ATTRIBUTE, SET_TARGET_ATTRIBUTE}
+use Rattle.desk_records.specs.declared.target_texts.TheConstants.{CREATE_TARGET, CREATE_TARGET_TAG, CREATE_TARGET_ATTRIBUTE, GET_TARGET, COUNT_TARGETS, LIST_TARGETS, LIST_TARGET_TAGS, PUT_TARGET, SET_TARGET, PUT_TARGET_TAG, DROP_TARGET_TAG, LIST_TARGET_ATTRIBUTES, PUT_TARGET_ATTRIBUTE, SET_TARGET_ATTRIBUTE}
 use Rattle.desk_records.specs.Schema.{target_table, target_tag_table, target_attribute_table}
 use Rattle.desk_records.proofs.Meaning.{means_of, at_key}
 
@@ -75,6 +75,31 @@ count_targets_reads tree = record {
 
 pub count_targets_is : (s : Schema) (at tree : ℕ) → Stands s (codes "target") at (target_table tree) → Means s COUNT_TARGETS.now (Select (record { lets = []; body = count_query tree }) (codes "count(*)" ∷ []))
 count_targets_is s at tree stands = means_of s COUNT_TARGETS.now _ (reads_known _ _ _ _ _ (count_targets_reads tree) s at stands) refl refl
+
+abbrev pub targets_query : ℕ → Query
+targets_query tree = by (simple tree [] (col 1 1 ∷ col 1 2 ∷ [])) ((col 1 1, record { descending = false; collation = Binary }) ∷ []) (col 0 0) (col 0 1)
+
+list_targets_reads : (tree : ℕ) → Reads LIST_TARGETS.now (codes "target") (target_table tree) (targets_query tree) (codes "controller" ∷ codes "name" ∷ [])
+unfolding first combine named paging everything
+list_targets_reads tree = record {
+  parsed = _;
+  select = _;
+  page = _;
+  shown = _;
+  read = refl;
+  selects = record { statement = refl; formats = refl; with = refl; others = refl };
+  one = record { source = _; from = refl; table = refl; alias = refl; on = refl; using = refl; is_inner = refl; group = refl; having = refl; shown = (tt, (tt, tt)); filter = tt; sorts = (tt, tt) };
+  paged = λ s. refl;
+  named_alone = refl;
+  known = refl;
+  is_body = refl;
+  are_columns = refl;
+  over = refl;
+  fits = refl;
+}
+
+pub list_targets_is : (s : Schema) (at tree : ℕ) → Stands s (codes "target") at (target_table tree) → Means s LIST_TARGETS.now (Select (record { lets = []; body = targets_query tree }) (codes "controller" ∷ codes "name" ∷ []))
+list_targets_is s at tree stands = means_of s LIST_TARGETS.now _ (reads_known _ _ _ _ _ (list_targets_reads tree) s at stands) refl refl
 
 abbrev pub target_terms : List Term
 target_terms = lit Null ∷ col 0 0 ∷ col 0 1 ∷ col 0 2 ∷ []

@@ -1,13 +1,14 @@
 -- The statements on targets and their tags, in records.
-use Rattle.std.proofs.Common.{◌≡◌, ◌≢◌, ◌∷◌, ◌&&◌, ℕ, min, pos, negsuc, List, [], Bool, true, false, cond, not, map, filter, flat_map, length, slice_get, Option, Some, None, option_map, refl, sym, ap, ap₂, subst, ◌∙◌, codes, IsPermutation}
+use Rattle.std.proofs.Common.{◌≡◌, ◌≢◌, ◌∷◌, ◌&&◌, ℕ, min, pos, negsuc, List, [], Bool, true, false, cond, not, map, filter, take, drop, flat_map, length, slice_get, Option, Some, None, option_map, refl, sym, ap, ap₂, subst, ◌∙◌, codes, IsPermutation}
 use Rattle.std.specs.List.{list_all}
 use Rattle.std.proofs.lemmas.Bool.{and_parts}
-use Rattle.std.proofs.lemmas.List.{length-map}
+use Rattle.std.proofs.lemmas.List.{length-map, take-map, drop-map}
 use Rattle.std.proofs.lemmas.List.Sorted.{IsPermutation-map, IsPermutation-trans}
 use Rattle.sqlite_value.specs.declared.value.Value.TheVariants.{Null, Int, Text, Blob}
 use Rattle.sqlite_value.specs.Order.{Row}
 use Rattle.sqlite_value.specs.Keys.{plain, first_key}
 use Rattle.sqlite_schema.specs.Rules.{agree}
+use Rattle.sqlite_keyed.proofs.ListLemmas.{filter_all, all_of, map-map}
 use Rattle.sqlite_rules.specs.Cast.{cast_all}
 use Rattle.sqlite.specs.Kind.TheVariants as kind
 use Rattle.sqlite.specs.Term.{lit, col}
@@ -36,10 +37,10 @@ use Rattle.desk_records.specs.Schema.{Place, Desk, Modules, Sets, SetModules, Ar
 use Rattle.desk_records.specs.Targets.{target_row, tag_rows, attribute_rows, in_byte_order, ids_of, keys_of, is_sorted, renamed, tagged, untagged, with_target, with_changed, AddsTarget, AddsTag}
 use Rattle.desk_records.specs.Holds.{HoldsRecords, IsHeld}
 use Rattle.desk_records.proofs.HoldsAfter.{holds_after}
-use Rattle.desk_records.proofs.TargetMeaning.{of_target, target_columns, target_terms, new_values, set_target_query, tags_query, tag_terms, of_tag, drop_tag_query}
+use Rattle.desk_records.proofs.TargetMeaning.{of_target, target_columns, target_terms, new_values, set_target_query, targets_query, tags_query, tag_terms, of_tag, drop_tag_query}
 use Rattle.desk_records.proofs.Comparisons.{words_equal, and_true}
 use Rattle.desk_records.proofs.ByteOrder.{sorted_from, in_order_with, in_order_without}
-use Rattle.desk_records.proofs.Targets.{has_id, first_found, changed_map, changed_rows, changed_sorted, rows_of, its_rows, put_is_more, put_rows, put_sorted, tag_row, tags_rise, tags_sorted, tag_is_more, tag_is_less}
+use Rattle.desk_records.proofs.Targets.{has_id, first_found, changed_map, changed_rows, changed_sorted, rows_of, its_rows, put_is_more, put_rows, put_sorted, targets_rise, tag_row, tags_rise, tags_sorted, tag_is_more, tag_is_less}
 
 -- ---- which rows a statement names
 
@@ -70,6 +71,10 @@ held_as rows wanted other h same = record { order = h.order; rising = h.rising; 
 -- what is told of a target: name and digest
 abbrev pub told_target : Target → Row
 told_target t = Text t.name ∷ Blob t.digest ∷ []
+
+-- what is listed of it: id and name
+abbrev pub listed_row : Target → Row
+listed_row t = Text t.id ∷ Text t.name ∷ []
 
 abbrev pub shown_tags : List Bytes → List Row
 shown_tags ws = map (λ (w : Bytes). Text w ∷ []) ws
@@ -118,6 +123,23 @@ module _ (db : Database) (now : Records) (holds : HoldsRecords db now) (names : 
       let size : length (db.trees spot.tree) ≡ length now.targets = length_held _ _ (holds.rows Targets) ∙ length-map now.targets target_row in
       first_row (Select (record { lets = []; body = count_query spot.tree }) names) db [] _ (λ rows shows.
       ap (λ (l : List Row). slice_get l 0) (count_rows spot.tree [] db.trees rows (shows.answer Null)) ∙ ap (λ n. Some (Int (pos (min n 9223372036854775807)) ∷ [])) size) row shown
+
+  -- the targets of a page, in byte order of their ids
+  pub lists_targets : (limit offset : ℕ) (rows : List Row) → Shows (Select (record { lets = []; body = targets_query (holds.spot Targets).tree }) names) db (Int (pos limit) ∷ Int (pos offset) ∷ []) rows
+      → rows ≡ map listed_row (take limit (drop offset now.targets))
+  lists_targets limit offset rows shows =
+      let spot = holds.spot Targets in
+      let params = Int (pos limit) ∷ Int (pos offset) ∷ [] in
+      let table = target_table spot.tree in
+      let ts = now.targets in
+      let all : filter (on_content (passes [] params)) (map target_row ts) ≡ map target_row ts = filter_all _ _ (all_of _ (λ x. refl) _) in
+      let rise = subst (Rise 0) (sym all) (targets_rise ts (ids_sorted db now holds)) in
+      reads_risen db.schema table [] 0 (strict (codes "controller") kind.Text true) refl refl refl [] params (λ i x. refl) [] (λ r h. refl) (col 1 1 ∷ col 1 2 ∷ []) (λ i x. refl) (col 0 0) (col 0 1)
+      db.trees (map target_row ts) (keys_apart db.schema db.trees spot.at table 0 (1 ∷ []) holds.sound (holds.stands Targets).got refl refl) (are_whole db.schema db.trees spot.at table holds.sound (holds.stands Targets).got) (holds.rows Targets) rise
+      rows (shows.answer Null)
+      ∙ ap (λ l. take limit (drop offset (map (on_content (shown_of (col 1 1 ∷ col 1 2 ∷ []) params)) l))) all
+      ∙ ap (λ l. take limit (drop offset l)) (map-map (on_content (shown_of (col 1 1 ∷ col 1 2 ∷ []) params)) target_row ts)
+      ∙ ap (take limit) (drop-map listed_row offset ts) ∙ take-map listed_row limit (drop offset ts)
 
   -- the tags of a target, in byte order
   pub lists_target_tags : (id : Bytes) (rows : List Row) → Shows (Select (record { lets = []; body = tags_query (holds.spot TargetTags).tree }) names) db (Text id ∷ []) rows → rows ≡ shown_tags (tags_of (target_of now id))

@@ -16,7 +16,7 @@ use Rattle.rollout_machine.specs.Targets.{Target}
 use Rattle.rollout_machine.specs.Verdicts.{tags_of}
 use Rattle.rollout_machine.proofs.Imports.{AllAbove, IsSorted, not_above}
 use Rattle.rollout_machine.proofs.TargetTies.{same_true}
-use Rattle.desk_records.specs.Targets.{tag_rows, in_byte_order, ids_of, is_sorted, are_sorted, tagged, untagged}
+use Rattle.desk_records.specs.Targets.{target_row, tag_rows, in_byte_order, ids_of, is_sorted, are_sorted, tagged, untagged}
 use Rattle.desk_records.proofs.ByteOrder.{same_sym, below_rises, in_order_with, with_is_more}
 
 -- ---- the target of an id
@@ -190,6 +190,17 @@ module _ (row : TargetRow) where
       let parts = and_parts (in_byte_order (ids_of ts)) (list_all is_sorted ts) sorted in
       let first : in_byte_order (ids_of (put_target row ts)) ≡ true = ap in_byte_order (ids_with ts) ∙ in_order_with row.id (ids_of ts) parts.0 in
       rw first (put_all new ts none parts.1)
+
+-- ---- in byte order of their ids
+
+-- targets in byte order of their ids come in the order of their first column
+pub targets_rise : (ts : List Target) → in_byte_order (ids_of ts) ≡ true → Rise 0 (map target_row ts)
+targets_rise [] ordered = tt
+targets_rise (t ∷ ts) ordered = let parts = and_parts (list_all (bytes_below t.id) (ids_of ts)) (in_byte_order (ids_of ts)) ordered in (go ts parts.0, targets_rise ts parts.1)
+  where
+    go : (us : List Target) → list_all (bytes_below t.id) (ids_of us) ≡ true → AllByRecursion (λ r. is_gt (by_column 0 (target_row t) r) ≡ false) (map target_row us)
+    go [] all = tt
+    go (u ∷ us) all = let parts = and_parts (bytes_below t.id u.id) (list_all (bytes_below t.id) (ids_of us)) all in (below_rises t.id u.id parts.0, go us parts.1)
 
 -- ---- tags
 

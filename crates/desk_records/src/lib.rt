@@ -29,11 +29,13 @@ pub use crate::set_texts::{
     CREATE_SET, CREATE_SET_MODULE, FIND_SET, GET_SET, LAST_SET, LIST_SET_MODULES, MODULE_LOCKED,
     PUT_SET, PUT_SET_MODULE,
 };
-pub use crate::target_row::{StoredTarget, read_attribute, read_stored_target, read_tag};
+pub use crate::target_row::{
+    ListedTarget, StoredTarget, read_attribute, read_listed_target, read_stored_target, read_tag,
+};
 pub use crate::target_texts::{
     COUNT_TARGETS, CREATE_TARGET, CREATE_TARGET_ATTRIBUTE, CREATE_TARGET_TAG, DROP_TARGET_TAG,
-    GET_TARGET, LIST_TARGET_ATTRIBUTES, LIST_TARGET_TAGS, PUT_TARGET, PUT_TARGET_ATTRIBUTE,
-    PUT_TARGET_TAG, SET_TARGET, SET_TARGET_ATTRIBUTE,
+    GET_TARGET, LIST_TARGET_ATTRIBUTES, LIST_TARGET_TAGS, LIST_TARGETS, PUT_TARGET,
+    PUT_TARGET_ATTRIBUTE, PUT_TARGET_TAG, SET_TARGET, SET_TARGET_ATTRIBUTE,
 };
 pub use crate::texts::{
     CREATE_DESK, CREATE_MODULE, FIND_MODULE, GET_DESK, GET_MODULE, LAST_MODULE, PUT_DESK,

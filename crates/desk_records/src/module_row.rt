@@ -23,6 +23,7 @@ pub enum Column {
     ArtifactSize,
     ArtifactDigest,
     PieceBytes,
+    TargetId,
     TargetName,
     TargetDigest,
     TargetTag,

@@ -3,11 +3,11 @@
 ghost use Rattle.std.specs.Prelude.{◌≡◌, ◌⊎◌, IfOk, IfErr, true, false, Some};
 ghost use Rattle.sqlite_value.specs.Order.{column};
 ghost use Rattle.desk_records.specs.ModuleRow.{StoredText};
-ghost use Rattle.desk_records.specs.TargetRow.{IsAttributeRow, IsTargetRow, broken_attribute_column, broken_target_column, has_value, has_word};
+ghost use Rattle.desk_records.specs.TargetRow.{IsAttributeRow, IsListedTargetRow, IsTargetRow, broken_attribute_column, broken_listed_column, broken_target_column, has_value, has_word};
 
 use crate::artifact_row::digest_at;
 use crate::module_row::{Column, RowFault, row_fault, text_at};
-use rollout_model::{Attribute, Digest, Text, Value, Word};
+use rollout_model::{Attribute, ControllerId, Digest, Text, Value, Word};
 use sqlite::Row;
 use sqlite_value::value::ValueRef;
 use std::alloc::Global;
@@ -21,6 +21,13 @@ pub struct StoredTarget {
     pub digest: Digest,
 }
 
+/// A target's id and name.
+#[derive(Debug, PartialEq, Eq, Drop)]
+pub struct ListedTarget {
+    pub id: ControllerId,
+    pub name: Text,
+}
+
 /// The target in a row of name and digest.
 pub fn read_stored_target(alloc: Global, row: &Row) -> Result<StoredTarget, RowFault>
     ensures ok { IfOk result (IsTargetRow row.now) }
@@ -29,6 +36,16 @@ pub fn read_stored_target(alloc: Global, row: &Row) -> Result<StoredTarget, RowF
     let name = text_at(alloc, row, 0, Column::TargetName)?;
     let digest = digest_at(row, 1, Column::TargetDigest)?;
     Ok(StoredTarget { name, digest })
+}
+
+/// The target in a row of id and name.
+pub fn read_listed_target(alloc: Global, row: &Row) -> Result<ListedTarget, RowFault>
+    ensures ok { IfOk result (IsListedTargetRow row.now) }
+    ensures err { IfErr result (λ e. (e ≡ RowFault.Memory) ⊎ ((c : _) × (e ≡ RowFault.Broken c) × (broken_listed_column row.now ≡ Some c))) }
+{
+    let id = id_at(row, 0)?;
+    let name = text_at(alloc, row, 1, Column::TargetName)?;
+    Ok(ListedTarget { id, name })
 }
 
 /// The tag in a row of one. Takes no memory.
@@ -47,6 +64,22 @@ pub fn read_attribute(alloc: Global, row: &Row) -> Result<Attribute, RowFault>
     let key = word_at(row, 0, Column::AttributeKey)?;
     let value = value_at(alloc, row, 1)?;
     Ok(Attribute { key, value })
+}
+
+/// The id of a target in a column.
+fn id_at(row: &Row, at: usize) -> Result<ControllerId, RowFault>
+    ensures ok { IfOk result (λ id. column row.now at ≡ StoredText id) }
+    ensures kept { IfOk result (λ id. has_word (column row.now at) ≡ true) }
+    ensures err { IfErr result (λ e. (e ≡ RowFault.Broken Column.TargetId) × (has_word (column row.now at) ≡ false)) }
+{
+    let broken = RowFault::Broken(Column::TargetId);
+    let Ok(ValueRef::Text(text)) = row.get_ref(at) else {
+        return Err(broken);
+    };
+    let Ok(text) = str::from_utf8(text) else {
+        return Err(broken);
+    };
+    ControllerId::read(text).ok_or(broken)
 }
 
 /// The word of a column.

@@ -2,9 +2,10 @@
 
 use crate::{
     COUNT_TARGETS, CREATE_TARGET, CREATE_TARGET_ATTRIBUTE, CREATE_TARGET_TAG, Column,
-    DROP_TARGET_TAG, GET_TARGET, LIST_TARGET_ATTRIBUTES, LIST_TARGET_TAGS, PUT_TARGET,
-    PUT_TARGET_ATTRIBUTE, PUT_TARGET_TAG, RowFault, SET_TARGET, SET_TARGET_ATTRIBUTE, StoredTarget,
-    read_attribute, read_stored_target, read_tag,
+    DROP_TARGET_TAG, GET_TARGET, LIST_TARGET_ATTRIBUTES, LIST_TARGET_TAGS, LIST_TARGETS,
+    ListedTarget, PUT_TARGET, PUT_TARGET_ATTRIBUTE, PUT_TARGET_TAG, RowFault, SET_TARGET,
+    SET_TARGET_ATTRIBUTE, StoredTarget, read_attribute, read_listed_target, read_stored_target,
+    read_tag,
 };
 use rollout_model::{Attribute, Word};
 use sqlite::{Connection, MemStore, Row, params};
@@ -58,6 +59,30 @@ fn targets_are_counted(rt: HostRuntime) -> Result<(), Fail> {
     let mut conn = made(rt.alloc())?;
     let count = first(&mut conn, COUNT_TARGETS, &[])?;
     assert_eq!(rt; count.get::<u32>(0)?, 1);
+    Ok(())
+}
+
+/// Whether it has this id and name.
+fn is_listed_as(target: &ListedTarget, id: &str, name: &str) -> bool {
+    target.id.as_str() == id && target.name.as_str() == name
+}
+
+#[test]
+fn targets_are_listed_in_pages(rt: HostRuntime) -> Result<(), Fail> {
+    let mut conn = made(rt.alloc())?;
+    let digest = [6u8; 32];
+    run(
+        &mut conn,
+        PUT_TARGET,
+        params!["B-9", "Valve", digest.as_slice()],
+    )?;
+    let row = first(&mut conn, LIST_TARGETS, params![2u32, 0u32])?;
+    let target = read_listed_target(rt.alloc(), &row);
+    assert!(rt; matches!(&target, Ok(target) if is_listed_as(target, "B-9", "Valve")));
+    let row = first(&mut conn, LIST_TARGETS, params![2u32, 1u32])?;
+    let target = read_listed_target(rt.alloc(), &row);
+    assert!(rt; matches!(&target, Ok(target) if is_listed_as(target, "a-1", "Pump")));
+    assert!(rt; conn.query_row(LIST_TARGETS, params![2u32, 2u32]).is_err());
     Ok(())
 }
 
@@ -162,5 +187,38 @@ fn the_first_broken_column_of_a_target_is_told(rt: HostRuntime) -> Result<(), Fa
     let value = first(&mut conn, "SELECT 'site', 1", &[])?;
     let value = read_attribute(rt.alloc(), &value);
     assert_eq!(rt; value.err(), Some(RowFault::Broken(Column::AttributeValue)));
+    Ok(())
+}
+
+/// Whether the row of a query of id and name is refused at a column.
+fn breaks_listed(
+    alloc: Global,
+    conn: &mut Connection<MemStore>,
+    sql: &str,
+    column: Column,
+) -> Result<bool, Fail> {
+    let row = first(conn, sql, &[])?;
+    Ok(read_listed_target(alloc, &row).err() == Some(RowFault::Broken(column)))
+}
+
+#[test]
+fn the_first_broken_column_of_a_listed_target_is_told(rt: HostRuntime) -> Result<(), Fail> {
+    let mut conn = Connection::open_in_memory(rt.alloc())?;
+    let id = breaks_listed(
+        rt.alloc(),
+        &mut conn,
+        "SELECT 'a 1', 'Pump'",
+        Column::TargetId,
+    )?;
+    assert!(rt; id);
+    let name = breaks_listed(
+        rt.alloc(),
+        &mut conn,
+        "SELECT 'a-1', ''",
+        Column::TargetName,
+    )?;
+    assert!(rt; name);
+    let both = breaks_listed(rt.alloc(), &mut conn, "SELECT 1, 2", Column::TargetId)?;
+    assert!(rt; both);
     Ok(())
 }

@@ -1,5 +1,7 @@
 -- The calls on targets and their tags.
-use Rattle.std.proofs.Common.{◌≡◌, ◌<◌, ◌^◌, ℕ, min, pos, List, [], ◌∷◌, length, map, Option, Some, None, option_map, Ok, Err, Result, IsErr, IfOk, Vec, refl, sym, ap, ap₂, subst, ◌∙◌, arith, codes}
+use Rattle.std.proofs.Common.{◌≡◌, ◌<◌, ◌^◌, ◌++◌, ◌+◌, ℕ, min, pos, get_or, take, drop, List, [], ◌∷◌, length, map, Option, Some, None, option_map, Ok, Err, Result, IsErr, IfOk, Vec, refl, sym, ap, ap₂, subst, ◌∙◌, arith, codes}
+use Rattle.std.proofs.lemmas.List.{take_more}
+use Rattle.std.proofs.lemmas.Slice.Zip.{all_zipped_more}
 use Rattle.std.specs.declared.alloc.Global.{Global}
 use Rattle.sqlite_value.specs.declared.value.Value.TheVariants.{Int, Text, Blob}
 use Rattle.sqlite_value.specs.Order.{Row, column}
@@ -19,17 +21,18 @@ use Rattle.rollout_machine.specs.Records.{Records}
 use Rattle.rollout_machine.specs.Targets.{Target}
 use Rattle.rollout_machine.specs.Verdicts.{tags_of, target_of}
 use Rattle.rollout_model.specs.declared.word.Word.{Word}
-use Rattle.desk_records.specs.declared.target_texts.TheConstants.{COUNT_TARGETS, DROP_TARGET_TAG, GET_TARGET, LIST_TARGET_TAGS, PUT_TARGET, PUT_TARGET_TAG, SET_TARGET}
+use Rattle.desk_records.specs.declared.target_texts.TheConstants.{COUNT_TARGETS, DROP_TARGET_TAG, GET_TARGET, LIST_TARGETS, LIST_TARGET_TAGS, PUT_TARGET, PUT_TARGET_TAG, SET_TARGET}
+use Rattle.desk_records.specs.declared.target_row.ListedTarget.{ListedTarget}
 use Rattle.desk_records.specs.declared.target_row.StoredTarget.{StoredTarget}
 use Rattle.desk_records.specs.Schema.{Targets, TargetTags}
 use Rattle.desk_records.specs.Holds.{HoldsRecords}
 use Rattle.desk_records.specs.ModuleRow.{StoredText}
-use Rattle.desk_records.specs.TargetRow.{IsTargetRow, stored_target}
+use Rattle.desk_records.specs.TargetRow.{IsTargetRow, IsListedTargetRow, listed_target, stored_target}
 use Rattle.desk_records.specs.Targets.{AddsTag, AddsTarget, renamed, untagged, with_changed}
 use Rattle.desk_records.proofs.Targets.{tag_row}
-use Rattle.desk_records.proofs.TargetMeaning.{of_target, target_columns, target_terms, set_target_query, tags_query, tag_terms, drop_tag_query, get_target_is, count_targets_is, list_target_tags_is, put_target_is, set_target_is, put_target_tag_is, drop_target_tag_is}
-use Rattle.desk_records.proofs.TargetRecords.{told_target, shown_tags, gets_target, counts_targets, lists_target_tags, adds_target, sets_target, adds_tag, drops_tag}
-use Rattle.desk_store.specs.Rows.{AreTags, IsCount, IsReadAsTarget}
+use Rattle.desk_records.proofs.TargetMeaning.{of_target, target_columns, target_terms, set_target_query, targets_query, tags_query, tag_terms, drop_tag_query, get_target_is, count_targets_is, list_targets_is, list_target_tags_is, put_target_is, set_target_is, put_target_tag_is, drop_target_tag_is}
+use Rattle.desk_records.proofs.TargetRecords.{told_target, listed_row, shown_tags, gets_target, counts_targets, lists_targets, lists_target_tags, adds_target, sets_target, adds_tag, drops_tag}
+use Rattle.desk_store.specs.Rows.{AreListedTargets, AreTags, IsCount, IsReadAsTarget}
 
 -- ---- what the texts mean where the records are held
 
@@ -41,6 +44,12 @@ getting db r holds = record {
 
 abbrev counting : Knows HoldsRecords COUNT_TARGETS.now
 counting db r holds = record { command = Select (record { lets = []; body = count_query (holds.spot Targets).tree }) (codes "count(*)" ∷ []); means = count_targets_is db.schema (holds.spot Targets).at (holds.spot Targets).tree (holds.stands Targets) }
+
+abbrev paging : Knows HoldsRecords LIST_TARGETS.now
+paging db r holds = record {
+  command = Select (record { lets = []; body = targets_query (holds.spot Targets).tree }) (codes "controller" ∷ codes "name" ∷ []);
+  means = list_targets_is db.schema (holds.spot Targets).at (holds.spot Targets).tree (holds.stands Targets);
+}
 
 abbrev listing : Knows HoldsRecords LIST_TARGET_TAGS.now
 listing db r holds = record { command = Select (record { lets = []; body = tags_query (holds.spot TargetTags).tree }) (codes "tag" ∷ []); means = list_target_tags_is db.schema (holds.spot TargetTags).at (holds.spot TargetTags).tree (holds.stands TargetTags) }
@@ -116,6 +125,46 @@ count_read old new row h out is small = takes_ok HoldsRecords COUNT_TARGETS.now 
 
 pub count_not_read : (old new : State) (fault : Fault) → TakesFirst old new COUNT_TARGETS.now [] (Err fault) → (out : Result ℕ Fault) → IsErr out → Reads HoldsRecords old new out Counts
 count_not_read old new fault h out bad = takes_err HoldsRecords COUNT_TARGETS.now [] old new Counts counting fault h out bad
+
+-- ---- the targets of a page
+
+abbrev pub Pages : ℕ → ℕ → Records → Vec ListedTarget Global → Type 0
+Pages limit offset r targets = targets.items ≡ map listed_target (take limit (drop offset r.targets))
+
+-- a row shows one target
+one_listed : (t : Target) (listed : ListedTarget) → IsListedTargetRow (listed_row t) listed → listed ≡ listed_target t
+one_listed t listed h =
+    let first : Text t.id ≡ Text listed.id = h.id in
+    let second : Text t.name ≡ Text listed.name = h.name in
+    let id : listed.id ≡ t.id = cc in
+    let name : listed.name ≡ t.name = cc in
+    λ i. record { id = id i; name = name i }
+
+-- a further row, and its target
+pub targets_more : (rows : List Row) (targets : List ListedTarget) (at : ℕ) (row : Row) (listed : ListedTarget) → at < length rows → row ≡ get_or rows at row → AreListedTargets (take at rows) targets → IsListedTargetRow row listed
+    → AreListedTargets (take (at + 1) rows) (targets ++ listed ∷ [])
+targets_more rows targets at row listed within is so_far one =
+    subst (λ l. AreListedTargets l (targets ++ listed ∷ [])) (sym (take_more rows at row within)) (all_zipped_more IsListedTargetRow (take at rows) targets (get_or rows at row) listed so_far (subst (λ r. IsListedTargetRow r listed) is one))
+
+all_listed : (targets : List ListedTarget) (ts : List Target) → AreListedTargets (map listed_row ts) targets → targets ≡ map listed_target ts
+all_listed [] [] h = refl
+all_listed [] (t ∷ ts) h = absurd h
+all_listed (listed ∷ targets) [] h = absurd h
+all_listed (listed ∷ targets) (t ∷ ts) h = ap₂ ◌∷◌ (one_listed t listed h.0) (all_listed targets ts h.1)
+
+pages : (limit offset : ℕ) (rows : List Row) (out : Result (Vec ListedTarget Global) Fault) → IfOk out (λ targets. AreListedTargets rows targets.items)
+    → IfOk out (λ targets. (db : Database) (now : Records) (holds : HoldsRecords db now) → Shows (paging db now holds).command db (Int (pos limit) ∷ Int (pos offset) ∷ []) rows → Pages limit offset now targets)
+pages limit offset rows (Ok targets) h = λ db now holds shown.
+    all_listed targets.items (take limit (drop offset now.targets)) (subst (λ l. AreListedTargets l targets.items) (lists_targets db now holds (codes "controller" ∷ codes "name" ∷ []) limit offset rows shown) h)
+pages limit offset rows (Err e) h = tt
+
+pub targets_read : (limit offset : ℕ) (old new : State) (rows : Vec Row Global) → AsksText old new LIST_TARGETS.now (Int (pos limit) ∷ Int (pos offset) ∷ []) (Ok rows) → (out : Result (Vec ListedTarget Global) Fault)
+    → IfOk out (λ targets. AreListedTargets rows.items targets.items) → Reads HoldsRecords old new out (Pages limit offset)
+targets_read limit offset old new rows h out are = asks_ok HoldsRecords LIST_TARGETS.now (Int (pos limit) ∷ Int (pos offset) ∷ []) old new (Pages limit offset) paging rows h out (pages limit offset rows.items out are)
+
+pub targets_not_read : (params : Row) (limit offset : ℕ) (old new : State) (fault : Fault) → AsksText old new LIST_TARGETS.now params (Err fault) → (out : Result (Vec ListedTarget Global) Fault) → IsErr out
+    → Reads HoldsRecords old new out (Pages limit offset)
+targets_not_read params limit offset old new fault h out bad = asks_err HoldsRecords LIST_TARGETS.now params old new (Pages limit offset) fault h out bad
 
 -- ---- the tags of a target
 

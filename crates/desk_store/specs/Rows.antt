@@ -9,10 +9,11 @@ use Rattle.rollout_model.specs.declared.target.Attribute.{Attribute}
 use Rattle.desk_records.specs.declared.artifact_row.StoredArtifact.{StoredArtifact}
 use Rattle.desk_records.specs.declared.set_row.SetName.{SetName}
 use Rattle.desk_records.specs.ArtifactRow.{IsArtifactRow, IsStoredRow, StoredBytes}
+use Rattle.desk_records.specs.declared.target_row.ListedTarget.{ListedTarget}
 use Rattle.desk_records.specs.declared.target_row.StoredTarget.{StoredTarget}
 use Rattle.desk_records.specs.ModuleRow.{IsLabelRow, StoredText}
 use Rattle.desk_records.specs.SetRow.{IsSetNameRow, StoredNumber}
-use Rattle.desk_records.specs.TargetRow.{IsTargetRow, IsAttributeRow}
+use Rattle.desk_records.specs.TargetRow.{IsTargetRow, IsListedTargetRow, IsAttributeRow}
 
 -- no row is no module
 abbrev pub IsReadAs : Option ModuleLabel → Option Row → Type 0
@@ -46,6 +47,10 @@ IsReadAsPiece found (Some row) = (bytes : Vec ℕ Global) × (found ≡ Some byt
 abbrev pub IsReadAsTarget : Option StoredTarget → Option Row → Type 0
 IsReadAsTarget found None = found ≡ None
 IsReadAsTarget found (Some row) = (target : StoredTarget) × (found ≡ Some target) × IsTargetRow row target
+
+-- a row for each target that is listed
+abbrev pub AreListedTargets : List Row → List ListedTarget → Type 0
+AreListedTargets rows targets = AllZip IsListedTargetRow rows targets
 
 -- a row for each tag
 abbrev pub AreTags : List Row → List (List ℕ) → Type 0

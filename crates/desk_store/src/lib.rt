@@ -19,5 +19,5 @@ mod tests;
 
 pub use crate::change::OpenChange;
 pub use crate::store::DeskStore;
-pub use desk_records::{SetName, StoredArtifact, StoredTarget};
+pub use desk_records::{ListedTarget, SetName, StoredArtifact, StoredTarget};
 pub use sql_calls::{Fault, Work};

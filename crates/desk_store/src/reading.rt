@@ -6,14 +6,14 @@ ghost use Rattle.desk_records.specs.Modules.{IsLastRow};
 ghost use Rattle.desk_records.specs.SetRow.{StoredNumber};
 ghost use Rattle.desk_records.specs.ArtifactRow.{IsArtifactRow};
 ghost use Rattle.desk_records.specs.ModuleRow.{StoredText};
-ghost use Rattle.desk_records.specs.TargetRow.{IsAttributeRow};
-ghost use Rattle.desk_store.specs.Rows.{AreArtifacts, AreAttributes, AreNumbers, AreTags, IsCount, IsReadAs, IsReadAsArtifact, IsReadAsPiece, IsReadAsSet, IsReadAsTarget};
+ghost use Rattle.desk_records.specs.TargetRow.{IsAttributeRow, IsListedTargetRow};
+ghost use Rattle.desk_store.specs.Rows.{AreArtifacts, AreAttributes, AreListedTargets, AreNumbers, AreTags, IsCount, IsReadAs, IsReadAsArtifact, IsReadAsPiece, IsReadAsSet, IsReadAsTarget};
 ghost use Rattle.desk_store.specs.Faults.{as_store, fault_of_row};
 
 use desk_records::{
-    RowFault, SetName, StoredArtifact, StoredTarget, read_artifact, read_attribute,
-    read_module_label, read_piece, read_set_module, read_set_name, read_stored_artifact,
-    read_stored_target, read_tag,
+    ListedTarget, RowFault, SetName, StoredArtifact, StoredTarget, read_artifact, read_attribute,
+    read_listed_target, read_module_label, read_piece, read_set_module, read_set_name,
+    read_stored_artifact, read_stored_target, read_tag,
 };
 use rollout_model::{Artifact, Attribute, Attributes, ModuleLabel, ModuleNo, Word};
 use sql_calls::{Fault, fault_of};
@@ -145,6 +145,30 @@ pub(crate) fn stored_target_in(
     };
     match read_stored_target(alloc, &row) {
         Ok(target) => Ok(Some(target)),
+        Err(fault) => Err(row_fault(fault)),
+    }
+}
+
+/// The targets in rows of id and name.
+pub(crate) fn listed_targets_in(alloc: Global, rows: &[Row]) -> Result<Vec<ListedTarget>, Fault>
+    ensures { IfOk result (λ targets. AreListedTargets rows.now targets.items) }
+{
+    let mut targets = Vec::new(alloc);
+    for row in rows {
+        let target = listed_target_in(alloc, row)?;
+        match targets.push(target) {
+            Ok(()) => {}
+            Err(_) => return Err(Fault::Memory),
+        }
+    }
+    Ok(targets)
+}
+
+fn listed_target_in(alloc: Global, row: &Row) -> Result<ListedTarget, Fault>
+    ensures { IfOk result (IsListedTargetRow row.now) }
+{
+    match read_listed_target(alloc, row) {
+        Ok(target) => Ok(target),
         Err(fault) => Err(row_fault(fault)),
     }
 }

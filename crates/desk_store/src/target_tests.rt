@@ -2,9 +2,9 @@
 
 use crate::store::DeskStore;
 use desk_records::{
-    CREATE_DESK, CREATE_TARGET, CREATE_TARGET_ATTRIBUTE, CREATE_TARGET_TAG, PUT_DESK,
+    CREATE_DESK, CREATE_TARGET, CREATE_TARGET_ATTRIBUTE, CREATE_TARGET_TAG, ListedTarget, PUT_DESK,
 };
-use rollout_model::{Attribute, ControllerId, Digest, Text, Value, Word};
+use rollout_model::{Attribute, ControllerId, Digest, Page, Text, Value, Word};
 use sql_calls::Fault;
 use sqlite::{Connection, MemStore, params};
 use std::alloc::Global;
@@ -88,6 +88,34 @@ fn told(store: &mut DeskStore<MemStore>, target: &str) -> Result<Option<(usize, 
     }
 }
 
+/// Whether it has this id and the name that `add` gives.
+fn is_listed_as(target: &ListedTarget, id: &str) -> bool {
+    target.id.as_str() == id && target.name.as_str() == "Pump"
+}
+
+/// Whether the targets are those of these ids, in this order.
+fn are_listed_as(targets: &[ListedTarget], ids: &[&str]) -> bool {
+    targets.len() == ids.len()
+        && targets
+            .iter()
+            .zip(ids)
+            .all(|(target, id)| is_listed_as(target, id))
+}
+
+/// Whether the targets of a page are those of these ids, in this order.
+fn is_page(
+    store: &mut DeskStore<MemStore>,
+    offset: u32,
+    limit: u32,
+    ids: &[&str],
+) -> Result<bool, Fault> {
+    let mut change = store.begin()?;
+    let found = change.read_targets(Page { offset, limit });
+    change.give_up()?;
+    let found = found?;
+    Ok(are_listed_as(&found, ids))
+}
+
 /// How many tags a target has, and the first of them.
 fn tags(store: &mut DeskStore<MemStore>, target: &str) -> Result<(usize, Option<Word>), Fault> {
     let target = id(target)?;
@@ -163,6 +191,38 @@ fn one_target_gets_another_name_and_digest(rt: HostRuntime) -> Result<(), Fail> 
     Ok(())
 }
 
+/// A store of the targets B-9, a-1, a-2 and b-1, added in another order.
+fn made_of_four(alloc: Global) -> Result<DeskStore<MemStore>, Fail> {
+    let mut store = made(alloc)?;
+    add(&mut store, alloc, "b-1")?;
+    add(&mut store, alloc, "a-2")?;
+    add(&mut store, alloc, "B-9")?;
+    add(&mut store, alloc, "a-1")?;
+    Ok(store)
+}
+
+#[test]
+fn targets_come_in_pages_in_byte_order(rt: HostRuntime) -> Result<(), Fail> {
+    let mut store = made_of_four(rt.alloc())?;
+    assert_eq!(rt;
+        is_page(&mut store, 0, 9, &["B-9", "a-1", "a-2", "b-1"]),
+        Ok(true)
+    );
+    assert_eq!(rt; is_page(&mut store, 1, 2, &["a-1", "a-2"]), Ok(true));
+    assert_eq!(rt; is_page(&mut store, 2, 1, &["a-2"]), Ok(true));
+    Ok(())
+}
+
+#[test]
+fn the_last_page_ends_with_the_targets(rt: HostRuntime) -> Result<(), Fail> {
+    let mut store = made_of_four(rt.alloc())?;
+    assert_eq!(rt; is_page(&mut store, 3, 2, &["b-1"]), Ok(true));
+    assert_eq!(rt; is_page(&mut store, 4, 2, &[]), Ok(true));
+    assert_eq!(rt; is_page(&mut store, u32::MAX, u32::MAX, &[]), Ok(true));
+    assert_eq!(rt; is_page(&mut store, 0, 0, &[]), Ok(true));
+    Ok(())
+}
+
 #[test]
 fn tags_come_in_byte_order(rt: HostRuntime) -> Result<(), Fail> {
     let alloc = rt.alloc();
@@ -204,5 +264,18 @@ fn a_target_that_breaks_a_rule_is_a_failed_store(rt: HostRuntime) -> Result<(), 
     );
     assert_eq!(rt; broken, Ok(()));
     assert_eq!(rt; told(&mut store, "a-1"), Err(Fault::Store));
+    Ok(())
+}
+
+#[test]
+fn a_page_with_an_id_that_is_no_word_is_a_failed_store(rt: HostRuntime) -> Result<(), Fail> {
+    let mut store = made(rt.alloc())?;
+    let broken = store.calls.run(
+        "INSERT INTO target (controller, name, digest) VALUES ('a 1', 'Pump', x'00')",
+        &[],
+    );
+    assert_eq!(rt; broken, Ok(()));
+    assert_eq!(rt; is_page(&mut store, 0, 1, &[]), Err(Fault::Store));
+    assert_eq!(rt; is_page(&mut store, 1, 1, &[]), Ok(true));
     Ok(())
 }

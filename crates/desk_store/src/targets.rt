@@ -1,22 +1,22 @@
 //! Targets and their tags, in a change that is under way.
 
-ghost use Rattle.std.specs.Prelude.{◌≡◌, ◌≤◌, ◌+◌, length};
+ghost use Rattle.std.specs.Prelude.{◌≡◌, ◌≤◌, ◌+◌, length, map, take, drop};
 ghost use Rattle.std.specs.Option.{option_map};
 ghost use Rattle.sqlite.specs.Held.{state};
 ghost use Rattle.sql_calls.specs.Standing.{Reads, Writes};
 ghost use Rattle.rollout_machine.specs.Verdicts.{tags_of, target_of};
 ghost use Rattle.desk_records.specs.Holds.{HoldsRecords};
-ghost use Rattle.desk_records.specs.TargetRow.{stored_target};
+ghost use Rattle.desk_records.specs.TargetRow.{listed_target, stored_target};
 ghost use Rattle.desk_records.specs.Targets.{AddsTag, AddsTarget, renamed, untagged, with_changed};
 ghost use Rattle.desk_store.specs.Counting.{AddsAtMost};
 
 use crate::change::OpenChange;
-use crate::reading::{counted_in, stored_target_in, tags_in};
+use crate::reading::{counted_in, listed_targets_in, stored_target_in, tags_in};
 use desk_records::{
-    COUNT_TARGETS, DROP_TARGET_TAG, GET_TARGET, LIST_TARGET_TAGS, PUT_TARGET, PUT_TARGET_TAG,
-    SET_TARGET, StoredTarget,
+    COUNT_TARGETS, DROP_TARGET_TAG, GET_TARGET, LIST_TARGET_TAGS, LIST_TARGETS, ListedTarget,
+    PUT_TARGET, PUT_TARGET_TAG, SET_TARGET, StoredTarget,
 };
-use rollout_model::{ControllerId, Digest, Text, Word};
+use rollout_model::{ControllerId, Digest, Page, Text, Word};
 use sql_calls::Fault;
 use sqlite::{Alter, params};
 
@@ -46,6 +46,22 @@ impl<'a, S: Alter> OpenChange<'a, S> {
             .calls
             .ask(LIST_TARGET_TAGS, params![id.as_str()])?;
         tags_in(alloc, &rows)
+    }
+
+    /// The targets of a page by their ids and names, in byte order of their ids. A row that breaks a column's rule is a
+    /// failed store.
+    pub fn read_targets(&mut self, page: Page) -> Result<Vec<ListedTarget>, Fault>
+        ensures same_reference { self.new.store.ghost_name ≡ self.old.store.ghost_name }
+        ensures reads { Reads HoldsRecords (state S.Store self.old.store.now.calls.conn) (state S.Store self.new.store.now.calls.conn) result
+            (λ r listed. listed.items ≡ map listed_target (take page.limit (drop page.offset r.targets))) }
+        ensures work { self.new.store.now.calls.work.statements ≤ self.old.store.now.calls.work.statements + 1 }
+    {
+        let alloc = self.store.alloc;
+        let rows = self
+            .store
+            .calls
+            .ask(LIST_TARGETS, params![page.limit, page.offset])?;
+        listed_targets_in(alloc, &rows)
     }
 
     /// How many targets there are.

@@ -4,3 +4,4 @@ pub mod ModuleViews
 pub mod SetViews
 pub mod ArtifactViews
 pub mod TargetViews
+pub mod TargetPages

@@ -1,11 +1,12 @@
 -- Reads one after the other.
-use Rattle.std.proofs.Common.{Result, Ok, Err, IsErr, arith}
+use Rattle.std.proofs.Common.{◌≡◌, true, Result, Ok, Err, IsErr, arith}
 use Rattle.sqlite.specs.State.{State}
 use Rattle.sqlite.specs.Effect.{Database}
 use Rattle.sql_calls.specs.Standing.{Reads}
 use Rattle.sql_calls.proofs.Changes.{spoils}
 use Rattle.rollout_machine.specs.Records.{Records}
 use Rattle.desk_records.specs.Holds.{HasNoRollouts, HoldsRecords}
+use Rattle.desk_records.specs.Targets.{are_sorted}
 
 module _ (Holds : Database → Records → Type 0) where
   -- what is known of all records
@@ -47,3 +48,7 @@ module _ (Holds : Database → Records → Type 0) where
 -- what is read may take it that no rollouts and no actions are held
 pub read_bare : {A E : Type 0} (a b : State) (x : A) (P : Records → A → Type 0) → Reads HoldsRecords {E = E} a b (Ok x) P → Reads HoldsRecords {E = E} a b (Ok x) (λ r y. HasNoRollouts r × P r y)
 read_bare a b x P h = record { wears = h.wears; reads = λ now kept was. (let it = h.reads now kept was in (it.0, λ clean. (((was (omega (arith, clean, h.wears))).now_holds).bare, it.1 clean))) }
+
+-- and that targets come in the byte order of their ids
+pub read_sorted : {A E : Type 0} (a b : State) (x : A) (P : Records → A → Type 0) → Reads HoldsRecords {E = E} a b (Ok x) P → Reads HoldsRecords {E = E} a b (Ok x) (λ r y. (are_sorted r.targets ≡ true) × P r y)
+read_sorted a b x P h = record { wears = h.wears; reads = λ now kept was. (let it = h.reads now kept was in (it.0, λ clean. (((was (omega (arith, clean, h.wears))).now_holds).sorted, it.1 clean))) }

@@ -23,9 +23,12 @@ use Rattle.rollout_model.specs.declared.refusal.Refusal.TheVariants.{NotFound}
 use Rattle.rollout_model.specs.declared.request.Reply.{Reply}
 use Rattle.rollout_model.specs.declared.request.Reply.TheVariants as reply
 use Rattle.rollout_model.specs.declared.shown_target.ShownTarget.{ShownTarget}
+use Rattle.rollout_model.specs.declared.target.Target.{Target as SeenTarget}
+use Rattle.desk_records.specs.declared.target_row.ListedTarget.{ListedTarget}
+use Rattle.desk_views.specs.Targets.{target_listed, unassigned}
 
 -- no action was assigned
-bare_word : (r : Records) (t : Bytes) → HasNoRollouts r → target_word r t ≡ Unknown
+pub bare_word : (r : Records) (t : Bytes) → HasNoRollouts r → target_word r t ≡ Unknown
 bare_word r t bare = ap (λ (actions : List ActionRecord). word_by (filter (λ a. is_for r t a && has_started r a) actions)) bare.actions
   where
     word_by : List ActionRecord → TargetWord
@@ -40,28 +43,33 @@ id_found id t (x ∷ ts) found = go (same_bytes x.id id) refl found (id_found id
     go true same is rest = let here : x ≡ t = cc in ap (λ (y : Target). y.id) (sym here) ∙ same_true x.id id same
     go false other is rest = rest is
 
+-- a target that was listed, with what was read of its id
+pub listed_is : (r : Records) (listed : ListedTarget) (tags : List Bytes) (attributes : List Attribute) → tags ≡ tags_of (target_of r listed.id) → attributes ≡ attributes_of (target_of r listed.id)
+    → record { id = listed.id; name = listed.name; tags = tags; attributes = attributes } ≡ target_listed r listed
+listed_is r listed tags attributes tagged attributed = λ i. record { id = listed.id; name = listed.name; tags = tagged i; attributes = attributed i }
+
 module _ (r : Records) (id : Bytes) where
   pub no_target : (wanted : Option Target) → None ≡ option_map stored_target wanted → None ≡ option_map (target_shown r) wanted
   no_target None is = refl
   no_target (Some t) is = absurd cc
 
-  -- what was read of the target, its tags and its attributes
-  module _ (stored : StoredTarget) (tags : List Bytes) (attributes : List Attribute) (bare : HasNoRollouts r) where
-    abbrev unassigned : ShownTarget
-    unassigned = record { id = id; name = stored.name; tags = tags; attributes = attributes; word = Unknown }
-
-    pub one_target : Some stored ≡ option_map stored_target (target_of r id) → tags ≡ tags_of (target_of r id) → attributes ≡ attributes_of (target_of r id)
-        → Some (shown_target unassigned) ≡ option_map (target_shown r) (target_of r id)
-    one_target = go (target_of r id) refl
+  -- what was found of the target, and then read with its tags and its attributes
+  module _ (stored : StoredTarget) (target : SeenTarget) (bare : HasNoRollouts r) where
+    pub one_target : Some stored ≡ option_map stored_target (target_of r id) → target ≡ target_listed r (record { id = id; name = stored.name })
+        → Some (shown_target (unassigned target)) ≡ option_map (target_shown r) (target_of r id)
+    one_target found read = ap (λ (t : SeenTarget). Some (shown_target (unassigned t))) read ∙ go (target_of r id) refl found
       where
-        go : (wanted : Option Target) → target_of r id ≡ wanted → Some stored ≡ option_map stored_target wanted → tags ≡ tags_of wanted → attributes ≡ attributes_of wanted → Some (shown_target unassigned) ≡ option_map (target_shown r) wanted
-        go None found is tagged attributed = absurd cc
-        go (Some t) found is tagged attributed =
+        read_as : Option Target → SeenTarget
+        read_as wanted = record { id = id; name = stored.name; tags = tags_of wanted; attributes = attributes_of wanted }
+
+        go : (wanted : Option Target) → target_of r id ≡ wanted → Some stored ≡ option_map stored_target wanted → Some (shown_target (unassigned (read_as wanted))) ≡ option_map (target_shown r) wanted
+        go None found is = absurd cc
+        go (Some t) found is =
             let same : stored ≡ stored_target t = cc in
             let here = sym (id_found id t r.targets found) in
             let named = ap (λ (s : StoredTarget). s.name) same in
             let word = sym (bare_word r t.id bare) in
-            λ i. Some (record { id = here i; name = named i; tags = tagged i; attributes = attributed i; word = word i })
+            λ i. Some (record { id = here i; name = named i; tags = t.tags; attributes = t.attributes; word = word i })
 
   -- the reply to a query for it
   abbrev reply_for : Option ShownTarget → Reply

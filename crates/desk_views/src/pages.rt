@@ -1,6 +1,6 @@
 //! Pages of lists.
 
-ghost use Rattle.std.specs.Prelude.{◌≡◌, ◌-◌, min};
+ghost use Rattle.std.specs.Prelude.{◌≡◌, ◌-◌, ◌&&◌, min, nat_le, nat_lt};
 
 use rollout_model::Page;
 
@@ -9,4 +9,11 @@ pub(crate) fn count_on(page: Page, total: u32) -> u32
     ensures { result ≡ min page.limit (total - page.offset) }
 {
     page.limit.min(total.saturating_sub(page.offset))
+}
+
+/// Whether the entry that comes after so many others is on the page.
+pub(crate) fn is_on(page: Page, place: u32) -> bool
+    ensures { result ≡ (nat_le page.offset place && nat_lt (place - page.offset) page.limit) }
+{
+    page.offset <= place && place - page.offset < page.limit
 }

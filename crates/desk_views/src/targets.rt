@@ -1,4 +1,4 @@
-//! Targets.
+//! Targets, one at a time.
 
 ghost use Rattle.std.specs.Prelude.{◌≡◌, IfOk};
 ghost use Rattle.std.specs.Option.{option_map};
@@ -8,13 +8,13 @@ ghost use Rattle.desk_records.specs.Holds.{HoldsRecords};
 ghost use Rattle.rollout_machine.specs.Answers.{query_reply};
 ghost use Rattle.rollout_machine.specs.Objects.{target_shown};
 ghost use Rattle.rollout_machine.specs.Requests.{ShowTarget};
-ghost use Rattle.rollout_machine.specs.StateWords.{Unknown};
 ghost use Rattle.rollout_machine.specs.Verdicts.{target_of};
 ghost use Rattle.rollout_machine.specs.Views.{reply_of, shown_target};
+ghost use Rattle.desk_views.specs.Targets.{target_listed, unassigned};
 
-use desk_store::{Fault, OpenChange, StoredTarget};
+use desk_store::{Fault, ListedTarget, OpenChange, StoredTarget};
 use rollout_model::{
-    Attributes, ControllerId, Refusal, Reply, ShownTarget, Tags, TargetWord, Word,
+    Attributes, ControllerId, Refusal, Reply, ShownTarget, Tags, Target, TargetWord, Word,
 };
 use sqlite::Alter;
 
@@ -46,10 +46,44 @@ fn read_shown<S: Alter>(
         Some(stored) => stored,
         None => return Ok(None),
     };
-    let words = change.read_target_tags(&id)?;
-    let attributes = change.read_target_attributes(&id)?;
+    let listed = called(id, stored);
+    let target = read_listed(change, listed)?;
+    Ok(Some(shown_unassigned(target)))
+}
+
+/// The id and name of a target that was found.
+fn called(id: ControllerId, stored: StoredTarget) -> ListedTarget
+    ensures { result ≡ record { id = id; name = stored.name } }
+{
+    let StoredTarget { name, digest: _ } = stored;
+    ListedTarget { id, name }
+}
+
+/// A target that was listed, with its tags and its attributes.
+pub(crate) fn read_listed<S: Alter>(
+    change: &mut OpenChange<'_, S>,
+    listed: ListedTarget,
+) -> Result<Target, Fault>
+    ensures same_reference { change.new.store.ghost_name ≡ change.old.store.ghost_name }
+    ensures reads { Reads HoldsRecords (state S.Store change.old.store.now.calls.conn) (state S.Store change.new.store.now.calls.conn) result
+        (λ now target. target ≡ target_listed now listed) }
+{
+    let words = change.read_target_tags(&listed.id)?;
+    let attributes = change.read_target_attributes(&listed.id)?;
     let tags = tag_list(words)?;
-    Ok(Some(unassigned(id, stored, tags, attributes)))
+    Ok(whole(listed, tags, attributes))
+}
+
+fn whole(listed: ListedTarget, tags: Tags, attributes: Attributes) -> Target
+    ensures { result ≡ record { id = listed.id; name = listed.name; tags = tags; attributes = attributes } }
+{
+    let ListedTarget { id, name } = listed;
+    Target {
+        id,
+        name,
+        tags,
+        attributes,
+    }
 }
 
 /// The tags of a target. Where they are more than 16, or one stands twice, the store has failed, since no target was given such tags.
@@ -63,15 +97,15 @@ fn tag_list(words: Vec<Word>) -> Result<Tags, Fault>
 }
 
 /// The target as it is shown before any rollout has assigned it an action.
-fn unassigned(
-    id: ControllerId,
-    stored: StoredTarget,
-    tags: Tags,
-    attributes: Attributes,
-) -> ShownTarget
-    ensures { result ≡ record { id = id; name = stored.name; tags = tags; attributes = attributes; word = Unknown } }
+pub(crate) fn shown_unassigned(target: Target) -> ShownTarget
+    ensures { result ≡ unassigned target }
 {
-    let StoredTarget { name, digest: _ } = stored;
+    let Target {
+        id,
+        name,
+        tags,
+        attributes,
+    } = target;
     ShownTarget {
         id,
         name,

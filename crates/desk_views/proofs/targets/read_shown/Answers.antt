@@ -1,29 +1,17 @@
-use Rattle.std.proofs.Common.{◌∙◌}
 use Rattle.desk_records.specs.Holds.{HoldsRecords}
 use Rattle.rollout_machine.specs.Verdicts.{target_of}
-use Rattle.desk_views.proofs.ReadLemmas.{both_read, read_bare, read_but_fails, reads_as, second_fails}
+use Rattle.desk_views.proofs.ReadLemmas.{both_read, read_bare, reads_as, second_fails}
 use Rattle.desk_views.proofs.TargetViews.{no_target, one_target}
 use Rattle.desk_views.proofs.targets.read_shown.Goals as goal
 
 pub returns-in-None-clause-reads : goal.returns-in-None-clause-reads
 returns-in-None-clause-reads g c = reads_as HoldsRecords _ _ _ _ _ _ (rw c.in-None.is at c.in_ok-stored.ensures.reads) (λ r is. no_target r c.args.id (target_of r c.args.id) is)
 
-pub returns-in_err-words-clause-reads : goal.returns-in_err-words-clause-reads
-returns-in_err-words-clause-reads g c = second_fails HoldsRecords _ _ _ _ _ _ _ _ c.in_ok-stored.ensures.reads c.in_err-words.ensures.reads _ c.from_residual-in_err-words.ensures.0
-
-pub returns-in_err-attributes-clause-reads : goal.returns-in_err-attributes-clause-reads
-returns-in_err-attributes-clause-reads g c =
-    second_fails HoldsRecords _ _ _ _ _ _ _ _ (both_read HoldsRecords _ _ _ _ _ _ _ c.in_ok-stored.ensures.reads c.in_ok-words.ensures.reads) c.in_err-attributes.ensures.reads _ c.from_residual-in_err-attributes.ensures.0
-
-pub returns-in_err-tags-clause-reads : goal.returns-in_err-tags-clause-reads
-returns-in_err-tags-clause-reads g c =
-    read_but_fails HoldsRecords _ _ _ _ _
-    (both_read HoldsRecords _ _ _ _ _ _ _ (both_read HoldsRecords _ _ _ _ _ _ _ c.in_ok-stored.ensures.reads c.in_ok-words.ensures.reads) c.in_ok-attributes.ensures.reads) _ c.from_residual-in_err-tags.ensures.0
+pub returns-in_err-target-clause-reads : goal.returns-in_err-target-clause-reads
+returns-in_err-target-clause-reads g c = second_fails HoldsRecords _ _ _ _ _ _ _ _ c.in_ok-stored.ensures.reads c.in_err-target.ensures.reads _ c.from_residual-in_err-target.ensures.0
 
 pub returns-clause-reads : goal.returns-clause-reads
 returns-clause-reads g c =
-    rw c.unassigned.ensures
-    (reads_as HoldsRecords _ _ _ _ _ _
-    (read_bare _ _ _ _
-    (both_read HoldsRecords _ _ _ _ _ _ _ (both_read HoldsRecords _ _ _ _ _ _ _ (rw c.in-Some.is at c.in_ok-stored.ensures.reads) c.in_ok-words.ensures.reads) c.in_ok-attributes.ensures.reads))
-    (λ r is. one_target r c.args.id c.in-Some.stored c.in_ok-tags.tags c.in_ok-attributes.attributes is.0 is.1.0.0 (c.in_ok-tags.ensures ∙ is.1.0.1) is.1.1))
+    rw c.shown_unassigned.ensures
+    (reads_as HoldsRecords _ _ _ _ _ _ (read_bare _ _ _ _ (both_read HoldsRecords _ _ _ _ _ _ _ (rw c.in-Some.is at c.in_ok-stored.ensures.reads) (rw c.called-listed.ensures at c.in_ok-target.ensures.reads)))
+    (λ r is. one_target r c.args.id c.in-Some.stored c.in_ok-target.target is.0 is.1.0 is.1.1))

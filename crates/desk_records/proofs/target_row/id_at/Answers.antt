@@ -1,0 +1,8 @@
+use Rattle.std.proofs.Common.{arith}
+use Rattle.std.proofs.lemmas.Grind.{common_steps}
+use Rattle.rollout_model.proofs.RuleLemmas.{spelled_is_utf8}
+use Rattle.desk_records.proofs.target_row.id_at.Goals as goal
+
+-- a text that isn't UTF-8 is no id
+pub returns-in_default-from_utf8-clause-err : goal.returns-in_default-from_utf8-clause-err
+returns-in_default-from_utf8-clause-err c = grind (arith, common_steps, spelled_is_utf8 1 64, c.from_utf8.ensures.cases, c.get_ref.ensures.ok)

@@ -1,0 +1,206 @@
+-- From typed reads of targets to pages of them.
+use Rattle.std.proofs.Common.{◌≡◌, ℕ, ◌+◌, ◌*◌, ◌/◌, ◌%◌, min, Bool, true, false, cond, List, [], ◌∷◌, ◌++◌, map, filter, find, length, take, drop, Option, Some, None, refl, sym, ap, ◌∙◌, append-nil, append_assoc, arith, Vec}
+use Rattle.std.proofs.IntoIterSteps.{All-taken}
+use Rattle.std.proofs.Math.Seq.{take-add, take-nil}
+use Rattle.std.proofs.lemmas.Bool.{and_parts, or_parts}
+use Rattle.std.proofs.lemmas.Grind.{div_ceil_times}
+use Rattle.std.proofs.lemmas.List.{drop-map, drop_all, length-map, map-append, take-map, take_all}
+use Rattle.std.proofs.lemmas.List.Elements.{filter-append}
+use Rattle.std.specs.Iterator.{Yields}
+use Rattle.std.specs.Option.{IsSomeAnd}
+use Rattle.std.specs.Vec.Iter.{into_iter_items, into_iter_steps}
+use Rattle.std.specs.declared.alloc.Global.{Global}
+use Rattle.std.specs.declared.vec.IntoIter.{IntoIter}
+use Rattle.rollout_machine.specs.Answers.{query_reply, targets_matching}
+use Rattle.rollout_machine.specs.ByteStrings.{contains_word, same_bytes}
+use Rattle.rollout_machine.specs.Commands.{Bytes}
+use Rattle.rollout_machine.specs.Filters.{matches, seen}
+use Rattle.rollout_machine.specs.Objects.{page_of, target_shown, targets_shown}
+use Rattle.rollout_machine.specs.Records.{Records}
+use Rattle.rollout_machine.specs.Replies.{PageOf, TargetsShown}
+use Rattle.rollout_machine.specs.Requests.{Page, ShowTargets}
+use Rattle.rollout_machine.specs.Targets.{Target}
+use Rattle.rollout_machine.specs.Views.{listed, listed_targets, reply_of, shown_target}
+use Rattle.rollout_machine.proofs.Imports.{IsSorted, not_above}
+use Rattle.rollout_machine.proofs.TargetTies.{same_refl}
+use Rattle.rollout_model.specs.declared.page.PageOf.{PageOf as RustPageOf}
+use Rattle.rollout_model.specs.declared.request.Reply.TheVariants as reply
+use Rattle.rollout_model.specs.declared.shown_target.ShownTarget.{ShownTarget}
+use Rattle.rollout_model.specs.declared.target.Target.{Target as SeenTarget}
+use Rattle.target_filter.specs.Grammar.{Tree}
+use Rattle.target_filter.specs.Meaning.{holds}
+use Rattle.target_filter.specs.Profile.{filter_of}
+use Rattle.desk_records.specs.declared.target_row.ListedTarget.{ListedTarget}
+use Rattle.desk_records.specs.Holds.{HasNoRollouts}
+use Rattle.desk_records.specs.TargetRow.{listed_target}
+use Rattle.desk_records.specs.Targets.{are_sorted, ids_of, in_byte_order}
+use Rattle.desk_records.proofs.ByteOrder.{sorted_from}
+use Rattle.desk_records.proofs.Targets.{has_id}
+use Rattle.desk_views.specs.Targets.{matching_shown, target_listed, unassigned}
+use Rattle.desk_views.proofs.TargetViews.{bare_word}
+
+-- ---- a list that is gone through
+
+-- once nothing is left, all of it was given
+pub all_given : {X A : Type 0} (s t u : IntoIter X A) (xs all : List X) → into_iter_items s ≡ all → Yields into_iter_steps s xs t → into_iter_steps t None u → xs ≡ all
+all_given s t u xs all is given none = All-taken s xs (u, (t, given, none)) ∙ is
+
+-- ---- what is found by its id
+
+abbrev found : List Target → Target → Option Target
+found all t = find (has_id t.id) all
+
+passes_by : (x : Target) (xs ys : List Target) → contains_word x.id (ids_of ys) ≡ false → map (found (x ∷ xs)) ys ≡ map (found xs) ys
+passes_by x xs [] none = refl
+passes_by x xs (y ∷ ys) none =
+    let parts = or_parts (same_bytes x.id y.id) (contains_word x.id (ids_of ys)) none in
+    let one : found (x ∷ xs) y ≡ found xs y = rw (parts.0) refl in
+    let others = passes_by x xs ys parts.1 in
+    λ i. one i ∷ others i
+
+finds_all : (all : List Target) → IsSorted (ids_of all) → map (found all) all ≡ map Some all
+finds_all [] sorted = refl
+finds_all (x ∷ xs) sorted =
+    let one : found (x ∷ xs) x ≡ Some x = rw (same_refl x.id) refl in
+    let others = passes_by x xs xs (not_above x.id (ids_of xs) sorted.0) ∙ finds_all xs sorted.1 in
+    λ i. one i ∷ others i
+
+module _ (r : Records) where
+  one_seen : (t : Target) → found r.targets t ≡ Some t → target_listed r (listed_target t) ≡ seen t
+  one_seen t is = rw is refl
+
+  all_seen : (ts : List Target) → map (found r.targets) ts ≡ map Some ts → map (target_listed r) (map listed_target ts) ≡ map seen ts
+  all_seen [] is = refl
+  all_seen (t ∷ ts) is =
+      let one : found r.targets t ≡ Some t = cc in
+      let others : map (found r.targets) ts ≡ map Some ts = cc in
+      let here = one_seen t one in
+      let rest = all_seen ts others in
+      λ i. here i ∷ rest i
+
+  -- a part of the targets, listed and then read by their ids
+  pub part_seen : are_sorted r.targets ≡ true → (n m : ℕ) → map (target_listed r) (map listed_target (take n (drop m r.targets))) ≡ map seen (take n (drop m r.targets))
+  part_seen sorted n m =
+      let ordered = (and_parts (in_byte_order (ids_of r.targets)) _ sorted).0 in
+      let all = finds_all r.targets (sorted_from (ids_of r.targets) ordered) in
+      all_seen (take n (drop m r.targets))
+      (sym (take-map (found r.targets) n (drop m r.targets)) ∙ ap (take n) (sym (drop-map (found r.targets) m r.targets) ∙ ap (drop m) all ∙ drop-map Some m r.targets) ∙ take-map Some n (drop m r.targets))
+
+  -- ---- as they are shown
+
+  one_shown : HasNoRollouts r → (t : Target) → shown_target (unassigned (seen t)) ≡ target_shown r t
+  one_shown bare t = let word = sym (bare_word r t.id bare) in λ i. record { id = t.id; name = t.name; tags = t.tags; attributes = t.attributes; word = word i }
+
+  all_shown : HasNoRollouts r → (ts : List Target) → map shown_target (map unassigned (map seen ts)) ≡ targets_shown r ts
+  all_shown bare [] = refl
+  all_shown bare (t ∷ ts) = let here = one_shown bare t in let rest = all_shown bare ts in λ i. here i ∷ rest i
+
+  shown_map : (ts : List Target) → targets_shown r ts ≡ map (target_shown r) ts
+  shown_map [] = refl
+  shown_map (t ∷ ts) = ap (λ l. target_shown r t ∷ l) (shown_map ts)
+
+  shown_part : (n m : ℕ) (ts : List Target) → targets_shown r (take n (drop m ts)) ≡ take n (drop m (targets_shown r ts))
+  shown_part n m ts =
+      shown_map (take n (drop m ts)) ∙ sym (take-map (target_shown r) n (drop m ts)) ∙ ap (take n) (sym (drop-map (target_shown r) m ts)) ∙ ap (λ l. take n (drop m l)) (sym (shown_map ts))
+
+  -- ---- all targets
+
+  pub entries_grow : (items more : List ShownTarget) (entries : List ListedTarget) (entry : ListedTarget) (target : SeenTarget) → items ≡ map unassigned (map (target_listed r) entries) → target ≡ target_listed r entry
+      → more ≡ items ++ unassigned target ∷ [] → more ≡ map unassigned (map (target_listed r) (entries ++ entry ∷ []))
+  entries_grow items more entries entry target is read one =
+      one ∙ ap (λ l. l ++ unassigned target ∷ []) is ∙ ap (λ t. map unassigned (map (target_listed r) entries) ++ unassigned t ∷ []) read
+      ∙ sym (ap (map unassigned) (map-append (target_listed r) entries (entry ∷ [])) ∙ map-append unassigned (map (target_listed r) entries) (target_listed r entry ∷ []))
+
+  pub all_replied : (page : Page) (entries : List ListedTarget) (items : Vec ShownTarget Global) (total : ℕ) → HasNoRollouts r → are_sorted r.targets ≡ true → total ≡ length r.targets
+      → entries ≡ map listed_target (take page.limit (drop page.offset r.targets)) → items.items ≡ map unassigned (map (target_listed r) entries)
+      → reply_of (reply.Targets (record { content = items; total = total })) ≡ query_reply r (ShowTargets None page)
+  all_replied page entries items total bare sorted count listed is =
+      let part = take page.limit (drop page.offset r.targets) in
+      let here = ap (map shown_target) (is ∙ ap (λ l. map unassigned (map (target_listed r) l)) listed ∙ ap (map unassigned) (part_seen sorted page.limit page.offset)) ∙ all_shown bare part ∙ shown_part page.limit page.offset r.targets in
+      let all = count ∙ sym (ap length (shown_map r.targets) ∙ length-map r.targets (target_shown r)) in
+      λ i. TargetsShown (record { content = here i; total = all i })
+
+  -- ---- those that match
+
+  module _ (f : Tree) where
+    matching_join : (ts us : List SeenTarget) → matching_shown f (ts ++ us) ≡ matching_shown f ts ++ matching_shown f us
+    matching_join ts us = ap (map unassigned) (filter-append (holds f) ts us) ∙ map-append unassigned (filter (holds f) ts) (filter (holds f) us)
+
+    pub matching_grow : (all : List ShownTarget) (entries : List ListedTarget) (entry : ListedTarget)
+        → (all ++ matching_shown f (map (target_listed r) entries)) ++ matching_shown f (target_listed r entry ∷ []) ≡ all ++ matching_shown f (map (target_listed r) (entries ++ entry ∷ []))
+    matching_grow all entries entry =
+        append_assoc all _ _
+        ∙ ap (λ l. all ++ l) (sym (ap (matching_shown f) (map-append (target_listed r) entries (entry ∷ [])) ∙ matching_join (map (target_listed r) entries) (target_listed r entry ∷ [])))
+
+    pub one_matches : (all : List ShownTarget) (t u : SeenTarget) → t ≡ u → holds f t ≡ true → all ++ unassigned t ∷ [] ≡ all ++ matching_shown f (u ∷ [])
+    one_matches all t u is on = rw (sym is, on) refl
+
+    pub one_does_not : (all : List ShownTarget) (t u : SeenTarget) → t ≡ u → holds f t ≡ false → all ≡ all ++ matching_shown f (u ∷ [])
+    one_does_not all t u is off = rw (sym is, off) (sym (append-nil all))
+
+    -- those of a chunk after those before it
+    pub chunk_matched : are_sorted r.targets ≡ true → (offset n : ℕ) (entries : List ListedTarget) → entries ≡ map listed_target (take n (drop offset r.targets))
+        → matching_shown f (map seen (take offset r.targets)) ++ matching_shown f (map (target_listed r) entries) ≡ matching_shown f (map seen (take (offset + n) r.targets))
+    chunk_matched sorted offset n entries is =
+        ap (λ l. matching_shown f (map seen (take offset r.targets)) ++ matching_shown f l) (ap (map (target_listed r)) is ∙ part_seen sorted n offset)
+        ∙ sym (matching_join (map seen (take offset r.targets)) (map seen (take n (drop offset r.targets))))
+        ∙ ap (matching_shown f) (sym (map-append seen (take offset r.targets) (take n (drop offset r.targets))) ∙ ap (map seen) (sym (take-add offset n r.targets)))
+
+    filter_seen : (ts : List Target) → filter (holds f) (map seen ts) ≡ map seen (filter (matches f) ts)
+    filter_seen [] = refl
+    filter_seen (t ∷ ts) = go (matches f t) (filter_seen ts)
+      where
+        go : (b : Bool) → filter (holds f) (map seen ts) ≡ map seen (filter (matches f) ts) → cond b (seen t ∷ filter (holds f) (map seen ts)) (filter (holds f) (map seen ts)) ≡ map seen (cond b (t ∷ filter (matches f) ts) (filter (matches f) ts))
+        go true rest = ap (λ l. seen t ∷ l) rest
+        go false rest = rest
+
+    matching_is : HasNoRollouts r → map shown_target (matching_shown f (map seen r.targets)) ≡ targets_shown r (filter (matches f) r.targets)
+    matching_is bare = ap (λ l. map shown_target (map unassigned l)) (filter_seen r.targets) ∙ all_shown bare (filter (matches f) r.targets)
+
+    page_is : (page : Page) (shown : RustPageOf ShownTarget) → HasNoRollouts r → listed shown ≡ page_of page (matching_shown f (map seen r.targets)) → listed_targets shown ≡ page_of page (targets_shown r (filter (matches f) r.targets))
+    page_is page shown bare is =
+        let all = matching_shown f (map seen r.targets) in
+        let content : shown.content.items ≡ take page.limit (drop page.offset all) = ap (λ (p : PageOf ShownTarget). p.content) is in
+        let total : shown.total ≡ length all = ap (λ (p : PageOf ShownTarget). p.total) is in
+        let here = ap (map shown_target) content ∙ sym (take-map shown_target page.limit (drop page.offset all)) ∙ ap (take page.limit) (sym (drop-map shown_target page.offset all)) ∙ ap (λ l. take page.limit (drop page.offset l)) (matching_is bare) in
+        let count = total ∙ sym (length-map all shown_target) ∙ ap length (matching_is bare) in
+        λ i. record { content = here i; total = count i }
+
+    pub matching_replied : (page : Page) (shown : RustPageOf ShownTarget) (text : Bytes) → HasNoRollouts r → filter_of text ≡ Some f → listed shown ≡ page_of page (matching_shown f (map seen r.targets))
+        → reply_of (reply.Targets shown) ≡ query_reply r (ShowTargets (Some text) page)
+    matching_replied page shown text bare tree is = ap TargetsShown (page_is page shown bare is) ∙ sym (ap (targets_matching r page) tree)
+
+-- the page of nothing
+pub nothing_yet : {X : Type 0} (page : Page) (items : Vec X Global) → items.items ≡ [] → listed (record { content = items; total = 0 }) ≡ page_of page []
+nothing_yet page items empty =
+    let here = empty ∙ sym (take-nil page.limit) ∙ ap (take page.limit) (sym (drop_all page.offset [] (omega arith))) in
+    λ i. record { content = here i; total = 0 }
+
+-- ---- one target more
+
+module _ (r : Records) (f : Tree) (text : Bytes) (t : SeenTarget) (entry : ListedTarget) (is_match : Bool) (computed : IsSomeAnd (filter_of text) (λ tree. is_match ≡ holds tree t)) (tree : filter_of text ≡ Some f) (read : t ≡ target_listed r entry) (all : List ShownTarget) where
+  by_tree : is_match ≡ holds f t
+  by_tree = rw tree at computed
+
+  pub match_added : is_match ≡ true → all ++ unassigned t ∷ [] ≡ all ++ matching_shown f (target_listed r entry ∷ [])
+  match_added on = one_matches r f all t (target_listed r entry) read (sym by_tree ∙ on)
+
+  pub match_left : is_match ≡ false → all ≡ all ++ matching_shown f (target_listed r entry ∷ [])
+  match_left off = one_does_not r f all t (target_listed r entry) read (sym by_tree ∙ off)
+
+-- ---- chunk by chunk
+
+module _ (page : Page) (f : Tree) (ts : List Target) where
+  -- the page of those that match of the first n targets
+  abbrev pub page_of_first : ℕ → PageOf ShownTarget
+  page_of_first n = page_of page (matching_shown f (map seen (take n ts)))
+
+  pub next_chunk : (old new : RustPageOf ShownTarget) (chunk offset : ℕ) → offset ≡ chunk * 500 → (listed old ≡ page_of_first offset → listed new ≡ page_of_first (offset + 500)) → listed old ≡ page_of_first (chunk * 500) → listed new ≡ page_of_first ((chunk + 1) * 500)
+  next_chunk old new chunk offset at adds was =
+      let next : offset + 500 ≡ (chunk + 1) * 500 = omega (arith, at) in
+      adds (was ∙ ap page_of_first (sym at)) ∙ ap page_of_first next
+
+  pub last_chunk : (shown : RustPageOf ShownTarget) (chunk count : ℕ) → chunk ≡ count / 500 + min 1 (count % 500) → count ≡ length ts → listed shown ≡ page_of_first (chunk * 500) → listed shown ≡ page_of page (matching_shown f (map seen ts))
+  last_chunk shown chunk count end is was =
+      let enough = (div_ceil_times count 500 (omega arith)).0 in
+      was ∙ ap (λ l. page_of page (matching_shown f (map seen l))) (take_all (chunk * 500) ts (omega (arith, end, is, enough)))

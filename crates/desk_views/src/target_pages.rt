@@ -1,0 +1,207 @@
+//! Pages of targets: of all, or of those that match a filter.
+
+ghost use Rattle.std.specs.Prelude.{◌≡◌, ◌+◌, ◌++◌, [], ◌∷◌, List, map, take, IfOk, Some, None};
+ghost use Rattle.sqlite.specs.Held.{state};
+ghost use Rattle.sql_calls.specs.Standing.{Reads};
+ghost use Rattle.desk_records.specs.Holds.{HoldsRecords};
+ghost use Rattle.rollout_machine.specs.Answers.{query_reply};
+ghost use Rattle.rollout_machine.specs.Filters.{seen};
+ghost use Rattle.rollout_machine.specs.Objects.{page_of};
+ghost use Rattle.rollout_machine.specs.Requests.{ShowTargets};
+ghost use Rattle.rollout_machine.specs.Views.{listed, reply_of};
+ghost use Rattle.rollout_model.specs.declared.shown_target.ShownTarget.{ShownTarget};
+ghost use Rattle.target_filter.specs.Grammar.{Tree};
+ghost use Rattle.target_filter.specs.Profile.{filter_of};
+ghost use Rattle.desk_views.specs.Targets.{matching_shown, target_listed, unassigned};
+
+use crate::pages::is_on;
+use crate::targets::{read_listed, shown_unassigned};
+use desk_store::{Fault, ListedTarget, OpenChange};
+use rollout_model::{FilterText, Page, PageOf, Refusal, Reply, ShownTarget};
+use sqlite::Alter;
+use std::alloc::Global;
+use target_filter::{Filter, FilterFault, laws};
+
+/// How many targets one statement lists, where a filter goes through them all.
+const CHUNK: u32 = 500;
+
+/// Shows a page of the targets in byte order of their ids: of those that match the filter, or else of all.
+pub fn show_targets<S: Alter>(
+    alloc: Global,
+    change: &mut OpenChange<'_, S>,
+    filter: &Option<FilterText>,
+    page: Page,
+) -> Result<Reply, Fault>
+    ensures same_reference { change.new.store.ghost_name ≡ change.old.store.ghost_name }
+    ensures reads { Reads HoldsRecords (state S.Store change.old.store.now.calls.conn) (state S.Store change.new.store.now.calls.conn) result
+        (λ now reply. reply_of reply ≡ query_reply now (ShowTargets filter.now page)) }
+{
+    match filter {
+        Some(text) => show_matching(alloc, change, text, page),
+        None => show_all(alloc, change, page),
+    }
+}
+
+/// Shows a page of all targets.
+fn show_all<S: Alter>(
+    alloc: Global,
+    change: &mut OpenChange<'_, S>,
+    page: Page,
+) -> Result<Reply, Fault>
+    ensures same_reference { change.new.store.ghost_name ≡ change.old.store.ghost_name }
+    ensures reads { Reads HoldsRecords (state S.Store change.old.store.now.calls.conn) (state S.Store change.new.store.now.calls.conn) result
+        (λ now reply. reply_of reply ≡ query_reply now (ShowTargets None page)) }
+{
+    let total = change.read_target_count()?;
+    let entries = change.read_targets(page)?;
+    let content = read_entries(alloc, change, entries)?;
+    Ok(Reply::Targets(PageOf { content, total }))
+}
+
+/// Targets that were listed, as they are shown.
+fn read_entries<S: Alter>(
+    alloc: Global,
+    change: &mut OpenChange<'_, S>,
+    entries: Vec<ListedTarget>,
+) -> Result<Vec<ShownTarget>, Fault>
+    ensures same_reference { change.new.store.ghost_name ≡ change.old.store.ghost_name }
+    ensures reads { Reads HoldsRecords (state S.Store change.old.store.now.calls.conn) (state S.Store change.new.store.now.calls.conn) result
+        (λ now content. content.items ≡ map unassigned (map (target_listed now) entries.items)) }
+{
+    let mut content = Vec::new(alloc);
+    for entry in entries {
+        let target = read_listed(change, entry)?;
+        match content.push(shown_unassigned(target)) {
+            Ok(()) => {}
+            Err(_) => return Err(Fault::Memory),
+        }
+    }
+    Ok(content)
+}
+
+/// Shows a page of the targets that match the filter of a text.
+fn show_matching<S: Alter>(
+    alloc: Global,
+    change: &mut OpenChange<'_, S>,
+    text: &FilterText,
+    page: Page,
+) -> Result<Reply, Fault>
+    ensures same_reference { change.new.store.ghost_name ≡ change.old.store.ghost_name }
+    ensures reads { Reads HoldsRecords (state S.Store change.old.store.now.calls.conn) (state S.Store change.new.store.now.calls.conn) result
+        (λ now reply. reply_of reply ≡ query_reply now (ShowTargets (Some text.now) page)) }
+{
+    let words = text.as_str();
+    let filter = match Filter::read(alloc, words) {
+        Ok(filter) => filter,
+        Err(FilterFault::Memory) => return Err(Fault::Memory),
+        Err(_) => return Ok(Reply::Refused(Refusal::BadFilter)),
+    };
+    laws::computed_filter();
+    let shown = read_matching(alloc, change, &filter, page)?;
+    Ok(Reply::Targets(shown))
+}
+
+/// The page of the targets that match.
+fn read_matching<S: Alter>(
+    alloc: Global,
+    change: &mut OpenChange<'_, S>,
+    filter: &Filter,
+    page: Page,
+) -> Result<PageOf<ShownTarget>, Fault>
+    ensures same_reference { change.new.store.ghost_name ≡ change.old.store.ghost_name }
+    ensures reads { Reads HoldsRecords (state S.Store change.old.store.now.calls.conn) (state S.Store change.new.store.now.calls.conn) result
+        (λ now shown. (f : Tree) → filter_of filter.now ≡ Some f → listed shown ≡ page_of page (matching_shown f (map seen now.targets))) }
+{
+    let count = change.read_target_count()?;
+    let mut shown = PageOf {
+        content: Vec::new(alloc),
+        total: 0,
+    };
+    for chunk in 0..count.div_ceil(CHUNK) {
+        let Some(offset) = chunk.checked_mul(CHUNK) else {
+            return Err(Fault::Store);
+        };
+        add_chunk(change, filter, page, offset, &mut shown)?;
+    }
+    Ok(shown)
+}
+
+/// Adds to the page those of the targets behind the offset that match, of as many as a chunk has.
+fn add_chunk<S: Alter>(
+    change: &mut OpenChange<'_, S>,
+    filter: &Filter,
+    page: Page,
+    offset: u32,
+    shown: &mut PageOf<ShownTarget>,
+) -> Result<(), Fault>
+    ensures same_reference { change.new.store.ghost_name ≡ change.old.store.ghost_name }
+    ensures reads { Reads HoldsRecords (state S.Store change.old.store.now.calls.conn) (state S.Store change.new.store.now.calls.conn) result
+        (λ now _. (f : Tree) → filter_of filter.now ≡ Some f → listed shown.old ≡ page_of page (matching_shown f (map seen (take offset now.targets)))
+        → listed shown.new ≡ page_of page (matching_shown f (map seen (take (offset + 500) now.targets)))) }
+{
+    let entries = change.read_targets(Page {
+        offset,
+        limit: CHUNK,
+    })?;
+    add_matching(change, filter, page, entries, shown)?;
+    Ok(())
+}
+
+/// Adds to the page those of the targets that match.
+fn add_matching<S: Alter>(
+    change: &mut OpenChange<'_, S>,
+    filter: &Filter,
+    page: Page,
+    entries: Vec<ListedTarget>,
+    shown: &mut PageOf<ShownTarget>,
+) -> Result<(), Fault>
+    ensures same_reference { change.new.store.ghost_name ≡ change.old.store.ghost_name }
+    ensures reads { Reads HoldsRecords (state S.Store change.old.store.now.calls.conn) (state S.Store change.new.store.now.calls.conn) result
+        (λ now _. (f : Tree) → filter_of filter.now ≡ Some f → (all : List ShownTarget) → listed shown.old ≡ page_of page all
+        → listed shown.new ≡ page_of page (all ++ matching_shown f (map (target_listed now) entries.items))) }
+{
+    for entry in entries {
+        add_if_match(change, filter, page, entry, shown)?;
+    }
+    Ok(())
+}
+
+/// Adds a target to the page, if it matches.
+fn add_if_match<S: Alter>(
+    change: &mut OpenChange<'_, S>,
+    filter: &Filter,
+    page: Page,
+    entry: ListedTarget,
+    shown: &mut PageOf<ShownTarget>,
+) -> Result<(), Fault>
+    ensures same_reference { change.new.store.ghost_name ≡ change.old.store.ghost_name }
+    ensures reads { Reads HoldsRecords (state S.Store change.old.store.now.calls.conn) (state S.Store change.new.store.now.calls.conn) result
+        (λ now _. (f : Tree) → filter_of filter.now ≡ Some f → (all : List ShownTarget) → listed shown.old ≡ page_of page all
+        → listed shown.new ≡ page_of page (all ++ matching_shown f (target_listed now entry ∷ []))) }
+{
+    let target = read_listed(change, entry)?;
+    let matches = filter.matches(&target);
+    if !matches {
+        return Ok(());
+    }
+    add(page, shown, shown_unassigned(target))?;
+    Ok(())
+}
+
+/// Adds the next entry of a list to its page.
+fn add(page: Page, shown: &mut PageOf<ShownTarget>, entry: ShownTarget) -> Result<(), Fault>
+    ensures { IfOk result (λ _. (all : List ShownTarget) → listed shown.old ≡ page_of page all → listed shown.new ≡ page_of page (all ++ entry ∷ [])) }
+{
+    let place = shown.total;
+    let Some(total) = place.checked_add(1) else {
+        return Err(Fault::Store);
+    };
+    shown.total = total;
+    if !is_on(page, place) {
+        return Ok(());
+    }
+    match shown.content.push(entry) {
+        Ok(()) => Ok(()),
+        Err(_) => Err(Fault::Memory),
+    }
+}
