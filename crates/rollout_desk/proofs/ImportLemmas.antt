@@ -9,7 +9,7 @@ use Rattle.std.proofs.lemmas.List.{map-append, take_more, length-map}
 use Rattle.desk_records.specs.TargetRow.{stored_target}
 use Rattle.desk_records.specs.Targets.{AddsTarget, are_sorted, ids_of, renamed, with_changed, with_target}
 use Rattle.desk_records.specs.declared.target_row.StoredTarget.{StoredTarget}
-use Rattle.rollout_machine.specs.ByteStrings.{same_bytes, contains_word, with_word, with_words}
+use Rattle.rollout_machine.specs.ByteStrings.{same_bytes, bytes_below, contains_word, with_word, with_words}
 use Rattle.rollout_machine.specs.Commands.{Bytes, TargetRow, PutTargets}
 use Rattle.rollout_machine.specs.Records.{Records}
 use Rattle.rollout_machine.specs.RecordSteps.{change_target, new_target, put_target, put_targets, step_records}
@@ -109,10 +109,6 @@ pub any_row : (id : Bytes) (rows : List TargetRow) → list_any (λ (row : Targe
 any_row id [] = refl
 any_row id (row ∷ rows) = λ i. (same_pointwise row.id id ∙ same_sym row.id id) i || any_row id rows i
 
--- a row before this one adds the target
-pub named_before : (row : TargetRow) (earlier : List TargetRow) (r : Records) → true ≡ contains_word row.id (row_ids earlier) → IsNew row earlier r false
-named_before row earlier r is = sym (ap not (has_all row.id (row_ids earlier) (ids_of r.targets) ∙ ap (λ c. c || contains_word row.id (ids_of r.targets)) (sym is)))
-
 has_id : (id : Bytes) (ts : List Target) → contains_word id (ids_of ts) ≡ is_some (option_map stored_target (found id ts))
 has_id id [] = refl
 has_id id (t ∷ ts) = ap (λ s. s || contains_word id (ids_of ts)) (same_sym id t.id) ∙ go (same_bytes t.id id) (has_id id ts) where
@@ -120,21 +116,28 @@ has_id id (t ∷ ts) = ap (λ s. s || contains_word id (ids_of ts)) (same_sym id
   go true rest = refl
   go false rest = rest
 
-pub new_if_missing : (row : TargetRow) (earlier : List TargetRow) (r : Records) (read : Option StoredTarget) (missing : Bool) → false ≡ contains_word row.id (row_ids earlier) → read ≡ option_map stored_target (target_of r row.id) → not missing ≡ is_some read
-    → IsNew row earlier r missing
-new_if_missing row earlier r read missing other is none =
-    turned missing
-    ∙ ap not none
-    ∙ ap (λ o. not (is_some o)) is
-    ∙ ap not (sym (has_id row.id r.targets))
-    ∙ ap (λ c. not (c || contains_word row.id (ids_of r.targets))) other
-    ∙ sym (ap not (has_all row.id (row_ids earlier) (ids_of r.targets)))
+-- a target that is there isn't new
+pub there_already : (row : TargetRow) (earlier : List TargetRow) (r : Records) (read : Option StoredTarget) → is_some read ≡ true → read ≡ option_map stored_target (target_of r row.id) → IsNew row earlier r false
+there_already row earlier r read some is =
+    let there : contains_word row.id (ids_of r.targets) ≡ true = has_id row.id r.targets ∙ ap is_some (sym is) ∙ some in
+    sym (ap not (has_all row.id (row_ids earlier) (ids_of r.targets) ∙ ap (λ c. contains_word row.id (row_ids earlier) || c) there ∙ any (contains_word row.id (row_ids earlier))))
   where
-    turned : (b : Bool) → b ≡ not (not b)
-    turned true = refl
-    turned false = refl
+    any : (b : Bool) → (b || true) ≡ true
+    any true = refl
+    any false = refl
 
-words_more : (us : List Bytes) (w : Bytes) (vs : List Bytes) → with_words (us ++ w ∷ []) vs ≡ with_word w (with_words us vs)
+-- another is new where no row before this one adds it
+pub new_if_unnamed : (row : TargetRow) (earlier : List TargetRow) (r : Records) (read : Option StoredTarget) (named new : Bool) → is_some read ≡ false → read ≡ option_map stored_target (target_of r row.id) → named ≡ contains_word row.id (row_ids earlier)
+    → new ≡ not named → IsNew row earlier r new
+new_if_unnamed row earlier r read named new none is named_is new_is =
+    let missing : contains_word row.id (ids_of r.targets) ≡ false = has_id row.id r.targets ∙ ap is_some (sym is) ∙ none in
+    new_is ∙ ap not (named_is ∙ sym (has_all row.id (row_ids earlier) (ids_of r.targets) ∙ ap (λ c. contains_word row.id (row_ids earlier) || c) missing ∙ same (contains_word row.id (row_ids earlier))))
+  where
+    same : (b : Bool) → (b || false) ≡ b
+    same true = refl
+    same false = refl
+
+pub words_more : (us : List Bytes) (w : Bytes) (vs : List Bytes) → with_words (us ++ w ∷ []) vs ≡ with_word w (with_words us vs)
 words_more [] w vs = refl
 words_more (u ∷ us) w vs = words_more us w (with_word u vs)
 
@@ -188,3 +191,28 @@ module _ (r : Records) (rows : List TargetRow) (count added : ℕ) (is : AddsSoM
   within_quota few =
       let at : nat_lt 10000 (count + added) ≡ false = grind (arith, nat_tests) in
       ap (λ n. cond (nat_lt 10000 n) (Some Quota) None) (sym total) ∙ ap (λ b. cond b (Some Quota) None) at
+
+-- ---- few rows
+
+few_with : (w : Bytes) (vs : List Bytes) → length (with_word w vs) ≤ suc (length vs)
+few_with w [] = omega arith
+few_with w (v ∷ vs) = go (same_bytes w v) (bytes_below w v) (few_with w vs) where
+  go : (s l : Bool) → length (with_word w vs) ≤ suc (length vs) → length (cond s (v ∷ vs) (cond l (w ∷ v ∷ vs) (v ∷ with_word w vs))) ≤ suc (suc (length vs))
+  go true l rest = omega arith
+  go false true rest = omega arith
+  go false false rest = omega (arith, rest)
+
+-- words add no more than there are of them
+few_with_all : (ws vs : List Bytes) → length (with_words ws vs) ≤ length ws + length vs
+few_with_all [] vs = omega arith
+few_with_all (w ∷ ws) vs = omega (arith, few_with_all ws (with_word w vs), few_with w vs)
+
+-- where rows of new targets alone would keep the limit, all rows do
+pub few_rows : (r : Records) (rows : List TargetRow) (count : ℕ) → count ≡ length r.targets → length rows + count ≤ 10000 → check r (PutTargets rows) ≡ None
+few_rows r rows count size few =
+    let words : length (ids_after rows r) ≤ length (row_ids rows) + length (ids_of r.targets) = few_with_all (row_ids rows) (ids_of r.targets) in
+    let rows_are : length (row_ids rows) ≡ length rows = length-map rows (λ (row : TargetRow). row.id) in
+    let there_are : length (ids_of r.targets) ≡ length r.targets = length-map r.targets (λ (t : Target). t.id) in
+    let at_most : length (ids_after rows r) ≤ 10000 = omega (arith, words, rows_are, there_are, size, few) in
+    let at : nat_lt 10000 (length (ids_after rows r)) ≡ false = grind (arith, nat_tests) in
+    ap (λ b. cond b (Some Quota) None) at

@@ -11,3 +11,7 @@ pub mod TagLemmas
 pub mod WriteLemmas
 pub mod ImportLemmas
 pub mod TagStepLemmas
+pub mod AttributeLemmas
+pub mod LookLemmas
+pub mod PieceLemmas
+pub mod DownloadLemmas

@@ -4,4 +4,7 @@ pub mod Steps
 pub mod Additions
 pub mod Openings
 pub mod Runs
+pub mod Looks
+pub mod Downloads
 pub mod Imports
+pub mod Attributes

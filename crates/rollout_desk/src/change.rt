@@ -10,6 +10,7 @@ ghost use Rattle.rollout_machine.specs.Views.{command_of, query_of, reply_of};
 ghost use Rattle.rollout_desk.specs.Steps.{Steps, Handles, EndsByCommit, EndsByRollback};
 
 use crate::artifacts::add_artifact;
+use crate::attributes::put_attributes;
 use crate::modules::add_module;
 use crate::sets::add_set;
 use crate::step::{Step, reply_of_fault};
@@ -18,7 +19,7 @@ use crate::targets::put_targets;
 use desk_store::{DeskStore, Fault, OpenChange};
 use desk_views::{
     show_artifact, show_artifacts, show_contents, show_module, show_modules, show_set, show_sets,
-    show_target,
+    show_target, show_targets,
 };
 use rollout_machine::command_is_well_formed;
 use rollout_model::{Command, Query, Refusal, Reply};
@@ -41,6 +42,7 @@ fn step<S: Alter>(
         Command::PutTargets(rows) => put_targets(change, rows),
         Command::Tag(id, tag) => tag_target(change, id, tag),
         Command::Untag(id, tag) => untag_target(change, id, tag),
+        Command::PutAttributes(device, given) => put_attributes(change, device, given),
     }
 }
 
@@ -66,6 +68,7 @@ fn answer<S: Alter>(
         }
         Query::Sets(page) => show_sets(alloc, change, *page),
         Query::Set(number) => show_set(change, *number),
+        Query::Targets(filter, page) => show_targets(alloc, change, filter, *page),
         Query::Target(id) => show_target(change, *id),
     }
 }

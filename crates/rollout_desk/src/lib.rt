@@ -2,8 +2,11 @@
 #![tactic(auto)]
 
 mod artifacts;
+mod attributes;
 mod change;
 mod desk;
+mod download;
+mod look;
 mod modules;
 mod opening;
 mod run;
@@ -15,4 +18,5 @@ mod targets;
 mod tests;
 
 pub use crate::desk::Desk;
+pub use crate::download::{Download, downloads_go_on};
 pub use desk_opening::OpenFault;

@@ -1,6 +1,6 @@
 //! Targets: putting rows of them.
 
-ghost use Rattle.std.specs.Prelude.{◌≡◌, [], ◌∷◌, None, Some, IfSome, length, nat_eq};
+ghost use Rattle.std.specs.Prelude.{◌≡◌, ◌<◌, [], ◌∷◌, None, Some, IfNone, IfSome, length, nat_eq};
 ghost use Rattle.std.specs.Cmp.Lexicographic.{pointwise};
 ghost use Rattle.std.specs.List.{list_any};
 ghost use Rattle.sqlite.specs.Held.{state};
@@ -154,11 +154,11 @@ fn is_new<S: Alter>(
     ensures same_reference { change.new.store.ghost_name ≡ change.old.store.ghost_name }
     ensures reads { Reads HoldsRecords (state S.Store change.old.store.now.calls.conn) (state S.Store change.new.store.now.calls.conn) result (IsNew row.now earlier.now) }
 {
-    if is_named(earlier, &row.id) {
+    let found = change.read_target(&row.id)?;
+    if found.is_some() {
         return Ok(false);
     }
-    let found = change.read_target(&row.id)?;
-    Ok(found.is_none())
+    Ok(!is_named(earlier, &row.id))
 }
 
 /// How many targets the rows add.
@@ -175,7 +175,7 @@ fn count_new<S: Alter>(change: &mut OpenChange<'_, S>, rows: &[TargetRow]) -> Re
     Ok(added)
 }
 
-/// Why the rows can't be put, if they can't.
+/// Why the rows can't be put, if they can't. Where even rows of new targets alone keep the limit, none is looked at.
 fn import_refusal<S: Alter>(
     change: &mut OpenChange<'_, S>,
     rows: &[TargetRow],
@@ -184,17 +184,21 @@ fn import_refusal<S: Alter>(
     ensures reads { Reads HoldsRecords (state S.Store change.old.store.now.calls.conn) (state S.Store change.new.store.now.calls.conn) result
         (λ r refusal. refusal ≡ check r (PutTargets rows.now)) }
 {
-    let added = count_new(change, rows)?;
     let count = change.read_target_count()?;
+    if rows.len().saturating_add(count as usize) <= TARGET_LIMIT {
+        return Ok(None);
+    }
+    let added = count_new(change, rows)?;
     if added.saturating_add(count as usize) > TARGET_LIMIT {
         return Ok(Some(Refusal::Quota));
     }
     Ok(None)
 }
 
-/// How many rows there are, where a reply can tell it.
+/// How many rows there are, where a reply can tell it: up to 4,294,967,295.
 fn count_of(rows: &[TargetRow]) -> Option<u32>
-    ensures { IfSome result (λ count. count ≡ length rows.now) }
+    ensures some { IfSome result (λ count. count ≡ length rows.now) }
+    ensures none { IfNone result (4294967295 < length rows.now) }
 {
     match u32::try_from(rows.len()) {
         Ok(count) => Some(count),
@@ -202,7 +206,7 @@ fn count_of(rows: &[TargetRow]) -> Option<u32>
     }
 }
 
-/// Puts rows of targets. Its reply takes no memory; so many rows that no reply tells their number are refused as if for want of it.
+/// Puts rows of targets. Its reply takes no memory; more than 4,294,967,295 rows, whose number no reply tells, are refused as if for want of it.
 pub(crate) fn put_targets<S: Alter>(
     change: &mut OpenChange<'_, S>,
     rows: &TargetRows,

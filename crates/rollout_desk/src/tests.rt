@@ -1,8 +1,12 @@
 //! Tests: each call once on its happy path, and what is left where the store fails or memory is wanting.
 
 mod answers;
+mod attributes;
+mod downloads;
 mod files;
+mod fleet;
 mod fuses;
 mod lines;
 mod memory;
 mod sets;
+mod targets;

@@ -94,7 +94,7 @@ fn is_stopped<S: Alter>(alloc: Global, desk: &mut Desk<S>) -> Result<bool, Refus
     let stopped = Said::Refused(Refusal::Stopped);
     let command = adds(alloc, "1.2")?;
     let query = asks(1)?;
-    let run = desk.run(&[Request::Ask(query)]);
+    let run = desk.run(&[Request::Ask(asks(1)?)]);
     Ok(
         desk.stopped()
             && says(&desk.apply(&command), stopped)

@@ -23,3 +23,6 @@ returns-in-Set-clause-reads g c = rw c.in-Set.is c.show_set.ensures.reads
 
 pub returns-in-Target-clause-reads : goal.returns-in-Target-clause-reads
 returns-in-Target-clause-reads g c = rw c.in-Target.is c.show_target.ensures.reads
+
+pub returns-in-Targets-clause-reads : goal.returns-in-Targets-clause-reads
+returns-in-Targets-clause-reads g c = rw c.in-Targets.is c.show_targets.ensures.reads

@@ -17,3 +17,6 @@ returns-in-Tag-clause-steps g c = rw c.in-Tag.is c.tag_target.ensures.steps
 
 pub returns-in-Untag-clause-steps : goal.returns-in-Untag-clause-steps
 returns-in-Untag-clause-steps g c = rw c.in-Untag.is c.untag_target.ensures.steps
+
+pub returns-in-PutAttributes-clause-steps : goal.returns-in-PutAttributes-clause-steps
+returns-in-PutAttributes-clause-steps g c = rw c.in-PutAttributes.is c.put_attributes.ensures.steps

@@ -21,4 +21,4 @@ pub returns-clause-steps : goal.returns-clause-steps
 returns-clause-steps g c =
     accepted HoldsRecords (PutTargets c.args.rows.now) _ _ _ _ _ (rw (c.in-None.is, c.as_slice-rows.ensures) at c.in_ok-refusal.ensures.reads)
     (PutsRows c.args.rows.now) (λ r is. refl) (rw c.as_slice-rows.ensures at c.in_ok-write_targets.ensures.writes)
-    _ (λ r is. (sym is, ap TargetsPut (rw c.as_slice-rows.ensures at c.in-Some-count_of.ensures)))
+    _ (λ r is. (sym is, ap TargetsPut (rw c.as_slice-rows.ensures at c.in-Some-count_of.ensures.some)))

@@ -1,0 +1,158 @@
+-- From looks at the records, and from answers, to downloads.
+use Rattle.std.proofs.Common.{◌≡◌, ◌≢◌, ◌≤◌, ◌<◌, ◌⊎◌, inl, inr, ◌+◌, ◌*◌, ◌++◌, ℕ, zero, suc, List, [], ◌∷◌, Bool, true, false, cond, nat_eq, min, take, drop, length, Vec, Option, Some, None, Result, Ok, Err, refl, sym, subst, ap, ◌∙◌, arith, vec_items}
+use Rattle.std.proofs.lemmas.Bool.{false≢true}
+use Rattle.std.specs.declared.alloc.Global.{Global}
+use Rattle.std.specs.Option.{option_map}
+use Rattle.sqlite.specs.Effect.{Database}
+use Rattle.sqlite.specs.State.{State, HasCleanDisk}
+use Rattle.desk_records.specs.Artifacts.{piece_numbered}
+use Rattle.rollout_machine.specs.Answers.{Answer, answer, query_reply, if_found, artifact_if, artifact_of_module, MayAnswer}
+use Rattle.rollout_machine.specs.ByteStrings.{item_numbered}
+use Rattle.rollout_machine.specs.CommandList.{CommandList, followed_by}
+use Rattle.rollout_machine.specs.Commands.{Bytes, Command}
+use Rattle.rollout_machine.specs.Objects.{artifact_shown}
+use Rattle.rollout_machine.specs.Records.{ArtifactRecord, Records, added_artifacts, artifacts, records}
+use Rattle.rollout_machine.specs.Replies.{Reply, Refused, ArtifactShown, ContentsShown}
+use Rattle.rollout_machine.specs.Requests.{Ask, Asks, Query, ShowArtifact, ShowContents, one}
+use Rattle.rollout_machine.specs.Standing.{DeskState, StandsFor, Applies, AppliesAt, IsInDoubt}
+use Rattle.rollout_machine.specs.Views.{reply_of}
+use Rattle.rollout_machine.proofs.Answering.{query_answer}
+use Rattle.rollout_model.specs.Limits.{piece_length}
+use Rattle.rollout_model.specs.declared.artifact.Artifact.{Artifact}
+use Rattle.rollout_model.specs.declared.refusal.Refusal.{Refusal}
+use Rattle.rollout_model.specs.declared.refusal.Refusal.TheVariants.{NoMemory, StoreFailed}
+use Rattle.rollout_model.specs.declared.request.Reply as model
+use Rattle.rollout_model.specs.declared.request.Reply.TheVariants as reply
+use Rattle.rollout_desk.specs.Desks.{desk_state_at}
+use Rattle.rollout_desk.specs.Downloads.{sent, next_length, artifact_in, Sends, BeginsAt, Begins, HandsPieces, DownloadsGoOn}
+use Rattle.rollout_desk.specs.Looks.{Looks, bytes_of}
+use Rattle.rollout_desk.specs.Steps.{is_store}
+use Rattle.rollout_desk.specs.declared.download.Download.{Download}
+use Rattle.rollout_desk.proofs.ApplyLemmas.{stands}
+use Rattle.rollout_desk.proofs.PieceLemmas.{size_is, piece_is, so_far, joins}
+
+-- ---- the next piece
+
+abbrev Found : Type 0
+Found = Result (Option (Vec ℕ Global)) Refusal
+
+abbrev one_more : Download → Download
+one_more p = record p { pieces = p.pieces + 1 }
+
+-- what the records have at the place of the next piece
+abbrev IsNextPiece : Download → Records → Option (Vec ℕ Global) → Type 0
+IsNextPiece p r found = bytes_of found ≡ piece_numbered r.artifacts p.number (p.pieces + 1)
+
+module _ (Holds : Database → Records → Type 0) (was : Bool) (a b : State) (p : Download) where
+  pub handed : (found : Found) (piece : Vec ℕ Global) → Looks Holds a b found (IsNextPiece p) → found ≡ Ok (Some piece) → 1 ≤ next_length p → was ≡ false
+      → HandsPieces (desk_state_at Holds was a) (desk_state_at Holds was b) p (one_more p) (Ok (Some piece))
+  handed found piece look is more runs h contents clean standing sends =
+      let looked : Looks Holds a b (Ok (Some piece)) (IsNextPiece p) = subst (λ x. Looks Holds a b x (IsNextPiece p)) is look in
+      let it = looked.looks (records h) (λ _. standing.shows) in
+      let before : p.pieces * piece_length < p.size = omega (arith, more) in
+      let next : piece.items ≡ take piece_length (drop (p.pieces * piece_length) contents) = piece_is (records h) p.number p.pieces contents piece.items sends.artifact (it.1 clean) in (
+        subst (λ (x : Bool). StandsFor (desk_state_at Holds x b) h) (sym runs) (stands Holds b h standing.valid (it.0 clean)),
+        record { artifact = sends.artifact; size = sends.size },
+        record {
+          next = next ∙ ap (λ n. take piece_length (drop n contents)) (sym (so_far contents p.size p.pieces sends.size before));
+          joined = joins contents p.size p.pieces sends.size before ∙ ap (λ l. take (sent p) contents ++ l) (sym next);
+        },
+      )
+
+-- ---- the first answer
+
+-- a reply that shows no artifact
+pub other_reply : (r o : model.Reply) → Err o ≡ artifact_in r → (r ≡ o) × ((shown : Artifact) → reply_of r ≢ ArtifactShown shown)
+other_reply (reply.Artifact a) o is = absurd cc
+other_reply _ o is = (cc, λ shown same. absurd cc)
+
+pub shown_reply : (r : model.Reply) (a : Artifact) → Ok a ≡ artifact_in r → reply_of r ≡ ArtifactShown a
+shown_reply (reply.Artifact a) b is = let same : b ≡ a = cc in ap ArtifactShown (sym same)
+shown_reply _ b is = absurd cc
+
+module _ {File : Type 0} (old new : DeskState File) (m k : ℕ) where
+  abbrev for_artifact : Option ArtifactRecord → Reply
+  for_artifact x = if_found (λ (a : ArtifactRecord). ArtifactShown (artifact_shown k a)) x
+
+  abbrev for_contents : Option ArtifactRecord → Reply
+  for_contents x = if_found (λ (a : ArtifactRecord). ContentsShown a.contents) x
+
+  same_refusal : (r : Reply) → ((shown : Artifact) → r ≢ ArtifactShown shown) → (x : Option ArtifactRecord) → r ≡ for_artifact x → r ≡ for_contents x
+  same_refusal r never None is = is
+  same_refusal r never (Some a) is = absurd (never (artifact_shown k a) is)
+
+  -- the contents are refused as the artifact is
+  pub contents_refused : (r : Reply) → ((shown : Artifact) → r ≢ ArtifactShown shown) → Applies old new (Asks (Ask (ShowArtifact m k))) r → Applies old new (Asks (Ask (ShowContents m k))) r
+  contents_refused r never applies h clean standing =
+      let it = applies h clean standing in
+      let asked = query_answer h (ShowArtifact m k) in
+      let wanted = query_answer h (ShowContents m k) in
+      record {
+        accepted = it.accepted;
+        answers = elim it.answers [
+          | inl none ↦ inl none
+          | inr other ↦ elim other [
+            | inl failed ↦ inr (inl (failed.0, failed.1 ∙ ap (λ (x : Answer). x.accepted) asked ∙ sym (ap (λ (x : Answer). x.accepted) wanted)))
+            | inr found ↦ inr (inr (
+              found.0,
+              (let same : r ≡ query_reply (records h) (ShowArtifact m k) = ap (λ (x : Answer). x.reply) (found.1 ∙ asked) in
+                  let none : it.accepted ≡ None = ap (λ (x : Answer). x.accepted) (found.1 ∙ asked) in
+                  let refused : r ≡ query_reply (records h) (ShowContents m k) = same_refusal r never (artifact_of_module (records h) m k) same in
+                  (λ i. record { reply = refused i; accepted = none i }) ∙ sym wanted),
+            ))
+          ]
+        ];
+        becomes = it.becomes;
+      }
+
+  module _ (shown : Artifact) (h : CommandList) (standing : StandsFor new h) where
+    abbrev Begun : Type 0
+    Begun = BeginsAt h new (ShowContents m k) (record { number = k; size = shown.size; pieces = 0 })
+
+    begun_own : (a : ArtifactRecord) → item_numbered (records h).artifacts k ≡ Some a → (b : Bool) → nat_eq a.module_number m ≡ b → ArtifactShown shown ≡ for_artifact (cond b (Some a) None) → Begun
+    begun_own a at false own is = absurd cc
+    begun_own a at true own is =
+        let same : shown ≡ artifact_shown k a = cc in record {
+          stands = standing;
+          contents = a.contents;
+          answer = ap (λ x. for_contents (artifact_if m x)) at ∙ ap (λ b. for_contents (cond b (Some a) None)) own;
+          sends = record {
+            artifact = ap (option_map (λ (x : ArtifactRecord). x.contents)) at;
+            size = ap (λ (x : Artifact). x.size) same ∙ size_is h k a at;
+          };
+          start = omega arith;
+        }
+
+    begun_at : (x : Option ArtifactRecord) → item_numbered (records h).artifacts k ≡ x → ArtifactShown shown ≡ for_artifact (artifact_if m x) → Begun
+    begun_at None at is = absurd cc
+    begun_at (Some a) at is = begun_own a at (nat_eq a.module_number m) refl is
+
+  -- the artifact is shown, so its contents can be sent
+  pub begun : (shown : Artifact) → Applies old new (Asks (Ask (ShowArtifact m k))) (ArtifactShown shown) → Begins old new (ShowContents m k) (Ok (record { number = k; size = shown.size; pieces = 0 }))
+  begun shown applies h clean standing =
+      let it = applies h clean standing in
+      elim it.answers [
+        | inl none ↦ absurd (not_refused NoMemory none.0)
+        | inr other ↦ elim other [
+          | inl failed ↦ absurd (not_refused StoreFailed failed.0)
+          | inr found ↦
+              let same : ArtifactShown shown ≡ query_reply (records h) (ShowArtifact m k) = ap (λ (x : Answer). x.reply) (found.1 ∙ query_answer h (ShowArtifact m k)) in
+              let none : it.accepted ≡ None = ap (λ (x : Answer). x.accepted) (found.1 ∙ query_answer h (ShowArtifact m k)) in
+              begun_at shown h (subst (λ (o : Option Command). StandsFor new (followed_by h (one o))) none (it.becomes.stands found.0)) (item_numbered (records h).artifacts k) refl same
+        ]
+      ] where
+        not_refused : (refusal : Refusal) → ArtifactShown shown ≢ Refused refusal
+        not_refused refusal is = absurd cc
+
+-- ---- later commands
+
+found_still : (xs ys : List ArtifactRecord) (number : ℕ) (contents : Bytes) → option_map (λ (a : ArtifactRecord). a.contents) (item_numbered xs number) ≡ Some contents
+    → option_map (λ (a : ArtifactRecord). a.contents) (item_numbered (xs ++ ys) number) ≡ Some contents
+found_still xs ys zero contents is = absurd cc
+found_still [] ys (suc k) contents is = absurd cc
+found_still (a ∷ xs) ys (suc zero) contents is = is
+found_still (a ∷ xs) ys (suc (suc k)) contents is = found_still xs ys (suc k) contents is
+
+pub goes_on : DownloadsGoOn
+unfolding records
+goes_on h c d contents sends = record { artifact = found_still (artifacts h) (added_artifacts c) d.number contents sends.artifact; size = sends.size }

@@ -1,0 +1,130 @@
+//! Downloads: the contents of an artifact, piece by piece.
+
+ghost use Rattle.std.specs.Prelude.{◌≡◌, true, false, Err, IfOk, IfErr};
+ghost use Rattle.rollout_machine.specs.Replies.{Refused};
+ghost use Rattle.rollout_machine.specs.Requests.{ShowContents};
+ghost use Rattle.rollout_machine.specs.Standing.{StaysStopped};
+ghost use Rattle.rollout_machine.specs.Views.{query_of, reply_of};
+ghost use Rattle.rollout_model.specs.declared.refusal.Refusal.TheVariants.{Stopped};
+ghost use Rattle.rollout_desk.specs.DeskStates.{desk_state};
+ghost use Rattle.rollout_desk.specs.Downloads.{Begins, HandsPieces, KeepsCount, DownloadsGoOn, artifact_in, next_length};
+
+use crate::desk::Desk;
+use crate::look::{is_failed_store, of_length, read_piece};
+use rollout_model::{Artifact, ArtifactNo, ModuleNo, Query, Refusal, Reply};
+use sqlite::Alter;
+
+/// How many bytes a piece of an artifact's contents has; the last one may be shorter.
+const PIECE_LENGTH: u64 = 65_536;
+
+/// A download: how far the contents of an artifact were handed out, piece by piece. One that is dropped early changes nothing.
+#[derive(Clone, Copy, Debug)]
+pub struct Download {
+    pub(crate) number: ArtifactNo,
+    /// In bytes.
+    pub(crate) size: u32,
+    /// How many pieces were handed out.
+    pub(crate) pieces: u32,
+}
+
+impl Download {
+    /// How many bytes the contents have.
+    pub fn size(&self) -> u32
+        ensures { result ≡ self.now.size }
+    {
+        self.size
+    }
+
+    /// How many bytes the next piece has: 0 where all were handed out.
+    fn next_length(&self) -> u64
+        ensures { result ≡ next_length self.now }
+    {
+        let sent = self.pieces as u64 * PIECE_LENGTH;
+        (self.size as u64).saturating_sub(sent).min(PIECE_LENGTH)
+    }
+}
+
+/// What an artifact's contents are, they stay, so a download goes on whatever commands come between its pieces.
+pub fn downloads_go_on()
+    ensures { DownloadsGoOn }
+{}
+
+/// The artifact that a reply shows, or else the reply.
+fn artifact_in(reply: Reply) -> Result<Artifact, Reply>
+    ensures { result ≡ artifact_in reply }
+{
+    match reply {
+        Reply::Artifact(artifact) => Ok(artifact),
+        other => Err(other),
+    }
+}
+
+impl<S: Alter> Desk<S> {
+    /// Begins a download of the contents that a query asks for. Any other query, and one that is refused, is answered as `ask`
+    /// answers it.
+    pub fn download(&mut self, query: &Query) -> Result<Download, Reply>
+        ensures clean { (desk_state S.Store self.new).is_clean → (desk_state S.Store self.old).is_clean }
+        ensures begins { Begins (desk_state S.Store self.old) (desk_state S.Store self.new) (query_of query.now) result }
+        ensures runs { IfOk result (λ _. (desk_state S.Store self.old).is_stopped ≡ false) }
+        ensures stopped { (desk_state S.Store self.old).is_stopped ≡ true
+            → IfErr result (λ reply. reply_of reply ≡ Refused Stopped) × StaysStopped (desk_state S.Store self.old) (desk_state S.Store self.new) }
+    {
+        match query {
+            Query::Contents(module_number, number) => self.find_artifact(*module_number, *number),
+            _ => Err(self.ask(query)),
+        }
+    }
+
+    /// Finds the artifact of a module whose contents are asked for. It has these contents if it is shown, and where it isn't
+    /// the contents are refused in the same way.
+    fn find_artifact(
+        &mut self,
+        module_number: ModuleNo,
+        number: ArtifactNo,
+    ) -> Result<Download, Reply>
+        ensures clean { (desk_state S.Store self.new).is_clean → (desk_state S.Store self.old).is_clean }
+        ensures begins { Begins (desk_state S.Store self.old) (desk_state S.Store self.new) (ShowContents module_number number) result }
+        ensures runs { IfOk result (λ _. (desk_state S.Store self.old).is_stopped ≡ false) }
+        ensures stopped { (desk_state S.Store self.old).is_stopped ≡ true
+            → IfErr result (λ reply. reply_of reply ≡ Refused Stopped) × StaysStopped (desk_state S.Store self.old) (desk_state S.Store self.new) }
+    {
+        let reply = self.ask(&Query::Artifact(module_number, number));
+        match artifact_in(reply) {
+            Ok(artifact) => Ok(Download {
+                number,
+                size: artifact.size,
+                pieces: 0,
+            }),
+            Err(reply) => Err(reply),
+        }
+    }
+
+    /// The next piece of a download: 65,536 bytes, the last one perhaps fewer. `None` once all were handed out. After `NoMemory`
+    /// the same piece is next. After `StoreFailed` the desk is stopped, and this is `Stopped`; pieces that aren't as many bytes as
+    /// the artifact's size are a failed store too.
+    pub fn next_piece(&mut self, download: &mut Download) -> Result<Option<Vec<u8>>, Refusal>
+        ensures clean { (desk_state S.Store self.new).is_clean → (desk_state S.Store self.old).is_clean }
+        ensures hands { HandsPieces (desk_state S.Store self.old) (desk_state S.Store self.new) download.old download.new result }
+        ensures counts { KeepsCount download.old download.new result }
+        ensures stopped { (desk_state S.Store self.old).is_stopped ≡ true → (result ≡ Err Refusal.Stopped) × StaysStopped (desk_state S.Store self.old) (desk_state S.Store self.new) }
+    {
+        if self.stopped {
+            return Err(Refusal::Stopped);
+        }
+        let wanted = download.next_length();
+        if wanted == 0 {
+            return Ok(None);
+        }
+        let found = read_piece(&mut self.store, download.number, download.pieces + 1);
+        match of_length(found, wanted) {
+            Ok(piece) => {
+                download.pieces += 1;
+                Ok(Some(piece))
+            }
+            Err(refusal) => {
+                self.stopped = is_failed_store(refusal);
+                Err(refusal)
+            }
+        }
+    }
+}

@@ -1,0 +1,78 @@
+//! A look at a piece of an artifact's contents.
+
+ghost use Rattle.std.specs.Prelude.{◌≡◌, ◌⊎◌, length, Some, Ok, Err, MatchResult};
+ghost use Rattle.sqlite.specs.Held.{state};
+ghost use Rattle.desk_records.specs.Artifacts.{piece_numbered};
+ghost use Rattle.desk_records.specs.Holds.{HoldsRecords};
+ghost use Rattle.rollout_desk.specs.Looks.{Looks, EndsLook, bytes_of};
+ghost use Rattle.rollout_desk.specs.Steps.{is_store, refusal_of_fault};
+
+use desk_store::{DeskStore, Fault, OpenChange};
+use rollout_model::{ArtifactNo, Refusal};
+use sqlite::Alter;
+
+/// The refusal where a call of the store failed.
+fn refusal_of(fault: Fault) -> Refusal
+    ensures { result ≡ refusal_of_fault fault }
+{
+    match fault {
+        Fault::Memory => Refusal::NoMemory,
+        Fault::Store => Refusal::StoreFailed,
+    }
+}
+
+/// Whether the store failed, so that the desk stops.
+pub(crate) fn is_failed_store(refusal: Refusal) -> bool
+    ensures { result ≡ is_store refusal }
+{
+    match refusal {
+        Refusal::StoreFailed => true,
+        _ => false,
+    }
+}
+
+/// Gives a change up, and then what was found in it.
+fn give_up<S: Alter>(
+    change: OpenChange<'_, S>,
+    found: Result<Option<Vec<u8>>, Refusal>,
+) -> Result<Option<Vec<u8>>, Refusal>
+    ensures { EndsLook HoldsRecords (state S.Store change.entry.store.now.calls.conn) (state S.Store change.exit.0.now.calls.conn) found result }
+{
+    match change.give_up() {
+        Ok(()) => found,
+        Err(_) => Err(Refusal::StoreFailed),
+    }
+}
+
+/// Reads a piece of an artifact's contents, by its place counted from 1, inside a transaction that changes nothing.
+pub(crate) fn read_piece<S: Alter>(
+    store: &mut DeskStore<S>,
+    number: ArtifactNo,
+    place: u32,
+) -> Result<Option<Vec<u8>>, Refusal>
+    ensures { Looks HoldsRecords (state S.Store store.old.calls.conn) (state S.Store store.new.calls.conn) result
+        (λ r found. bytes_of found ≡ piece_numbered r.artifacts number place) }
+{
+    let mut change = match store.begin() {
+        Ok(change) => change,
+        Err(fault) => return Err(refusal_of(fault)),
+    };
+    match change.read_piece(number, place) {
+        Ok(found) => give_up(change, Ok(found)),
+        Err(fault) => give_up(change, Err(refusal_of(fault))),
+    }
+}
+
+/// The piece that was found, where it is of this many bytes: another one, and none, is a failed store.
+pub(crate) fn of_length(
+    found: Result<Option<Vec<u8>>, Refusal>,
+    wanted: u64,
+) -> Result<Vec<u8>, Refusal>
+    ensures { MatchResult result (λ piece. (found ≡ Ok (Some piece)) × (length piece.items ≡ wanted))
+        (λ refusal. (refusal ≡ Refusal.StoreFailed) ⊎ (found ≡ Err refusal)) }
+{
+    match found? {
+        Some(piece) if piece.len() as u64 == wanted => Ok(piece),
+        _ => Err(Refusal::StoreFailed),
+    }
+}
