@@ -93,15 +93,13 @@ pub fn write_all_counted<W: Write>(writer: &mut Watched<W>, bytes: &[u8]) -> Res
 {
     let mut written = 0;
     while written < bytes.len() {
-        match writer.write(&bytes[written..]) {
-            Ok(count) => {
-                if count == 0 {
-                    return Err(Cut { written });
-                }
-                written += count;
-            }
-            Err(_) => return Err(Cut { written }),
+        let Ok(count) = writer.write(&bytes[written..]) else {
+            return Err(Cut { written });
+        };
+        if count == 0 {
+            return Err(Cut { written });
         }
+        written += count;
     }
     Ok(())
 }

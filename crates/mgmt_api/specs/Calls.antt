@@ -3,7 +3,7 @@ use Rattle.std.specs.Prelude.{ℕ, List, codes, bytes_eq, Option, Some, None, if
 use Rattle.mgmt_api.specs.declared.routes.ManageRoute.{ManageRoute}
 use Rattle.mgmt_api.specs.declared.routes.ManageRoute.TheVariants.{Modules, Module, Artifacts, Artifact, Contents, Sets, Set, Targets, Target, TargetTag}
 use Rattle.mgmt_api.specs.declared.call.ManageCall.{ManageCall}
-use Rattle.mgmt_api.specs.declared.call.ManageCall.TheVariants.{ShowModules, AddModule, ShowModule, ShowArtifacts, AddArtifact, ShowArtifact, ShowContents, ShowSets, AddSet, ShowSet, PutTargets, ShowTarget, Tag, Untag}
+use Rattle.mgmt_api.specs.declared.call.ManageCall.TheVariants.{ShowModules, AddModule, ShowModule, ShowArtifacts, AddArtifact, ShowArtifact, ShowContents, ShowSets, AddSet, ShowSet, ShowTargets, PutTargets, ShowTarget, Tag, Untag}
 
 -- the call of a route that has one method
 abbrev pub only_by : List ℕ → ManageCall → List ℕ → Option ManageCall
@@ -25,6 +25,6 @@ call_of Artifact method = only_by (codes "GET") ShowArtifact method
 call_of Contents method = only_by (codes "GET") ShowContents method
 call_of Sets method = of_list ShowSets AddSet method
 call_of Set method = only_by (codes "GET") ShowSet method
-call_of Targets method = only_by (codes "POST") PutTargets method
+call_of Targets method = of_list ShowTargets PutTargets method
 call_of Target method = only_by (codes "GET") ShowTarget method
 call_of TargetTag method = of_tag method

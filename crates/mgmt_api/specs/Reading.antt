@@ -8,7 +8,7 @@ use Rattle.rollout_model.specs.declared.refusal.Refusal.TheVariants.{BadRequest,
 use Rattle.rollout_model.specs.declared.request.Request.{Request as RustRequest}
 use Rattle.rollout_model.specs.Rules.{number_of as item_number_of, word_of}
 use Rattle.rollout_machine.specs.Commands.{Command, AddModule, AddArtifact, AddSet, PutTargets, Tag, Untag}
-use Rattle.rollout_machine.specs.Requests.{Do, Ask, Query, Page, ShowModules, ShowModule, ShowArtifacts, ShowArtifact, ShowContents, ShowSets, ShowSet, ShowTarget, Asked, Rejected, Asks}
+use Rattle.rollout_machine.specs.Requests.{Do, Ask, Query, Page, ShowModules, ShowModule, ShowArtifacts, ShowArtifact, ShowContents, ShowSets, ShowSet, ShowTargets, ShowTarget, Asked, Rejected, Asks}
 use Rattle.rollout_machine.specs.Views.{request_of}
 use Rattle.request_target.specs.Numbers.{number_of}
 use Rattle.request_target.specs.Queries.{query_pairs_of}
@@ -19,9 +19,10 @@ use Rattle.mgmt_objects.specs.TargetBodies.{targets_body}
 use Rattle.mgmt_api.specs.Table.{manage_route}
 use Rattle.mgmt_api.specs.Calls.{call_of}
 use Rattle.mgmt_api.specs.PageQueries.{page_asked}
+use Rattle.mgmt_api.specs.TargetQueries.{selection_asked}
 use Rattle.mgmt_api.specs.UploadQueries.{upload_asked}
 use Rattle.mgmt_api.specs.declared.call.ManageCall.{ManageCall}
-use Rattle.mgmt_api.specs.declared.call.ManageCall.TheVariants.{ShowModules as ShowModulesCall, AddModule as AddModuleCall, ShowModule as ShowModuleCall, ShowArtifacts as ShowArtifactsCall, AddArtifact as AddArtifactCall, ShowArtifact as ShowArtifactCall, ShowContents as ShowContentsCall, ShowSets as ShowSetsCall, AddSet as AddSetCall, ShowSet as ShowSetCall, PutTargets as PutTargetsCall, ShowTarget as ShowTargetCall, Tag as TagCall, Untag as UntagCall}
+use Rattle.mgmt_api.specs.declared.call.ManageCall.TheVariants.{ShowModules as ShowModulesCall, AddModule as AddModuleCall, ShowModule as ShowModuleCall, ShowArtifacts as ShowArtifactsCall, AddArtifact as AddArtifactCall, ShowArtifact as ShowArtifactCall, ShowContents as ShowContentsCall, ShowSets as ShowSetsCall, AddSet as AddSetCall, ShowSet as ShowSetCall, ShowTargets as ShowTargetsCall, PutTargets as PutTargetsCall, ShowTarget as ShowTargetCall, Tag as TagCall, Untag as UntagCall}
 
 -- a part of a message that can't be read rejects it
 abbrev pub or_rejected : {A : Type 0} → Refusal → (A → Asked) → Option A → Asked
@@ -76,6 +77,10 @@ of_tag command m = of_word 4 (λ id. of_word 6 (λ tag. without_query m (Asks (D
 abbrev pub listed_by : (Page → Query) → WireMessage → Asked
 listed_by query m = or_rejected BadRequest (λ page. Asks (Ask (query page))) (page_asked (query_of m.target))
 
+-- a page of the targets that match a filter, or of all
+abbrev pub selected_by : WireMessage → Asked
+selected_by m = or_rejected BadRequest (λ selection. Asks (Ask (ShowTargets selection.filter_text selection.page))) (selection_asked (query_of m.target))
+
 -- an artifact for a module
 abbrev pub uploaded_to : ℕ → WireMessage → Asked
 uploaded_to number m = or_rejected BadRequest (λ upload. Asks (Do (AddArtifact upload))) (upload_asked number (query_of m.target) m.body)
@@ -91,6 +96,7 @@ asked_by ShowContentsCall m = of_artifact ShowContents m
 asked_by ShowSetsCall m = listed_by ShowSets m
 asked_by AddSetCall m = added_by (set_body m.body) AddSet m
 asked_by ShowSetCall m = shown_by ShowSet m
+asked_by ShowTargetsCall m = selected_by m
 asked_by PutTargetsCall m = added_by (targets_body m.body) PutTargets m
 asked_by ShowTargetCall m = of_word 4 (λ id. without_query m (Asks (Ask (ShowTarget id)))) m
 asked_by TagCall m = of_tag Tag m

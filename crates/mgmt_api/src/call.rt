@@ -28,6 +28,8 @@ pub enum ManageCall {
     AddSet,
     /// `GET /rest/v1/distributionsets/{set}`
     ShowSet,
+    /// `GET /rest/v1/targets`
+    ShowTargets,
     /// `POST /rest/v1/targets`
     PutTargets,
     /// `GET /rest/v1/targets/{target}`
@@ -85,7 +87,7 @@ pub fn call_of(route: ManageRoute, method: &[u8]) -> Option<ManageCall>
         ManageRoute::Contents => only_by(b"GET", ManageCall::ShowContents, method),
         ManageRoute::Sets => of_list(ManageCall::ShowSets, ManageCall::AddSet, method),
         ManageRoute::Set => only_by(b"GET", ManageCall::ShowSet, method),
-        ManageRoute::Targets => only_by(b"POST", ManageCall::PutTargets, method),
+        ManageRoute::Targets => of_list(ManageCall::ShowTargets, ManageCall::PutTargets, method),
         ManageRoute::Target => only_by(b"GET", ManageCall::ShowTarget, method),
         ManageRoute::TargetTag => of_tag(method),
     }

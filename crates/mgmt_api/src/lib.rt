@@ -4,23 +4,24 @@
 //! a number in its path is none that an item can have, its query is not one of the call's, its body is not one of the call's.
 #![tactic(auto)]
 
-#[cfg(test)]
-mod artifact_tests;
 mod call;
 mod laws;
 mod page_query;
 #[cfg(test)]
-mod page_tests;
+mod query_tests;
 mod reading;
+#[cfg(test)]
+mod refusal_tests;
 mod reply;
+#[cfg(test)]
+mod reply_tests;
 mod routes;
-#[cfg(test)]
-mod set_tests;
-#[cfg(test)]
-mod target_tests;
+mod target_query;
 #[cfg(test)]
 mod tests;
 mod upload_query;
+#[cfg(test)]
+mod upload_tests;
 
 pub use call::{ManageCall, call_of};
 pub use laws::{manage_routes_are_apart, refused_text, worked_module_added};

@@ -21,7 +21,7 @@ fn limit_of(pairs: &[(String, String)]) -> Option<u32>
     number_or(1, 500, 50, value_of(pairs, "limit"))
 }
 
-fn page_of(pairs: &[(String, String)]) -> Option<Page>
+pub(crate) fn page_of(pairs: &[(String, String)]) -> Option<Page>
     ensures { result ≡ page_of (map seen pairs.now) }
 {
     let offset = offset_of(pairs)?;

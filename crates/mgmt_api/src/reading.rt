@@ -11,6 +11,7 @@ ghost use Rattle.mgmt_api.specs.Reading.{Reads, TakesNoQuery, asked_by, item_in,
 use crate::call::{ManageCall, call_of};
 use crate::page_query::read_page;
 use crate::routes::ManageRoutes;
+use crate::target_query::read_selection;
 use crate::upload_query::read_upload;
 use http_wire::Message;
 use mgmt_objects::{read_module_body, read_set_body, read_targets_body};
@@ -186,6 +187,13 @@ fn read_show_set(alloc: Global, message: &Message<'_>) -> Result<Request, Refusa
     Ok(Request::Ask(Query::Set(number)))
 }
 
+fn read_show_targets(alloc: Global, message: &Message<'_>) -> Result<Request, Refusal>
+    ensures { Reads (asked_by ManageCall.ShowTargets (message_of message.now)) result }
+{
+    let selection = read_selection(alloc, message.query())?;
+    Ok(Request::Ask(Query::Targets(selection.filter_text, selection.page)))
+}
+
 fn read_put_targets(alloc: Global, message: &Message<'_>) -> Result<Request, Refusal>
     ensures { Reads (asked_by ManageCall.PutTargets (message_of message.now)) result }
 {
@@ -244,6 +252,7 @@ fn read_call(alloc: Global, call: ManageCall, message: &Message<'_>) -> Result<R
         ManageCall::ShowSets => read_show_sets(alloc, message),
         ManageCall::AddSet => read_add_set(alloc, message),
         ManageCall::ShowSet => read_show_set(alloc, message),
+        ManageCall::ShowTargets => read_show_targets(alloc, message),
         ManageCall::PutTargets => read_put_targets(alloc, message),
         ManageCall::ShowTarget => read_show_target(alloc, message),
         ManageCall::Tag => read_tag_target(alloc, message),
