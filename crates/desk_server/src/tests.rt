@@ -1,10 +1,12 @@
 //! Tests. The bytes of requests and replies stand in `messages`.
 
+mod artifact_limits;
 mod artifacts;
 mod carried;
 mod exchange;
 mod faults;
 mod files;
+mod fleet;
 mod fuses;
 mod memory;
 mod messages;

@@ -1,8 +1,9 @@
 //! Artifacts and pages, to the byte, from a desk in memory.
 
-use super::exchange::reply_to;
+use super::exchange::{joined, reply_to};
 use super::messages::{ADD, ADDED, EXISTS, NOT_FOUND};
 use rollout_desk::Desk;
+use std::alloc::{AllocError, Global};
 use std::test::Fail;
 
 /// Adds an artifact of three bytes to the first module.
@@ -81,6 +82,45 @@ fn adds_and_shows_artifacts(rt: HostRuntime) -> Result<(), Fail> {
     let mut desk = Desk::in_memory(alloc, false)?;
     for (request, reply) in STEPS {
         assert_eq!(rt; reply_to(alloc, &mut desk, request)?.as_slice(), reply);
+    }
+    Ok(())
+}
+
+/// The head of the request that adds an artifact of a piece and one byte.
+const ADD_LARGE: &[u8] =
+    b"POST /rest/v1/softwaremodules/1/artifacts?filename=large.bin HTTP/1.1\r\nContent-Length: 65537\r\n\r\n";
+
+const ADDED_LARGE: &[u8] =
+    b"HTTP/1.1 201 Created\r\nContent-Type: application/json\r\nContent-Length: 139\r\n\r\n{\"hashes\":{\"sha256\":\"237356e18b503616912abb8ffaed3a72591e397d4ac294c4637917d48a3f529d\"},\"id\":1,\"providedFilename\":\"large.bin\",\"size\":65537}";
+
+/// The head of the reply that has its bytes.
+const LARGE: &[u8] =
+    b"HTTP/1.1 200 OK\r\nContent-Type: application/octet-stream\r\nContent-Length: 65537\r\n\r\n";
+
+/// 65,537 bytes: 0, 1, 2 and so on, and from 251 on again from 0.
+fn large_contents(alloc: Global) -> Result<Vec<u8>, AllocError> {
+    let mut bytes = Vec::new(alloc);
+    for place in 0..65_537usize {
+        bytes.push((place % 251) as u8)?;
+    }
+    Ok(bytes)
+}
+
+#[test]
+fn gives_back_contents_of_two_pieces(rt: HostRuntime) -> Result<(), Fail> {
+    let alloc = rt.alloc();
+    let mut desk = Desk::in_memory(alloc, false)?;
+    let contents = large_contents(alloc)?;
+    let upload = joined(alloc, &[ADD_LARGE, &contents])?;
+    let download = joined(alloc, &[LARGE, &contents])?;
+    let steps: [(&[u8], &[u8]); 3] = [
+        (ADD, ADDED),
+        (&upload, ADDED_LARGE),
+        (DOWNLOAD_ABC, &download),
+    ];
+    for (request, reply) in steps {
+        let is_right = reply_to(alloc, &mut desk, request)?.as_slice() == reply;
+        assert!(rt; is_right);
     }
     Ok(())
 }

@@ -57,7 +57,8 @@ impl Handler for Shelf {
                 | Command::AddSet(_)
                 | Command::PutTargets(_)
                 | Command::Tag(_, _)
-                | Command::Untag(_, _),
+                | Command::Untag(_, _)
+                | Command::PutAttributes(_, _),
             )
             | Request::Ask(_) => Reply::Refused(Refusal::NotFound),
         }

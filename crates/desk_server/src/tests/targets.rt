@@ -1,7 +1,7 @@
 //! Targets and their tags, to the byte, from a desk in memory.
 
 use super::exchange::reply_to;
-use super::messages::{BAD_METHOD, BAD_REQUEST, NOT_FOUND};
+use super::messages::{BAD_REQUEST, NOT_FOUND};
 use rollout_desk::Desk;
 use std::test::Fail;
 
@@ -54,8 +54,10 @@ const TAG_NO_WORD: &[u8] = b"POST /rest/v1/targets/dev-02/tags/a%20b HTTP/1.1\r\
 const PUT_TWICE: &[u8] =
     b"POST /rest/v1/targets HTTP/1.1\r\nContent-Length: 135\r\n\r\n[{\"controllerId\":\"dev-04\",\"name\":\"A\",\"securityToken\":\"token-of-04\"},{\"controllerId\":\"dev-04\",\"name\":\"B\",\"securityToken\":\"token-of-04\"}]";
 
-/// No call shows all targets yet.
 const SHOW_TARGETS: &[u8] = b"GET /rest/v1/targets HTTP/1.1\r\n\r\n";
+
+const TARGETS: &[u8] =
+    b"HTTP/1.1 200 OK\r\nContent-Type: application/json\r\nContent-Length: 226\r\n\r\n{\"content\":[{\"attributes\":{},\"controllerId\":\"dev-01\",\"name\":\"Gate\",\"tags\":[\"lab\",\"west\"],\"updateStatus\":\"unknown\"},{\"attributes\":{},\"controllerId\":\"dev-02\",\"name\":\"Pump\",\"tags\":[],\"updateStatus\":\"unknown\"}],\"size\":2,\"total\":2}";
 
 /// Requests in their order, and their replies.
 const STEPS: [(&[u8], &[u8]); 18] = [
@@ -76,7 +78,7 @@ const STEPS: [(&[u8], &[u8]); 18] = [
     (TAG_STRANGER, NOT_FOUND),
     (TAG_NO_WORD, NOT_FOUND),
     (PUT_TWICE, BAD_REQUEST),
-    (SHOW_TARGETS, BAD_METHOD),
+    (SHOW_TARGETS, TARGETS),
 ];
 
 #[test]
