@@ -1,5 +1,6 @@
 """What `run` and `crash` share: requests, replies, and where the programs are."""
 import hashlib
+import json
 import os
 import random
 import subprocess
@@ -83,6 +84,62 @@ def downloaded(number):
     return head.encode() + contents(number)
 
 
+def target(number):
+    """Id, name, token and tags of the target that is put in this place."""
+    return f"dev-{number:06d}", f"Valve {number}", f"token-of-{number:06d}", [f"site-{number % 100}", "lab"]
+
+
+BATCH = 100
+
+
+def putting(batch):
+    """The request that puts a hundred targets."""
+    numbers = range((batch - 1) * BATCH + 1, batch * BATCH + 1)
+    rows = [
+        {"controllerId": id, "name": name, "securityToken": token, "tags": tags}
+        for id, name, token, tags in map(target, numbers)
+    ]
+    body = json.dumps(rows, separators=(",", ":"))
+    return f"POST /rest/v1/targets HTTP/1.1\r\nContent-Length: {len(body)}\r\n\r\n{body}".encode()
+
+
+def put(_batch):
+    """The reply to it."""
+    return reply("201 Created", f'{{"accepted":{BATCH}}}')
+
+
+def target_object(number):
+    """The object of the target."""
+    id, name, _token, tags = target(number)
+    return {"attributes": {}, "controllerId": id, "name": name, "tags": sorted(tags), "updateStatus": "unknown"}
+
+
+def page_of(numbers, total):
+    """The reply that shows these targets."""
+    content = list(map(target_object, numbers))
+    return reply("200 OK", json.dumps({"content": content, "size": len(content), "total": total}, separators=(",", ":")))
+
+
+def asking_page(_turn):
+    """The request for a page in the middle."""
+    return b"GET /rest/v1/targets?offset=5000&limit=50 HTTP/1.1\r\n\r\n"
+
+
+def shown_page(_turn):
+    """The reply to it, where there are ten thousand targets."""
+    return page_of(range(5001, 5051), 10_000)
+
+
+def filtering(_turn):
+    """The request for the targets with a tag."""
+    return b"GET /rest/v1/targets?q=tag==site-7&limit=50 HTTP/1.1\r\n\r\n"
+
+
+def filtered(_turn):
+    """The reply to it, where there are ten thousand targets."""
+    return page_of(range(7, 5000, 100), 100)
+
+
 EXISTS = reply("409 Conflict", '{"error":"exists","number":5}')
 
 FULL = reply("403 Forbidden", '{"error":"quota","number":10}')
@@ -93,9 +150,9 @@ NOT_FOUND = reply("404 Not Found", '{"error":"not_found","number":3}')
 def build_twin():
     """Compiles the C program over the system's SQLite."""
     os.makedirs(os.path.dirname(TWIN), exist_ok=True)
-    source = os.path.join(HERE, "twin.c")
+    sources = [os.path.join(HERE, name) for name in ("twin.c", "twin_targets.c")]
     subprocess.run(
-        ["cc", "-O2", "-Wall", "-D_GNU_SOURCE", "-o", TWIN, source, "-lsqlite3"], check=True
+        ["cc", "-O2", "-Wall", "-D_GNU_SOURCE", "-o", TWIN, *sources, "-lsqlite3"], check=True
     )
 
 

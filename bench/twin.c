@@ -1,30 +1,29 @@
 // The same server over the system's SQLite, for comparison: WAL, synchronous FULL, one transaction a command.
 // It takes the command line and the requests of `fwdesk run --db PATH --interface mgmt`, and gives the same replies.
-#include <sqlite3.h>
-#include <stdint.h>
-#include <stdio.h>
+#include "twin.h"
+
 #include <stdlib.h>
 #include <string.h>
 #include <unistd.h>
 
-enum { HEAD_LIMIT = 8192, BODY_LIMIT = 1048576, TEXT_LIMIT = 128, MODULE_LIMIT = 1000 };
+enum { HEAD_LIMIT = 8192, MODULE_LIMIT = 1000 };
 enum { MODULE_ARTIFACT_LIMIT = 8, ARTIFACT_LIMIT = 256, PIECE_LENGTH = 65536 };
 
-typedef struct { char bytes[TEXT_LIMIT + 1]; size_t len; } Text;
 typedef struct { Text name, type, version; } Label;
 
+sqlite3_stmt *begin, *commit, *rollback;
 static sqlite3 *db;
-static sqlite3_stmt *begin, *commit, *rollback, *find_label, *last_number, *put_module, *get_module;
+static sqlite3_stmt *find_label, *last_number, *put_module, *get_module;
 static sqlite3_stmt *find_artifact, *count_artifacts, *last_artifact, *put_artifact, *put_piece, *get_artifact, *get_piece;
 
-static void die(const char *what) {
+void die(const char *what) {
     fprintf(stderr, "%s: %s\n", what, db ? sqlite3_errmsg(db) : "");
     exit(1);
 }
 
 // ---- the store
 
-static sqlite3_stmt *prepared(const char *text) {
+sqlite3_stmt *prepared(const char *text) {
     sqlite3_stmt *statement;
     if (sqlite3_prepare_v2(db, text, -1, &statement, NULL) != SQLITE_OK) die("prepare");
     return statement;
@@ -60,15 +59,16 @@ static void open_store(const char *path) {
     put_piece = prepared("INSERT INTO piece (artifact, sequence, bytes) VALUES (?1, ?2, ?3)");
     get_artifact = prepared("SELECT size FROM artifact WHERE number = ?1 AND module = ?2");
     get_piece = prepared("SELECT bytes FROM piece WHERE artifact = ?1 AND sequence = ?2");
+    prepare_targets();
 }
 
-static int row_of(sqlite3_stmt *statement) {
+int row_of(sqlite3_stmt *statement) {
     int answer = sqlite3_step(statement);
     if (answer != SQLITE_ROW && answer != SQLITE_DONE) die("step");
     return answer == SQLITE_ROW;
 }
 
-static void done(sqlite3_stmt *statement) {
+void done(sqlite3_stmt *statement) {
     if (sqlite3_step(statement) != SQLITE_DONE) die("step");
     sqlite3_reset(statement);
 }
@@ -144,7 +144,7 @@ static void take_block(uint32_t state[8], const unsigned char *block) {
     for (int i = 0; i < 8; i++) state[i] += v[i];
 }
 
-static void digest_of(const unsigned char *bytes, size_t len, unsigned char digest[32]) {
+void digest_of(const unsigned char *bytes, size_t len, unsigned char digest[32]) {
     uint32_t state[8];
     unsigned char last[128] = {0};
     size_t whole = len / 64 * 64, rest = len - whole, size = rest < 56 ? 64 : 128;
@@ -159,7 +159,7 @@ static void digest_of(const unsigned char *bytes, size_t len, unsigned char dige
 
 // ---- artifacts
 
-static int64_t number_in(sqlite3_stmt *statement) {
+int64_t number_in(sqlite3_stmt *statement) {
     int64_t number = row_of(statement) ? sqlite3_column_int64(statement, 0) : 0;
     sqlite3_reset(statement);
     return number;
@@ -210,19 +210,19 @@ static int64_t add_artifact(int64_t module, const char *name, size_t name_len, c
 
 // ---- JSON
 
-static const char *skip_space(const char *at, const char *end) {
+const char *skip_space(const char *at, const char *end) {
     while (at < end && (*at == ' ' || *at == '\t' || *at == '\r' || *at == '\n')) at++;
     return at;
 }
 
 // What follows the byte, or NULL.
-static const char *after(const char *at, const char *end, char byte) {
+const char *after(const char *at, const char *end, char byte) {
     if (!at) return NULL;
     at = skip_space(at, end);
     return at < end && *at == byte ? at + 1 : NULL;
 }
 
-static const char *read_text(const char *at, const char *end, Text *text) {
+const char *read_text(const char *at, const char *end, Text *text) {
     at = after(at, end, '"');
     text->len = 0;
     while (at && at < end && *at != '"') {
@@ -261,7 +261,7 @@ static int read_label(const char *body, size_t len, Label *label) {
     return at && skip_space(at, end) == end && label->name.len && label->type.len && label->version.len;
 }
 
-static size_t put_text(char *to, const char *bytes, size_t len) {
+size_t put_text(char *to, const char *bytes, size_t len) {
     size_t size = 0;
     to[size++] = '"';
     for (size_t i = 0; i < len; i++) {
@@ -294,14 +294,14 @@ static void send_all(const char *bytes, size_t len) {
     }
 }
 
-static void reply(const char *status, const char *body, size_t len) {
-    static char text[4096];
+void reply(const char *status, const char *body, size_t len) {
+    static char text[BODY_LIMIT];
     size_t size = (size_t)sprintf(text, "HTTP/1.1 %s\r\nContent-Type: application/json\r\nContent-Length: %zu\r\n\r\n", status, len);
     memcpy(text + size, body, len);
     send_all(text, size + len);
 }
 
-static void refuse(const char *status, const char *name, int number) {
+void refuse(const char *status, const char *name, int number) {
     char body[128];
     reply(status, body, (size_t)sprintf(body, "{\"error\":\"%s\",\"number\":%d}", name, number));
 }
@@ -383,6 +383,9 @@ static void answer(const char *head, const char *body, size_t len) {
     if (sscanf(head, "GET /rest/v1/softwaremodules/%lld/artifacts/%lld/download HTTP/1.1%n", &module, &number, &at) == 2 && at)
         return answer_download(module, number);
     const char *post = "POST /rest/v1/softwaremodules HTTP/1.1\r\n", *get = "GET /rest/v1/softwaremodules/";
+    const char *put = "POST /rest/v1/targets HTTP/1.1\r\n", *page = "GET /rest/v1/targets?";
+    if (!strncmp(head, put, strlen(put))) return answer_put(body, len);
+    if (!strncmp(head, page, strlen(page))) return answer_page(head + strlen(page));
     if (!strncmp(head, post, strlen(post))) return answer_post(body, len);
     if (!strncmp(head, get, strlen(get))) return answer_get(atoll(head + strlen(get)));
     refuse("404 Not Found", "not_found", 3);
@@ -423,5 +426,6 @@ int main(int count, char **words) {
     sqlite3_stmt *all[] = {begin,         commit,          rollback,      find_label,   last_number, put_module,   get_module,
                            find_artifact, count_artifacts, last_artifact, put_artifact, put_piece,   get_artifact, get_piece};
     for (size_t i = 0; i < sizeof all / sizeof *all; i++) sqlite3_finalize(all[i]);
+    finalize_targets();
     return sqlite3_close(db) != SQLITE_OK;
 }
