@@ -5,6 +5,9 @@ use Rattle.rollout_machine.specs.ByteStrings.{item_numbered}
 use Rattle.rollout_machine.specs.CommandList.{CommandList, Make, ◌▸◌}
 use Rattle.rollout_machine.specs.Commands.{Bytes, DeploymentWord, CancelWord, Succeeded, Failed, Rejected, Noted, ClosedCancel, CanceledCancel, RejectedCancel, NotedCancel, Command, Start, Cancel, Feedback, CancelFeedback, Outcome, Good, Bad, Gone}
 use Rattle.rollout_machine.specs.Rollouts.{Rollout, rollout_at, size_of}
+-- an entry of an action's history
+pub use Rattle.rollout_model.specs.declared.feedback.HistoryEntry.{HistoryEntry}
+pub use Rattle.rollout_model.specs.declared.feedback.HistoryEntry.TheVariants.{Deployment as DeploymentEntry, Cancel as CancelEntry}
 
 -- an action, by its rollout and its member's position, from 1
 pub record ActionPlace : Type 0 where
@@ -82,11 +85,6 @@ outcome (h ▸ c) r j = option_or (outcome h r j) (cond (is_on_action h c r j) (
 
 abbrev pub is_canceling : CommandList → ℕ → ℕ → Bool
 is_canceling h r j = is_none (outcome h r j) && cancel_stands h r j
-
--- an entry of an action's history
-pub data HistoryEntry : Type 0 where
-  DeploymentEntry : DeploymentWord → List Bytes → HistoryEntry
-  CancelEntry : CancelWord → List Bytes → HistoryEntry
 
 abbrev pub entries_of : Command → List HistoryEntry
 entries_of (Feedback report) = DeploymentEntry report.word report.details ∷ []

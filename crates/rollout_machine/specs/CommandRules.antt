@@ -1,7 +1,7 @@
 -- The rules that the parts of a command keep: those of the words and numbers, ranges, and the limits of lists.
-use Rattle.rollout_model.specs.Rules.{is_between, is_word, is_filename, is_text, is_value, is_detail, is_byte, is_digest, is_module_list, is_number, is_tag_list}
+use Rattle.rollout_model.specs.Rules.{are_details, is_group_count, is_percentage, is_word, is_filename, is_text, is_value, is_byte, is_digest, is_module_list, is_number, is_tag_list}
 use Rattle.rollout_machine.specs.Commands.{AddArtifact, Cancel, CancelFeedback, RolloutPlan, Start, Command, Attribute, Pause, CreateRollout, SetLabel, PutTargets, Untag, Deny, Approve, AddModule, Feedback, PutAttributes, Tag, Resume, TriggerNext, TargetRow, AddSet, Upload, Bytes, Credential}
-use Rattle.rollout_model.specs.Limits.{artifact_size_limit, group_limit, percentage_limit, attribute_limit, detail_limit}
+use Rattle.rollout_model.specs.Limits.{artifact_size_limit, attribute_limit}
 use Rattle.std.specs.Prelude.{◌≡◌, ℕ, Bool, true, ◌&&◌, nat_le, List, length, Option, Some, None}
 use Rattle.std.specs.List.{list_all}
 use Rattle.std.specs.Str.{is_utf8}
@@ -27,15 +27,9 @@ is_upload u = is_number u.module_number && (is_filename u.filename && (is_digest
 abbrev pub is_set_label : SetLabel → Bool
 is_set_label s = is_text s.name && (is_text s.version && is_module_list s.modules)
 
-abbrev pub is_percentage : ℕ → Bool
-is_percentage p = is_between 1 percentage_limit p
-
 -- the filter is any text: the verdict looks at it
 abbrev pub is_plan : RolloutPlan → Bool
-is_plan plan = is_between 1 group_limit plan.groups && (is_percentage plan.success && (is_percentage plan.error && (is_text plan.name && (is_number plan.set_number && is_utf8 plan.filter_text))))
-
-abbrev pub are_details : List Bytes → Bool
-are_details details = nat_le (length details) detail_limit && list_all is_detail details
+is_plan plan = is_group_count plan.groups && (is_percentage plan.success && (is_percentage plan.error && (is_text plan.name && (is_number plan.set_number && is_utf8 plan.filter_text))))
 
 -- ---- commands. An import has any number of rows and may name a target twice
 abbrev pub is_well_formed : Command → Bool

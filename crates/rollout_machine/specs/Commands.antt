@@ -6,47 +6,20 @@ pub use Rattle.rollout_model.specs.declared.distribution_set.SetLabel.{SetLabel}
 pub use Rattle.rollout_model.specs.declared.target.Attribute.{Attribute}
 pub use Rattle.rollout_model.specs.declared.target_row.TargetRow.{TargetRow}
 pub use Rattle.rollout_model.specs.declared.credential.Credential.{Credential}
+pub use Rattle.rollout_model.specs.declared.rollout_plan.RolloutPlan.{RolloutPlan}
+pub use Rattle.rollout_model.specs.declared.feedback.NoteWord.{NoteWord}
+pub use Rattle.rollout_model.specs.declared.feedback.NoteWord.TheVariants.{Proceeding, Scheduled, Resumed}
+pub use Rattle.rollout_model.specs.declared.feedback.DeploymentWord.{DeploymentWord}
+pub use Rattle.rollout_model.specs.declared.feedback.DeploymentWord.TheVariants.{Succeeded, Failed, Rejected, Noted}
+pub use Rattle.rollout_model.specs.declared.feedback.CancelWord.{CancelWord}
+pub use Rattle.rollout_model.specs.declared.feedback.CancelWord.TheVariants.{Closed as ClosedCancel, Canceled as CanceledCancel, Rejected as RejectedCancel, Noted as NotedCancel}
+pub use Rattle.rollout_model.specs.declared.feedback.Report.{Report}
 pub use Rattle.rollout_machine.specs.declared.outcome.Outcome.{Outcome}
 pub use Rattle.rollout_machine.specs.declared.outcome.Outcome.TheVariants.{Good, Bad, Gone}
 
 -- a text, a word, a token's digest or a file, by its bytes
 abbrev pub Bytes : Type 0
 Bytes = List ℕ
-
--- what a rollout is created from. The thresholds are percentages from 1 to 100
-pub record RolloutPlan : Type 0 where
-  pub name : Bytes
-  pub set_number : ℕ
-  pub filter_text : Bytes
-  pub groups : ℕ
-  pub success : ℕ
-  pub error : ℕ
-
--- proceeding, scheduled or resumed, each with none
-pub data NoteWord : Type 0 where
-  Proceeding : NoteWord
-  Scheduled : NoteWord
-  Resumed : NoteWord
-
--- closed/success, closed/failure, or a note, of which rejected/none is one here
-pub data DeploymentWord : Type 0 where
-  Succeeded : DeploymentWord
-  Failed : DeploymentWord
-  Rejected : DeploymentWord
-  Noted : NoteWord → DeploymentWord
-
--- closed/success, canceled/success, rejected/none, which ends the canceling, or a note
-pub data CancelWord : Type 0 where
-  ClosedCancel : CancelWord
-  CanceledCancel : CancelWord
-  RejectedCancel : CancelWord
-  NotedCancel : NoteWord → CancelWord
-
-pub record Report (Word : Type 0) : Type 0 where
-  pub credential : Credential
-  pub action : ℕ
-  pub word : Word
-  pub details : List Bytes
 
 pub data Command : Type 0 where
   AddModule : ModuleLabel → Command

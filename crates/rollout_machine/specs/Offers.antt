@@ -3,10 +3,7 @@ use Rattle.std.specs.Prelude.{ℕ, suc, Bool, ◌&&◌, cond, List, [], ◌∷�
 use Rattle.rollout_machine.specs.Commands.{Bytes}
 use Rattle.rollout_machine.specs.Records.{ActionRecord, Records}
 use Rattle.rollout_machine.specs.StateWords.{is_for, has_started}
-
-pub record Offer : Type 0 where
-  pub action : ℕ
-  pub canceling : Bool
+pub use Rattle.rollout_model.specs.declared.rollout.Offer.{Offer}
 
 -- the first among these actions, numbered from k, that is the target's, started and open
 abbrev pub first_offer : Records → Bytes → ℕ → List ActionRecord → Option Offer

@@ -11,6 +11,9 @@ use Rattle.rollout_machine.specs.Ranges.{each_from}
 use Rattle.rollout_machine.specs.Rollouts.{Rollout, rollouts, bounds_in}
 use Rattle.rollout_machine.specs.Targets.{Target, targets}
 use Rattle.rollout_machine.specs.declared.bounds.Bounds.{Bounds}
+pub use Rattle.rollout_machine.specs.declared.records.GroupRecord.{GroupRecord}
+pub use Rattle.rollout_machine.specs.declared.records.RolloutRecord.{RolloutRecord}
+pub use Rattle.rollout_machine.specs.declared.records.ActionRecord.{ActionRecord}
 pub use Rattle.rollout_model.specs.declared.approval.Approval.{Approval}
 pub use Rattle.rollout_model.specs.declared.approval.Approval.TheVariants.{Waiting, Denied, Given}
 
@@ -21,30 +24,6 @@ pub record ArtifactRecord : Type 0 where
   pub size : ℕ
   pub digest : Bytes
   pub contents : Bytes
-
-pub record GroupRecord : Type 0 where
-  pub number : ℕ
-  pub bounds : Bounds
-  pub started : Bool
-  pub ok : ℕ
-  pub bad : ℕ
-  pub gone : ℕ
-
-pub record RolloutRecord : Type 0 where
-  pub number : ℕ
-  pub plan : RolloutPlan
-  pub members : List Bytes
-  pub approval : Approval
-  pub started : Bool
-  pub paused : Bool
-  pub groups : List GroupRecord
-
-pub record ActionRecord : Type 0 where
-  pub rollout : ℕ
-  pub position : ℕ
-  pub canceling : Bool
-  pub outcome : Option Outcome
-  pub history : List HistoryEntry
 
 pub record Records : Type 0 where
   pub approval : Bool

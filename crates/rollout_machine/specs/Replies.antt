@@ -1,13 +1,16 @@
 -- The replies of a desk as pure values, with the objects that they show.
 use Rattle.std.specs.Prelude.{ℕ, List, Option}
-use Rattle.rollout_machine.specs.Actions.{HistoryEntry}
 use Rattle.rollout_machine.specs.Commands.{Bytes, ModuleLabel, Attribute}
 use Rattle.rollout_machine.specs.Offers.{Offer}
 use Rattle.rollout_model.specs.declared.refusal.Refusal.{Refusal}
 pub use Rattle.rollout_model.specs.declared.artifact.Artifact.{Artifact}
 pub use Rattle.rollout_model.specs.declared.module.Module.{Module}
 pub use Rattle.rollout_model.specs.declared.distribution_set.DistributionSet.{DistributionSet}
-use Rattle.rollout_machine.specs.StateWords.{RolloutWord, GroupWord, ActionWord, TargetWord}
+pub use Rattle.rollout_model.specs.declared.rollout.Rollout.{Rollout as ShownRollout}
+pub use Rattle.rollout_model.specs.declared.rollout.Group.{Group as ShownGroup}
+pub use Rattle.rollout_model.specs.declared.rollout.Action.{Action as ShownAction}
+pub use Rattle.rollout_model.specs.declared.rollout.NumberedEntry.{NumberedEntry as ShownEntry}
+use Rattle.rollout_machine.specs.StateWords.{TargetWord}
 
 -- a target without its token's digest
 pub record ShownTarget : Type 0 where
@@ -16,35 +19,6 @@ pub record ShownTarget : Type 0 where
   pub tags : List Bytes
   pub attributes : List Attribute
   pub word : TargetWord
-
-pub record ShownRollout : Type 0 where
-  pub number : ℕ
-  pub name : Bytes
-  pub set_number : ℕ
-  pub filter_text : Bytes
-  pub word : RolloutWord
-  pub groups : ℕ
-  pub targets : ℕ
-
-pub record ShownGroup : Type 0 where
-  pub number : ℕ
-  pub size : ℕ
-  pub ok : ℕ
-  pub bad : ℕ
-  pub gone : ℕ
-  pub word : GroupWord
-
-pub record ShownAction : Type 0 where
-  pub number : ℕ
-  pub rollout : ℕ
-  pub group : ℕ
-  pub target : Bytes
-  pub word : ActionWord
-
--- an entry with its number within the action, from 1
-pub record ShownEntry : Type 0 where
-  pub number : ℕ
-  pub entry : HistoryEntry
 
 -- a module of a deployment with its artifacts
 pub record Chunk : Type 0 where

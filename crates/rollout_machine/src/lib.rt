@@ -6,10 +6,12 @@
 mod bounds;
 pub mod laws;
 mod outcome;
+mod records;
 mod view;
 mod well_formed;
 
 pub use bounds::Bounds;
 pub use outcome::Outcome;
+pub use records::{ActionRecord, GroupRecord, RolloutRecord};
 pub use view::{Effects, GroupView, RolloutView};
-pub use well_formed::command_is_well_formed;
+pub use well_formed::{command_is_well_formed, rollout_command_is_well_formed};

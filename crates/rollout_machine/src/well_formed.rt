@@ -5,10 +5,13 @@ ghost use Rattle.rollout_machine.specs.CommandRules.{IsWellFormed, is_attribute,
 ghost use Rattle.rollout_machine.specs.Commands.{AddModule, AddArtifact, AddSet, PutTargets, Tag, Untag, PutAttributes};
 ghost use Rattle.rollout_machine.specs.Views.{command_of};
 
+mod rollouts;
+
 use rollout_model::{
     Attribute, Command, ConfigData, ControllerId, Credential, ModuleLabel, SetLabel, TargetRow,
     TargetRows, Upload, Word,
 };
+pub use rollouts::rollout_command_is_well_formed;
 
 /// Every command keeps the rules of commands: its parts' types keep theirs.
 pub fn command_is_well_formed(command: &Command)

@@ -1,5 +1,5 @@
 -- The rules of the short texts and the numbers: which letters, how long, in which range.
-use Rattle.rollout_model.specs.Limits.{word_length_limit, filename_length_limit, text_length_limit, detail_length_limit, digest_length, artifact_size_limit, number_limit, set_module_limit, tag_limit, token_length_least, token_length_limit}
+use Rattle.rollout_model.specs.Limits.{word_length_limit, filename_length_limit, text_length_limit, detail_length_limit, detail_limit, digest_length, artifact_size_limit, group_limit, percentage_limit, number_limit, set_module_limit, tag_limit, token_length_least, token_length_limit}
 use Rattle.std.specs.Prelude.{ℕ, Bool, true, ◌&&◌, ◌||◌, not, nat_eq, nat_le, List, [], ◌∷◌, length, codes, Option, Some, None, if◌then◌else◌}
 use Rattle.std.specs.List.{list_any, list_all}
 use Rattle.std.specs.Cmp.Lexicographic.{pointwise}
@@ -44,6 +44,10 @@ is_value bs = is_spelled is_text_letter 0 text_length_limit bs && is_utf8 bs
 abbrev pub is_detail : List ℕ → Bool
 is_detail bs = is_spelled is_text_letter 0 detail_length_limit bs && is_utf8 bs
 
+-- the lines of one feedback
+abbrev pub are_details : List (List ℕ) → Bool
+are_details lines = nat_le (length lines) detail_limit && list_all is_detail lines
+
 abbrev pub is_byte : ℕ → Bool
 is_byte b = nat_le b 255
 
@@ -58,6 +62,14 @@ is_contents bs = nat_le (length bs) artifact_size_limit && list_all is_byte bs
 -- a number of a module, artifact, set, rollout or action
 abbrev pub is_number : ℕ → Bool
 is_number n = is_between 1 number_limit n
+
+-- a threshold of a rollout
+abbrev pub is_percentage : ℕ → Bool
+is_percentage p = is_between 1 percentage_limit p
+
+-- how many groups a rollout has
+abbrev pub is_group_count : ℕ → Bool
+is_group_count n = is_between 1 group_limit n
 
 -- no number stands twice
 abbrev pub are_distinct_numbers : List ℕ → Bool
@@ -108,3 +120,15 @@ tag_list_of ws = if is_tag_list ws then Some ws else None
 
 abbrev pub module_list_of : List ℕ → Option (List ℕ)
 module_list_of ns = if is_module_list ns then Some ns else None
+
+abbrev pub detail_of : List ℕ → Option (List ℕ)
+detail_of bs = if is_detail bs then Some bs else None
+
+abbrev pub details_of : List (List ℕ) → Option (List (List ℕ))
+details_of lines = if are_details lines then Some lines else None
+
+abbrev pub percentage_of : ℕ → Option ℕ
+percentage_of p = if is_percentage p then Some p else None
+
+abbrev pub group_count_of : ℕ → Option ℕ
+group_count_of n = if is_group_count n then Some n else None

@@ -35,6 +35,13 @@ impl FilterText {
     {
         self.text.as_str()
     }
+
+    /// The same text in memory of its own.
+    pub fn copy(&self, alloc: Global) -> Result<FilterText, AllocError>
+        ensures { IfOk result (λ filter. filter ≡ self.now) }
+    {
+        FilterText::from_text(alloc, self.as_str())
+    }
 }
 
 impl PartialEq for FilterText {

@@ -1,6 +1,6 @@
 -- The rules of a command's parts at their borders.
-use Rattle.rollout_model.specs.Rules.{is_filename, is_number, is_digest, is_word, is_value, is_text}
-use Rattle.rollout_machine.specs.CommandRules.{is_well_formed, are_details}
+use Rattle.rollout_model.specs.Rules.{are_details, is_filename, is_number, is_digest, is_word, is_value, is_text}
+use Rattle.rollout_machine.specs.CommandRules.{is_well_formed}
 use Rattle.rollout_machine.specs.Commands.{PutTargets, Command, Bytes, PutAttributes, CreateRollout, AddSet}
 use Rattle.rollout_machine.specs.Ranges.{each_from}
 use Rattle.rollout_machine.specs.Records.{modules}

@@ -1,0 +1,69 @@
+//! What devices add to their feedback.
+
+ghost use Rattle.std.specs.Prelude.{◌≡◌, true, nat_eq, IfOk};
+ghost use Rattle.std.specs.Cmp.{on_per, partial_equiv_from_equiv};
+ghost use Rattle.std.specs.Cmp.Lexicographic.{pointwise, nat_list_eq_equiv};
+ghost use Rattle.rollout_model.specs.Rules.{is_detail, detail_of};
+
+use crate::letters;
+use std::alloc::{AllocError, Global};
+use std::marker::Model;
+
+/// A line that a device adds to its feedback: 0 to 256 bytes of UTF-8 without control characters (U+0000 to U+001F, U+007F).
+#[derive(Debug, Drop)]
+pub struct Detail {
+    text: String,
+}
+
+impl Model for Detail {
+    ghost use Rattle.std.specs.Prelude.{◌≡◌, List, ℕ, true, string_bytes};
+    ghost use Rattle.rollout_model.specs.Rules.{is_detail};
+
+    ghost Value = { List ℕ };
+
+    ghost view = { λ s. string_bytes s.text };
+
+    ghost invariant = { λ s. is_detail (string_bytes s.text) ≡ true };
+}
+
+impl Detail {
+    /// The line, where it keeps the rule.
+    pub fn read(alloc: Global, text: &str) -> Result<Option<Detail>, AllocError>
+        ensures { IfOk result (λ o. o ≡ detail_of text.now) }
+    {
+        if !letters::is_text_spelled(text, 0, 256) {
+            return Ok(None);
+        }
+        let text = String::from_str(alloc, text)?;
+        Ok(Some(Detail { text }))
+    }
+
+    pub fn as_str(&self) -> &str
+        ensures value { result.now ≡ self.now }
+        ensures detail { is_detail result.now ≡ true }
+    {
+        self.text.as_str()
+    }
+
+    /// The same line in memory of its own.
+    pub fn copy(&self, alloc: Global) -> Result<Detail, AllocError>
+        ensures { IfOk result (λ t. t ≡ self.now) }
+    {
+        let text = String::from_str(alloc, self.as_str())?;
+        Ok(Detail { text })
+    }
+}
+
+impl PartialEq for Detail {
+    ghost eq = { λ s t. pointwise nat_eq s t };
+
+    ghost laws = { on_per (λ s. s) (partial_equiv_from_equiv nat_list_eq_equiv) };
+
+    fn eq(&self, other: &Self) -> bool {
+        self.as_str() == other.as_str()
+    }
+}
+
+impl Eq for Detail {
+    ghost laws = { nat_list_eq_equiv };
+}

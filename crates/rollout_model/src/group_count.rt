@@ -1,0 +1,48 @@
+//! How many groups a rollout has.
+
+ghost use Rattle.std.specs.Prelude.{◌≡◌, ◌≤◌, true};
+ghost use Rattle.rollout_model.specs.Limits.{group_limit};
+ghost use Rattle.rollout_model.specs.Rules.{is_group_count, group_count_of};
+
+use std::marker::Model;
+
+/// How many groups a rollout is cut into, from 1 to 50.
+#[derive(Clone, Copy, Debug, PartialEq, Eq, PartialOrd, Ord)]
+pub struct GroupCount {
+    count: u32,
+}
+
+impl Model for GroupCount {
+    ghost use Rattle.std.specs.Prelude.{◌≡◌, ℕ, true};
+    ghost use Rattle.rollout_model.specs.Rules.{is_group_count};
+
+    ghost Value = { ℕ };
+
+    ghost view = { λ s. s.count };
+
+    ghost invariant = { λ s. is_group_count s.count ≡ true };
+
+    ghost inverse = { λ v. record { count = v } };
+}
+
+impl GroupCount {
+    /// The count, where it is from 1 to 50.
+    pub fn new(count: u32) -> Option<GroupCount>
+        ensures { result ≡ group_count_of count }
+    {
+        if 1 <= count && count <= 50 {
+            Some(GroupCount { count })
+        } else {
+            None
+        }
+    }
+
+    pub fn get(&self) -> u32
+        ensures value { result ≡ self.now }
+        ensures count { is_group_count result ≡ true }
+        ensures least { 1 ≤ result }
+        ensures greatest { result ≤ group_limit }
+    {
+        self.count
+    }
+}

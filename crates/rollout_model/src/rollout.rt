@@ -1,0 +1,96 @@
+//! Rollouts, groups and actions as they are shown.
+
+use crate::action_number::ActionNo;
+use crate::action_word::ActionWord;
+use crate::artifact::Artifact;
+use crate::controller_id::ControllerId;
+use crate::feedback::HistoryEntry;
+use crate::filter_text::FilterText;
+use crate::group_word::GroupWord;
+use crate::module::ModuleLabel;
+use crate::number::ModuleNo;
+use crate::rollout_number::RolloutNo;
+use crate::rollout_word::RolloutWord;
+use crate::set_number::SetNo;
+use crate::text::Text;
+
+/// A rollout as it is shown.
+#[derive(Debug, PartialEq, Eq, Drop)]
+pub struct Rollout {
+    pub number: RolloutNo,
+    pub name: Text,
+    pub set_number: SetNo,
+    pub filter_text: FilterText,
+    pub word: RolloutWord,
+    /// How many groups it has.
+    pub groups: u32,
+    /// How many members it has.
+    pub targets: u32,
+}
+
+/// A group of a rollout as it is shown, with how many of its actions have which outcome.
+#[derive(Clone, Copy, Debug, PartialEq, Eq)]
+pub struct Group {
+    /// From 1 in its rollout.
+    pub number: u32,
+    /// How many members it has.
+    pub size: u32,
+    /// How many of them installed the set.
+    pub ok: u32,
+    /// How many failed.
+    pub bad: u32,
+    /// How many were canceled.
+    pub gone: u32,
+    pub word: GroupWord,
+}
+
+/// An action, what one target is to do for one rollout, as it is shown.
+#[derive(Clone, Copy, Debug, PartialEq, Eq)]
+pub struct Action {
+    pub number: ActionNo,
+    pub rollout: RolloutNo,
+    /// The number of its group.
+    pub group: u32,
+    pub target: ControllerId,
+    pub word: ActionWord,
+}
+
+/// An entry of an action's history, with its number in there, from 1.
+#[derive(Debug, PartialEq, Eq, Drop)]
+pub struct NumberedEntry {
+    pub number: u32,
+    pub entry: HistoryEntry,
+}
+
+/// What a device is offered: an action, or that it be canceled.
+#[derive(Clone, Copy, Debug, PartialEq, Eq)]
+pub struct Offer {
+    pub action: ActionNo,
+    pub canceling: bool,
+}
+
+/// A module of a deployment with its artifacts.
+#[derive(Debug, PartialEq, Eq, Drop)]
+pub struct Chunk {
+    pub module_number: ModuleNo,
+    pub label: ModuleLabel,
+    /// In the order of their numbers.
+    pub artifacts: Vec<Artifact>,
+}
+
+/// What a target is to install, by which action.
+#[derive(Debug, PartialEq, Eq, Drop)]
+pub struct Deployment {
+    pub target: ControllerId,
+    pub action: ActionNo,
+    /// In the order of the distribution set.
+    pub chunks: Vec<Chunk>,
+}
+
+/// A rollout with all its groups.
+#[derive(Debug, PartialEq, Eq, Drop)]
+pub struct RolloutReport {
+    pub rollout: Rollout,
+    /// In the order of their numbers.
+    pub groups: Vec<Group>,
+}

@@ -1,0 +1,49 @@
+//! The number of a rollout.
+
+ghost use Rattle.std.specs.Prelude.{◌≡◌, ◌≤◌, true};
+ghost use Rattle.rollout_model.specs.Limits.{number_limit};
+ghost use Rattle.rollout_model.specs.Rules.{is_number, number_of};
+
+use crate::number::GREATEST;
+use std::marker::Model;
+
+/// The number of a rollout, from 1 to 2,147,483,647: the k-th rollout that was created has number k.
+#[derive(Clone, Copy, Debug, PartialEq, Eq, PartialOrd, Ord)]
+pub struct RolloutNo {
+    number: u32,
+}
+
+impl Model for RolloutNo {
+    ghost use Rattle.std.specs.Prelude.{◌≡◌, ℕ, true};
+    ghost use Rattle.rollout_model.specs.Rules.{is_number};
+
+    ghost Value = { ℕ };
+
+    ghost view = { λ s. s.number };
+
+    ghost invariant = { λ s. is_number s.number ≡ true };
+
+    ghost inverse = { λ v. record { number = v } };
+}
+
+impl RolloutNo {
+    /// The number, where it is in its range.
+    pub fn new(number: u32) -> Option<RolloutNo>
+        ensures { result ≡ number_of number }
+    {
+        if 1 <= number && number <= GREATEST {
+            Some(RolloutNo { number })
+        } else {
+            None
+        }
+    }
+
+    pub fn get(&self) -> u32
+        ensures value { result ≡ self.now }
+        ensures number { is_number result ≡ true }
+        ensures least { 1 ≤ result }
+        ensures greatest { result ≤ number_limit }
+    {
+        self.number
+    }
+}
