@@ -1,3 +1,9 @@
+pub mod ActionLemmas
 pub mod CheckLemmas
 pub mod Examples
+pub mod ItemLemmas
+pub mod ReportLemmas
+mod RolloutExamples
+pub mod RolloutLemmas
+pub mod SoundLemmas
 mod StatusLemmas

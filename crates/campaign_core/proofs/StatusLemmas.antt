@@ -7,7 +7,9 @@ use Rattle.rollout_machine.specs.Actions.{ActionPlace}
 use Rattle.rollout_machine.specs.CommandList.{CommandList}
 use Rattle.rollout_machine.specs.Effects.{HasSoundPlan, IsInGroup}
 use Rattle.rollout_machine.specs.Ranges.{each_from}
-use Rattle.rollout_machine.specs.Records.{Approval, GroupRecord, ActionRecord, group_in, approval_of, action_in, records}
+use Rattle.rollout_machine.specs.Records.{Approval, group_in, approval_of, action_in, records}
+use Rattle.rollout_machine.specs.declared.records.GroupRecord.{GroupRecord}
+use Rattle.rollout_machine.specs.declared.records.ActionRecord.{ActionRecord}
 use Rattle.rollout_machine.specs.Progress.{is_rollout_started, is_group_started, is_paused}
 use Rattle.rollout_machine.specs.Rollouts.{Rollout, rollout_at}
 use Rattle.rollout_machine.specs.StateWords.{RolloutWord, GroupWord, ActionWord, all_final, word_from, group_holding, group_is_started, is_started_in, has_started, TargetWord, Unknown, Pending, InSync, InError, word_by_last, started_actions_of}

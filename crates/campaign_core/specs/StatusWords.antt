@@ -11,6 +11,7 @@ use Rattle.rollout_machine.specs.Effects.{HasSoundPlan, IsInGroup}
 use Rattle.rollout_machine.specs.Progress.{is_group_started, is_paused, is_rollout_started}
 use Rattle.rollout_machine.specs.Ranges.{each_from}
 use Rattle.rollout_machine.specs.Records as records
+use Rattle.rollout_machine.specs.declared.records.ActionRecord.{ActionRecord}
 use Rattle.rollout_machine.specs.Rollouts.{Rollout, rollout_at, error_at, size_in}
 use Rattle.rollout_machine.specs.StateWords as words
 use Rattle.campaign_core.specs.declared.status_words.RolloutStatus.{RolloutStatus}
@@ -73,14 +74,14 @@ pub record IsActionStatus (s : ActionStatus) (x : Rollout) (i : ℕ) (p : Action
   pub started : s.started ≡ is_group_started x p.rollout i h
   pub canceling : s.canceling ≡ is_canceling h p.rollout p.position
 
-abbrev pub last_outcome : List records.ActionRecord → Option Outcome
+abbrev pub last_outcome : List ActionRecord → Option Outcome
 last_outcome [] = None
 last_outcome (a ∷ []) = a.outcome
 last_outcome (a ∷ b ∷ as') = last_outcome (b ∷ as')
 
 -- that of target t at h, by its actions in started groups
 pub record IsTargetStatus (s : TargetStatus) (t : Bytes) (h : CommandList) : Type 0 where
-  pub any_open : s.any_open ≡ list_any (λ (a : records.ActionRecord). is_none a.outcome) (words.started_actions_of (records.records h) t)
+  pub any_open : s.any_open ≡ list_any (λ (a : ActionRecord). is_none a.outcome) (words.started_actions_of (records.records h) t)
   pub last : s.last ≡ last_outcome (words.started_actions_of (records.records h) t)
 
 -- The word is that of every rollout of this status, with all its groups.

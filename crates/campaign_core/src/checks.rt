@@ -73,16 +73,7 @@ fn decide(view: &View, command: &Command) -> Result<Change, Refusal>
                 Err(refusal) => Err(refusal),
             }
         }
-        (
-            View::AddModule(_)
-            | View::AddArtifact(_)
-            | View::AddSet(_)
-            | View::PutTargets(_)
-            | View::Tag(_)
-            | View::Untag(_)
-            | View::PutAttributes(_),
-            _,
-        ) => Err(Refusal::WrongState),
+        (_, _) => Err(Refusal::WrongState),
     }
 }
 

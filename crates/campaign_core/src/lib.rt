@@ -5,6 +5,7 @@
 mod checks;
 mod effects;
 mod groups;
+mod rollout_checks;
 mod status_words;
 mod thresholds;
 
@@ -14,11 +15,17 @@ pub use checks::{
 };
 pub use effects::{after_feedback, after_resume, after_trigger};
 pub use groups::{cut_groups, group_bounds};
+pub use rollout_checks::{
+    ActionChange, ActionView, CancelView, Ending, NewRollout, PlanView, ReportView, ReportedAction,
+    ResumeView, RolloutChange, RolloutCommandView, StandingView, TriggerView, check_rollout,
+};
 pub use status_words::{
     ActionStatus, GroupStatus, RolloutStatus, TargetStatus, action_word, group_word, rollout_word,
     target_word,
 };
 pub use thresholds::{error_begins, success_holds};
 
+#[cfg(test)]
+mod rollout_tests;
 #[cfg(test)]
 mod tests;

@@ -297,6 +297,18 @@ fn outcomes(rt: HostRuntime) {
         after_feedback(&first_group(0, 1, 100, 33), Outcome::Bad),
         nothing
     );
+}
+
+#[test]
+fn goes_on(rt: HostRuntime) {
+    let nothing = Effects {
+        pauses: false,
+        starts: None,
+    };
+    let starts = Effects {
+        pauses: false,
+        starts: Some(2),
+    };
     assert_eq!(rt; after_resume(&first_group(2, 0, 50, 100)), starts);
     assert_eq!(rt; after_resume(&first_group(1, 0, 50, 100)), nothing);
     assert_eq!(rt; after_trigger(&first_group(0, 0, 50, 100)), starts);

@@ -1,0 +1,184 @@
+-- What commands on actions come to, by the views of these actions, over sound records.
+use Rattle.std.proofs.Common.{◌≡◌, ℕ, Bool, true, false, cond, ◌&&◌, ◌||◌, List, [], ◌∷◌, ◌++◌, refl, sym, ◌∙◌, ap, subst, Option, Some, None, Ok}
+use Rattle.std.specs.Prelude.{IfSome, is_none, is_some, map, nat_eq, not}
+use Rattle.std.specs.Option.{option_map, option_or, unwrap_or}
+use Rattle.std.proofs.lemmas.Bool.{eq-eqb}
+use Rattle.rollout_machine.proofs.Actions.{append_none}
+use Rattle.rollout_machine.specs.Actions.{HistoryEntry, cancel_standing_said, entries_of, outcome_given}
+use Rattle.rollout_machine.specs.ByteStrings.{item_numbered}
+use Rattle.rollout_machine.specs.Commands.{Bytes, Cancel, Command}
+use Rattle.rollout_machine.specs.Effects.{feedback_pauses, good_after, starts_next}
+use Rattle.rollout_machine.specs.RecordSteps.{action_after, change_rollout, counted, is_same_action, outcome_if_new, own_group, rollout_after, rollouts_after_outcome, start_group, step_action, view_of}
+use Rattle.rollout_machine.specs.Records.{Records}
+use Rattle.rollout_machine.specs.declared.records.ActionRecord.{ActionRecord}
+use Rattle.rollout_machine.specs.declared.records.RolloutRecord.{RolloutRecord}
+use Rattle.rollout_machine.specs.StateWords.{group_number_of, has_started, is_for}
+use Rattle.rollout_machine.specs.Targets.{Target}
+use Rattle.rollout_machine.specs.Verdicts.{check, first_refusal, on_action, target_of}
+use Rattle.rollout_machine.specs.declared.outcome.Outcome.{Outcome}
+use Rattle.rollout_machine.specs.declared.view.RolloutView.{RolloutView}
+use Rattle.rollout_model.specs.declared.refusal.Refusal.{Refusal}
+use Rattle.rollout_model.specs.declared.refusal.Refusal.TheVariants.{ClosedAction, NotFound, WrongState}
+use Rattle.campaign_core.specs.RolloutChecks.{AreSound, BothOrNone, ChangesAction, Decides, IsActionView, IsCancelView, MayChangeAction, action_for, action_with, cancel_refusal, change_by, change_if_open, change_numbered, ended_by, only_if, outcome_forced, rollout_with, rollouts_with}
+use Rattle.campaign_core.specs.declared.rollout_checks.RolloutChange.TheVariants as change
+use Rattle.campaign_core.specs.declared.rollout_checks.RolloutCommandView.TheVariants as seen
+use Rattle.campaign_core.specs.declared.rollout_checks.actions.ActionChange.{ActionChange}
+use Rattle.campaign_core.specs.declared.rollout_checks.actions.ActionView.{ActionView}
+use Rattle.campaign_core.specs.declared.rollout_checks.actions.CancelView.{CancelView}
+use Rattle.campaign_core.proofs.ItemLemmas.{IsFound, changed_same, found, only_found, picked, same_item, unchanged}
+use Rattle.campaign_core.proofs.RolloutLemmas.{number_is, rollouts_changed}
+
+-- ---- the action
+
+-- the actions of a place are the one that stands there
+actions_changed : (rs : Records) → AreSound rs → (k : ℕ) (a : ActionRecord) (f : ActionRecord → ActionRecord) → item_numbered rs.actions k ≡ Some a
+    → map (λ (b : ActionRecord). cond (is_same_action b a) (f b) b) rs.actions ≡ change_numbered k f rs.actions
+actions_changed rs sound k a f at =
+    picked (λ (b : ActionRecord). is_same_action b a) f k rs.actions (record {
+      only = λ j b d t. sound.apart j k b a d at t;
+      here = λ b d. subst (λ c. is_same_action c a ≡ true) (same_item (item_numbered rs.actions k) a b at d) itself;
+    })
+  where
+    itself : (nat_eq a.rollout a.rollout && nat_eq a.position a.position) ≡ true
+    itself = rw (eq-eqb a.rollout a.rollout refl, eq-eqb a.position a.position refl) refl
+
+-- an action record with an outcome, its canceling and its history
+abbrev set_to : ActionRecord → Option Outcome → Bool → List HistoryEntry → ActionRecord
+set_to a o b es = record a { outcome = o; canceling = b; history = es }
+
+-- an open action after a command that gives it this, or nothing
+open_after : (c : Command) (a : ActionRecord) (v : ActionView) (gives : Option Outcome) (canceling : Bool) → a.outcome ≡ None → outcome_given c a.canceling ≡ gives → unwrap_or (cancel_standing_said c) a.canceling ≡ canceling
+    → action_after c a ≡ record (action_with (change_by v gives canceling) a) { history = a.history ++ entries_of c }
+open_after c a v gives canceling was given said = stepped ∙ go gives
+  where
+    stepped : action_after c a ≡ set_to a gives (is_none gives && canceling) (a.history ++ entries_of c)
+    stepped =
+        ap (λ o. set_to a (option_or o (outcome_given c a.canceling)) (is_none (option_or o (outcome_given c a.canceling)) && unwrap_or (cancel_standing_said c) a.canceling) (a.history ++ cond (is_none o) (entries_of c) [])) was
+        ∙ ap (λ g. set_to a g (is_none g && unwrap_or (cancel_standing_said c) a.canceling) (a.history ++ entries_of c)) given
+        ∙ ap (λ b. set_to a gives (is_none gives && b) (a.history ++ entries_of c)) said
+
+    go : (g : Option Outcome) → set_to a g (is_none g && canceling) (a.history ++ entries_of c) ≡ record (action_with (change_by v g canceling) a) { history = a.history ++ entries_of c }
+    go None = ap (λ o. set_to a o canceling (a.history ++ entries_of c)) (sym was)
+    go (Some o) = refl
+
+-- one that has its outcome
+closed_after : (c : Command) (a : ActionRecord) (o : Outcome) → a.outcome ≡ Some o → a.canceling ≡ false → action_after c a ≡ a
+closed_after c a o had over =
+    ap (λ p. set_to a (option_or p (outcome_given c a.canceling)) (is_none (option_or p (outcome_given c a.canceling)) && unwrap_or (cancel_standing_said c) a.canceling) (a.history ++ cond (is_none p) (entries_of c) [])) had
+    ∙ ap (λ p. set_to a p false (a.history ++ [])) (sym had)
+    ∙ ap (λ b. set_to a a.outcome b (a.history ++ [])) (sym over)
+    ∙ ap (λ es. set_to a a.outcome a.canceling es) (append_none a.history)
+
+-- ---- its rollout
+
+-- the rollout of the action, and what the view shows of it
+record HasRollout (v : ActionView) (a : ActionRecord) (rs : Records) : Type 0 where
+  rollout : RolloutRecord
+  there : item_numbered rs.rollouts a.rollout ≡ Some rollout
+  is : v.rollout ≡ view_of rollout (group_number_of rollout a)
+
+has_rollout : (v : ActionView) (a : ActionRecord) (rs : Records) → IsActionView v a rs → HasRollout v a rs
+has_rollout v a rs is = go (item_numbered rs.rollouts a.rollout) refl is.rollout
+  where
+    go : (o : Option RolloutRecord) → item_numbered rs.rollouts a.rollout ≡ o → Some v.rollout ≡ option_map (λ x. view_of x (group_number_of x a)) o → HasRollout v a rs
+    go None d e = cc
+    go (Some x) d e = record { rollout = x; there = d; is = cc }
+
+abbrev after_as : RolloutRecord → Outcome → RolloutView → ℕ → RolloutRecord
+after_as x o w i = record x { paused = feedback_pauses w o || x.paused; groups = map (start_group (starts_next w (w.paused || feedback_pauses w o) (good_after w o))) (map (counted o i) x.groups) }
+
+rollout_ended : (v : ActionView) (o : Outcome) (x : RolloutRecord) (i : ℕ) → v.rollout ≡ view_of x i → rollout_after o i x ≡ rollout_with (ended_by v o) x
+rollout_ended v o x i is = ap (λ j. after_as x o (view_of x i) j) (sym (number_is x i)) ∙ ap (λ (w : RolloutView). after_as x o w w.own.number) (sym is)
+
+rollouts_ended : (rs : Records) → AreSound rs → (a : ActionRecord) (v : ActionView) → IsActionView v a rs → (gives : Option Outcome) (canceling : Bool) → rollouts_after_outcome gives rs.rollouts a ≡ rollouts_with (change_by v gives canceling) rs.rollouts
+rollouts_ended rs sound a v is None canceling = refl
+rollouts_ended rs sound a v is (Some o) canceling =
+    let it : HasRollout v a rs = has_rollout v a rs is in
+    ap (λ q. change_rollout a.rollout (rollout_after o (own_group q a)) rs.rollouts) it.there
+    ∙ rollouts_changed rs sound a.rollout (rollout_after o (group_number_of it.rollout a))
+    ∙ changed_same (rollout_after o (group_number_of it.rollout a)) (rollout_with (ended_by v o)) a.rollout rs.rollouts
+    (λ y d. subst (λ z. rollout_after o (group_number_of it.rollout a) z ≡ rollout_with (ended_by v o) z) (same_item (item_numbered rs.rollouts a.rollout) it.rollout y it.there d) (rollout_ended v o it.rollout (group_number_of it.rollout a) it.is))
+    ∙ ap (λ r. change_numbered r (rollout_with (ended_by v o)) rs.rollouts) (sym is.number)
+
+-- ---- the step
+
+both : (rs : Records) (xs ys : List RolloutRecord) (as' bs : List ActionRecord) → xs ≡ ys → as' ≡ bs → record rs { rollouts = xs; actions = as' } ≡ record rs { rollouts = ys; actions = bs }
+both rs xs ys as' bs e d = rw (e, d) refl
+
+-- an open action gets what the command gives it, and its rollout what follows
+pub acts : (rs : Records) → AreSound rs → (c : Command) (k : ℕ) (a : ActionRecord) (v : ActionView) (gives : Option Outcome) (canceling : Bool) → item_numbered rs.actions k ≡ Some a → v.outcome ≡ None → IsActionView v a rs
+    → outcome_given c a.canceling ≡ gives → unwrap_or (cancel_standing_said c) a.canceling ≡ canceling → ChangesAction (change_by v gives canceling) (entries_of c) k rs (step_action rs c (item_numbered rs.actions k))
+acts rs sound c k a v gives canceling at was is given said =
+    ap (step_action rs c) at
+    ∙ both rs _ _ _ _
+    (ap (λ p. rollouts_after_outcome (outcome_if_new p (outcome_given c a.canceling)) rs.rollouts a) is_open ∙ ap (λ g. rollouts_after_outcome g rs.rollouts a) given ∙ rollouts_ended rs sound a v is gives canceling)
+    (actions_changed rs sound k a (action_after c) at
+    ∙ changed_same (action_after c) after k rs.actions (λ b d. subst (λ z. action_after c z ≡ after z) (same_item (item_numbered rs.actions k) a b at d) (open_after c a v gives canceling is_open given said)))
+  where
+    is_open : a.outcome ≡ None
+    is_open = sym is.outcome ∙ was
+
+    after : ActionRecord → ActionRecord
+    after b = record (action_with (change_by v gives canceling) b) { history = b.history ++ entries_of c }
+
+-- and one that has its outcome stays as it is
+pub stays : (rs : Records) → AreSound rs → (c : Command) (k : ℕ) (a : ActionRecord) (o : Outcome) → item_numbered rs.actions k ≡ Some a → a.outcome ≡ Some o → step_action rs c (item_numbered rs.actions k) ≡ rs
+stays rs sound c k a o at had =
+    ap (step_action rs c) at
+    ∙ both rs _ _ _ _
+    (ap (λ p. rollouts_after_outcome (outcome_if_new p (outcome_given c a.canceling)) rs.rollouts a) had)
+    (actions_changed rs sound k a (action_after c) at
+    ∙ unchanged (action_after c) k rs.actions (λ b d. subst (λ z. action_after c z ≡ z) (same_item (item_numbered rs.actions k) a b at d) (closed_after c a o had (sound.over k a o at had))))
+
+pub may_act : (rs : Records) → AreSound rs → (c : Command) (k : ℕ) (a : ActionRecord) (v : ActionView) (gives : Option Outcome) (canceling : Bool) → item_numbered rs.actions k ≡ Some a → IsActionView v a rs
+    → outcome_given c a.canceling ≡ gives → unwrap_or (cancel_standing_said c) a.canceling ≡ canceling → MayChangeAction (change_if_open v gives canceling) (entries_of c) k rs (step_action rs c (item_numbered rs.actions k))
+may_act rs sound c k a v gives canceling at is given said = go v.outcome refl
+  where
+    go : (o : Option Outcome) → v.outcome ≡ o → MayChangeAction (cond (is_none o) (Some (change_by v gives canceling)) None) (entries_of c) k rs (step_action rs c (item_numbered rs.actions k))
+    go None e = acts rs sound c k a v gives canceling at e is given said
+    go (Some o) e = stays rs sound c k a o at (sym is.outcome ∙ e)
+
+-- ---- cancels
+
+abbrev cancel_tests : Records → Bytes → Bool → Option Target → Option ActionRecord → Option Refusal
+cancel_tests rs t force target o =
+    first_refusal ((is_none target || not (on_action (is_for rs t) o), NotFound) ∷ (on_action (λ a. is_some a.outcome) o, ClosedAction) ∷ (on_action (λ a. not (has_started rs a) || (a.canceling && not force)) o, WrongState) ∷ [])
+
+cancel_by : (rs : Records) (t : Bytes) (force : Bool) (a : ActionRecord) (w : CancelView) → IsCancelView w a rs
+    → first_refusal ((is_some a.outcome, ClosedAction) ∷ (not (has_started rs a) || (a.canceling && not force), WrongState) ∷ []) ≡ cancel_refusal (Some w) force
+cancel_by rs t force a w is =
+    ap (λ p. first_refusal ((is_some p, ClosedAction) ∷ (not (has_started rs a) || (a.canceling && not force), WrongState) ∷ [])) (sym is.action.outcome)
+    ∙ ap (λ b. first_refusal ((is_some w.action.outcome, ClosedAction) ∷ (not b || (a.canceling && not force), WrongState) ∷ [])) (sym is.started)
+    ∙ ap (λ b. first_refusal ((is_some w.action.outcome, ClosedAction) ∷ (not w.started || (b && not force), WrongState) ∷ [])) (sym is.action.canceling)
+
+pub cancel_row : (rs : Records) (t : Bytes) (k : ℕ) (force : Bool) (v : Option CancelView) → BothOrNone (λ w a. IsCancelView w a rs) v (action_for rs t k) → check rs (Cancel t k force) ≡ cancel_refusal v force
+cancel_row rs t k force v is = go (target_of rs t) (item_numbered rs.actions k) v is
+  where
+    this : (a : ActionRecord) (b : Bool) (v : Option CancelView) → BothOrNone (λ w a. IsCancelView w a rs) v (only_if b (Some a))
+        → first_refusal ((not b, NotFound) ∷ (is_some a.outcome, ClosedAction) ∷ (not (has_started rs a) || (a.canceling && not force), WrongState) ∷ []) ≡ cancel_refusal v force
+    this a false None is = refl
+    this a false (Some w) is = absurd is
+    this a true None is = absurd is
+    this a true (Some w) is = cancel_by rs t force a w is
+
+    go : (target : Option Target) (o : Option ActionRecord) (v : Option CancelView) → BothOrNone (λ w a. IsCancelView w a rs) v (only_if (is_some target && on_action (is_for rs t) o) o) → cancel_tests rs t force target o ≡ cancel_refusal v force
+    go None o None is = refl
+    go None o (Some w) is = absurd is
+    go (Some x) None None is = refl
+    go (Some x) None (Some w) is = absurd is
+    go (Some x) (Some a) v is = this a (is_for rs t a) v is
+
+open_if : (o : Option Outcome) (rest : Option Refusal) → cond (is_some o) (Some ClosedAction) rest ≡ None → o ≡ None
+open_if None rest e = refl
+open_if (Some o) rest e = cc
+
+pub cancels : (v : Option CancelView) (t : Bytes) (k : ℕ) (force : Bool) (c : ActionChange) → cancel_refusal v force ≡ None → IfSome v (λ w. c ≡ change_by w.action (outcome_forced w.action.canceling force) true)
+    → Decides (seen.Cancel v) (Cancel t k force) (Ok (change.Cancel c))
+cancels None t k force c e by rs sound is = cc
+cancels (Some w) t k force c e by rs sound is =
+    let it : IsFound (λ w a. IsCancelView w a rs) w (action_for rs t k) = found (λ w a. IsCancelView w a rs) (Some w) w (action_for rs t k) refl is in
+    let at : item_numbered rs.actions k ≡ Some it.item = only_found (is_some (target_of rs t) && on_action (is_for rs t) (item_numbered rs.actions k)) (item_numbered rs.actions k) it.item it.there in (
+      cancel_row rs t k force (Some w) is ∙ e,
+      subst (λ d. ChangesAction d [] k rs (step_action rs (Cancel t k force) (item_numbered rs.actions k))) (sym by)
+          (acts rs sound (Cancel t k force) k it.item w.action (outcome_forced w.action.canceling force) true at (open_if w.action.outcome _ e) it.is.action (ap (λ b. outcome_forced b force) (sym it.is.action.canceling)) refl),
+    )

@@ -1,0 +1,83 @@
+-- The records of accepted commands are sound, so a verdict over sound records is that at a command list.
+use Rattle.std.proofs.Common.{◌≡◌, ℕ, zero, suc, ◌+◌, true, false, ◌&&◌, List, [], ◌∷◌, refl, sym, ◌∙◌, ap, subst, arith, Option, Some, None, Result, Ok, Err}
+use Rattle.std.specs.Prelude.{is_none, nat_eq, slice_get}
+use Rattle.std.specs.Option.{option_map, unwrap_or}
+use Rattle.std.proofs.lemmas.Bool.{and_parts, eqb-true}
+use Rattle.rollout_machine.proofs.Actions.{numbered_map}
+use Rattle.rollout_machine.proofs.Distinct.{one_number}
+use Rattle.rollout_machine.proofs.Main.{records_step}
+use Rattle.rollout_machine.specs.Actions.{ActionPlace, action_place, action_places, cancel_stands}
+use Rattle.rollout_machine.specs.ByteStrings.{item_numbered}
+use Rattle.rollout_machine.specs.CommandList.{CommandList}
+use Rattle.rollout_machine.specs.Commands.{Command}
+use Rattle.rollout_machine.specs.RecordSteps.{is_same_action}
+use Rattle.rollout_machine.specs.Records.{Records, action_in, records, rollouts_in}
+use Rattle.rollout_machine.specs.declared.records.ActionRecord.{ActionRecord}
+use Rattle.rollout_machine.specs.declared.records.RolloutRecord.{RolloutRecord}
+use Rattle.rollout_machine.specs.Rollouts.{Rollout, rollouts}
+use Rattle.rollout_machine.specs.Validity.{IsValid}
+use Rattle.rollout_machine.specs.declared.outcome.Outcome.{Outcome}
+use Rattle.rollout_model.specs.declared.refusal.Refusal.{Refusal}
+use Rattle.campaign_core.specs.RolloutChecks.{AreSound, Decides, Follows, LeadsTo}
+use Rattle.campaign_core.specs.declared.rollout_checks.RolloutChange.{RolloutChange}
+use Rattle.campaign_core.specs.declared.rollout_checks.RolloutCommandView.{RolloutCommandView}
+
+number_at : (h : CommandList) (a i : ℕ) (xs : List Rollout) (x : RolloutRecord) → slice_get (rollouts_in h a xs) i ≡ Some x → x.number ≡ a + i
+number_at h a i [] x e = cc
+number_at h a zero (y ∷ ys) x e =
+    let n : x.number ≡ a = sym (ap (λ o. unwrap_or (option_map (λ (q : RolloutRecord). q.number) o) a) e) in
+    omega (arith, n)
+number_at h a (suc i) (y ∷ ys) x e = let n : x.number ≡ suc a + i = number_at h (suc a) i ys x e in omega (arith, n)
+
+numbered_from : (h : CommandList) (r : ℕ) (xs : List Rollout) (x : RolloutRecord) → item_numbered (rollouts_in h 1 xs) r ≡ Some x → x.number ≡ r
+numbered_from h zero xs x e = cc
+numbered_from h (suc i) xs x e = let n : x.number ≡ 1 + i = number_at h 1 i xs x e in omega (arith, n)
+
+-- the place of an action of a number
+record HasPlace (h : CommandList) (k : ℕ) (a : ActionRecord) : Type 0 where
+  place : ActionPlace
+  numbered : action_place h k ≡ Some place
+  is : a ≡ action_in h place
+
+has_place : (h : CommandList) (k : ℕ) (a : ActionRecord) → item_numbered (records h).actions k ≡ Some a → HasPlace h k a
+unfolding records
+has_place h k a e = go (action_place h k) refl (sym (numbered_map (action_in h) (action_places h) k) ∙ e)
+  where
+    go : (o : Option ActionPlace) → action_place h k ≡ o → option_map (action_in h) o ≡ Some a → HasPlace h k a
+    go None d e = cc
+    go (Some p) d e = record { place = p; numbered = d; is = cc }
+
+same_place : (p q : ActionPlace) → (nat_eq q.rollout p.rollout && nat_eq q.position p.position) ≡ true → p ≡ q
+same_place p q t =
+    let parts : (nat_eq q.rollout p.rollout ≡ true) × (nat_eq q.position p.position ≡ true) = and_parts _ _ t in
+    let r : q.rollout ≡ p.rollout = eqb-true _ _ parts.0 in
+    let j : q.position ≡ p.position = eqb-true _ _ parts.1 in
+    ap (λ (n : ℕ). record { rollout = n; position = p.position }) (sym r) ∙ ap (λ (n : ℕ). record { rollout = q.rollout; position = n }) (sym j)
+
+places_apart : (h : CommandList) → IsValid h → (j k : ℕ) (a b : ActionRecord) → HasPlace h j a → HasPlace h k b → is_same_action a b ≡ true → j ≡ k
+places_apart h valid j k a b v w t =
+    let at : is_same_action (action_in h v.place) (action_in h w.place) ≡ true = sym (ap (λ c. is_same_action c (action_in h w.place)) v.is) ∙ sym (ap (λ c. is_same_action a c) w.is) ∙ t in
+    let one : v.place ≡ w.place = same_place v.place w.place at in
+    one_number h j k w.place valid (v.numbered ∙ ap (λ p. Some p) one) w.numbered
+
+ended : (h : CommandList) (k : ℕ) (a : ActionRecord) (o : Outcome) → HasPlace h k a → a.outcome ≡ Some o → a.canceling ≡ false
+ended h k a o w e =
+    let had : (action_in h w.place).outcome ≡ Some o = sym (ap (λ (b : ActionRecord). b.outcome) w.is) ∙ e in
+    ap (λ (b : ActionRecord). b.canceling) w.is ∙ ap (λ given. is_none given && cancel_stands h w.place.rollout w.place.position) had
+
+numbers : (h : CommandList) (r : ℕ) (x : RolloutRecord) → item_numbered (records h).rollouts r ≡ Some x → x.number ≡ r
+unfolding records
+numbers h r x e = numbered_from h r (rollouts h) x e
+
+pub records_are_sound : (h : CommandList) → IsValid h → AreSound (records h)
+records_are_sound h valid = record {
+  numbered = numbers h;
+  apart = λ j k a b d e t. places_apart h valid j k a b (has_place h j a d) (has_place h k b e) t;
+  over = λ k a o d e. ended h k a o (has_place h k a d) e;
+}
+
+pub rollout_decision_follows : (v : RolloutCommandView) (c : Command) (result : Result RolloutChange Refusal) → Decides v c result → Follows v c result
+rollout_decision_follows v c (Ok change) decides h valid is =
+    let it = decides (records h) (records_are_sound h valid) is in
+    (it.0, subst (λ (rs : Records). LeadsTo change c (records h) rs) (sym (records_step h c valid it.0)) it.1)
+rollout_decision_follows v c (Err refusal) decides h valid is = decides (records h) (records_are_sound h valid) is

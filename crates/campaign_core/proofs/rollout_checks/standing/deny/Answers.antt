@@ -1,0 +1,9 @@
+use Rattle.std.proofs.Common.{None}
+use Rattle.rollout_machine.specs.Records.{Denied}
+use Rattle.rollout_machine.specs.Verdicts.{is_waiting}
+use Rattle.campaign_core.specs.RolloutChecks.{decided}
+use Rattle.campaign_core.proofs.RolloutLemmas.{changes_rollout, word_row}
+use Rattle.campaign_core.proofs.rollout_checks.standing.deny.Goals as goal
+
+pub returns : goal.returns
+returns c r rs sound is = (word_row is_waiting c.args.view.now r rs None is c.in_ok-must_wait.ensures, changes_rollout rs sound r (decided Denied))

@@ -1,0 +1,7 @@
+use Rattle.std.proofs.Common.{None}
+use Rattle.rollout_machine.specs.Verdicts.{is_ready}
+use Rattle.campaign_core.proofs.RolloutLemmas.{starts_rollout, word_row}
+use Rattle.campaign_core.proofs.rollout_checks.standing.start.Goals as goal
+
+pub returns : goal.returns
+returns c r rs sound is = (word_row is_ready c.args.view.now r rs None is c.in_ok-must_be_ready.ensures, starts_rollout rs sound r)

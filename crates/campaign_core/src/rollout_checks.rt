@@ -1,0 +1,96 @@
+//! Whether a command on rollouts is accepted, and what is written where it is.
+
+ghost use Rattle.rollout_machine.specs.Views.{rollout_command_of};
+ghost use Rattle.campaign_core.specs.RolloutChecks.{Decides, Follows};
+
+mod actions;
+mod cancel_reports;
+mod deployment_reports;
+mod plans;
+mod progress;
+mod reports;
+mod standing;
+
+use actions::cancel;
+pub use actions::{ActionChange, ActionView, CancelView, Ending};
+use cancel_reports::cancel_feedback;
+use deployment_reports::feedback;
+use plans::create;
+pub use plans::{NewRollout, PlanView};
+pub use progress::{ResumeView, TriggerView};
+use progress::{resume, trigger};
+pub use reports::{ReportView, ReportedAction};
+use rollout_machine::Effects;
+use rollout_model::{Refusal, RolloutCommand};
+pub use standing::StandingView;
+use standing::{approve, deny, pause, start};
+
+/// What the verdict on a command on rollouts and its change rest on.
+#[derive(Clone, Copy, Debug, PartialEq, Eq)]
+pub enum RolloutCommandView {
+    Create(PlanView),
+    Approve(StandingView),
+    Deny(StandingView),
+    Start(StandingView),
+    Pause(StandingView),
+    /// Nothing where there is no such rollout.
+    Resume(Option<ResumeView>),
+    /// Nothing where there is no such rollout.
+    TriggerNext(Option<TriggerView>),
+    /// Nothing where the target is not there, or the action is not the target's.
+    Cancel(Option<CancelView>),
+    Feedback(ReportView),
+    CancelFeedback(ReportView),
+}
+
+/// What is written of an accepted command, beside what the command itself says.
+#[derive(Clone, Copy, Debug, PartialEq, Eq)]
+pub enum RolloutChange {
+    Create(NewRollout),
+    Approve,
+    Deny,
+    Start,
+    Pause,
+    Resume(Effects),
+    TriggerNext(Effects),
+    Cancel(ActionChange),
+    /// Nothing where the action had the same outcome.
+    Feedback(Option<ActionChange>),
+    /// Nothing where the action had the same outcome.
+    CancelFeedback(Option<ActionChange>),
+}
+
+/// The verdict on a command and its change, over all sound records that the view is of.
+fn decide(view: &RolloutCommandView, command: &RolloutCommand) -> Result<RolloutChange, Refusal>
+    ensures { Decides view.now (rollout_command_of command.now) result }
+{
+    use RolloutCommand as Asked;
+    use RolloutCommandView as Seen;
+    match (view, command) {
+        (Seen::Create(view), Asked::Create(plan)) => create(view, plan),
+        (Seen::Approve(view), Asked::Approve(_)) => approve(view),
+        (Seen::Deny(view), Asked::Deny(_)) => deny(view),
+        (Seen::Start(view), Asked::Start(_)) => start(view),
+        (Seen::Pause(view), Asked::Pause(_)) => pause(view),
+        (Seen::Resume(view), Asked::Resume(_)) => resume(view),
+        (Seen::TriggerNext(view), Asked::TriggerNext(_)) => trigger(view),
+        (Seen::Cancel(view), Asked::Cancel(asked)) => cancel(view, asked),
+        (Seen::Feedback(view), Asked::Feedback(report)) => feedback(view, report),
+        (Seen::CancelFeedback(view), Asked::CancelFeedback(report)) => {
+            cancel_feedback(view, report)
+        }
+        (_, _) => Err(Refusal::WrongState),
+    }
+}
+
+/// The verdict on a command on rollouts: its change where it is accepted, and otherwise the first refusal that applies.
+/// Takes no memory.
+pub fn check_rollout(
+    view: &RolloutCommandView,
+    command: &RolloutCommand,
+) -> Result<RolloutChange, Refusal>
+    ensures decides { Decides view.now (rollout_command_of command.now) result }
+    ensures follows { Follows view.now (rollout_command_of command.now) result }
+{
+    decide(view, command)
+}

@@ -1,0 +1,109 @@
+//! Cancels, and what becomes of single actions.
+
+ghost use Rattle.std.specs.Prelude.{◌≡◌, true, Some, None, IfSome, MatchResult};
+ghost use Rattle.rollout_machine.specs.Commands.{Cancel as CancelCommand};
+ghost use Rattle.campaign_core.specs.RolloutChecks.{cancel_refusal, change_by, ended_by, outcome_forced, Decides};
+ghost use Rattle.campaign_core.specs.declared.rollout_checks.RolloutCommandView.TheVariants as seen;
+
+use super::RolloutChange;
+use crate::effects::after_feedback;
+use rollout_machine::{Effects, Outcome, RolloutView};
+use rollout_model::{Cancel, Refusal, RolloutNo};
+
+/// An action and its rollout.
+#[derive(Clone, Copy, Debug, PartialEq, Eq)]
+pub struct ActionView {
+    pub outcome: Option<Outcome>,
+    pub canceling: bool,
+    /// Which rollout it is of.
+    pub number: RolloutNo,
+    /// That rollout, seen from the action's group.
+    pub rollout: RolloutView,
+}
+
+/// What the cancel of an action rests on.
+#[derive(Clone, Copy, Debug, PartialEq, Eq)]
+pub struct CancelView {
+    /// Whether its group is started.
+    pub started: bool,
+    pub action: ActionView,
+}
+
+/// How an action of a group ended, and what that does to its rollout.
+#[derive(Clone, Copy, Debug, PartialEq, Eq)]
+pub struct Ending {
+    pub rollout: RolloutNo,
+    /// The group that counts the outcome.
+    pub group: u32,
+    pub outcome: Outcome,
+    pub effects: Effects,
+}
+
+/// What becomes of an open action.
+#[derive(Clone, Copy, Debug, PartialEq, Eq)]
+pub enum ActionChange {
+    /// It stays open, canceling or not.
+    StaysOpen { canceling: bool },
+    /// It gets its outcome.
+    Ends(Ending),
+}
+
+/// What an outcome of the action does.
+fn ending_by(view: &ActionView, outcome: Outcome) -> Ending
+    ensures { result ≡ ended_by view.now outcome }
+{
+    Ending {
+        rollout: view.number,
+        group: view.rollout.own.number,
+        outcome,
+        effects: after_feedback(&view.rollout, outcome),
+    }
+}
+
+/// What becomes of the open action by what gives it an outcome, or leaves it canceling or not.
+pub(crate) fn change(view: &ActionView, gives: Option<Outcome>, canceling: bool) -> ActionChange
+    ensures { result ≡ change_by view.now gives canceling }
+{
+    match gives {
+        Some(outcome) => ActionChange::Ends(ending_by(view, outcome)),
+        None => ActionChange::StaysOpen { canceling },
+    }
+}
+
+/// The outcome that a cancel gives an open action: a second one by force ends it.
+fn outcome_of_force(canceling: bool, force: bool) -> Option<Outcome>
+    ensures { result ≡ outcome_forced canceling force }
+{
+    if force && canceling {
+        Some(Outcome::Gone)
+    } else {
+        None
+    }
+}
+
+/// What becomes of the action by its cancel, or the first refusal that applies.
+fn after_cancel(view: &Option<CancelView>, force: bool) -> Result<ActionChange, Refusal>
+    ensures { MatchResult result
+        (λ c. (cancel_refusal view.now force ≡ None) × IfSome view.now (λ v. c ≡ change_by v.action (outcome_forced v.action.canceling force) true))
+        (λ refusal. cancel_refusal view.now force ≡ Some refusal) }
+{
+    let Some(view) = view else {
+        return Err(Refusal::NotFound);
+    };
+    let action = view.action;
+    if action.outcome.is_some() {
+        return Err(Refusal::ClosedAction);
+    }
+    if !view.started || action.canceling && !force {
+        return Err(Refusal::WrongState);
+    }
+    Ok(change(&action, outcome_of_force(action.canceling, force), true))
+}
+
+/// The verdict on the cancel of an action.
+pub(crate) fn cancel(view: &Option<CancelView>, cancel: &Cancel) -> Result<RolloutChange, Refusal>
+    ensures { Decides (seen.Cancel view.now) (CancelCommand cancel.now.target cancel.now.action cancel.now.force) result }
+{
+    let change = after_cancel(view, cancel.force)?;
+    Ok(RolloutChange::Cancel(change))
+}

@@ -1,0 +1,90 @@
+//! Creating a rollout.
+
+ghost use Rattle.std.specs.Prelude.{◌≡◌, ◌+◌, ◌<◌, Some, None, MatchResult};
+ghost use Rattle.rollout_machine.specs.Commands.{CreateRollout};
+ghost use Rattle.campaign_core.specs.RolloutChecks.{approval_at, plan_refusal, Decides};
+ghost use Rattle.campaign_core.specs.declared.rollout_checks.RolloutCommandView.TheVariants as seen;
+
+use super::RolloutChange;
+use rollout_model::{Approval, Refusal, RolloutNo, RolloutPlan};
+
+/// How many rollouts a desk takes.
+const ROLLOUT_LIMIT: u32 = 1000;
+
+/// What creating a rollout rests on.
+#[derive(Clone, Copy, Debug, PartialEq, Eq)]
+pub struct PlanView {
+    /// Whether the plan's filter is none.
+    pub bad_filter: bool,
+    /// Whether its set is not there.
+    pub misses_set: bool,
+    /// Whether a rollout of the same name is there.
+    pub same_name: bool,
+    /// How many targets match the filter.
+    pub members: u32,
+    /// How many rollouts are there.
+    pub count: u32,
+    /// Whether a new rollout waits for approval.
+    pub approval: bool,
+}
+
+/// The rollout that is created.
+#[derive(Clone, Copy, Debug, PartialEq, Eq)]
+pub struct NewRollout {
+    pub number: RolloutNo,
+    pub approval: Approval,
+}
+
+/// The number after so many rollouts.
+fn number_after(count: u32) -> RolloutNo
+    requires { count < 2147483647 }
+    ensures { result ≡ count + 1 }
+{
+    RolloutNo::new(count + 1).unwrap()
+}
+
+/// The approval of a new rollout.
+fn first_approval(approval: bool) -> Approval
+    ensures { result ≡ approval_at approval }
+{
+    if approval {
+        Approval::Waiting
+    } else {
+        Approval::Given
+    }
+}
+
+/// The rollout that is created, or the first refusal that applies.
+fn new_rollout(view: &PlanView, groups: u32) -> Result<NewRollout, Refusal>
+    ensures { MatchResult result
+        (λ n. (plan_refusal view.now groups ≡ None) × (n ≡ record { number = view.now.count + 1; approval = approval_at view.now.approval }))
+        (λ refusal. plan_refusal view.now groups ≡ Some refusal) }
+{
+    if view.bad_filter {
+        return Err(Refusal::BadFilter);
+    }
+    if view.misses_set {
+        return Err(Refusal::NotFound);
+    }
+    if view.same_name {
+        return Err(Refusal::Exists);
+    }
+    if view.members < groups {
+        return Err(Refusal::TooFewTargets);
+    }
+    if view.count >= ROLLOUT_LIMIT {
+        return Err(Refusal::Quota);
+    }
+    Ok(NewRollout {
+        number: number_after(view.count),
+        approval: first_approval(view.approval),
+    })
+}
+
+/// The verdict on the creation of a rollout.
+pub(crate) fn create(view: &PlanView, plan: &RolloutPlan) -> Result<RolloutChange, Refusal>
+    ensures { Decides (seen.Create view.now) (CreateRollout plan.now) result }
+{
+    let created = new_rollout(view, plan.groups.get())?;
+    Ok(RolloutChange::Create(created))
+}

@@ -1,0 +1,70 @@
+//! What devices report of their actions.
+
+ghost use Rattle.std.specs.Prelude.{◌≡◌, true, false, Some, None, MatchResult};
+ghost use Rattle.rollout_machine.specs.Verdicts.{same_outcome};
+ghost use Rattle.rollout_model.specs.declared.refusal.Refusal.TheVariants.{ClosedAction};
+ghost use Rattle.campaign_core.specs.RolloutChecks.{device_refusal};
+
+use super::actions::{ActionChange, ActionView};
+use rollout_machine::Outcome;
+use rollout_model::Refusal;
+
+/// How many notes an action takes.
+pub(crate) const NOTE_LIMIT: u32 = 100;
+
+/// An action of the device that reports, whose group is started.
+#[derive(Clone, Copy, Debug, PartialEq, Eq)]
+pub struct ReportedAction {
+    /// How many notes were taken.
+    pub notes: u32,
+    pub action: ActionView,
+}
+
+/// What a report rests on.
+#[derive(Clone, Copy, Debug, PartialEq, Eq)]
+pub struct ReportView {
+    /// Whether no target has the device's id and the digest of its token.
+    pub misses_device: bool,
+    /// The action, where it is the device's and its group is started.
+    pub reported: Option<ReportedAction>,
+}
+
+/// Whether the outcome that an action had is given again.
+fn is_same(gives: Option<Outcome>, had: Outcome) -> bool
+    ensures { result ≡ same_outcome gives (Some had) }
+{
+    match (gives, had) {
+        (Some(Outcome::Good), Outcome::Good)
+        | (Some(Outcome::Bad), Outcome::Bad)
+        | (Some(Outcome::Gone), Outcome::Gone) => true,
+        (_, _) => false,
+    }
+}
+
+/// What a report does to an action that has its outcome: nothing, where it gives the same one again.
+pub(crate) fn repeat(gives: Option<Outcome>, had: Outcome) -> Result<Option<ActionChange>, Refusal>
+    ensures { MatchResult result
+        (λ c. (same_outcome gives (Some had) ≡ true) × (c ≡ None))
+        (λ refusal. (same_outcome gives (Some had) ≡ false) × (refusal ≡ ClosedAction)) }
+{
+    if is_same(gives, had) {
+        Ok(None)
+    } else {
+        Err(Refusal::ClosedAction)
+    }
+}
+
+/// The action that is reported of, or the first refusal that applies.
+pub(crate) fn reported_action(view: &ReportView) -> Result<ReportedAction, Refusal>
+    ensures { MatchResult result
+        (λ a. (view.now.misses_device ≡ false) × (view.now.reported ≡ Some a))
+        (λ refusal. device_refusal view.now ≡ Some refusal) }
+{
+    if view.misses_device {
+        return Err(Refusal::Unauthorized);
+    }
+    match view.reported {
+        Some(reported) => Ok(reported),
+        None => Err(Refusal::NotFound),
+    }
+}
