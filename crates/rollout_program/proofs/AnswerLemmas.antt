@@ -112,7 +112,7 @@ artifact_verdict h u missing named same full m n s f = λ i. upload_refusal (sym
 pub artifact_refused : (h : CommandList) (u : Upload) (e : Refusal) → verdict h (AddArtifact u) ≡ Some e → (e ≡ NoMemory) ⊎ ((e ≢ StoreFailed) × (verdict h (AddArtifact u) ≡ Some e))
 artifact_refused h u e is = inr ((λ failed. false≢true (sym (check_never_stores (records h) (AddArtifact u) e is) ∙ ap is_store failed)), is)
 
-last_item : {X : Type 0} (xs : List X) (x : X) → item_numbered (xs ++ x ∷ []) (suc (length xs)) ≡ Some x
+pub last_item : {X : Type 0} (xs : List X) (x : X) → item_numbered (xs ++ x ∷ []) (suc (length xs)) ≡ Some x
 last_item [] x = refl
 last_item (y ∷ xs) x = last_item xs x
 

@@ -6,23 +6,22 @@ use Rattle.rollout_machine.specs.Answers.{query_reply, targets_matching}
 use Rattle.rollout_machine.specs.CommandList.{CommandList}
 use Rattle.rollout_machine.specs.Commands.{Bytes, TargetRow}
 use Rattle.rollout_machine.specs.Filters.{matches, seen}
-use Rattle.rollout_machine.specs.Objects.{page_of, targets_shown}
+use Rattle.rollout_machine.specs.Objects.{page_of, target_shown, targets_shown}
 use Rattle.rollout_machine.specs.Records.{records}
 use Rattle.rollout_machine.specs.Replies.{PageOf, Refused, Reply, ShownTarget, TargetsShown}
 use Rattle.rollout_machine.specs.Requests.{Page, ShowTargets}
+use Rattle.rollout_machine.specs.StateWords.{target_word}
 use Rattle.rollout_machine.specs.Targets.{Target, last_row_of, target_ids, target_in, targets}
 use Rattle.rollout_machine.specs.Verdicts.{target_of}
 use Rattle.rollout_model.specs.declared.refusal.Refusal.TheVariants.{BadFilter}
-use Rattle.rollout_model.specs.declared.request.Command.{Command}
 use Rattle.rollout_model.specs.declared.target.Target.{Target as SeenTarget}
 use Rattle.rollout_model.specs.Rules.{is_word, word_of}
 use Rattle.target_filter.specs.Grammar.{Tree}
 use Rattle.target_filter.specs.Meaning.{holds}
 use Rattle.target_filter.specs.Profile.{IsInProfile, filter_of}
 use Rattle.target_filter.proofs.Profiles.{tree_filter}
-use Rattle.rollout_program.specs.Fleet.{chosen, unassigned}
-use Rattle.rollout_program.specs.Lists.{list_from}
-use Rattle.rollout_program.proofs.TargetLemmas.{target_is, unassigned_word}
+use Rattle.rollout_program.specs.Fleet.{chosen, shown_with}
+use Rattle.rollout_program.proofs.TargetLemmas.{target_is}
 
 -- ---- one more target of an id
 
@@ -68,44 +67,45 @@ kept_are_chosen text wanted targets kept same profile keeps =
 
 -- ---- the reply
 
-matching_seen : (tree : Tree) (xs : List Target) → filter (holds tree) (map seen xs) ≡ map seen (filter (matches tree) xs)
+pub matching_seen : (tree : Tree) (xs : List Target) → filter (holds tree) (map seen xs) ≡ map seen (filter (matches tree) xs)
 matching_seen tree [] = refl
 matching_seen tree (x ∷ xs) = go (matches tree x) (matching_seen tree xs) where
   go : (b : Bool) → filter (holds tree) (map seen xs) ≡ map seen (filter (matches tree) xs) → cond b (seen x ∷ filter (holds tree) (map seen xs)) (filter (holds tree) (map seen xs)) ≡ map seen (cond b (x ∷ filter (matches tree) xs) (filter (matches tree) xs))
   go true rest = ap (λ (ys : List SeenTarget). seen x ∷ ys) rest
   go false rest = rest
 
-module _ (approval : Bool) (commands : List Command) where
-  shown_are : (xs : List Target) → targets_shown (records (list_from approval commands)) xs ≡ map unassigned (map seen xs)
+module _ (h : CommandList) where
+  pub shown_are : (xs : List Target) → targets_shown (records h) xs ≡ map (shown_with (target_word (records h))) (map seen xs)
   shown_are [] = refl
-  shown_are (x ∷ xs) = λ i. record { id = x.id; name = x.name; tags = x.tags; attributes = x.attributes; word = unassigned_word approval commands x.id i } ∷ shown_are xs i
+  shown_are (x ∷ xs) = ap (λ (ys : List ShownTarget). target_shown (records h) x ∷ ys) (shown_are xs)
 
-  page_shown : (page : Page) (xs : List Target) → page_of page (targets_shown (records (list_from approval commands)) xs) ≡ record { content = map unassigned (take page.limit (drop page.offset (map seen xs))); total = length (map seen xs) }
+  pub page_shown : (page : Page) (xs : List Target) → page_of page (targets_shown (records h) xs) ≡ record { content = map (shown_with (target_word (records h))) (take page.limit (drop page.offset (map seen xs))); total = length (map seen xs) }
   page_shown page xs =
-      let content : take page.limit (drop page.offset (map unassigned (map seen xs))) ≡ map unassigned (take page.limit (drop page.offset (map seen xs))) =
-      ap (take page.limit) (drop-map unassigned page.offset (map seen xs)) ∙ take-map unassigned page.limit (drop page.offset (map seen xs)) in
-      ap (page_of page) (shown_are xs) ∙ (λ i. record { content = content i; total = length-map (map seen xs) unassigned i })
+      let word : SeenTarget → ShownTarget = shown_with (target_word (records h)) in
+      let content : take page.limit (drop page.offset (map word (map seen xs))) ≡ map word (take page.limit (drop page.offset (map seen xs))) =
+      ap (take page.limit) (drop-map word page.offset (map seen xs)) ∙ take-map word page.limit (drop page.offset (map seen xs)) in
+      ap (page_of page) (shown_are xs) ∙ (λ i. record { content = content i; total = length-map (map seen xs) word i })
 
   -- what the reply is, by the targets that are chosen
   told : Page → Option (List SeenTarget) → Reply
   told page None = Refused BadFilter
-  told page (Some ts) = TargetsShown (record { content = map unassigned (take page.limit (drop page.offset ts)); total = length ts })
+  told page (Some ts) = TargetsShown (record { content = map (shown_with (target_word (records h))) (take page.limit (drop page.offset ts)); total = length ts })
 
-  reply_is : (text : Option Bytes) (page : Page) → query_reply (records (list_from approval commands)) (ShowTargets text page) ≡ told page (chosen text (map seen (targets (list_from approval commands))))
+  reply_is : (text : Option Bytes) (page : Page) → query_reply (records h) (ShowTargets text page) ≡ told page (chosen text (map seen (targets h)))
   unfolding records told
-  reply_is None page = ap TargetsShown (page_shown page (targets (list_from approval commands)))
+  reply_is None page = ap TargetsShown (page_shown page (targets h))
   reply_is (Some text) page = go (filter_of text) where
-    go : (o : Option Tree) → targets_matching (records (list_from approval commands)) page o ≡ told page (option_map (λ (tree : Tree). filter (holds tree) (map seen (targets (list_from approval commands)))) o)
+    go : (o : Option Tree) → targets_matching (records h) page o ≡ told page (option_map (λ (tree : Tree). filter (holds tree) (map seen (targets h))) o)
     go None = refl
-    go (Some tree) = ap TargetsShown (page_shown page (filter (matches tree) (targets (list_from approval commands)))) ∙ ap (λ (ts : List SeenTarget). told page (Some ts)) (sym (matching_seen tree (targets (list_from approval commands))))
+    go (Some tree) = ap TargetsShown (page_shown page (filter (matches tree) (targets h))) ∙ ap (λ (ts : List SeenTarget). told page (Some ts)) (sym (matching_seen tree (targets h)))
 
-  pub bad_filter : (text : Option Bytes) (page : Page) (ts : List SeenTarget) → ts ≡ map seen (targets (list_from approval commands)) → chosen text ts ≡ None → query_reply (records (list_from approval commands)) (ShowTargets text page) ≡ Refused BadFilter
+  pub bad_filter : (text : Option Bytes) (page : Page) (ts : List SeenTarget) → ts ≡ map seen (targets h) → chosen text ts ≡ None → query_reply (records h) (ShowTargets text page) ≡ Refused BadFilter
   unfolding told
   bad_filter text page ts all none = reply_is text page ∙ ap (λ (xs : List SeenTarget). told page (chosen text xs)) (sym all) ∙ ap (told page) none
 
-  pub targets_paged : (text : Option Bytes) (page : Page) (ts found : List SeenTarget) (p : PageOf SeenTarget) (content : List ShownTarget) → ts ≡ map seen (targets (list_from approval commands)) → chosen text ts ≡ Some found → p ≡ page_of page found
-      → content ≡ map unassigned p.content → query_reply (records (list_from approval commands)) (ShowTargets text page) ≡ TargetsShown (record { content = content; total = p.total })
+  pub targets_paged : (text : Option Bytes) (page : Page) (ts found : List SeenTarget) (p : PageOf SeenTarget) (content : List ShownTarget) → ts ≡ map seen (targets h) → chosen text ts ≡ Some found → p ≡ page_of page found
+      → content ≡ map (shown_with (target_word (records h))) p.content → query_reply (records h) (ShowTargets text page) ≡ TargetsShown (record { content = content; total = p.total })
   unfolding told
   targets_paged text page ts found p content all is paged shown =
       reply_is text page ∙ ap (λ (xs : List SeenTarget). told page (chosen text xs)) (sym all) ∙ ap (told page) is
-      ∙ ap (λ (q : PageOf SeenTarget). TargetsShown (record { content = map unassigned q.content; total = q.total })) (sym paged) ∙ ap (λ (cs : List ShownTarget). TargetsShown (record { content = cs; total = p.total })) (sym shown)
+      ∙ ap (λ (q : PageOf SeenTarget). TargetsShown (record { content = map (shown_with (target_word (records h))) q.content; total = q.total })) (sym paged) ∙ ap (λ (cs : List ShownTarget). TargetsShown (record { content = cs; total = p.total })) (sym shown)

@@ -7,3 +7,13 @@ mod RowLemmas
 mod AttributeLemmas
 mod FleetLemmas
 mod TargetLemmas
+mod CampaignLemmas
+mod GroupLemmas
+mod MemberLemmas
+mod VerdictLemmas
+mod PlanLemmas
+mod TargetWordLemmas
+mod ShownLemmas
+mod ActionLemmas
+mod OfferLemmas
+mod MemberPageLemmas

@@ -9,52 +9,52 @@ use Rattle.rollout_machine.specs.ByteStrings.{item_numbered}
 use Rattle.rollout_machine.specs.CommandList.{CommandList, Make, ◌▸◌, followed_by}
 use Rattle.rollout_machine.specs.Commands.{Command as MachineCommand, ModuleLabel, SetLabel}
 use Rattle.rollout_machine.specs.Records.{ArtifactRecord, added_artifacts, added_modules, added_sets, artifacts, modules, needs_approval, sets}
-use Rattle.rollout_machine.specs.Views.{command_of}
-use Rattle.rollout_model.specs.declared.request.Command.{Command}
+use Rattle.rollout_program.specs.Lists.{accepted_command}
+use Rattle.rollout_program.specs.declared.accepted.Accepted.{Accepted}
 use Rattle.rollout_program.specs.Lists.{list_from}
 
-one_after : (h : CommandList) (commands : List Command) (c : Command) → followed_by h (map command_of (commands ++ c ∷ [])) ≡ followed_by h (map command_of commands) ▸ command_of c
+one_after : (h : CommandList) (commands : List Accepted) (c : Accepted) → followed_by h (map accepted_command (commands ++ c ∷ [])) ≡ followed_by h (map accepted_command commands) ▸ accepted_command c
 one_after h [] c = refl
-one_after h (d ∷ commands) c = one_after (h ▸ command_of d) commands c
+one_after h (d ∷ commands) c = one_after (h ▸ accepted_command d) commands c
 
 -- the list of one command more
-pub list_with : (approval : Bool) (commands : List Command) (c : Command) → list_from approval (commands ++ c ∷ []) ≡ list_from approval commands ▸ command_of c
+pub list_with : (approval : Bool) (commands : List Accepted) (c : Accepted) → list_from approval (commands ++ c ∷ []) ≡ list_from approval commands ▸ accepted_command c
 list_with approval commands c = one_after (Make approval) commands c
 
-list_more : (approval : Bool) (commands : List Command) (i : ℕ) (c : Command) → i < length commands → c ≡ get_or commands i c
-    → list_from approval (take (i + 1) commands) ≡ list_from approval (take i commands) ▸ command_of c
+pub list_more : (approval : Bool) (commands : List Accepted) (i : ℕ) (c : Accepted) → i < length commands → c ≡ get_or commands i c
+    → list_from approval (take (i + 1) commands) ≡ list_from approval (take i commands) ▸ accepted_command c
 list_more approval commands i c below is =
-    ap (list_from approval) (take_more commands i c below ∙ ap (λ (d : Command). take i commands ++ d ∷ []) (sym is)) ∙ list_with approval (take i commands) c
+    ap (list_from approval) (take_more commands i c below ∙ ap (λ (d : Accepted). take i commands ++ d ∷ []) (sym is)) ∙ list_with approval (take i commands) c
 
 -- ---- a loop's step
 
 -- of whatever follows from what it was before a command
-pub said_more : {S : Type 0} (of : CommandList → S) (step : MachineCommand → S → S) → ((h : CommandList) (c : MachineCommand) → of (h ▸ c) ≡ step c (of h)) → (approval : Bool) (commands : List Command) (i : ℕ) (c : Command) (before after : S)
-    → i < length commands → c ≡ get_or commands i c → before ≡ of (list_from approval (take i commands)) → after ≡ step (command_of c) before → after ≡ of (list_from approval (take (i + 1) commands))
+pub said_more : {S : Type 0} (of : CommandList → S) (step : MachineCommand → S → S) → ((h : CommandList) (c : MachineCommand) → of (h ▸ c) ≡ step c (of h)) → (approval : Bool) (commands : List Accepted) (i : ℕ) (c : Accepted) (before after : S)
+    → i < length commands → c ≡ get_or commands i c → before ≡ of (list_from approval (take i commands)) → after ≡ step (accepted_command c) before → after ≡ of (list_from approval (take (i + 1) commands))
 said_more of step follows approval commands i c before after below is so_far more =
-    more ∙ ap (step (command_of c)) so_far ∙ sym (follows (list_from approval (take i commands)) (command_of c)) ∙ ap of (sym (list_more approval commands i c below is))
+    more ∙ ap (step (accepted_command c)) so_far ∙ sym (follows (list_from approval (take i commands)) (accepted_command c)) ∙ ap of (sym (list_more approval commands i c below is))
 
-pub modules_more : (approval : Bool) (commands : List Command) (i : ℕ) (c : Command) (before after : List ModuleLabel) → i < length commands → c ≡ get_or commands i c
-    → before ≡ modules (list_from approval (take i commands)) → after ≡ before ++ added_modules (command_of c) → after ≡ modules (list_from approval (take (i + 1) commands))
+pub modules_more : (approval : Bool) (commands : List Accepted) (i : ℕ) (c : Accepted) (before after : List ModuleLabel) → i < length commands → c ≡ get_or commands i c
+    → before ≡ modules (list_from approval (take i commands)) → after ≡ before ++ added_modules (accepted_command c) → after ≡ modules (list_from approval (take (i + 1) commands))
 modules_more approval commands i c before after below is so_far more =
-    more ∙ ap (λ (ms : List ModuleLabel). ms ++ added_modules (command_of c)) so_far ∙ ap modules (sym (list_more approval commands i c below is))
+    more ∙ ap (λ (ms : List ModuleLabel). ms ++ added_modules (accepted_command c)) so_far ∙ ap modules (sym (list_more approval commands i c below is))
 
-pub sets_more : (approval : Bool) (commands : List Command) (i : ℕ) (c : Command) (before after : List SetLabel) → i < length commands → c ≡ get_or commands i c
-    → before ≡ sets (list_from approval (take i commands)) → after ≡ before ++ added_sets (command_of c) → after ≡ sets (list_from approval (take (i + 1) commands))
+pub sets_more : (approval : Bool) (commands : List Accepted) (i : ℕ) (c : Accepted) (before after : List SetLabel) → i < length commands → c ≡ get_or commands i c
+    → before ≡ sets (list_from approval (take i commands)) → after ≡ before ++ added_sets (accepted_command c) → after ≡ sets (list_from approval (take (i + 1) commands))
 sets_more approval commands i c before after below is so_far more =
-    more ∙ ap (λ (ss : List SetLabel). ss ++ added_sets (command_of c)) so_far ∙ ap sets (sym (list_more approval commands i c below is))
+    more ∙ ap (λ (ss : List SetLabel). ss ++ added_sets (accepted_command c)) so_far ∙ ap sets (sym (list_more approval commands i c below is))
 
-pub artifacts_more : (approval : Bool) (commands : List Command) (i : ℕ) (c : Command) (before after : List ArtifactRecord) → i < length commands → c ≡ get_or commands i c
-    → before ≡ artifacts (list_from approval (take i commands)) → after ≡ before ++ added_artifacts (command_of c) → after ≡ artifacts (list_from approval (take (i + 1) commands))
+pub artifacts_more : (approval : Bool) (commands : List Accepted) (i : ℕ) (c : Accepted) (before after : List ArtifactRecord) → i < length commands → c ≡ get_or commands i c
+    → before ≡ artifacts (list_from approval (take i commands)) → after ≡ before ++ added_artifacts (accepted_command c) → after ≡ artifacts (list_from approval (take (i + 1) commands))
 artifacts_more approval commands i c before after below is so_far more =
-    more ∙ ap (λ (as' : List ArtifactRecord). as' ++ added_artifacts (command_of c)) so_far ∙ ap artifacts (sym (list_more approval commands i c below is))
+    more ∙ ap (λ (as' : List ArtifactRecord). as' ++ added_artifacts (accepted_command c)) so_far ∙ ap artifacts (sym (list_more approval commands i c below is))
 
-approval_after : (h : CommandList) (commands : List Command) → needs_approval (followed_by h (map command_of commands)) ≡ needs_approval h
+pub approval_after : (h : CommandList) (commands : List Accepted) → needs_approval (followed_by h (map accepted_command commands)) ≡ needs_approval h
 approval_after h [] = refl
-approval_after h (c ∷ commands) = approval_after (h ▸ command_of c) commands
+approval_after h (c ∷ commands) = approval_after (h ▸ accepted_command c) commands
 
 -- the list is made of what is shown of it
-pub shown_whole : (approval : Bool) (commands shown : List Command) → shown ≡ commands → list_from approval commands ≡ list_from (needs_approval (list_from approval commands)) shown
+pub shown_whole : (approval : Bool) (commands shown : List Accepted) → shown ≡ commands → list_from approval commands ≡ list_from (needs_approval (list_from approval commands)) shown
 shown_whole approval commands shown same =
     ap (λ (b : Bool). list_from b commands) (sym (approval_after (Make approval) commands)) ∙ ap (list_from (needs_approval (list_from approval commands))) (sym same)
 

@@ -5,13 +5,13 @@ use Rattle.rollout_machine.specs.Objects.{numbered, artifact_shown, artifacts_sh
 use Rattle.rollout_machine.specs.Records.{ArtifactRecord}
 use Rattle.rollout_machine.specs.Replies.{Artifact}
 
-numbered_more : {X Y : Type 0} (f : ℕ → X → Y) (k : ℕ) (xs : List X) (x : X) → numbered f k (xs ++ x ∷ []) ≡ numbered f k xs ++ f (k + length xs) x ∷ []
+pub numbered_more : {X Y : Type 0} (f : ℕ → X → Y) (k : ℕ) (xs : List X) (x : X) → numbered f k (xs ++ x ∷ []) ≡ numbered f k xs ++ f (k + length xs) x ∷ []
 numbered_more f k [] x = let none : k ≡ k + 0 = omega arith in ap (λ n. f n x ∷ []) none
 numbered_more f k (y ∷ xs) x =
     let next : suc k + length xs ≡ k + suc (length xs) = omega arith in
     ap (λ ys. f k y ∷ ys) (numbered_more f (suc k) xs x ∙ ap (λ n. numbered f (suc k) xs ++ f n x ∷ []) next)
 
-cond_append : {Y : Type 0} (b : Bool) (y : Y) (ys zs : List Y) → cond b (y ∷ (ys ++ zs)) (ys ++ zs) ≡ cond b (y ∷ ys) ys ++ zs
+pub cond_append : {Y : Type 0} (b : Bool) (y : Y) (ys zs : List Y) → cond b (y ∷ (ys ++ zs)) (ys ++ zs) ≡ cond b (y ∷ ys) ys ++ zs
 cond_append true y ys zs = refl
 cond_append false y ys zs = refl
 

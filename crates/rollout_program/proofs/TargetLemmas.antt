@@ -3,33 +3,28 @@ use Rattle.std.proofs.Common.{◌≡◌, ◌<◌, ◌≤◌, Bool, true, false, 
 use Rattle.std.proofs.lemmas.Bool.{false≢true}
 use Rattle.std.proofs.lemmas.List.{length-map}
 use Rattle.std.proofs.lemmas.Bool.Decides.{nat_tests}
-use Rattle.std.specs.Prelude.{filter, is_some}
+use Rattle.std.specs.Prelude.{is_some}
 use Rattle.std.specs.List.{find, list_any}
 use Rattle.std.specs.Option.{is_none}
-use Rattle.rollout_machine.specs.Actions.{ActionPlace, action_places}
 use Rattle.rollout_machine.specs.Answers.{if_found, query_reply}
 use Rattle.rollout_machine.specs.ByteStrings.{contains_word, same_bytes, with_words}
-use Rattle.rollout_machine.specs.CommandList.{CommandList, Make, followed_by}
+use Rattle.rollout_machine.specs.CommandList.{CommandList}
 use Rattle.rollout_machine.specs.Commands.{Attribute, Bytes, Credential, TargetRow, PutAttributes, PutTargets, Tag, Untag}
 use Rattle.rollout_machine.specs.Filters.{seen}
 use Rattle.rollout_machine.specs.Objects.{target_shown}
-use Rattle.rollout_machine.specs.Records.{ActionRecord, action_in, records}
+use Rattle.rollout_machine.specs.Records.{records}
 use Rattle.rollout_machine.specs.Replies.{Refused, ShownTarget, TargetShown}
 use Rattle.rollout_machine.specs.Requests.{ShowTarget}
-use Rattle.rollout_machine.specs.StateWords.{Unknown, Pending, has_started, is_for, target_word, word_by_last}
+use Rattle.rollout_machine.specs.StateWords.{target_word}
 use Rattle.rollout_machine.specs.Targets.{Target, attributes_in, last_row_of, tags_in, target_ids, target_in, with_attributes}
 use Rattle.rollout_machine.specs.Verdicts.{first_refusal, is_known, keys_of, tags_of, target_of, verdict}
-use Rattle.rollout_machine.specs.Views.{command_of}
 use Rattle.rollout_machine.proofs.TargetMeanings.{targets_are_named}
 use Rattle.rollout_machine.proofs.TargetTies.{same_refl, same_true}
 use Rattle.rollout_model.specs.declared.refusal.Refusal.{Refusal}
 use Rattle.rollout_model.specs.declared.refusal.Refusal.TheVariants.{NotFound, Quota, Unauthorized}
-use Rattle.rollout_model.specs.declared.request.Command.{Command}
-use Rattle.rollout_model.specs.declared.request.Command.TheVariants.{AddModule as RustAddModule, AddArtifact as RustAddArtifact, AddSet as RustAddSet, PutTargets as RustPutTargets, Tag as RustTag, Untag as RustUntag, PutAttributes as RustPutAttributes}
 use Rattle.rollout_model.specs.declared.target.Target.{Target as SeenTarget}
 use Rattle.rollout_model.specs.Rules.{is_tag_list, tag_list_of}
-use Rattle.rollout_program.specs.Fleet.{unassigned}
-use Rattle.rollout_program.specs.Lists.{list_from}
+use Rattle.rollout_program.specs.Fleet.{shown_with}
 use Rattle.rollout_program.proofs.AttributeLemmas.{keys_are}
 
 -- ---- who is there
@@ -122,40 +117,20 @@ untag_accepted h t x row is = ap untag_verdict (target_by h t (Some row) is)
 
 -- ---- what is shown of a target
 
--- no command here starts a rollout
-no_actions_after : (h : CommandList) (commands : List Command) → action_places h ≡ [] → action_places (followed_by h (map command_of commands)) ≡ []
-no_actions_after h [] none = none
-no_actions_after h (RustAddModule label ∷ commands) none = no_actions_after _ commands (rw none refl)
-no_actions_after h (RustAddArtifact upload ∷ commands) none = no_actions_after _ commands (rw none refl)
-no_actions_after h (RustAddSet label ∷ commands) none = no_actions_after _ commands (rw none refl)
-no_actions_after h (RustPutTargets rows ∷ commands) none = no_actions_after _ commands (rw none refl)
-no_actions_after h (RustTag t x ∷ commands) none = no_actions_after _ commands (rw none refl)
-no_actions_after h (RustUntag t x ∷ commands) none = no_actions_after _ commands (rw none refl)
-no_actions_after h (RustPutAttributes device given ∷ commands) none = no_actions_after _ commands (rw none refl)
-
-word_without_actions : (h : CommandList) (t : Bytes) → action_places h ≡ [] → target_word (records h) t ≡ Unknown
-unfolding records
-word_without_actions h t none =
-    let started : ActionRecord → Bool = λ (a : ActionRecord). is_for (records h) t a && has_started (records h) a in
-    ap (λ (ps : List ActionPlace). cond (list_any (λ (a : ActionRecord). is_none a.outcome) (filter started (map (action_in h) ps))) Pending (word_by_last Unknown (filter started (map (action_in h) ps)))) none
-
-pub unassigned_word : (approval : Bool) (commands : List Command) (t : Bytes) → target_word (records (list_from approval commands)) t ≡ Unknown
-unassigned_word approval commands t = word_without_actions (list_from approval commands) t (no_actions_after (Make approval) commands refl)
-
 pub target_missing : (h : CommandList) (t : Bytes) → None ≡ option_map seen (target_of (records h) t) → query_reply (records h) (ShowTarget t) ≡ Refused NotFound
 target_missing h t is = go (target_of (records h) t) is where
   go : (o : Option Target) → None ≡ option_map seen o → if_found (λ (x : Target). TargetShown (target_shown (records h) x)) o ≡ Refused NotFound
   go None same = refl
   go (Some x) same = absurd (cc)
 
-pub target_found : (approval : Bool) (commands : List Command) (t : Bytes) (found : SeenTarget) (shown : ShownTarget) → Some found ≡ option_map seen (target_of (records (list_from approval commands)) t) → shown ≡ unassigned found
-    → query_reply (records (list_from approval commands)) (ShowTarget t) ≡ TargetShown shown
-target_found approval commands t found shown is same = go (target_of (records (list_from approval commands)) t) is where
-  go : (o : Option Target) → Some found ≡ option_map seen o → if_found (λ (x : Target). TargetShown (target_shown (records (list_from approval commands)) x)) o ≡ TargetShown shown
+pub target_found : (h : CommandList) (t : Bytes) (found : SeenTarget) (shown : ShownTarget) → Some found ≡ option_map seen (target_of (records h) t) → shown ≡ shown_with (target_word (records h)) found
+    → query_reply (records h) (ShowTarget t) ≡ TargetShown shown
+target_found h t found shown is same = go (target_of (records h) t) is where
+  go : (o : Option Target) → Some found ≡ option_map seen o → if_found (λ (x : Target). TargetShown (target_shown (records h) x)) o ≡ TargetShown shown
   go None e = absurd (cc)
   go (Some x) e =
       let seen_is : found ≡ seen x = (cc) in
-      (λ i. TargetShown (record { id = x.id; name = x.name; tags = x.tags; attributes = x.attributes; word = unassigned_word approval commands x.id i })) ∙ ap (λ (v : SeenTarget). TargetShown (unassigned v)) (sym seen_is) ∙ ap TargetShown (sym same)
+      ap (λ (v : SeenTarget). TargetShown (shown_with (target_word (records h)) v)) (sym seen_is) ∙ ap TargetShown (sym same)
 
 name_by : (h : CommandList) (t : Bytes) (row : TargetRow) → Some row ≡ last_row_of t h → (target_in h t).name ≡ row.name
 name_by h t row is = rw (sym is) refl

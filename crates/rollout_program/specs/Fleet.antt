@@ -1,9 +1,9 @@
--- Targets as filters see them, and as they are shown while no rollout has started.
+-- Targets as filters see them, and as they are shown.
 use Rattle.std.specs.Prelude.{List, filter, Option, Some, None}
 use Rattle.std.specs.Option.{option_map}
 use Rattle.rollout_machine.specs.Commands.{Bytes}
 use Rattle.rollout_machine.specs.Replies.{ShownTarget}
-use Rattle.rollout_machine.specs.StateWords.{Unknown}
+use Rattle.rollout_machine.specs.StateWords.{TargetWord}
 use Rattle.rollout_model.specs.declared.target.Target.{Target as SeenTarget}
 use Rattle.target_filter.specs.Grammar.{Tree}
 use Rattle.target_filter.specs.Meaning.{holds}
@@ -14,6 +14,6 @@ abbrev pub chosen : Option Bytes → List SeenTarget → Option (List SeenTarget
 chosen None targets = Some targets
 chosen (Some text) targets = option_map (λ (tree : Tree). filter (holds tree) targets) (filter_of text)
 
--- a target that no rollout has given an action
-abbrev pub unassigned : SeenTarget → ShownTarget
-unassigned t = record { id = t.id; name = t.name; tags = t.tags; attributes = t.attributes; word = Unknown }
+-- a target with its word
+abbrev pub shown_with : (Bytes → TargetWord) → SeenTarget → ShownTarget
+shown_with word t = record { id = t.id; name = t.name; tags = t.tags; attributes = t.attributes; word = word t.id }

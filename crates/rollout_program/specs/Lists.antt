@@ -2,17 +2,22 @@
 use Rattle.std.specs.Prelude.{Bool, ◌&&◌, List, map, nat_eq}
 use Rattle.rollout_machine.specs.ByteStrings.{same_bytes}
 use Rattle.rollout_machine.specs.CommandList.{CommandList, Make, followed_by}
-use Rattle.rollout_machine.specs.Commands.{ModuleLabel, SetLabel, Upload}
+use Rattle.rollout_machine.specs.Commands.{Command, ModuleLabel, SetLabel, Upload}
 use Rattle.rollout_machine.specs.Objects.{numbered}
 use Rattle.rollout_machine.specs.Records.{ArtifactRecord}
 use Rattle.rollout_machine.specs.Replies.{Module}
 use Rattle.rollout_machine.specs.Verdicts.{is_named_by_set}
-use Rattle.rollout_machine.specs.Views.{command_of}
-use Rattle.rollout_model.specs.declared.request.Command.{Command}
+use Rattle.rollout_machine.specs.Views.{command_of, rollout_command_of}
+use Rattle.rollout_program.specs.declared.accepted.Accepted.{Accepted}
+use Rattle.rollout_program.specs.declared.accepted.Accepted.TheVariants.{Inventory, Rollout}
+
+abbrev pub accepted_command : Accepted → Command
+accepted_command (Inventory command) = command_of command
+accepted_command (Rollout command) = rollout_command_of command
 
 -- how the desk was made, and then these commands, the oldest first
-abbrev pub list_from : Bool → List Command → CommandList
-list_from approval commands = followed_by (Make approval) (map command_of commands)
+abbrev pub list_from : Bool → List Accepted → CommandList
+list_from approval commands = followed_by (Make approval) (map accepted_command commands)
 
 -- the name, the kind and the version of the label
 abbrev pub is_same : ModuleLabel → ModuleLabel → Bool

@@ -1,7 +1,13 @@
 -- A program is a command list.
+use Rattle.std.specs.Prelude.{Bool, List}
 use Rattle.rollout_machine.specs.CommandList.{CommandList}
 use Rattle.rollout_program.specs.Lists.{list_from}
-use Rattle.rollout_program.specs.declared.program.Program.{Program}
+use Rattle.rollout_program.specs.declared.accepted.Accepted.{Accepted}
 
-abbrev pub list_of : Program → CommandList
-list_of program = list_from program.approval program.commands.items
+-- whether the desk wants approval, and the accepted commands, the oldest first
+pub record Kept : Type 0 where
+  pub approval : Bool
+  pub commands : List Accepted
+
+abbrev pub list_of : Kept → CommandList
+list_of kept = list_from kept.approval kept.commands

@@ -8,12 +8,14 @@ ghost use Rattle.rollout_machine.specs.Commands.{AddArtifact};
 ghost use Rattle.rollout_machine.specs.Objects.{artifact_shown, artifacts_shown};
 ghost use Rattle.rollout_machine.specs.Records.{artifact_from};
 ghost use Rattle.rollout_machine.specs.Requests.{ShowArtifacts, ShowArtifact, ShowContents};
+ghost use Rattle.rollout_machine.specs.Views.{reply_of};
 ghost use Rattle.rollout_machine.specs.Verdicts.{wrong_digest};
 ghost use Rattle.rollout_model.specs.declared.refusal.Refusal.TheVariants.{NoMemory};
 ghost use Rattle.rollout_program.specs.Lists.{list_from, is_same_artifact};
 ghost use Rattle.rollout_program.specs.Refusals.{upload_refusal};
 ghost use Rattle.rollout_program.specs.Steps.{Previews, Shows};
 
+use crate::accepted::Accepted;
 use crate::listed::{
     artifact_numbered, artifacts, count_of_module, has_artifact, is_missing, is_named, modules,
     sets,
@@ -21,8 +23,7 @@ use crate::listed::{
 use crate::pages::{count_of, page_of};
 use artifact_pieces::describe;
 use rollout_model::{
-    Artifact, ArtifactNo, Command, Digest, ModuleLabel, ModuleNo, Page, Refusal, Reply, SetLabel,
-    Upload,
+    Artifact, ArtifactNo, Digest, ModuleLabel, ModuleNo, Page, Refusal, Reply, SetLabel, Upload,
 };
 use std::alloc::Global;
 
@@ -105,10 +106,10 @@ fn shown(number: ArtifactNo, upload: &Upload) -> Artifact
 /// What an artifact that is added is answered with.
 pub(crate) fn preview_artifact(
     alloc: Global,
-    commands: &[Command],
+    commands: &[Accepted],
     upload: &Upload,
 ) -> Result<Reply, Refusal>
-    ensures { (approval : _) → Previews (list_from approval commands.now) (AddArtifact upload.now) result }
+    ensures { (approval : _) → Previews reply_of (list_from approval commands.now) (AddArtifact upload.now) result }
 {
     let modules = modules(alloc, commands)?;
     let sets = sets(alloc, commands)?;
@@ -125,11 +126,11 @@ pub(crate) fn preview_artifact(
 /// The artifact of a number, where it is one of the module's.
 pub(crate) fn show_artifact(
     alloc: Global,
-    commands: &[Command],
+    commands: &[Accepted],
     module_number: ModuleNo,
     number: ArtifactNo,
 ) -> Result<Reply, Refusal>
-    ensures { (approval : _) → Shows (list_from approval commands.now) (ShowArtifact module_number number) result }
+    ensures { (approval : _) → Shows reply_of (list_from approval commands.now) (ShowArtifact module_number number) result }
 {
     let artifacts = artifacts(alloc, commands)?;
     match artifact_numbered(&artifacts, module_number, number) {
@@ -141,11 +142,11 @@ pub(crate) fn show_artifact(
 /// The contents of an artifact, where it is one of the module's.
 pub(crate) fn show_contents(
     alloc: Global,
-    commands: &[Command],
+    commands: &[Accepted],
     module_number: ModuleNo,
     number: ArtifactNo,
 ) -> Result<Reply, Refusal>
-    ensures { (approval : _) → Shows (list_from approval commands.now) (ShowContents module_number number) result }
+    ensures { (approval : _) → Shows reply_of (list_from approval commands.now) (ShowContents module_number number) result }
 {
     let artifacts = artifacts(alloc, commands)?;
     match artifact_numbered(&artifacts, module_number, number) {
@@ -172,7 +173,7 @@ fn push_shown(
 }
 
 /// The artifacts of the module as they are shown, in order of their numbers.
-fn shown_of_module(
+pub(crate) fn shown_of_module(
     alloc: Global,
     artifacts: &[&Upload],
     module_number: ModuleNo,
@@ -192,11 +193,11 @@ fn shown_of_module(
 /// A page of the artifacts of a module.
 pub(crate) fn show_artifacts(
     alloc: Global,
-    commands: &[Command],
+    commands: &[Accepted],
     module_number: ModuleNo,
     page: Page,
 ) -> Result<Reply, Refusal>
-    ensures { (approval : _) → Shows (list_from approval commands.now) (ShowArtifacts module_number page) result }
+    ensures { (approval : _) → Shows reply_of (list_from approval commands.now) (ShowArtifacts module_number page) result }
 {
     let modules = modules(alloc, commands)?;
     if is_missing(&modules, module_number) {

@@ -2,10 +2,10 @@
 
 ghost use Rattle.std.specs.Prelude.{◌≡◌, IfOk, OnOk};
 ghost use Rattle.rollout_machine.specs.Targets.{attributes_after, attributes_in, with_attribute, with_attributes};
-ghost use Rattle.rollout_machine.specs.Views.{command_of};
-ghost use Rattle.rollout_program.specs.Lists.{list_from};
+ghost use Rattle.rollout_program.specs.Lists.{accepted_command, list_from};
 ghost use Rattle.rollout_program.specs.Words.{IsAttributePlace};
 
+use crate::accepted::Accepted;
 use crate::words::{is_below, same_word};
 use rollout_model::{Attribute, Attributes, Command, ControllerId, Word};
 use std::alloc::{AllocError, Global};
@@ -54,13 +54,13 @@ pub(crate) fn add_attributes(
 fn change_attributes(
     alloc: Global,
     attributes: &mut Vec<Attribute>,
-    command: &Command,
+    command: &Accepted,
     id: &ControllerId,
 ) -> Result<(), AllocError>
-    ensures { OnOk result (attributes.new.items ≡ attributes_after id.now (command_of command.now) attributes.old.items) }
+    ensures { OnOk result (attributes.new.items ≡ attributes_after id.now (accepted_command command.now) attributes.old.items) }
 {
     match command {
-        Command::PutAttributes(device, given) => {
+        Accepted::Inventory(Command::PutAttributes(device, given)) => {
             if *id == device.id {
                 add_attributes(alloc, attributes, given.as_slice())?;
             }
@@ -73,7 +73,7 @@ fn change_attributes(
 /// The attributes of the target, in byte order of their keys.
 pub(crate) fn attributes_in(
     alloc: Global,
-    commands: &[Command],
+    commands: &[Accepted],
     id: &ControllerId,
 ) -> Result<Vec<Attribute>, AllocError>
     ensures { IfOk result (λ found. (approval : _) → found.items ≡ attributes_in id.now (list_from approval commands.now)) }

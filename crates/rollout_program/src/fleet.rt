@@ -13,16 +13,17 @@ ghost use Rattle.target_filter.specs.Profile.{IsInProfile, filter_of};
 ghost use Rattle.rollout_program.specs.Fleet.{chosen};
 ghost use Rattle.rollout_program.specs.Lists.{list_from};
 
+use crate::accepted::Accepted;
 use crate::attributes::{attributes_in, listed};
 use crate::rows::{last_row_of, tags_in, target_ids};
-use rollout_model::{Command, ControllerId, FilterText, Refusal, Tags, Target};
+use rollout_model::{ControllerId, FilterText, Refusal, Tags, Target};
 use std::alloc::Global;
 use target_filter::{Filter, FilterFault};
 
 /// The target of an id. More tags than a target takes, which none has in a list of accepted commands, count as want of memory.
 pub(crate) fn target_of(
     alloc: Global,
-    commands: &[Command],
+    commands: &[Accepted],
     id: &ControllerId,
 ) -> Result<Option<Target>, Refusal>
     ensures { MatchResult result
@@ -48,7 +49,7 @@ pub(crate) fn target_of(
 }
 
 /// All targets, in byte order of their ids. One that isn't there, of which no id is found, counts as want of memory.
-pub(crate) fn targets(alloc: Global, commands: &[Command]) -> Result<Vec<Target>, Refusal>
+pub(crate) fn targets(alloc: Global, commands: &[Accepted]) -> Result<Vec<Target>, Refusal>
     ensures { MatchResult result
         (λ found. (approval : _) → found.items ≡ map seen (targets (list_from approval commands.now)))
         (λ e. e ≡ NoMemory) }
@@ -73,14 +74,14 @@ fn is_match(wanted: &Filter, target: &Target) -> bool
 }
 
 /// Leaves the targets that match.
-fn keep_matching(targets: &mut Vec<Target>, wanted: &Filter)
+pub(crate) fn keep_matching(targets: &mut Vec<Target>, wanted: &Filter)
     ensures { (tree : Tree) → filter_of wanted.now ≡ Some tree → targets.new.items ≡ filter (holds tree) targets.old.items }
 {
     targets.retain(|target| is_match(wanted, target));
 }
 
 /// The filter of a text.
-fn read_filter(alloc: Global, text: &FilterText) -> Result<Filter, Refusal>
+pub(crate) fn read_filter(alloc: Global, text: &FilterText) -> Result<Filter, Refusal>
     ensures { MatchResult result
         (λ filter. (filter ≡ text.now) × IsInProfile text.now)
         (λ e. (e ≡ NoMemory) ⊎ ((e ≡ BadFilter) × (filter_of text.now ≡ None))) }
@@ -93,7 +94,11 @@ fn read_filter(alloc: Global, text: &FilterText) -> Result<Filter, Refusal>
 }
 
 /// Leaves the targets that match the filter of a text.
-fn keep_chosen(alloc: Global, targets: &mut Vec<Target>, text: &FilterText) -> Result<(), Refusal>
+pub(crate) fn keep_chosen(
+    alloc: Global,
+    targets: &mut Vec<Target>,
+    text: &FilterText,
+) -> Result<(), Refusal>
     ensures { MatchResult result
         (λ _. chosen (Some text.now) targets.old.items ≡ Some targets.new.items)
         (λ e. (e ≡ NoMemory) ⊎ ((e ≡ BadFilter) × (filter_of text.now ≡ None))) }

@@ -2,20 +2,40 @@
 //! that list alone. It has no database. Tests hold it against the bodies that are fast.
 #![tactic(auto)]
 
+mod accepted;
+mod action_steps;
+mod actions_shown;
 mod artifacts;
 mod attributes;
+mod campaign;
+mod cancels;
 mod fleet;
+mod groups;
 mod listed;
+mod members_shown;
 mod modules;
+mod offers;
 mod pages;
+mod plans;
 mod program;
+mod reports;
+mod rollout_queries;
+mod rollout_steps;
+mod rollouts;
+mod rollouts_shown;
 mod rows;
 mod sets;
+mod standing;
+mod steering;
+mod target_words;
 mod targets;
 mod words;
 
+pub use accepted::Accepted;
 pub use program::Program;
 
+#[cfg(test)]
+mod rollout_tests;
 #[cfg(test)]
 mod target_tests;
 #[cfg(test)]

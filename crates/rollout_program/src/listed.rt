@@ -6,21 +6,21 @@ ghost use Rattle.std.specs.Option.{is_none};
 ghost use Rattle.rollout_machine.specs.Answers.{artifact_if};
 ghost use Rattle.rollout_machine.specs.ByteStrings.{item_numbered};
 ghost use Rattle.rollout_machine.specs.Records.{added_artifacts, added_modules, added_sets, artifact_from, artifacts, modules, sets};
-ghost use Rattle.rollout_machine.specs.Views.{command_of};
-ghost use Rattle.rollout_program.specs.Lists.{list_from, is_same, is_same_artifact, is_same_set};
+ghost use Rattle.rollout_program.specs.Lists.{accepted_command, list_from, is_same, is_same_artifact, is_same_set};
 
+use crate::accepted::Accepted;
 use rollout_model::{ArtifactNo, Command, ModuleLabel, ModuleNo, SetLabel, SetNo, Upload};
 use std::alloc::{AllocError, Global};
 
 /// Notes the module that a command adds, if it adds one.
 fn push_module<'a>(
     modules: &mut Vec<&'a ModuleLabel>,
-    command: &'a Command,
+    command: &'a Accepted,
 ) -> Result<(), AllocError>
-    ensures { OnOk result (map (λ m. m.now) modules.new.items ≡ map (λ m. m.now) modules.old.items ++ added_modules (command_of command.now)) }
+    ensures { OnOk result (map (λ m. m.now) modules.new.items ≡ map (λ m. m.now) modules.old.items ++ added_modules (accepted_command command.now)) }
 {
     match command {
-        Command::AddModule(label) => modules.push(label)?,
+        Accepted::Inventory(Command::AddModule(label)) => modules.push(label)?,
         _ => (),
     }
     Ok(())
@@ -29,30 +29,30 @@ fn push_module<'a>(
 /// Notes the artifact that a command adds, if it adds one.
 fn push_artifact<'a>(
     artifacts: &mut Vec<&'a Upload>,
-    command: &'a Command,
+    command: &'a Accepted,
 ) -> Result<(), AllocError>
-    ensures { OnOk result (map (λ a. artifact_from a.now) artifacts.new.items ≡ map (λ a. artifact_from a.now) artifacts.old.items ++ added_artifacts (command_of command.now)) }
+    ensures { OnOk result (map (λ a. artifact_from a.now) artifacts.new.items ≡ map (λ a. artifact_from a.now) artifacts.old.items ++ added_artifacts (accepted_command command.now)) }
 {
     match command {
-        Command::AddArtifact(upload) => artifacts.push(upload)?,
+        Accepted::Inventory(Command::AddArtifact(upload)) => artifacts.push(upload)?,
         _ => (),
     }
     Ok(())
 }
 
 /// Notes the set that a command adds, if it adds one.
-fn push_set<'a>(sets: &mut Vec<&'a SetLabel>, command: &'a Command) -> Result<(), AllocError>
-    ensures { OnOk result (map (λ s. s.now) sets.new.items ≡ map (λ s. s.now) sets.old.items ++ added_sets (command_of command.now)) }
+fn push_set<'a>(sets: &mut Vec<&'a SetLabel>, command: &'a Accepted) -> Result<(), AllocError>
+    ensures { OnOk result (map (λ s. s.now) sets.new.items ≡ map (λ s. s.now) sets.old.items ++ added_sets (accepted_command command.now)) }
 {
     match command {
-        Command::AddSet(label) => sets.push(label)?,
+        Accepted::Inventory(Command::AddSet(label)) => sets.push(label)?,
         _ => (),
     }
     Ok(())
 }
 
 /// The modules that were added, in order of their numbers.
-pub(crate) fn modules(alloc: Global, commands: &[Command]) -> Result<Vec<&ModuleLabel>, AllocError>
+pub(crate) fn modules(alloc: Global, commands: &[Accepted]) -> Result<Vec<&ModuleLabel>, AllocError>
     ensures { IfOk result (λ found. (approval : _) → map (λ l. l.now) found.items ≡ modules (list_from approval commands.now)) }
 {
     let mut modules = Vec::new(alloc);
@@ -63,7 +63,7 @@ pub(crate) fn modules(alloc: Global, commands: &[Command]) -> Result<Vec<&Module
 }
 
 /// The artifacts that were added, to whatever module, in order of their numbers.
-pub(crate) fn artifacts(alloc: Global, commands: &[Command]) -> Result<Vec<&Upload>, AllocError>
+pub(crate) fn artifacts(alloc: Global, commands: &[Accepted]) -> Result<Vec<&Upload>, AllocError>
     ensures { IfOk result (λ found. (approval : _) → map (λ a. artifact_from a.now) found.items ≡ artifacts (list_from approval commands.now)) }
 {
     let mut artifacts = Vec::new(alloc);
@@ -74,7 +74,7 @@ pub(crate) fn artifacts(alloc: Global, commands: &[Command]) -> Result<Vec<&Uplo
 }
 
 /// The distribution sets that were added, in order of their numbers.
-pub(crate) fn sets(alloc: Global, commands: &[Command]) -> Result<Vec<&SetLabel>, AllocError>
+pub(crate) fn sets(alloc: Global, commands: &[Accepted]) -> Result<Vec<&SetLabel>, AllocError>
     ensures { IfOk result (λ found. (approval : _) → map (λ l. l.now) found.items ≡ sets (list_from approval commands.now)) }
 {
     let mut sets = Vec::new(alloc);

@@ -3,13 +3,15 @@
 ghost use Rattle.std.specs.Prelude.{◌≡◌, map, MatchResult};
 ghost use Rattle.rollout_machine.specs.Commands.{AddModule};
 ghost use Rattle.rollout_machine.specs.Requests.{ShowModule, ShowModules};
+ghost use Rattle.rollout_machine.specs.Views.{reply_of};
 ghost use Rattle.rollout_model.specs.declared.refusal.Refusal.TheVariants.{NoMemory};
 ghost use Rattle.rollout_program.specs.Lists.{list_from, modules_seen};
 ghost use Rattle.rollout_program.specs.Steps.{Previews, Shows};
 
+use crate::accepted::Accepted;
 use crate::listed::{has_module, is_named, module_numbered, modules, sets};
 use crate::pages::{count_of, page_of};
-use rollout_model::{Command, Module, ModuleLabel, ModuleNo, Page, Refusal, Reply, SetLabel};
+use rollout_model::{Module, ModuleLabel, ModuleNo, Page, Refusal, Reply, SetLabel};
 use std::alloc::Global;
 
 /// How many modules a desk takes.
@@ -18,10 +20,10 @@ const MODULE_LIMIT: usize = 1000;
 /// What a module that is added is answered with.
 pub(crate) fn preview_module(
     alloc: Global,
-    commands: &[Command],
+    commands: &[Accepted],
     label: &ModuleLabel,
 ) -> Result<Reply, Refusal>
-    ensures { (approval : _) → Previews (list_from approval commands.now) (AddModule label.now) result }
+    ensures { (approval : _) → Previews reply_of (list_from approval commands.now) (AddModule label.now) result }
 {
     let modules = modules(alloc, commands)?;
     if has_module(&modules, label) {
@@ -43,10 +45,10 @@ pub(crate) fn preview_module(
 /// The module of a number.
 pub(crate) fn show_module(
     alloc: Global,
-    commands: &[Command],
+    commands: &[Accepted],
     number: ModuleNo,
 ) -> Result<Reply, Refusal>
-    ensures { (approval : _) → Shows (list_from approval commands.now) (ShowModule number) result }
+    ensures { (approval : _) → Shows reply_of (list_from approval commands.now) (ShowModule number) result }
 {
     let modules = modules(alloc, commands)?;
     let Some(label) = module_numbered(&modules, number) else {
@@ -85,10 +87,10 @@ fn shown_modules(
 /// A page of the modules.
 pub(crate) fn show_modules(
     alloc: Global,
-    commands: &[Command],
+    commands: &[Accepted],
     page: Page,
 ) -> Result<Reply, Refusal>
-    ensures { (approval : _) → Shows (list_from approval commands.now) (ShowModules page) result }
+    ensures { (approval : _) → Shows reply_of (list_from approval commands.now) (ShowModules page) result }
 {
     let modules = modules(alloc, commands)?;
     let sets = sets(alloc, commands)?;

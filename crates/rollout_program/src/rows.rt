@@ -4,8 +4,9 @@ ghost use Rattle.std.specs.Prelude.{◌≡◌, map, option_map, IfOk, OnOk};
 ghost use Rattle.rollout_machine.specs.ByteStrings.{with_words};
 ghost use Rattle.rollout_machine.specs.Targets.{import_rows_of, last_row_for, last_row_of, tags_after, tags_by_row, tags_in, target_ids};
 ghost use Rattle.rollout_machine.specs.Views.{command_of};
-ghost use Rattle.rollout_program.specs.Lists.{list_from};
+ghost use Rattle.rollout_program.specs.Lists.{accepted_command, list_from};
 
+use crate::accepted::Accepted;
 use crate::words::{add_word, drop_word, sorted};
 use rollout_model::{Command, ControllerId, TargetRow, Word};
 use std::alloc::{AllocError, Global};
@@ -24,17 +25,17 @@ fn last_row_for<'a>(rows: &'a [TargetRow], id: &ControllerId) -> Option<&'a Targ
 }
 
 /// The last row of the command that names the target.
-fn row_in<'a>(command: &'a Command, id: &ControllerId) -> Option<&'a TargetRow>
-    ensures { option_map (λ r. r.now) result ≡ last_row_for id.now (import_rows_of (command_of command.now)) }
+fn row_in<'a>(command: &'a Accepted, id: &ControllerId) -> Option<&'a TargetRow>
+    ensures { option_map (λ r. r.now) result ≡ last_row_for id.now (import_rows_of (accepted_command command.now)) }
 {
     match command {
-        Command::PutTargets(rows) => last_row_for(rows.as_slice(), id),
+        Accepted::Inventory(Command::PutTargets(rows)) => last_row_for(rows.as_slice(), id),
         _ => None,
     }
 }
 
 /// The last row of the list that names the target, which is there if there is one.
-pub(crate) fn last_row_of<'a>(commands: &'a [Command], id: &ControllerId) -> Option<&'a TargetRow>
+pub(crate) fn last_row_of<'a>(commands: &'a [Accepted], id: &ControllerId) -> Option<&'a TargetRow>
     ensures { (approval : _) → option_map (λ r. r.now) result ≡ last_row_of id.now (list_from approval commands.now) }
 {
     let mut found = None;
@@ -65,17 +66,17 @@ pub(crate) fn add_ids(ids: &mut Vec<Word>, rows: &[TargetRow]) -> Result<(), All
 }
 
 /// Adds the ids of the targets that the command puts.
-fn push_ids(ids: &mut Vec<Word>, command: &Command) -> Result<(), AllocError>
-    ensures { OnOk result (ids.new.items ≡ with_words (map (λ r. r.id) (import_rows_of (command_of command.now))) ids.old.items) }
+fn push_ids(ids: &mut Vec<Word>, command: &Accepted) -> Result<(), AllocError>
+    ensures { OnOk result (ids.new.items ≡ with_words (map (λ r. r.id) (import_rows_of (accepted_command command.now))) ids.old.items) }
 {
     match command {
-        Command::PutTargets(rows) => add_ids(ids, rows.as_slice()),
+        Accepted::Inventory(Command::PutTargets(rows)) => add_ids(ids, rows.as_slice()),
         _ => Ok(()),
     }
 }
 
 /// The ids of all targets, in byte order.
-pub(crate) fn target_ids(alloc: Global, commands: &[Command]) -> Result<Vec<Word>, AllocError>
+pub(crate) fn target_ids(alloc: Global, commands: &[Accepted]) -> Result<Vec<Word>, AllocError>
     ensures { IfOk result (λ ids. (approval : _) → ids.items ≡ target_ids (list_from approval commands.now)) }
 {
     let mut ids = Vec::new(alloc);
@@ -101,8 +102,8 @@ fn put_tags(
     Ok(())
 }
 
-/// The tags of the target after the command.
-fn change_tags(
+/// The tags of the target after a command on modules, artifacts, sets or targets.
+fn change_by(
     alloc: Global,
     tags: &mut Vec<Word>,
     command: &Command,
@@ -127,10 +128,25 @@ fn change_tags(
     Ok(())
 }
 
+/// The tags of the target after the command.
+fn change_tags(
+    alloc: Global,
+    tags: &mut Vec<Word>,
+    command: &Accepted,
+    id: &ControllerId,
+) -> Result<(), AllocError>
+    ensures { OnOk result (tags.new.items ≡ tags_after id.now (accepted_command command.now) tags.old.items) }
+{
+    match command {
+        Accepted::Inventory(command) => change_by(alloc, tags, command, id),
+        Accepted::Rollout(_) => Ok(()),
+    }
+}
+
 /// The tags of the target, in byte order.
 pub(crate) fn tags_in(
     alloc: Global,
-    commands: &[Command],
+    commands: &[Accepted],
     id: &ControllerId,
 ) -> Result<Vec<Word>, AllocError>
     ensures { IfOk result (λ tags. (approval : _) → tags.items ≡ tags_in id.now (list_from approval commands.now)) }

@@ -4,13 +4,15 @@ ghost use Rattle.std.specs.Prelude.{◌≡◌, map, MatchResult};
 ghost use Rattle.rollout_machine.specs.Commands.{AddSet};
 ghost use Rattle.rollout_machine.specs.Objects.{numbered, set_shown};
 ghost use Rattle.rollout_machine.specs.Requests.{ShowSet, ShowSets};
+ghost use Rattle.rollout_machine.specs.Views.{reply_of};
 ghost use Rattle.rollout_model.specs.declared.refusal.Refusal.TheVariants.{NoMemory};
 ghost use Rattle.rollout_program.specs.Lists.{list_from};
 ghost use Rattle.rollout_program.specs.Steps.{Previews, Shows};
 
+use crate::accepted::Accepted;
 use crate::listed::{has_set, lacks_a_module, modules, set_numbered, sets};
 use crate::pages::{count_of, page_of};
-use rollout_model::{Command, DistributionSet, Page, Refusal, Reply, SetLabel, SetNo};
+use rollout_model::{DistributionSet, Page, Refusal, Reply, SetLabel, SetNo};
 use std::alloc::Global;
 
 /// How many distribution sets a desk takes.
@@ -19,10 +21,10 @@ const SET_LIMIT: usize = 1000;
 /// What a set that is added is answered with.
 pub(crate) fn preview_set(
     alloc: Global,
-    commands: &[Command],
+    commands: &[Accepted],
     label: &SetLabel,
 ) -> Result<Reply, Refusal>
-    ensures { (approval : _) → Previews (list_from approval commands.now) (AddSet label.now) result }
+    ensures { (approval : _) → Previews reply_of (list_from approval commands.now) (AddSet label.now) result }
 {
     let modules = modules(alloc, commands)?;
     if lacks_a_module(&modules, label) {
@@ -42,8 +44,12 @@ pub(crate) fn preview_set(
 }
 
 /// The set of a number.
-pub(crate) fn show_set(alloc: Global, commands: &[Command], number: SetNo) -> Result<Reply, Refusal>
-    ensures { (approval : _) → Shows (list_from approval commands.now) (ShowSet number) result }
+pub(crate) fn show_set(
+    alloc: Global,
+    commands: &[Accepted],
+    number: SetNo,
+) -> Result<Reply, Refusal>
+    ensures { (approval : _) → Shows reply_of (list_from approval commands.now) (ShowSet number) result }
 {
     let sets = sets(alloc, commands)?;
     let Some(label) = set_numbered(&sets, number) else {
@@ -69,8 +75,8 @@ fn shown_sets(alloc: Global, sets: &[&SetLabel]) -> Result<Vec<DistributionSet>,
 }
 
 /// A page of the distribution sets.
-pub(crate) fn show_sets(alloc: Global, commands: &[Command], page: Page) -> Result<Reply, Refusal>
-    ensures { (approval : _) → Shows (list_from approval commands.now) (ShowSets page) result }
+pub(crate) fn show_sets(alloc: Global, commands: &[Accepted], page: Page) -> Result<Reply, Refusal>
+    ensures { (approval : _) → Shows reply_of (list_from approval commands.now) (ShowSets page) result }
 {
     let sets = sets(alloc, commands)?;
     let shown = shown_sets(alloc, &sets)?;

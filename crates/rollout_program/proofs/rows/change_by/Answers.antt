@@ -3,7 +3,7 @@ use Rattle.rollout_machine.specs.ByteStrings.{without_word}
 use Rattle.rollout_machine.specs.Targets.{tags_after}
 use Rattle.rollout_machine.specs.Views.{command_of}
 use Rattle.rollout_program.proofs.WordLemmas.{without_filter}
-use Rattle.rollout_program.proofs.rows.change_tags.Goals as goal
+use Rattle.rollout_program.proofs.rows.change_by.Goals as goal
 
 pub returns-then-eq-2 : goal.returns-then-eq-2
 returns-then-eq-2 c =
