@@ -11,7 +11,8 @@ use Rattle.rollout_machine.specs.Answers.{if_found, query_reply}
 use Rattle.rollout_machine.specs.ByteStrings.{same_bytes}
 use Rattle.rollout_machine.specs.Commands.{Attribute, Bytes}
 use Rattle.rollout_machine.specs.Objects.{target_shown}
-use Rattle.rollout_machine.specs.Records.{ActionRecord, Records}
+use Rattle.rollout_machine.specs.Records.{Records}
+use Rattle.rollout_machine.specs.declared.records.ActionRecord.{ActionRecord}
 use Rattle.rollout_machine.specs.Replies.{TargetShown}
 use Rattle.rollout_machine.specs.Requests.{ShowTarget}
 use Rattle.rollout_machine.specs.StateWords.{has_started, is_for, target_word, word_by_last, Pending, TargetWord, Unknown}

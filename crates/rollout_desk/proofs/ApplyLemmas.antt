@@ -27,8 +27,9 @@ use Rattle.rollout_model.specs.declared.refusal.Refusal.TheVariants.{StoreFailed
 use Rattle.rollout_desk.specs.Desks.{HoldsList, desk_state_at}
 use Rattle.sql_calls.specs.declared.fault.Fault.{Fault}
 use Rattle.sql_calls.specs.declared.fault.Fault.TheVariants.{Memory, Store}
-use Rattle.rollout_desk.specs.Steps.{is_store, is_failed_store, refusal_of_fault, Steps, Handles, EndsByCommit, EndsByRollback}
+use Rattle.rollout_desk.specs.Steps.{is_store, is_failed_store, refusal_of_fault, KeepsLimits, Steps, Handles, EndsByCommit, EndsByRollback}
 use Rattle.rollout_desk.specs.declared.step.Step.TheVariants as step
+use Rattle.rollout_desk.proofs.LimitLemmas.{limits_kept}
 
 -- ---- the reply of a failed store
 
@@ -103,7 +104,7 @@ module _ (Holds : Database → Records → Type 0) where
     -- ---- a change that is given up
 
     -- what was found inside is the answer, and nothing is accepted
-    pub found : (request : Request) (made : Reply) (Says : Records → Type 0) → ((h : CommandList) → Says (records h) → record { reply = made; accepted = None } ≡ answer h (Asks request)) → (wears : Rattle.sql_calls.specs.Standing.Wears b c)
+    pub found : (request : Request) (made : Reply) (Says : Records → Type 0) → ((h : CommandList) → IsValid h → Says (records h) → record { reply = made; accepted = None } ≡ answer h (Asks request)) → (wears : Rattle.sql_calls.specs.Standing.Wears b c)
         → ((now kept : Records) → Changes Holds b now kept → Changes Holds c now kept × (HasCleanDisk c → Says now)) → (reply : Reply) → EndsByRollback Holds c d made reply → Handles Holds a d request reply
     found request made Says means wears inside reply ends = record {
       wears = omega (arith, begins.wears, wears, ends.wears);
@@ -112,7 +113,7 @@ module _ (Holds : Database → Records → Type 0) where
           let done = inside r r (begins.begun r (λ known. was.shows)) in
           let spoiled = spoils Holds c r r done.0 in
           elim ends.ends [
-            | inl it ↦ answered h was.valid d request reply None (ap (λ (x : Reply). record { reply = x; accepted = None }) it.0 ∙ means h (done.1 (omega (arith, clean, ends.wears)))) (stands d h was.valid (it.1 r spoiled clean))
+            | inl it ↦ answered h was.valid d request reply None (ap (λ (x : Reply). record { reply = x; accepted = None }) it.0 ∙ means h was.valid (done.1 (omega (arith, clean, ends.wears)))) (stands d h was.valid (it.1 r spoiled clean))
             | inr it ↦ left_alone h was.valid d request reply it.0 (λ db left. elim ((it.1 r spoiled clean).crash db left) [ inl one ↦ one | inr one ↦ one ])
           ];
     }
@@ -134,7 +135,7 @@ module _ (Holds : Database → Records → Type 0) where
     -- ---- a command
 
     pub refused : {E : Type 0} (command : Command) (refusal : Refusal) → Steps Holds {E = E} b c command (Ok (step.Refused refusal)) → (reply : Reply) → EndsByRollback Holds c d (Refused refusal) reply → Handles Holds a d (Do command) reply
-    refused command refusal steps reply ends = found (Do command) (Refused refusal) (λ (r : Records). check r command ≡ Some refusal) (λ h is. sym (refused_answer h command refusal is)) steps.wears steps.steps reply ends
+    refused command refusal steps reply ends = found (Do command) (Refused refusal) (λ (r : Records). KeepsLimits r → check r command ≡ Some refusal) (λ h valid is. sym (refused_answer h command refusal (is (limits_kept h valid)))) steps.wears steps.steps reply ends
 
     pub broken : {E : Type 0} (command : Command) (e : E) → Steps Holds b c command (Err e) → (made : Reply) → IsFailure made → (reply : Reply) → EndsByRollback Holds c d made reply → Handles Holds a d (Do command) reply
     broken command e steps made bad reply ends = lost (Do command) made bad steps.wears steps.steps reply ends
@@ -145,7 +146,7 @@ module _ (Holds : Database → Records → Type 0) where
       handles = λ h clean was.
           let r = records h in
           let done = steps.steps r r (begins.begun r (λ known. was.shows)) in
-          let facts = done.1 (omega (arith, clean, ends.wears)) in
+          let facts = done.1 (omega (arith, clean, ends.wears)) (limits_kept h was.valid) in
           let follows = records_step h command was.valid facts.0 in
           let longer : IsValid (h ▸ command) = (was.valid, good, facts.0) in
           let is = accepted_step h command was.valid facts.0 in
@@ -163,7 +164,7 @@ module _ (Holds : Database → Records → Type 0) where
 
     pub shown : {E : Type 0} (query : Query) (rust : model.Reply) → Reads Holds {E = E} b c (Ok rust) (λ (now : Records) (r : model.Reply). reply_of r ≡ query_reply now query) → (reply : Reply) → EndsByRollback Holds c d (reply_of rust) reply → Handles Holds a d (Ask query) reply
     shown query rust reads reply ends =
-        found (Ask query) (reply_of rust) (λ (r : Records). reply_of rust ≡ query_reply r query) (λ h is. ap (λ (x : Reply). record { reply = x; accepted = None }) is ∙ sym (query_answer h query)) reads.wears reads.reads reply ends
+        found (Ask query) (reply_of rust) (λ (r : Records). reply_of rust ≡ query_reply r query) (λ h valid is. ap (λ (x : Reply). record { reply = x; accepted = None }) is ∙ sym (query_answer h query)) reads.wears reads.reads reply ends
 
     pub unshown : {E : Type 0} (query : Query) (e : E) → Reads Holds {A = model.Reply} b c (Err e) (λ (now : Records) (r : model.Reply). reply_of r ≡ query_reply now query) → (made : Reply) → IsFailure made → (reply : Reply) → EndsByRollback Holds c d made reply → Handles Holds a d (Ask query) reply
     unshown query e reads made bad reply ends = lost (Ask query) made bad reads.wears reads.reads reply ends

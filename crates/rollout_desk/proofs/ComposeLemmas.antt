@@ -13,7 +13,7 @@ use Rattle.rollout_machine.specs.Views.{reply_of}
 use Rattle.rollout_model.specs.declared.refusal.Refusal.{Refusal}
 use Rattle.rollout_model.specs.declared.request.Reply.{Reply}
 use Rattle.rollout_desk.specs.Additions.{WritesAll}
-use Rattle.rollout_desk.specs.Steps.{Steps}
+use Rattle.rollout_desk.specs.Steps.{KeepsLimits, Steps}
 use Rattle.rollout_desk.specs.declared.step.Step.{Step}
 use Rattle.rollout_desk.specs.declared.step.Step.TheVariants as step
 
@@ -79,9 +79,13 @@ module _ (Holds : Database → Records → Type 0) where
   -- ---- a command
 
   module _ (command : Command) {F : Type 0} where
+    pub refused_within : {A E : Type 0} (a b : State) (x : A) (P : Records → A → Type 0) (refusal : Refusal) → Reads Holds {E = E} a b (Ok x) P → ((r : Records) → KeepsLimits r → P r x → check r command ≡ Some refusal)
+        → Steps Holds {E = F} a b command (Ok (step.Refused refusal))
+    refused_within a b x P refusal h means = record { wears = h.wears; steps = λ now kept was. let it = h.reads now kept was in (it.0, λ clean within. means now within (it.1 clean)) }
+
     pub refused : {A E : Type 0} (a b : State) (x : A) (P : Records → A → Type 0) (refusal : Refusal) → Reads Holds {E = E} a b (Ok x) P → ((r : Records) → P r x → check r command ≡ Some refusal)
         → Steps Holds {E = F} a b command (Ok (step.Refused refusal))
-    refused a b x P refusal h means = record { wears = h.wears; steps = λ now kept was. let it = h.reads now kept was in (it.0, λ clean. means now (it.1 clean)) }
+    refused a b x P refusal h means = refused_within a b x P refusal h (λ r within. means r)
 
     pub unread : {A E : Type 0} (a b : State) (e : E) (P : Records → A → Type 0) → Reads Holds a b (Err e) P → (out : Result Step F) → IsErr out → Steps Holds a b command out
     unread a b e P h (Ok x) bad = absurd (cc)
@@ -105,13 +109,17 @@ module _ (Holds : Database → Records → Type 0) where
             write.writes now kept (step_records now command) it.0 (λ clean. writes now (it.1 (omega (arith, clean, write.wears))));
       }
 
-      pub accepted : {G : Type 0} → WritesAll Holds {A = Unit {0}} {E = G} b c (Ok tt) W → (reply : Reply) → ((r : Records) → P r x → (check r command ≡ None) × (reply_of reply ≡ command_reply command (step_records r command)))
-          → Steps Holds {E = F} a c command (Ok (step.Accepted reply))
-      accepted write reply means = record {
+      pub accepted_within : {G : Type 0} → WritesAll Holds {A = Unit {0}} {E = G} b c (Ok tt) W → (reply : Reply)
+          → ((r : Records) → KeepsLimits r → P r x → (check r command ≡ None) × (reply_of reply ≡ command_reply command (step_records r command))) → Steps Holds {E = F} a c command (Ok (step.Accepted reply))
+      accepted_within write reply means = record {
         wears = omega (arith, h.wears, write.wears);
         steps = λ now kept was.
             let it = h.reads now kept was in (
               write.writes now kept (step_records now command) it.0 (λ clean. writes now (it.1 (omega (arith, clean, write.wears)))),
-              λ clean. means now (it.1 (omega (arith, clean, write.wears))),
+              λ clean within. means now within (it.1 (omega (arith, clean, write.wears))),
             );
       }
+
+      pub accepted : {G : Type 0} → WritesAll Holds {A = Unit {0}} {E = G} b c (Ok tt) W → (reply : Reply) → ((r : Records) → P r x → (check r command ≡ None) × (reply_of reply ≡ command_reply command (step_records r command)))
+          → Steps Holds {E = F} a c command (Ok (step.Accepted reply))
+      accepted write reply means = accepted_within write reply (λ r within. means r)

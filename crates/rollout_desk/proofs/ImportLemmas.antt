@@ -192,6 +192,10 @@ module _ (r : Records) (rows : List TargetRow) (count added : ℕ) (is : AddsSoM
       let at : nat_lt 10000 (count + added) ≡ false = grind (arith, nat_tests) in
       ap (λ n. cond (nat_lt 10000 n) (Some Quota) None) (sym total) ∙ ap (λ b. cond b (Some Quota) None) at
 
+-- no target is added, and those that are there are few enough
+pub none_added : (r : Records) (rows : List TargetRow) → length r.targets ≤ 10000 → AddsSoMany rows r 0 → check r (PutTargets rows) ≡ None
+none_added r rows few none = within_quota r rows (length r.targets) 0 none refl (omega (arith, few))
+
 -- ---- few rows
 
 few_with : (w : Bytes) (vs : List Bytes) → length (with_word w vs) ≤ suc (length vs)

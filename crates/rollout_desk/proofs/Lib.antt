@@ -1,3 +1,4 @@
+pub mod LimitLemmas
 pub mod ApplyLemmas
 pub mod ComposeLemmas
 pub mod AdditionLemmas

@@ -1,5 +1,5 @@
 -- One request inside a change of the records.
-use Rattle.std.specs.Prelude.{◌≡◌, ◌⊎◌, Bool, true, false, Some, None, Result, Ok, Err}
+use Rattle.std.specs.Prelude.{◌≡◌, ◌⊎◌, ◌≤◌, Bool, true, false, length, Some, None, Result, Ok, Err}
 use Rattle.sqlite.specs.Effect.{Database}
 use Rattle.sqlite.specs.State.{State, HasCleanDisk}
 use Rattle.sql_calls.specs.Standing.{Wears, Changes, Spoils, Rests, Doubts}
@@ -13,6 +13,7 @@ use Rattle.rollout_machine.specs.Requests.{Request, Asks}
 use Rattle.rollout_machine.specs.Standing.{AppliesAt, StandsFor}
 use Rattle.rollout_machine.specs.Verdicts.{check}
 use Rattle.rollout_machine.specs.Views.{reply_of}
+use Rattle.rollout_model.specs.Limits.{target_limit}
 use Rattle.rollout_model.specs.declared.refusal.Refusal.{Refusal}
 use Rattle.rollout_model.specs.declared.refusal.Refusal.TheVariants.{NoMemory, StoreFailed}
 use Rattle.sql_calls.specs.declared.fault.Fault.{Fault}
@@ -35,12 +36,16 @@ abbrev pub refusal_of_fault : Fault → Refusal
 refusal_of_fault Memory = NoMemory
 refusal_of_fault Store = StoreFailed
 
+-- as every list of accepted commands: a desk has no more targets than it takes
+abbrev pub KeepsLimits : Records → Type 0
+KeepsLimits r = length r.targets ≤ target_limit
+
 module _ (Holds : Database → Records → Type 0) where
   abbrev pub StepsTo : {E : Type 0} → State → State → Command → Result Step E → Type 0
   StepsTo old new c (Ok (step.Accepted reply)) = (now kept : Records) → Changes Holds old now kept
-      → Changes Holds new (step_records now c) kept × (HasCleanDisk new → (check now c ≡ None) × (reply_of reply ≡ command_reply c (step_records now c)))
+      → Changes Holds new (step_records now c) kept × (HasCleanDisk new → KeepsLimits now → (check now c ≡ None) × (reply_of reply ≡ command_reply c (step_records now c)))
   StepsTo old new c (Ok (step.Refused refusal)) = (now kept : Records) → Changes Holds old now kept
-      → Changes Holds new now kept × (HasCleanDisk new → check now c ≡ Some refusal)
+      → Changes Holds new now kept × (HasCleanDisk new → KeepsLimits now → check now c ≡ Some refusal)
   StepsTo old new c (Err e) = (now kept : Records) → Changes Holds old now kept → Spoils Holds new kept
 
   -- A command inside a change: it is accepted, its records are written and its reply is made; or it is refused, and nothing changes. Where it

@@ -1,6 +1,6 @@
 //! Targets: putting rows of them.
 
-ghost use Rattle.std.specs.Prelude.{◌≡◌, ◌<◌, [], ◌∷◌, None, Some, IfNone, IfSome, length, nat_eq};
+ghost use Rattle.std.specs.Prelude.{◌≡◌, ◌<◌, true, [], ◌∷◌, None, Some, IfNone, IfSome, length, nat_eq};
 ghost use Rattle.std.specs.Cmp.Lexicographic.{pointwise};
 ghost use Rattle.std.specs.List.{list_any};
 ghost use Rattle.sqlite.specs.Held.{state};
@@ -10,7 +10,7 @@ ghost use Rattle.rollout_machine.specs.Verdicts.{check};
 ghost use Rattle.rollout_machine.specs.Commands.{PutTargets, TargetRow};
 ghost use Rattle.rollout_desk.specs.Additions.{WritesAll};
 ghost use Rattle.rollout_desk.specs.Imports.{AddsSoMany, AddsTags, DropsTags, IsNew, PutsOver, PutsRows, Renames, Retags};
-ghost use Rattle.rollout_desk.specs.Steps.{Steps};
+ghost use Rattle.rollout_desk.specs.Steps.{KeepsLimits, Steps};
 
 use crate::step::Step;
 use desk_store::{Fault, OpenChange, StoredTarget};
@@ -175,8 +175,22 @@ fn count_new<S: Alter>(change: &mut OpenChange<'_, S>, rows: &[TargetRow]) -> Re
     Ok(added)
 }
 
-/// Why the rows can't be put, if they can't. Where even rows of new targets alone keep the limit, none is looked at.
-fn import_refusal<S: Alter>(
+/// Whether no row adds a target.
+fn adds_none<S: Alter>(change: &mut OpenChange<'_, S>, rows: &[TargetRow]) -> Result<bool, Fault>
+    ensures same_reference { change.new.store.ghost_name ≡ change.old.store.ghost_name }
+    ensures reads { Reads HoldsRecords (state S.Store change.old.store.now.calls.conn) (state S.Store change.new.store.now.calls.conn) result
+        (λ r none. none ≡ true → AddsSoMany rows.now r 0) }
+{
+    for (i, row) in rows.iter().enumerate() {
+        if is_new(change, row, &rows[..i])? {
+            return Ok(false);
+        }
+    }
+    Ok(true)
+}
+
+/// Why rows can't be put of which one adds a target, if they can't. Where even rows of new targets alone keep the limit, no more of them is looked at.
+fn quota_refusal<S: Alter>(
     change: &mut OpenChange<'_, S>,
     rows: &[TargetRow],
 ) -> Result<Option<Refusal>, Fault>
@@ -193,6 +207,22 @@ fn import_refusal<S: Alter>(
         return Ok(Some(Refusal::Quota));
     }
     Ok(None)
+}
+
+/// Why the rows can't be put, if they can't. Where none adds a target, the targets aren't counted, which takes longer the more there are.
+fn import_refusal<S: Alter>(
+    change: &mut OpenChange<'_, S>,
+    rows: &[TargetRow],
+) -> Result<Option<Refusal>, Fault>
+    ensures same_reference { change.new.store.ghost_name ≡ change.old.store.ghost_name }
+    ensures reads { Reads HoldsRecords (state S.Store change.old.store.now.calls.conn) (state S.Store change.new.store.now.calls.conn) result
+        (λ r refusal. KeepsLimits r → refusal ≡ check r (PutTargets rows.now)) }
+{
+    if adds_none(change, rows)? {
+        return Ok(None);
+    }
+    let refusal = quota_refusal(change, rows)?;
+    Ok(refusal)
 }
 
 /// How many rows there are, where a reply can tell it: up to 4,294,967,295.

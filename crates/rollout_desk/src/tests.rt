@@ -8,5 +8,6 @@ mod fleet;
 mod fuses;
 mod lines;
 mod memory;
+mod memory_of_inventory;
 mod sets;
 mod targets;
