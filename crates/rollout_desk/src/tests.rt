@@ -6,6 +6,8 @@ mod downloads;
 mod files;
 mod fleet;
 mod fuses;
+mod fuses_of_inventory;
+mod inventory;
 mod lines;
 mod memory;
 mod memory_of_inventory;

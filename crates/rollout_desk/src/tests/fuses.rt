@@ -16,25 +16,33 @@ const MODULES: [(u32, &str); 2] = [(1, "1.0"), (2, "1.1")];
 
 /// Which of the two files fails.
 #[derive(Clone, Copy, Debug)]
-enum Failing {
+pub(super) enum Failing {
     Log,
     Database,
 }
 
-/// Empty files of which one passes so many calls on, and fails each one after.
-fn fused(alloc: Global, failing: Failing, calls: u64) -> Files<Fuse<Memory>> {
+/// Files without a byte.
+pub(super) fn empty(alloc: Global) -> Files<Memory> {
+    Files {
+        log: Memory::new(alloc),
+        db: Memory::new(alloc),
+    }
+}
+
+/// These files, of which one passes so many calls on, and fails each one after.
+pub(super) fn fused(files: Files<Memory>, failing: Failing, calls: u64) -> Files<Fuse<Memory>> {
     let (log_calls, db_calls) = match failing {
         Failing::Log => (calls, u64::MAX),
         Failing::Database => (u64::MAX, calls),
     };
     Files {
-        log: Fuse::new(Memory::new(alloc), log_calls),
-        db: Fuse::new(Memory::new(alloc), db_calls),
+        log: Fuse::new(files.log, log_calls),
+        db: Fuse::new(files.db, db_calls),
     }
 }
 
 /// What a crash leaves of a desk's files.
-fn left(desk: Desk<FileStore<Fuse<Memory>>>) -> Files<Fuse<Memory>> {
+pub(super) fn left(desk: Desk<FileStore<Fuse<Memory>>>) -> Files<Fuse<Memory>> {
     let mut files = match desk.into_files() {
         Ok(files) => files,
         Err((_error, store)) => store.close(),
@@ -177,7 +185,7 @@ fn met_by(alloc: Global, failing: Failing) -> Result<Met, Fail> {
         failed: [false; 2],
     };
     for calls in 0..1000 {
-        let ending = run_over(alloc, fused(alloc, failing, calls))?;
+        let ending = run_over(alloc, fused(empty(alloc), failing, calls))?;
         if ending == Ending::Done {
             return Ok(met);
         }

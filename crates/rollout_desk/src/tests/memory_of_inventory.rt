@@ -1,77 +1,12 @@
 //! Commands on modules, artifacts, sets and targets where a request for memory may be refused: `rt try --test --fail-alloc N` refuses
 //! the Nth. A command that wanted memory is given once more: what had been kept of it would be found then.
 
-use super::fleet::{gives, lacks, puts_one, shows, tags_one};
-use super::lines::adds;
+use super::fleet::{lacks, shows};
+use super::inventory::{ID, STEPS, Step, command};
 use crate::Desk;
-use rollout_model::{
-    Command, Contents, Filename, ModuleList, ModuleNo, Refusal, Reply, SetLabel, Text, Upload,
-};
+use rollout_model::Reply;
 use sqlite::{Alter, MemStore};
 use std::alloc::Global;
-
-const ID: &str = "dev-01";
-
-/// What is done, in this order.
-#[derive(Clone, Copy, Debug)]
-enum Step {
-    AddModule,
-    AddArtifact,
-    AddSet,
-    PutTarget,
-    Tag,
-    GiveAttribute,
-}
-
-const STEPS: [Step; 6] = [
-    Step::AddModule,
-    Step::AddArtifact,
-    Step::AddSet,
-    Step::PutTarget,
-    Step::Tag,
-    Step::GiveAttribute,
-];
-
-fn first_module() -> Result<ModuleNo, Refusal> {
-    ModuleNo::new(1).ok_or(Refusal::BadRequest)
-}
-
-fn adds_artifact(alloc: Global) -> Result<Command, Refusal> {
-    let module_number = first_module()?;
-    let filename = Filename::read("abc.bin").ok_or(Refusal::BadRequest)?;
-    let bytes = Vec::from_slice(alloc, b"abc")?;
-    let contents = Contents::from_bytes(bytes).ok_or(Refusal::BadRequest)?;
-    Ok(Command::AddArtifact(Upload {
-        module_number,
-        filename,
-        expected: None,
-        contents,
-    }))
-}
-
-fn adds_set(alloc: Global) -> Result<Command, Refusal> {
-    let name = Text::read(alloc, "spring")?.ok_or(Refusal::BadRequest)?;
-    let version = Text::read(alloc, "1")?.ok_or(Refusal::BadRequest)?;
-    let mut numbers = Vec::new(alloc);
-    numbers.push(first_module()?)?;
-    let modules = ModuleList::from_numbers(numbers).ok_or(Refusal::BadRequest)?;
-    Ok(Command::AddSet(SetLabel {
-        name,
-        version,
-        modules,
-    }))
-}
-
-fn command(alloc: Global, step: Step) -> Result<Command, Refusal> {
-    match step {
-        Step::AddModule => adds(alloc, "1.0"),
-        Step::AddArtifact => adds_artifact(alloc),
-        Step::AddSet => adds_set(alloc),
-        Step::PutTarget => puts_one(alloc, ID, 7, &["lab"]),
-        Step::Tag => tags_one(ID, "north"),
-        Step::GiveAttribute => gives(alloc, ID, 7, &[("os", "2")]),
-    }
-}
 
 fn is_refusal(reply: &Reply) -> bool {
     match reply {
