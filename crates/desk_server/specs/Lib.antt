@@ -6,4 +6,3 @@ pub mod Program
 pub mod Headline
 pub mod Parts
 pub mod Reading
-pub mod Unknown

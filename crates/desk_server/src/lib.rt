@@ -22,5 +22,3 @@ pub use crate::served::{ServeFault, Served};
 pub use crate::serving::serve;
 pub use http_wire::End;
 
-#[cfg(test)]
-mod tests;

@@ -14,8 +14,6 @@ mod sets;
 mod step;
 mod tags;
 mod targets;
-#[cfg(test)]
-mod tests;
 
 pub use crate::desk::Desk;
 pub use crate::download::{Download, downloads_go_on};

@@ -1,6 +1,6 @@
 //! What tests ask of targets, and what is shown of them. A token stands for itself as a digest of one byte, 32 times.
 
-use crate::Desk;
+use rollout_desk::Desk;
 use rollout_model::{
     Attribute, Attributes, Command, ConfigData, ControllerId, Credential, Digest, Query, Refusal,
     Reply, ShownTarget, Tags, TargetRow, TargetRows, Text, Value, Word,

@@ -1,6 +1,6 @@
 //! Command lines.
 
-use crate::{Interface, Order, read_order};
+use desk_server::{Interface, Order, read_order};
 use std::alloc::Global;
 use std::test::Fail;
 

@@ -3,7 +3,7 @@
 
 use super::carried::WORDS;
 use super::messages::{ADD, ADDED, EXISTS, NO_MEMORY, STOPPED, STORE_FAILED};
-use crate::{Order, carry_out, read_order};
+use desk_server::{Order, carry_out, read_order};
 use clap::error::ErrorKind;
 use http_wire::Watched;
 use rollout_desk::{Desk, OpenFault};

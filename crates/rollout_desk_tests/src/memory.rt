@@ -2,7 +2,7 @@
 //! answer changes in place of the error.
 
 use super::lines::{Line, Said, request, requests, says};
-use crate::{Desk, OpenFault};
+use rollout_desk::{Desk, OpenFault};
 use rollout_model::{Refusal, Reply};
 use sqlite::MemStore;
 use std::alloc::Global;

@@ -3,7 +3,7 @@
 
 use super::fleet::{lacks, shows};
 use super::inventory::{ID, STEPS, Step, command};
-use crate::Desk;
+use rollout_desk::Desk;
 use rollout_model::Reply;
 use sqlite::{Alter, MemStore};
 use std::alloc::Global;

@@ -1,7 +1,7 @@
 //! A desk in memory.
 
 use super::lines::{Line, Said, adds, answers, requests, says};
-use crate::Desk;
+use rollout_desk::Desk;
 use rollout_model::{Refusal, Reply};
 use sqlite::{Alter, MemStore};
 use std::alloc::Global;

@@ -3,7 +3,7 @@
 use super::files::opened;
 use super::fuses::{Failing, empty, fused, left};
 use super::inventory::{STEPS, Step, command, query};
-use crate::{Desk, OpenFault};
+use rollout_desk::{Desk, OpenFault};
 use rollout_model::{Command, Query, Refusal, Reply};
 use sqlite::{Alter, Files};
 use sqlite_disk::{Disk, Fuse, Memory};

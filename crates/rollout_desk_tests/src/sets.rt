@@ -1,7 +1,7 @@
 //! Distribution sets of a desk.
 
 use super::lines::adds;
-use crate::Desk;
+use rollout_desk::Desk;
 use rollout_model::{
     Command, DistributionSet, ModuleList, ModuleNo, Query, Refusal, Reply, SetLabel, SetNo, Text,
 };

@@ -1,6 +1,6 @@
 //! A desk in memory, of which the contracts say nothing.
 
-use crate::Handler;
+use desk_server::Handler;
 use rollout_model::{Command, Module, ModuleLabel, ModuleNo, Refusal, Reply, Request};
 use std::alloc::Global;
 
@@ -42,7 +42,7 @@ impl Shelf {
 }
 
 impl Handler for Shelf {
-    ghost use Rattle.desk_server.specs.Unknown.{unknown};
+    ghost use Rattle.desk_server_tests.specs.Unknown.{unknown};
 
     ghost state = { λ _. unknown };
 

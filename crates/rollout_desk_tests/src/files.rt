@@ -1,7 +1,7 @@
 //! A desk over files.
 
 use super::lines::{Line, Said, answers};
-use crate::{Desk, OpenFault};
+use rollout_desk::{Desk, OpenFault};
 use rollout_model::Refusal;
 use sqlite::{FileStore, Files, Options};
 use sqlite_disk::{Disk, Memory};

@@ -2,7 +2,7 @@
 
 use super::files::opened;
 use super::lines::{Line, Said, adds, asks, requests, says};
-use crate::{Desk, OpenFault};
+use rollout_desk::{Desk, OpenFault};
 use rollout_model::{Refusal, Reply, Request};
 use sqlite::{Alter, FileStore, Files};
 use sqlite_disk::{Crash, Fuse, Memory};

@@ -2,7 +2,7 @@
 
 use super::carried::{Ran, WORDS, carried};
 use super::messages::{ADD, ADD_NEXT, ADDED, ADDED_NEXT, EXISTS};
-use crate::{Order, read_order};
+use desk_server::{Order, read_order};
 use rollout_desk::{Desk, OpenFault};
 use sqlite::{FileStore, Files, Options};
 use sqlite_disk::{Disk, Memory};

@@ -5,7 +5,7 @@ use super::messages::{
     ADD, ADDED, BAD_CODING, BAD_HEAD, BAD_LENGTH, BAD_REQUEST, HEAD_TOO_LARGE, TOO_LARGE,
 };
 use super::shelf::Shelf;
-use crate::{End, Served};
+use desk_server::{End, Served};
 use http_wire::WireFault;
 use std::alloc::{AllocError, Global};
 use std::test::Fail;

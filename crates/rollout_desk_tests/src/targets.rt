@@ -1,7 +1,7 @@
 //! Targets of a desk: how many it takes, and what a further put leaves of one.
 
 use super::fleet::{gives, lacks, puts_one, refusal_in, row, shows, tags_one};
-use crate::Desk;
+use rollout_desk::Desk;
 use rollout_model::{Command, Refusal, Reply, TargetRows};
 use sqlite::{Alter, MemStore};
 use std::alloc::Global;

@@ -1,6 +1,6 @@
 //! What a test asks of a desk and wants of it, in few words. Each module has the same name and kind.
 
-use crate::Desk;
+use rollout_desk::Desk;
 use rollout_model::{Command, Module, ModuleLabel, ModuleNo, Query, Refusal, Reply, Request, Text};
 use sqlite::Alter;
 use std::alloc::Global;

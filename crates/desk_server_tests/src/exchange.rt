@@ -1,6 +1,6 @@
 //! Serving bytes to a desk.
 
-use crate::{Handler, Interface, ServeFault, Served, serve};
+use desk_server::{Handler, Interface, ServeFault, Served, serve};
 use http_wire::Watched;
 use std::alloc::{AllocError, Global};
 use std::io::Read;

@@ -3,7 +3,7 @@
 use super::exchange::{joined, reply_to};
 use super::messages::{ADD, ADDED, EXISTS};
 use super::shelf::Shelf;
-use crate::{End, Interface, ServeFault, Served, serve};
+use desk_server::{End, Interface, ServeFault, Served, serve};
 use http_wire::Watched;
 use std::alloc::Global;
 use std::io;

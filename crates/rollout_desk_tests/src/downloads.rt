@@ -1,7 +1,7 @@
 //! Contents of artifacts, piece by piece.
 
 use super::lines::adds;
-use crate::{Desk, Download};
+use rollout_desk::{Desk, Download};
 use rollout_model::{
     ArtifactNo, Command, Contents, Filename, ModuleNo, Query, Refusal, Reply, Upload,
 };

@@ -1,7 +1,7 @@
 //! Attributes that devices give.
 
 use super::fleet::{Pair, gives, puts_one, refusal_in, shows};
-use crate::Desk;
+use rollout_desk::Desk;
 use rollout_model::{Refusal, Reply};
 use sqlite::{Alter, MemStore};
 use std::alloc::Global;

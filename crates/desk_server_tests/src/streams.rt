@@ -3,7 +3,7 @@
 use super::exchange::{Exchange, answer_stream, joined};
 use super::messages::{ADD, ADDED, EXISTS, TOO_LARGE};
 use super::shelf::Shelf;
-use crate::{End, Interface, ServeFault, Served, serve};
+use desk_server::{End, Interface, ServeFault, Served, serve};
 use http_wire::{Watched, WireFault};
 use std::cell::Cell;
 use std::io;

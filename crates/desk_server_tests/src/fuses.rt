@@ -6,7 +6,7 @@ use super::files::opened;
 use super::messages::{
     ADD, ADD_LAST, ADD_NEXT, ADDED, ADDED_LAST, ADDED_NEXT, STOPPED, STORE_FAILED,
 };
-use crate::read_order;
+use desk_server::read_order;
 use rollout_desk::{Desk, OpenFault};
 use rollout_model::{Module, ModuleLabel, ModuleNo, Query, Refusal, Reply, Text};
 use sqlite::{Alter, FileStore, Files};

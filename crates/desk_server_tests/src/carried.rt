@@ -2,7 +2,7 @@
 
 use super::exchange::joined;
 use super::messages::{ADD, ADDED, EXISTS};
-use crate::{Order, carry_out, read_order};
+use desk_server::{Order, carry_out, read_order};
 use http_wire::Watched;
 use rollout_desk::{Desk, OpenFault};
 use sqlite::{Alter, MemStore};

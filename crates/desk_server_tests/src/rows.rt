@@ -5,7 +5,7 @@ use super::messages::{
     ADD, ADD_LAST, ADD_NEXT, ADDED, ADDED_LAST, ADDED_NEXT, BAD_METHOD, BAD_REQUEST, EXISTS,
     NOT_FOUND,
 };
-use crate::{End, Served};
+use desk_server::{End, Served};
 use rollout_desk::Desk;
 use std::alloc::Global;
 use std::test::Fail;

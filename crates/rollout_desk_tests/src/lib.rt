@@ -1,0 +1,29 @@
+//! Tests of `rollout_desk`: each call once on its happy path, and what is left where the store fails or memory is wanting.
+#![tactic(auto)]
+
+#[cfg(test)]
+mod answers;
+#[cfg(test)]
+mod attributes;
+#[cfg(test)]
+mod downloads;
+#[cfg(test)]
+mod files;
+#[cfg(test)]
+mod fleet;
+#[cfg(test)]
+mod fuses;
+#[cfg(test)]
+mod fuses_of_inventory;
+#[cfg(test)]
+mod inventory;
+#[cfg(test)]
+mod lines;
+#[cfg(test)]
+mod memory;
+#[cfg(test)]
+mod memory_of_inventory;
+#[cfg(test)]
+mod sets;
+#[cfg(test)]
+mod targets;
