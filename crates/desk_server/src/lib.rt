@@ -21,4 +21,3 @@ pub use crate::program::carry_out;
 pub use crate::served::{ServeFault, Served};
 pub use crate::serving::serve;
 pub use http_wire::End;
-

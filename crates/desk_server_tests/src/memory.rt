@@ -3,8 +3,8 @@
 
 use super::carried::WORDS;
 use super::messages::{ADD, ADDED, EXISTS, NO_MEMORY, STOPPED, STORE_FAILED};
-use desk_server::{Order, carry_out, read_order};
 use clap::error::ErrorKind;
+use desk_server::{Order, carry_out, read_order};
 use http_wire::Watched;
 use rollout_desk::{Desk, OpenFault};
 use sqlite::MemStore;
