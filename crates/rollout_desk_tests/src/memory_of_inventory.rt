@@ -40,10 +40,11 @@ fn stands<S: Alter>(desk: &mut Desk<S>, done: usize) -> bool {
 
 /// Whether a step is taken, perhaps the second time, and leaves what it has to. The first time it leaves nothing where it isn't taken.
 fn goes_on(alloc: Global, desk: &mut Desk<MemStore>, done: usize, step: Step) -> bool {
+    let next = done.saturating_add(1);
     if takes(alloc, desk, step) {
-        return stands(desk, done + 1);
+        return stands(desk, next);
     }
-    stands(desk, done) && (takes(alloc, desk, step) || desk.stopped()) && stands(desk, done + 1)
+    stands(desk, done) && (takes(alloc, desk, step) || desk.stopped()) && stands(desk, next)
 }
 
 #[test]

@@ -76,20 +76,33 @@ fn add_modules<S: Alter>(alloc: Global, desk: &mut Desk<S>) -> Result<(), Refusa
     Ok(())
 }
 
-/// Whether sets are added to a desk of three modules, and refused, as they should be.
+/// Whether the first set is added, of two modules.
+fn takes_first<S: Alter>(alloc: Global, desk: &mut Desk<S>) -> Result<bool, Refusal> {
+    let command = adds_set(alloc, "1", &[3, 1])?;
+    match desk.apply(&command) {
+        Reply::SetAdded(set) => Ok(is_set(&set, 1, &[3, 1])),
+        _ => Ok(false),
+    }
+}
+
+/// Whether a set of a version with these modules is refused so.
+fn refuses<S: Alter>(
+    alloc: Global,
+    desk: &mut Desk<S>,
+    version: &str,
+    numbers: &[u32],
+    wanted: Refusal,
+) -> Result<bool, Refusal> {
+    let command = adds_set(alloc, version, numbers)?;
+    Ok(refusal_in(&desk.apply(&command)) == Some(wanted))
+}
+
+/// Whether a set is added to a desk of three modules, and two are refused, as they should be.
 fn takes_sets<S: Alter>(alloc: Global, desk: &mut Desk<S>) -> Result<bool, Refusal> {
-    let first = desk.apply(&adds_set(alloc, "1", &[3, 1])?);
-    let again = desk.apply(&adds_set(alloc, "1", &[2])?);
-    let missing = desk.apply(&adds_set(alloc, "2", &[1, 4])?);
-    let is_first = match first {
-        Reply::SetAdded(set) => is_set(&set, 1, &[3, 1]),
-        _ => false,
-    };
-    Ok(
-        is_first
-            && refusal_in(&again) == Some(Refusal::Exists)
-            && refusal_in(&missing) == Some(Refusal::NotFound),
-    )
+    if !takes_first(alloc, desk)? || !refuses(alloc, desk, "1", &[2], Refusal::Exists)? {
+        return Ok(false);
+    }
+    refuses(alloc, desk, "2", &[1, 4], Refusal::NotFound)
 }
 
 /// Whether what was added is shown, and nothing of what was refused.
