@@ -11,6 +11,3 @@ pub use description::{Description, describe};
 pub use hexadecimal::{digest_text, read_digest};
 pub use laws::{digests_are_read_back, pieces_fit, pieces_make_the_whole};
 pub use pieces::{Piece, Pieces, cut, join};
-
-#[cfg(test)]
-mod tests;

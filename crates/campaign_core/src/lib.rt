@@ -24,8 +24,3 @@ pub use status_words::{
     target_word,
 };
 pub use thresholds::{error_begins, success_holds};
-
-#[cfg(test)]
-mod rollout_tests;
-#[cfg(test)]
-mod tests;

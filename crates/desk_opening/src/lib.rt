@@ -6,9 +6,7 @@ mod making;
 mod opening;
 mod reopening;
 mod running;
-#[cfg(test)]
-mod tests;
 
-pub use crate::making::make;
+pub use crate::making::{fill, make};
 pub use crate::opening::{OpenFault, adopt, open_desk};
 pub use crate::reopening::{reopen_files, reopen_path};

@@ -24,8 +24,8 @@ fn make_tables<S: Alter>(conn: &mut Connection<S>) -> Result<(), Fault>
     Ok(())
 }
 
-/// Makes a new desk in one transaction.
-pub(crate) fn fill<S: Alter>(conn: &mut Connection<S>, approval: bool) -> Result<(), Fault>
+/// Makes a new desk in one transaction, in the connection's database, which uses none of its names. After an error the caller still has the connection.
+pub fn fill<S: Alter>(conn: &mut Connection<S>, approval: bool) -> Result<(), Fault>
     ensures { Makes (state S.Store conn.old) (state S.Store conn.new) approval result }
 {
     run(conn, BEGIN, &[])?;

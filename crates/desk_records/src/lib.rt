@@ -2,20 +2,12 @@
 #![tactic(auto)]
 
 mod artifact_row;
-#[cfg(test)]
-mod artifact_tests;
 mod artifact_texts;
 mod module_row;
 mod set_row;
-#[cfg(test)]
-mod set_tests;
 mod set_texts;
 mod target_row;
-#[cfg(test)]
-mod target_tests;
 mod target_texts;
-#[cfg(test)]
-mod tests;
 mod texts;
 
 pub use crate::artifact_row::{StoredArtifact, read_artifact, read_piece, read_stored_artifact};

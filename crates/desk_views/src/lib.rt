@@ -7,8 +7,6 @@ mod pages;
 mod sets;
 mod target_pages;
 mod targets;
-#[cfg(test)]
-mod tests;
 
 pub use crate::artifacts::{show_artifact, show_artifacts, show_contents};
 pub use crate::modules::{show_module, show_modules};

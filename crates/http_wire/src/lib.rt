@@ -28,6 +28,3 @@ pub use crate::reply::{Answer, ContentType, refusal_bytes, reply_bytes};
 pub use crate::stream::{End, Reading, line_ends_are_lines, one_reading, reading_of};
 pub use crate::target::{path_of, query_of};
 pub use crate::watched::{Cut, Watched, write_all_counted};
-
-#[cfg(test)]
-mod tests;

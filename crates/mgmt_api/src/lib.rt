@@ -7,21 +7,11 @@
 mod call;
 mod laws;
 mod page_query;
-#[cfg(test)]
-mod query_tests;
 mod reading;
-#[cfg(test)]
-mod refusal_tests;
 mod reply;
-#[cfg(test)]
-mod reply_tests;
 mod routes;
 mod target_query;
-#[cfg(test)]
-mod tests;
 mod upload_query;
-#[cfg(test)]
-mod upload_tests;
 
 pub use call::{ManageCall, call_of};
 pub use laws::{manage_routes_are_apart, refused_text, worked_module_added};

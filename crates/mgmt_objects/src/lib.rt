@@ -5,8 +5,6 @@
 #![tactic(auto)]
 
 mod artifact_object;
-#[cfg(test)]
-mod artifact_tests;
 mod body;
 mod laws;
 mod list;
@@ -15,15 +13,9 @@ mod module_body;
 mod module_object;
 mod set_body;
 mod set_object;
-#[cfg(test)]
-mod set_tests;
 mod shown;
 mod target_body;
 mod target_object;
-#[cfg(test)]
-mod target_tests;
-#[cfg(test)]
-mod tests;
 
 pub use body::{only_item, read_value};
 pub use laws::{

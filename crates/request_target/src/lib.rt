@@ -9,8 +9,6 @@ mod pairs;
 mod path_segments;
 mod query;
 mod routes;
-#[cfg(test)]
-mod tests;
 
 pub use numbers::read_number;
 pub use pairs::read_pairs;

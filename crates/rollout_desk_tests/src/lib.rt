@@ -24,6 +24,8 @@ mod memory;
 #[cfg(test)]
 mod memory_of_inventory;
 #[cfg(test)]
+mod memory_of_queries;
+#[cfg(test)]
 mod sets;
 #[cfg(test)]
 mod targets;

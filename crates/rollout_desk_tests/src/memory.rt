@@ -1,4 +1,4 @@
-//! Runs in which a request for memory may be refused: `rt try --test --fail-alloc N` refuses the Nth. The tests fail only where an
+//! Runs in which a request for memory may be refused: `tools/each-allocation` refuses each in turn. The tests fail only where an
 //! answer changes in place of the error.
 
 use super::lines::{Line, Said, request, requests, says};

@@ -1,5 +1,5 @@
-//! Commands on modules, artifacts, sets and targets where a request for memory may be refused: `rt try --test --fail-alloc N` refuses
-//! the Nth. A command that wanted memory is given once more: what had been kept of it would be found then.
+//! Commands on modules, artifacts, sets and targets where a request for memory may be refused: `tools/each-allocation` refuses each
+//! in turn. A command that wanted memory is given once more: what had been kept of it would be found then.
 
 use super::fleet::{lacks, shows};
 use super::inventory::{ID, STEPS, Step, command};

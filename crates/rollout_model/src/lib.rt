@@ -88,8 +88,3 @@ pub use text::Text;
 pub use token::Token;
 pub use value::Value;
 pub use word::Word;
-
-#[cfg(test)]
-mod target_tests;
-#[cfg(test)]
-mod tests;

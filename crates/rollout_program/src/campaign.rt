@@ -128,6 +128,3 @@ pub(crate) fn campaign_of(
     }
     Ok(campaign)
 }
-
-#[cfg(test)]
-mod tests;

@@ -33,10 +33,3 @@ mod words;
 
 pub use accepted::Accepted;
 pub use program::Program;
-
-#[cfg(test)]
-mod rollout_tests;
-#[cfg(test)]
-mod target_tests;
-#[cfg(test)]
-mod tests;

@@ -3,8 +3,6 @@
 
 mod calls;
 mod fault;
-#[cfg(test)]
-mod tests;
 
 pub use crate::calls::{Calls, Work};
 pub use crate::fault::{Fault, fault_of};

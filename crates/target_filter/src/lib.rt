@@ -18,6 +18,3 @@ mod tree;
 
 pub use fault::FilterFault;
 pub use filter_text::Filter;
-
-#[cfg(test)]
-mod tests;

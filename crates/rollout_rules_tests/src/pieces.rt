@@ -1,0 +1,66 @@
+//! What no clause says: that the calls which take memory succeed, digests of texts known from outside, and that the pieces
+//! of 150,000 bytes are three.
+
+use artifact_pieces::{Piece, cut, describe, digest_text, join, read_digest};
+use std::test::Fail;
+
+/// Of "abc", FIPS 180-4's own example.
+const ABC: &str = "ba7816bf8f01cfea414140de5dae2223b00361a396177a9cb410ff61f20015ad";
+
+const ABC_IN_UPPER_CASE: &str = "BA7816BF8F01CFEA414140DE5DAE2223B00361A396177A9CB410FF61F20015AD";
+/// 64 letters, one of them no hexadecimal digit.
+const NO_DIGEST: &str = "ga7816bf8f01cfea414140de5dae2223b00361a396177a9cb410ff61f20015ad";
+/// Of the empty message.
+const EMPTY: &str = "e3b0c44298fc1c149afbf4c8996fb92427ae41e4649b934ca495991b7852b855";
+
+#[test]
+fn digests(rt: HostRuntime) -> Result<(), Fail> {
+    let alloc = rt.alloc();
+    for (contents, text) in [("abc", ABC), ("", EMPTY)] {
+        let described = describe(contents.as_bytes());
+        assert_eq!(rt; described.size, contents.len());
+        let digits = digest_text(alloc, &described.digest)?;
+        assert_eq!(rt; digits.as_str(), text);
+        assert_eq!(rt; read_digest(text), Some(described.digest));
+    }
+    assert_eq!(rt; read_digest(ABC_IN_UPPER_CASE), read_digest(ABC));
+    assert_eq!(rt; read_digest("ba78"), None);
+    assert_eq!(rt; read_digest(NO_DIGEST), None);
+    Ok(())
+}
+
+#[test]
+fn pieces(rt: HostRuntime) -> Result<(), Fail> {
+    let alloc = rt.alloc();
+    assert_eq!(rt; cut(0).count(), 0);
+    assert_eq!(rt; cut(65_536).count(), 1);
+    let mut three = cut(150_000);
+    assert_eq!(rt;
+        three.next(),
+        Some(Piece {
+            from: 0,
+            len: 65_536
+        })
+    );
+    assert_eq!(rt;
+        three.next(),
+        Some(Piece {
+            from: 65_536,
+            len: 65_536
+        })
+    );
+    assert_eq!(rt;
+        three.next(),
+        Some(Piece {
+            from: 131_072,
+            len: 18_928
+        })
+    );
+    assert_eq!(rt; three.next(), None);
+    let parts = vec![in alloc; vec![in alloc; 1, 2]?, vec![in alloc; 3]?]?;
+    match join(alloc, parts.as_slice()) {
+        Ok(whole) => assert_eq!(rt; whole.as_slice(), [1, 2, 3].as_slice()),
+        Err(_) => return Err(Fail::from("no memory")),
+    }
+    Ok(())
+}
