@@ -1,11 +1,14 @@
 //! Contents of artifacts, piece by piece.
 
+use super::files::{SMALL, opened};
+use super::fuses::empty;
 use super::lines::adds;
 use rollout_desk::{Desk, Download};
 use rollout_model::{
     ArtifactNo, Command, Contents, Filename, ModuleNo, Query, Refusal, Reply, Upload,
 };
-use sqlite::Alter;
+use sqlite::{Alter, Connection, FileStore, Files};
+use sqlite_disk::{Disk, Memory};
 use std::alloc::Global;
 use std::test::Fail;
 
@@ -125,5 +128,53 @@ fn is_right<S: Alter>(alloc: Global, desk: &mut Desk<S>) -> Result<bool, Refusal
 fn contents_come_in_pieces(rt: HostRuntime) -> Result<(), Fail> {
     let mut desk = Desk::in_memory(rt.alloc(), false)?;
     assert!(rt; is_right(rt.alloc(), &mut desk)?);
+    Ok(())
+}
+
+/// The files of a desk that has an artifact of two pieces.
+fn kept(alloc: Global) -> Result<Files<Memory>, Fail> {
+    let (module, file) = (adds(alloc, "1")?, adds_file(alloc, "more", 65_537)?);
+    let mut desk = opened(alloc, empty(alloc))?;
+    let _ = desk.apply(&module);
+    let _ = desk.apply(&file);
+    let files = desk.into_files().ok().ok_or("not closed")?;
+    Ok(files)
+}
+
+/// Runs a statement on the database in these files.
+fn changed(alloc: Global, files: Files<Memory>, sql: &str) -> Result<Files<Memory>, Fail> {
+    if !files.log.may_be_used() || !files.db.may_be_used() {
+        return Err("not synced".into());
+    }
+    let mut conn = Connection::open_files(alloc, files, SMALL)
+        .ok()
+        .ok_or("not opened")?;
+    conn.execute(sql, &[])?;
+    let files = conn.close_files().ok().ok_or("not closed")?;
+    Ok(files)
+}
+
+/// Whether a download hands out the first piece, then says that the store failed, and then that the desk is stopped.
+fn fails_at_the_second(
+    alloc: Global,
+    desk: &mut Desk<FileStore<Memory>>,
+    download: &mut Download,
+) -> Result<bool, Refusal> {
+    let first = bytes(alloc, 65_536)?;
+    Ok(
+        hands_out(desk, download, first.as_slice())?
+            && desk.next_piece(download).err() == Some(Refusal::StoreFailed)
+            && desk.next_piece(download).err() == Some(Refusal::Stopped),
+    )
+}
+
+#[test]
+fn a_missing_piece_is_a_failed_store(rt: HostRuntime) -> Result<(), Fail> {
+    let alloc = rt.alloc();
+    let files = changed(alloc, kept(alloc)?, "DELETE FROM piece WHERE sequence = 2")?;
+    let query = asks_contents(1)?;
+    let mut desk = opened(alloc, files)?;
+    let mut download = begins(&mut desk, &query)?;
+    assert!(rt; fails_at_the_second(alloc, &mut desk, &mut download)?);
     Ok(())
 }

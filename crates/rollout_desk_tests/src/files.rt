@@ -9,7 +9,7 @@ use std::alloc::Global;
 use std::test::Fail;
 
 /// Few pages in memory and a short log, so that the log is copied into the database file from time to time.
-const SMALL: Options = Options {
+pub(super) const SMALL: Options = Options {
     cache_pages: 20,
     spill_pages: 20,
     checkpoint_frames: 3,

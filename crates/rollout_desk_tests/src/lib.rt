@@ -6,6 +6,8 @@ mod answers;
 #[cfg(test)]
 mod attributes;
 #[cfg(test)]
+mod beside_the_program;
+#[cfg(test)]
 mod downloads;
 #[cfg(test)]
 mod files;

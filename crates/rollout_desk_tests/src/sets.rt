@@ -22,7 +22,7 @@ fn modules(alloc: Global, numbers: &[u32]) -> Result<ModuleList, Refusal> {
 }
 
 /// The command that adds a set of a version with these modules.
-fn adds_set(alloc: Global, version: &str, numbers: &[u32]) -> Result<Command, Refusal> {
+pub(super) fn adds_set(alloc: Global, version: &str, numbers: &[u32]) -> Result<Command, Refusal> {
     Ok(Command::AddSet(SetLabel {
         name: text(alloc, "r1")?,
         version: text(alloc, version)?,

@@ -87,3 +87,21 @@ fn a_put_leaves_the_tags_of_its_row_and_all_attributes(rt: HostRuntime) -> Resul
     assert!(rt; shows(&mut desk, "dev-01", &["b"], &[("os", "linux")]));
     Ok(())
 }
+
+/// As many tags as a target takes.
+const FULL: [&str; 16] = [
+    "t01", "t02", "t03", "t04", "t05", "t06", "t07", "t08", "t09", "t10", "t11", "t12", "t13",
+    "t14", "t15", "t16",
+];
+
+#[test]
+fn a_target_takes_sixteen_tags(rt: HostRuntime) -> Result<(), Fail> {
+    let put = puts_one(rt.alloc(), "dev-01", 7, &FULL)?;
+    let (last, one_more) = (tags_one("dev-01", "t16")?, tags_one("dev-01", "t17")?);
+    let mut desk = Desk::in_memory(rt.alloc(), false)?;
+    assert!(rt; refusal_in(&desk.apply(&put)).is_none());
+    assert!(rt; refusal_in(&desk.apply(&last)).is_none());
+    assert_eq!(rt; refusal_in(&desk.apply(&one_more)), Some(Refusal::Quota));
+    assert!(rt; shows(&mut desk, "dev-01", &FULL, &[]));
+    Ok(())
+}

@@ -1,7 +1,8 @@
 //! What no clause says: that the calls which take memory succeed, digests of texts known from outside, and that the pieces
-//! of 150,000 bytes are three.
+//! of worked sizes are the ones that they are to be.
 
 use artifact_pieces::{Piece, cut, describe, digest_text, join, read_digest};
+use std::alloc::Global;
 use std::test::Fail;
 
 /// Of "abc", FIPS 180-4's own example.
@@ -57,10 +58,48 @@ fn pieces(rt: HostRuntime) -> Result<(), Fail> {
         })
     );
     assert_eq!(rt; three.next(), None);
+    assert_eq!(rt; cut(1_048_576).count(), 16);
     let parts = vec![in alloc; vec![in alloc; 1, 2]?, vec![in alloc; 3]?]?;
     match join(alloc, parts.as_slice()) {
         Ok(whole) => assert_eq!(rt; whole.as_slice(), [1, 2, 3].as_slice()),
         Err(_) => return Err(Fail::from("no memory")),
     }
+    Ok(())
+}
+
+/// Whether these bytes are made whole again of their first 65,536 and the rest.
+fn is_joined(alloc: Global, whole: &[u8]) -> Result<bool, Fail> {
+    let (first, last) = whole.split_at(whole.len().min(65_536));
+    let mut parts = Vec::new(alloc);
+    parts.push(Vec::from_slice(alloc, first)?)?;
+    parts.push(Vec::from_slice(alloc, last)?)?;
+    match join(alloc, parts.as_slice()) {
+        Ok(joined) => Ok(joined.as_slice() == whole),
+        Err(_) => Err(Fail::from("no memory")),
+    }
+}
+
+#[test]
+fn a_byte_more_than_a_piece(rt: HostRuntime) -> Result<(), Fail> {
+    let alloc = rt.alloc();
+    let mut two = cut(65_537);
+    assert_eq!(rt;
+        two.next(),
+        Some(Piece {
+            from: 0,
+            len: 65_536
+        })
+    );
+    assert_eq!(rt;
+        two.next(),
+        Some(Piece {
+            from: 65_536,
+            len: 1
+        })
+    );
+    assert_eq!(rt; two.next(), None);
+    let mut whole = vec![in alloc; 7; 65_536]?;
+    whole.push(8)?;
+    assert!(rt; is_joined(alloc, whole.as_slice())?);
     Ok(())
 }
