@@ -69,8 +69,9 @@ module _ (db : Database) (r : Records) (holds : HoldsRecords db r) where
       record { at = spot.at; tree = spot.tree; stands = subst (λ name. Stands db.schema name spot.at there) (sym (is_place t).named) moved }
 
   lacks_none : ¬ LacksDesk db
-  lacks_none (inl none) = none (record { stands = stands_at })
-  lacks_none (inr none) = has_row none
+  lacks_none (inl none) = none (stands_at Desk)
+  lacks_none (inr (inl none)) = has_row none
+  lacks_none (inr (inr tables)) = tables.lacks (record { stands = stands_at })
 
   pub held_fails : (A : Type 0) (e : OpenFault) → FindsTo {A = A} db (Err e) → IsFailure e
   held_fails A NotDesk h = elim h.other [ inl other ↦ is_no_other other | inr lacks ↦ lacks_none lacks ]

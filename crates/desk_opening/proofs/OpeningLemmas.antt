@@ -5,6 +5,7 @@ use Rattle.sqlite.specs.Tree.{Trees}
 use Rattle.sqlite.specs.Command.TheVariants.{Select}
 use Rattle.sqlite.specs.Effect.{Database}
 use Rattle.sqlite.specs.State.{State, HasCleanDisk}
+use Rattle.sql_front.specs.Found.{StandsSomewhere}
 use Rattle.sql_calls.specs.declared.fault.Fault.{Fault}
 use Rattle.sql_calls.specs.Calls.{RunsText, TakesFirst}
 use Rattle.sql_calls.specs.Standing.{Wears, HoldIn, Rests, Changes, Spoils}
@@ -12,11 +13,12 @@ use Rattle.sql_calls.proofs.Means.{Known}
 use Rattle.sql_calls.proofs.Ends.{begin_is, rollback_is}
 use Rattle.sql_calls.proofs.Changes as change
 use Rattle.rollout_machine.specs.Records.{Records}
-use Rattle.desk_records.specs.Schema.{Desk}
+use Rattle.desk_records.specs.Schema.{Desk, desk_table}
 use Rattle.desk_records.specs.Holds.{HoldsRecords}
 use Rattle.desk_records.specs.declared.texts.TheConstants.{GET_DESK}
 use Rattle.desk_records.proofs.Meaning.{desk_query, get_desk_is}
 use Rattle.desk_opening.specs.declared.opening.OpenFault.{OpenFault}
+use Rattle.desk_opening.specs.declared.opening.OpenFault.TheVariants.{NotDesk}
 use Rattle.desk_opening.specs.Opening.{Keeps, Adopts, HasDeskTables, HasNoRow, HasRow, LacksDesk, IsFailure, Tells}
 use Rattle.desk_opening.proofs.RowLemmas.{tells_on, tells_failure}
 
@@ -80,19 +82,29 @@ pub adopts_failed : {X A : Type 0} (view : X → State) (conn : X) (e : OpenFaul
 adopts_failed {A = A} view conn e fails out is = adopts_none view conn e (tells_failure A (HasRow (view conn).now) (LacksDesk (view conn).now) e fails) out is
 
 -- a connection that was wrapped is the same
-module _ {X B : Type 0} (view : X → State) (old first last : X) (same : first ≡ old) (tables : HasDeskTables (view old).now.schema) where
+module _ {X B : Type 0} (view : X → State) (old first last : X) (same : first ≡ old) (table : StandsSomewhere (view old).now.schema (desk_table 0)) where
   pub adopts_wrapped : {A : Type 0} (e : OpenFault) → Keeps {A = B} (view first) (view last) (Err e)
-      → (HasCleanDisk (view last) → HasDeskTables (view first).now.schema → Tells {A = B} (HasRow (view first).now) (HasNoRow (view first).now) (Err e)) → (out : Result A OpenFault) → out ≡ Err e
+      → (HasCleanDisk (view last) → StandsSomewhere (view first).now.schema (desk_table 0) → Tells {A = B} (HasRow (view first).now) (HasNoRow (view first).now) (Err e)) → (out : Result A OpenFault) → out ≡ Err e
       → IfErr out (λ _. (x : X) × Adopts (view old) (view x) out)
   adopts_wrapped e h tells (Ok a) is = tt
   adopts_wrapped {A} e h tells (Err f) is =
       let k = subst (λ x. Keeps {A = B} {E = OpenFault} (view x) (view last) (Err e)) same h in
-      let t = subst (λ x. HasCleanDisk (view last) → HasDeskTables (view x).now.schema → Tells {A = B} (HasRow (view x).now) (HasNoRow (view x).now) (Err e)) same tells in
-      (last, record { keeps = record { wears = k.wears; keeps = k.keeps }; tells = λ clean. subst (λ r. Tells (HasRow (view old).now) (LacksDesk (view old).now) r) (sym is) (tells_on B A (HasRow (view old).now) (HasNoRow (view old).now) (LacksDesk (view old).now) inr e (t clean tables)) })
+      let t = subst (λ x. HasCleanDisk (view last) → StandsSomewhere (view x).now.schema (desk_table 0) → Tells {A = B} (HasRow (view x).now) (HasNoRow (view x).now) (Err e)) same tells in
+      (last, record { keeps = record { wears = k.wears; keeps = k.keeps }; tells = λ clean. subst (λ r. Tells (HasRow (view old).now) (LacksDesk (view old).now) r) (sym is) (tells_on B A (HasRow (view old).now) (HasNoRow (view old).now) (LacksDesk (view old).now) (λ none. inr (inl none)) e (t clean table)) })
 
   pub adopts_whole : (b : B) (given : X) → given ≡ last → Keeps {A = B} {E = OpenFault} (view first) (view last) (Ok b)
-      → (HasCleanDisk (view last) → HasDeskTables (view first).now.schema → Tells {A = B} (HasRow (view first).now) (HasNoRow (view first).now) (Ok b)) → Adopts (view old) (view given) (Ok given)
+      → (HasCleanDisk (view last) → StandsSomewhere (view first).now.schema (desk_table 0) → Tells {A = B} (HasRow (view first).now) (HasNoRow (view first).now) (Ok b)) → Adopts (view old) (view given) (Ok given)
   adopts_whole b given is h tells =
       let k = subst (λ x. Keeps {A = B} {E = OpenFault} (view x) (view last) (Ok b)) same h in
-      let t = subst (λ x. HasCleanDisk (view last) → HasDeskTables (view x).now.schema → Tells {A = B} (HasRow (view x).now) (HasNoRow (view x).now) (Ok b)) same tells in
-      subst (λ x. Adopts (view old) (view x) (Ok given)) (sym is) (record { keeps = record { wears = k.wears; keeps = k.keeps }; tells = λ clean. t clean tables })
+      let t = subst (λ x. HasCleanDisk (view last) → StandsSomewhere (view x).now.schema (desk_table 0) → Tells {A = B} (HasRow (view x).now) (HasNoRow (view x).now) (Ok b)) same tells in
+      subst (λ x. Adopts (view old) (view x) (Ok given)) (sym is) (record { keeps = record { wears = k.wears; keeps = k.keeps }; tells = λ clean. t clean table })
+
+  -- the row is of this version, and another table is not there
+  pub adopts_lacking : {A : Type 0} (b : B) → Keeps {A = B} {E = OpenFault} (view first) (view last) (Ok b)
+      → (HasCleanDisk (view last) → StandsSomewhere (view first).now.schema (desk_table 0) → Tells {A = B} (HasRow (view first).now) (HasNoRow (view first).now) (Ok b))
+      → (¬ HasDeskTables (view old).now.schema) → (out : Result A OpenFault) → out ≡ Err NotDesk → IfErr out (λ _. (x : X) × Adopts (view old) (view x) out)
+  adopts_lacking b h tells lacks (Ok a) is = tt
+  adopts_lacking b h tells lacks (Err f) is =
+      let k = subst (λ x. Keeps {A = B} {E = OpenFault} (view x) (view last) (Ok b)) same h in
+      let t = subst (λ x. HasCleanDisk (view last) → StandsSomewhere (view x).now.schema (desk_table 0) → Tells {A = B} (HasRow (view x).now) (HasNoRow (view x).now) (Ok b)) same tells in
+      (last, record { keeps = keeps_either (view old) (view last) b k (Err f); tells = λ clean. subst (λ r. Tells (HasRow (view old).now) (LacksDesk (view old).now) r) (sym is) (inr (inr (inr (record { row = t clean table; lacks = lacks })))) })

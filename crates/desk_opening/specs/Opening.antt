@@ -68,9 +68,15 @@ Tells Says Lacks (Err NewerVersion) = Says IsNewerRow
 Tells Says Lacks (Err Memory) = Unit {0}
 Tells Says Lacks (Err Store) = Unit {0}
 
--- a table is not there as the desk makes it, or `desk` has no row of number 1
+-- the row is of this version, and another table is not there as the desk makes it
+pub record LacksTables (db : Database) : Type 0 where
+  pub row : HasRow db IsDeskRow
+  pub lacks : ¬ HasDeskTables db.schema
+
+-- The table `desk` is not there as the desk makes it, or has no row of number 1, or the other tables are not there. A later version may have other tables, so they are
+-- asked for by this version alone.
 abbrev pub LacksDesk : Database → Type 0
-LacksDesk db = (¬ HasDeskTables db.schema) ⊎ HasNoRow db
+LacksDesk db = (¬ StandsSomewhere db.schema (desk_table 0)) ⊎ HasNoRow db ⊎ LacksTables db
 
 -- the fault is not of what the database holds
 abbrev pub IsFailure : OpenFault → Type 0

@@ -5,7 +5,7 @@ ghost use Rattle.sql_front.specs.Free.{LeavesFree};
 ghost use Rattle.sql_front.specs.Found.{StandsSomewhere};
 ghost use Rattle.std.specs.List.{list_any};
 ghost use Rattle.sqlite_catalog.specs.Change.{is_used};
-ghost use Rattle.desk_records.specs.Schema.{desk_names, name_of, table_at};
+ghost use Rattle.desk_records.specs.Schema.{desk_names, desk_table, name_of, table_at};
 ghost use Rattle.desk_opening.specs.Places.{place_of};
 ghost use Rattle.sqlite_value.specs.Order.{column};
 ghost use Rattle.desk_records.specs.ModuleRow.{StoredText};
@@ -162,7 +162,7 @@ pub(crate) fn open_fault(fault: Fault) -> OpenFault
 /// Reads the row of `desk`, and judges it.
 fn check_row<S: Alter>(calls: &mut Calls<S>) -> Result<(), OpenFault>
     ensures keeps { Keeps (state S.Store calls.old.conn) (state S.Store calls.new.conn) result }
-    ensures tells { HasCleanDisk (state S.Store calls.new.conn) → HasDeskTables (state S.Store calls.old.conn).now.schema → Tells (HasRow (state S.Store calls.old.conn).now) (HasNoRow (state S.Store calls.old.conn).now) result }
+    ensures tells { HasCleanDisk (state S.Store calls.new.conn) → StandsSomewhere (state S.Store calls.old.conn).now.schema (desk_table 0) → Tells (HasRow (state S.Store calls.old.conn).now) (HasNoRow (state S.Store calls.old.conn).now) result }
 {
     match read_desk_row(calls) {
         Ok(Some(row)) => judge(&row),
@@ -171,7 +171,7 @@ fn check_row<S: Alter>(calls: &mut Calls<S>) -> Result<(), OpenFault>
     }
 }
 
-/// Takes a database as the desk that it holds.
+/// Takes a database as the desk that it holds. The row of `desk` is judged before the other tables are: a later version may have others.
 pub fn adopt<S: Alter + Drop>(
     alloc: Global,
     conn: Connection<S>,
@@ -180,11 +180,15 @@ pub fn adopt<S: Alter + Drop>(
     ensures whole { IfOk result (λ adopted. HasDeskTables (state S.Store conn).now.schema) }
     ensures refused { IfErr result (λ e. (last : _) × Adopts (state S.Store conn) (state S.Store last) result) }
 {
-    if !has_desk_tables(alloc, conn.schema())? {
+    if !has_table(alloc, conn.schema(), DeskTable::Desk)? {
         return Err(OpenFault::NotDesk);
     }
+    let is_whole = has_desk_tables(alloc, conn.schema())?;
     let mut calls = Calls::new(conn);
     check_row(&mut calls)?;
+    if !is_whole {
+        return Err(OpenFault::NotDesk);
+    }
     Ok(calls.into_connection())
 }
 

@@ -129,6 +129,10 @@ fn a_database_with_no_desk_is_opened_by_its_names(rt: HostRuntime) -> Result<(),
             Err(OpenFault::NotDesk),
         ),
         (
+            "CREATE TABLE MODULE (number INTEGER PRIMARY KEY)",
+            Err(OpenFault::NotDesk),
+        ),
+        (
             "CREATE TABLE piece (number INTEGER PRIMARY KEY)",
             Err(OpenFault::NotDesk),
         ),
@@ -145,6 +149,73 @@ fn a_database_with_no_desk_is_opened_by_its_names(rt: HostRuntime) -> Result<(),
         let files = made_by(rt.alloc(), sql)?;
         assert_eq!(rt; outcome(rt.alloc(), files), wanted, "{sql}");
     }
+    Ok(())
+}
+
+/// A table of another name, with a row.
+const NOTE: &str =
+    "CREATE TABLE note (id INTEGER PRIMARY KEY, title TEXT NOT NULL); INSERT INTO note VALUES (7, 'kept')";
+
+/// What else is made of that table, and what the database is opened to.
+const MADE_OF_NOTE: [(&str, Result<bool, OpenFault>); 7] = [
+    ("", Ok(true)),
+    ("CREATE INDEX modules ON note (title)", Ok(true)),
+    ("CREATE VIEW modules AS SELECT title FROM note", Ok(true)),
+    (
+        "CREATE INDEX module ON note (title)",
+        Err(OpenFault::NotDesk),
+    ),
+    (
+        "CREATE INDEX Target_Tag ON note (title)",
+        Err(OpenFault::NotDesk),
+    ),
+    (
+        "CREATE VIEW desk AS SELECT title FROM note",
+        Err(OpenFault::NotDesk),
+    ),
+    (
+        "CREATE VIEW ARTIFACT AS SELECT title FROM note",
+        Err(OpenFault::NotDesk),
+    ),
+];
+
+/// Files with that table, and what a further statement has made of it.
+fn note_and(alloc: Global, sql: &str) -> Result<Files<Memory>, Fail> {
+    let text = format!(in alloc; "{NOTE}; {sql}")?;
+    made_by(alloc, text.as_str())
+}
+
+#[test]
+fn an_index_or_a_view_uses_a_name_too(rt: HostRuntime) -> Result<(), Fail> {
+    for (sql, wanted) in MADE_OF_NOTE {
+        let files = note_and(rt.alloc(), sql)?;
+        assert_eq!(rt; outcome(rt.alloc(), files), wanted, "{sql}");
+    }
+    Ok(())
+}
+
+/// The rows of the other table, in a text.
+fn rows_of_note<D: Disk + Drop>(conn: &mut Connection<FileStore<D>>) -> Result<String, Error> {
+    conn.query_row("SELECT group_concat(id || title) FROM note", &[])?
+        .get(0)
+}
+
+/// Whether the files are opened to a desk that asks for approval and has the other table with its row beside it. The files are given
+/// back.
+fn has_desk_and_note(alloc: Global, files: Files<Memory>) -> Result<(bool, Files<Memory>), Fail> {
+    let mut conn = open(alloc, files)?;
+    let asks = approval(&mut conn)?;
+    let rows = rows_of_note(&mut conn)?;
+    Ok((asks && rows.as_str() == "7kept", close(conn)))
+}
+
+#[test]
+fn a_desk_leaves_the_rows_of_others(rt: HostRuntime) -> Result<(), Fail> {
+    let alloc = rt.alloc();
+    let (is_made, files) = has_desk_and_note(alloc, note_and(alloc, "")?)?;
+    assert!(rt; is_made);
+    let (is_taken, _files) = has_desk_and_note(alloc, files)?;
+    assert!(rt; is_taken);
     Ok(())
 }
 
@@ -177,6 +248,51 @@ fn a_desk_is_opened_by_its_row(rt: HostRuntime) -> Result<(), Fail> {
     for (sql, wanted) in cases {
         let files = desk_with(rt.alloc(), sql)?;
         assert_eq!(rt; outcome(rt.alloc(), files), wanted, "{sql}");
+    }
+    Ok(())
+}
+
+/// What makes a desk one of another version, or none, and the fault: the row of `desk` is looked at before the other tables.
+const OTHER_DESKS: [(&str, OpenFault); 8] = [
+    (
+        "DROP TABLE piece; INSERT INTO desk VALUES (1, 'fwdesk', 99, 0)",
+        OpenFault::NewerVersion,
+    ),
+    (
+        "DROP TABLE module; CREATE TABLE module (number INTEGER PRIMARY KEY, name TEXT NOT NULL, type TEXT NOT NULL, version TEXT NOT NULL, size INTEGER NOT NULL, UNIQUE (name, type, version)) STRICT; INSERT INTO desk VALUES (1, 'fwdesk', 99, 0)",
+        OpenFault::NewerVersion,
+    ),
+    (
+        "DROP TABLE piece; INSERT INTO desk VALUES (1, 'fwdesk', 2, 0)",
+        OpenFault::NewerVersion,
+    ),
+    (
+        "DROP TABLE piece; INSERT INTO desk VALUES (1, 'fwdesk', 1, 0)",
+        OpenFault::NotDesk,
+    ),
+    (
+        "DROP TABLE piece; INSERT INTO desk VALUES (1, 'fwdesk', 0, 0)",
+        OpenFault::NotDesk,
+    ),
+    (
+        "INSERT INTO desk VALUES (1, 'fwdesk', 0, 0)",
+        OpenFault::NotDesk,
+    ),
+    (
+        "DROP TABLE piece; INSERT INTO desk VALUES (1, 'notes', 99, 0)",
+        OpenFault::NotDesk,
+    ),
+    (
+        "INSERT INTO desk VALUES (1, 'notes', 99, 0)",
+        OpenFault::NotDesk,
+    ),
+];
+
+#[test]
+fn the_row_of_a_desk_comes_before_its_tables(rt: HostRuntime) -> Result<(), Fail> {
+    for (sql, fault) in OTHER_DESKS {
+        let files = desk_with(rt.alloc(), sql)?;
+        assert_eq!(rt; outcome(rt.alloc(), files), Err(fault), "{sql}");
     }
     Ok(())
 }

@@ -1,9 +1,8 @@
-use Rattle.desk_records.specs.Schema.{Desk}
 use Rattle.desk_opening.proofs.RowLemmas.{tells_none, tells_read}
 use Rattle.desk_opening.proofs.opening.check_row.Goals as goal
 
 pub returns-in-Ok-Some-clause-tells : goal.returns-in-Ok-Some-clause-tells
-returns-in-Ok-Some-clause-tells g c = λ clean tables. tells_read _ _ _ c.judge.result c.in-Ok-Some.field-0-is (c.in-Ok-Some.ensures.reads clean) (tables.stands Desk) c.judge.ensures
+returns-in-Ok-Some-clause-tells g c = λ clean stands. tells_read _ _ _ c.judge.result c.in-Ok-Some.field-0-is (c.in-Ok-Some.ensures.reads clean) stands c.judge.ensures
 
 pub returns-in-Ok-None-clause-tells : goal.returns-in-Ok-None-clause-tells
-returns-in-Ok-None-clause-tells g c = λ clean tables. tells_none _ _ c.in-Ok-None.field-0-is (c.in-Ok-None.ensures.reads clean) (tables.stands Desk)
+returns-in-Ok-None-clause-tells g c = λ clean stands. tells_none _ _ c.in-Ok-None.field-0-is (c.in-Ok-None.ensures.reads clean) stands
