@@ -195,12 +195,12 @@ module _ (page : Page) (f : Tree) (ts : List Target) where
   abbrev pub page_of_first : ℕ → PageOf ShownTarget
   page_of_first n = page_of page (matching_shown f (map seen (take n ts)))
 
-  pub next_chunk : (old new : RustPageOf ShownTarget) (chunk offset : ℕ) → offset ≡ chunk * 500 → (listed old ≡ page_of_first offset → listed new ≡ page_of_first (offset + 500)) → listed old ≡ page_of_first (chunk * 500) → listed new ≡ page_of_first ((chunk + 1) * 500)
+  pub next_chunk : (old new : RustPageOf ShownTarget) (chunk offset : ℕ) → offset ≡ chunk * 10000 → (listed old ≡ page_of_first offset → listed new ≡ page_of_first (offset + 10000)) → listed old ≡ page_of_first (chunk * 10000) → listed new ≡ page_of_first ((chunk + 1) * 10000)
   next_chunk old new chunk offset at adds was =
-      let next : offset + 500 ≡ (chunk + 1) * 500 = omega (arith, at) in
+      let next : offset + 10000 ≡ (chunk + 1) * 10000 = omega (arith, at) in
       adds (was ∙ ap page_of_first (sym at)) ∙ ap page_of_first next
 
-  pub last_chunk : (shown : RustPageOf ShownTarget) (chunk count : ℕ) → chunk ≡ count / 500 + min 1 (count % 500) → count ≡ length ts → listed shown ≡ page_of_first (chunk * 500) → listed shown ≡ page_of page (matching_shown f (map seen ts))
+  pub last_chunk : (shown : RustPageOf ShownTarget) (chunk count : ℕ) → chunk ≡ count / 10000 + min 1 (count % 10000) → count ≡ length ts → listed shown ≡ page_of_first (chunk * 10000) → listed shown ≡ page_of page (matching_shown f (map seen ts))
   last_chunk shown chunk count end is was =
-      let enough = (div_ceil_times count 500 (omega arith)).0 in
-      was ∙ ap (λ l. page_of page (matching_shown f (map seen l))) (take_all (chunk * 500) ts (omega (arith, end, is, enough)))
+      let enough = (div_ceil_times count 10000 (omega arith)).0 in
+      was ∙ ap (λ l. page_of page (matching_shown f (map seen l))) (take_all (chunk * 10000) ts (omega (arith, end, is, enough)))

@@ -22,8 +22,9 @@ use sqlite::Alter;
 use std::alloc::Global;
 use target_filter::{Filter, FilterFault, laws};
 
-/// How many targets one statement lists, where a filter goes through them all.
-const CHUNK: u32 = 500;
+/// How many targets one statement lists, where a filter goes through them all: as many as a desk keeps, since each
+/// further statement walks over those that were listed before it.
+const CHUNK: u32 = 10_000;
 
 /// Shows a page of the targets in byte order of their ids: of those that match the filter, or else of all.
 pub fn show_targets<S: Alter>(
@@ -137,7 +138,7 @@ fn add_chunk<S: Alter>(
     ensures same_reference { change.new.store.ghost_name ≡ change.old.store.ghost_name }
     ensures reads { Reads HoldsRecords (state S.Store change.old.store.now.calls.conn) (state S.Store change.new.store.now.calls.conn) result
         (λ now _. (f : Tree) → filter_of filter.now ≡ Some f → listed shown.old ≡ page_of page (matching_shown f (map seen (take offset now.targets)))
-        → listed shown.new ≡ page_of page (matching_shown f (map seen (take (offset + 500) now.targets)))) }
+        → listed shown.new ≡ page_of page (matching_shown f (map seen (take (offset + 10000) now.targets)))) }
 {
     let entries = change.read_targets(Page {
         offset,

@@ -11,4 +11,4 @@ returns-in_err-add_matching-clause-reads g c = second_fails HoldsRecords _ _ _ _
 pub returns-clause-reads : goal.returns-clause-reads
 returns-clause-reads g c =
     reads_as HoldsRecords _ _ _ _ _ _ (read_sorted _ _ _ _ (both_read HoldsRecords _ _ _ _ _ _ _ c.in_ok-entries.ensures.reads c.in_ok-add_matching.ensures.reads))
-    (λ r is f tree was. is.1.1 f tree _ was ∙ ap (page_of c.args.page) (chunk_matched r f is.0 c.args.offset 500 _ is.1.0))
+    (λ r is f tree was. is.1.1 f tree _ was ∙ ap (page_of c.args.page) (chunk_matched r f is.0 c.args.offset 10000 _ is.1.0))
