@@ -20,11 +20,11 @@ use Rattle.rollout_machine.proofs.Answering.{query_answer}
 use Rattle.rollout_model.specs.Limits.{piece_length}
 use Rattle.rollout_model.specs.declared.artifact.Artifact.{Artifact}
 use Rattle.rollout_model.specs.declared.refusal.Refusal.{Refusal}
-use Rattle.rollout_model.specs.declared.refusal.Refusal.TheVariants.{NoMemory, StoreFailed}
+use Rattle.rollout_model.specs.declared.refusal.Refusal.TheVariants.{NoMemory, NotFound, StoreFailed}
 use Rattle.rollout_model.specs.declared.request.Reply as model
 use Rattle.rollout_model.specs.declared.request.Reply.TheVariants as reply
 use Rattle.rollout_desk.specs.Desks.{desk_state_at}
-use Rattle.rollout_desk.specs.Downloads.{sent, next_length, artifact_in, Sends, BeginsAt, Begins, HandsPieces, DownloadsGoOn}
+use Rattle.rollout_desk.specs.Downloads.{sent, next_length, artifact_in, Sends, BeginsAt, Begins, HandsPieces, RefusesContents, DownloadsGoOn}
 use Rattle.rollout_desk.specs.Looks.{Looks, bytes_of}
 use Rattle.rollout_desk.specs.Steps.{is_store}
 use Rattle.rollout_desk.specs.declared.download.Download.{Download}
@@ -104,6 +104,21 @@ module _ {File : Type 0} (old new : DeskState File) (m k : ℕ) where
         ];
         becomes = it.becomes;
       }
+
+  refused_as : (r : Reply) → ((shown : Artifact) → r ≢ ArtifactShown shown) → (x : Option ArtifactRecord) → r ≡ for_artifact x → (refusal : Refusal) × (r ≡ Refused refusal)
+  refused_as r never None is = (NotFound, is)
+  refused_as r never (Some a) is = absurd (never (artifact_shown k a) is)
+
+  -- an answer that shows no artifact refuses
+  pub refuses : (r : Reply) → ((shown : Artifact) → r ≢ ArtifactShown shown) → Applies old new (Asks (Ask (ShowArtifact m k))) r → RefusesContents old new (ShowContents m k) r
+  refuses r never applies h clean standing =
+      elim (applies h clean standing).answers [
+        | inl none ↦ (NoMemory, none.0)
+        | inr other ↦ elim other [
+          | inl failed ↦ (StoreFailed, failed.0)
+          | inr found ↦ refused_as r never (artifact_of_module (records h) m k) (ap (λ (x : Answer). x.reply) (found.1 ∙ query_answer h (ShowArtifact m k)))
+        ]
+      ]
 
   module _ (shown : Artifact) (h : CommandList) (standing : StandsFor new h) where
     abbrev Begun : Type 0

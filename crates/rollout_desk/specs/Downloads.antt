@@ -7,14 +7,15 @@ use Rattle.rollout_machine.specs.ByteStrings.{item_numbered}
 use Rattle.rollout_machine.specs.CommandList.{CommandList, ◌▸◌}
 use Rattle.rollout_machine.specs.Commands.{Bytes, Command}
 use Rattle.rollout_machine.specs.Records.{ArtifactRecord, records}
-use Rattle.rollout_machine.specs.Replies.{ContentsShown}
-use Rattle.rollout_machine.specs.Requests.{Query, Ask, Asks}
+use Rattle.rollout_machine.specs.Replies as answers
+use Rattle.rollout_machine.specs.Replies.{ContentsShown, Refused}
+use Rattle.rollout_machine.specs.Requests.{Query, Ask, Asks, ShowContents}
 use Rattle.rollout_machine.specs.Standing.{DeskState, StandsFor, IsInDoubt, Applies}
 use Rattle.rollout_machine.specs.Views.{reply_of}
 use Rattle.rollout_model.specs.Limits.{piece_length}
 use Rattle.rollout_model.specs.declared.artifact.Artifact.{Artifact}
 use Rattle.rollout_model.specs.declared.refusal.Refusal.{Refusal}
-use Rattle.rollout_model.specs.declared.refusal.Refusal.TheVariants.{NoMemory, StoreFailed}
+use Rattle.rollout_model.specs.declared.refusal.Refusal.TheVariants.{NoMemory, StoreFailed, Stopped}
 use Rattle.rollout_model.specs.declared.request.Reply.{Reply}
 use Rattle.rollout_model.specs.declared.request.Reply.TheVariants as reply
 use Rattle.rollout_desk.specs.declared.download.Download.{Download}
@@ -50,6 +51,11 @@ abbrev pub Begins : {File : Type 0} → DeskState File → DeskState File → Qu
 Begins old new query (Ok p) = (h : CommandList) → new.is_clean → StandsFor old h → BeginsAt h new query p
 Begins old new query (Err r) = Applies old new (Asks (Ask query)) (reply_of r)
 
+-- a query of contents that begins no download is refused: its answer never has the contents
+abbrev pub RefusesContents : {File : Type 0} → DeskState File → DeskState File → Query → answers.Reply → Type 0
+RefusesContents old new (ShowContents m k) r = (h : CommandList) → new.is_clean → StandsFor old h → (refusal : Refusal) × (r ≡ Refused refusal)
+RefusesContents old new _ r = Unit {0}
+
 -- the next piece of the contents is handed out; with it, what was handed out so far is a first part of the contents
 pub record HandsOut (contents : Bytes) (p q : Download) (piece : Bytes) : Type 0 where
   pub next : piece ≡ take piece_length (drop (sent p) contents)
@@ -64,6 +70,10 @@ HandsAt h contents new p q (Err refusal) = (q ≡ p) × (((refusal ≡ NoMemory)
 -- on a desk that stands for any list, of any contents that are sent
 abbrev pub HandsPieces : {File : Type 0} → DeskState File → DeskState File → Download → Download → Result (Option (Vec ℕ Global)) Refusal → Type 0
 HandsPieces old new p q result = (h : CommandList) (contents : Bytes) → new.is_clean → StandsFor old h → Sends h p contents → HandsAt h contents new p q result
+
+-- memory was wanted, the store failed, or the desk is stopped
+abbrev pub IsInterruption : Refusal → Type 0
+IsInterruption refusal = (refusal ≡ NoMemory) ⊎ (refusal ≡ StoreFailed) ⊎ (refusal ≡ Stopped)
 
 -- the same artifact
 abbrev pub IsSame : Download → Download → Type 0

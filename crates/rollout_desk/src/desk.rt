@@ -1,7 +1,7 @@
 //! The desk.
 
 ghost use Rattle.std.specs.Prelude.{◌≡◌, true, false};
-ghost use Rattle.rollout_model.specs.declared.refusal.Refusal.TheVariants.{Stopped};
+ghost use Rattle.rollout_model.specs.declared.refusal.Refusal.TheVariants.{Stopped, StoreFailed};
 ghost use Rattle.rollout_machine.specs.Replies.{Refused};
 ghost use Rattle.rollout_machine.specs.Requests.{Asks, Do, Ask};
 ghost use Rattle.rollout_machine.specs.Standing.{Applies, StaysStopped};
@@ -41,6 +41,7 @@ impl<S: Alter> Desk<S> {
     pub fn apply(&mut self, command: &Command) -> Reply
         ensures clean { (desk_state S.Store self.new).is_clean → (desk_state S.Store self.old).is_clean }
         ensures applies { Applies (desk_state S.Store self.old) (desk_state S.Store self.new) (Asks (Do (command_of command.now))) (reply_of result) }
+        ensures stops { reply_of result ≡ Refused StoreFailed → (desk_state S.Store self.new).is_stopped ≡ true }
         ensures stopped { (desk_state S.Store self.old).is_stopped ≡ true → (reply_of result ≡ Refused Stopped) × StaysStopped (desk_state S.Store self.old) (desk_state S.Store self.new) }
     {
         if self.stopped {
@@ -55,6 +56,7 @@ impl<S: Alter> Desk<S> {
     pub fn ask(&mut self, query: &Query) -> Reply
         ensures clean { (desk_state S.Store self.new).is_clean → (desk_state S.Store self.old).is_clean }
         ensures applies { Applies (desk_state S.Store self.old) (desk_state S.Store self.new) (Asks (Ask (query_of query.now))) (reply_of result) }
+        ensures stops { reply_of result ≡ Refused StoreFailed → (desk_state S.Store self.new).is_stopped ≡ true }
         ensures stopped { (desk_state S.Store self.old).is_stopped ≡ true → (reply_of result ≡ Refused Stopped) × StaysStopped (desk_state S.Store self.old) (desk_state S.Store self.new) }
     {
         if self.stopped {
@@ -69,6 +71,7 @@ impl<S: Alter> Desk<S> {
     pub fn answer(&mut self, request: &Request) -> Reply
         ensures clean { (desk_state S.Store self.new).is_clean → (desk_state S.Store self.old).is_clean }
         ensures applies { Applies (desk_state S.Store self.old) (desk_state S.Store self.new) (Asks (request_of request.now)) (reply_of result) }
+        ensures stops { reply_of result ≡ Refused StoreFailed → (desk_state S.Store self.new).is_stopped ≡ true }
         ensures stopped { (desk_state S.Store self.old).is_stopped ≡ true → (reply_of result ≡ Refused Stopped) × StaysStopped (desk_state S.Store self.old) (desk_state S.Store self.new) }
     {
         match request {

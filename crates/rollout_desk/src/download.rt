@@ -5,9 +5,9 @@ ghost use Rattle.rollout_machine.specs.Replies.{Refused};
 ghost use Rattle.rollout_machine.specs.Requests.{ShowContents};
 ghost use Rattle.rollout_machine.specs.Standing.{StaysStopped};
 ghost use Rattle.rollout_machine.specs.Views.{query_of, reply_of};
-ghost use Rattle.rollout_model.specs.declared.refusal.Refusal.TheVariants.{Stopped};
+ghost use Rattle.rollout_model.specs.declared.refusal.Refusal.TheVariants.{Stopped, StoreFailed};
 ghost use Rattle.rollout_desk.specs.DeskStates.{desk_state};
-ghost use Rattle.rollout_desk.specs.Downloads.{Begins, HandsPieces, KeepsCount, DownloadsGoOn, artifact_in, next_length};
+ghost use Rattle.rollout_desk.specs.Downloads.{Begins, HandsPieces, IsInterruption, KeepsCount, RefusesContents, DownloadsGoOn, artifact_in, next_length};
 
 use crate::desk::Desk;
 use crate::look::{is_failed_store, of_length, read_piece};
@@ -65,7 +65,9 @@ impl<S: Alter> Desk<S> {
     pub fn download(&mut self, query: &Query) -> Result<Download, Reply>
         ensures clean { (desk_state S.Store self.new).is_clean → (desk_state S.Store self.old).is_clean }
         ensures begins { Begins (desk_state S.Store self.old) (desk_state S.Store self.new) (query_of query.now) result }
+        ensures refuses { IfErr result (λ reply. RefusesContents (desk_state S.Store self.old) (desk_state S.Store self.new) (query_of query.now) (reply_of reply)) }
         ensures runs { IfOk result (λ _. (desk_state S.Store self.old).is_stopped ≡ false) }
+        ensures stops { IfErr result (λ reply. reply_of reply ≡ Refused StoreFailed → (desk_state S.Store self.new).is_stopped ≡ true) }
         ensures stopped { (desk_state S.Store self.old).is_stopped ≡ true
             → IfErr result (λ reply. reply_of reply ≡ Refused Stopped) × StaysStopped (desk_state S.Store self.old) (desk_state S.Store self.new) }
     {
@@ -84,7 +86,9 @@ impl<S: Alter> Desk<S> {
     ) -> Result<Download, Reply>
         ensures clean { (desk_state S.Store self.new).is_clean → (desk_state S.Store self.old).is_clean }
         ensures begins { Begins (desk_state S.Store self.old) (desk_state S.Store self.new) (ShowContents module_number number) result }
+        ensures refuses { IfErr result (λ reply. RefusesContents (desk_state S.Store self.old) (desk_state S.Store self.new) (ShowContents module_number number) (reply_of reply)) }
         ensures runs { IfOk result (λ _. (desk_state S.Store self.old).is_stopped ≡ false) }
+        ensures stops { IfErr result (λ reply. reply_of reply ≡ Refused StoreFailed → (desk_state S.Store self.new).is_stopped ≡ true) }
         ensures stopped { (desk_state S.Store self.old).is_stopped ≡ true
             → IfErr result (λ reply. reply_of reply ≡ Refused Stopped) × StaysStopped (desk_state S.Store self.old) (desk_state S.Store self.new) }
     {
@@ -106,6 +110,8 @@ impl<S: Alter> Desk<S> {
         ensures clean { (desk_state S.Store self.new).is_clean → (desk_state S.Store self.old).is_clean }
         ensures hands { HandsPieces (desk_state S.Store self.old) (desk_state S.Store self.new) download.old download.new result }
         ensures counts { KeepsCount download.old download.new result }
+        ensures interrupted { IfErr result IsInterruption }
+        ensures stops { result ≡ Err Refusal.StoreFailed → (desk_state S.Store self.new).is_stopped ≡ true }
         ensures stopped { (desk_state S.Store self.old).is_stopped ≡ true → (result ≡ Err Refusal.Stopped) × StaysStopped (desk_state S.Store self.old) (desk_state S.Store self.new) }
     {
         if self.stopped {

@@ -3,7 +3,8 @@ use Rattle.rollout_machine.specs.Requests.{Asks, Ask, ShowArtifact, ShowContents
 use Rattle.rollout_machine.specs.Standing.{Applies}
 use Rattle.rollout_machine.specs.Views.{reply_of}
 use Rattle.rollout_desk.specs.DeskStates.{desk_state}
-use Rattle.rollout_desk.proofs.DownloadLemmas.{begun, contents_refused, other_reply, shown_reply}
+use Rattle.rollout_desk.specs.Downloads.{RefusesContents}
+use Rattle.rollout_desk.proofs.DownloadLemmas.{begun, contents_refused, other_reply, refuses, shown_reply}
 use Rattle.rollout_desk.proofs.desk.Desk.find_artifact.Goals as goal
 
 pub returns-in-Ok-clause-begins : goal.returns-in-Ok-clause-begins
@@ -20,3 +21,11 @@ returns-in-Err-clause-begins g c =
     let other = other_reply c.ask-reply.result c.in-Err.reply c.in-Err.ensures in
     subst (λ r. Applies was now (Asks (Ask (ShowContents c.args.module_number c.args.number))) (reply_of r)) other.0
     (contents_refused was now c.args.module_number c.args.number (reply_of c.ask-reply.result) other.1 c.ask-reply.ensures.applies)
+
+pub returns-in-Err-clause-refuses : goal.returns-in-Err-clause-refuses
+returns-in-Err-clause-refuses g c =
+    let was = desk_state g.S.Store c.args.self.now in
+    let now = desk_state g.S.Store c.ask-reply.new.self in
+    let other = other_reply c.ask-reply.result c.in-Err.reply c.in-Err.ensures in
+    subst (λ r. RefusesContents was now (ShowContents c.args.module_number c.args.number) (reply_of r)) other.0
+    (refuses was now c.args.module_number c.args.number (reply_of c.ask-reply.result) other.1 c.ask-reply.ensures.applies)
