@@ -1,7 +1,7 @@
 //! How many artifacts a module takes, and that it takes none once a set names it, to the byte, from a desk in memory.
 
 use super::exchange::reply_to;
-use super::messages::{ADD, ADD_NEXT, ADDED, ADDED_NEXT, EXISTS, NOT_FOUND};
+use super::messages::{ADD, ADD_NEXT, ADDED, ADDED_NEXT, EXISTS, NOT_FOUND, QUOTA};
 use rollout_desk::Desk;
 use std::test::Fail;
 
@@ -55,9 +55,6 @@ const ADDED_8: &[u8] =
 
 const ADD_NINTH: &[u8] =
     b"POST /rest/v1/softwaremodules/1/artifacts?filename=f9 HTTP/1.1\r\nContent-Length: 3\r\n\r\nabc";
-
-const QUOTA: &[u8] =
-    b"HTTP/1.1 403 Forbidden\r\nContent-Type: application/json\r\nContent-Length: 29\r\n\r\n{\"error\":\"quota\",\"number\":10}";
 
 /// The same name in the next module.
 const ADD_TO_NEXT: &[u8] =

@@ -7,10 +7,10 @@ use std::alloc::{AllocError, Global};
 use std::test::Fail;
 
 /// Adds an artifact of three bytes to the first module.
-const ADD_ABC: &[u8] =
+pub(super) const ADD_ABC: &[u8] =
     b"POST /rest/v1/softwaremodules/1/artifacts?filename=abc.bin HTTP/1.1\r\nContent-Length: 3\r\n\r\nabc";
 
-const ADDED_ABC: &[u8] =
+pub(super) const ADDED_ABC: &[u8] =
     b"HTTP/1.1 201 Created\r\nContent-Type: application/json\r\nContent-Length: 133\r\n\r\n{\"hashes\":{\"sha256\":\"ba7816bf8f01cfea414140de5dae2223b00361a396177a9cb410ff61f20015ad\"},\"id\":1,\"providedFilename\":\"abc.bin\",\"size\":3}";
 
 /// Adds an artifact of no bytes.
@@ -38,9 +38,10 @@ const SHOW_ABC: &[u8] = b"GET /rest/v1/softwaremodules/1/artifacts/1 HTTP/1.1\r\
 const ABC: &[u8] =
     b"HTTP/1.1 200 OK\r\nContent-Type: application/json\r\nContent-Length: 133\r\n\r\n{\"hashes\":{\"sha256\":\"ba7816bf8f01cfea414140de5dae2223b00361a396177a9cb410ff61f20015ad\"},\"id\":1,\"providedFilename\":\"abc.bin\",\"size\":3}";
 
-const DOWNLOAD_ABC: &[u8] = b"GET /rest/v1/softwaremodules/1/artifacts/1/download HTTP/1.1\r\n\r\n";
+pub(super) const DOWNLOAD_ABC: &[u8] =
+    b"GET /rest/v1/softwaremodules/1/artifacts/1/download HTTP/1.1\r\n\r\n";
 
-const BYTES_OF_ABC: &[u8] =
+pub(super) const BYTES_OF_ABC: &[u8] =
     b"HTTP/1.1 200 OK\r\nContent-Type: application/octet-stream\r\nContent-Length: 3\r\n\r\nabc";
 
 const DOWNLOAD_EMPTY: &[u8] =
@@ -76,12 +77,48 @@ const STEPS: [(&[u8], &[u8]); 13] = [
     (SHOW_SETS, NO_SETS),
 ];
 
+/// The same of no bytes, without a length.
+const ADD_NOTHING: &[u8] =
+    b"POST /rest/v1/softwaremodules/1/artifacts?filename=empty.bin HTTP/1.1\r\n\r\n";
+
+const ADDED_NOTHING: &[u8] =
+    b"HTTP/1.1 201 Created\r\nContent-Type: application/json\r\nContent-Length: 135\r\n\r\n{\"hashes\":{\"sha256\":\"e3b0c44298fc1c149afbf4c8996fb92427ae41e4649b934ca495991b7852b855\"},\"id\":1,\"providedFilename\":\"empty.bin\",\"size\":0}";
+
+const ABC_SECOND: &[u8] =
+    b"HTTP/1.1 201 Created\r\nContent-Type: application/json\r\nContent-Length: 133\r\n\r\n{\"hashes\":{\"sha256\":\"ba7816bf8f01cfea414140de5dae2223b00361a396177a9cb410ff61f20015ad\"},\"id\":2,\"providedFilename\":\"abc.bin\",\"size\":3}";
+
+/// Names the digest of the bytes, in upper case.
+const ADD_NAMED: &[u8] =
+    b"POST /rest/v1/softwaremodules/1/artifacts?filename=x.bin&sha256=BA7816BF8F01CFEA414140DE5DAE2223B00361A396177A9CB410FF61F20015AD HTTP/1.1\r\nContent-Length: 3\r\n\r\nabc";
+
+const ADDED_NAMED: &[u8] =
+    b"HTTP/1.1 201 Created\r\nContent-Type: application/json\r\nContent-Length: 131\r\n\r\n{\"hashes\":{\"sha256\":\"ba7816bf8f01cfea414140de5dae2223b00361a396177a9cb410ff61f20015ad\"},\"id\":3,\"providedFilename\":\"x.bin\",\"size\":3}";
+
+const PAGE_OF_ABC: &[u8] =
+    b"HTTP/1.1 200 OK\r\nContent-Type: application/json\r\nContent-Length: 166\r\n\r\n{\"content\":[{\"hashes\":{\"sha256\":\"ba7816bf8f01cfea414140de5dae2223b00361a396177a9cb410ff61f20015ad\"},\"id\":2,\"providedFilename\":\"abc.bin\",\"size\":3}],\"size\":1,\"total\":3}";
+
+/// A request that is refused takes no number.
+const NUMBERED: [(&[u8], &[u8]); 7] = [
+    (ADD, ADDED),
+    (ADD_NOTHING, ADDED_NOTHING),
+    (ADD_ABC, ABC_SECOND),
+    (ADD_ANOTHER, WRONG_DIGEST),
+    (ADD_NAMED, ADDED_NAMED),
+    (DOWNLOAD_ABC, NO_BYTES),
+    (SHOW_PAGE, PAGE_OF_ABC),
+];
+
+/// Courses of requests and replies, each from a new desk.
+const COURSES: [&[(&[u8], &[u8])]; 2] = [&STEPS, &NUMBERED];
+
 #[test]
 fn adds_and_shows_artifacts(rt: HostRuntime) -> Result<(), Fail> {
     let alloc = rt.alloc();
-    let mut desk = Desk::in_memory(alloc, false)?;
-    for (request, reply) in STEPS {
-        assert_eq!(rt; reply_to(alloc, &mut desk, request)?.as_slice(), reply);
+    for steps in COURSES {
+        let mut desk = Desk::in_memory(alloc, false)?;
+        for (request, reply) in steps {
+            assert_eq!(rt; reply_to(alloc, &mut desk, request)?.as_slice(), *reply);
+        }
     }
     Ok(())
 }
@@ -97,30 +134,49 @@ const ADDED_LARGE: &[u8] =
 const LARGE: &[u8] =
     b"HTTP/1.1 200 OK\r\nContent-Type: application/octet-stream\r\nContent-Length: 65537\r\n\r\n";
 
-/// 65,537 bytes: 0, 1, 2 and so on, and from 251 on again from 0.
-fn large_contents(alloc: Global) -> Result<Vec<u8>, AllocError> {
+/// The same of as many bytes as a body may have.
+const ADD_LARGEST: &[u8] =
+    b"POST /rest/v1/softwaremodules/1/artifacts?filename=full.bin HTTP/1.1\r\nContent-Length: 1048576\r\n\r\n";
+
+const ADDED_LARGEST: &[u8] =
+    b"HTTP/1.1 201 Created\r\nContent-Type: application/json\r\nContent-Length: 140\r\n\r\n{\"hashes\":{\"sha256\":\"631b84027d6b9e52b539c4e8373622d23032dfadc64d60af87339c9037e4f769\"},\"id\":1,\"providedFilename\":\"full.bin\",\"size\":1048576}";
+
+const LARGEST: &[u8] =
+    b"HTTP/1.1 200 OK\r\nContent-Type: application/octet-stream\r\nContent-Length: 1048576\r\n\r\n";
+
+/// How many bytes an artifact has, the head of the request that adds it, the reply, and the head of the reply that has its bytes.
+type Upload = (usize, &'static [u8], &'static [u8], &'static [u8]);
+
+const UPLOADS: [Upload; 2] = [
+    (65_537, ADD_LARGE, ADDED_LARGE, LARGE),
+    (1_048_576, ADD_LARGEST, ADDED_LARGEST, LARGEST),
+];
+
+/// So many bytes: 0, 1, 2 and so on, and from 251 on again from 0.
+fn contents_of(alloc: Global, size: usize) -> Result<Vec<u8>, AllocError> {
     let mut bytes = Vec::new(alloc);
-    for place in 0..65_537usize {
+    for place in 0..size {
         bytes.push((place % 251) as u8)?;
     }
     Ok(bytes)
 }
 
-#[test]
-fn gives_back_contents_of_two_pieces(rt: HostRuntime) -> Result<(), Fail> {
-    let alloc = rt.alloc();
+/// Whether contents come back as they were added.
+fn comes_back(alloc: Global, upload: Upload) -> Result<bool, Fail> {
+    let (size, add, added, head) = upload;
     let mut desk = Desk::in_memory(alloc, false)?;
-    let contents = large_contents(alloc)?;
-    let upload = joined(alloc, &[ADD_LARGE, &contents])?;
-    let download = joined(alloc, &[LARGE, &contents])?;
-    let steps: [(&[u8], &[u8]); 3] = [
-        (ADD, ADDED),
-        (&upload, ADDED_LARGE),
-        (DOWNLOAD_ABC, &download),
-    ];
-    for (request, reply) in steps {
-        let is_right = reply_to(alloc, &mut desk, request)?.as_slice() == reply;
-        assert!(rt; is_right);
+    let contents = contents_of(alloc, size)?;
+    let request = joined(alloc, &[add, &contents])?;
+    let reply = joined(alloc, &[head, &contents])?;
+    let is_added = reply_to(alloc, &mut desk, ADD)?.as_slice() == ADDED
+        && reply_to(alloc, &mut desk, &request)?.as_slice() == added;
+    Ok(is_added && reply_to(alloc, &mut desk, DOWNLOAD_ABC)?.as_slice() == reply.as_slice())
+}
+
+#[test]
+fn gives_back_contents_of_many_pieces(rt: HostRuntime) -> Result<(), Fail> {
+    for upload in UPLOADS {
+        assert!(rt; comes_back(rt.alloc(), upload)?, "{} bytes", upload.0);
     }
     Ok(())
 }

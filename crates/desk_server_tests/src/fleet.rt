@@ -1,7 +1,7 @@
 //! Pages of a fleet of ten targets, all or those that match a filter, to the byte, from a desk in memory.
 
-use super::exchange::reply_to;
-use super::messages::{BAD_METHOD, BAD_REQUEST};
+use super::exchange::{joined, reply_to};
+use super::messages::{BAD_FILTER, BAD_METHOD, BAD_REQUEST, DONE};
 use rollout_desk::Desk;
 use std::test::Fail;
 
@@ -13,9 +13,6 @@ const ACCEPTED_TEN: &[u8] =
     b"HTTP/1.1 201 Created\r\nContent-Type: application/json\r\nContent-Length: 15\r\n\r\n{\"accepted\":10}";
 
 const TAG_THIRD: &[u8] = b"POST /rest/v1/targets/dev-03/tags/lab HTTP/1.1\r\n\r\n";
-
-const DONE: &[u8] =
-    b"HTTP/1.1 200 OK\r\nContent-Type: application/json\r\nContent-Length: 2\r\n\r\n{}";
 
 const SHOW_LAST: &[u8] = b"GET /rest/v1/targets?offset=8&limit=5 HTTP/1.1\r\n\r\n";
 
@@ -48,14 +45,11 @@ const EITHER: &[u8] =
 
 const SHOW_NONE: &[u8] = b"GET /rest/v1/targets?q=attribute.os==linux HTTP/1.1\r\n\r\n";
 
-const NONE: &[u8] =
+pub(super) const NONE: &[u8] =
     b"HTTP/1.1 200 OK\r\nContent-Type: application/json\r\nContent-Length: 33\r\n\r\n{\"content\":[],\"size\":0,\"total\":0}";
 
 /// A filter that ends too early.
 const SHOW_NO_FILTER: &[u8] = b"GET /rest/v1/targets?q=(tag==a HTTP/1.1\r\n\r\n";
-
-const BAD_FILTER: &[u8] =
-    b"HTTP/1.1 400 Bad Request\r\nContent-Type: application/json\r\nContent-Length: 30\r\n\r\n{\"error\":\"filter\",\"number\":11}";
 
 const SHOW_TOO_MANY: &[u8] = b"GET /rest/v1/targets?limit=501 HTTP/1.1\r\n\r\n";
 
@@ -64,8 +58,25 @@ const SHOW_TWICE: &[u8] = b"GET /rest/v1/targets?q=tag==a&q=tag==b HTTP/1.1\r\n\
 
 const PATCH: &[u8] = b"PATCH /rest/v1/targets HTTP/1.1\r\n\r\n";
 
+/// The first of those that match by the part after the comma.
+const SHOW_AFTER_COMMA: &[u8] =
+    b"GET /rest/v1/targets?q=tag==lab;name!=x*,controllerid==dev-0*&limit=1 HTTP/1.1\r\n\r\n";
+
+const AFTER_COMMA: &[u8] =
+    b"HTTP/1.1 200 OK\r\nContent-Type: application/json\r\nContent-Length: 125\r\n\r\n{\"content\":[{\"attributes\":{},\"controllerId\":\"dev-01\",\"name\":\"dev-01\",\"tags\":[],\"updateStatus\":\"unknown\"}],\"size\":1,\"total\":9}";
+
+const SHOW_DEEP: &[u8] =
+    b"GET /rest/v1/targets?q=((((((((((((((((tag==lab)))))))))))))))) HTTP/1.1\r\n\r\n";
+
+const TAG_FIRST: &[u8] = b"POST /rest/v1/targets/dev-01/tags/lab HTTP/1.1\r\n\r\n";
+
+const SHOW_ONE: &[u8] = b"GET /rest/v1/targets/dev-01 HTTP/1.1\r\n\r\n";
+
+const ONE: &[u8] =
+    b"HTTP/1.1 200 OK\r\nContent-Type: application/json\r\nContent-Length: 97\r\n\r\n{\"attributes\":{},\"controllerId\":\"dev-01\",\"name\":\"dev-01\",\"tags\":[\"lab\"],\"updateStatus\":\"unknown\"}";
+
 /// Requests in their order, and their replies.
-const STEPS: [(&[u8], &[u8]); 12] = [
+const STEPS: [(&[u8], &[u8]); 16] = [
     (PUT_FLEET, ACCEPTED_TEN),
     (TAG_THIRD, DONE),
     (SHOW_LAST, LAST),
@@ -78,6 +89,10 @@ const STEPS: [(&[u8], &[u8]); 12] = [
     (SHOW_TOO_MANY, BAD_REQUEST),
     (SHOW_TWICE, BAD_REQUEST),
     (PATCH, BAD_METHOD),
+    (SHOW_AFTER_COMMA, AFTER_COMMA),
+    (SHOW_DEEP, TAGGED),
+    (TAG_FIRST, DONE),
+    (SHOW_ONE, ONE),
 ];
 
 #[test]
@@ -86,6 +101,38 @@ fn shows_pages_of_a_fleet(rt: HostRuntime) -> Result<(), Fail> {
     let mut desk = Desk::in_memory(alloc, false)?;
     for (request, reply) in STEPS {
         assert_eq!(rt; reply_to(alloc, &mut desk, request)?.as_slice(), reply);
+    }
+    Ok(())
+}
+
+/// Queries, in parts, and their replies. A filter has 512 bytes at most.
+const QUERIES: [(&[&[u8]], &[u8]); 13] = [
+    (&[b"offset=01"], BAD_REQUEST),
+    (&[b"offset=0&offset=0"], BAD_REQUEST),
+    (&[b"q=%FF"], BAD_REQUEST),
+    (&[b"limit=0"], BAD_REQUEST),
+    (&[b"q="], BAD_FILTER),
+    (&[b"q=tag=a"], BAD_FILTER),
+    (&[b"q=tag=="], BAD_FILTER),
+    (&[b"q=tag==a;"], BAD_FILTER),
+    (&[b"q=(tag==a))"], BAD_FILTER),
+    (&[b"q=name==%22a"], BAD_FILTER),
+    (&[b"q=(((((((((((((((((tag==a)))))))))))))))))"], BAD_FILTER),
+    (&[b"q=name==", &[b'a'; 506]], NONE),
+    (&[b"q=name==", &[b'a'; 507]], BAD_FILTER),
+];
+
+#[test]
+fn answers_each_query_by_its_form(rt: HostRuntime) -> Result<(), Fail> {
+    let alloc = rt.alloc();
+    let mut desk = Desk::in_memory(alloc, false)?;
+    for (parts, reply) in QUERIES {
+        let query = joined(alloc, parts)?;
+        let request = joined(
+            alloc,
+            &[b"GET /rest/v1/targets?", &query, b" HTTP/1.1\r\n\r\n"],
+        )?;
+        assert_eq!(rt; reply_to(alloc, &mut desk, &request)?.as_slice(), reply);
     }
     Ok(())
 }

@@ -20,6 +20,8 @@ mod fuses;
 #[cfg(test)]
 mod memory;
 #[cfg(test)]
+mod memory_of_streams;
+#[cfg(test)]
 mod messages;
 #[cfg(test)]
 mod orders;

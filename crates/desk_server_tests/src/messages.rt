@@ -21,6 +21,9 @@ pub(super) const ADDED_NEXT: &[u8] =
 pub(super) const ADDED_LAST: &[u8] =
     b"HTTP/1.1 201 Created\r\nContent-Type: application/json\r\nContent-Length: 66\r\n\r\n[{\"id\":3,\"locked\":false,\"name\":\"app\",\"type\":\"os\",\"version\":\"1.2\"}]";
 
+pub(super) const DONE: &[u8] =
+    b"HTTP/1.1 200 OK\r\nContent-Type: application/json\r\nContent-Length: 2\r\n\r\n{}";
+
 pub(super) const BAD_REQUEST: &[u8] =
     b"HTTP/1.1 400 Bad Request\r\nContent-Type: application/json\r\nContent-Length: 34\r\n\r\n{\"error\":\"bad_request\",\"number\":1}";
 
@@ -35,6 +38,12 @@ pub(super) const EXISTS: &[u8] =
 
 pub(super) const TOO_LARGE: &[u8] =
     b"HTTP/1.1 413 Payload Too Large\r\nContent-Type: application/json\r\nContent-Length: 32\r\nConnection: close\r\n\r\n{\"error\":\"too_large\",\"number\":9}";
+
+pub(super) const QUOTA: &[u8] =
+    b"HTTP/1.1 403 Forbidden\r\nContent-Type: application/json\r\nContent-Length: 29\r\n\r\n{\"error\":\"quota\",\"number\":10}";
+
+pub(super) const BAD_FILTER: &[u8] =
+    b"HTTP/1.1 400 Bad Request\r\nContent-Type: application/json\r\nContent-Length: 30\r\n\r\n{\"error\":\"filter\",\"number\":11}";
 
 pub(super) const NO_MEMORY: &[u8] =
     b"HTTP/1.1 503 Service Unavailable\r\nContent-Type: application/json\r\nContent-Length: 30\r\n\r\n{\"error\":\"memory\",\"number\":15}";
