@@ -30,41 +30,37 @@ fn digests(rt: HostRuntime) -> Result<(), Fail> {
     Ok(())
 }
 
-#[test]
-fn pieces(rt: HostRuntime) -> Result<(), Fail> {
-    let alloc = rt.alloc();
-    assert_eq!(rt; cut(0).count(), 0);
-    assert_eq!(rt; cut(65_536).count(), 1);
-    let mut three = cut(150_000);
-    assert_eq!(rt;
-        three.next(),
-        Some(Piece {
-            from: 0,
-            len: 65_536
-        })
-    );
-    assert_eq!(rt;
-        three.next(),
-        Some(Piece {
-            from: 65_536,
-            len: 65_536
-        })
-    );
-    assert_eq!(rt;
-        three.next(),
-        Some(Piece {
-            from: 131_072,
-            len: 18_928
-        })
-    );
-    assert_eq!(rt; three.next(), None);
-    assert_eq!(rt; cut(1_048_576).count(), 16);
-    let parts = vec![in alloc; vec![in alloc; 1, 2]?, vec![in alloc; 3]?]?;
-    match join(alloc, parts.as_slice()) {
-        Ok(whole) => assert_eq!(rt; whole.as_slice(), [1, 2, 3].as_slice()),
-        Err(_) => return Err(Fail::from("no memory")),
+/// How many bytes there are, and how many come before each piece of them and are in it.
+const CUTS: [(usize, &[(usize, usize)]); 6] = [
+    (0, &[]),
+    (1, &[(0, 1)]),
+    (65_535, &[(0, 65_535)]),
+    (65_536, &[(0, 65_536)]),
+    (65_537, &[(0, 65_536), (65_536, 1)]),
+    (150_000, &[(0, 65_536), (65_536, 65_536), (131_072, 18_928)]),
+];
+
+/// Whether so many bytes are cut into these pieces.
+fn is_cut(total: usize, wanted: &[(usize, usize)]) -> bool {
+    let mut pieces = cut(total);
+    for (from, len) in wanted {
+        let piece = Piece {
+            from: *from,
+            len: *len,
+        };
+        if pieces.next() != Some(piece) {
+            return false;
+        }
     }
-    Ok(())
+    pieces.next().is_none()
+}
+
+#[test]
+fn pieces(rt: HostRuntime) {
+    for (total, wanted) in &CUTS {
+        assert!(rt; is_cut(*total, wanted), "{total}");
+    }
+    assert_eq!(rt; cut(1_048_576).count(), 16);
 }
 
 /// Whether these bytes are made whole again of their first 65,536 and the rest.
@@ -80,24 +76,19 @@ fn is_joined(alloc: Global, whole: &[u8]) -> Result<bool, Fail> {
 }
 
 #[test]
+fn joined_pieces(rt: HostRuntime) -> Result<(), Fail> {
+    let alloc = rt.alloc();
+    let parts = vec![in alloc; vec![in alloc; 1, 2]?, vec![in alloc; 3]?]?;
+    match join(alloc, parts.as_slice()) {
+        Ok(whole) => assert_eq!(rt; whole.as_slice(), [1, 2, 3].as_slice()),
+        Err(_) => return Err(Fail::from("no memory")),
+    }
+    Ok(())
+}
+
+#[test]
 fn a_byte_more_than_a_piece(rt: HostRuntime) -> Result<(), Fail> {
     let alloc = rt.alloc();
-    let mut two = cut(65_537);
-    assert_eq!(rt;
-        two.next(),
-        Some(Piece {
-            from: 0,
-            len: 65_536
-        })
-    );
-    assert_eq!(rt;
-        two.next(),
-        Some(Piece {
-            from: 65_536,
-            len: 1
-        })
-    );
-    assert_eq!(rt; two.next(), None);
     let mut whole = vec![in alloc; 7; 65_536]?;
     whole.push(8)?;
     assert!(rt; is_joined(alloc, whole.as_slice())?);
