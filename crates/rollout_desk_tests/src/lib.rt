@@ -8,6 +8,8 @@ mod attributes;
 #[cfg(test)]
 mod beside_the_program;
 #[cfg(test)]
+mod course;
+#[cfg(test)]
 mod downloads;
 #[cfg(test)]
 mod files;
@@ -18,11 +20,19 @@ mod fuses;
 #[cfg(test)]
 mod fuses_of_inventory;
 #[cfg(test)]
+mod fuses_of_queries;
+#[cfg(test)]
 mod inventory;
+#[cfg(test)]
+mod lent;
 #[cfg(test)]
 mod lines;
 #[cfg(test)]
 mod memory;
+#[cfg(test)]
+mod memory_of_downloads;
+#[cfg(test)]
+mod memory_of_files;
 #[cfg(test)]
 mod memory_of_inventory;
 #[cfg(test)]

@@ -1,58 +1,102 @@
-//! Commands on modules, artifacts, sets and targets where a request for memory may be refused: `tools/each-allocation` refuses each
-//! in turn. A command that wanted memory is given once more: what had been kept of it would be found then.
+//! A course of commands on modules, artifacts, sets and targets where a request for memory may be refused: `tools/each-allocation`
+//! refuses each in turn. A command that wanted memory has left all that was accepted before it and nothing else, as all queries
+//! show, and is given once more.
 
-use super::fleet::{lacks, shows};
-use super::inventory::{ID, STEPS, Step, command};
+use super::course::{Course, make_course};
+use super::fleet::refusal_in;
 use rollout_desk::Desk;
-use rollout_model::Reply;
+use rollout_model::{Query, Refusal, Reply};
 use sqlite::{Alter, MemStore};
 use std::alloc::Global;
 
-fn is_refusal(reply: &Reply) -> bool {
-    match reply {
-        Reply::Refused(_) => true,
-        _ => false,
+/// What came of commands.
+#[derive(Clone, Copy, Debug, PartialEq, Eq)]
+pub(super) enum Taking {
+    Taken,
+    /// Memory was wanting.
+    Wanting,
+    /// Memory was wanting for a commit or a rollback after so many commands were taken, so the desk refuses everything.
+    Stopped(usize),
+    Wrong,
+}
+
+/// Whether a desk answers a query so, at the second time of asking where memory was wanting at the first; or it refuses everything,
+/// since memory was wanting for a rollback.
+fn answers<S: Alter>(desk: &mut Desk<S>, query: &Query, wanted: &Reply) -> bool {
+    let reply = desk.ask(query);
+    match refusal_in(&reply) {
+        Some(Refusal::NoMemory) => desk.ask(query) == *wanted,
+        Some(Refusal::StoreFailed | Refusal::Stopped) => desk.stopped(),
+        _ => reply == *wanted,
     }
 }
 
-/// Whether a step is taken.
-fn takes<S: Alter>(alloc: Global, desk: &mut Desk<S>, step: Step) -> bool {
-    match command(alloc, step) {
-        Ok(command) => !is_refusal(&desk.apply(&command)),
-        Err(_) => false,
+/// Whether a desk shows what so many commands leave.
+pub(super) fn shows<S: Alter>(desk: &mut Desk<S>, course: &Course, done: usize) -> bool {
+    let Some(shown) = course.shown.get(done) else {
+        return false;
+    };
+    for (query, wanted) in course.queries.iter().zip(shown.iter()) {
+        if !answers(desk, query, wanted) {
+            return false;
+        }
+    }
+    true
+}
+
+/// What comes of a command once so many were taken.
+fn take<S: Alter>(desk: &mut Desk<S>, course: &Course, done: usize) -> Taking {
+    let Some(command) = course.commands.get(done) else {
+        return Taking::Wrong;
+    };
+    let Some(wanted) = course.replies.get(done) else {
+        return Taking::Wrong;
+    };
+    let reply = desk.apply(command);
+    match refusal_in(&reply) {
+        None if reply == *wanted => Taking::Taken,
+        Some(Refusal::NoMemory) => Taking::Wanting,
+        Some(Refusal::StoreFailed | Refusal::Stopped) if desk.stopped() => Taking::Stopped(done),
+        _ => Taking::Wrong,
     }
 }
 
-/// Whether the target is as so many steps leave it.
-fn is_left<S: Alter>(desk: &mut Desk<S>, done: usize) -> bool {
-    match done {
-        4 => shows(desk, ID, &["lab"], &[]),
-        5 => shows(desk, ID, &["lab", "north"], &[]),
-        6 => shows(desk, ID, &["lab", "north"], &[("os", "2")]),
-        _ => lacks(desk, ID),
+/// What comes of a command that is given once more where memory was wanting. The first time it has left nothing then.
+fn take_again<S: Alter>(desk: &mut Desk<S>, course: &Course, done: usize) -> Taking {
+    match take(desk, course, done) {
+        Taking::Wanting if shows(desk, course, done) => take(desk, course, done),
+        Taking::Wanting => Taking::Wrong,
+        taking => taking,
     }
 }
 
-/// Whether the target is as so many steps leave it, perhaps at the second look, since the first may want memory; or the desk refuses everything.
-fn stands<S: Alter>(desk: &mut Desk<S>, done: usize) -> bool {
-    is_left(desk, done) || is_left(desk, done) || desk.stopped()
-}
-
-/// Whether a step is taken, perhaps the second time, and leaves what it has to. The first time it leaves nothing where it isn't taken.
-fn goes_on(alloc: Global, desk: &mut Desk<MemStore>, done: usize, step: Step) -> bool {
-    let next = done.saturating_add(1);
-    if takes(alloc, desk, step) {
-        return stands(desk, next);
+/// What comes of all commands past the first ones. The desk shows what they leave.
+pub(super) fn take_from<S: Alter>(desk: &mut Desk<S>, course: &Course, first: usize) -> Taking {
+    let all = course.commands.len();
+    for done in first..all {
+        let taking = take_again(desk, course, done);
+        if taking != Taking::Taken {
+            return taking;
+        }
     }
-    stands(desk, done) && (takes(alloc, desk, step) || desk.stopped()) && stands(desk, next)
+    if shows(desk, course, all) {
+        Taking::Taken
+    } else {
+        Taking::Wrong
+    }
 }
 
 #[test]
 fn a_command_is_taken_whole_or_wants_memory(rt: HostRuntime) {
+    let Ok(course) = make_course(rt.alloc()) else {
+        return;
+    };
     let Ok(mut desk) = Desk::in_memory(rt.alloc(), false) else {
         return;
     };
-    for done in 0..STEPS.len() {
-        assert!(rt; goes_on(rt.alloc(), &mut desk, done, STEPS[done]), "{done}");
-    }
+    let taking = take_from(&mut desk, &course, 0);
+    assert!(rt;
+        taking != Taking::Wanting && taking != Taking::Wrong,
+        "{taking:?}"
+    );
 }
