@@ -4,9 +4,11 @@
 #include <stdlib.h>
 #include <string.h>
 
-enum { ROW_LIMIT = 100, TAG_LIMIT = 16, TARGET_LIMIT = 10000 };
+enum { ROW_LIMIT = 100, TAG_LIMIT = 16, ATTRIBUTE_LIMIT = 32, TARGET_LIMIT = 10000 };
 
 typedef struct { Text id, name, tags[TAG_LIMIT]; int tag_count; unsigned char digest[32]; } Row;
+typedef struct { Text key, value; } Attribute;
+typedef struct { Text id, name, tags[TAG_LIMIT]; Attribute attributes[ATTRIBUTE_LIMIT]; int tag_count, attribute_count; } Target;
 typedef struct { long offset, limit; Text tag; } Page;
 
 static sqlite3_stmt *get_target, *count_targets, *put_target, *set_target, *list_tags, *put_tag, *drop_tag, *list_attributes, *page_targets, *list_targets;
@@ -33,6 +35,25 @@ void finalize_targets(void) {
 
 static void bind_text(sqlite3_stmt *statement, int place, const Text *text) {
     sqlite3_bind_text(statement, place, text->bytes, (int)text->len, SQLITE_STATIC);
+}
+
+static void read_column(sqlite3_stmt *statement, int column, Text *text) {
+    const unsigned char *bytes = sqlite3_column_text(statement, column);
+    text->len = (size_t)sqlite3_column_bytes(statement, column);
+    if (text->len > TEXT_LIMIT) die("text");
+    memcpy(text->bytes, bytes, text->len);
+}
+
+// Reads the tags of a target, and answers how many they are.
+static int tags_of(const Text *id, Text tags[TAG_LIMIT]) {
+    int count = 0;
+    bind_text(list_tags, 1, id);
+    while (row_of(list_tags)) {
+        if (count == TAG_LIMIT) die("tags");
+        read_column(list_tags, 0, &tags[count++]);
+    }
+    sqlite3_reset(list_tags);
+    return count;
 }
 
 static int same(const Text *text, sqlite3_stmt *statement, int column) {
@@ -103,14 +124,7 @@ static int is_among(const Text *word, const Text *words, int count) {
 // Gives the target the row's tags in place of those that it has.
 static void put_tags(const Row *row) {
     Text had[TAG_LIMIT];
-    int count = 0;
-    bind_text(list_tags, 1, &row->id);
-    while (row_of(list_tags)) {
-        had[count].len = (size_t)sqlite3_column_bytes(list_tags, 0);
-        memcpy(had[count].bytes, sqlite3_column_text(list_tags, 0), had[count].len);
-        count++;
-    }
-    sqlite3_reset(list_tags);
+    int count = tags_of(&row->id, had);
     for (int i = 0; i < count; i++) {
         if (is_among(&had[i], row->tags, row->tag_count)) continue;
         bind_text(drop_tag, 1, &row->id);
@@ -164,41 +178,45 @@ void answer_put(const char *body, size_t len) {
 
 // ---- pages
 
-static int has_tag(const char *id, size_t len, const Text *tag) {
-    int found = 0;
-    sqlite3_bind_text(list_tags, 1, id, (int)len, SQLITE_STATIC);
-    while (row_of(list_tags)) found |= same(tag, list_tags, 0);
-    sqlite3_reset(list_tags);
-    return found;
-}
-
-// The rows of a statement as the members of an object or the items of a list, with commas between them.
-static size_t put_items(char *to, sqlite3_stmt *statement, const char *id, size_t len, int columns) {
-    size_t size = 0;
-    sqlite3_bind_text(statement, 1, id, (int)len, SQLITE_STATIC);
-    while (row_of(statement)) {
-        if (size) to[size++] = ',';
-        size += put_text(to + size, (const char *)sqlite3_column_text(statement, 0), (size_t)sqlite3_column_bytes(statement, 0));
-        if (columns == 1) continue;
-        to[size++] = ':';
-        size += put_text(to + size, (const char *)sqlite3_column_text(statement, 1), (size_t)sqlite3_column_bytes(statement, 1));
+static int attributes_of(const Text *id, Attribute attributes[ATTRIBUTE_LIMIT]) {
+    int count = 0;
+    bind_text(list_attributes, 1, id);
+    while (row_of(list_attributes)) {
+        if (count == ATTRIBUTE_LIMIT) die("attributes");
+        read_column(list_attributes, 0, &attributes[count].key);
+        read_column(list_attributes, 1, &attributes[count++].value);
     }
-    sqlite3_reset(statement);
-    return size;
+    sqlite3_reset(list_attributes);
+    return count;
 }
 
-// The target in the row that stands.
-static size_t put_target_object(char *to, sqlite3_stmt *statement) {
-    const char *id = (const char *)sqlite3_column_text(statement, 0);
-    size_t len = (size_t)sqlite3_column_bytes(statement, 0);
+// Reads the target in the row that stands with its tags and its attributes: a filter may ask for either, and its object shows both.
+static void read_target(sqlite3_stmt *statement, Target *target) {
+    read_column(statement, 0, &target->id);
+    read_column(statement, 1, &target->name);
+    target->tag_count = tags_of(&target->id, target->tags);
+    target->attribute_count = attributes_of(&target->id, target->attributes);
+}
+
+static size_t put(char *to, const Text *text) { return put_text(to, text->bytes, text->len); }
+
+static size_t put_target_object(char *to, const Target *target) {
     size_t size = (size_t)sprintf(to, "{\"attributes\":{");
-    size += put_items(to + size, list_attributes, id, len, 2);
+    for (int i = 0; i < target->attribute_count; i++) {
+        if (i) to[size++] = ',';
+        size += put(to + size, &target->attributes[i].key);
+        to[size++] = ':';
+        size += put(to + size, &target->attributes[i].value);
+    }
     size += (size_t)sprintf(to + size, "},\"controllerId\":");
-    size += put_text(to + size, id, len);
+    size += put(to + size, &target->id);
     size += (size_t)sprintf(to + size, ",\"name\":");
-    size += put_text(to + size, (const char *)sqlite3_column_text(statement, 1), (size_t)sqlite3_column_bytes(statement, 1));
+    size += put(to + size, &target->name);
     size += (size_t)sprintf(to + size, ",\"tags\":[");
-    size += put_items(to + size, list_tags, id, len, 1);
+    for (int i = 0; i < target->tag_count; i++) {
+        if (i) to[size++] = ',';
+        size += put(to + size, &target->tags[i]);
+    }
     return size + (size_t)sprintf(to + size, "],\"updateStatus\":\"unknown\"}");
 }
 
@@ -217,6 +235,7 @@ static Page read_page(const char *query) {
 
 void answer_page(const char *query) {
     static char body[BODY_LIMIT];
+    static Target target;
     Page page = read_page(query);
     sqlite3_stmt *statement = page.tag.len ? list_targets : page_targets;
     size_t size = (size_t)sprintf(body, "{\"content\":[");
@@ -226,12 +245,13 @@ void answer_page(const char *query) {
         sqlite3_bind_int64(page_targets, 2, page.offset);
     }
     while (row_of(statement)) {
+        read_target(statement, &target);
         if (page.tag.len) {
-            if (!has_tag((const char *)sqlite3_column_text(statement, 0), (size_t)sqlite3_column_bytes(statement, 0), &page.tag)) continue;
+            if (!is_among(&page.tag, target.tags, target.tag_count)) continue;
             if (total++ < page.offset || shown == page.limit) continue;
         }
         if (shown++) body[size++] = ',';
-        size += put_target_object(body + size, statement);
+        size += put_target_object(body + size, &target);
     }
     sqlite3_reset(statement);
     if (!page.tag.len) total = number_in(count_targets);
