@@ -68,12 +68,15 @@ fn takes<S: Alter>(alloc: Global, desk: &mut Desk<S>, count: u32) -> Result<bool
 fn a_desk_takes_a_thousand_modules(rt: HostRuntime) -> Result<(), Fail> {
     let mut desk = Desk::in_memory(rt.alloc(), false)?;
     assert!(rt; takes(rt.alloc(), &mut desk, 1000)?);
-    let refused = answers(
-        rt.alloc(),
-        &mut desk,
-        Line::Add("1.0"),
-        Said::Refused(Refusal::Quota),
-    )?;
-    assert!(rt; refused);
+    let full = [
+        (Line::Add("1.0"), Said::Refused(Refusal::Quota)),
+        (Line::Add("1000"), Said::Refused(Refusal::Exists)),
+        (Line::Show(1000), Said::Shown(1000, "1000")),
+        (Line::Show(1001), Said::Refused(Refusal::NotFound)),
+    ];
+    for (line, said) in full {
+        let is_right = answers(rt.alloc(), &mut desk, line, said)?;
+        assert!(rt; is_right, "{line:?}");
+    }
     Ok(())
 }

@@ -1,6 +1,6 @@
 //! Attributes that devices give.
 
-use super::fleet::{Pair, gives, puts_one, refusal_in, shows};
+use super::fleet::{Pair, gives, lacks, puts_one, refusal_in, shows};
 use rollout_desk::Desk;
 use rollout_model::{Refusal, Reply};
 use sqlite::{Alter, MemStore};
@@ -105,6 +105,38 @@ fn another_token_gives_none(rt: HostRuntime) -> Result<(), Fail> {
         )?
     );
     assert!(rt; shows(&mut desk, ID, &[], &[]));
+    Ok(())
+}
+
+/// Whether a target that is put with another token keeps what it has, and from then on takes attributes with this token alone.
+fn takes_new_token_alone<S: Alter>(alloc: Global, desk: &mut Desk<S>) -> Result<bool, Refusal> {
+    let put = puts_one(alloc, ID, OTHER, &[])?;
+    let is_put = desk.apply(&put) == Reply::TargetsPut(1);
+    Ok(
+        is_put
+            && shows(desk, ID, &[], &[("os", "linux")])
+            && refuses(alloc, desk, TOKEN, &[("os", "bsd")], Refusal::Unauthorized)?
+            && shows(desk, ID, &[], &[("os", "linux")])
+            && takes(alloc, desk, OTHER, &[("os", "bsd")])?
+            && shows(desk, ID, &[], &[("os", "bsd")]),
+    )
+}
+
+#[test]
+fn a_put_changes_the_token(rt: HostRuntime) -> Result<(), Fail> {
+    let mut desk = made(rt.alloc())?;
+    assert!(rt; takes(rt.alloc(), &mut desk, TOKEN, &[("os", "linux")])?);
+    assert!(rt; takes_new_token_alone(rt.alloc(), &mut desk)?);
+    Ok(())
+}
+
+#[test]
+fn a_device_without_a_target_gives_none(rt: HostRuntime) -> Result<(), Fail> {
+    let given = gives(rt.alloc(), "dev-02", TOKEN, &[("os", "linux")])?;
+    let mut desk = made(rt.alloc())?;
+    let reply = desk.apply(&given);
+    assert_eq!(rt; refusal_in(&reply), Some(Refusal::Unauthorized));
+    assert!(rt; lacks(&mut desk, "dev-02") && shows(&mut desk, ID, &[], &[]));
     Ok(())
 }
 

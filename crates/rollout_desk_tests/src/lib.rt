@@ -4,6 +4,8 @@
 #[cfg(test)]
 mod answers;
 #[cfg(test)]
+mod artifacts;
+#[cfg(test)]
 mod attributes;
 #[cfg(test)]
 mod beside_the_program;
@@ -16,6 +18,8 @@ mod files;
 #[cfg(test)]
 mod fleet;
 #[cfg(test)]
+mod full_desk;
+#[cfg(test)]
 mod fuses;
 #[cfg(test)]
 mod fuses_of_inventory;
@@ -25,6 +29,8 @@ mod fuses_of_queries;
 mod inventory;
 #[cfg(test)]
 mod lent;
+#[cfg(test)]
+mod limits;
 #[cfg(test)]
 mod lines;
 #[cfg(test)]
@@ -37,6 +43,8 @@ mod memory_of_files;
 mod memory_of_inventory;
 #[cfg(test)]
 mod memory_of_queries;
+#[cfg(test)]
+mod pages;
 #[cfg(test)]
 mod sets;
 #[cfg(test)]

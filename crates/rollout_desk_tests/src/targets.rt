@@ -1,6 +1,7 @@
 //! Targets of a desk: how many it takes, and what a further put leaves of one.
 
 use super::fleet::{gives, lacks, puts_one, refusal_in, row, shows, tags_one};
+use super::pages::{Asked, lists};
 use rollout_desk::Desk;
 use rollout_model::{Command, Refusal, Reply, TargetRows};
 use sqlite::{Alter, MemStore};
@@ -18,7 +19,7 @@ fn puts_many(alloc: Global, count: u32) -> Result<Command, Fail> {
 }
 
 /// Whether this says that so many rows were accepted.
-fn says_put(reply: &Reply, count: u32) -> bool {
+pub(super) fn says_put(reply: &Reply, count: u32) -> bool {
     match reply {
         Reply::TargetsPut(accepted) => *accepted == count,
         _ => false,
@@ -37,23 +38,42 @@ fn takes<S: Alter>(alloc: Global, desk: &mut Desk<S>, count: u32) -> Result<bool
     Ok(says_put(&reply, count))
 }
 
+/// The first page of all targets.
+const FIRST: Asked<'static> = (None, 0, 50);
+
 /// Whether no target of a put that was refused is there: not the first, nor the last that there was room for.
-fn keeps_none<S: Alter>(desk: &mut Desk<S>) -> bool {
-    lacks(desk, "t1") && lacks(desk, "t10000") && lacks(desk, "t10001")
+fn keeps_none<S: Alter>(alloc: Global, desk: &mut Desk<S>) -> Result<bool, Fail> {
+    Ok(
+        lacks(desk, "t1")
+            && lacks(desk, "t10000")
+            && lacks(desk, "t10001")
+            && lists(alloc, desk, FIRST, 0, &[])?,
+    )
 }
 
+/// The last page of 10,000 targets.
+pub(super) const LAST: Asked<'static> = (None, 9_997, 50);
+
+/// The last ids of 10,000 in their byte order.
+pub(super) const LAST_IDS: [&str; 3] = ["t9997", "t9998", "t9999"];
+
 /// Whether all that there is room for are there, and none beside them.
-fn keeps_all<S: Alter>(desk: &mut Desk<S>) -> bool {
-    shows(desk, "t1", &[], &[]) && shows(desk, "t10000", &[], &[]) && lacks(desk, "t10001")
+fn keeps_all<S: Alter>(alloc: Global, desk: &mut Desk<S>) -> Result<bool, Fail> {
+    Ok(
+        shows(desk, "t1", &[], &[])
+            && shows(desk, "t10000", &[], &[])
+            && lacks(desk, "t10001")
+            && lists(alloc, desk, LAST, 10_000, &LAST_IDS)?,
+    )
 }
 
 #[test]
 fn a_desk_takes_ten_thousand_targets(rt: HostRuntime) -> Result<(), Fail> {
     let mut desk = Desk::in_memory(rt.alloc(), false)?;
     assert!(rt; refuses(rt.alloc(), &mut desk, 10_001)?);
-    assert!(rt; keeps_none(&mut desk));
+    assert!(rt; keeps_none(rt.alloc(), &mut desk)?);
     assert!(rt; takes(rt.alloc(), &mut desk, 10_000)?);
-    assert!(rt; keeps_all(&mut desk));
+    assert!(rt; keeps_all(rt.alloc(), &mut desk)?);
     Ok(())
 }
 
