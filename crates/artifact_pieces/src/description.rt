@@ -7,7 +7,7 @@ use rollout_model::Digest;
 use sha2::{Digest as _, Sha256};
 
 /// What an artifact's contents are known by.
-#[derive(Clone, Copy, Debug, PartialEq, Eq)]
+#[derive(Clone, Copy)]
 pub struct Description {
     /// In bytes.
     pub size: usize,

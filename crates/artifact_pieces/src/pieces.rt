@@ -14,7 +14,7 @@ use std::marker::Model;
 const PIECE_LENGTH: usize = 65_536;
 
 /// A piece of some contents.
-#[derive(Clone, Copy, Debug, PartialEq, Eq)]
+#[derive(Clone, Copy)]
 pub struct Piece {
     /// The bytes before it.
     pub from: usize,
@@ -23,7 +23,7 @@ pub struct Piece {
 }
 
 /// The pieces of some contents that are still to come.
-#[derive(Debug, Drop)]
+#[derive(Drop)]
 pub struct Pieces {
     total: usize,
     count: usize,

@@ -15,7 +15,7 @@ pub use sets::{NewSet, SetView};
 pub use targets::{AttributesView, ImportView, TagView, UntagView};
 
 /// What the verdict on a command and its change rest on.
-#[derive(Clone, Copy, Debug, PartialEq, Eq)]
+#[derive(Clone, Copy)]
 pub enum View {
     AddModule(ModuleView),
     AddArtifact(ArtifactView),
@@ -27,7 +27,7 @@ pub enum View {
 }
 
 /// What is written of an accepted command, beside what the command itself says.
-#[derive(Clone, Copy, Debug, PartialEq, Eq)]
+#[derive(Clone, Copy)]
 pub enum Change {
     AddModule(NewModule),
     AddArtifact(NewArtifact),

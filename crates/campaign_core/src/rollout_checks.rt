@@ -26,7 +26,7 @@ pub use standing::StandingView;
 use standing::{approve, deny, pause, start};
 
 /// What the verdict on a command on rollouts and its change rest on.
-#[derive(Clone, Copy, Debug, PartialEq, Eq)]
+#[derive(Clone, Copy)]
 pub enum RolloutCommandView {
     Create(PlanView),
     Approve(StandingView),
@@ -44,7 +44,7 @@ pub enum RolloutCommandView {
 }
 
 /// What is written of an accepted command, beside what the command itself says.
-#[derive(Clone, Copy, Debug, PartialEq, Eq)]
+#[derive(Clone, Copy)]
 pub enum RolloutChange {
     Create(NewRollout),
     Approve,

@@ -10,7 +10,7 @@ use rollout_machine::Outcome;
 use rollout_model::{ActionWord, Approval, GroupWord, RolloutWord, TargetWord};
 
 /// What a rollout's word rests on, beside its groups.
-#[derive(Clone, Copy, Debug, PartialEq, Eq)]
+#[derive(Clone, Copy)]
 pub struct RolloutStatus {
     pub approval: Approval,
     pub started: bool,
@@ -18,7 +18,7 @@ pub struct RolloutStatus {
 }
 
 /// A group with its counts of outcomes and its error threshold, a percentage.
-#[derive(Clone, Copy, Debug, PartialEq, Eq)]
+#[derive(Clone, Copy)]
 pub struct GroupStatus {
     pub started: bool,
     pub size: u32,
@@ -29,7 +29,7 @@ pub struct GroupStatus {
 }
 
 /// An action, and whether its group is started.
-#[derive(Clone, Copy, Debug, PartialEq, Eq)]
+#[derive(Clone, Copy)]
 pub struct ActionStatus {
     pub outcome: Option<Outcome>,
     pub started: bool,
@@ -37,7 +37,7 @@ pub struct ActionStatus {
 }
 
 /// The started actions of a target: whether one is open, and how the one of the greatest number ended.
-#[derive(Clone, Copy, Debug, PartialEq, Eq)]
+#[derive(Clone, Copy)]
 pub struct TargetStatus {
     pub any_open: bool,
     pub last: Option<Outcome>,

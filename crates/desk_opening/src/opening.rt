@@ -26,7 +26,7 @@ use sqlite_schema::schema::{Schema, Table};
 use std::alloc::Global;
 
 /// Why a database is not opened as a desk.
-#[derive(Clone, Copy, Debug, PartialEq, Eq)]
+#[derive(Clone, Copy)]
 pub enum OpenFault {
     /// It uses a name of a desk's, and is none.
     NotDesk,

@@ -13,7 +13,7 @@ use sqlite_value::value::ValueRef;
 use std::str;
 
 /// An artifact as it is found by its number, without its contents.
-#[derive(Clone, Copy, Debug, PartialEq, Eq)]
+#[derive(Clone, Copy)]
 pub struct StoredArtifact {
     pub module_number: ModuleNo,
     pub filename: Filename,

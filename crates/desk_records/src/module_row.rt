@@ -9,7 +9,7 @@ use sqlite::{Error, ErrorCode, Row};
 use std::alloc::Global;
 
 /// A column that has a rule.
-#[derive(Clone, Copy, Debug, PartialEq, Eq)]
+#[derive(Clone, Copy)]
 pub enum Column {
     ModuleName,
     ModuleType,
@@ -32,7 +32,7 @@ pub enum Column {
 }
 
 /// Why a row gives no record.
-#[derive(Clone, Copy, Debug, PartialEq, Eq)]
+#[derive(Clone, Copy)]
 pub enum RowFault {
     Memory,
     /// The first column that breaks its rule.

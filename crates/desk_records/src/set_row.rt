@@ -10,7 +10,7 @@ use sqlite::Row;
 use std::alloc::Global;
 
 /// How a set is called: no two sets of a desk have the same name and version.
-#[derive(Debug, PartialEq, Eq, Drop)]
+#[derive(Drop)]
 pub struct SetName {
     pub name: Text,
     pub version: Text,

@@ -14,7 +14,7 @@ use std::alloc::Global;
 use std::str;
 
 /// What is kept of a target beside its id, its tags and its attributes.
-#[derive(Debug, PartialEq, Eq, Drop)]
+#[derive(Drop)]
 pub struct StoredTarget {
     pub name: Text,
     /// The SHA-256 of the target's token.
@@ -22,7 +22,7 @@ pub struct StoredTarget {
 }
 
 /// A target's id and name.
-#[derive(Debug, PartialEq, Eq, Drop)]
+#[derive(Drop)]
 pub struct ListedTarget {
     pub id: ControllerId,
     pub name: Text,

@@ -2,7 +2,7 @@
 use rollout_model::Refusal;
 
 /// Why the bytes at the front of a stream are no message, whatever follows. The connection ends with it.
-#[derive(Clone, Copy, Debug, PartialEq, Eq)]
+#[derive(Clone, Copy)]
 pub enum WireFault {
     /// The body is longer than the limit.
     TooLarge,

@@ -7,7 +7,7 @@ ghost use Rattle.http_wire.specs.Parse.{AreOfName};
 use crate::message::Field;
 
 /// The fields of one name.
-#[derive(Clone, Copy, Debug)]
+#[derive(Clone, Copy)]
 pub(crate) enum FieldsOfName<'a> {
     Absent,
     Once(Field<'a>),

@@ -10,7 +10,7 @@ use httparse::Status;
 use httparse::spans::{EMPTY_HEADER_SPAN, HeaderSpan, RequestSpans, Span, parse_request};
 
 /// Where the parts of a head are.
-#[derive(Clone, Copy, Debug)]
+#[derive(Clone, Copy)]
 pub(crate) struct HeadSpans {
     pub(crate) method: Span,
     pub(crate) target: Span,

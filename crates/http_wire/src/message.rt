@@ -15,7 +15,7 @@ use crate::region::{line_ends, region_len};
 use crate::target::{path_of, query_of};
 
 /// A name, and its value without the white space around it.
-#[derive(Clone, Copy, Debug)]
+#[derive(Clone, Copy)]
 pub struct Field<'a> {
     pub name: &'a [u8],
     pub value: &'a [u8],
@@ -27,7 +27,7 @@ const EMPTY_FIELD: Field<'static> = Field {
 };
 
 /// A whole message, whose parts are borrowed from the inbox.
-#[derive(Clone, Copy, Debug)]
+#[derive(Clone, Copy)]
 pub struct Message<'a> {
     pub method: &'a [u8],
     pub target: &'a [u8],

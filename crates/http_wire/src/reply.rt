@@ -10,7 +10,7 @@ use rollout_model::Refusal;
 use std::alloc::Global;
 
 /// What a body is.
-#[derive(Clone, Copy, Debug, PartialEq, Eq)]
+#[derive(Clone, Copy)]
 pub enum ContentType {
     /// `application/json`
     Json,
@@ -23,7 +23,7 @@ pub enum ContentType {
 }
 
 /// What answers a message that isn't refused.
-#[derive(Debug, Drop)]
+#[derive(Drop)]
 pub struct Answer {
     pub status: StatusCode,
     pub content_type: ContentType,

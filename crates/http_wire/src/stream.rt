@@ -8,7 +8,7 @@ use crate::fault::WireFault;
 use crate::message::read_front;
 
 /// How a stream ends after its whole messages.
-#[derive(Clone, Copy, Debug, PartialEq, Eq)]
+#[derive(Clone, Copy)]
 pub enum End {
     /// With nothing more.
     Input,
@@ -19,7 +19,7 @@ pub enum End {
 }
 
 /// What a whole stream is read to.
-#[derive(Clone, Copy, Debug, PartialEq, Eq)]
+#[derive(Clone, Copy)]
 pub struct Reading {
     /// How many whole messages it has.
     pub messages: usize,

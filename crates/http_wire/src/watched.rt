@@ -15,7 +15,7 @@ pub struct Watched<T> {
 }
 
 /// What went out before a write failed.
-#[derive(Clone, Copy, Debug, PartialEq, Eq)]
+#[derive(Clone, Copy)]
 pub struct Cut {
     pub written: usize,
 }

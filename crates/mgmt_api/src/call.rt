@@ -6,7 +6,7 @@ ghost use Rattle.mgmt_api.specs.Calls.{call_of, of_list, of_tag, only_by};
 use crate::routes::ManageRoute;
 
 /// A call of the management interface.
-#[derive(Clone, Copy, Debug, PartialEq, Eq)]
+#[derive(Clone, Copy)]
 pub enum ManageCall {
     /// `GET /rest/v1/softwaremodules`
     ShowModules,

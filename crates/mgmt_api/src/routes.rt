@@ -11,7 +11,7 @@ use std::alloc::{AllocError, Global};
 use std::str;
 
 /// Where a path leads.
-#[derive(Clone, Copy, Debug, PartialEq, Eq)]
+#[derive(Clone, Copy)]
 pub enum ManageRoute {
     /// `/rest/v1/softwaremodules`
     Modules,

@@ -18,7 +18,7 @@ use sqlite::Alter;
 const PIECE_LENGTH: u64 = 65_536;
 
 /// A download: how far the contents of an artifact were handed out, piece by piece. One that is dropped early changes nothing.
-#[derive(Clone, Copy, Debug)]
+#[derive(Clone, Copy)]
 pub struct Download {
     pub(crate) number: ArtifactNo,
     /// In bytes.

@@ -9,7 +9,7 @@ use desk_store::Fault;
 use rollout_model::{Refusal, Reply};
 
 /// What a command comes to inside a change.
-#[derive(Debug, Drop)]
+#[derive(Drop)]
 pub(crate) enum Step {
     /// It is accepted: its records are written, and this is its reply.
     Accepted(Reply),

@@ -1,7 +1,7 @@
 //! How actions end.
 
 /// How an action ended: installed, failed, or gone without either.
-#[derive(Clone, Copy, Debug, PartialEq, Eq)]
+#[derive(Clone, Copy)]
 pub enum Outcome {
     Good,
     Bad,

@@ -5,7 +5,7 @@ use crate::outcome::Outcome;
 use rollout_model::{Approval, ControllerId, HistoryEntry, Items, RolloutNo, RolloutPlan};
 
 /// A group of a rollout, with how many of its actions have which outcome.
-#[derive(Clone, Copy, Debug, PartialEq, Eq)]
+#[derive(Clone, Copy)]
 pub struct GroupRecord {
     /// From 1 in its rollout.
     pub number: u32,

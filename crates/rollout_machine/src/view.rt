@@ -1,7 +1,7 @@
 //! What the effects of a command on a rollout rest on, and these effects.
 
 /// A group with its counts of outcomes and its thresholds, percentages from 1 to 100.
-#[derive(Clone, Copy, Debug, PartialEq, Eq)]
+#[derive(Clone, Copy)]
 pub struct GroupView {
     pub number: u32,
     pub size: u32,
@@ -12,7 +12,7 @@ pub struct GroupView {
 }
 
 /// A rollout before a command: how many groups it has, the group of the action concerned, and the last one that was started.
-#[derive(Clone, Copy, Debug, PartialEq, Eq)]
+#[derive(Clone, Copy)]
 pub struct RolloutView {
     pub paused: bool,
     pub groups: u32,
@@ -21,7 +21,7 @@ pub struct RolloutView {
 }
 
 /// What a command does to its rollout beside what it was given for: whether it pauses it, and which group it starts.
-#[derive(Clone, Copy, Debug, PartialEq, Eq)]
+#[derive(Clone, Copy)]
 pub struct Effects {
     pub pauses: bool,
     pub starts: Option<u32>,

@@ -8,7 +8,7 @@ use crate::number::GREATEST;
 use std::marker::Model;
 
 /// The number of an action, from 1 to 2,147,483,647: the start of a rollout numbers its members' actions on from the last.
-#[derive(Clone, Copy, Debug, PartialEq, Eq, PartialOrd, Ord)]
+#[derive(Clone, Copy, PartialEq, Eq)]
 pub struct ActionNo {
     number: u32,
 }

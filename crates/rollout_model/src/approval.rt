@@ -1,7 +1,7 @@
 //! The approval of a rollout.
 
 /// Whether a rollout may be started.
-#[derive(Clone, Copy, Debug, PartialEq, Eq)]
+#[derive(Clone, Copy)]
 pub enum Approval {
     /// Nobody decided yet.
     Waiting,

@@ -10,7 +10,7 @@ use crate::number::ModuleNo;
 use std::alloc::{AllocError, Global};
 
 /// What an artifact is added by: no two artifacts of a module have the same name.
-#[derive(Debug, PartialEq, Eq, Drop)]
+#[derive(Drop)]
 pub struct Upload {
     /// The module that takes it.
     pub module_number: ModuleNo,
@@ -36,7 +36,7 @@ impl Upload {
 }
 
 /// An artifact as it is shown.
-#[derive(Clone, Copy, Debug, PartialEq, Eq)]
+#[derive(Clone, Copy)]
 pub struct Artifact {
     pub number: ArtifactNo,
     pub filename: Filename,

@@ -8,7 +8,7 @@ use crate::number::GREATEST;
 use std::marker::Model;
 
 /// The number of an artifact, from 1 to 2,147,483,647: the k-th artifact that was added, to whatever module, has number k.
-#[derive(Clone, Copy, Debug, PartialEq, Eq, PartialOrd, Ord)]
+#[derive(Clone, Copy, PartialEq, Eq)]
 pub struct ArtifactNo {
     number: u32,
 }

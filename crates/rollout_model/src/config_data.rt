@@ -10,7 +10,7 @@ use std::alloc::{AllocError, Global};
 use std::marker::Model;
 
 /// The attributes that a device gives at once: at most 32. Of those with one key the last one counts.
-#[derive(Debug, Drop)]
+#[derive(Drop)]
 pub struct ConfigData {
     attributes: Attributes,
 }

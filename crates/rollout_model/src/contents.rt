@@ -10,7 +10,7 @@ use std::alloc::{AllocError, Global};
 use std::marker::Model;
 
 /// The contents of an artifact: 0 to 1,048,576 bytes.
-#[derive(Debug, Drop)]
+#[derive(Drop)]
 pub struct Contents {
     bytes: Vec<u8>,
 }

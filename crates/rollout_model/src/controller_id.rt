@@ -13,7 +13,7 @@ use std::marker::Model;
 use std::str;
 
 /// The id of a target: 1 to 64 bytes of `A-Z a-z 0-9 . _ -`. Ids stand in byte order.
-#[derive(Clone, Copy, Debug)]
+#[derive(Clone, Copy)]
 pub struct ControllerId {
     letters: InlineBytes<64>,
 }

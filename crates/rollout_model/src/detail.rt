@@ -10,7 +10,7 @@ use std::alloc::{AllocError, Global};
 use std::marker::Model;
 
 /// A line that a device adds to its feedback: 0 to 256 bytes of UTF-8 without control characters (U+0000 to U+001F, U+007F).
-#[derive(Debug, Drop)]
+#[derive(Drop)]
 pub struct Detail {
     text: String,
 }

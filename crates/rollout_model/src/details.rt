@@ -11,7 +11,7 @@ use std::alloc::{AllocError, Global};
 use std::marker::Model;
 
 /// The lines that a device adds to one feedback: at most 8.
-#[derive(Debug, Drop)]
+#[derive(Drop)]
 pub struct Details {
     lines: Vec<Detail>,
 }

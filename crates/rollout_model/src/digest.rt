@@ -6,7 +6,7 @@ ghost use Rattle.rollout_model.specs.Rules.{is_digest, sha256_digest_of};
 use std::marker::Model;
 
 /// A SHA-256 digest (FIPS 180-4): 32 bytes.
-#[derive(Clone, Copy, Debug, PartialEq, Eq)]
+#[derive(Clone, Copy, PartialEq, Eq)]
 pub struct Digest {
     bytes: [u8; 32],
 }

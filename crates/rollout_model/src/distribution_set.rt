@@ -8,7 +8,7 @@ use crate::text::Text;
 use std::alloc::{AllocError, Global};
 
 /// What a distribution set is added by: no two sets of a desk have the same name and version.
-#[derive(Debug, PartialEq, Eq, Drop)]
+#[derive(Drop)]
 pub struct SetLabel {
     pub name: Text,
     pub version: Text,
@@ -33,7 +33,7 @@ impl SetLabel {
 }
 
 /// A distribution set as it is shown.
-#[derive(Debug, PartialEq, Eq, Drop)]
+#[derive(Drop)]
 pub struct DistributionSet {
     pub number: SetNo,
     pub label: SetLabel,

@@ -8,7 +8,7 @@ use crate::details::Details;
 use std::alloc::{AllocError, Global};
 
 /// A note on the way, which ends nothing.
-#[derive(Clone, Copy, Debug, PartialEq, Eq)]
+#[derive(Clone, Copy)]
 pub enum NoteWord {
     Proceeding,
     Scheduled,
@@ -16,7 +16,7 @@ pub enum NoteWord {
 }
 
 /// What a device reports of a deployment.
-#[derive(Clone, Copy, Debug, PartialEq, Eq)]
+#[derive(Clone, Copy)]
 pub enum DeploymentWord {
     /// It was installed, for good.
     Succeeded,
@@ -28,7 +28,7 @@ pub enum DeploymentWord {
 }
 
 /// What a device reports of a cancel.
-#[derive(Clone, Copy, Debug, PartialEq, Eq)]
+#[derive(Clone, Copy)]
 pub enum CancelWord {
     /// The action is given up, for good.
     Closed,
@@ -40,7 +40,7 @@ pub enum CancelWord {
 }
 
 /// A device's report of one of its actions.
-#[derive(Debug, PartialEq, Eq, Drop)]
+#[derive(Drop)]
 pub struct Report<W> {
     pub credential: Credential,
     pub action: ActionNo,
@@ -64,7 +64,7 @@ impl<W: Copy> Report<W> {
 }
 
 /// A report as the history of its action keeps it.
-#[derive(Debug, PartialEq, Eq, Drop)]
+#[derive(Drop)]
 pub enum HistoryEntry {
     Deployment(DeploymentWord, Details),
     Cancel(CancelWord, Details),

@@ -9,7 +9,7 @@ use std::marker::Model;
 use std::str;
 
 /// The name of an artifact: 1 to 128 bytes of `A-Z a-z 0-9 . _ -`.
-#[derive(Clone, Copy, Debug, PartialEq, Eq)]
+#[derive(Clone, Copy)]
 pub struct Filename {
     letters: InlineBytes<128>,
 }

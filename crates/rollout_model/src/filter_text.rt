@@ -8,7 +8,7 @@ use std::alloc::{AllocError, Global};
 use std::marker::Model;
 
 /// The text of a filter over targets, as it was asked for: any text, also one that is no filter.
-#[derive(Debug, Drop)]
+#[derive(Drop)]
 pub struct FilterText {
     text: String,
 }

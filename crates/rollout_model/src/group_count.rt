@@ -7,7 +7,7 @@ ghost use Rattle.rollout_model.specs.Rules.{is_group_count, group_count_of};
 use std::marker::Model;
 
 /// How many groups a rollout is cut into, from 1 to 50.
-#[derive(Clone, Copy, Debug, PartialEq, Eq, PartialOrd, Ord)]
+#[derive(Clone, Copy)]
 pub struct GroupCount {
     count: u32,
 }

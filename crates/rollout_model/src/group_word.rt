@@ -4,7 +4,7 @@ ghost use Rattle.std.specs.Prelude.{◌≡◌};
 ghost use Rattle.rollout_model.specs.StateTexts.{group_text};
 
 /// How far a group is: the first of these that applies.
-#[derive(Clone, Copy, Debug, PartialEq, Eq)]
+#[derive(Clone, Copy)]
 pub enum GroupWord {
     /// The rollout was not started.
     Ready,

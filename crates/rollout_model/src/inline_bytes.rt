@@ -5,7 +5,7 @@ ghost use Rattle.std.specs.Prelude.{◌≡◌, ◌≤◌, ◌-◌, ◌++◌, len
 use std::marker::Model;
 
 /// At most `N` bytes, which lie in the value itself and take no memory. What is past them is 0.
-#[derive(Clone, Copy, Debug, PartialEq, Eq)]
+#[derive(Clone, Copy)]
 pub struct InlineBytes<const N: usize> {
     bytes: [u8; N],
     len: usize,

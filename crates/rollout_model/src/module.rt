@@ -7,7 +7,7 @@ use crate::text::Text;
 use std::alloc::{AllocError, Global};
 
 /// What a module is added by: no two modules of a desk have the same name, kind and version.
-#[derive(Debug, PartialEq, Eq, Drop)]
+#[derive(PartialEq, Eq, Drop)]
 pub struct ModuleLabel {
     pub name: Text,
     /// What the module is for, as `os` or `application`.
@@ -32,7 +32,7 @@ impl ModuleLabel {
 }
 
 /// A module as it is shown.
-#[derive(Debug, PartialEq, Eq, Drop)]
+#[derive(Drop)]
 pub struct Module {
     pub number: ModuleNo,
     /// Whether a distribution set names it, so that it takes no further artifact.

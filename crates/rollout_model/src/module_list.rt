@@ -11,7 +11,7 @@ use std::alloc::{AllocError, Global};
 use std::marker::Model;
 
 /// The modules of a distribution set in their order: 1 to 8 numbers, none of them twice.
-#[derive(Debug, Drop)]
+#[derive(Drop)]
 pub struct ModuleList {
     numbers: Vec<ModuleNo>,
 }

@@ -10,7 +10,7 @@ use std::marker::Model;
 pub(crate) const GREATEST: u32 = 2_147_483_647;
 
 /// The number of a module, from 1 to 2,147,483,647: the k-th module that was added has number k.
-#[derive(Clone, Copy, Debug, PartialEq, Eq, PartialOrd, Ord)]
+#[derive(Clone, Copy, PartialEq, Eq)]
 pub struct ModuleNo {
     number: u32,
 }

@@ -1,7 +1,7 @@
 //! Pages of lists.
 
 /// The part of a list that is asked for.
-#[derive(Clone, Copy, Debug, PartialEq, Eq)]
+#[derive(Clone, Copy)]
 pub struct Page {
     /// How many entries come before it.
     pub offset: u32,
@@ -10,7 +10,7 @@ pub struct Page {
 }
 
 /// A part of a list, and how many entries the whole has.
-#[derive(Debug, PartialEq, Eq, Drop)]
+#[derive(Drop)]
 pub struct PageOf<T> {
     pub content: Vec<T>,
     pub total: u32,

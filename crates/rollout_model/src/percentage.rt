@@ -7,7 +7,7 @@ ghost use Rattle.rollout_model.specs.Rules.{is_percentage, percentage_of};
 use std::marker::Model;
 
 /// A threshold of a rollout's groups: a percentage of a group's members, from 1 to 100.
-#[derive(Clone, Copy, Debug, PartialEq, Eq, PartialOrd, Ord)]
+#[derive(Clone, Copy)]
 pub struct Percentage {
     percent: u8,
 }

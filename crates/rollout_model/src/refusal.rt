@@ -6,7 +6,7 @@ ghost use Rattle.rollout_model.specs.Refusals.{refusal_row, NoMemory};
 use std::alloc::{AllocError, AllocFailed};
 
 /// Why a request is refused. After each but `StoreFailed` the records are what they were before the request.
-#[derive(Clone, Copy, Debug, PartialEq, Eq)]
+#[derive(Clone, Copy, PartialEq, Eq)]
 pub enum Refusal {
     /// A body, a query or a member of it breaks its rule.
     BadRequest,

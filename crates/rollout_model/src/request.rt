@@ -21,7 +21,7 @@ use crate::word::Word;
 use std::alloc::{AllocError, Global};
 
 /// What changes a desk.
-#[derive(Debug, PartialEq, Eq, Drop)]
+#[derive(Drop)]
 pub enum Command {
     /// Adds a software module.
     AddModule(ModuleLabel),
@@ -59,7 +59,7 @@ impl Command {
 }
 
 /// What asks a desk and changes nothing.
-#[derive(Debug, PartialEq, Eq, Drop)]
+#[derive(Drop)]
 pub enum Query {
     /// A page of the modules, in the order of their numbers.
     Modules(Page),
@@ -82,14 +82,14 @@ pub enum Query {
 }
 
 /// A command or a query.
-#[derive(Debug, PartialEq, Eq, Drop)]
+#[derive(Drop)]
 pub enum Request {
     Do(Command),
     Ask(Query),
 }
 
 /// What a desk answers to a request.
-#[derive(Debug, PartialEq, Eq, Drop)]
+#[derive(Drop)]
 pub enum Reply {
     /// A command that has nothing to show was accepted.
     Done,

@@ -15,7 +15,7 @@ use crate::set_number::SetNo;
 use crate::text::Text;
 
 /// A rollout as it is shown.
-#[derive(Debug, PartialEq, Eq, Drop)]
+#[derive(Drop)]
 pub struct Rollout {
     pub number: RolloutNo,
     pub name: Text,
@@ -29,7 +29,7 @@ pub struct Rollout {
 }
 
 /// A group of a rollout as it is shown, with how many of its actions have which outcome.
-#[derive(Clone, Copy, Debug, PartialEq, Eq)]
+#[derive(Clone, Copy)]
 pub struct Group {
     /// From 1 in its rollout.
     pub number: u32,
@@ -45,7 +45,7 @@ pub struct Group {
 }
 
 /// An action, what one target is to do for one rollout, as it is shown.
-#[derive(Clone, Copy, Debug, PartialEq, Eq)]
+#[derive(Clone, Copy)]
 pub struct Action {
     pub number: ActionNo,
     pub rollout: RolloutNo,
@@ -56,21 +56,21 @@ pub struct Action {
 }
 
 /// An entry of an action's history, with its number in there, from 1.
-#[derive(Debug, PartialEq, Eq, Drop)]
+#[derive(Drop)]
 pub struct NumberedEntry {
     pub number: u32,
     pub entry: HistoryEntry,
 }
 
 /// What a device is offered: an action, or that it be canceled.
-#[derive(Clone, Copy, Debug, PartialEq, Eq)]
+#[derive(Clone, Copy)]
 pub struct Offer {
     pub action: ActionNo,
     pub canceling: bool,
 }
 
 /// A module of a deployment with its artifacts.
-#[derive(Debug, PartialEq, Eq, Drop)]
+#[derive(Drop)]
 pub struct Chunk {
     pub module_number: ModuleNo,
     pub label: ModuleLabel,
@@ -79,7 +79,7 @@ pub struct Chunk {
 }
 
 /// What a target is to install, by which action.
-#[derive(Debug, PartialEq, Eq, Drop)]
+#[derive(Drop)]
 pub struct Deployment {
     pub target: ControllerId,
     pub action: ActionNo,
@@ -88,7 +88,7 @@ pub struct Deployment {
 }
 
 /// A rollout with all its groups.
-#[derive(Debug, PartialEq, Eq, Drop)]
+#[derive(Drop)]
 pub struct RolloutReport {
     pub rollout: Rollout,
     /// In the order of their numbers.

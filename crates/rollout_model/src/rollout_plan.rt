@@ -10,7 +10,7 @@ use crate::text::Text;
 use std::alloc::{AllocError, Global};
 
 /// What a rollout is created from: no two rollouts have the same name.
-#[derive(Debug, PartialEq, Eq, Drop)]
+#[derive(Drop)]
 pub struct RolloutPlan {
     pub name: Text,
     /// The distribution set that its members are to install.

@@ -18,7 +18,7 @@ use crate::shown_target::ShownTarget;
 use std::alloc::{AllocError, Global};
 
 /// What changes rollouts: what their keepers do, and what devices report.
-#[derive(Debug, PartialEq, Eq, Drop)]
+#[derive(Drop)]
 pub enum RolloutCommand {
     /// Creates a rollout.
     Create(RolloutPlan),
@@ -43,7 +43,7 @@ pub enum RolloutCommand {
 }
 
 /// The cancel of an action of a target.
-#[derive(Clone, Copy, Debug, PartialEq, Eq)]
+#[derive(Clone, Copy)]
 pub struct Cancel {
     pub target: ControllerId,
     pub action: ActionNo,
@@ -74,7 +74,7 @@ impl RolloutCommand {
 }
 
 /// What asks for rollouts, actions and offers, and changes nothing.
-#[derive(Debug, PartialEq, Eq, Drop)]
+#[derive(Drop)]
 pub enum RolloutQuery {
     /// What the device is offered.
     Poll(Credential),
@@ -107,7 +107,7 @@ pub enum RolloutQuery {
 }
 
 /// What is answered to what changes rollouts or asks for them.
-#[derive(Debug, PartialEq, Eq, Drop)]
+#[derive(Drop)]
 pub enum RolloutReply {
     /// A command that has nothing to show was accepted.
     Done,

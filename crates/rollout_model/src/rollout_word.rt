@@ -4,7 +4,7 @@ ghost use Rattle.std.specs.Prelude.{◌≡◌};
 ghost use Rattle.rollout_model.specs.StateTexts.{rollout_text};
 
 /// How far a rollout is: the first of these that applies.
-#[derive(Clone, Copy, Debug, PartialEq, Eq)]
+#[derive(Clone, Copy)]
 pub enum RolloutWord {
     /// It waited for approval, which was denied.
     ApprovalDenied,

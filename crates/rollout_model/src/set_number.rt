@@ -8,7 +8,7 @@ use crate::number::GREATEST;
 use std::marker::Model;
 
 /// The number of a distribution set, from 1 to 2,147,483,647: the k-th set that was added has number k.
-#[derive(Clone, Copy, Debug, PartialEq, Eq, PartialOrd, Ord)]
+#[derive(Clone, Copy, PartialEq, Eq)]
 pub struct SetNo {
     number: u32,
 }

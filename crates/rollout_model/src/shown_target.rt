@@ -7,7 +7,7 @@ use crate::target_word::TargetWord;
 use crate::text::Text;
 
 /// A target as it is shown, without anything of its token.
-#[derive(Debug, PartialEq, Eq, Drop)]
+#[derive(Drop)]
 pub struct ShownTarget {
     pub id: ControllerId,
     pub name: Text,

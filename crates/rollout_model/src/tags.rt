@@ -11,7 +11,7 @@ use std::alloc::{AllocError, Global};
 use std::marker::Model;
 
 /// The tags of a target: at most 16 words, none of them twice.
-#[derive(Debug, Drop)]
+#[derive(Drop)]
 pub struct Tags {
     words: Vec<Word>,
 }

@@ -14,7 +14,7 @@ use std::alloc::{AllocError, Global};
 use std::marker::Model;
 
 /// A key with its value.
-#[derive(Debug, Drop)]
+#[derive(Drop)]
 pub struct Attribute {
     pub key: Word,
     pub value: Value,
@@ -48,7 +48,7 @@ impl Eq for Attribute {
 }
 
 /// The attributes of a target, a list of keys with their values.
-#[derive(Debug, Drop)]
+#[derive(Drop)]
 pub struct Attributes {
     pairs: Vec<Attribute>,
 }
@@ -114,7 +114,7 @@ impl Eq for Attributes {
 }
 
 /// A device of the fleet, as filters see it.
-#[derive(Debug, Drop)]
+#[derive(Drop)]
 pub struct Target {
     pub id: ControllerId,
     pub name: Text,

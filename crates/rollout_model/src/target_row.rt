@@ -13,7 +13,7 @@ use std::alloc::{AllocError, Global};
 use std::marker::Model;
 
 /// A target as it is put: a new one, or a new name, token and tags of the one of this id.
-#[derive(Debug, Drop)]
+#[derive(Drop)]
 pub struct TargetRow {
     pub id: ControllerId,
     pub name: Text,
@@ -56,7 +56,7 @@ impl Eq for TargetRow {
 }
 
 /// The rows of an import, in their order: of those with one id the last one counts.
-#[derive(Debug, Drop)]
+#[derive(Drop)]
 pub struct TargetRows {
     rows: Vec<TargetRow>,
 }

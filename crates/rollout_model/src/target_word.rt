@@ -4,7 +4,7 @@ ghost use Rattle.std.specs.Prelude.{◌≡◌};
 ghost use Rattle.rollout_model.specs.StateTexts.{target_text};
 
 /// How a target stands with what it was given to install.
-#[derive(Clone, Copy, Debug, PartialEq, Eq)]
+#[derive(Clone, Copy)]
 pub enum TargetWord {
     /// No action was begun, or the last one is gone.
     Unknown,

@@ -10,7 +10,7 @@ use std::alloc::{AllocError, Global};
 use std::marker::Model;
 
 /// A name, a kind or a version: 1 to 128 bytes of UTF-8 without control characters (U+0000 to U+001F, U+007F).
-#[derive(Debug, Drop)]
+#[derive(Drop)]
 pub struct Text {
     text: String,
 }

@@ -13,7 +13,7 @@ use std::marker::Model;
 use std::str;
 
 /// A tag or the key of an attribute: 1 to 64 bytes of `A-Z a-z 0-9 . _ -`. Words stand in byte order.
-#[derive(Clone, Copy, Debug)]
+#[derive(Clone, Copy)]
 pub struct Word {
     letters: InlineBytes<64>,
 }

@@ -3,7 +3,7 @@
 use rollout_model::{Command, RolloutCommand};
 
 /// A command that was accepted.
-#[derive(Debug, PartialEq, Eq, Drop)]
+#[derive(Drop)]
 pub enum Accepted {
     /// On modules, artifacts, sets or targets.
     Inventory(Command),

@@ -16,7 +16,7 @@ const COMMIT: &str = "COMMIT";
 const ROLLBACK: &str = "ROLLBACK";
 
 /// What was run and taken. Each number stays at 2^64 - 1 once it is there.
-#[derive(Clone, Copy, Debug, PartialEq, Eq)]
+#[derive(Clone, Copy)]
 pub struct Work {
     /// Statements that were handed in, whether or not they succeeded. BEGIN, COMMIT and ROLLBACK are not counted.
     pub statements: u64,

@@ -6,7 +6,7 @@ ghost use Rattle.sql_calls.specs.Faults.{fault_named};
 use sqlite::{Error, ErrorCode};
 
 /// Why a statement failed.
-#[derive(Clone, Copy, Debug, PartialEq, Eq)]
+#[derive(Clone, Copy)]
 pub enum Fault {
     /// `sqlite` was out of memory.
     Memory,

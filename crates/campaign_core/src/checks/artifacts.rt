@@ -12,7 +12,7 @@ const MODULE_ARTIFACT_LIMIT: u32 = 8;
 const ARTIFACT_LIMIT: u32 = 256;
 
 /// What adding an artifact rests on.
-#[derive(Clone, Copy, Debug, PartialEq, Eq)]
+#[derive(Clone, Copy)]
 pub struct ArtifactView {
     /// Whether its module is not there.
     pub misses_module: bool,
@@ -33,7 +33,7 @@ pub struct ArtifactView {
 }
 
 /// The artifact that is added.
-#[derive(Clone, Copy, Debug, PartialEq, Eq)]
+#[derive(Clone, Copy)]
 pub struct NewArtifact {
     pub number: ArtifactNo,
     /// In bytes.

@@ -9,7 +9,7 @@ use rollout_model::{ModuleNo, Refusal};
 const MODULE_LIMIT: u32 = 1000;
 
 /// What adding a module rests on.
-#[derive(Clone, Copy, Debug, PartialEq, Eq)]
+#[derive(Clone, Copy)]
 pub struct ModuleView {
     /// Whether a module of the same name, kind and version is there.
     pub same: bool,
@@ -18,7 +18,7 @@ pub struct ModuleView {
 }
 
 /// The module that is added.
-#[derive(Clone, Copy, Debug, PartialEq, Eq)]
+#[derive(Clone, Copy)]
 pub struct NewModule {
     pub number: ModuleNo,
 }

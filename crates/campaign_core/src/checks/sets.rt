@@ -9,7 +9,7 @@ use rollout_model::{Refusal, SetNo};
 const SET_LIMIT: u32 = 1000;
 
 /// What adding a set rests on.
-#[derive(Clone, Copy, Debug, PartialEq, Eq)]
+#[derive(Clone, Copy)]
 pub struct SetView {
     /// Whether one of its modules is not there.
     pub misses_module: bool,
@@ -20,7 +20,7 @@ pub struct SetView {
 }
 
 /// The set that is added.
-#[derive(Clone, Copy, Debug, PartialEq, Eq)]
+#[derive(Clone, Copy)]
 pub struct NewSet {
     pub number: SetNo,
 }

@@ -15,14 +15,14 @@ const TAG_LIMIT: u32 = 16;
 const ATTRIBUTE_LIMIT: u32 = 32;
 
 /// What putting targets rests on.
-#[derive(Clone, Copy, Debug, PartialEq, Eq)]
+#[derive(Clone, Copy)]
 pub struct ImportView {
     /// How many targets there are with the new ones.
     pub count_after: u32,
 }
 
 /// What tagging a target rests on.
-#[derive(Clone, Copy, Debug, PartialEq, Eq)]
+#[derive(Clone, Copy)]
 pub struct TagView {
     /// Whether the target is not there.
     pub misses_target: bool,
@@ -33,14 +33,14 @@ pub struct TagView {
 }
 
 /// What untagging a target rests on.
-#[derive(Clone, Copy, Debug, PartialEq, Eq)]
+#[derive(Clone, Copy)]
 pub struct UntagView {
     /// Whether the target is not there.
     pub misses_target: bool,
 }
 
 /// What putting attributes rests on.
-#[derive(Clone, Copy, Debug, PartialEq, Eq)]
+#[derive(Clone, Copy)]
 pub struct AttributesView {
     /// Whether no target has the device's id and the digest of its token.
     pub misses_device: bool,

@@ -11,7 +11,7 @@ use rollout_machine::{Effects, Outcome, RolloutView};
 use rollout_model::{Cancel, Refusal, RolloutNo};
 
 /// An action and its rollout.
-#[derive(Clone, Copy, Debug, PartialEq, Eq)]
+#[derive(Clone, Copy)]
 pub struct ActionView {
     pub outcome: Option<Outcome>,
     pub canceling: bool,
@@ -22,7 +22,7 @@ pub struct ActionView {
 }
 
 /// What the cancel of an action rests on.
-#[derive(Clone, Copy, Debug, PartialEq, Eq)]
+#[derive(Clone, Copy)]
 pub struct CancelView {
     /// Whether its group is started.
     pub started: bool,
@@ -30,7 +30,7 @@ pub struct CancelView {
 }
 
 /// How an action of a group ended, and what that does to its rollout.
-#[derive(Clone, Copy, Debug, PartialEq, Eq)]
+#[derive(Clone, Copy)]
 pub struct Ending {
     pub rollout: RolloutNo,
     /// The group that counts the outcome.
@@ -40,7 +40,7 @@ pub struct Ending {
 }
 
 /// What becomes of an open action.
-#[derive(Clone, Copy, Debug, PartialEq, Eq)]
+#[derive(Clone, Copy)]
 pub enum ActionChange {
     /// It stays open, canceling or not.
     StaysOpen { canceling: bool },

@@ -12,7 +12,7 @@ use rollout_model::{Approval, Refusal, RolloutNo, RolloutPlan};
 const ROLLOUT_LIMIT: u32 = 1000;
 
 /// What creating a rollout rests on.
-#[derive(Clone, Copy, Debug, PartialEq, Eq)]
+#[derive(Clone, Copy)]
 pub struct PlanView {
     /// Whether the plan's filter is none.
     pub bad_filter: bool,
@@ -29,7 +29,7 @@ pub struct PlanView {
 }
 
 /// The rollout that is created.
-#[derive(Clone, Copy, Debug, PartialEq, Eq)]
+#[derive(Clone, Copy)]
 pub struct NewRollout {
     pub number: RolloutNo,
     pub approval: Approval,

@@ -12,7 +12,7 @@ use rollout_machine::RolloutView;
 use rollout_model::{Refusal, RolloutWord};
 
 /// What a resume of a rollout rests on.
-#[derive(Clone, Copy, Debug, PartialEq, Eq)]
+#[derive(Clone, Copy)]
 pub struct ResumeView {
     pub word: RolloutWord,
     /// Seen from its last started group.
@@ -20,7 +20,7 @@ pub struct ResumeView {
 }
 
 /// What a trigger of a rollout's next group rests on.
-#[derive(Clone, Copy, Debug, PartialEq, Eq)]
+#[derive(Clone, Copy)]
 pub struct TriggerView {
     pub word: RolloutWord,
     /// Whether one of its groups is not started.

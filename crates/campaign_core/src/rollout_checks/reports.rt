@@ -13,7 +13,7 @@ use rollout_model::Refusal;
 pub(crate) const NOTE_LIMIT: u32 = 100;
 
 /// An action of the device that reports, whose group is started.
-#[derive(Clone, Copy, Debug, PartialEq, Eq)]
+#[derive(Clone, Copy)]
 pub struct ReportedAction {
     /// How many notes were taken.
     pub notes: u32,
@@ -21,7 +21,7 @@ pub struct ReportedAction {
 }
 
 /// What a report rests on.
-#[derive(Clone, Copy, Debug, PartialEq, Eq)]
+#[derive(Clone, Copy)]
 pub struct ReportView {
     /// Whether no target has the device's id and the digest of its token.
     pub misses_device: bool,

@@ -10,7 +10,7 @@ use super::RolloutChange;
 use rollout_model::{Refusal, RolloutWord};
 
 /// What approving, denying, starting and pausing a rollout rest on.
-#[derive(Clone, Copy, Debug, PartialEq, Eq)]
+#[derive(Clone, Copy)]
 pub struct StandingView {
     /// Its state, if there is such a rollout.
     pub word: Option<RolloutWord>,
