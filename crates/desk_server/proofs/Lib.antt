@@ -1,7 +1,1 @@
-pub mod AskLemmas
-pub mod RunLemmas
-pub mod PartLemmas
-pub mod MessageLemmas
-pub mod HeadlineLemmas
-pub mod ExitLemmas
 pub mod OrderLemmas

@@ -9,7 +9,7 @@ use Rattle.clap.specs.declared.error.Error.{Error}
 use Rattle.clap.specs.declared.error.kind.ErrorKind.{ErrorKind}
 use Rattle.clap.specs.declared.error.kind.ErrorKind.TheVariants.{OutOfMemory}
 use Rattle.desk_server.specs.declared.order.Order.TheVariants.{Run}
-use Rattle.desk_server.specs.declared.interface.Interface.TheVariants.{Management}
+use Rattle.stream_server.specs.declared.interface.Interface.TheVariants.{Management}
 use Rattle.desk_server.specs.Orders.{AreRefused, NamesOrder, interface_word, program_app}
 
 -- the values of a subcommand

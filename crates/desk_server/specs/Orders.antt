@@ -2,8 +2,8 @@
 use Rattle.std.specs.Prelude.{◌≡◌, ◌⊎◌, Bool, true, false, List, Option, Some, None, codes, bytes_eq}
 use Rattle.clap.specs.Words.{App, Rule, Row, Text, new_app, new_rule, with_rule, with_subcommand, first_of, subcommand_of, takes}
 use Rattle.clap.specs.declared.builder.ArgAction.TheVariants.{Set, SetTrue}
-use Rattle.desk_server.specs.declared.interface.Interface.{Interface}
-use Rattle.desk_server.specs.declared.interface.Interface.TheVariants.{Management}
+use Rattle.stream_server.specs.declared.interface.Interface.{Interface}
+use Rattle.stream_server.specs.declared.interface.Interface.TheVariants.{Management}
 use Rattle.desk_server.specs.declared.order.Order.{Order}
 use Rattle.desk_server.specs.declared.order.Order.TheVariants.{Run}
 

@@ -6,14 +6,14 @@ use Rattle.rollout_desk.specs.declared.desk.Desk.{Desk}
 use Rattle.rollout_desk.specs.DeskStates.{desk_state}
 use Rattle.desk_opening.specs.declared.opening.OpenFault.{OpenFault}
 use Rattle.desk_opening.specs.declared.opening.OpenFault.TheVariants as open_fault
-use Rattle.desk_server.specs.declared.interface.Interface.{Interface}
+use Rattle.stream_server.specs.declared.interface.Interface.{Interface}
 use Rattle.desk_server.specs.declared.order.Order.{Order}
 use Rattle.desk_server.specs.declared.order.Order.TheVariants.{Run}
-use Rattle.desk_server.specs.declared.served.Served.{Served}
-use Rattle.desk_server.specs.declared.served.ServeFault.{ServeFault}
-use Rattle.desk_server.specs.declared.served.ServeFault.TheVariants.{Read, Write, Store, Memory}
-use Rattle.desk_server.specs.Headline.{FailsBy}
-use Rattle.desk_server.specs.Parts.{ServesStream}
+use Rattle.stream_server.specs.declared.served.Served.{Served}
+use Rattle.stream_server.specs.declared.served.ServeFault.{ServeFault}
+use Rattle.stream_server.specs.declared.served.ServeFault.TheVariants.{Read, Write, Store, Memory}
+use Rattle.stream_server.specs.Headline.{FailsBy}
+use Rattle.stream_server.specs.Parts.{ServesStream}
 
 -- the line of a fault
 abbrev pub fault_line : ServeFault → List ℕ

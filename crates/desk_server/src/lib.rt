@@ -1,23 +1,9 @@
-//! The server: answers the messages of a byte stream from a desk, over any reader and writer.
+//! The program's orders: the command line, and what is done over a desk.
 #![tactic(auto)]
 
-mod answer;
-mod bytes;
-mod desk;
-mod handler;
-mod interface;
 mod order;
 mod program;
-mod reply;
-mod routes;
-mod served;
-mod serving;
-mod stream;
 
-pub use crate::handler::Handler;
-pub use crate::interface::Interface;
 pub use crate::order::{Order, read_order};
 pub use crate::program::carry_out;
-pub use crate::served::{ServeFault, Served};
-pub use crate::serving::serve;
-pub use http_wire::End;
+pub use stream_server::{End, Handler, Interface, ServeFault, Served, serve};

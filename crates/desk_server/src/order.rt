@@ -6,14 +6,14 @@ ghost use Rattle.clap.specs.Words.{rule_of, app_of, rows_of, found_of, kind_of, 
 ghost use Rattle.clap.specs.declared.builder.command.Command.TheViews.{out-Command as fields_of};
 ghost use Rattle.desk_server.specs.Orders.{db_rule, interface_rule, approval_rule, run_app, program_app, interface_word, is_given, IsOrder, NamesOrder, AreRefused};
 
-use crate::Interface;
 use clap::error::ErrorKind;
 use clap::{Arg, ArgAction, ArgMatches, Command, Error};
 use std::alloc::{AllocError, Global};
 use std::convert::AsStr;
+use stream_server::Interface;
 
 /// What the command line asks for.
-#[derive(Clone, Copy, Debug)]
+#[derive(Clone, Copy)]
 pub enum Order<'a> {
     /// Serves standard input to standard output.
     Run {

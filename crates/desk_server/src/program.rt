@@ -3,21 +3,20 @@
 ghost use Rattle.std.specs.Prelude.{◌≡◌, ◌++◌, ℕ, List, [], Result, IfErr, IfOk, IsOkAnd};
 ghost use Rattle.std.specs.Io.KnownBytes.{Appends, Consumes};
 ghost use Rattle.http_wire.specs.Watched.{inner_of, has_failed};
-ghost use Rattle.desk_server.specs.declared.served.Served.{Served as Outcome};
-ghost use Rattle.desk_server.specs.declared.served.ServeFault.{ServeFault as Fault};
-ghost use Rattle.desk_server.specs.Headline.{FailsBy};
+ghost use Rattle.stream_server.specs.declared.served.Served.{Served as Outcome};
+ghost use Rattle.stream_server.specs.declared.served.ServeFault.{ServeFault as Fault};
+ghost use Rattle.stream_server.specs.Headline.{FailsBy};
 ghost use Rattle.desk_server.specs.Program.{fault_line, open_line, status_of, Tells, Reports, interface_named, CarriesOut};
-ghost use Rattle.desk_server.specs.Parts.{ServesStream};
+ghost use Rattle.stream_server.specs.Parts.{ServesStream};
 
-use crate::handler::Handler;
-use crate::serving::serve;
-use crate::{Interface, Order, ServeFault};
+use crate::Order;
 use desk_opening::OpenFault;
 use http_wire::{Watched, write_all_counted};
 use rollout_desk::Desk;
 use sqlite::Alter;
 use std::alloc::Global;
 use std::io::{Read, Write};
+use stream_server::{Handler, Interface, ServeFault, serve};
 
 /// The exit status of what was done.
 const DONE: u8 = 0;

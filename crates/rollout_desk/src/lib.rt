@@ -6,6 +6,7 @@ mod attributes;
 mod change;
 mod desk;
 mod download;
+mod handler;
 mod look;
 mod modules;
 mod opening;

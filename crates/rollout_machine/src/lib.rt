@@ -4,6 +4,7 @@
 #![tactic(auto)]
 
 mod bounds;
+mod handler;
 pub mod laws;
 mod outcome;
 mod records;
@@ -11,6 +12,7 @@ mod view;
 mod well_formed;
 
 pub use bounds::Bounds;
+pub use handler::Handler;
 pub use outcome::Outcome;
 pub use records::{ActionRecord, GroupRecord, RolloutRecord};
 pub use view::{Effects, GroupView, RolloutView};

@@ -1,8 +1,0 @@
-//! Which calls a stream is served.
-
-/// The routes of a stream.
-#[derive(Clone, Copy, Debug, PartialEq, Eq)]
-pub enum Interface {
-    /// The management calls alone.
-    Management,
-}

@@ -1,0 +1,28 @@
+//! A desk, seen from the loop that hands it requests.
+
+use rollout_model::{Reply, Request};
+
+/// A desk that answers requests, seen by the list of commands that it stands for and by what a crash may leave of it.
+pub trait Handler {
+    ghost use Rattle.std.specs.Prelude.{◌≡◌, true};
+    ghost use Rattle.rollout_model.specs.declared.refusal.Refusal.TheVariants as refusal;
+    ghost use Rattle.rollout_machine.specs.Requests.{Asks};
+    ghost use Rattle.rollout_machine.specs.Replies.{Refused};
+    ghost use Rattle.rollout_machine.specs.Views.{request_of, reply_of};
+    ghost use Rattle.rollout_machine.specs.Standing.{DeskState, Applies, StaysStopped};
+
+    /// What a crash leaves.
+    ghost File: { Type 0 };
+
+    ghost state: { Self → DeskState File };
+
+    /// Answers one request. A command is committed, or surely not, before it returns.
+    fn handle(&mut self, request: &Request) -> Reply
+        ensures clean { (state self.new).is_clean → (state self.old).is_clean }
+        ensures applies { Applies (state self.old) (state self.new) (Asks (request_of request.now)) (reply_of result) }
+        ensures stopped { (state self.old).is_stopped ≡ true → (reply_of result ≡ Refused refusal.Stopped) × StaysStopped (state self.old) (state self.new) };
+
+    /// Whether the desk refuses everything until it is reopened.
+    fn is_stopped(&self) -> bool
+        ensures { result ≡ (state self.now).is_stopped };
+}

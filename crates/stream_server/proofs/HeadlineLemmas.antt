@@ -1,0 +1,250 @@
+-- The headline from the parts.
+use Rattle.std.proofs.Common.{All, ◌≡◌, ◌≢◌, ℕ, ◌⊎◌, Bool, true, false, List, [], ◌∷◌, ◌++◌, Option, Result, Ok, Err, inl, inr, refl, sym, ap, ◌∙◌, subst, append_assoc, append-nil}
+use Rattle.rollout_model.specs.declared.refusal.Refusal.TheVariants.{StoreFailed}
+use Rattle.rollout_machine.specs.Commands.{Command}
+use Rattle.rollout_machine.specs.CommandList.{CommandList, followed_by, Make}
+use Rattle.rollout_machine.specs.Replies.{Reply, Refused}
+use Rattle.rollout_machine.specs.Requests.{one}
+use Rattle.rollout_machine.specs.Standing.{DeskState, IsInDoubt}
+use Rattle.stream_server.specs.declared.interface.Interface.{Interface}
+use Rattle.stream_server.specs.declared.served.ServeFault.{ServeFault}
+use Rattle.stream_server.specs.declared.served.ServeFault.TheVariants as serve_fault
+use Rattle.stream_server.specs.declared.served.Served.{Served}
+use Rattle.stream_server.specs.Run.{Exchange, accepted_in, texts_of, IsRun}
+use Rattle.stream_server.specs.Headline.{AnswersEnd, Exits, HoldsFirstPart, Stops, Transcript, Headline, IsRefusedAsStopped}
+use Rattle.stream_server.specs.Parts.{Conduct, Whole, Broken, CutsReply, running, stopped, ByStopped, Answers, Serves, ServesStream}
+use Rattle.http_wire.specs.Messages.{WireMessage}
+use Rattle.http_wire.specs.Streams.{Begins}
+use Rattle.http_wire.specs.declared.stream.End.{End}
+use Rattle.http_wire.specs.declared.stream.End.TheVariants.{Input}
+use Rattle.std.specs.Io.KnownBytes.{Appends, Consumes}
+use Rattle.std.proofs.KnownBytes.{Appends-trans}
+use Rattle.std.proofs.lemmas.List.{same_from_push}
+use Rattle.std.proofs.lemmas.List.Elements.{All-nil, All-cons}
+use Rattle.stream_server.specs.Interfaces.{reply_text, end_text}
+use Rattle.stream_server.proofs.RunLemmas.{accepted_append, texts_append, led}
+
+is_store_failed : (reply : Reply) → (reply ≡ Refused StoreFailed) ⊎ (reply ≢ Refused StoreFailed)
+is_store_failed (Refused StoreFailed) = inl refl
+is_store_failed reply = inr (λ e. cc)
+
+-- an exchange of a list is its last one or stands before it
+place : (front : List Exchange) (last : Exchange) (before : List Exchange) (x : Exchange) (behind : List Exchange) → front ++ last ∷ [] ≡ before ++ x ∷ behind
+    → (last ≡ x) ⊎ ((more : List Exchange) × (front ≡ before ++ x ∷ more))
+place [] last [] x behind e = inl cc
+place [] last (y ∷ []) x behind e = cc
+place [] last (y ∷ z ∷ before) x behind e = cc
+place (w ∷ front) last [] x behind e = let head : w ≡ x = cc in inr (front, ap (λ (y : Exchange). y ∷ front) head)
+place (w ∷ front) last (y ∷ before) x behind e =
+    let head : w ≡ y = cc in
+    let tail : front ++ last ∷ [] ≡ before ++ x ∷ behind = cc in
+    elim (place front last before x behind tail) [ inl same ↦ inl same | inr found ↦ inr (found.0, (λ i. head i ∷ found.1 i)) ]
+
+-- the commands of a list are those up to an exchange and those after it
+up_to : (xs before : List Exchange) (x : Exchange) (behind : List Exchange) → xs ≡ before ++ x ∷ behind → accepted_in xs ≡ accepted_in before ++ one x.accepted ++ accepted_in behind
+up_to xs before x behind e = ap accepted_in e ∙ accepted_append before (x ∷ behind) ∙ sym (append_assoc (accepted_in before) (one x.accepted) (accepted_in behind))
+
+after_last : (h : CommandList) (front : List Exchange) (last : Exchange) → followed_by (followed_by h (accepted_in front)) (one last.accepted) ≡ followed_by h (accepted_in (front ++ last ∷ []))
+after_last h front last = ap (followed_by (followed_by h (accepted_in front))) (sym (append-nil (one last.accepted))) ∙ led h front (last ∷ [])
+
+module _ (File : Type 0) (s : DeskState File) (h : CommandList) where
+  all_kept : (run : List Exchange) (written : List ℕ) (file : File) → s.holds file (followed_by h (accepted_in run)) → HoldsFirstPart s h run written file
+  all_kept run written file holds = record {
+    kept = accepted_in run;
+    lost = [];
+    parts = sym (append-nil (accepted_in run));
+    in_doubt = inl refl;
+    acknowledged = λ before x behind ack. (accepted_in behind, up_to run before x behind ack.place);
+    holds = holds;
+  }
+
+  -- the last one's command isn't in the file
+  one_lost : (front : List Exchange) (last : Exchange) (written : List ℕ) (file : File) → last.reply ≡ Refused StoreFailed → s.holds file (followed_by h (accepted_in front))
+      → HoldsFirstPart s h (front ++ last ∷ []) written file
+  one_lost front last written file store holds = record {
+    kept = accepted_in front;
+    lost = one last.accepted;
+    parts = accepted_append front (last ∷ []) ∙ ap (λ (cs : List Command). accepted_in front ++ cs) (append-nil (one last.accepted));
+    in_doubt = inr (record { before = front; last = last; place = refl; reply = store; command = refl });
+    acknowledged = λ before x behind ack. elim (place front last before x behind ack.place) [
+      | inl same ↦ absurd (ack.success StoreFailed (ap (λ (y : Exchange). y.reply) (sym same) ∙ store))
+      | inr found ↦ (accepted_in found.0, up_to front before x found.0 found.1)
+    ];
+    holds = holds;
+  }
+
+-- ---- what was read and written
+
+pub transcript_as : {P Q : List Exchange → Type 0} (stream unread out out_new : Option (List ℕ)) (result : Result Served ServeFault) → ((run : List Exchange) → P run → Q run)
+    → Transcript P stream unread out out_new result → Transcript Q stream unread out out_new result
+transcript_as stream unread out out_new result follows t = record {
+  given = t.given;
+  reads = t.reads;
+  written = t.written;
+  writes = t.writes;
+  run = t.run;
+  is_run = follows t.run t.is_run;
+  rest = t.rest;
+  messages = t.messages;
+  end = t.end;
+  ends = t.ends;
+  unwritten = t.unwritten;
+  begins = t.begins;
+  whole = t.whole;
+  exit = t.exit;
+}
+
+all_refused : (h : CommandList) (run : List Exchange) → IsRun ByStopped h run → All IsRefusedAsStopped run
+all_refused h [] is = All-nil IsRefusedAsStopped
+all_refused h (x ∷ xs) is = All-cons IsRefusedAsStopped x xs is.0 (all_refused (followed_by h (one x.accepted)) xs is.2)
+
+-- where the desk is, seen from the run: it goes on, or its last command is in doubt
+pub record GoesOnAfter {File : Type 0} (C : Conduct File) (h : CommandList) (s : DeskState File) (run : List Exchange) (result : Result Served ServeFault) : Type 0 where
+  pub stands : C.stands s (followed_by h (accepted_in run))
+  pub not_store : result ≢ Err serve_fault.Store
+
+pub record IsInDoubtAfter {File : Type 0} (h : CommandList) (s : DeskState File) (run : List Exchange) (result : Result Served ServeFault) : Type 0 where
+  pub before : List Exchange
+  pub last : Exchange
+  pub place : run ≡ before ++ last ∷ []
+  pub reply : last.reply ≡ Refused StoreFailed
+  pub doubt : IsInDoubt s (followed_by h (accepted_in before)) last.accepted
+  pub stopped_by : (result ≡ Err serve_fault.Store) ⊎ (result ≡ Err serve_fault.Write)
+
+pub record AtExit {File : Type 0} (C : Conduct File) (h : CommandList) (s : DeskState File) (stream unread out out_new : Option (List ℕ)) (result : Result Served ServeFault) : Type 0 where
+  pub transcript : Transcript (IsRun C.answers h) stream unread out out_new result
+  pub after : GoesOnAfter C h s transcript.run result ⊎ IsInDoubtAfter h s transcript.run result
+
+stops_while_standing : (is_stopped : Bool) (result : Result Served ServeFault) → is_stopped ≡ false → result ≢ Err serve_fault.Store → Stops is_stopped result
+stops_while_standing is_stopped (Ok served) runs other = runs
+stops_while_standing is_stopped (Err serve_fault.Read) runs other = runs
+stops_while_standing is_stopped (Err serve_fault.Write) runs other = tt
+stops_while_standing is_stopped (Err serve_fault.Memory) runs other = runs
+stops_while_standing is_stopped (Err serve_fault.Store) runs other = absurd (other refl)
+
+stops_in_doubt : (is_stopped : Bool) (result : Result Served ServeFault) → is_stopped ≡ true → (result ≡ Err serve_fault.Store) ⊎ (result ≡ Err serve_fault.Write) → Stops is_stopped result
+stops_in_doubt is_stopped result over (inl store) = subst (λ (r : Result Served ServeFault). Stops is_stopped r) (sym store) over
+stops_in_doubt is_stopped result over (inr write) = subst (λ (r : Result Served ServeFault). Stops is_stopped r) (sym write) tt
+
+kept_in_doubt : {File : Type 0} (s : DeskState File) (h : CommandList) (before : List Exchange) (last : Exchange) (written : List ℕ) → last.reply ≡ Refused StoreFailed
+    → IsInDoubt s (followed_by h (accepted_in before)) last.accepted → (file : File) → s.may_leave file → HoldsFirstPart s h (before ++ last ∷ []) written file
+kept_in_doubt s h before last written store doubt file leaves = elim (doubt.crash file leaves) [
+  | inl old ↦ one_lost _ s h before last written file store old
+  | inr new ↦ all_kept _ s h (before ++ last ∷ []) written file (subst (λ (k : CommandList). s.holds file k) (after_last h before last) new)
+]
+
+headline_of : {File : Type 0} (interface : Interface) (h : CommandList) (s : DeskState File) (stream unread out out_new : Option (List ℕ)) (result : Result Served ServeFault)
+    → AtExit (running File interface) h s stream unread out out_new result → Headline interface h s stream unread out out_new result
+headline_of interface h s stream unread out out_new result at =
+    let t = at.transcript in elim at.after [
+      | inl on ↦ record {
+        transcript = t;
+        desk = inr on.stands;
+        stops = stops_while_standing s.is_stopped result on.stands.runs on.not_store;
+        crash = λ file leaves. all_kept _ s h t.run t.written file (on.stands.crash file leaves);
+      }
+      | inr last ↦ record {
+        transcript = t;
+        desk = inl last.doubt.stopped;
+        stops = stops_in_doubt s.is_stopped result last.doubt.stopped last.stopped_by;
+        crash = λ file leaves. subst (λ (run : List Exchange). HoldsFirstPart s h run t.written file) (sym last.place) (kept_in_doubt s h last.before last.last t.written last.reply last.doubt file leaves);
+      }
+    ]
+
+-- the promise of `serve` from one account of the exit, of any conduct
+pub both : {File : Type 0} (interface : Interface) (old new : DeskState File) (stream unread out middle out_new : Option (List ℕ)) (ms : List WireMessage) (fault : Option ServeFault) (result : Result Served ServeFault)
+    → ((C : Conduct File) → Answers C old new out middle ms fault → (h : CommandList) → C.premise new → C.stands old h → AtExit C h new stream unread out out_new result)
+    → Serves interface old new out middle ms fault → ServesStream interface old new stream unread out out_new result
+both interface old new stream unread out middle out_new ms fault result exit serves = record {
+  clean = serves.clean;
+  headline = λ h clean stands. headline_of interface h new stream unread out out_new result (exit (running _ interface) serves.by_machine h clean stands);
+  stopped = λ over. record {
+    transcript = transcript_as stream unread out out_new result (all_refused (Make false)) (exit (stopped _) serves.by_stopped (Make false) tt over).transcript;
+    stays = serves.stays over;
+  };
+}
+
+-- ---- an exit from the parts
+
+module _ (File : Type 0) (C : Conduct File) (h : CommandList) (s : DeskState File) (stream unread out middle out_new : Option (List ℕ)) where
+  -- every reply was written whole, and then a part of the fault's
+  pub whole_exit : (given rest : List ℕ) (ms : List WireMessage) (sent part left : List ℕ) (end : End) (result : Result Served ServeFault)
+      → (a : Whole C h s ms sent) → Consumes stream unread given → Begins given ms rest → Appends out middle sent → Appends middle out_new part → AnswersEnd a.run rest end → end_text end ≡ part ++ left
+      → Exits stream unread a.run (sent ++ part) rest result → result ≢ Err serve_fault.Store → AtExit C h s stream unread out out_new result
+  whole_exit given rest ms sent part left end result a reads begins writes more ends cut exit other = record {
+    transcript = record {
+      given = given;
+      reads = reads;
+      written = sent ++ part;
+      writes = Appends-trans out middle out_new sent part writes more;
+      run = a.run;
+      is_run = a.is_run;
+      rest = rest;
+      messages = subst (λ (xs : List WireMessage). Begins given xs rest) (sym a.messages) begins;
+      end = end;
+      ends = ends;
+      unwritten = left;
+      begins = (λ i. sym a.texts i ++ cut i) ∙ sym (append_assoc sent part left);
+      whole = λ before last e. (
+        reply_text last.reply ++ part,
+        ap (λ (t : List ℕ). t ++ part) (a.texts ∙ ap texts_of e ∙ texts_append before (last ∷ []) ∙ ap (λ (t : List ℕ). texts_of before ++ t) (append-nil (reply_text last.reply)))
+            ∙ append_assoc (texts_of before) (reply_text last.reply) part,
+      );
+      exit = exit;
+    };
+    after = inl (record { stands = a.stands; not_store = other });
+  }
+
+  broken_after : (ms : List WireMessage) (sent : List ℕ) (fault : ServeFault) (b : Broken C h s ms sent fault)
+      → GoesOnAfter C h s (b.before ++ b.last ∷ []) (Err fault) ⊎ IsInDoubtAfter h s (b.before ++ b.last ∷ []) (Err fault)
+  broken_after ms sent fault b =
+      let goes : b.last.reply ≢ Refused StoreFailed → C.stands s (followed_by h (accepted_in (b.before ++ b.last ∷ []))) =
+      λ other. subst (λ (k : CommandList). C.stands s k) (after_last h b.before b.last) (b.goes_to.stands other) in
+      elim fault as (λ f. CutsReply f b.last.reply b.part b.left → GoesOnAfter C h s (b.before ++ b.last ∷ []) (Err f) ⊎ IsInDoubtAfter h s (b.before ++ b.last ∷ []) (Err f)) [
+        | serve_fault.Read ↦ λ cut. absurd cut
+        | serve_fault.Write ↦ λ cut. elim (is_store_failed b.last.reply) [
+          | inl store ↦ inr (record { before = b.before; last = b.last; place = refl; reply = store; doubt = b.goes_to.in_doubt store; stopped_by = inr refl })
+          | inr other ↦ inl (record { stands = goes other; not_store = λ e. cc })
+        ]
+        | serve_fault.Store ↦ λ cut. inr (record { before = b.before; last = b.last; place = refl; reply = cut.0; doubt = b.goes_to.in_doubt cut.0; stopped_by = inl refl })
+        | serve_fault.Memory ↦ λ cut. inl (record { stands = goes cut.0; not_store = λ e. cc })
+      ] b.cut
+
+  broken_says : (rest : List ℕ) (ms : List WireMessage) (sent : List ℕ) (fault : ServeFault) (b : Broken C h s ms sent fault) → Exits stream unread (b.before ++ b.last ∷ []) sent rest (Err fault)
+  broken_says rest ms sent serve_fault.Read b = absurd b.cut
+  broken_says rest ms sent serve_fault.Write b = tt
+  broken_says rest ms sent serve_fault.Store b =
+      let all : reply_text b.last.reply ≡ b.part = b.whole ∙ ap (λ (t : List ℕ). b.part ++ t) b.cut.1 ∙ append-nil b.part in record {
+        all_written = b.texts ∙ ap (λ (t : List ℕ). texts_of b.before ++ t) (sym (append-nil (reply_text b.last.reply) ∙ all)) ∙ sym (texts_append b.before (b.last ∷ []));
+        before = b.before;
+        last = b.last;
+        place = refl;
+        reply = b.cut.0;
+      }
+  broken_says rest ms sent serve_fault.Memory b =
+      inr (record { before = b.before; last = b.last; place = refl; all_written = b.texts ∙ ap (λ (t : List ℕ). texts_of b.before ++ t) b.cut.1 ∙ append-nil (texts_of b.before) })
+
+  -- it stopped within an exchange
+  pub broken_exit : (given rest : List ℕ) (ms : List WireMessage) (sent : List ℕ) (fault : ServeFault) → Broken C h s ms sent fault → Consumes stream unread given → Begins given ms rest → Appends out out_new sent
+      → AtExit C h s stream unread out out_new (Err fault)
+  broken_exit given rest ms sent fault b reads begins writes =
+      let run : List Exchange = b.before ++ b.last ∷ [] in record {
+        transcript = record {
+          given = given;
+          reads = reads;
+          written = sent;
+          writes = writes;
+          run = run;
+          is_run = b.is_run;
+          rest = rest;
+          messages = subst (λ (xs : List WireMessage). Begins given xs rest) (sym b.messages) begins;
+          end = Input;
+          ends = tt;
+          unwritten = b.left;
+          begins = append-nil (texts_of run) ∙ texts_append b.before (b.last ∷ []) ∙ ap (λ (t : List ℕ). texts_of b.before ++ t) (append-nil (reply_text b.last.reply) ∙ b.whole)
+              ∙ sym (append_assoc (texts_of b.before) b.part b.left) ∙ ap (λ (t : List ℕ). t ++ b.left) (sym b.texts);
+          whole = λ before last e. (b.part, b.texts ∙ ap (λ (xs : List Exchange). texts_of xs ++ b.part) (same_from_push b.before before b.last last e).0);
+          exit = broken_says rest ms sent fault b;
+        };
+        after = broken_after ms sent fault b;
+      }

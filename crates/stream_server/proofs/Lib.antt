@@ -1,0 +1,6 @@
+pub mod AskLemmas
+pub mod RunLemmas
+pub mod PartLemmas
+pub mod MessageLemmas
+pub mod HeadlineLemmas
+pub mod ExitLemmas

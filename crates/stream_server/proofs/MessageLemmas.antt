@@ -1,0 +1,71 @@
+-- One message, from what the desk answered and from how much of the reply was written.
+use Rattle.std.proofs.Common.{◌≡◌, ◌≢◌, ℕ, Bool, true, List, [], ◌∷◌, Option, Some, None, refl, sym, append-nil}
+use Rattle.std.specs.Io.KnownBytes.{Appends}
+use Rattle.http_wire.specs.Messages.{WireMessage}
+use Rattle.rollout_model.specs.declared.refusal.Refusal.TheVariants.{StoreFailed, Stopped}
+use Rattle.rollout_machine.specs.CommandList.{CommandList}
+use Rattle.rollout_machine.specs.Replies.{Reply, Refused}
+use Rattle.rollout_machine.specs.Standing.{DeskState, StandsFor, Applies, StaysStopped}
+use Rattle.stream_server.specs.declared.interface.Interface.{Interface}
+use Rattle.stream_server.specs.declared.served.ServeFault.{ServeFault}
+use Rattle.stream_server.specs.declared.served.ServeFault.TheVariants as serve_fault
+use Rattle.stream_server.specs.Interfaces.{reading, reply_text}
+use Rattle.stream_server.specs.Parts.{Conduct, running, stopped, AnswersOne, Answers, Serves, SendsPart}
+use Rattle.stream_server.proofs.PartLemmas.{whole_one, broken_one}
+
+module _ (File : Type 0) (C : Conduct File) (old new : DeskState File) (m : WireMessage) (reply : Reply) (answered : (h : CommandList) → C.premise new → C.stands old h → AnswersOne C h new m reply) where
+  answers_whole : (a b : Option (List ℕ)) → Appends a b (reply_text reply) → reply ≢ Refused StoreFailed → Answers C old new a b (m ∷ []) None
+  answers_whole a b sent goes h premise stands = (reply_text reply, sent, whole_one File C h new m reply (answered h premise stands) goes)
+
+  answers_in_doubt : (a b : Option (List ℕ)) → Appends a b (reply_text reply) → reply ≡ Refused StoreFailed → Answers C old new a b (m ∷ []) (Some serve_fault.Store)
+  answers_in_doubt a b sent store h premise stands =
+      (reply_text reply, sent, broken_one File C h new m reply (reply_text reply) [] serve_fault.Store (answered h premise stands) (sym (append-nil (reply_text reply))) (store, refl))
+
+  answers_part : (a b : Option (List ℕ)) (failed : Bool) (fault : ServeFault) → SendsPart a b reply failed fault → Answers C old new a b (m ∷ []) (Some fault)
+  answers_part a b failed serve_fault.Read part h premise stands = absurd part
+  answers_part a b failed serve_fault.Store part h premise stands = absurd part
+  answers_part a b failed serve_fault.Write part h premise stands =
+      (part.1, part.4, broken_one File C h new m reply part.1 part.2 serve_fault.Write (answered h premise stands) part.3 tt)
+  answers_part a b failed serve_fault.Memory part h premise stands =
+      ([], part.1, broken_one File C h new m reply [] (reply_text reply) serve_fault.Memory (answered h premise stands) refl (part.0, refl))
+
+-- what is known of a desk that answered a message
+pub record HasAnswered {File : Type 0} (interface : Interface) (old new : DeskState File) (m : WireMessage) (reply : Reply) : Type 0 where
+  pub clean : new.is_clean → old.is_clean
+  pub applies : Applies old new (reading interface m) reply
+  pub stopped : old.is_stopped ≡ true → (reply ≡ Refused Stopped) × StaysStopped old new
+
+module _ (File : Type 0) (interface : Interface) (old new : DeskState File) (m : WireMessage) (reply : Reply) (has : HasAnswered interface old new m reply) where
+  of_machine : (h : CommandList) → new.is_clean → StandsFor old h → AnswersOne (running File interface) h new m reply
+  of_machine h clean stands =
+      let at = has.applies h clean stands in
+      record { accepted = at.accepted; answers = at.answers; goes_to = record { in_doubt = at.becomes.in_doubt; stands = at.becomes.stands } }
+
+  of_stopped : (h : CommandList) → Unit {0} → old.is_stopped ≡ true → AnswersOne (stopped File) h new m reply
+  of_stopped h none over =
+      let at = has.stopped over in
+      record { accepted = None; answers = (at.0, refl); goes_to = record { in_doubt = λ e. let no : Refused Stopped ≡ Refused StoreFailed = cc (at.0, e) in cc; stands = λ goes. at.1.stopped } }
+
+  pub serves_whole : (a b : Option (List ℕ)) → Appends a b (reply_text reply) → reply ≢ Refused StoreFailed → Serves interface old new a b (m ∷ []) None
+  serves_whole a b sent goes = record {
+    clean = has.clean;
+    by_machine = answers_whole File (running File interface) old new m reply of_machine a b sent goes;
+    by_stopped = answers_whole File (stopped File) old new m reply of_stopped a b sent goes;
+    stays = λ over. (has.stopped over).1;
+  }
+
+  pub serves_in_doubt : (a b : Option (List ℕ)) → Appends a b (reply_text reply) → reply ≡ Refused StoreFailed → Serves interface old new a b (m ∷ []) (Some serve_fault.Store)
+  serves_in_doubt a b sent store = record {
+    clean = has.clean;
+    by_machine = answers_in_doubt File (running File interface) old new m reply of_machine a b sent store;
+    by_stopped = answers_in_doubt File (stopped File) old new m reply of_stopped a b sent store;
+    stays = λ over. (has.stopped over).1;
+  }
+
+  pub serves_part : (a b : Option (List ℕ)) (failed : Bool) (fault : ServeFault) → SendsPart a b reply failed fault → Serves interface old new a b (m ∷ []) (Some fault)
+  serves_part a b failed fault part = record {
+    clean = has.clean;
+    by_machine = answers_part File (running File interface) old new m reply of_machine a b failed fault part;
+    by_stopped = answers_part File (stopped File) old new m reply of_stopped a b failed fault part;
+    stays = λ over. (has.stopped over).1;
+  }

@@ -1,0 +1,99 @@
+use Rattle.std.proofs.Common.{◌≡◌, ℕ, ◌<◌, List, [], ◌++◌, length, Some, None, Ok, Err, refl, sym, ◌∙◌, subst, rules, arith}
+use Rattle.std.proofs.KnownBytes.{Consumes-nil, Consumes-trans}
+use Rattle.std.proofs.lemmas.Bool.{false≢true}
+use Rattle.std.proofs.lemmas.List.{nil_from_length}
+use Rattle.std.proofs.lemmas.Result.{err_from_is_err_and}
+use Rattle.http_wire.specs.Messages.{IsUndecided}
+use Rattle.http_wire.specs.Streams.{Begins}
+use Rattle.stream_server.proofs.PartLemmas.{serves_nil, serves_append}
+use Rattle.stream_server.proofs.HeadlineLemmas.{both}
+use Rattle.stream_server.proofs.ExitLemmas.{exits_broken, exits_fault, exits_fault_part, exits_unread, exits_input, exits_cut, too_many, counts_on, read_end, read_piece, no_more, longer, some_left}
+use Rattle.stream_server.proofs.stream.serve_stream.Goals as goal
+use Rattle.stream_server.proofs.stream.serve_stream.Goals.{then-is_empty, else-is_empty}
+
+pub loop-init : goal.loop-init
+loop-init g c = (record { fed = []; ms = []; reads = Consumes-nil _; begins = sym c.new-inbox.ensures; most = search rules; count = refl; serves = serves_nil _ _ _ }, refl, refl)
+
+pub returns-in_err-stop-clause-serves : goal.returns-in_err-stop-clause-serves
+returns-in_err-stop-clause-serves g c =
+    let p = err_from_is_err_and c.from_residual.result c.from_residual.ensures.1 in
+    let inv = c.loop.invariant.0 in
+    let taken = c.in_err-stop.ensures.serves in
+    let ms = inv.ms ++ taken.0 in
+    let all = serves_append _ _ _ _ _ _ _ inv.ms taken.0 (Some _) inv.serves taken.3 in
+    rw (p.1, p.2) (both _ _ _ _ _ _ _ _ ms (Some _) (Err _) (λ C answers. exits_broken _ C _ _ _ _ _ _ inv.fed _ ms _ inv.reads (taken.1 inv.fed inv.ms inv.begins) answers) all)
+
+pub returns-in_err-write_reply-clause-serves : goal.returns-in_err-write_reply-clause-serves
+returns-in_err-write_reply-clause-serves g c =
+    let p = err_from_is_err_and c.from_residual-in_err-write_reply.result c.from_residual-in_err-write_reply.ensures.1 in
+    let inv = c.loop.invariant.0 in
+    let taken = c.in_ok-stop.ensures.serves in
+    let ms = inv.ms ++ taken.0 in
+    let all = serves_append _ _ _ _ _ _ _ inv.ms taken.0 None inv.serves taken.3 in
+    let is = rw c.in-Some.is at c.in_ok-stop.ensures.end in
+    let sent = rw c.refusal.ensures at c.in_err-write_reply.ensures.err in
+    rw (p.1, p.2) (both _ _ _ _ _ _ _ _ ms None (Err _) (λ C answers. exits_fault_part _ C _ _ _ _ _ _ _ inv.fed _ ms c.in-Some.fault _ _ inv.reads (taken.1 inv.fed inv.ms inv.begins) answers sent is) all)
+
+pub returns-in-Some-clause-serves : goal.returns-in-Some-clause-serves
+returns-in-Some-clause-serves g c =
+    let inv = c.loop.invariant.0 in
+    let taken = c.in_ok-stop.ensures.serves in
+    let ms = inv.ms ++ taken.0 in
+    let all = serves_append _ _ _ _ _ _ _ inv.ms taken.0 None inv.serves taken.3 in
+    let is = rw c.in-Some.is at c.in_ok-stop.ensures.end in
+    let sent = rw c.refusal.ensures at c.in_ok-write_reply.ensures.ok in
+    let count = counts_on c.loop.answered 0 _ inv.ms taken.0 inv.count taken.2 in
+    both _ _ _ _ _ _ _ _ ms None (Ok _) (λ C answers. exits_fault _ C _ _ _ _ _ _ _ inv.fed _ ms c.in-Some.fault _ inv.reads (taken.1 inv.fed inv.ms inv.begins) answers sent is count) all
+
+pub returns-in_err-read_on-clause-serves : goal.returns-in_err-read_on-clause-serves
+returns-in_err-read_on-clause-serves g c =
+    let p = err_from_is_err_and c.from_residual-in_err-read_on.result c.from_residual-in_err-read_on.ensures.1 in
+    let inv = c.loop.invariant.0 in
+    let taken = c.in_ok-stop.ensures.serves in
+    let ms = inv.ms ++ taken.0 in
+    let all = serves_append _ _ _ _ _ _ _ inv.ms taken.0 None inv.serves taken.3 in
+    let partial : IsUndecided c.answer_all.new.inbox = rw c.in_default.is at c.in_ok-stop.ensures.end in
+    rw (p.1, p.2) (both _ _ _ _ _ _ _ _ ms None (Err _) (λ C answers. exits_unread _ C _ _ _ _ _ _ _ inv.fed _ _ ms _ _ inv.reads (taken.1 inv.fed inv.ms inv.begins) answers partial c.in_err-read_on.ensures.read) all)
+
+pub returns-then-not-branch-clause-serves : goal.returns-then-not-branch-clause-serves
+returns-then-not-branch-clause-serves g c =
+    let inv = c.loop.invariant.0 in
+    let taken = c.in_ok-stop.ensures.serves in
+    let ms = inv.ms ++ taken.0 in
+    let begins = taken.1 inv.fed inv.ms inv.begins in
+    let count = counts_on c.loop.answered 0 _ inv.ms taken.0 inv.count taken.2 in
+    let all = serves_append _ _ _ _ _ _ _ inv.ms taken.0 None inv.serves taken.3 in
+    let partial : IsUndecided c.answer_all.new.inbox = rw c.in_default.is at c.in_ok-stop.ensures.end in
+    let read = read_end _ _ _ _ c.read_on.new.reader.failed _ c.if-not-branch.true c.in_ok-read_on.ensures.read in
+    elim c.if-is_empty.branch [
+      | then-is_empty w ↦
+          let empty : c.answer_all.new.inbox ≡ [] = sym read.2 ∙ nil_from_length _ (w.if-is_empty.ensures.0 refl) in
+          let none_held = subst (λ (x : List ℕ). Begins inv.fed ms x) empty begins in
+          rw w.end-is (both _ _ _ _ _ _ _ _ ms None (Ok _) (λ C answers. exits_input _ C _ _ _ _ _ _ _ inv.fed ms _ inv.reads none_held answers read.0 read.1 count) all)
+      | else-is_empty w ↦
+          let some : 0 < length c.answer_all.new.inbox = subst (λ (x : List ℕ). 0 < length x) read.2 (some_left _ (λ z. false≢true (w.if-is_empty.ensures.1 z))) in
+          rw w.end-is (both _ _ _ _ _ _ _ _ ms None (Ok _) (λ C answers. exits_cut _ C _ _ _ _ _ _ inv.fed _ ms _ (no_more _ _ _ inv.fed inv.reads read.0) begins answers (λ told. ((some, partial), read.1)) count) all)
+    ]
+
+pub loop-preserved : goal.loop-preserved
+loop-preserved g c =
+    let inv = c.loop.invariant.0 in
+    let taken = c.in_ok-stop.ensures.serves in
+    let read = read_piece _ _ _ _ c.read_on.new.reader.failed _ c.if-not-branch.false c.in_ok-read_on.ensures.read in (
+      record {
+        fed = inv.fed ++ read.0;
+        ms = inv.ms ++ taken.0;
+        reads = Consumes-trans _ _ _ inv.fed read.0 inv.reads read.1;
+        begins = read.3 inv.fed (inv.ms ++ taken.0) (taken.1 inv.fed inv.ms inv.begins);
+        most = longer c.loop.counter inv.fed read.0 inv.most read.2;
+        count = counts_on c.loop.answered 0 _ inv.ms taken.0 inv.count taken.2;
+        serves = serves_append _ _ _ _ _ _ _ inv.ms taken.0 None inv.serves taken.3;
+      },
+      c.in_ok-read_on.ensures.failed ∙ c.loop.invariant.1,
+      c.in_ok-stop.ensures.write_failed ∙ c.loop.invariant.2,
+    )
+
+pub returns-clause-serves : goal.returns-clause-serves
+returns-clause-serves g c =
+    let inv = c.loop.invariant.0 in
+    both _ _ _ _ _ _ _ _ inv.ms None (Ok _) (λ C answers. exits_cut _ C _ _ _ _ _ _ inv.fed _ inv.ms c.loop.answered inv.reads inv.begins answers (λ told. absurd (too_many _ _ inv.fed inv.reads (omega (arith, inv.most, c.loop-test.false)) told)) inv.count) inv.serves

@@ -1,0 +1,5 @@
+pub mod Interfaces
+pub mod Run
+pub mod Headline
+pub mod Parts
+pub mod Reading

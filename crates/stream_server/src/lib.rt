@@ -1,0 +1,17 @@
+//! Answers the messages of a byte stream from a desk, over any reader and writer, and any desk that answers requests.
+#![tactic(auto)]
+
+mod answer;
+mod bytes;
+mod interface;
+mod reply;
+mod routes;
+mod served;
+mod serving;
+mod stream;
+
+pub use crate::interface::Interface;
+pub use crate::served::{ServeFault, Served};
+pub use crate::serving::serve;
+pub use http_wire::End;
+pub use rollout_machine::Handler;

@@ -1,0 +1,60 @@
+//! Writing replies.
+
+ghost use Rattle.std.specs.Prelude.{◌≡◌, ◌≢◌, ◌↔◌, IsTrue, ◌++◌, ℕ, List, true, IfOk, IfErr, OnOk};
+ghost use Rattle.std.specs.Io.KnownBytes.{Appends};
+ghost use Rattle.rollout_model.specs.declared.refusal.Refusal.TheVariants.{StoreFailed};
+ghost use Rattle.rollout_machine.specs.Replies.{Refused};
+ghost use Rattle.rollout_machine.specs.Views.{reply_of};
+ghost use Rattle.http_wire.specs.Watched.{inner_of, has_failed};
+ghost use Rattle.stream_server.specs.Interfaces.{reply_text};
+ghost use Rattle.stream_server.specs.Headline.{FailsBy};
+ghost use Rattle.stream_server.specs.Parts.{SendsPart};
+
+use crate::ServeFault;
+use crate::bytes::{refusal_text, success_text};
+use http_wire::{Watched, write_all_counted};
+use rollout_model::{Refusal, Reply};
+use std::alloc::Global;
+use std::io::Write;
+
+/// Writes all the bytes out and flushes.
+fn send<W: Write>(writer: &mut Watched<W>, bytes: &[u8]) -> Result<(), ServeFault>
+    ensures ok { OnOk result (Appends (W.contents (inner_of writer.old)) (W.contents (inner_of writer.new)) bytes.now) }
+    ensures unfailed { OnOk result ((has_failed writer.new) ≡ (has_failed writer.old)) }
+    ensures err { IfErr result (λ fault. (fault ≡ ServeFault.Write) × ((has_failed writer.new) ≡ true)
+        × (part : List ℕ) × (left : List ℕ) × (bytes.now ≡ part ++ left) × Appends (W.contents (inner_of writer.old)) (W.contents (inner_of writer.new)) part) }
+{
+    let Ok(()) = write_all_counted(writer, bytes) else {
+        return Err(ServeFault::Write);
+    };
+    match writer.flush() {
+        Ok(()) => Ok(()),
+        Err(_) => Err(ServeFault::Write),
+    }
+}
+
+/// Whether a reply says that the store failed.
+pub(crate) fn says_store_failed(reply: &Reply) -> bool
+    ensures { IsTrue result ↔ (reply_of reply.now ≡ Refused StoreFailed) }
+{
+    matches!(reply, Reply::Refused(Refusal::StoreFailed))
+}
+
+/// Writes a reply. A refusal takes no memory.
+pub(crate) fn write_reply<W: Write>(
+    alloc: Global,
+    writer: &mut Watched<W>,
+    reply: &Reply,
+) -> Result<(), ServeFault>
+    ensures ok { OnOk result (Appends (W.contents (inner_of writer.old)) (W.contents (inner_of writer.new)) (reply_text (reply_of reply.now))) }
+    ensures write_failed { FailsBy result ServeFault.Write (has_failed writer.old) (has_failed writer.new) }
+    ensures err { IfErr result (SendsPart (W.contents (inner_of writer.old)) (W.contents (inner_of writer.new)) (reply_of reply.now) (has_failed writer.new)) }
+{
+    if let Reply::Refused(refusal) = reply {
+        return send(writer, refusal_text(*refusal).as_bytes());
+    }
+    let Ok(bytes) = success_text(alloc, reply) else {
+        return Err(ServeFault::Memory);
+    };
+    send(writer, bytes.as_slice())
+}
