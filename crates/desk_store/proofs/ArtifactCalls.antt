@@ -35,38 +35,30 @@ use Rattle.desk_records.proofs.ArtifactMeaning.{same_file, last_artifact_query, 
 use Rattle.desk_records.proofs.ArtifactRecords.{finds_artifact, lasts_artifact, gets_artifact, lists_artifacts, gets_piece, adds_artifact, adds_piece}
 use Rattle.desk_store.specs.Rows.{AreArtifacts, IsReadAsArtifact, IsReadAsPiece}
 use Rattle.desk_store.proofs.ModuleCalls.{one_last}
+use Rattle.desk_store.proofs.Known.{known_at}
 
 -- ---- what the texts mean where the records are held
 
-abbrev finding : Knows HoldsRecords FIND_ARTIFACT.now
-finding db r holds = record {
-  command = Select (record { lets = []; body = simple (holds.spot Artifacts).tree same_file (col 1 0 ∷ []) }) (codes "number" ∷ []);
-  means = find_artifact_is db.schema (holds.spot Artifacts).at (holds.spot Artifacts).tree (holds.stands Artifacts);
-}
+abbrev pub finding : Knows HoldsRecords FIND_ARTIFACT.now
+finding = known_at Artifacts FIND_ARTIFACT.now (λ at tree. Select (record { lets = []; body = simple tree same_file (col 1 0 ∷ []) }) (codes "number" ∷ [])) find_artifact_is
 
-abbrev ending : Knows HoldsRecords LAST_ARTIFACT.now
-ending db r holds = record { command = Select (record { lets = []; body = last_artifact_query (holds.spot Artifacts).tree }) (codes "number" ∷ []); means = last_artifact_is db.schema (holds.spot Artifacts).at (holds.spot Artifacts).tree (holds.stands Artifacts) }
+abbrev pub ending : Knows HoldsRecords LAST_ARTIFACT.now
+ending = known_at Artifacts LAST_ARTIFACT.now (λ at tree. Select (record { lets = []; body = last_artifact_query tree }) (codes "number" ∷ [])) last_artifact_is
 
-abbrev getting : Knows HoldsRecords GET_ARTIFACT.now
-getting db r holds = record {
-  command = Select (record { lets = []; body = simple (holds.spot Artifacts).tree (at_key 0 0 ∷ []) told_columns }) told_names;
-  means = get_artifact_is db.schema (holds.spot Artifacts).at (holds.spot Artifacts).tree (holds.stands Artifacts);
-}
+abbrev pub getting : Knows HoldsRecords GET_ARTIFACT.now
+getting = known_at Artifacts GET_ARTIFACT.now (λ at tree. Select (record { lets = []; body = simple tree (at_key 0 0 ∷ []) told_columns }) told_names) get_artifact_is
 
-abbrev listing : Knows HoldsRecords LIST_ARTIFACTS.now
-listing db r holds = record { command = Select (record { lets = []; body = artifacts_query (holds.spot Artifacts).tree }) shown_names; means = list_artifacts_is db.schema (holds.spot Artifacts).at (holds.spot Artifacts).tree (holds.stands Artifacts) }
+abbrev pub listing : Knows HoldsRecords LIST_ARTIFACTS.now
+listing = known_at Artifacts LIST_ARTIFACTS.now (λ at tree. Select (record { lets = []; body = artifacts_query tree }) shown_names) list_artifacts_is
 
-abbrev taking : Knows HoldsRecords GET_PIECE.now
-taking db r holds = record {
-  command = Select (record { lets = []; body = simple (holds.spot Pieces).tree at_piece (col 1 3 ∷ []) }) (codes "bytes" ∷ []);
-  means = get_piece_is db.schema (holds.spot Pieces).at (holds.spot Pieces).tree (holds.stands Pieces);
-}
+abbrev pub taking : Knows HoldsRecords GET_PIECE.now
+taking = known_at Pieces GET_PIECE.now (λ at tree. Select (record { lets = []; body = simple tree at_piece (col 1 3 ∷ []) }) (codes "bytes" ∷ [])) get_piece_is
 
-abbrev putting : Knows HoldsRecords PUT_ARTIFACT.now
-putting db r holds = record { command = Insert (holds.spot Artifacts).at (Values artifact_terms 6); means = put_artifact_is db.schema (holds.spot Artifacts).at (holds.spot Artifacts).tree (holds.stands Artifacts) }
+abbrev pub putting : Knows HoldsRecords PUT_ARTIFACT.now
+putting = known_at Artifacts PUT_ARTIFACT.now (λ at tree. Insert at (Values artifact_terms 6)) put_artifact_is
 
-abbrev placing : Knows HoldsRecords PUT_PIECE.now
-placing db r holds = record { command = Insert (holds.spot Pieces).at (Values piece_terms 4); means = put_piece_is db.schema (holds.spot Pieces).at (holds.spot Pieces).tree (holds.stands Pieces) }
+abbrev pub placing : Knows HoldsRecords PUT_PIECE.now
+placing = known_at Pieces PUT_PIECE.now (λ at tree. Insert at (Values piece_terms 4)) put_piece_is
 
 -- ---- whether a module has such an artifact
 
@@ -76,9 +68,6 @@ Finds m filename r found = found ≡ list_any (is_same_artifact m filename) r.ar
 pub found : {E : Type 0} (m : ℕ) (filename : Bytes) (old new : State) (row : Option Row) → TakesFirst old new FIND_ARTIFACT.now (file_of m filename) (Ok row) → Reads HoldsRecords {E = E} old new (Ok (is_some row)) (Finds m filename)
 found m filename old new row h =
     takes_ok HoldsRecords FIND_ARTIFACT.now (file_of m filename) old new (Finds m filename) finding (λ db r holds at given. tt) row h (Ok (is_some row)) (λ db now holds shown. finds_artifact db now holds (codes "number" ∷ []) m filename row shown)
-
-pub not_found : (params : Row) (m : ℕ) (filename : Bytes) (old new : State) (fault : Fault) → TakesFirst old new FIND_ARTIFACT.now params (Err fault) → (out : Result Bool Fault) → IsErr out → Reads HoldsRecords old new out (Finds m filename)
-not_found params m filename old new fault h out bad = takes_err HoldsRecords FIND_ARTIFACT.now params old new (Finds m filename) finding fault h out bad
 
 -- ---- the last number
 
@@ -92,9 +81,6 @@ lasts row (Err e) h = tt
 
 pub last_read : (old new : State) (row : Option Row) → TakesFirst old new LAST_ARTIFACT.now [] (Ok row) → (out : Result ℕ Fault) → IfOk out (λ n. IsLastRow n row) → Reads HoldsRecords old new out IsLast
 last_read old new row h out is = takes_ok HoldsRecords LAST_ARTIFACT.now [] old new IsLast ending (λ db r holds at given. tt) row h out (lasts row out is)
-
-pub last_not_read : (old new : State) (fault : Fault) → TakesFirst old new LAST_ARTIFACT.now [] (Err fault) → (out : Result ℕ Fault) → IsErr out → Reads HoldsRecords old new out IsLast
-last_not_read old new fault h out bad = takes_err HoldsRecords LAST_ARTIFACT.now [] old new IsLast ending fault h out bad
 
 -- ---- an artifact by its number
 
@@ -128,9 +114,6 @@ gets number least row (Err e) h = tt
 pub artifact_read : (number : ℕ) → 1 ≤ number → (old new : State) (row : Option Row) → TakesFirst old new GET_ARTIFACT.now (Int (pos number) ∷ []) (Ok row) → (out : Result (Option StoredArtifact) Fault)
     → IfOk out (λ found. IsReadAsArtifact found row) → Reads HoldsRecords old new out (Gets number)
 artifact_read number least old new row h out is = takes_ok HoldsRecords GET_ARTIFACT.now (Int (pos number) ∷ []) old new (Gets number) getting (λ db r holds at given. tt) row h out (gets number least row out is)
-
-pub artifact_not_read : (params : Row) (number : ℕ) (old new : State) (fault : Fault) → TakesFirst old new GET_ARTIFACT.now params (Err fault) → (out : Result (Option StoredArtifact) Fault) → IsErr out → Reads HoldsRecords old new out (Gets number)
-artifact_not_read params number old new fault h out bad = takes_err HoldsRecords GET_ARTIFACT.now params old new (Gets number) getting fault h out bad
 
 -- ---- the artifacts of a module
 
@@ -175,9 +158,6 @@ pub artifacts_read : (m : ℕ) (old new : State) (rows : Vec Row Global) → Ask
     → IfOk out (λ artifacts. AreArtifacts rows.items artifacts.items) → Reads HoldsRecords old new out (Lists m)
 artifacts_read m old new rows h out are = asks_ok HoldsRecords LIST_ARTIFACTS.now (Int (pos m) ∷ []) old new (Lists m) listing rows h out (lists m rows.items out are)
 
-pub artifacts_not_read : (params : Row) (m : ℕ) (old new : State) (fault : Fault) → AsksText old new LIST_ARTIFACTS.now params (Err fault) → (out : Result (Vec Artifact Global) Fault) → IsErr out → Reads HoldsRecords old new out (Lists m)
-artifacts_not_read params m old new fault h out bad = asks_err HoldsRecords LIST_ARTIFACTS.now params old new (Lists m) fault h out bad
-
 -- ---- a piece
 
 abbrev pub Takes : ℕ → ℕ → Records → Option (Vec ℕ Global) → Type 0
@@ -202,9 +182,6 @@ pub piece_read : (number sequence : ℕ) → 1 ≤ number → (old new : State) 
     → IfOk out (λ found. IsReadAsPiece found row) → Reads HoldsRecords old new out (Takes number sequence)
 piece_read number sequence least old new row h out is =
     takes_ok HoldsRecords GET_PIECE.now (Int (pos number) ∷ Int (pos sequence) ∷ []) old new (Takes number sequence) taking (λ db r holds at given. tt) row h out (takes number sequence least row out is)
-
-pub piece_not_read : (params : Row) (number sequence : ℕ) (old new : State) (fault : Fault) → TakesFirst old new GET_PIECE.now params (Err fault) → (out : Result (Option (Vec ℕ Global)) Fault) → IsErr out → Reads HoldsRecords old new out (Takes number sequence)
-piece_not_read params number sequence old new fault h out bad = takes_err HoldsRecords GET_PIECE.now params old new (Takes number sequence) taking fault h out bad
 
 -- ---- a new artifact, and a further piece of it
 

@@ -26,26 +26,18 @@ use Rattle.desk_records.proofs.Attributes.{attribute_row}
 use Rattle.desk_records.proofs.TargetMeaning.{attributes_query, attribute_terms, set_attribute_query, list_target_attributes_is, put_target_attribute_is, set_target_attribute_is}
 use Rattle.desk_records.proofs.AttributeRecords.{shown_attributes, lists_target_attributes, adds_attribute, sets_attribute}
 use Rattle.desk_store.specs.Rows.{AreAttributes}
+use Rattle.desk_store.proofs.Known.{known_at}
 
 -- ---- what the texts mean where the records are held
 
-abbrev listing : Knows HoldsRecords LIST_TARGET_ATTRIBUTES.now
-listing db r holds = record {
-  command = Select (record { lets = []; body = attributes_query (holds.spot TargetAttributes).tree }) (codes "key" ∷ codes "value" ∷ []);
-  means = list_target_attributes_is db.schema (holds.spot TargetAttributes).at (holds.spot TargetAttributes).tree (holds.stands TargetAttributes);
-}
+abbrev pub listing : Knows HoldsRecords LIST_TARGET_ATTRIBUTES.now
+listing = known_at TargetAttributes LIST_TARGET_ATTRIBUTES.now (λ at tree. Select (record { lets = []; body = attributes_query tree }) (codes "key" ∷ codes "value" ∷ [])) list_target_attributes_is
 
-abbrev putting : Knows HoldsRecords PUT_TARGET_ATTRIBUTE.now
-putting db r holds = record {
-  command = Insert (holds.spot TargetAttributes).at (Values attribute_terms 4);
-  means = put_target_attribute_is db.schema (holds.spot TargetAttributes).at (holds.spot TargetAttributes).tree (holds.stands TargetAttributes);
-}
+abbrev pub putting : Knows HoldsRecords PUT_TARGET_ATTRIBUTE.now
+putting = known_at TargetAttributes PUT_TARGET_ATTRIBUTE.now (λ at tree. Insert at (Values attribute_terms 4)) put_target_attribute_is
 
-abbrev setting : Knows HoldsRecords SET_TARGET_ATTRIBUTE.now
-setting db r holds = record {
-  command = Update (holds.spot TargetAttributes).at (record { lets = []; body = set_attribute_query (holds.spot TargetAttributes).tree });
-  means = set_target_attribute_is db.schema (holds.spot TargetAttributes).at (holds.spot TargetAttributes).tree (holds.stands TargetAttributes);
-}
+abbrev pub setting : Knows HoldsRecords SET_TARGET_ATTRIBUTE.now
+setting = known_at TargetAttributes SET_TARGET_ATTRIBUTE.now (λ at tree. Update at (record { lets = []; body = set_attribute_query tree })) set_target_attribute_is
 
 -- ---- the attributes of a target
 
@@ -82,9 +74,6 @@ lists id rows (Err e) h = tt
 pub attributes_read : (id : Bytes) (old new : State) (rows : Vec Row Global) → AsksText old new LIST_TARGET_ATTRIBUTES.now (Text id ∷ []) (Ok rows) → (out : Result (List Attribute) Fault) → IfOk out (AreAttributes rows.items)
     → Reads HoldsRecords old new out (Lists id)
 attributes_read id old new rows h out are = asks_ok HoldsRecords LIST_TARGET_ATTRIBUTES.now (Text id ∷ []) old new (Lists id) listing rows h out (lists id rows.items out are)
-
-pub attributes_not_read : (params : Row) (id : Bytes) (old new : State) (fault : Fault) → AsksText old new LIST_TARGET_ATTRIBUTES.now params (Err fault) → (out : Result (List Attribute) Fault) → IsErr out → Reads HoldsRecords old new out (Lists id)
-attributes_not_read params id old new fault h out bad = asks_err HoldsRecords LIST_TARGET_ATTRIBUTES.now params old new (Lists id) fault h out bad
 
 -- ---- what is written
 

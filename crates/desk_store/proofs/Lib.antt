@@ -1,3 +1,4 @@
+pub mod Known
 pub mod ModuleCalls
 pub mod EndLemmas
 pub mod SetCalls

@@ -27,23 +27,21 @@ use Rattle.desk_records.specs.Modules.{is_same, words_of, with_module, IsLastRow
 use Rattle.desk_records.proofs.Meaning.{at_key, same_label, label_columns, last_module_query, module_terms, find_module_is, last_module_is, get_module_is, put_module_is}
 use Rattle.desk_records.proofs.Modules.{finds_module, lasts_module, gets_module, adds_module}
 use Rattle.desk_store.specs.Rows.{IsReadAs}
+use Rattle.desk_store.proofs.Known.{known_at}
 
 -- ---- what the texts mean where the records are held
 
-abbrev finding : Knows HoldsRecords FIND_MODULE.now
-finding db r holds = record { command = Select (record { lets = []; body = simple (holds.spot Modules).tree same_label (col 1 0 ∷ []) }) (codes "number" ∷ []); means = find_module_is db.schema (holds.spot Modules).at (holds.spot Modules).tree (holds.stands Modules) }
+abbrev pub finding : Knows HoldsRecords FIND_MODULE.now
+finding = known_at Modules FIND_MODULE.now (λ at tree. Select (record { lets = []; body = simple tree same_label (col 1 0 ∷ []) }) (codes "number" ∷ [])) find_module_is
 
-abbrev ending : Knows HoldsRecords LAST_MODULE.now
-ending db r holds = record { command = Select (record { lets = []; body = last_module_query (holds.spot Modules).tree }) (codes "number" ∷ []); means = last_module_is db.schema (holds.spot Modules).at (holds.spot Modules).tree (holds.stands Modules) }
+abbrev pub ending : Knows HoldsRecords LAST_MODULE.now
+ending = known_at Modules LAST_MODULE.now (λ at tree. Select (record { lets = []; body = last_module_query tree }) (codes "number" ∷ [])) last_module_is
 
-abbrev getting : Knows HoldsRecords GET_MODULE.now
-getting db r holds = record {
-  command = Select (record { lets = []; body = simple (holds.spot Modules).tree (at_key 0 0 ∷ []) label_columns }) (codes "name" ∷ codes "type" ∷ codes "version" ∷ []);
-  means = get_module_is db.schema (holds.spot Modules).at (holds.spot Modules).tree (holds.stands Modules);
-}
+abbrev pub getting : Knows HoldsRecords GET_MODULE.now
+getting = known_at Modules GET_MODULE.now (λ at tree. Select (record { lets = []; body = simple tree (at_key 0 0 ∷ []) label_columns }) (codes "name" ∷ codes "type" ∷ codes "version" ∷ [])) get_module_is
 
-abbrev putting : Knows HoldsRecords PUT_MODULE.now
-putting db r holds = record { command = Insert (holds.spot Modules).at (Values module_terms 5); means = put_module_is db.schema (holds.spot Modules).at (holds.spot Modules).tree (holds.stands Modules) }
+abbrev pub putting : Knows HoldsRecords PUT_MODULE.now
+putting = known_at Modules PUT_MODULE.now (λ at tree. Insert at (Values module_terms 5)) put_module_is
 
 -- ---- whether there is such a module
 
@@ -52,9 +50,6 @@ Finds label r found = found ≡ list_any (is_same label) r.modules
 
 pub found : {E : Type 0} (label : ModuleLabel) (old new : State) (row : Option Row) → TakesFirst old new FIND_MODULE.now (words_of label) (Ok row) → Reads HoldsRecords {E = E} old new (Ok (is_some row)) (Finds label)
 found label old new row h = takes_ok HoldsRecords FIND_MODULE.now (words_of label) old new (Finds label) finding (λ db r holds at given. tt) row h (Ok (is_some row)) (λ db now holds shown. finds_module label db now holds (codes "number" ∷ []) row shown)
-
-pub not_found : (params : Row) (label : ModuleLabel) (old new : State) (fault : Fault) → TakesFirst old new FIND_MODULE.now params (Err fault) → (out : Result Bool Fault) → IsErr out → Reads HoldsRecords old new out (Finds label)
-not_found params label old new fault h out bad = takes_err HoldsRecords FIND_MODULE.now params old new (Finds label) finding fault h out bad
 
 -- ---- the last number
 
@@ -72,9 +67,6 @@ lasts row (Err e) h = tt
 
 pub last_read : (old new : State) (row : Option Row) → TakesFirst old new LAST_MODULE.now [] (Ok row) → (out : Result ℕ Fault) → IfOk out (λ n. IsLastRow n row) → Reads HoldsRecords old new out IsLast
 last_read old new row h out is = takes_ok HoldsRecords LAST_MODULE.now [] old new IsLast ending (λ db r holds at given. tt) row h out (lasts row out is)
-
-pub last_not_read : (old new : State) (fault : Fault) → TakesFirst old new LAST_MODULE.now [] (Err fault) → (out : Result ℕ Fault) → IsErr out → Reads HoldsRecords old new out IsLast
-last_not_read old new fault h out bad = takes_err HoldsRecords LAST_MODULE.now [] old new IsLast ending fault h out bad
 
 -- ---- a module by its number
 
@@ -105,9 +97,6 @@ gets number least row (Err e) h = tt
 pub module_read : (number : ℕ) → 1 ≤ number → (old new : State) (row : Option Row) → TakesFirst old new GET_MODULE.now (Int (pos number) ∷ []) (Ok row) → (out : Result (Option ModuleLabel) Fault) → IfOk out (λ found. IsReadAs found row)
     → Reads HoldsRecords old new out (Gets number)
 module_read number least old new row h out is = takes_ok HoldsRecords GET_MODULE.now (Int (pos number) ∷ []) old new (Gets number) getting (λ db r holds at given. tt) row h out (gets number least row out is)
-
-pub module_not_read : (params : Row) (number : ℕ) (old new : State) (fault : Fault) → TakesFirst old new GET_MODULE.now params (Err fault) → (out : Result (Option ModuleLabel) Fault) → IsErr out → Reads HoldsRecords old new out (Gets number)
-module_not_read params number old new fault h out bad = takes_err HoldsRecords GET_MODULE.now params old new (Gets number) getting fault h out bad
 
 -- ---- a new module
 

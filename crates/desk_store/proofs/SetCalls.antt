@@ -34,32 +34,30 @@ use Rattle.desk_records.proofs.SetMeaning.{same_names, last_set_query, name_colu
 use Rattle.desk_records.proofs.SetRecords.{finds_set, lasts_set, gets_set, lists_set_modules, finds_lock, adds_set, adds_set_module}
 use Rattle.desk_store.specs.Rows.{IsReadAsSet, AreNumbers}
 use Rattle.desk_store.proofs.ModuleCalls.{one_last}
+use Rattle.desk_store.proofs.Known.{known_at}
 
 -- ---- what the texts mean where the records are held
 
-abbrev finding : Knows HoldsRecords FIND_SET.now
-finding db r holds = record { command = Select (record { lets = []; body = simple (holds.spot Sets).tree same_names (col 1 0 ∷ []) }) (codes "number" ∷ []); means = find_set_is db.schema (holds.spot Sets).at (holds.spot Sets).tree (holds.stands Sets) }
+abbrev pub finding : Knows HoldsRecords FIND_SET.now
+finding = known_at Sets FIND_SET.now (λ at tree. Select (record { lets = []; body = simple tree same_names (col 1 0 ∷ []) }) (codes "number" ∷ [])) find_set_is
 
-abbrev ending : Knows HoldsRecords LAST_SET.now
-ending db r holds = record { command = Select (record { lets = []; body = last_set_query (holds.spot Sets).tree }) (codes "number" ∷ []); means = last_set_is db.schema (holds.spot Sets).at (holds.spot Sets).tree (holds.stands Sets) }
+abbrev pub ending : Knows HoldsRecords LAST_SET.now
+ending = known_at Sets LAST_SET.now (λ at tree. Select (record { lets = []; body = last_set_query tree }) (codes "number" ∷ [])) last_set_is
 
-abbrev getting : Knows HoldsRecords GET_SET.now
-getting db r holds = record {
-  command = Select (record { lets = []; body = simple (holds.spot Sets).tree (at_key 0 0 ∷ []) name_columns }) (codes "name" ∷ codes "version" ∷ []);
-  means = get_set_is db.schema (holds.spot Sets).at (holds.spot Sets).tree (holds.stands Sets);
-}
+abbrev pub getting : Knows HoldsRecords GET_SET.now
+getting = known_at Sets GET_SET.now (λ at tree. Select (record { lets = []; body = simple tree (at_key 0 0 ∷ []) name_columns }) (codes "name" ∷ codes "version" ∷ [])) get_set_is
 
-abbrev listing : Knows HoldsRecords LIST_SET_MODULES.now
-listing db r holds = record { command = Select (record { lets = []; body = set_modules_query (holds.spot SetModules).tree }) (codes "module" ∷ []); means = list_set_modules_is db.schema (holds.spot SetModules).at (holds.spot SetModules).tree (holds.stands SetModules) }
+abbrev pub listing : Knows HoldsRecords LIST_SET_MODULES.now
+listing = known_at SetModules LIST_SET_MODULES.now (λ at tree. Select (record { lets = []; body = set_modules_query tree }) (codes "module" ∷ [])) list_set_modules_is
 
-abbrev locking : Knows HoldsRecords MODULE_LOCKED.now
-locking db r holds = record { command = Select (record { lets = []; body = locked_query (holds.spot SetModules).tree }) (codes "dset" ∷ []); means = module_locked_is db.schema (holds.spot SetModules).at (holds.spot SetModules).tree (holds.stands SetModules) }
+abbrev pub locking : Knows HoldsRecords MODULE_LOCKED.now
+locking = known_at SetModules MODULE_LOCKED.now (λ at tree. Select (record { lets = []; body = locked_query tree }) (codes "dset" ∷ [])) module_locked_is
 
-abbrev putting : Knows HoldsRecords PUT_SET.now
-putting db r holds = record { command = Insert (holds.spot Sets).at (Values set_terms 4); means = put_set_is db.schema (holds.spot Sets).at (holds.spot Sets).tree (holds.stands Sets) }
+abbrev pub putting : Knows HoldsRecords PUT_SET.now
+putting = known_at Sets PUT_SET.now (λ at tree. Insert at (Values set_terms 4)) put_set_is
 
-abbrev placing : Knows HoldsRecords PUT_SET_MODULE.now
-placing db r holds = record { command = Insert (holds.spot SetModules).at (Values set_module_terms 4); means = put_set_module_is db.schema (holds.spot SetModules).at (holds.spot SetModules).tree (holds.stands SetModules) }
+abbrev pub placing : Knows HoldsRecords PUT_SET_MODULE.now
+placing = known_at SetModules PUT_SET_MODULE.now (λ at tree. Insert at (Values set_module_terms 4)) put_set_module_is
 
 -- ---- whether there is such a set
 
@@ -69,9 +67,6 @@ Finds name version r found = found ≡ list_any (is_same_set name version) r.set
 pub found : {E : Type 0} (name version : Bytes) (old new : State) (row : Option Row) → TakesFirst old new FIND_SET.now (names_of name version) (Ok row) → Reads HoldsRecords {E = E} old new (Ok (is_some row)) (Finds name version)
 found name version old new row h =
     takes_ok HoldsRecords FIND_SET.now (names_of name version) old new (Finds name version) finding (λ db r holds at given. tt) row h (Ok (is_some row)) (λ db now holds shown. finds_set db now holds (codes "number" ∷ []) name version row shown)
-
-pub not_found : (params : Row) (name version : Bytes) (old new : State) (fault : Fault) → TakesFirst old new FIND_SET.now params (Err fault) → (out : Result Bool Fault) → IsErr out → Reads HoldsRecords old new out (Finds name version)
-not_found params name version old new fault h out bad = takes_err HoldsRecords FIND_SET.now params old new (Finds name version) finding fault h out bad
 
 -- ---- the last number
 
@@ -85,9 +80,6 @@ lasts row (Err e) h = tt
 
 pub last_read : (old new : State) (row : Option Row) → TakesFirst old new LAST_SET.now [] (Ok row) → (out : Result ℕ Fault) → IfOk out (λ n. IsLastRow n row) → Reads HoldsRecords old new out IsLast
 last_read old new row h out is = takes_ok HoldsRecords LAST_SET.now [] old new IsLast ending (λ db r holds at given. tt) row h out (lasts row out is)
-
-pub last_not_read : (old new : State) (fault : Fault) → TakesFirst old new LAST_SET.now [] (Err fault) → (out : Result ℕ Fault) → IsErr out → Reads HoldsRecords old new out IsLast
-last_not_read old new fault h out bad = takes_err HoldsRecords LAST_SET.now [] old new IsLast ending fault h out bad
 
 -- ---- a set's name by its number
 
@@ -117,9 +109,6 @@ gets number least row (Err e) h = tt
 pub set_read : (number : ℕ) → 1 ≤ number → (old new : State) (row : Option Row) → TakesFirst old new GET_SET.now (Int (pos number) ∷ []) (Ok row) → (out : Result (Option SetName) Fault) → IfOk out (λ found. IsReadAsSet found row)
     → Reads HoldsRecords old new out (Gets number)
 set_read number least old new row h out is = takes_ok HoldsRecords GET_SET.now (Int (pos number) ∷ []) old new (Gets number) getting (λ db r holds at given. tt) row h out (gets number least row out is)
-
-pub set_not_read : (params : Row) (number : ℕ) (old new : State) (fault : Fault) → TakesFirst old new GET_SET.now params (Err fault) → (out : Result (Option SetName) Fault) → IsErr out → Reads HoldsRecords old new out (Gets number)
-set_not_read params number old new fault h out bad = takes_err HoldsRecords GET_SET.now params old new (Gets number) getting fault h out bad
 
 -- ---- a set's modules
 
@@ -151,9 +140,6 @@ pub modules_read : (number : ℕ) → 1 ≤ number → (old new : State) (rows :
     → IfOk out (λ ms. AreNumbers rows.items ms.items) → Reads HoldsRecords old new out (Lists number)
 modules_read number least old new rows h out are = asks_ok HoldsRecords LIST_SET_MODULES.now (Int (pos number) ∷ []) old new (Lists number) listing rows h out (lists number least rows.items out are)
 
-pub modules_not_read : (params : Row) (number : ℕ) (old new : State) (fault : Fault) → AsksText old new LIST_SET_MODULES.now params (Err fault) → (out : Result (Vec ModuleNo Global) Fault) → IsErr out → Reads HoldsRecords old new out (Lists number)
-modules_not_read params number old new fault h out bad = asks_err HoldsRecords LIST_SET_MODULES.now params old new (Lists number) fault h out bad
-
 -- ---- whether a set names a module
 
 abbrev pub Locks : ℕ → Records → Bool → Type 0
@@ -162,9 +148,6 @@ Locks number r locked = locked ≡ is_named_by_set r.sets number
 pub locked : {E : Type 0} (number : ℕ) (old new : State) (row : Option Row) → TakesFirst old new MODULE_LOCKED.now (Int (pos number) ∷ []) (Ok row) → Reads HoldsRecords {E = E} old new (Ok (is_some row)) (Locks number)
 locked number old new row h =
     takes_ok HoldsRecords MODULE_LOCKED.now (Int (pos number) ∷ []) old new (Locks number) locking (λ db r holds at given. tt) row h (Ok (is_some row)) (λ db now holds shown. finds_lock db now holds (codes "dset" ∷ []) number row shown)
-
-pub not_told : (params : Row) (number : ℕ) (old new : State) (fault : Fault) → TakesFirst old new MODULE_LOCKED.now params (Err fault) → (out : Result Bool Fault) → IsErr out → Reads HoldsRecords old new out (Locks number)
-not_told params number old new fault h out bad = takes_err HoldsRecords MODULE_LOCKED.now params old new (Locks number) locking fault h out bad
 
 -- ---- a new set, and a further module of it
 

@@ -33,41 +33,33 @@ use Rattle.desk_records.proofs.Targets.{tag_row}
 use Rattle.desk_records.proofs.TargetMeaning.{of_target, target_columns, target_terms, set_target_query, targets_query, tags_query, tag_terms, drop_tag_query, get_target_is, count_targets_is, list_targets_is, list_target_tags_is, put_target_is, set_target_is, put_target_tag_is, drop_target_tag_is}
 use Rattle.desk_records.proofs.TargetRecords.{told_target, listed_row, shown_tags, gets_target, counts_targets, lists_targets, lists_target_tags, adds_target, sets_target, adds_tag, drops_tag}
 use Rattle.desk_store.specs.Rows.{AreListedTargets, AreTags, IsCount, IsReadAsTarget}
+use Rattle.desk_store.proofs.Known.{known_at}
 
 -- ---- what the texts mean where the records are held
 
-abbrev getting : Knows HoldsRecords GET_TARGET.now
-getting db r holds = record {
-  command = Select (record { lets = []; body = simple (holds.spot Targets).tree of_target target_columns }) (codes "name" ∷ codes "digest" ∷ []);
-  means = get_target_is db.schema (holds.spot Targets).at (holds.spot Targets).tree (holds.stands Targets);
-}
+abbrev pub getting : Knows HoldsRecords GET_TARGET.now
+getting = known_at Targets GET_TARGET.now (λ at tree. Select (record { lets = []; body = simple tree of_target target_columns }) (codes "name" ∷ codes "digest" ∷ [])) get_target_is
 
-abbrev counting : Knows HoldsRecords COUNT_TARGETS.now
-counting db r holds = record { command = Select (record { lets = []; body = count_query (holds.spot Targets).tree }) (codes "count(*)" ∷ []); means = count_targets_is db.schema (holds.spot Targets).at (holds.spot Targets).tree (holds.stands Targets) }
+abbrev pub counting : Knows HoldsRecords COUNT_TARGETS.now
+counting = known_at Targets COUNT_TARGETS.now (λ at tree. Select (record { lets = []; body = count_query tree }) (codes "count(*)" ∷ [])) count_targets_is
 
-abbrev paging : Knows HoldsRecords LIST_TARGETS.now
-paging db r holds = record {
-  command = Select (record { lets = []; body = targets_query (holds.spot Targets).tree }) (codes "controller" ∷ codes "name" ∷ []);
-  means = list_targets_is db.schema (holds.spot Targets).at (holds.spot Targets).tree (holds.stands Targets);
-}
+abbrev pub paging : Knows HoldsRecords LIST_TARGETS.now
+paging = known_at Targets LIST_TARGETS.now (λ at tree. Select (record { lets = []; body = targets_query tree }) (codes "controller" ∷ codes "name" ∷ [])) list_targets_is
 
-abbrev listing : Knows HoldsRecords LIST_TARGET_TAGS.now
-listing db r holds = record { command = Select (record { lets = []; body = tags_query (holds.spot TargetTags).tree }) (codes "tag" ∷ []); means = list_target_tags_is db.schema (holds.spot TargetTags).at (holds.spot TargetTags).tree (holds.stands TargetTags) }
+abbrev pub listing : Knows HoldsRecords LIST_TARGET_TAGS.now
+listing = known_at TargetTags LIST_TARGET_TAGS.now (λ at tree. Select (record { lets = []; body = tags_query tree }) (codes "tag" ∷ [])) list_target_tags_is
 
-abbrev putting : Knows HoldsRecords PUT_TARGET.now
-putting db r holds = record { command = Insert (holds.spot Targets).at (Values target_terms 4); means = put_target_is db.schema (holds.spot Targets).at (holds.spot Targets).tree (holds.stands Targets) }
+abbrev pub putting : Knows HoldsRecords PUT_TARGET.now
+putting = known_at Targets PUT_TARGET.now (λ at tree. Insert at (Values target_terms 4)) put_target_is
 
-abbrev setting : Knows HoldsRecords SET_TARGET.now
-setting db r holds = record { command = Update (holds.spot Targets).at (record { lets = []; body = set_target_query (holds.spot Targets).tree }); means = set_target_is db.schema (holds.spot Targets).at (holds.spot Targets).tree (holds.stands Targets) }
+abbrev pub setting : Knows HoldsRecords SET_TARGET.now
+setting = known_at Targets SET_TARGET.now (λ at tree. Update at (record { lets = []; body = set_target_query tree })) set_target_is
 
-abbrev tagging : Knows HoldsRecords PUT_TARGET_TAG.now
-tagging db r holds = record { command = Insert (holds.spot TargetTags).at (Values tag_terms 3); means = put_target_tag_is db.schema (holds.spot TargetTags).at (holds.spot TargetTags).tree (holds.stands TargetTags) }
+abbrev pub tagging : Knows HoldsRecords PUT_TARGET_TAG.now
+tagging = known_at TargetTags PUT_TARGET_TAG.now (λ at tree. Insert at (Values tag_terms 3)) put_target_tag_is
 
-abbrev dropping : Knows HoldsRecords DROP_TARGET_TAG.now
-dropping db r holds = record {
-  command = Delete (holds.spot TargetTags).at (record { lets = []; body = drop_tag_query (holds.spot TargetTags).tree });
-  means = drop_target_tag_is db.schema (holds.spot TargetTags).at (holds.spot TargetTags).tree (holds.stands TargetTags);
-}
+abbrev pub dropping : Knows HoldsRecords DROP_TARGET_TAG.now
+dropping = known_at TargetTags DROP_TARGET_TAG.now (λ at tree. Delete at (record { lets = []; body = drop_tag_query tree })) drop_target_tag_is
 
 -- ---- a target by its id
 
@@ -98,9 +90,6 @@ pub target_read : (id : Bytes) (old new : State) (row : Option Row) → TakesFir
     → Reads HoldsRecords old new out (Gets id)
 target_read id old new row h out is = takes_ok HoldsRecords GET_TARGET.now (Text id ∷ []) old new (Gets id) getting (λ db r holds at given. tt) row h out (gets id row out is)
 
-pub target_not_read : (params : Row) (id : Bytes) (old new : State) (fault : Fault) → TakesFirst old new GET_TARGET.now params (Err fault) → (out : Result (Option StoredTarget) Fault) → IsErr out → Reads HoldsRecords old new out (Gets id)
-target_not_read params id old new fault h out bad = takes_err HoldsRecords GET_TARGET.now params old new (Gets id) getting fault h out bad
-
 -- ---- how many there are
 
 abbrev pub Counts : Records → ℕ → Type 0
@@ -122,9 +111,6 @@ counts row (Err e) h small = tt
 
 pub count_read : (old new : State) (row : Option Row) → TakesFirst old new COUNT_TARGETS.now [] (Ok row) → (out : Result ℕ Fault) → IfOk out (λ n. IsCount n row) → IfOk out (λ n. n < 2 ^ 32) → Reads HoldsRecords old new out Counts
 count_read old new row h out is small = takes_ok HoldsRecords COUNT_TARGETS.now [] old new Counts counting (λ db r holds at given. tt) row h out (counts row out is small)
-
-pub count_not_read : (old new : State) (fault : Fault) → TakesFirst old new COUNT_TARGETS.now [] (Err fault) → (out : Result ℕ Fault) → IsErr out → Reads HoldsRecords old new out Counts
-count_not_read old new fault h out bad = takes_err HoldsRecords COUNT_TARGETS.now [] old new Counts counting fault h out bad
 
 -- ---- the targets of a page
 
@@ -162,10 +148,6 @@ pub targets_read : (limit offset : ℕ) (old new : State) (rows : Vec Row Global
     → IfOk out (λ targets. AreListedTargets rows.items targets.items) → Reads HoldsRecords old new out (Pages limit offset)
 targets_read limit offset old new rows h out are = asks_ok HoldsRecords LIST_TARGETS.now (Int (pos limit) ∷ Int (pos offset) ∷ []) old new (Pages limit offset) paging rows h out (pages limit offset rows.items out are)
 
-pub targets_not_read : (params : Row) (limit offset : ℕ) (old new : State) (fault : Fault) → AsksText old new LIST_TARGETS.now params (Err fault) → (out : Result (Vec ListedTarget Global) Fault) → IsErr out
-    → Reads HoldsRecords old new out (Pages limit offset)
-targets_not_read params limit offset old new fault h out bad = asks_err HoldsRecords LIST_TARGETS.now params old new (Pages limit offset) fault h out bad
-
 -- ---- the tags of a target
 
 abbrev pub Lists : Bytes → Records → Vec Word Global → Type 0
@@ -195,9 +177,6 @@ lists id rows (Err e) h = tt
 pub tags_read : (id : Bytes) (old new : State) (rows : Vec Row Global) → AsksText old new LIST_TARGET_TAGS.now (Text id ∷ []) (Ok rows) → (out : Result (Vec Word Global) Fault) → IfOk out (λ tags. AreTags rows.items tags.items)
     → Reads HoldsRecords old new out (Lists id)
 tags_read id old new rows h out are = asks_ok HoldsRecords LIST_TARGET_TAGS.now (Text id ∷ []) old new (Lists id) listing rows h out (lists id rows.items out are)
-
-pub tags_not_read : (params : Row) (id : Bytes) (old new : State) (fault : Fault) → AsksText old new LIST_TARGET_TAGS.now params (Err fault) → (out : Result (Vec Word Global) Fault) → IsErr out → Reads HoldsRecords old new out (Lists id)
-tags_not_read params id old new fault h out bad = asks_err HoldsRecords LIST_TARGET_TAGS.now params old new (Lists id) fault h out bad
 
 -- ---- what is written
 

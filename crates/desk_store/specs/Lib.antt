@@ -3,3 +3,4 @@ pub mod Rows
 pub mod Counting
 pub mod Texts
 pub mod Lending
+pub mod Changing

@@ -3,13 +3,11 @@
 ghost use Rattle.std.specs.Prelude.{◌≡◌, ◌≤◌, ◌+◌, length, vec_items};
 ghost use Rattle.std.specs.List.{list_any};
 ghost use Rattle.std.specs.Option.{option_map};
-ghost use Rattle.sqlite.specs.Held.{state};
-ghost use Rattle.sql_calls.specs.Standing.{Reads, Writes};
 ghost use Rattle.rollout_machine.specs.ByteStrings.{item_numbered};
 ghost use Rattle.rollout_machine.specs.Objects.{artifacts_shown};
-ghost use Rattle.desk_records.specs.Holds.{HoldsRecords};
 ghost use Rattle.desk_records.specs.ArtifactRow.{stored};
 ghost use Rattle.desk_records.specs.Artifacts.{is_same_artifact, piece_numbered, with_artifact, AddsPiece};
+ghost use Rattle.desk_store.specs.Changing.{ReadsIn, WritesIn};
 ghost use Rattle.desk_store.specs.Counting.{AddsAtMost};
 
 use crate::change::OpenChange;
@@ -30,7 +28,7 @@ impl<'a, S: Alter> OpenChange<'a, S> {
         filename: &Filename,
     ) -> Result<bool, Fault>
         ensures same_reference { self.new.store.ghost_name ≡ self.old.store.ghost_name }
-        ensures reads { Reads HoldsRecords (state S.Store self.old.store.now.calls.conn) (state S.Store self.new.store.now.calls.conn) result
+        ensures reads { ReadsIn S.Store self.old self.new result
             (λ r found. found ≡ list_any (is_same_artifact module_number filename.now) r.artifacts) }
         ensures work { AddsAtMost 1 self.old.store.now.calls.work self.new.store.now.calls.work }
     {
@@ -44,8 +42,7 @@ impl<'a, S: Alter> OpenChange<'a, S> {
     /// The number of the last artifact, which is how many there are.
     pub fn read_last_artifact(&mut self) -> Result<u32, Fault>
         ensures same_reference { self.new.store.ghost_name ≡ self.old.store.ghost_name }
-        ensures reads { Reads HoldsRecords (state S.Store self.old.store.now.calls.conn) (state S.Store self.new.store.now.calls.conn) result
-            (λ r last. last ≡ length r.artifacts) }
+        ensures reads { ReadsIn S.Store self.old self.new result (λ r last. last ≡ length r.artifacts) }
         ensures work { AddsAtMost 1 self.old.store.now.calls.work self.new.store.now.calls.work }
     {
         let row = self.store.calls.first(LAST_ARTIFACT, &[])?;
@@ -55,8 +52,7 @@ impl<'a, S: Alter> OpenChange<'a, S> {
     /// What is kept of the artifact of a number, without its contents. A row that breaks a column's rule is a failed store.
     pub fn read_artifact(&mut self, number: ArtifactNo) -> Result<Option<StoredArtifact>, Fault>
         ensures same_reference { self.new.store.ghost_name ≡ self.old.store.ghost_name }
-        ensures reads { Reads HoldsRecords (state S.Store self.old.store.now.calls.conn) (state S.Store self.new.store.now.calls.conn) result
-            (λ r found. found ≡ option_map stored (item_numbered r.artifacts number)) }
+        ensures reads { ReadsIn S.Store self.old self.new result (λ r found. found ≡ option_map stored (item_numbered r.artifacts number)) }
         ensures work { AddsAtMost 1 self.old.store.now.calls.work self.new.store.now.calls.work }
     {
         let row = self.store.calls.first(GET_ARTIFACT, params![number.get()])?;
@@ -66,8 +62,7 @@ impl<'a, S: Alter> OpenChange<'a, S> {
     /// The artifacts of a module, in the order of their numbers. A row that breaks a column's rule is a failed store.
     pub fn read_module_artifacts(&mut self, module_number: ModuleNo) -> Result<Vec<Artifact>, Fault>
         ensures same_reference { self.new.store.ghost_name ≡ self.old.store.ghost_name }
-        ensures reads { Reads HoldsRecords (state S.Store self.old.store.now.calls.conn) (state S.Store self.new.store.now.calls.conn) result
-            (λ r artifacts. artifacts.items ≡ artifacts_shown module_number 1 r.artifacts) }
+        ensures reads { ReadsIn S.Store self.old self.new result (λ r artifacts. artifacts.items ≡ artifacts_shown module_number 1 r.artifacts) }
         ensures work { self.new.store.now.calls.work.statements ≤ self.old.store.now.calls.work.statements + 1 }
     {
         let alloc = self.store.alloc;
@@ -86,7 +81,7 @@ impl<'a, S: Alter> OpenChange<'a, S> {
         sequence: u32,
     ) -> Result<Option<Vec<u8>>, Fault>
         ensures same_reference { self.new.store.ghost_name ≡ self.old.store.ghost_name }
-        ensures reads { Reads HoldsRecords (state S.Store self.old.store.now.calls.conn) (state S.Store self.new.store.now.calls.conn) result
+        ensures reads { ReadsIn S.Store self.old self.new result
             (λ r found. option_map vec_items found ≡ piece_numbered r.artifacts number sequence) }
         ensures work { AddsAtMost 1 self.old.store.now.calls.work self.new.store.now.calls.work }
     {
@@ -107,7 +102,7 @@ impl<'a, S: Alter> OpenChange<'a, S> {
         digest: &Digest,
     ) -> Result<(), Fault>
         ensures same_reference { self.new.store.ghost_name ≡ self.old.store.ghost_name }
-        ensures writes { Writes HoldsRecords (state S.Store self.old.store.now.calls.conn) (state S.Store self.new.store.now.calls.conn) result
+        ensures writes { WritesIn S.Store self.old self.new result
             (λ r next. (number ≡ length r.artifacts + 1) × (next ≡ with_artifact r module_number filename.now size digest.now)) }
         ensures work { AddsAtMost 0 self.old.store.now.calls.work self.new.store.now.calls.work }
     {
@@ -131,7 +126,7 @@ impl<'a, S: Alter> OpenChange<'a, S> {
         bytes: &[u8],
     ) -> Result<(), Fault>
         ensures same_reference { self.new.store.ghost_name ≡ self.old.store.ghost_name }
-        ensures writes { Writes HoldsRecords (state S.Store self.old.store.now.calls.conn) (state S.Store self.new.store.now.calls.conn) result
+        ensures writes { WritesIn S.Store self.old self.new result
             (AddsPiece number sequence bytes.now) }
         ensures work { AddsAtMost 0 self.old.store.now.calls.work self.new.store.now.calls.work }
     {

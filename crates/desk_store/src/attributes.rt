@@ -1,11 +1,9 @@
 //! The attributes of targets, in a change that is under way.
 
 ghost use Rattle.std.specs.Prelude.{◌≡◌, ◌≤◌, ◌+◌};
-ghost use Rattle.sqlite.specs.Held.{state};
-ghost use Rattle.sql_calls.specs.Standing.{Reads, Writes};
 ghost use Rattle.rollout_machine.specs.Verdicts.{target_of};
-ghost use Rattle.desk_records.specs.Holds.{HoldsRecords};
 ghost use Rattle.desk_records.specs.Targets.{AddsAttribute, SetsAttribute, attributes_of};
+ghost use Rattle.desk_store.specs.Changing.{ReadsIn, WritesIn};
 ghost use Rattle.desk_store.specs.Counting.{AddsAtMost};
 
 use crate::change::OpenChange;
@@ -20,8 +18,7 @@ impl<'a, S: Alter> OpenChange<'a, S> {
     /// breaks a column's rule is a failed store.
     pub fn read_target_attributes(&mut self, id: &ControllerId) -> Result<Attributes, Fault>
         ensures same_reference { self.new.store.ghost_name ≡ self.old.store.ghost_name }
-        ensures reads { Reads HoldsRecords (state S.Store self.old.store.now.calls.conn) (state S.Store self.new.store.now.calls.conn) result
-            (λ r attributes. attributes ≡ attributes_of (target_of r id.now)) }
+        ensures reads { ReadsIn S.Store self.old self.new result (λ r attributes. attributes ≡ attributes_of (target_of r id.now)) }
         ensures work { self.new.store.now.calls.work.statements ≤ self.old.store.now.calls.work.statements + 1 }
     {
         let alloc = self.store.alloc;
@@ -39,7 +36,7 @@ impl<'a, S: Alter> OpenChange<'a, S> {
         attribute: &Attribute,
     ) -> Result<(), Fault>
         ensures same_reference { self.new.store.ghost_name ≡ self.old.store.ghost_name }
-        ensures writes { Writes HoldsRecords (state S.Store self.old.store.now.calls.conn) (state S.Store self.new.store.now.calls.conn) result
+        ensures writes { WritesIn S.Store self.old self.new result
             (AddsAttribute id.now attribute.now) }
         ensures work { AddsAtMost 0 self.old.store.now.calls.work self.new.store.now.calls.work }
     {
@@ -60,7 +57,7 @@ impl<'a, S: Alter> OpenChange<'a, S> {
         attribute: &Attribute,
     ) -> Result<(), Fault>
         ensures same_reference { self.new.store.ghost_name ≡ self.old.store.ghost_name }
-        ensures writes { Writes HoldsRecords (state S.Store self.old.store.now.calls.conn) (state S.Store self.new.store.now.calls.conn) result
+        ensures writes { WritesIn S.Store self.old self.new result
             (SetsAttribute id.now attribute.now) }
         ensures work { AddsAtMost 0 self.old.store.now.calls.work self.new.store.now.calls.work }
     {

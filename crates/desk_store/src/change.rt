@@ -3,10 +3,11 @@
 ghost use Rattle.std.specs.Prelude.{◌≡◌, ◌+◌, length, IfErr};
 ghost use Rattle.std.specs.List.{list_any};
 ghost use Rattle.sqlite.specs.Held.{state};
-ghost use Rattle.sql_calls.specs.Standing.{Reads, Writes, Commits, GivesUp};
+ghost use Rattle.sql_calls.specs.Standing.{Commits, GivesUp};
 ghost use Rattle.rollout_machine.specs.ByteStrings.{item_numbered};
 ghost use Rattle.desk_records.specs.Holds.{HoldsRecords};
 ghost use Rattle.desk_records.specs.Modules.{is_same, with_module};
+ghost use Rattle.desk_store.specs.Changing.{ReadsIn, WritesIn};
 ghost use Rattle.desk_store.specs.Counting.{AddsAtMost};
 
 use crate::reading::{finished, label_in, last_number};
@@ -25,8 +26,7 @@ impl<'a, S: Alter> OpenChange<'a, S> {
     /// Whether there is a module of the same name, kind and version.
     pub fn read_same_module(&mut self, label: &ModuleLabel) -> Result<bool, Fault>
         ensures same_reference { self.new.store.ghost_name ≡ self.old.store.ghost_name }
-        ensures reads { Reads HoldsRecords (state S.Store self.old.store.now.calls.conn) (state S.Store self.new.store.now.calls.conn) result
-            (λ r found. found ≡ list_any (is_same label.now) r.modules) }
+        ensures reads { ReadsIn S.Store self.old self.new result (λ r found. found ≡ list_any (is_same label.now) r.modules) }
         ensures work { AddsAtMost 1 self.old.store.now.calls.work self.new.store.now.calls.work }
     {
         let row = self.store.calls.first(
@@ -43,8 +43,7 @@ impl<'a, S: Alter> OpenChange<'a, S> {
     /// The number of the last module, which is how many there are.
     pub fn read_last_module(&mut self) -> Result<u32, Fault>
         ensures same_reference { self.new.store.ghost_name ≡ self.old.store.ghost_name }
-        ensures reads { Reads HoldsRecords (state S.Store self.old.store.now.calls.conn) (state S.Store self.new.store.now.calls.conn) result
-            (λ r last. last ≡ length r.modules) }
+        ensures reads { ReadsIn S.Store self.old self.new result (λ r last. last ≡ length r.modules) }
         ensures work { AddsAtMost 1 self.old.store.now.calls.work self.new.store.now.calls.work }
     {
         let row = self.store.calls.first(LAST_MODULE, &[])?;
@@ -54,8 +53,7 @@ impl<'a, S: Alter> OpenChange<'a, S> {
     /// The module of a number. A row that breaks a column's rule is a failed store.
     pub fn read_module(&mut self, number: ModuleNo) -> Result<Option<ModuleLabel>, Fault>
         ensures same_reference { self.new.store.ghost_name ≡ self.old.store.ghost_name }
-        ensures reads { Reads HoldsRecords (state S.Store self.old.store.now.calls.conn) (state S.Store self.new.store.now.calls.conn) result
-            (λ r found. found ≡ item_numbered r.modules number) }
+        ensures reads { ReadsIn S.Store self.old self.new result (λ r found. found ≡ item_numbered r.modules number) }
         ensures work { AddsAtMost 1 self.old.store.now.calls.work self.new.store.now.calls.work }
     {
         let alloc = self.store.alloc;
@@ -66,8 +64,7 @@ impl<'a, S: Alter> OpenChange<'a, S> {
     /// Adds the module of the next number.
     pub fn write_module(&mut self, number: ModuleNo, label: &ModuleLabel) -> Result<(), Fault>
         ensures same_reference { self.new.store.ghost_name ≡ self.old.store.ghost_name }
-        ensures writes { Writes HoldsRecords (state S.Store self.old.store.now.calls.conn) (state S.Store self.new.store.now.calls.conn) result
-            (λ r next. (number ≡ length r.modules + 1) × (next ≡ with_module r label.now)) }
+        ensures writes { WritesIn S.Store self.old self.new result (λ r next. (number ≡ length r.modules + 1) × (next ≡ with_module r label.now)) }
         ensures work { AddsAtMost 0 self.old.store.now.calls.work self.new.store.now.calls.work }
     {
         self.store.calls.run(

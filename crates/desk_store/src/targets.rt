@@ -2,12 +2,10 @@
 
 ghost use Rattle.std.specs.Prelude.{◌≡◌, ◌≤◌, ◌+◌, length, map, take, drop};
 ghost use Rattle.std.specs.Option.{option_map};
-ghost use Rattle.sqlite.specs.Held.{state};
-ghost use Rattle.sql_calls.specs.Standing.{Reads, Writes};
 ghost use Rattle.rollout_machine.specs.Verdicts.{tags_of, target_of};
-ghost use Rattle.desk_records.specs.Holds.{HoldsRecords};
 ghost use Rattle.desk_records.specs.TargetRow.{listed_target, stored_target};
 ghost use Rattle.desk_records.specs.Targets.{AddsTag, AddsTarget, renamed, untagged, with_changed};
+ghost use Rattle.desk_store.specs.Changing.{ReadsIn, WritesIn};
 ghost use Rattle.desk_store.specs.Counting.{AddsAtMost};
 
 use crate::change::OpenChange;
@@ -24,8 +22,7 @@ impl<'a, S: Alter> OpenChange<'a, S> {
     /// What is kept of the target of an id, without its tags and attributes. A row that breaks a column's rule is a failed store.
     pub fn read_target(&mut self, id: &ControllerId) -> Result<Option<StoredTarget>, Fault>
         ensures same_reference { self.new.store.ghost_name ≡ self.old.store.ghost_name }
-        ensures reads { Reads HoldsRecords (state S.Store self.old.store.now.calls.conn) (state S.Store self.new.store.now.calls.conn) result
-            (λ r found. found ≡ option_map stored_target (target_of r id.now)) }
+        ensures reads { ReadsIn S.Store self.old self.new result (λ r found. found ≡ option_map stored_target (target_of r id.now)) }
         ensures work { AddsAtMost 1 self.old.store.now.calls.work self.new.store.now.calls.work }
     {
         let alloc = self.store.alloc;
@@ -36,8 +33,7 @@ impl<'a, S: Alter> OpenChange<'a, S> {
     /// The tags of the target of an id, in byte order; none where there is no such target. A row that breaks the column's rule is a failed store.
     pub fn read_target_tags(&mut self, id: &ControllerId) -> Result<Vec<Word>, Fault>
         ensures same_reference { self.new.store.ghost_name ≡ self.old.store.ghost_name }
-        ensures reads { Reads HoldsRecords (state S.Store self.old.store.now.calls.conn) (state S.Store self.new.store.now.calls.conn) result
-            (λ r tags. tags.items ≡ tags_of (target_of r id.now)) }
+        ensures reads { ReadsIn S.Store self.old self.new result (λ r tags. tags.items ≡ tags_of (target_of r id.now)) }
         ensures work { self.new.store.now.calls.work.statements ≤ self.old.store.now.calls.work.statements + 1 }
     {
         let alloc = self.store.alloc;
@@ -52,7 +48,7 @@ impl<'a, S: Alter> OpenChange<'a, S> {
     /// failed store.
     pub fn read_targets(&mut self, page: Page) -> Result<Vec<ListedTarget>, Fault>
         ensures same_reference { self.new.store.ghost_name ≡ self.old.store.ghost_name }
-        ensures reads { Reads HoldsRecords (state S.Store self.old.store.now.calls.conn) (state S.Store self.new.store.now.calls.conn) result
+        ensures reads { ReadsIn S.Store self.old self.new result
             (λ r listed. listed.items ≡ map listed_target (take page.limit (drop page.offset r.targets))) }
         ensures work { self.new.store.now.calls.work.statements ≤ self.old.store.now.calls.work.statements + 1 }
     {
@@ -67,8 +63,7 @@ impl<'a, S: Alter> OpenChange<'a, S> {
     /// How many targets there are.
     pub fn read_target_count(&mut self) -> Result<u32, Fault>
         ensures same_reference { self.new.store.ghost_name ≡ self.old.store.ghost_name }
-        ensures reads { Reads HoldsRecords (state S.Store self.old.store.now.calls.conn) (state S.Store self.new.store.now.calls.conn) result
-            (λ r count. count ≡ length r.targets) }
+        ensures reads { ReadsIn S.Store self.old self.new result (λ r count. count ≡ length r.targets) }
         ensures work { AddsAtMost 1 self.old.store.now.calls.work self.new.store.now.calls.work }
     {
         let row = self.store.calls.first(COUNT_TARGETS, &[])?;
@@ -83,7 +78,7 @@ impl<'a, S: Alter> OpenChange<'a, S> {
         digest: &Digest,
     ) -> Result<(), Fault>
         ensures same_reference { self.new.store.ghost_name ≡ self.old.store.ghost_name }
-        ensures writes { Writes HoldsRecords (state S.Store self.old.store.now.calls.conn) (state S.Store self.new.store.now.calls.conn) result
+        ensures writes { WritesIn S.Store self.old self.new result
             (AddsTarget id.now name.now digest.now) }
         ensures work { AddsAtMost 0 self.old.store.now.calls.work self.new.store.now.calls.work }
     {
@@ -101,8 +96,7 @@ impl<'a, S: Alter> OpenChange<'a, S> {
         digest: &Digest,
     ) -> Result<(), Fault>
         ensures same_reference { self.new.store.ghost_name ≡ self.old.store.ghost_name }
-        ensures writes { Writes HoldsRecords (state S.Store self.old.store.now.calls.conn) (state S.Store self.new.store.now.calls.conn) result
-            (λ r next. next ≡ with_changed r id.now (renamed name.now digest.now)) }
+        ensures writes { WritesIn S.Store self.old self.new result (λ r next. next ≡ with_changed r id.now (renamed name.now digest.now)) }
         ensures work { AddsAtMost 0 self.old.store.now.calls.work self.new.store.now.calls.work }
     {
         self.store.calls.run(
@@ -114,7 +108,7 @@ impl<'a, S: Alter> OpenChange<'a, S> {
     /// Gives a target that is there a tag that it hasn't.
     pub fn write_target_tag(&mut self, id: &ControllerId, tag: &Word) -> Result<(), Fault>
         ensures same_reference { self.new.store.ghost_name ≡ self.old.store.ghost_name }
-        ensures writes { Writes HoldsRecords (state S.Store self.old.store.now.calls.conn) (state S.Store self.new.store.now.calls.conn) result
+        ensures writes { WritesIn S.Store self.old self.new result
             (AddsTag id.now tag.now) }
         ensures work { AddsAtMost 0 self.old.store.now.calls.work self.new.store.now.calls.work }
     {
@@ -126,8 +120,7 @@ impl<'a, S: Alter> OpenChange<'a, S> {
     /// Takes a tag from the target of an id, where it has it.
     pub fn drop_target_tag(&mut self, id: &ControllerId, tag: &Word) -> Result<(), Fault>
         ensures same_reference { self.new.store.ghost_name ≡ self.old.store.ghost_name }
-        ensures writes { Writes HoldsRecords (state S.Store self.old.store.now.calls.conn) (state S.Store self.new.store.now.calls.conn) result
-            (λ r next. next ≡ with_changed r id.now (untagged tag.now)) }
+        ensures writes { WritesIn S.Store self.old self.new result (λ r next. next ≡ with_changed r id.now (untagged tag.now)) }
         ensures work { AddsAtMost 0 self.old.store.now.calls.work self.new.store.now.calls.work }
     {
         self.store

@@ -1,4 +1,3 @@
-pub mod ReadLemmas
 pub mod PageLemmas
 pub mod ModuleViews
 pub mod SetViews

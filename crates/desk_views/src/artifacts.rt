@@ -2,14 +2,12 @@
 
 ghost use Rattle.std.specs.Prelude.{◌≡◌, ◌++◌, length, take, drop, IfOk};
 ghost use Rattle.std.specs.Option.{option_map};
-ghost use Rattle.sqlite.specs.Held.{state};
-ghost use Rattle.sql_calls.specs.Standing.{Reads};
 ghost use Rattle.desk_records.specs.ArtifactRow.{stored};
-ghost use Rattle.desk_records.specs.Holds.{HoldsRecords};
 ghost use Rattle.rollout_machine.specs.Answers.{artifact_of_module, query_reply};
 ghost use Rattle.rollout_machine.specs.ByteStrings.{item_numbered};
 ghost use Rattle.rollout_machine.specs.Requests.{ShowArtifacts, ShowArtifact, ShowContents};
 ghost use Rattle.rollout_machine.specs.Views.{reply_of};
+ghost use Rattle.desk_store.specs.Changing.{ReadsIn};
 ghost use Rattle.desk_views.specs.Contents.{contents_found};
 
 use desk_store::{Fault, OpenChange, StoredArtifact};
@@ -28,8 +26,7 @@ pub fn show_artifacts<S: Alter>(
     page: Page,
 ) -> Result<Reply, Fault>
     ensures same_reference { change.new.store.ghost_name ≡ change.old.store.ghost_name }
-    ensures reads { Reads HoldsRecords (state S.Store change.old.store.now.calls.conn) (state S.Store change.new.store.now.calls.conn) result
-        (λ now reply. reply_of reply ≡ query_reply now (ShowArtifacts module_number page)) }
+    ensures reads { ReadsIn S.Store change.old change.new result (λ now reply. reply_of reply ≡ query_reply now (ShowArtifacts module_number page)) }
 {
     if change.read_module(module_number)?.is_none() {
         return Ok(Reply::Refused(Refusal::NotFound));
@@ -46,8 +43,7 @@ pub fn show_artifact<S: Alter>(
     number: ArtifactNo,
 ) -> Result<Reply, Fault>
     ensures same_reference { change.new.store.ghost_name ≡ change.old.store.ghost_name }
-    ensures reads { Reads HoldsRecords (state S.Store change.old.store.now.calls.conn) (state S.Store change.new.store.now.calls.conn) result
-        (λ now reply. reply_of reply ≡ query_reply now (ShowArtifact module_number number)) }
+    ensures reads { ReadsIn S.Store change.old change.new result (λ now reply. reply_of reply ≡ query_reply now (ShowArtifact module_number number)) }
 {
     match read_of_module(change, module_number, number)? {
         Some(found) => Ok(Reply::Artifact(shown_as(number, found))),
@@ -64,8 +60,7 @@ pub fn show_contents<S: Alter>(
     number: ArtifactNo,
 ) -> Result<Reply, Fault>
     ensures same_reference { change.new.store.ghost_name ≡ change.old.store.ghost_name }
-    ensures reads { Reads HoldsRecords (state S.Store change.old.store.now.calls.conn) (state S.Store change.new.store.now.calls.conn) result
-        (λ now reply. reply_of reply ≡ query_reply now (ShowContents module_number number)) }
+    ensures reads { ReadsIn S.Store change.old change.new result (λ now reply. reply_of reply ≡ query_reply now (ShowContents module_number number)) }
 {
     let found = match read_of_module(change, module_number, number)? {
         Some(found) => found,
@@ -99,7 +94,7 @@ fn read_of_module<S: Alter>(
     number: ArtifactNo,
 ) -> Result<Option<StoredArtifact>, Fault>
     ensures same_reference { change.new.store.ghost_name ≡ change.old.store.ghost_name }
-    ensures reads { Reads HoldsRecords (state S.Store change.old.store.now.calls.conn) (state S.Store change.new.store.now.calls.conn) result
+    ensures reads { ReadsIn S.Store change.old change.new result
         (λ now found. found ≡ option_map stored (artifact_of_module now module_number number)) }
 {
     let found = match change.read_artifact(number)? {
@@ -131,8 +126,7 @@ fn read_pieces<S: Alter>(
     number: ArtifactNo,
 ) -> Result<Vec<u8>, Fault>
     ensures same_reference { change.new.store.ghost_name ≡ change.old.store.ghost_name }
-    ensures reads { Reads HoldsRecords (state S.Store change.old.store.now.calls.conn) (state S.Store change.new.store.now.calls.conn) result
-        (λ now bytes. bytes.items ≡ contents_found (item_numbered now.artifacts number)) }
+    ensures reads { ReadsIn S.Store change.old change.new result (λ now bytes. bytes.items ≡ contents_found (item_numbered now.artifacts number)) }
 {
     let mut bytes = Vec::new(alloc);
     for place in 0..=PIECE_LIMIT {

@@ -2,14 +2,12 @@
 
 ghost use Rattle.std.specs.Prelude.{◌≡◌, length, take, drop, Some};
 ghost use Rattle.std.specs.Option.{option_map};
-ghost use Rattle.sqlite.specs.Held.{state};
-ghost use Rattle.sql_calls.specs.Standing.{Reads};
-ghost use Rattle.desk_records.specs.Holds.{HoldsRecords};
 ghost use Rattle.rollout_machine.specs.Answers.{query_reply};
 ghost use Rattle.rollout_machine.specs.ByteStrings.{item_numbered};
 ghost use Rattle.rollout_machine.specs.Objects.{module_shown, modules_shown};
 ghost use Rattle.rollout_machine.specs.Requests.{ShowModule, ShowModules};
 ghost use Rattle.rollout_machine.specs.Views.{reply_of};
+ghost use Rattle.desk_store.specs.Changing.{ReadsIn};
 
 use crate::pages::count_on;
 use desk_store::{Fault, OpenChange};
@@ -23,8 +21,7 @@ pub fn show_module<S: Alter>(
     number: ModuleNo,
 ) -> Result<Reply, Fault>
     ensures same_reference { change.new.store.ghost_name ≡ change.old.store.ghost_name }
-    ensures reads { Reads HoldsRecords (state S.Store change.old.store.now.calls.conn) (state S.Store change.new.store.now.calls.conn) result
-        (λ now reply. reply_of reply ≡ query_reply now (ShowModule number)) }
+    ensures reads { ReadsIn S.Store change.old change.new result (λ now reply. reply_of reply ≡ query_reply now (ShowModule number)) }
 {
     match read_shown(change, number)? {
         Some(shown) => Ok(Reply::Module(shown)),
@@ -39,8 +36,7 @@ pub fn show_modules<S: Alter>(
     page: Page,
 ) -> Result<Reply, Fault>
     ensures same_reference { change.new.store.ghost_name ≡ change.old.store.ghost_name }
-    ensures reads { Reads HoldsRecords (state S.Store change.old.store.now.calls.conn) (state S.Store change.new.store.now.calls.conn) result
-        (λ now reply. reply_of reply ≡ query_reply now (ShowModules page)) }
+    ensures reads { ReadsIn S.Store change.old change.new result (λ now reply. reply_of reply ≡ query_reply now (ShowModules page)) }
 {
     let total = change.read_last_module()?;
     let content = read_page(alloc, change, page, total)?;
@@ -55,7 +51,7 @@ fn read_page<S: Alter>(
     total: u32,
 ) -> Result<Vec<Module>, Fault>
     ensures same_reference { change.new.store.ghost_name ≡ change.old.store.ghost_name }
-    ensures reads { Reads HoldsRecords (state S.Store change.old.store.now.calls.conn) (state S.Store change.new.store.now.calls.conn) result
+    ensures reads { ReadsIn S.Store change.old change.new result
         (λ now content. total ≡ length now.modules → content.items ≡ take page.limit (drop page.offset (modules_shown now))) }
 {
     let mut content = Vec::new(alloc);
@@ -72,8 +68,7 @@ fn read_page<S: Alter>(
 /// The module of a number up to the last one. Where it isn't there the store has failed.
 fn read_entry<S: Alter>(change: &mut OpenChange<'_, S>, number: u32) -> Result<Module, Fault>
     ensures same_reference { change.new.store.ghost_name ≡ change.old.store.ghost_name }
-    ensures reads { Reads HoldsRecords (state S.Store change.old.store.now.calls.conn) (state S.Store change.new.store.now.calls.conn) result
-        (λ now shown. item_numbered (modules_shown now) number ≡ Some shown) }
+    ensures reads { ReadsIn S.Store change.old change.new result (λ now shown. item_numbered (modules_shown now) number ≡ Some shown) }
 {
     let Some(number) = ModuleNo::new(number) else {
         return Err(Fault::Store);
@@ -90,7 +85,7 @@ fn read_shown<S: Alter>(
     number: ModuleNo,
 ) -> Result<Option<Module>, Fault>
     ensures same_reference { change.new.store.ghost_name ≡ change.old.store.ghost_name }
-    ensures reads { Reads HoldsRecords (state S.Store change.old.store.now.calls.conn) (state S.Store change.new.store.now.calls.conn) result
+    ensures reads { ReadsIn S.Store change.old change.new result
         (λ now found. found ≡ option_map (module_shown now number) (item_numbered now.modules number)) }
 {
     let label = match change.read_module(number)? {

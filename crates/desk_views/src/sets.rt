@@ -1,14 +1,12 @@
 //! Distribution sets.
 
 ghost use Rattle.std.specs.Prelude.{◌≡◌, length, take, drop, Some, IfOk};
-ghost use Rattle.sqlite.specs.Held.{state};
-ghost use Rattle.sql_calls.specs.Standing.{Reads};
-ghost use Rattle.desk_records.specs.Holds.{HoldsRecords};
 ghost use Rattle.rollout_machine.specs.Answers.{query_reply};
 ghost use Rattle.rollout_machine.specs.ByteStrings.{item_numbered};
 ghost use Rattle.rollout_machine.specs.Objects.{numbered, set_shown};
 ghost use Rattle.rollout_machine.specs.Requests.{ShowSet, ShowSets};
 ghost use Rattle.rollout_machine.specs.Views.{reply_of};
+ghost use Rattle.desk_store.specs.Changing.{ReadsIn};
 
 use crate::pages::count_on;
 use desk_store::{Fault, OpenChange, SetName};
@@ -21,8 +19,7 @@ use std::alloc::Global;
 /// Shows the set of a number, with its modules in their order.
 pub fn show_set<S: Alter>(change: &mut OpenChange<'_, S>, number: SetNo) -> Result<Reply, Fault>
     ensures same_reference { change.new.store.ghost_name ≡ change.old.store.ghost_name }
-    ensures reads { Reads HoldsRecords (state S.Store change.old.store.now.calls.conn) (state S.Store change.new.store.now.calls.conn) result
-        (λ now reply. reply_of reply ≡ query_reply now (ShowSet number)) }
+    ensures reads { ReadsIn S.Store change.old change.new result (λ now reply. reply_of reply ≡ query_reply now (ShowSet number)) }
 {
     match read_label(change, number)? {
         Some(label) => Ok(Reply::Set(DistributionSet { number, label })),
@@ -37,8 +34,7 @@ pub fn show_sets<S: Alter>(
     page: Page,
 ) -> Result<Reply, Fault>
     ensures same_reference { change.new.store.ghost_name ≡ change.old.store.ghost_name }
-    ensures reads { Reads HoldsRecords (state S.Store change.old.store.now.calls.conn) (state S.Store change.new.store.now.calls.conn) result
-        (λ now reply. reply_of reply ≡ query_reply now (ShowSets page)) }
+    ensures reads { ReadsIn S.Store change.old change.new result (λ now reply. reply_of reply ≡ query_reply now (ShowSets page)) }
 {
     let total = change.read_last_set()?;
     let content = read_page(alloc, change, page, total)?;
@@ -53,7 +49,7 @@ fn read_page<S: Alter>(
     total: u32,
 ) -> Result<Vec<DistributionSet>, Fault>
     ensures same_reference { change.new.store.ghost_name ≡ change.old.store.ghost_name }
-    ensures reads { Reads HoldsRecords (state S.Store change.old.store.now.calls.conn) (state S.Store change.new.store.now.calls.conn) result
+    ensures reads { ReadsIn S.Store change.old change.new result
         (λ now content. total ≡ length now.sets → content.items ≡ take page.limit (drop page.offset (numbered set_shown 1 now.sets))) }
 {
     let mut content = Vec::new(alloc);
@@ -73,8 +69,7 @@ fn read_entry<S: Alter>(
     number: u32,
 ) -> Result<DistributionSet, Fault>
     ensures same_reference { change.new.store.ghost_name ≡ change.old.store.ghost_name }
-    ensures reads { Reads HoldsRecords (state S.Store change.old.store.now.calls.conn) (state S.Store change.new.store.now.calls.conn) result
-        (λ now shown. item_numbered (numbered set_shown 1 now.sets) number ≡ Some shown) }
+    ensures reads { ReadsIn S.Store change.old change.new result (λ now shown. item_numbered (numbered set_shown 1 now.sets) number ≡ Some shown) }
 {
     let Some(number) = SetNo::new(number) else {
         return Err(Fault::Store);
@@ -91,8 +86,7 @@ fn read_label<S: Alter>(
     number: SetNo,
 ) -> Result<Option<SetLabel>, Fault>
     ensures same_reference { change.new.store.ghost_name ≡ change.old.store.ghost_name }
-    ensures reads { Reads HoldsRecords (state S.Store change.old.store.now.calls.conn) (state S.Store change.new.store.now.calls.conn) result
-        (λ now found. found ≡ item_numbered now.sets number) }
+    ensures reads { ReadsIn S.Store change.old change.new result (λ now found. found ≡ item_numbered now.sets number) }
 {
     let called = match change.read_set(number)? {
         Some(called) => called,

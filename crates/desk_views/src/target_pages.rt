@@ -1,9 +1,6 @@
 //! Pages of targets: of all, or of those that match a filter.
 
 ghost use Rattle.std.specs.Prelude.{◌≡◌, ◌+◌, ◌++◌, [], ◌∷◌, List, map, take, IfOk, Some, None};
-ghost use Rattle.sqlite.specs.Held.{state};
-ghost use Rattle.sql_calls.specs.Standing.{Reads};
-ghost use Rattle.desk_records.specs.Holds.{HoldsRecords};
 ghost use Rattle.rollout_machine.specs.Answers.{query_reply};
 ghost use Rattle.rollout_machine.specs.Filters.{seen};
 ghost use Rattle.rollout_machine.specs.Objects.{page_of};
@@ -12,6 +9,7 @@ ghost use Rattle.rollout_machine.specs.Views.{listed, reply_of};
 ghost use Rattle.rollout_model.specs.declared.shown_target.ShownTarget.{ShownTarget};
 ghost use Rattle.target_filter.specs.Grammar.{Tree};
 ghost use Rattle.target_filter.specs.Profile.{filter_of};
+ghost use Rattle.desk_store.specs.Changing.{ReadsIn};
 ghost use Rattle.desk_views.specs.Targets.{matching_shown, target_listed, unassigned};
 
 use crate::pages::is_on;
@@ -34,8 +32,7 @@ pub fn show_targets<S: Alter>(
     page: Page,
 ) -> Result<Reply, Fault>
     ensures same_reference { change.new.store.ghost_name ≡ change.old.store.ghost_name }
-    ensures reads { Reads HoldsRecords (state S.Store change.old.store.now.calls.conn) (state S.Store change.new.store.now.calls.conn) result
-        (λ now reply. reply_of reply ≡ query_reply now (ShowTargets filter.now page)) }
+    ensures reads { ReadsIn S.Store change.old change.new result (λ now reply. reply_of reply ≡ query_reply now (ShowTargets filter.now page)) }
 {
     match filter {
         Some(text) => show_matching(alloc, change, text, page),
@@ -50,8 +47,7 @@ fn show_all<S: Alter>(
     page: Page,
 ) -> Result<Reply, Fault>
     ensures same_reference { change.new.store.ghost_name ≡ change.old.store.ghost_name }
-    ensures reads { Reads HoldsRecords (state S.Store change.old.store.now.calls.conn) (state S.Store change.new.store.now.calls.conn) result
-        (λ now reply. reply_of reply ≡ query_reply now (ShowTargets None page)) }
+    ensures reads { ReadsIn S.Store change.old change.new result (λ now reply. reply_of reply ≡ query_reply now (ShowTargets None page)) }
 {
     let total = change.read_target_count()?;
     let entries = change.read_targets(page)?;
@@ -66,7 +62,7 @@ fn read_entries<S: Alter>(
     entries: Vec<ListedTarget>,
 ) -> Result<Vec<ShownTarget>, Fault>
     ensures same_reference { change.new.store.ghost_name ≡ change.old.store.ghost_name }
-    ensures reads { Reads HoldsRecords (state S.Store change.old.store.now.calls.conn) (state S.Store change.new.store.now.calls.conn) result
+    ensures reads { ReadsIn S.Store change.old change.new result
         (λ now content. content.items ≡ map unassigned (map (target_listed now) entries.items)) }
 {
     let mut content = Vec::new(alloc);
@@ -88,8 +84,7 @@ fn show_matching<S: Alter>(
     page: Page,
 ) -> Result<Reply, Fault>
     ensures same_reference { change.new.store.ghost_name ≡ change.old.store.ghost_name }
-    ensures reads { Reads HoldsRecords (state S.Store change.old.store.now.calls.conn) (state S.Store change.new.store.now.calls.conn) result
-        (λ now reply. reply_of reply ≡ query_reply now (ShowTargets (Some text.now) page)) }
+    ensures reads { ReadsIn S.Store change.old change.new result (λ now reply. reply_of reply ≡ query_reply now (ShowTargets (Some text.now) page)) }
 {
     let words = text.as_str();
     let filter = match Filter::read(alloc, words) {
@@ -110,7 +105,7 @@ fn read_matching<S: Alter>(
     page: Page,
 ) -> Result<PageOf<ShownTarget>, Fault>
     ensures same_reference { change.new.store.ghost_name ≡ change.old.store.ghost_name }
-    ensures reads { Reads HoldsRecords (state S.Store change.old.store.now.calls.conn) (state S.Store change.new.store.now.calls.conn) result
+    ensures reads { ReadsIn S.Store change.old change.new result
         (λ now shown. (f : Tree) → filter_of filter.now ≡ Some f → listed shown ≡ page_of page (matching_shown f (map seen now.targets))) }
 {
     let count = change.read_target_count()?;
@@ -136,7 +131,7 @@ fn add_chunk<S: Alter>(
     shown: &mut PageOf<ShownTarget>,
 ) -> Result<(), Fault>
     ensures same_reference { change.new.store.ghost_name ≡ change.old.store.ghost_name }
-    ensures reads { Reads HoldsRecords (state S.Store change.old.store.now.calls.conn) (state S.Store change.new.store.now.calls.conn) result
+    ensures reads { ReadsIn S.Store change.old change.new result
         (λ now _. (f : Tree) → filter_of filter.now ≡ Some f → listed shown.old ≡ page_of page (matching_shown f (map seen (take offset now.targets)))
         → listed shown.new ≡ page_of page (matching_shown f (map seen (take (offset + 10000) now.targets)))) }
 {
@@ -157,7 +152,7 @@ fn add_matching<S: Alter>(
     shown: &mut PageOf<ShownTarget>,
 ) -> Result<(), Fault>
     ensures same_reference { change.new.store.ghost_name ≡ change.old.store.ghost_name }
-    ensures reads { Reads HoldsRecords (state S.Store change.old.store.now.calls.conn) (state S.Store change.new.store.now.calls.conn) result
+    ensures reads { ReadsIn S.Store change.old change.new result
         (λ now _. (f : Tree) → filter_of filter.now ≡ Some f → (all : List ShownTarget) → listed shown.old ≡ page_of page all
         → listed shown.new ≡ page_of page (all ++ matching_shown f (map (target_listed now) entries.items))) }
 {
@@ -176,7 +171,7 @@ fn add_if_match<S: Alter>(
     shown: &mut PageOf<ShownTarget>,
 ) -> Result<(), Fault>
     ensures same_reference { change.new.store.ghost_name ≡ change.old.store.ghost_name }
-    ensures reads { Reads HoldsRecords (state S.Store change.old.store.now.calls.conn) (state S.Store change.new.store.now.calls.conn) result
+    ensures reads { ReadsIn S.Store change.old change.new result
         (λ now _. (f : Tree) → filter_of filter.now ≡ Some f → (all : List ShownTarget) → listed shown.old ≡ page_of page all
         → listed shown.new ≡ page_of page (all ++ matching_shown f (target_listed now entry ∷ []))) }
 {

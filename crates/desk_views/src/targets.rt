@@ -2,14 +2,12 @@
 
 ghost use Rattle.std.specs.Prelude.{◌≡◌, IfOk};
 ghost use Rattle.std.specs.Option.{option_map};
-ghost use Rattle.sqlite.specs.Held.{state};
-ghost use Rattle.sql_calls.specs.Standing.{Reads};
-ghost use Rattle.desk_records.specs.Holds.{HoldsRecords};
 ghost use Rattle.rollout_machine.specs.Answers.{query_reply};
 ghost use Rattle.rollout_machine.specs.Objects.{target_shown};
 ghost use Rattle.rollout_machine.specs.Requests.{ShowTarget};
 ghost use Rattle.rollout_machine.specs.Verdicts.{target_of};
 ghost use Rattle.rollout_machine.specs.Views.{reply_of, shown_target};
+ghost use Rattle.desk_store.specs.Changing.{ReadsIn};
 ghost use Rattle.desk_views.specs.Targets.{target_listed, unassigned};
 
 use desk_store::{Fault, ListedTarget, OpenChange, StoredTarget};
@@ -24,8 +22,7 @@ pub fn show_target<S: Alter>(
     id: ControllerId,
 ) -> Result<Reply, Fault>
     ensures same_reference { change.new.store.ghost_name ≡ change.old.store.ghost_name }
-    ensures reads { Reads HoldsRecords (state S.Store change.old.store.now.calls.conn) (state S.Store change.new.store.now.calls.conn) result
-        (λ now reply. reply_of reply ≡ query_reply now (ShowTarget id)) }
+    ensures reads { ReadsIn S.Store change.old change.new result (λ now reply. reply_of reply ≡ query_reply now (ShowTarget id)) }
 {
     match read_shown(change, id)? {
         Some(shown) => Ok(Reply::Target(shown)),
@@ -39,7 +36,7 @@ fn read_shown<S: Alter>(
     id: ControllerId,
 ) -> Result<Option<ShownTarget>, Fault>
     ensures same_reference { change.new.store.ghost_name ≡ change.old.store.ghost_name }
-    ensures reads { Reads HoldsRecords (state S.Store change.old.store.now.calls.conn) (state S.Store change.new.store.now.calls.conn) result
+    ensures reads { ReadsIn S.Store change.old change.new result
         (λ now found. option_map shown_target found ≡ option_map (target_shown now) (target_of now id)) }
 {
     let stored = match change.read_target(&id)? {
@@ -65,8 +62,7 @@ pub(crate) fn read_listed<S: Alter>(
     listed: ListedTarget,
 ) -> Result<Target, Fault>
     ensures same_reference { change.new.store.ghost_name ≡ change.old.store.ghost_name }
-    ensures reads { Reads HoldsRecords (state S.Store change.old.store.now.calls.conn) (state S.Store change.new.store.now.calls.conn) result
-        (λ now target. target ≡ target_listed now listed) }
+    ensures reads { ReadsIn S.Store change.old change.new result (λ now target. target ≡ target_listed now listed) }
 {
     let words = change.read_target_tags(&listed.id)?;
     let attributes = change.read_target_attributes(&listed.id)?;

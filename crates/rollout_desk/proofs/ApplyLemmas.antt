@@ -4,7 +4,7 @@ use Rattle.std.proofs.lemmas.Bool.{cases_Bool, false≢true}
 use Rattle.sqlite.specs.Tree.{Trees}
 use Rattle.sqlite.specs.Effect.{Database}
 use Rattle.sqlite.specs.State.{State, HasCleanDisk}
-use Rattle.sql_calls.specs.Standing.{HoldIn, IsAtRest, IsInDoubt, Rests, Changes, Spoils, Reads, Begins, Keeps}
+use Rattle.sql_calls.specs.Standing.{HoldIn, IsAtRest, IsInDoubt, Rests, Changes, Spoils, Begins, Keeps}
 use Rattle.rollout_model.specs.declared.request.Reply as model
 use Rattle.sql_calls.proofs.Changes.{spoils}
 use Rattle.rollout_machine.specs.Answers.{Answer, answer, query_reply}
@@ -27,9 +27,8 @@ use Rattle.rollout_model.specs.declared.refusal.Refusal.TheVariants.{StoreFailed
 use Rattle.rollout_desk.specs.Desks.{HoldsList, desk_state_at}
 use Rattle.sql_calls.specs.declared.fault.Fault.{Fault}
 use Rattle.sql_calls.specs.declared.fault.Fault.TheVariants.{Memory, Store}
-use Rattle.rollout_desk.specs.Steps.{is_store, is_failed_store, refusal_of_fault, KeepsLimits, Steps, Handles, EndsByCommit, EndsByRollback}
+use Rattle.rollout_desk.specs.Steps.{is_store, is_failed_store, refusal_of_fault, Steps, Shows, Handles, EndsByCommit, EndsByRollback}
 use Rattle.rollout_desk.specs.declared.step.Step.TheVariants as step
-use Rattle.rollout_desk.proofs.LimitLemmas.{limits_kept}
 
 -- ---- the reply of a failed store
 
@@ -105,13 +104,13 @@ module _ (Holds : Database → Records → Type 0) where
 
     -- what was found inside is the answer, and nothing is accepted
     pub found : (request : Request) (made : Reply) (Says : Records → Type 0) → ((h : CommandList) → IsValid h → Says (records h) → record { reply = made; accepted = None } ≡ answer h (Asks request)) → (wears : Rattle.sql_calls.specs.Standing.Wears b c)
-        → ((now kept : Records) → Changes Holds b now kept → Changes Holds c now kept × (HasCleanDisk c → Says now)) → (reply : Reply) → EndsByRollback Holds c d made reply → Handles Holds a d request reply
+        → ((h : CommandList) (kept : Records) → IsValid h → Changes Holds b (records h) kept → Spoils Holds c kept × (HasCleanDisk c → Says (records h))) → (reply : Reply) → EndsByRollback Holds c d made reply → Handles Holds a d request reply
     found request made Says means wears inside reply ends = record {
       wears = omega (arith, begins.wears, wears, ends.wears);
       handles = λ h clean was.
           let r = records h in
-          let done = inside r r (begins.begun r (λ known. was.shows)) in
-          let spoiled = spoils Holds c r r done.0 in
+          let done = inside h r was.valid (begins.begun r (λ known. was.shows)) in
+          let spoiled = done.0 in
           elim ends.ends [
             | inl it ↦ answered h was.valid d request reply None (ap (λ (x : Reply). record { reply = x; accepted = None }) it.0 ∙ means h was.valid (done.1 (omega (arith, clean, ends.wears)))) (stands d h was.valid (it.1 r spoiled clean))
             | inr it ↦ left_alone h was.valid d request reply it.0 (λ db left. elim ((it.1 r spoiled clean).crash db left) [ inl one ↦ one | inr one ↦ one ])
@@ -120,12 +119,12 @@ module _ (Holds : Database → Records → Type 0) where
 
     -- something failed inside
     pub lost : (request : Request) (made : Reply) → IsFailure made → (wears : Rattle.sql_calls.specs.Standing.Wears b c)
-        → ((now kept : Records) → Changes Holds b now kept → Spoils Holds c kept) → (reply : Reply) → EndsByRollback Holds c d made reply → Handles Holds a d request reply
+        → ((h : CommandList) (kept : Records) → IsValid h → Changes Holds b (records h) kept → Spoils Holds c kept) → (reply : Reply) → EndsByRollback Holds c d made reply → Handles Holds a d request reply
     lost request made bad wears inside reply ends = record {
       wears = omega (arith, begins.wears, wears, ends.wears);
       handles = λ h clean was.
           let r = records h in
-          let spoiled = inside r r (begins.begun r (λ known. was.shows)) in
+          let spoiled = inside h r was.valid (begins.begun r (λ known. was.shows)) in
           elim ends.ends [
             | inl it ↦ failed h was.valid d request reply (subst IsFailure (sym it.0) bad) (it.1 r spoiled clean)
             | inr it ↦ left_alone h was.valid d request reply it.0 (λ db left. elim ((it.1 r spoiled clean).crash db left) [ inl one ↦ one | inr one ↦ one ])
@@ -135,7 +134,7 @@ module _ (Holds : Database → Records → Type 0) where
     -- ---- a command
 
     pub refused : {E : Type 0} (command : Command) (refusal : Refusal) → Steps Holds {E = E} b c command (Ok (step.Refused refusal)) → (reply : Reply) → EndsByRollback Holds c d (Refused refusal) reply → Handles Holds a d (Do command) reply
-    refused command refusal steps reply ends = found (Do command) (Refused refusal) (λ (r : Records). KeepsLimits r → check r command ≡ Some refusal) (λ h valid is. sym (refused_answer h command refusal (is (limits_kept h valid)))) steps.wears steps.steps reply ends
+    refused command refusal steps reply ends = found (Do command) (Refused refusal) (λ (r : Records). check r command ≡ Some refusal) (λ h valid is. sym (refused_answer h command refusal is)) steps.wears steps.steps reply ends
 
     pub broken : {E : Type 0} (command : Command) (e : E) → Steps Holds b c command (Err e) → (made : Reply) → IsFailure made → (reply : Reply) → EndsByRollback Holds c d made reply → Handles Holds a d (Do command) reply
     broken command e steps made bad reply ends = lost (Do command) made bad steps.wears steps.steps reply ends
@@ -145,8 +144,8 @@ module _ (Holds : Database → Records → Type 0) where
       wears = omega (arith, begins.wears, steps.wears, ends.wears);
       handles = λ h clean was.
           let r = records h in
-          let done = steps.steps r r (begins.begun r (λ known. was.shows)) in
-          let facts = done.1 (omega (arith, clean, ends.wears)) (limits_kept h was.valid) in
+          let done = steps.steps h r was.valid (begins.begun r (λ known. was.shows)) in
+          let facts = done.1 (omega (arith, clean, ends.wears)) in
           let follows = records_step h command was.valid facts.0 in
           let longer : IsValid (h ▸ command) = (was.valid, good, facts.0) in
           let is = accepted_step h command was.valid facts.0 in
@@ -162,9 +161,10 @@ module _ (Holds : Database → Records → Type 0) where
 
     -- ---- a query
 
-    pub shown : {E : Type 0} (query : Query) (rust : model.Reply) → Reads Holds {E = E} b c (Ok rust) (λ (now : Records) (r : model.Reply). reply_of r ≡ query_reply now query) → (reply : Reply) → EndsByRollback Holds c d (reply_of rust) reply → Handles Holds a d (Ask query) reply
-    shown query rust reads reply ends =
-        found (Ask query) (reply_of rust) (λ (r : Records). reply_of rust ≡ query_reply r query) (λ h valid is. ap (λ (x : Reply). record { reply = x; accepted = None }) is ∙ sym (query_answer h query)) reads.wears reads.reads reply ends
+    pub shown : {E : Type 0} (query : Query) (rust : model.Reply) → Shows Holds {E = E} b c query (Ok rust) → (reply : Reply) → EndsByRollback Holds c d (reply_of rust) reply → Handles Holds a d (Ask query) reply
+    shown query rust shows reply ends =
+        found (Ask query) (reply_of rust) (λ (r : Records). reply_of rust ≡ query_reply r query) (λ h valid is. ap (λ (x : Reply). record { reply = x; accepted = None }) is ∙ sym (query_answer h query)) shows.wears
+        (λ h kept valid was. let it = shows.shows h kept valid was in (spoils Holds c (records h) kept it.0, it.1)) reply ends
 
-    pub unshown : {E : Type 0} (query : Query) (e : E) → Reads Holds {A = model.Reply} b c (Err e) (λ (now : Records) (r : model.Reply). reply_of r ≡ query_reply now query) → (made : Reply) → IsFailure made → (reply : Reply) → EndsByRollback Holds c d made reply → Handles Holds a d (Ask query) reply
-    unshown query e reads made bad reply ends = lost (Ask query) made bad reads.wears reads.reads reply ends
+    pub unshown : {E : Type 0} (query : Query) (e : E) → Shows Holds b c query (Err e) → (made : Reply) → IsFailure made → (reply : Reply) → EndsByRollback Holds c d made reply → Handles Holds a d (Ask query) reply
+    unshown query e shows made bad reply ends = lost (Ask query) made bad shows.wears shows.shows reply ends

@@ -21,7 +21,7 @@ use Rattle.rollout_model.specs.Pairs.{is_same_attribute}
 use Rattle.rollout_model.specs.declared.refusal.Refusal.TheVariants.{Unauthorized, Quota}
 use Rattle.rollout_desk.specs.Attributes.{GivesAttribute, GivesAttributes, attributed_with, has_attribute, keys_after}
 use Rattle.rollout_desk.proofs.ByteOrderLemmas.{below_apart, count_with, same_sym, sorted_from, with_there}
-use Rattle.rollout_desk.proofs.ImportLemmas.{one_more, words_more}
+use Rattle.rollout_desk.proofs.PutLemmas.{one_more, words_then}
 use Rattle.rollout_desk.proofs.TagLemmas.{has_all, pointwise_is, same_pointwise}
 use Rattle.rollout_desk.proofs.TargetLemmas.{change_twice, find_changed, found, ids_sorted, no_change, none_above, unchanged}
 
@@ -204,7 +204,7 @@ more_attributes id had given a r next h =
 -- ---- how many keys are new
 
 keys_more : (earlier : List Attribute) (a : Attribute) (had : List Attribute) → keys_after (earlier ++ a ∷ []) had ≡ with_word a.key (keys_after earlier had)
-keys_more earlier a had = ap (λ ks. with_words ks (keys_of had)) (map-append (λ (x : Attribute). x.key) earlier (a ∷ [])) ∙ words_more (keys_of earlier) a.key (keys_of had)
+keys_more earlier a had = ap (λ ks. with_words ks (keys_of had)) (map-append (λ (x : Attribute). x.key) earlier (a ∷ [])) ∙ words_then (keys_of earlier) (a.key ∷ []) (keys_of had)
 
 pub none_counted : (had : List Attribute) → length had + 0 ≡ length (keys_after [] had)
 none_counted had = let same : length had + 0 ≡ length had = omega arith in same ∙ sym (length-map had (λ (a : Attribute). a.key))

@@ -11,6 +11,7 @@ pub mod TargetLemmas
 pub mod TagLemmas
 pub mod WriteLemmas
 pub mod ImportLemmas
+pub mod PutLemmas
 pub mod TagStepLemmas
 pub mod AttributeLemmas
 pub mod LookLemmas

@@ -11,7 +11,6 @@ use Rattle.rollout_machine.specs.Validity.{IsValid}
 use Rattle.rollout_machine.specs.Verdicts.{verdict}
 use Rattle.rollout_model.specs.declared.refusal.Refusal.{Refusal}
 use Rattle.rollout_model.specs.declared.refusal.Refusal.TheVariants.{Quota}
-use Rattle.rollout_desk.specs.Steps.{KeepsLimits}
 
 ids_are : (h : CommandList) (ids : List Bytes) → map (λ (t : Target). t.id) (map (target_in h) ids) ≡ ids
 ids_are h [] = refl
@@ -50,6 +49,6 @@ ids_keep (h ▸ Cancel t k b) valid = ids_keep h valid.0
 ids_keep (h ▸ Feedback x) valid = ids_keep h valid.0
 ids_keep (h ▸ CancelFeedback x) valid = ids_keep h valid.0
 
-pub limits_kept : (h : CommandList) → IsValid h → KeepsLimits (records h)
+pub few_in_list : (h : CommandList) → IsValid h → length (records h).targets ≤ 10000
 unfolding records
-limits_kept h valid = let few = ids_keep h valid in let same = length-map (target_ids h) (target_in h) in omega (arith, few, same)
+few_in_list h valid = let few = ids_keep h valid in let same = length-map (target_ids h) (target_in h) in omega (arith, few, same)

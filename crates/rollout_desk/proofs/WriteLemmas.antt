@@ -8,18 +8,14 @@ use Rattle.desk_records.specs.Targets.{are_sorted}
 use Rattle.rollout_machine.specs.Records.{Records}
 use Rattle.rollout_desk.specs.Additions.{WritesAll}
 
-module _ (Holds : Database → Records → Type 0) where
-  -- what is known without a read
-  pub known : {A E : Type 0} (a : State) (x : A) (P : Records → A → Type 0) → ((r : Records) → P r x) → Reads Holds {E = E} a a (Ok x) P
-  known a x P means = record { wears = omega (arith); reads = λ now kept was. (was, λ clean. means now) }
-
+module _ {R : Type 0} (Holds : Database → R → Type 0) where
   -- a failed read, before any write
-  pub unread_all : {A B E F : Type 0} (a b : State) (e : E) (P : Records → A → Type 0) (W : Records → Records → Type 0) → Reads Holds a b (Err e) P → (out : Result B F) → IsErr out → WritesAll Holds a b out W
+  pub unread_all : {A B E F : Type 0} (a b : State) (e : E) (P : R → A → Type 0) (W : R → R → Type 0) → Reads Holds a b (Err e) P → (out : Result B F) → IsErr out → WritesAll Holds a b out W
   unread_all a b e P W h (Ok x) bad = absurd (cc)
   unread_all a b e P W h (Err f) bad = record { wears = h.wears; writes = λ now kept next was change. h.reads now kept was }
 
   -- a read, and then writes that rest on it
-  pub read_then_write : {A B E F : Type 0} (a b c : State) (x : A) (P : Records → A → Type 0) (D W : Records → Records → Type 0) → Reads Holds {E = E} a b (Ok x) P → ((r next : Records) → P r x → W r next → D r next)
+  pub read_then_write : {A B E F : Type 0} (a b c : State) (x : A) (P : R → A → Type 0) (D W : R → R → Type 0) → Reads Holds {E = E} a b (Ok x) P → ((r next : R) → P r x → W r next → D r next)
       → (out : Result B F) → WritesAll Holds b c out D → WritesAll Holds a c out W
   read_then_write a b c x P D W first means (Ok y) second = record {
     wears = omega (arith, first.wears, second.wears);
@@ -35,7 +31,7 @@ module _ (Holds : Database → Records → Type 0) where
   }
 
   -- the first of several writes failed
-  pub first_fails : {A B E F : Type 0} (a b : State) (e : E) (C W : Records → Records → Type 0) → WritesAll Holds {A = A} a b (Err e) C → ((r next : Records) → W r next → (mid : Records) × C r mid) → (out : Result B F) → IsErr out
+  pub first_fails : {A B E F : Type 0} (a b : State) (e : E) (C W : R → R → Type 0) → WritesAll Holds {A = A} a b (Err e) C → ((r next : R) → W r next → (mid : R) × C r mid) → (out : Result B F) → IsErr out
       → WritesAll Holds a b out W
   first_fails a b e C W h part (Ok x) bad = absurd (cc)
   first_fails a b e C W h part (Err f) bad = record {
@@ -44,8 +40,8 @@ module _ (Holds : Database → Records → Type 0) where
   }
 
   -- the others failed, which could be made too
-  pub others_fail : {A B E F G : Type 0} (a b c : State) (x : A) (e : F) (C D W : Records → Records → Type 0) → WritesAll Holds {E = E} a b (Ok x) C → ((r : Records) → (mid : Records) × C r mid)
-      → WritesAll Holds {A = A} b c (Err e) D → ((r : Records) → (mid : Records) × D r mid) → (out : Result B G) → IsErr out → WritesAll Holds a c out W
+  pub others_fail : {A B E F G : Type 0} (a b c : State) (x : A) (e : F) (C D W : R → R → Type 0) → WritesAll Holds {E = E} a b (Ok x) C → ((r : R) → (mid : R) × C r mid)
+      → WritesAll Holds {A = A} b c (Err e) D → ((r : R) → (mid : R) × D r mid) → (out : Result B G) → IsErr out → WritesAll Holds a c out W
   others_fail a b c x e C D W first one second two (Ok y) bad = absurd (cc)
   others_fail a b c x e C D W first one second two (Err f) bad = record {
     wears = omega (arith, first.wears, second.wears);
@@ -53,7 +49,7 @@ module _ (Holds : Database → Records → Type 0) where
   }
 
   -- all of the first writes, and then the others
-  pub all_write : {A B E F : Type 0} (a b c : State) (x : A) (C D W : Records → Records → Type 0) → WritesAll Holds {A = A} {E = E} a b (Ok x) C → ((r next : Records) → W r next → (mid : Records) × C r mid × D mid next)
+  pub all_write : {A B E F : Type 0} (a b c : State) (x : A) (C D W : R → R → Type 0) → WritesAll Holds {A = A} {E = E} a b (Ok x) C → ((r next : R) → W r next → (mid : R) × C r mid × D mid next)
       → (out : Result B F) → WritesAll Holds b c out D → WritesAll Holds a c out W
   all_write a b c x C D W first parts (Ok y) second = record {
     wears = omega (arith, first.wears, second.wears);
@@ -69,7 +65,7 @@ module _ (Holds : Database → Records → Type 0) where
   }
 
   -- writes that a change asks less of
-  pub writes_as : {A E : Type 0} (a b : State) (C W : Records → Records → Type 0) → ((r next : Records) → W r next → C r next) → (out : Result A E) → WritesAll Holds a b out C → WritesAll Holds a b out W
+  pub writes_as : {A E : Type 0} (a b : State) (C W : R → R → Type 0) → ((r next : R) → W r next → C r next) → (out : Result A E) → WritesAll Holds a b out C → WritesAll Holds a b out W
   writes_as a b C W means (Ok x) h = record { wears = h.wears; writes = λ now kept next was change. h.writes now kept next was (λ clean. means now next (change clean)) }
   writes_as a b C W means (Err e) h = record { wears = h.wears; writes = λ now kept next was change. h.writes now kept next was (λ clean. means now next (change clean)) }
 
@@ -85,7 +81,3 @@ sorted_now a b clean wears now kept was = (was (omega (arith, clean, wears))).no
 pub in_order : {A E : Type 0} (a b : State) (W : Records → Records → Type 0) (out : Result A E) → WritesAll HoldsRecords a b out (InOrder W) → WritesAll HoldsRecords a b out W
 in_order a b W (Ok x) h = record { wears = h.wears; writes = λ now kept next was change. h.writes now kept next was (λ clean. (sorted_now a b clean h.wears now kept was, change clean)) }
 in_order a b W (Err e) h = record { wears = h.wears; writes = λ now kept next was change. h.writes now kept next was (λ clean. (sorted_now a b clean h.wears now kept was, change clean)) }
-
--- so may what is read
-pub read_in_order : {A E : Type 0} (a b : State) (x : A) (P : Records → A → Type 0) → Reads HoldsRecords {E = E} a b (Ok x) P → Reads HoldsRecords {E = E} a b (Ok x) (λ r y. (are_sorted r.targets ≡ true) × P r y)
-read_in_order a b x P h = record { wears = h.wears; reads = λ now kept was. (let it = h.reads now kept was in (it.0, λ clean. (sorted_now a b clean h.wears now kept was, it.1 clean))) }

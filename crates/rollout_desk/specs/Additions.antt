@@ -32,13 +32,13 @@ LacksModule modules r lacks = lacks ≡ list_any (λ m. is_none (item_numbered r
 
 -- ---- several writes as one
 
-module _ (Holds : Database → Records → Type 0) where
-  abbrev pub WritesAllTo : {A E : Type 0} → State → State → (Records → Records → Type 0) → Result A E → Type 0
-  WritesAllTo old new Change (Ok a) = (now kept next : Records) → Changes Holds old now kept → (HasCleanDisk new → Change now next) → Changes Holds new next kept
-  WritesAllTo old new Change (Err e) = (now kept next : Records) → Changes Holds old now kept → (HasCleanDisk new → Change now next) → Spoils Holds new kept
+module _ {R : Type 0} (Holds : Database → R → Type 0) where
+  abbrev pub WritesAllTo : {A E : Type 0} → State → State → (R → R → Type 0) → Result A E → Type 0
+  WritesAllTo old new Change (Ok a) = (now kept next : R) → Changes Holds old now kept → (HasCleanDisk new → Change now next) → Changes Holds new next kept
+  WritesAllTo old new Change (Err e) = (now kept next : R) → Changes Holds old now kept → (HasCleanDisk new → Change now next) → Spoils Holds new kept
 
   -- Where the change can be made, it is; where one of the writes fails it can only be given up.
-  pub record WritesAll {A E : Type 0} (old new : State) (result : Result A E) (Change : Records → Records → Type 0) : Type 0 where
+  pub record WritesAll {A E : Type 0} (old new : State) (result : Result A E) (Change : R → R → Type 0) : Type 0 where
     pub wears : Wears old new
     pub writes : WritesAllTo old new Change result
 

@@ -1,15 +1,23 @@
 -- What an import of targets reads and writes.
-use Rattle.std.specs.Prelude.{◌≡◌, ◌+◌, ℕ, Bool, true, false, not, List, [], ◌∷◌, map, filter, length, Option, Some, option_map, is_some}
+use Rattle.std.specs.Prelude.{◌≡◌, ◌≤◌, ◌+◌, ℕ, true, false, not, List, [], ◌∷◌, map, filter, length, Option, Some, None, Result, Ok, Err, option_map, is_some}
+use Rattle.sqlite.specs.Effect.{Database}
+use Rattle.sqlite.specs.State.{State, HasCleanDisk}
+use Rattle.sql_calls.specs.Standing.{Wears, Changes, Spoils}
 use Rattle.desk_records.specs.TargetRow.{stored_target}
 use Rattle.desk_records.specs.Targets.{ids_of, renamed, with_changed}
 use Rattle.desk_records.specs.declared.target_row.StoredTarget.{StoredTarget}
 use Rattle.rollout_machine.specs.ByteStrings.{contains_word, with_words, without_word, sorted_words}
+use Rattle.rollout_machine.specs.CommandList.{CommandList}
 use Rattle.rollout_machine.specs.Commands.{Bytes, TargetRow, PutTargets}
-use Rattle.rollout_machine.specs.Records.{Records}
+use Rattle.rollout_machine.specs.Records.{Records, records}
 use Rattle.rollout_machine.specs.RecordSteps.{step_records}
 use Rattle.rollout_machine.specs.Targets.{Target}
-use Rattle.rollout_machine.specs.Verdicts.{target_of, tags_of}
+use Rattle.rollout_machine.specs.Validity.{IsValid}
+use Rattle.rollout_machine.specs.Verdicts.{check, target_of, tags_of}
+use Rattle.rollout_model.specs.Limits.{target_limit}
 use Rattle.rollout_model.specs.Rules.{are_distinct_words}
+use Rattle.rollout_model.specs.declared.refusal.Refusal.{Refusal}
+use Rattle.rollout_model.specs.declared.refusal.Refusal.TheVariants.{Quota}
 
 -- ---- tags
 
@@ -68,10 +76,40 @@ row_ids rows = map (λ (row : TargetRow). row.id) rows
 abbrev pub ids_after : List TargetRow → Records → List Bytes
 ids_after rows r = with_words (row_ids rows) (ids_of r.targets)
 
--- after the earlier rows this one adds a target
-abbrev pub IsNew : TargetRow → List TargetRow → Records → Bool → Type 0
-IsNew row earlier r new = new ≡ not (contains_word row.id (ids_after earlier r))
+-- the desk takes so many more targets; where they aren't counted yet, there are no more than it takes
+abbrev pub HasRoom : Option ℕ → Records → Type 0
+HasRoom None r = length r.targets ≤ target_limit
+HasRoom (Some left) r = length r.targets + left ≡ target_limit
 
--- the rows add so many targets
-abbrev pub AddsSoMany : List TargetRow → Records → ℕ → Type 0
-AddsSoMany rows r added = length r.targets + added ≡ length (ids_after rows r)
+-- counted, so many more
+abbrev pub LeavesRoom : Option ℕ → Records → ℕ → Type 0
+LeavesRoom left r room = HasRoom left r → HasRoom (Some room) r
+
+-- the row is of a target that isn't there, and the desk takes no more
+abbrev pub IsTooMany : TargetRow → Records → Type 0
+IsTooMany row r = (target_of r row.id ≡ None) × (length r.targets ≡ target_limit)
+
+abbrev pub with_row : TargetRow → Records → Records
+with_row row r = step_records r (PutTargets (row ∷ []))
+
+module _ (Holds : Database → Records → Type 0) where
+  abbrev pub PutsRowTo : {E : Type 0} → State → State → TargetRow → Option ℕ → Result (Result (Option ℕ) Refusal) E → Type 0
+  PutsRowTo old new row left (Ok (Ok then)) = (now kept : Records) → Changes Holds old now kept → Changes Holds new (with_row row now) kept × (HasCleanDisk new → HasRoom left now → HasRoom then (with_row row now))
+  PutsRowTo old new row left (Ok (Err refusal)) = (now kept : Records) → Changes Holds old now kept → Spoils Holds new kept × (HasCleanDisk new → HasRoom left now → (refusal ≡ Quota) × IsTooMany row now)
+  PutsRowTo old new row left (Err e) = (now kept : Records) → Changes Holds old now kept → Spoils Holds new kept
+
+  -- One row is put, or it is of one target too many. Then, and where it fails, the change can only be given up.
+  pub record PutsRow {E : Type 0} (old new : State) (row : TargetRow) (left : Option ℕ) (result : Result (Result (Option ℕ) Refusal) E) : Type 0 where
+    pub wears : Wears old new
+    pub puts : PutsRowTo old new row left result
+
+  abbrev pub PutsAllTo : {E : Type 0} → State → State → List TargetRow → Result (Option Refusal) E → Type 0
+  PutsAllTo old new rows (Ok None) = (h : CommandList) (kept : Records) → IsValid h → Changes Holds old (records h) kept
+      → Changes Holds new (step_records (records h) (PutTargets rows)) kept × (HasCleanDisk new → check (records h) (PutTargets rows) ≡ None)
+  PutsAllTo old new rows (Ok (Some refusal)) = (h : CommandList) (kept : Records) → IsValid h → Changes Holds old (records h) kept → Spoils Holds new kept × (HasCleanDisk new → check (records h) (PutTargets rows) ≡ Some refusal)
+  PutsAllTo old new rows (Err e) = (h : CommandList) (kept : Records) → IsValid h → Changes Holds old (records h) kept → Spoils Holds new kept
+
+  -- all rows are put, at a list of accepted commands, or this refuses them
+  pub record PutsAll {E : Type 0} (old new : State) (rows : List TargetRow) (result : Result (Option Refusal) E) : Type 0 where
+    pub wears : Wears old new
+    pub puts : PutsAllTo old new rows result

@@ -2,6 +2,7 @@ pub mod Desks
 pub mod DeskStates
 pub mod Steps
 pub mod Additions
+pub mod Changing
 pub mod Openings
 pub mod Runs
 pub mod Looks

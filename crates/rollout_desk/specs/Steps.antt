@@ -1,21 +1,22 @@
--- One request inside a change of the records.
-use Rattle.std.specs.Prelude.{◌≡◌, ◌⊎◌, ◌≤◌, Bool, true, false, length, Some, None, Result, Ok, Err}
+-- One request inside a change, where the records are those of a list of accepted commands.
+use Rattle.std.specs.Prelude.{◌≡◌, ◌⊎◌, Bool, true, false, Some, None, Result, Ok, Err}
 use Rattle.sqlite.specs.Effect.{Database}
 use Rattle.sqlite.specs.State.{State, HasCleanDisk}
 use Rattle.sql_calls.specs.Standing.{Wears, Changes, Spoils, Rests, Doubts}
-use Rattle.rollout_machine.specs.Answers.{command_reply}
+use Rattle.rollout_machine.specs.Answers.{command_reply, query_reply}
 use Rattle.rollout_machine.specs.CommandList.{CommandList}
 use Rattle.rollout_machine.specs.Commands.{Command}
-use Rattle.rollout_machine.specs.Records.{Records}
+use Rattle.rollout_machine.specs.Records.{Records, records}
 use Rattle.rollout_machine.specs.RecordSteps.{step_records}
 use Rattle.rollout_machine.specs.Replies.{Reply, Refused}
-use Rattle.rollout_machine.specs.Requests.{Request, Asks}
+use Rattle.rollout_machine.specs.Requests.{Query, Request, Asks}
 use Rattle.rollout_machine.specs.Standing.{AppliesAt, StandsFor}
+use Rattle.rollout_machine.specs.Validity.{IsValid}
 use Rattle.rollout_machine.specs.Verdicts.{check}
 use Rattle.rollout_machine.specs.Views.{reply_of}
-use Rattle.rollout_model.specs.Limits.{target_limit}
 use Rattle.rollout_model.specs.declared.refusal.Refusal.{Refusal}
 use Rattle.rollout_model.specs.declared.refusal.Refusal.TheVariants.{NoMemory, StoreFailed}
+use Rattle.rollout_model.specs.declared.request.Reply as model
 use Rattle.sql_calls.specs.declared.fault.Fault.{Fault}
 use Rattle.sql_calls.specs.declared.fault.Fault.TheVariants.{Memory, Store}
 use Rattle.rollout_desk.specs.Desks.{desk_state_at}
@@ -36,23 +37,29 @@ abbrev pub refusal_of_fault : Fault → Refusal
 refusal_of_fault Memory = NoMemory
 refusal_of_fault Store = StoreFailed
 
--- as every list of accepted commands: a desk has no more targets than it takes
-abbrev pub KeepsLimits : Records → Type 0
-KeepsLimits r = length r.targets ≤ target_limit
-
 module _ (Holds : Database → Records → Type 0) where
   abbrev pub StepsTo : {E : Type 0} → State → State → Command → Result Step E → Type 0
-  StepsTo old new c (Ok (step.Accepted reply)) = (now kept : Records) → Changes Holds old now kept
-      → Changes Holds new (step_records now c) kept × (HasCleanDisk new → KeepsLimits now → (check now c ≡ None) × (reply_of reply ≡ command_reply c (step_records now c)))
-  StepsTo old new c (Ok (step.Refused refusal)) = (now kept : Records) → Changes Holds old now kept
-      → Changes Holds new now kept × (HasCleanDisk new → KeepsLimits now → check now c ≡ Some refusal)
-  StepsTo old new c (Err e) = (now kept : Records) → Changes Holds old now kept → Spoils Holds new kept
+  StepsTo old new c (Ok (step.Accepted reply)) = (h : CommandList) (kept : Records) → IsValid h → Changes Holds old (records h) kept
+      → Changes Holds new (step_records (records h) c) kept × (HasCleanDisk new → (check (records h) c ≡ None) × (reply_of reply ≡ command_reply c (step_records (records h) c)))
+  StepsTo old new c (Ok (step.Refused refusal)) = (h : CommandList) (kept : Records) → IsValid h → Changes Holds old (records h) kept
+      → Spoils Holds new kept × (HasCleanDisk new → check (records h) c ≡ Some refusal)
+  StepsTo old new c (Err e) = (h : CommandList) (kept : Records) → IsValid h → Changes Holds old (records h) kept → Spoils Holds new kept
 
-  -- A command inside a change: it is accepted, its records are written and its reply is made; or it is refused, and nothing changes. Where it
-  -- fails the change can only be given up.
+  -- A command inside a change at a list of accepted commands: it is accepted, its records are written and its reply is made; or it is refused. Then, and
+  -- where it fails, the change can only be given up.
   pub record Steps {E : Type 0} (old new : State) (c : Command) (result : Result Step E) : Type 0 where
     pub wears : Wears old new
     pub steps : StepsTo old new c result
+
+  abbrev pub ShowsTo : {E : Type 0} → State → State → Query → Result model.Reply E → Type 0
+  ShowsTo old new q (Ok reply) = (h : CommandList) (kept : Records) → IsValid h → Changes Holds old (records h) kept
+      → Changes Holds new (records h) kept × (HasCleanDisk new → reply_of reply ≡ query_reply (records h) q)
+  ShowsTo old new q (Err e) = (h : CommandList) (kept : Records) → IsValid h → Changes Holds old (records h) kept → Spoils Holds new kept
+
+  -- a query inside a change, at such a list: it is answered, and nothing changes
+  pub record Shows {E : Type 0} (old new : State) (q : Query) (result : Result model.Reply E) : Type 0 where
+    pub wears : Wears old new
+    pub shows : ShowsTo old new q result
 
   -- One request was answered in full, from a connection of one state to one of another. The desk is stopped after the reply of a failed store.
   pub record Handles (old new : State) (request : Request) (reply : Reply) : Type 0 where

@@ -1,17 +1,15 @@
 //! Artifacts: adding one.
 
 ghost use Rattle.std.specs.Prelude.{◌≡◌, ◌≤◌, ◌+◌, ◌*◌, length, take, cond, Some, None};
-ghost use Rattle.sqlite.specs.Held.{state};
-ghost use Rattle.sql_calls.specs.Standing.{Reads};
-ghost use Rattle.desk_records.specs.Holds.{HoldsRecords};
 ghost use Rattle.rollout_machine.specs.Commands.{AddArtifact};
 ghost use Rattle.rollout_machine.specs.Digests.{digest_of};
 ghost use Rattle.rollout_machine.specs.Objects.{artifact_shown};
 ghost use Rattle.rollout_machine.specs.Records.{artifact_from};
 ghost use Rattle.rollout_machine.specs.Verdicts.{first_refusal, verdict_row, wrong_digest};
 ghost use Rattle.rollout_model.specs.Limits.{artifact_size_limit, piece_length};
-ghost use Rattle.rollout_desk.specs.Additions.{AddsArtifact, AddsContents, ShowsNextArtifact, WritesAll, is_full};
-ghost use Rattle.rollout_desk.specs.Steps.{Steps};
+ghost use Rattle.desk_store.specs.Changing.{ReadsIn};
+ghost use Rattle.rollout_desk.specs.Changing.{StepsIn, WritesAllIn};
+ghost use Rattle.rollout_desk.specs.Additions.{AddsArtifact, AddsContents, ShowsNextArtifact, is_full};
 
 use crate::step::Step;
 use artifact_pieces::describe;
@@ -34,7 +32,7 @@ fn module_refusal<S: Alter>(
     upload: &Upload,
 ) -> Result<Option<Refusal>, Fault>
     ensures same_reference { change.new.store.ghost_name ≡ change.old.store.ghost_name }
-    ensures reads { Reads HoldsRecords (state S.Store change.old.store.now.calls.conn) (state S.Store change.new.store.now.calls.conn) result
+    ensures reads { ReadsIn S.Store change.old change.new result
         (λ r refusal. refusal ≡ first_refusal (take 3 (verdict_row r (AddArtifact upload.now)))) }
 {
     let last = change.read_last_module()?;
@@ -56,7 +54,7 @@ fn next_number<S: Alter>(
     module_number: ModuleNo,
 ) -> Result<Option<ArtifactNo>, Fault>
     ensures same_reference { change.new.store.ghost_name ≡ change.old.store.ghost_name }
-    ensures reads { Reads HoldsRecords (state S.Store change.old.store.now.calls.conn) (state S.Store change.new.store.now.calls.conn) result
+    ensures reads { ReadsIn S.Store change.old change.new result
         (λ r number. number ≡ cond (is_full module_number r) None (Some (length r.artifacts + 1))) }
 {
     let of_module = change.read_module_artifacts(module_number)?;
@@ -99,7 +97,7 @@ fn next_artifact<S: Alter>(
     upload: &Upload,
 ) -> Result<Result<Artifact, Refusal>, Fault>
     ensures same_reference { change.new.store.ghost_name ≡ change.old.store.ghost_name }
-    ensures reads { Reads HoldsRecords (state S.Store change.old.store.now.calls.conn) (state S.Store change.new.store.now.calls.conn) result (ShowsNextArtifact upload.now) }
+    ensures reads { ReadsIn S.Store change.old change.new result (ShowsNextArtifact upload.now) }
 {
     match module_refusal(change, upload)? {
         Some(refusal) => return Ok(Err(refusal)),
@@ -125,7 +123,7 @@ fn write_pieces<S: Alter>(
 ) -> Result<(), Fault>
     requires { before * piece_length + length bytes.now ≤ artifact_size_limit }
     ensures same_reference { change.new.store.ghost_name ≡ change.old.store.ghost_name }
-    ensures writes { WritesAll HoldsRecords (state S.Store change.old.store.now.calls.conn) (state S.Store change.new.store.now.calls.conn) result (AddsContents number before bytes.now) }
+    ensures writes { WritesAllIn S.Store change.old change.new result (AddsContents number before bytes.now) }
 {
     if bytes.is_empty() {
         return Ok(());
@@ -143,7 +141,7 @@ fn write_whole<S: Alter>(
     contents: &Contents,
 ) -> Result<(), Fault>
     ensures same_reference { change.new.store.ghost_name ≡ change.old.store.ghost_name }
-    ensures writes { WritesAll HoldsRecords (state S.Store change.old.store.now.calls.conn) (state S.Store change.new.store.now.calls.conn) result (AddsArtifact module_number artifact.now contents.now) }
+    ensures writes { WritesAllIn S.Store change.old change.new result (AddsArtifact module_number artifact.now contents.now) }
 {
     change.write_artifact(
         artifact.number,
@@ -161,7 +159,7 @@ pub(crate) fn add_artifact<S: Alter>(
     upload: &Upload,
 ) -> Result<Step, Fault>
     ensures same_reference { change.new.store.ghost_name ≡ change.old.store.ghost_name }
-    ensures steps { Steps HoldsRecords (state S.Store change.old.store.now.calls.conn) (state S.Store change.new.store.now.calls.conn) (AddArtifact upload.now) result }
+    ensures steps { StepsIn S.Store change.old change.new (AddArtifact upload.now) result }
 {
     let artifact = match next_artifact(change, upload)? {
         Ok(artifact) => artifact,

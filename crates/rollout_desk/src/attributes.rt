@@ -3,16 +3,13 @@
 ghost use Rattle.std.specs.Prelude.{◌≡◌, ◌≤◌, ◌+◌, ◌&&◌, not, true, length, nat_eq};
 ghost use Rattle.std.specs.Cmp.Lexicographic.{pointwise};
 ghost use Rattle.std.specs.List.{list_any};
-ghost use Rattle.sqlite.specs.Held.{state};
-ghost use Rattle.sql_calls.specs.Standing.{Reads};
-ghost use Rattle.desk_records.specs.Holds.{HoldsRecords};
 ghost use Rattle.desk_records.specs.Targets.{in_byte_order, keys_of};
 ghost use Rattle.rollout_machine.specs.ByteStrings.{contains_word};
 ghost use Rattle.rollout_machine.specs.Commands.{Attribute, PutAttributes};
 ghost use Rattle.rollout_machine.specs.Verdicts.{is_known};
-ghost use Rattle.rollout_desk.specs.Additions.{WritesAll};
+ghost use Rattle.desk_store.specs.Changing.{ReadsIn};
+ghost use Rattle.rollout_desk.specs.Changing.{StepsIn, WritesAllIn};
 ghost use Rattle.rollout_desk.specs.Attributes.{GivesAttribute, GivesAttributes, has_attribute, keys_after};
-ghost use Rattle.rollout_desk.specs.Steps.{Steps};
 
 use crate::step::Step;
 use desk_store::{Fault, OpenChange};
@@ -28,8 +25,7 @@ fn knows_device<S: Alter>(
     device: &Credential,
 ) -> Result<bool, Fault>
     ensures same_reference { change.new.store.ghost_name ≡ change.old.store.ghost_name }
-    ensures reads { Reads HoldsRecords (state S.Store change.old.store.now.calls.conn) (state S.Store change.new.store.now.calls.conn) result
-        (λ r known. known ≡ is_known r device.now) }
+    ensures reads { ReadsIn S.Store change.old change.new result (λ r known. known ≡ is_known r device.now) }
 {
     let found = change.read_target(&device.id)?;
     match &found {
@@ -82,7 +78,7 @@ fn give_attribute<S: Alter>(
     since: &[Attribute],
 ) -> Result<(), Fault>
     ensures same_reference { change.new.store.ghost_name ≡ change.old.store.ghost_name }
-    ensures writes { WritesAll HoldsRecords (state S.Store change.old.store.now.calls.conn) (state S.Store change.new.store.now.calls.conn) result (GivesAttribute id.now had.now since.now attribute.now) }
+    ensures writes { WritesAllIn S.Store change.old change.new result (GivesAttribute id.now had.now since.now attribute.now) }
 {
     if !has_key_since(had, since, &attribute.key) {
         return change.write_target_attribute(id, attribute);
@@ -101,7 +97,7 @@ fn give_attributes<S: Alter>(
     had: &[Attribute],
 ) -> Result<(), Fault>
     ensures same_reference { change.new.store.ghost_name ≡ change.old.store.ghost_name }
-    ensures writes { WritesAll HoldsRecords (state S.Store change.old.store.now.calls.conn) (state S.Store change.new.store.now.calls.conn) result (GivesAttributes id.now had.now given.now) }
+    ensures writes { WritesAllIn S.Store change.old change.new result (GivesAttributes id.now had.now given.now) }
 {
     for (i, attribute) in given.iter().enumerate() {
         give_attribute(change, id, attribute, had, &given[..i])?;
@@ -116,7 +112,7 @@ pub(crate) fn put_attributes<S: Alter>(
     given: &ConfigData,
 ) -> Result<Step, Fault>
     ensures same_reference { change.new.store.ghost_name ≡ change.old.store.ghost_name }
-    ensures steps { Steps HoldsRecords (state S.Store change.old.store.now.calls.conn) (state S.Store change.new.store.now.calls.conn) (PutAttributes device.now given.now) result }
+    ensures steps { StepsIn S.Store change.old change.new (PutAttributes device.now given.now) result }
 {
     if !knows_device(change, device)? {
         return Ok(Step::Refused(Refusal::Unauthorized));

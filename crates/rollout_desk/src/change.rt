@@ -2,18 +2,18 @@
 
 ghost use Rattle.std.specs.Prelude.{◌≡◌};
 ghost use Rattle.sqlite.specs.Held.{state};
-ghost use Rattle.sql_calls.specs.Standing.{Reads};
 ghost use Rattle.desk_records.specs.Holds.{HoldsRecords};
-ghost use Rattle.rollout_machine.specs.Answers.{query_reply};
 ghost use Rattle.rollout_machine.specs.Requests.{Do, Ask};
 ghost use Rattle.rollout_machine.specs.Views.{command_of, query_of, reply_of};
-ghost use Rattle.rollout_desk.specs.Steps.{Steps, Handles, EndsByCommit, EndsByRollback};
+ghost use Rattle.rollout_desk.specs.Changing.{ShowsIn, StepsIn};
+ghost use Rattle.rollout_desk.specs.Steps.{Handles, EndsByCommit, EndsByRollback};
 
 use crate::artifacts::add_artifact;
 use crate::attributes::put_attributes;
 use crate::modules::add_module;
+use crate::refusals::reply_of_fault;
 use crate::sets::add_set;
-use crate::step::{Step, reply_of_fault};
+use crate::step::Step;
 use crate::tags::{tag_target, untag_target};
 use crate::targets::put_targets;
 use desk_store::{DeskStore, Fault, OpenChange};
@@ -33,7 +33,7 @@ fn step<S: Alter>(
     command: &Command,
 ) -> Result<Step, Fault>
     ensures same_reference { change.new.store.ghost_name ≡ change.old.store.ghost_name }
-    ensures steps { Steps HoldsRecords (state S.Store change.old.store.now.calls.conn) (state S.Store change.new.store.now.calls.conn) (command_of command.now) result }
+    ensures steps { StepsIn S.Store change.old change.new (command_of command.now) result }
 {
     match command {
         Command::AddModule(label) => add_module(alloc, change, label),
@@ -53,8 +53,7 @@ fn answer<S: Alter>(
     query: &Query,
 ) -> Result<Reply, Fault>
     ensures same_reference { change.new.store.ghost_name ≡ change.old.store.ghost_name }
-    ensures reads { Reads HoldsRecords (state S.Store change.old.store.now.calls.conn) (state S.Store change.new.store.now.calls.conn) result
-        (λ now reply. reply_of reply ≡ query_reply now (query_of query.now)) }
+    ensures shows { ShowsIn S.Store change.old change.new (query_of query.now) result }
 {
     match query {
         Query::Modules(page) => show_modules(alloc, change, *page),

@@ -10,7 +10,8 @@ ghost use Rattle.rollout_desk.specs.DeskStates.{desk_state};
 ghost use Rattle.rollout_desk.specs.Downloads.{Begins, HandsPieces, IsInterruption, KeepsCount, RefusesContents, DownloadsGoOn, artifact_in, next_length};
 
 use crate::desk::Desk;
-use crate::look::{is_failed_store, of_length, read_piece};
+use crate::look::{of_length, read_piece};
+use crate::refusals::is_failed_store;
 use rollout_model::{Artifact, ArtifactNo, ModuleNo, Query, Refusal, Reply};
 use sqlite::Alter;
 

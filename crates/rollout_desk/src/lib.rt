@@ -10,6 +10,7 @@ mod handler;
 mod look;
 mod modules;
 mod opening;
+mod refusals;
 mod run;
 mod sets;
 mod step;

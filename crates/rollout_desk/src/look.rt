@@ -5,31 +5,11 @@ ghost use Rattle.sqlite.specs.Held.{state};
 ghost use Rattle.desk_records.specs.Artifacts.{piece_numbered};
 ghost use Rattle.desk_records.specs.Holds.{HoldsRecords};
 ghost use Rattle.rollout_desk.specs.Looks.{Looks, EndsLook, bytes_of};
-ghost use Rattle.rollout_desk.specs.Steps.{is_store, refusal_of_fault};
 
-use desk_store::{DeskStore, Fault, OpenChange};
+use crate::refusals::refusal_of;
+use desk_store::{DeskStore, OpenChange};
 use rollout_model::{ArtifactNo, Refusal};
 use sqlite::Alter;
-
-/// The refusal where a call of the store failed.
-fn refusal_of(fault: Fault) -> Refusal
-    ensures { result ≡ refusal_of_fault fault }
-{
-    match fault {
-        Fault::Memory => Refusal::NoMemory,
-        Fault::Store => Refusal::StoreFailed,
-    }
-}
-
-/// Whether the store failed, so that the desk stops.
-pub(crate) fn is_failed_store(refusal: Refusal) -> bool
-    ensures { result ≡ is_store refusal }
-{
-    match refusal {
-        Refusal::StoreFailed => true,
-        _ => false,
-    }
-}
 
 /// Gives a change up, and then what was found in it.
 fn give_up<S: Alter>(

@@ -1,12 +1,10 @@
 //! Software modules: adding one.
 
 ghost use Rattle.std.specs.Prelude.{◌≡◌};
-ghost use Rattle.sqlite.specs.Held.{state};
-ghost use Rattle.sql_calls.specs.Standing.{Reads};
-ghost use Rattle.desk_records.specs.Holds.{HoldsRecords};
 ghost use Rattle.rollout_machine.specs.Commands.{AddModule};
+ghost use Rattle.desk_store.specs.Changing.{ReadsIn};
+ghost use Rattle.rollout_desk.specs.Changing.{StepsIn};
 ghost use Rattle.rollout_desk.specs.Additions.{GetsModuleNumber};
-ghost use Rattle.rollout_desk.specs.Steps.{Steps};
 
 use crate::step::Step;
 use desk_store::{Fault, OpenChange};
@@ -23,7 +21,7 @@ fn next_module<S: Alter>(
     label: &ModuleLabel,
 ) -> Result<Result<ModuleNo, Refusal>, Fault>
     ensures same_reference { change.new.store.ghost_name ≡ change.old.store.ghost_name }
-    ensures reads { Reads HoldsRecords (state S.Store change.old.store.now.calls.conn) (state S.Store change.new.store.now.calls.conn) result (GetsModuleNumber label.now) }
+    ensures reads { ReadsIn S.Store change.old change.new result (GetsModuleNumber label.now) }
 {
     if change.read_same_module(label)? {
         return Ok(Err(Refusal::Exists));
@@ -42,7 +40,7 @@ pub(crate) fn add_module<S: Alter>(
     label: &ModuleLabel,
 ) -> Result<Step, Fault>
     ensures same_reference { change.new.store.ghost_name ≡ change.old.store.ghost_name }
-    ensures steps { Steps HoldsRecords (state S.Store change.old.store.now.calls.conn) (state S.Store change.new.store.now.calls.conn) (AddModule label.now) result }
+    ensures steps { StepsIn S.Store change.old change.new (AddModule label.now) result }
 {
     let number = match next_module(change, label)? {
         Ok(number) => number,

@@ -3,12 +3,10 @@
 ghost use Rattle.std.specs.Prelude.{◌≡◌, ◌≤◌, ◌+◌, true, length, nat_lt};
 ghost use Rattle.rollout_model.specs.Rules.{is_module_list};
 ghost use Rattle.std.specs.List.{list_any};
-ghost use Rattle.sqlite.specs.Held.{state};
-ghost use Rattle.sql_calls.specs.Standing.{Reads};
-ghost use Rattle.desk_records.specs.Holds.{HoldsRecords};
 ghost use Rattle.rollout_machine.specs.Commands.{AddSet};
-ghost use Rattle.rollout_desk.specs.Additions.{AddsModules, AddsWhole, GetsSetNumber, LacksModule, WritesAll};
-ghost use Rattle.rollout_desk.specs.Steps.{Steps};
+ghost use Rattle.desk_store.specs.Changing.{ReadsIn};
+ghost use Rattle.rollout_desk.specs.Changing.{StepsIn, WritesAllIn};
+ghost use Rattle.rollout_desk.specs.Additions.{AddsModules, AddsWhole, GetsSetNumber, LacksModule};
 
 use crate::step::Step;
 use desk_store::{Fault, OpenChange};
@@ -33,7 +31,7 @@ fn lacks_a_module<S: Alter>(
     modules: &ModuleList,
 ) -> Result<bool, Fault>
     ensures same_reference { change.new.store.ghost_name ≡ change.old.store.ghost_name }
-    ensures reads { Reads HoldsRecords (state S.Store change.old.store.now.calls.conn) (state S.Store change.new.store.now.calls.conn) result (LacksModule modules.now) }
+    ensures reads { ReadsIn S.Store change.old change.new result (LacksModule modules.now) }
 {
     let last = change.read_last_module()?;
     Ok(any_past(modules, last))
@@ -45,7 +43,7 @@ fn next_set<S: Alter>(
     label: &SetLabel,
 ) -> Result<Result<SetNo, Refusal>, Fault>
     ensures same_reference { change.new.store.ghost_name ≡ change.old.store.ghost_name }
-    ensures reads { Reads HoldsRecords (state S.Store change.old.store.now.calls.conn) (state S.Store change.new.store.now.calls.conn) result (GetsSetNumber label.now) }
+    ensures reads { ReadsIn S.Store change.old change.new result (GetsSetNumber label.now) }
 {
     if lacks_a_module(change, &label.modules)? {
         return Ok(Err(Refusal::NotFound));
@@ -69,7 +67,7 @@ fn write_modules<S: Alter>(
 ) -> Result<(), Fault>
     requires { before + length modules.now ≤ 8 }
     ensures same_reference { change.new.store.ghost_name ≡ change.old.store.ghost_name }
-    ensures writes { WritesAll HoldsRecords (state S.Store change.old.store.now.calls.conn) (state S.Store change.new.store.now.calls.conn) result (AddsModules number before modules.now) }
+    ensures writes { WritesAllIn S.Store change.old change.new result (AddsModules number before modules.now) }
 {
     match modules {
         [] => Ok(()),
@@ -87,7 +85,7 @@ fn write_whole<S: Alter>(
     label: &SetLabel,
 ) -> Result<(), Fault>
     ensures same_reference { change.new.store.ghost_name ≡ change.old.store.ghost_name }
-    ensures writes { WritesAll HoldsRecords (state S.Store change.old.store.now.calls.conn) (state S.Store change.new.store.now.calls.conn) result (AddsWhole number label.now) }
+    ensures writes { WritesAllIn S.Store change.old change.new result (AddsWhole number label.now) }
 {
     change.write_set(number, &label.name, &label.version)?;
     write_modules(change, number, 0, label.modules.as_slice())
@@ -100,7 +98,7 @@ pub(crate) fn add_set<S: Alter>(
     label: &SetLabel,
 ) -> Result<Step, Fault>
     ensures same_reference { change.new.store.ghost_name ≡ change.old.store.ghost_name }
-    ensures steps { Steps HoldsRecords (state S.Store change.old.store.now.calls.conn) (state S.Store change.new.store.now.calls.conn) (AddSet label.now) result }
+    ensures steps { StepsIn S.Store change.old change.new (AddSet label.now) result }
 {
     let number = match next_set(change, label)? {
         Ok(number) => number,

@@ -2,12 +2,10 @@
 
 ghost use Rattle.std.specs.Prelude.{◌≡◌, is_none};
 ghost use Rattle.std.specs.Option.{option_map};
-ghost use Rattle.sqlite.specs.Held.{state};
-ghost use Rattle.sql_calls.specs.Standing.{Reads};
-ghost use Rattle.desk_records.specs.Holds.{HoldsRecords};
 ghost use Rattle.rollout_machine.specs.Commands.{Tag, Untag};
 ghost use Rattle.rollout_machine.specs.Verdicts.{target_of};
-ghost use Rattle.rollout_desk.specs.Steps.{Steps};
+ghost use Rattle.desk_store.specs.Changing.{ReadsIn};
+ghost use Rattle.rollout_desk.specs.Changing.{StepsIn};
 
 use crate::step::Step;
 use desk_store::{Fault, OpenChange};
@@ -20,8 +18,7 @@ const TAG_LIMIT: usize = 16;
 /// Whether the target of an id isn't there.
 fn lacks_target<S: Alter>(change: &mut OpenChange<'_, S>, id: &ControllerId) -> Result<bool, Fault>
     ensures same_reference { change.new.store.ghost_name ≡ change.old.store.ghost_name }
-    ensures reads { Reads HoldsRecords (state S.Store change.old.store.now.calls.conn) (state S.Store change.new.store.now.calls.conn) result
-        (λ r lacks. lacks ≡ is_none (target_of r id.now)) }
+    ensures reads { ReadsIn S.Store change.old change.new result (λ r lacks. lacks ≡ is_none (target_of r id.now)) }
 {
     let found = change.read_target(id)?;
     Ok(found.is_none())
@@ -34,7 +31,7 @@ pub(crate) fn tag_target<S: Alter>(
     tag: &Word,
 ) -> Result<Step, Fault>
     ensures same_reference { change.new.store.ghost_name ≡ change.old.store.ghost_name }
-    ensures steps { Steps HoldsRecords (state S.Store change.old.store.now.calls.conn) (state S.Store change.new.store.now.calls.conn) (Tag id.now tag.now) result }
+    ensures steps { StepsIn S.Store change.old change.new (Tag id.now tag.now) result }
 {
     if lacks_target(change, id)? {
         return Ok(Step::Refused(Refusal::NotFound));
@@ -57,7 +54,7 @@ pub(crate) fn untag_target<S: Alter>(
     tag: &Word,
 ) -> Result<Step, Fault>
     ensures same_reference { change.new.store.ghost_name ≡ change.old.store.ghost_name }
-    ensures steps { Steps HoldsRecords (state S.Store change.old.store.now.calls.conn) (state S.Store change.new.store.now.calls.conn) (Untag id.now tag.now) result }
+    ensures steps { StepsIn S.Store change.old change.new (Untag id.now tag.now) result }
 {
     if lacks_target(change, id)? {
         return Ok(Step::Refused(Refusal::NotFound));

@@ -1,16 +1,11 @@
 //! Targets: putting rows of them.
 
-ghost use Rattle.std.specs.Prelude.{◌≡◌, ◌<◌, true, [], ◌∷◌, None, Some, IfNone, IfSome, length, nat_eq};
-ghost use Rattle.std.specs.Cmp.Lexicographic.{pointwise};
-ghost use Rattle.std.specs.List.{list_any};
-ghost use Rattle.sqlite.specs.Held.{state};
-ghost use Rattle.sql_calls.specs.Standing.{Reads};
+ghost use Rattle.std.specs.Prelude.{◌≡◌, ◌<◌, None, Some, IfNone, IfSome, length};
+ghost use Rattle.rollout_machine.specs.Commands.{PutTargets};
 ghost use Rattle.desk_records.specs.Holds.{HoldsRecords};
-ghost use Rattle.rollout_machine.specs.Verdicts.{check};
-ghost use Rattle.rollout_machine.specs.Commands.{PutTargets, TargetRow};
-ghost use Rattle.rollout_desk.specs.Additions.{WritesAll};
-ghost use Rattle.rollout_desk.specs.Imports.{AddsSoMany, AddsTags, DropsTags, IsNew, PutsOver, PutsRows, Renames, Retags};
-ghost use Rattle.rollout_desk.specs.Steps.{KeepsLimits, Steps};
+ghost use Rattle.desk_store.specs.Changing.{ReadsIn, seen_in};
+ghost use Rattle.rollout_desk.specs.Changing.{StepsIn, WritesAllIn};
+ghost use Rattle.rollout_desk.specs.Imports.{AddsTags, DropsTags, LeavesRoom, PutsAll, PutsOver, PutsRow, Renames, Retags};
 
 use crate::step::Step;
 use desk_store::{Fault, OpenChange, StoredTarget};
@@ -18,7 +13,7 @@ use rollout_model::{ControllerId, Refusal, Reply, Tags, TargetRow, TargetRows, W
 use sqlite::Alter;
 
 /// How many targets a desk takes.
-const TARGET_LIMIT: usize = 10_000;
+const TARGET_LIMIT: u32 = 10_000;
 
 /// Takes from a target the tags that it had and that aren't wanted.
 fn drop_tags<S: Alter>(
@@ -28,7 +23,7 @@ fn drop_tags<S: Alter>(
     wanted: &[Word],
 ) -> Result<(), Fault>
     ensures same_reference { change.new.store.ghost_name ≡ change.old.store.ghost_name }
-    ensures writes { WritesAll HoldsRecords (state S.Store change.old.store.now.calls.conn) (state S.Store change.new.store.now.calls.conn) result (DropsTags id.now had.now wanted.now) }
+    ensures writes { WritesAllIn S.Store change.old change.new result (DropsTags id.now had.now wanted.now) }
 {
     match had {
         [] => Ok(()),
@@ -50,7 +45,7 @@ fn add_tags<S: Alter>(
     had: &[Word],
 ) -> Result<(), Fault>
     ensures same_reference { change.new.store.ghost_name ≡ change.old.store.ghost_name }
-    ensures writes { WritesAll HoldsRecords (state S.Store change.old.store.now.calls.conn) (state S.Store change.new.store.now.calls.conn) result (AddsTags id.now tags.now had.now) }
+    ensures writes { WritesAllIn S.Store change.old change.new result (AddsTags id.now tags.now had.now) }
 {
     match tags {
         [] => Ok(()),
@@ -71,7 +66,7 @@ fn retag<S: Alter>(
     tags: &Tags,
 ) -> Result<(), Fault>
     ensures same_reference { change.new.store.ghost_name ≡ change.old.store.ghost_name }
-    ensures writes { WritesAll HoldsRecords (state S.Store change.old.store.now.calls.conn) (state S.Store change.new.store.now.calls.conn) result (Retags id.now tags.now) }
+    ensures writes { WritesAllIn S.Store change.old change.new result (Retags id.now tags.now) }
 {
     let had = change.read_target_tags(id)?;
     drop_tags(change, id, &had, tags.as_slice())?;
@@ -85,7 +80,7 @@ fn rename<S: Alter>(
     stored: &StoredTarget,
 ) -> Result<(), Fault>
     ensures same_reference { change.new.store.ghost_name ≡ change.old.store.ghost_name }
-    ensures writes { WritesAll HoldsRecords (state S.Store change.old.store.now.calls.conn) (state S.Store change.new.store.now.calls.conn) result (Renames row.now stored.now) }
+    ensures writes { WritesAllIn S.Store change.old change.new result (Renames row.now stored.now) }
 {
     if stored.name == row.name && stored.digest == row.digest {
         return Ok(());
@@ -96,7 +91,7 @@ fn rename<S: Alter>(
 /// Puts the row of a target that isn't there.
 fn add_row<S: Alter>(change: &mut OpenChange<'_, S>, row: &TargetRow) -> Result<(), Fault>
     ensures same_reference { change.new.store.ghost_name ≡ change.old.store.ghost_name }
-    ensures writes { WritesAll HoldsRecords (state S.Store change.old.store.now.calls.conn) (state S.Store change.new.store.now.calls.conn) result (PutsOver None row.now) }
+    ensures writes { WritesAllIn S.Store change.old change.new result (PutsOver None row.now) }
 {
     change.write_target(&row.id, &row.name, &row.digest)?;
     add_tags(change, &row.id, row.tags.as_slice(), &[])
@@ -109,120 +104,69 @@ fn change_row<S: Alter>(
     stored: &StoredTarget,
 ) -> Result<(), Fault>
     ensures same_reference { change.new.store.ghost_name ≡ change.old.store.ghost_name }
-    ensures writes { WritesAll HoldsRecords (state S.Store change.old.store.now.calls.conn) (state S.Store change.new.store.now.calls.conn) result (PutsOver (Some stored.now) row.now) }
+    ensures writes { WritesAllIn S.Store change.old change.new result (PutsOver (Some stored.now) row.now) }
 {
     rename(change, row, stored)?;
     retag(change, &row.id, &row.tags)
 }
 
-/// Puts one row: a new target, or the name, the digest and the tags of the one that is there.
-fn put_target<S: Alter>(change: &mut OpenChange<'_, S>, row: &TargetRow) -> Result<(), Fault>
+/// How many more targets the desk takes. They are counted where that isn't known yet.
+fn room_left<S: Alter>(change: &mut OpenChange<'_, S>, left: Option<u32>) -> Result<u32, Fault>
     ensures same_reference { change.new.store.ghost_name ≡ change.old.store.ghost_name }
-    ensures writes { WritesAll HoldsRecords (state S.Store change.old.store.now.calls.conn) (state S.Store change.new.store.now.calls.conn) result (PutsRows (row.now ∷ [])) }
+    ensures reads { ReadsIn S.Store change.old change.new result (LeavesRoom left) }
+{
+    match left {
+        Some(known) => return Ok(known),
+        None => {}
+    }
+    let count = change.read_target_count()?;
+    Ok(TARGET_LIMIT.saturating_sub(count))
+}
+
+/// Puts one row: a new target, or the name, the digest and the tags of the one that is there. Gives how many more targets the desk takes then, where that is known;
+/// a new target is refused where it takes no more.
+fn put_row<S: Alter>(
+    change: &mut OpenChange<'_, S>,
+    row: &TargetRow,
+    left: Option<u32>,
+) -> Result<Result<Option<u32>, Refusal>, Fault>
+    ensures same_reference { change.new.store.ghost_name ≡ change.old.store.ghost_name }
+    ensures puts { PutsRow HoldsRecords (seen_in S.Store change.old) (seen_in S.Store change.new) row.now left result }
 {
     let found = change.read_target(&row.id)?;
     match &found {
-        Some(stored) => change_row(change, row, stored),
-        None => add_row(change, row),
-    }
-}
-
-/// Puts rows one after the other.
-fn write_targets<S: Alter>(change: &mut OpenChange<'_, S>, rows: &[TargetRow]) -> Result<(), Fault>
-    ensures same_reference { change.new.store.ghost_name ≡ change.old.store.ghost_name }
-    ensures writes { WritesAll HoldsRecords (state S.Store change.old.store.now.calls.conn) (state S.Store change.new.store.now.calls.conn) result (PutsRows rows.now) }
-{
-    for row in rows {
-        put_target(change, row)?;
-    }
-    Ok(())
-}
-
-/// Whether one of the rows is of this id.
-fn is_named(rows: &[TargetRow], id: &ControllerId) -> bool
-    ensures { result ≡ list_any (λ (row : TargetRow). pointwise nat_eq row.id id.now) rows.now }
-{
-    rows.iter().any(|row| row.id == *id)
-}
-
-/// Whether a row adds a target, once the earlier rows are put.
-fn is_new<S: Alter>(
-    change: &mut OpenChange<'_, S>,
-    row: &TargetRow,
-    earlier: &[TargetRow],
-) -> Result<bool, Fault>
-    ensures same_reference { change.new.store.ghost_name ≡ change.old.store.ghost_name }
-    ensures reads { Reads HoldsRecords (state S.Store change.old.store.now.calls.conn) (state S.Store change.new.store.now.calls.conn) result (IsNew row.now earlier.now) }
-{
-    let found = change.read_target(&row.id)?;
-    if found.is_some() {
-        return Ok(false);
-    }
-    Ok(!is_named(earlier, &row.id))
-}
-
-/// How many targets the rows add.
-fn count_new<S: Alter>(change: &mut OpenChange<'_, S>, rows: &[TargetRow]) -> Result<usize, Fault>
-    ensures same_reference { change.new.store.ghost_name ≡ change.old.store.ghost_name }
-    ensures reads { Reads HoldsRecords (state S.Store change.old.store.now.calls.conn) (state S.Store change.new.store.now.calls.conn) result (AddsSoMany rows.now) }
-{
-    let mut added = 0;
-    for (i, row) in rows.iter().enumerate() {
-        if is_new(change, row, &rows[..i])? {
-            added += 1;
+        Some(stored) => {
+            change_row(change, row, stored)?;
+            Ok(Ok(left))
+        }
+        None => {
+            let room = room_left(change, left)?;
+            if room == 0 {
+                return Ok(Err(Refusal::Quota));
+            }
+            add_row(change, row)?;
+            Ok(Ok(Some(room - 1)))
         }
     }
-    Ok(added)
 }
 
-/// Whether no row adds a target.
-fn adds_none<S: Alter>(change: &mut OpenChange<'_, S>, rows: &[TargetRow]) -> Result<bool, Fault>
-    ensures same_reference { change.new.store.ghost_name ≡ change.old.store.ghost_name }
-    ensures reads { Reads HoldsRecords (state S.Store change.old.store.now.calls.conn) (state S.Store change.new.store.now.calls.conn) result
-        (λ r none. none ≡ true → AddsSoMany rows.now r 0) }
-{
-    for (i, row) in rows.iter().enumerate() {
-        if is_new(change, row, &rows[..i])? {
-            return Ok(false);
-        }
-    }
-    Ok(true)
-}
-
-/// Why rows can't be put of which one adds a target, if they can't. Where even rows of new targets alone keep the limit, no more of them is looked at.
-fn quota_refusal<S: Alter>(
+/// Puts rows one after the other, up to the first one that is refused. Each row's target is read once; the targets are counted at the first new one alone, since
+/// that takes longer the more there are.
+fn put_rows<S: Alter>(
     change: &mut OpenChange<'_, S>,
     rows: &[TargetRow],
 ) -> Result<Option<Refusal>, Fault>
     ensures same_reference { change.new.store.ghost_name ≡ change.old.store.ghost_name }
-    ensures reads { Reads HoldsRecords (state S.Store change.old.store.now.calls.conn) (state S.Store change.new.store.now.calls.conn) result
-        (λ r refusal. refusal ≡ check r (PutTargets rows.now)) }
+    ensures puts { PutsAll HoldsRecords (seen_in S.Store change.old) (seen_in S.Store change.new) rows.now result }
 {
-    let count = change.read_target_count()?;
-    if rows.len().saturating_add(count as usize) <= TARGET_LIMIT {
-        return Ok(None);
-    }
-    let added = count_new(change, rows)?;
-    if added.saturating_add(count as usize) > TARGET_LIMIT {
-        return Ok(Some(Refusal::Quota));
+    let mut left = None;
+    for row in rows {
+        match put_row(change, row, left)? {
+            Ok(then) => left = then,
+            Err(refusal) => return Ok(Some(refusal)),
+        }
     }
     Ok(None)
-}
-
-/// Why the rows can't be put, if they can't. Where none adds a target, the targets aren't counted, which takes longer the more there are.
-fn import_refusal<S: Alter>(
-    change: &mut OpenChange<'_, S>,
-    rows: &[TargetRow],
-) -> Result<Option<Refusal>, Fault>
-    ensures same_reference { change.new.store.ghost_name ≡ change.old.store.ghost_name }
-    ensures reads { Reads HoldsRecords (state S.Store change.old.store.now.calls.conn) (state S.Store change.new.store.now.calls.conn) result
-        (λ r refusal. KeepsLimits r → refusal ≡ check r (PutTargets rows.now)) }
-{
-    if adds_none(change, rows)? {
-        return Ok(None);
-    }
-    let refusal = quota_refusal(change, rows)?;
-    Ok(refusal)
 }
 
 /// How many rows there are, where a reply can tell it: up to 4,294,967,295.
@@ -242,16 +186,14 @@ pub(crate) fn put_targets<S: Alter>(
     rows: &TargetRows,
 ) -> Result<Step, Fault>
     ensures same_reference { change.new.store.ghost_name ≡ change.old.store.ghost_name }
-    ensures steps { Steps HoldsRecords (state S.Store change.old.store.now.calls.conn) (state S.Store change.new.store.now.calls.conn) (PutTargets rows.now) result }
+    ensures steps { StepsIn S.Store change.old change.new (PutTargets rows.now) result }
 {
     let rows = rows.as_slice();
-    match import_refusal(change, rows)? {
-        Some(refusal) => return Ok(Step::Refused(refusal)),
-        None => {}
-    }
     let Some(count) = count_of(rows) else {
         return Err(Fault::Memory);
     };
-    write_targets(change, rows)?;
-    Ok(Step::Accepted(Reply::TargetsPut(count)))
+    match put_rows(change, rows)? {
+        Some(refusal) => Ok(Step::Refused(refusal)),
+        None => Ok(Step::Accepted(Reply::TargetsPut(count))),
+    }
 }

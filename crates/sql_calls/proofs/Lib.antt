@@ -4,6 +4,7 @@ pub mod Ends
 pub mod Leavings
 pub mod Changes
 pub mod TypedCalls
+pub mod Composing
 pub mod Selects
 pub mod Inserts
 pub mod Actions

@@ -1,8 +1,8 @@
 use Rattle.std.proofs.Common.{sym, ◌∙◌}
+use Rattle.sql_calls.proofs.Composing.{reads_as}
 use Rattle.desk_records.specs.Holds.{HoldsRecords}
 use Rattle.rollout_machine.specs.ByteStrings.{item_numbered}
 use Rattle.desk_views.proofs.ArtifactViews.{no_artifact, of_another, of_this}
-use Rattle.desk_views.proofs.ReadLemmas.{reads_as}
 use Rattle.desk_views.proofs.artifacts.read_of_module.Goals as goal
 
 pub returns-in-None-clause-reads : goal.returns-in-None-clause-reads

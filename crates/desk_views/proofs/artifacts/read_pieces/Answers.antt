@@ -1,9 +1,9 @@
 use Rattle.std.proofs.Common.{◌++◌, ap, ◌∙◌, arith, rules}
+use Rattle.sql_calls.proofs.Composing.{both_read, read_but_fails, read_in_vain, reads_as, second_fails}
 use Rattle.desk_records.specs.Artifacts.{pieces_of_artifact}
 use Rattle.desk_records.specs.Holds.{HoldsRecords}
 use Rattle.rollout_machine.specs.ByteStrings.{item_numbered}
 use Rattle.desk_views.proofs.ArtifactViews.{pieces_end, pieces_grow}
-use Rattle.desk_views.proofs.ReadLemmas.{both_read, read_but_fails, read_in_vain, reads_as, second_fails}
 use Rattle.desk_views.proofs.artifacts.read_pieces.Goals as goal
 
 pub returns-in_err-piece-clause-reads : goal.returns-in_err-piece-clause-reads

@@ -1,8 +1,8 @@
 use Rattle.std.proofs.Common.{sym, ap, ◌∙◌, not, drop, length, take}
+use Rattle.sql_calls.proofs.Composing.{both_read, read_but_fails, reads_as, second_fails}
 use Rattle.desk_records.specs.Holds.{HoldsRecords}
 use Rattle.rollout_machine.specs.Objects.{artifacts_shown}
 use Rattle.desk_views.proofs.ArtifactViews.{no_module, page_shown}
-use Rattle.desk_views.proofs.ReadLemmas.{both_read, read_but_fails, reads_as, second_fails}
 use Rattle.desk_views.proofs.artifacts.show_artifacts.Goals as goal
 
 pub returns-then-is_none-clause-reads : goal.returns-then-is_none-clause-reads

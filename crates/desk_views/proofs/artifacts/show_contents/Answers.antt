@@ -1,8 +1,8 @@
+use Rattle.sql_calls.proofs.Composing.{both_read, read_but_fails, reads_as, second_fails}
 use Rattle.desk_records.specs.Holds.{HoldsRecords}
 use Rattle.rollout_machine.specs.Answers.{artifact_of_module}
 use Rattle.rollout_machine.specs.ByteStrings.{item_numbered}
 use Rattle.desk_views.proofs.ArtifactViews.{contents_replied, no_contents}
-use Rattle.desk_views.proofs.ReadLemmas.{both_read, read_but_fails, reads_as, second_fails}
 use Rattle.desk_views.proofs.artifacts.show_contents.Goals as goal
 
 pub returns-in-None-clause-reads : goal.returns-in-None-clause-reads

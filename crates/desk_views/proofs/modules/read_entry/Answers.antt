@@ -1,8 +1,8 @@
 use Rattle.std.proofs.Common.{Some, sym}
+use Rattle.sql_calls.proofs.Composing.{read_in_vain, reads_as}
 use Rattle.desk_records.specs.Holds.{HoldsRecords}
 use Rattle.desk_views.proofs.ModuleViews.{entry_is}
 use Rattle.desk_views.proofs.PageLemmas.{same_number}
-use Rattle.desk_views.proofs.ReadLemmas.{reads_as, read_in_vain}
 use Rattle.desk_views.proofs.modules.read_entry.Goals as goal
 
 pub returns-in-Some-2-clause-reads : goal.returns-in-Some-2-clause-reads

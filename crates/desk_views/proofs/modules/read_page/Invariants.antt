@@ -1,14 +1,12 @@
 use Rattle.std.proofs.Common.{◌≡◌, Ok, drop, take}
-use Rattle.sqlite.specs.Held.{state}
 use Rattle.sql_calls.specs.declared.fault.Fault.{Fault}
-use Rattle.sql_calls.specs.Standing.{Reads}
-use Rattle.desk_records.specs.Holds.{HoldsRecords}
 use Rattle.rollout_machine.specs.Objects.{modules_shown}
+use Rattle.desk_store.specs.Changing.{ReadsIn}
 use Rattle.desk_views.proofs.modules.read_page.Given as goal
 
 -- the entries so far are the first of the page
 abbrev pub invariant-loop-place : goal.invariant-loop-place
 invariant-loop-place g l = record {
   same_reference : l.change.store.ghost_name ≡ l.fn.change.store.ghost_name;
-  reads : Reads HoldsRecords {E = Fault} (state g.S.Store l.fn.change.store.now.calls.conn) (state g.S.Store l.change.store.now.calls.conn) (Ok l.content.items) (λ r items. items ≡ take l.place (drop l.page.offset (modules_shown r)));
+  reads : ReadsIn g.S.Store {E = Fault} l.fn.change l.change (Ok l.content.items) (λ r items. items ≡ take l.place (drop l.page.offset (modules_shown r)));
 }

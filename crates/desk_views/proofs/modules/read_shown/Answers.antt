@@ -1,7 +1,7 @@
 use Rattle.std.proofs.Common.{refl, sym}
+use Rattle.sql_calls.proofs.Composing.{both_read, reads_as, second_fails}
 use Rattle.desk_records.specs.Holds.{HoldsRecords}
 use Rattle.desk_views.proofs.ModuleViews.{module_is}
-use Rattle.desk_views.proofs.ReadLemmas.{both_read, reads_as, second_fails}
 use Rattle.desk_views.proofs.modules.read_shown.Goals as goal
 
 pub returns-in-None-clause-reads : goal.returns-in-None-clause-reads

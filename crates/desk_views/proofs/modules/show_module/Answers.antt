@@ -1,7 +1,7 @@
 use Rattle.std.proofs.Common.{Some, None}
+use Rattle.sql_calls.proofs.Composing.{reads_as}
 use Rattle.desk_records.specs.Holds.{HoldsRecords}
 use Rattle.desk_views.proofs.ModuleViews.{replied}
-use Rattle.desk_views.proofs.ReadLemmas.{reads_as}
 use Rattle.desk_views.proofs.modules.show_module.Goals as goal
 
 pub returns-in-Some-clause-reads : goal.returns-in-Some-clause-reads

@@ -1,6 +1,6 @@
+use Rattle.sql_calls.proofs.Composing.{both_read, reads_as, second_fails}
 use Rattle.desk_records.specs.Holds.{HoldsRecords}
 use Rattle.desk_views.proofs.ModuleViews.{page_replied}
-use Rattle.desk_views.proofs.ReadLemmas.{both_read, reads_as, second_fails}
 use Rattle.desk_views.proofs.modules.show_modules.Goals as goal
 
 pub returns-in_err-content-clause-reads : goal.returns-in_err-content-clause-reads

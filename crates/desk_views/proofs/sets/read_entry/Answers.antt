@@ -1,7 +1,7 @@
 use Rattle.std.proofs.Common.{sym}
+use Rattle.sql_calls.proofs.Composing.{read_in_vain, reads_as}
 use Rattle.desk_records.specs.Holds.{HoldsRecords}
 use Rattle.desk_views.proofs.PageLemmas.{same_number}
-use Rattle.desk_views.proofs.ReadLemmas.{reads_as, read_in_vain}
 use Rattle.desk_views.proofs.SetViews.{entry_is}
 use Rattle.desk_views.proofs.sets.read_entry.Goals as goal
 

@@ -1,7 +1,7 @@
 use Rattle.std.proofs.Common.{◌∙◌}
+use Rattle.sql_calls.proofs.Composing.{both_read, read_but_fails, reads_as, second_fails}
 use Rattle.desk_records.specs.Holds.{HoldsRecords}
 use Rattle.rollout_machine.specs.ByteStrings.{item_numbered}
-use Rattle.desk_views.proofs.ReadLemmas.{both_read, read_but_fails, reads_as, second_fails}
 use Rattle.desk_views.proofs.SetViews.{no_set, one_set}
 use Rattle.desk_views.proofs.sets.read_label.Goals as goal
 

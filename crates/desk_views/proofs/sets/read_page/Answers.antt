@@ -1,9 +1,9 @@
 use Rattle.std.proofs.Common.{sym, ap, ◌∙◌, arith, rules}
 use Rattle.std.specs.Result.{is_ok}
+use Rattle.sql_calls.proofs.Composing.{both_read, read_in_vain, reads_as, second_fails}
 use Rattle.desk_records.specs.Holds.{HoldsRecords}
 use Rattle.rollout_machine.specs.Objects.{numbered, set_shown}
 use Rattle.desk_views.proofs.PageLemmas.{numbered_length, page_ends, page_grows}
-use Rattle.desk_views.proofs.ReadLemmas.{both_read, read_in_vain, reads_as, second_fails}
 use Rattle.desk_views.proofs.sets.read_page.Goals as goal
 
 pub returns-in_err-shown-clause-reads : goal.returns-in_err-shown-clause-reads

@@ -1,7 +1,7 @@
 use Rattle.std.proofs.Common.{ap, ◌∙◌}
+use Rattle.sql_calls.proofs.Composing.{read_but_fails, reads_as}
 use Rattle.desk_records.specs.Holds.{HoldsRecords}
 use Rattle.rollout_machine.specs.Objects.{page_of}
-use Rattle.desk_views.proofs.ReadLemmas.{read_but_fails, reads_as}
 use Rattle.desk_views.proofs.TargetPages.{match_added, match_left}
 use Rattle.desk_views.proofs.target_pages.add_if_match.Goals as goal
 

@@ -1,8 +1,8 @@
 use Rattle.std.proofs.Common.{◌++◌, map, ap, ◌∙◌, rules}
+use Rattle.sql_calls.proofs.Composing.{both_read, reads_as, second_fails}
 use Rattle.desk_records.specs.Holds.{HoldsRecords}
 use Rattle.rollout_machine.specs.Objects.{page_of}
 use Rattle.desk_views.specs.Targets.{matching_shown, target_listed}
-use Rattle.desk_views.proofs.ReadLemmas.{both_read, reads_as, second_fails}
 use Rattle.desk_views.proofs.TargetPages.{all_given, matching_grow}
 use Rattle.desk_views.proofs.target_pages.add_matching.Goals as goal
 

@@ -1,13 +1,11 @@
 use Rattle.std.proofs.Common.{◌≡◌, ◌++◌, List, Some, Ok, map}
-use Rattle.sqlite.specs.Held.{state}
 use Rattle.sql_calls.specs.declared.fault.Fault.{Fault}
-use Rattle.sql_calls.specs.Standing.{Reads}
 use Rattle.rollout_machine.specs.Objects.{page_of}
 use Rattle.rollout_machine.specs.Views.{listed}
 use Rattle.rollout_model.specs.declared.shown_target.ShownTarget.{ShownTarget}
 use Rattle.target_filter.specs.Grammar.{Tree}
 use Rattle.target_filter.specs.Profile.{filter_of}
-use Rattle.desk_records.specs.Holds.{HoldsRecords}
+use Rattle.desk_store.specs.Changing.{ReadsIn}
 use Rattle.desk_views.specs.Targets.{matching_shown, target_listed}
 use Rattle.desk_views.proofs.target_pages.add_matching.Given as goal
 
@@ -15,6 +13,6 @@ use Rattle.desk_views.proofs.target_pages.add_matching.Given as goal
 abbrev pub invariant-loop-entry : goal.invariant-loop-entry
 invariant-loop-entry g l = record {
   same_reference : l.change.store.ghost_name ≡ l.fn.change.store.ghost_name;
-  reads : Reads HoldsRecords {A = Unit {0}} {E = Fault} (state g.S.Store l.fn.change.store.now.calls.conn) (state g.S.Store l.change.store.now.calls.conn) (Ok tt)
+  reads : ReadsIn g.S.Store {A = Unit {0}} {E = Fault} l.fn.change l.change (Ok tt)
       (λ r _. (f : Tree) → filter_of l.filter ≡ Some f → (all : List ShownTarget) → listed l.fn.shown ≡ page_of l.page all → listed l.shown ≡ page_of l.page (all ++ matching_shown f (map (target_listed r) l.yielded)));
 }

@@ -1,8 +1,8 @@
 use Rattle.std.proofs.Common.{map, ap, ◌∙◌, rules}
 use Rattle.std.specs.Result.{is_ok}
+use Rattle.sql_calls.proofs.Composing.{both_read, read_in_vain, reads_as, second_fails}
 use Rattle.desk_records.specs.Holds.{HoldsRecords}
 use Rattle.desk_views.specs.Targets.{target_listed, unassigned}
-use Rattle.desk_views.proofs.ReadLemmas.{both_read, read_in_vain, reads_as, second_fails}
 use Rattle.desk_views.proofs.TargetPages.{all_given, entries_grow}
 use Rattle.desk_views.proofs.target_pages.read_entries.Goals as goal
 

@@ -1,15 +1,13 @@
 use Rattle.std.proofs.Common.{◌≡◌, Ok, map}
-use Rattle.sqlite.specs.Held.{state}
 use Rattle.sql_calls.specs.declared.fault.Fault.{Fault}
-use Rattle.sql_calls.specs.Standing.{Reads}
-use Rattle.desk_records.specs.Holds.{HoldsRecords}
 use Rattle.desk_views.specs.Targets.{target_listed, unassigned}
+use Rattle.desk_store.specs.Changing.{ReadsIn}
 use Rattle.desk_views.proofs.target_pages.read_entries.Given as goal
 
 -- the content so far are those that were gone through
 abbrev pub invariant-loop-entry : goal.invariant-loop-entry
 invariant-loop-entry g l = record {
   same_reference : l.change.store.ghost_name ≡ l.fn.change.store.ghost_name;
-  reads : Reads HoldsRecords {E = Fault} (state g.S.Store l.fn.change.store.now.calls.conn) (state g.S.Store l.change.store.now.calls.conn) (Ok l.content.items)
+  reads : ReadsIn g.S.Store {E = Fault} l.fn.change l.change (Ok l.content.items)
       (λ r items. items ≡ map unassigned (map (target_listed r) l.yielded));
 }

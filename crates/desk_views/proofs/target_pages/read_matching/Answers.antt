@@ -1,6 +1,6 @@
 use Rattle.std.proofs.Common.{arith, rules}
+use Rattle.sql_calls.proofs.Composing.{both_read, reads_as, second_fails}
 use Rattle.desk_records.specs.Holds.{HoldsRecords}
-use Rattle.desk_views.proofs.ReadLemmas.{both_read, reads_as, second_fails}
 use Rattle.desk_views.proofs.TargetPages.{last_chunk, next_chunk, nothing_yet}
 use Rattle.desk_views.proofs.target_pages.read_matching.Goals as goal
 

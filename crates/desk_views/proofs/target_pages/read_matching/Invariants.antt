@@ -1,13 +1,11 @@
 use Rattle.std.proofs.Common.{◌≡◌, ◌*◌, Some, Ok, length, map, take}
-use Rattle.sqlite.specs.Held.{state}
 use Rattle.sql_calls.specs.declared.fault.Fault.{Fault}
-use Rattle.sql_calls.specs.Standing.{Reads}
 use Rattle.rollout_machine.specs.Filters.{seen}
 use Rattle.rollout_machine.specs.Objects.{page_of}
 use Rattle.rollout_machine.specs.Views.{listed}
 use Rattle.target_filter.specs.Grammar.{Tree}
 use Rattle.target_filter.specs.Profile.{filter_of}
-use Rattle.desk_records.specs.Holds.{HoldsRecords}
+use Rattle.desk_store.specs.Changing.{ReadsIn}
 use Rattle.desk_views.specs.Targets.{matching_shown}
 use Rattle.desk_views.proofs.target_pages.read_matching.Given as goal
 
@@ -15,6 +13,6 @@ use Rattle.desk_views.proofs.target_pages.read_matching.Given as goal
 abbrev pub invariant-loop-chunk : goal.invariant-loop-chunk
 invariant-loop-chunk g l = record {
   same_reference : l.change.store.ghost_name ≡ l.fn.change.store.ghost_name;
-  reads : Reads HoldsRecords {A = Unit {0}} {E = Fault} (state g.S.Store l.fn.change.store.now.calls.conn) (state g.S.Store l.change.store.now.calls.conn) (Ok tt)
+  reads : ReadsIn g.S.Store {A = Unit {0}} {E = Fault} l.fn.change l.change (Ok tt)
       (λ r _. (l.count ≡ length r.targets) × ((f : Tree) → filter_of l.filter ≡ Some f → listed l.shown ≡ page_of l.page (matching_shown f (map seen (take (l.chunk * 10000) r.targets)))));
 }

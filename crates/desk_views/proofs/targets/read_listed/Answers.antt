@@ -1,6 +1,6 @@
 use Rattle.std.proofs.Common.{◌∙◌}
+use Rattle.sql_calls.proofs.Composing.{both_read, read_but_fails, reads_as, second_fails}
 use Rattle.desk_records.specs.Holds.{HoldsRecords}
-use Rattle.desk_views.proofs.ReadLemmas.{both_read, read_but_fails, reads_as, second_fails}
 use Rattle.desk_views.proofs.TargetViews.{listed_is}
 use Rattle.desk_views.proofs.targets.read_listed.Goals as goal
 

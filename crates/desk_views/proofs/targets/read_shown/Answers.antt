@@ -1,6 +1,6 @@
+use Rattle.sql_calls.proofs.Composing.{both_read, read_held, reads_as, second_fails}
 use Rattle.desk_records.specs.Holds.{HoldsRecords}
 use Rattle.rollout_machine.specs.Verdicts.{target_of}
-use Rattle.desk_views.proofs.ReadLemmas.{both_read, read_bare, reads_as, second_fails}
 use Rattle.desk_views.proofs.TargetViews.{no_target, one_target}
 use Rattle.desk_views.proofs.targets.read_shown.Goals as goal
 
@@ -13,5 +13,5 @@ returns-in_err-target-clause-reads g c = second_fails HoldsRecords _ _ _ _ _ _ _
 pub returns-clause-reads : goal.returns-clause-reads
 returns-clause-reads g c =
     rw c.shown_unassigned.ensures
-    (reads_as HoldsRecords _ _ _ _ _ _ (read_bare _ _ _ _ (both_read HoldsRecords _ _ _ _ _ _ _ (rw c.in-Some.is at c.in_ok-stored.ensures.reads) (rw c.called-listed.ensures at c.in_ok-target.ensures.reads)))
+    (reads_as HoldsRecords _ _ _ _ _ _ (read_held HoldsRecords _ _ _ _ _ (λ db r holds. holds.bare) (both_read HoldsRecords _ _ _ _ _ _ _ (rw c.in-Some.is at c.in_ok-stored.ensures.reads) (rw c.called-listed.ensures at c.in_ok-target.ensures.reads)))
     (λ r is. one_target r c.args.id c.in-Some.stored c.in_ok-target.target is.0 is.1.0 is.1.1))

@@ -1,6 +1,6 @@
 use Rattle.std.proofs.Common.{Some, None}
+use Rattle.sql_calls.proofs.Composing.{reads_as}
 use Rattle.desk_records.specs.Holds.{HoldsRecords}
-use Rattle.desk_views.proofs.ReadLemmas.{reads_as}
 use Rattle.desk_views.proofs.TargetViews.{replied}
 use Rattle.desk_views.proofs.targets.show_target.Goals as goal
 

@@ -1,8 +1,11 @@
 use Rattle.desk_records.specs.Holds.{HoldsRecords}
 use Rattle.rollout_machine.specs.Commands.{AddArtifact}
 use Rattle.rollout_desk.proofs.ArtifactLemmas.{artifact_added, artifact_is_step}
-use Rattle.rollout_desk.proofs.ComposeLemmas.{refused, unwritten, accepted}
+use Rattle.rollout_desk.proofs.ComposeLemmas.{refused, unwritten, accepted, unread}
 use Rattle.rollout_desk.proofs.artifacts.add_artifact.Goals as goal
+
+pub returns-in_err-artifact-clause-steps : goal.returns-in_err-artifact-clause-steps
+returns-in_err-artifact-clause-steps g c = unread HoldsRecords (AddArtifact c.args.upload.now) _ _ _ _ c.in_err-artifact.ensures.reads _ c.from_residual.ensures.0
 
 pub returns-in-Err-clause-steps : goal.returns-in-Err-clause-steps
 returns-in-Err-clause-steps g c = refused HoldsRecords (AddArtifact c.args.upload.now) _ _ _ _ c.in-Err.refusal (rw c.in-Err.is at c.in_ok-artifact.ensures.reads) (λ r is. is)

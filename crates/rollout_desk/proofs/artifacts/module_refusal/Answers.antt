@@ -1,7 +1,7 @@
 use Rattle.std.proofs.Common.{◌≤◌, subst, arith}
+use Rattle.sql_calls.proofs.Composing.{both_read, reads_as, second_fails}
 use Rattle.desk_records.specs.Holds.{HoldsRecords}
 use Rattle.rollout_desk.proofs.ArtifactLemmas.{module_missing, module_locked, file_exists, file_is_new}
-use Rattle.rollout_desk.proofs.ComposeLemmas.{reads_as, both_read, second_fails}
 use Rattle.rollout_desk.proofs.artifacts.module_refusal.Goals as goal
 
 pub returns-then-get-last-clause-reads : goal.returns-then-get-last-clause-reads

@@ -1,9 +1,9 @@
 use Rattle.std.proofs.Common.{◌≡◌, true, false, ◌∙◌, sym, ap}
+use Rattle.sql_calls.proofs.Composing.{both_read, reads_as, second_fails}
 use Rattle.desk_records.specs.Holds.{HoldsRecords}
 use Rattle.rollout_machine.specs.Verdicts.{wrong_digest}
 use Rattle.rollout_model.specs.declared.artifact.Artifact.{Artifact}
 use Rattle.rollout_desk.proofs.ArtifactLemmas.{refused_first, is_quota, is_wrong, is_accepted}
-use Rattle.rollout_desk.proofs.ComposeLemmas.{reads_as, both_read, second_fails}
 use Rattle.rollout_desk.proofs.artifacts.next_artifact.Goals as goal
 
 pub returns-in-Some-clause-reads : goal.returns-in-Some-clause-reads

@@ -1,8 +1,8 @@
 use Rattle.std.proofs.Common.{◌≡◌, ◌+◌, ◌∙◌, sym, arith}
+use Rattle.sql_calls.proofs.Composing.{both_read, reads_as, second_fails}
 use Rattle.desk_records.specs.Holds.{HoldsRecords}
 use Rattle.rollout_desk.proofs.AdditionLemmas.{some_number}
 use Rattle.rollout_desk.proofs.ArtifactLemmas.{module_full, desk_full, has_room}
-use Rattle.rollout_desk.proofs.ComposeLemmas.{reads_as, both_read, second_fails}
 use Rattle.rollout_desk.proofs.artifacts.next_number.Goals as goal
 
 pub returns-then-len-ge-MODULE_ARTIFACT_LIMIT-clause-reads : goal.returns-then-len-ge-MODULE_ARTIFACT_LIMIT-clause-reads

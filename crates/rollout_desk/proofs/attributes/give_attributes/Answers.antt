@@ -3,7 +3,7 @@ use Rattle.desk_records.specs.Holds.{HoldsRecords}
 use Rattle.rollout_desk.specs.Attributes.{GivesAttributes}
 use Rattle.rollout_desk.proofs.AttributeLemmas.{begun, more_attributes, no_attributes}
 use Rattle.rollout_desk.proofs.ComposeLemmas.{writes_nothing}
-use Rattle.rollout_desk.proofs.ImportLemmas.{one_more}
+use Rattle.rollout_desk.proofs.PutLemmas.{one_more}
 use Rattle.rollout_desk.proofs.WriteLemmas.{all_write, first_fails}
 use Rattle.rollout_desk.proofs.attributes.give_attributes.Goals as goal
 

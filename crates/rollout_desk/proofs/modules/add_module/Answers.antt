@@ -1,9 +1,13 @@
 use Rattle.std.proofs.Common.{Ok, Err}
+use Rattle.sql_calls.proofs.Composing.{both_read}
 use Rattle.desk_records.specs.Holds.{HoldsRecords}
 use Rattle.rollout_machine.specs.Commands.{AddModule}
 use Rattle.rollout_desk.proofs.AdditionLemmas.{module_added, module_is_step}
-use Rattle.rollout_desk.proofs.ComposeLemmas.{both_read, refused, then_unread, uncopied, unwritten, accepted, writes_all}
+use Rattle.rollout_desk.proofs.ComposeLemmas.{refused, then_unread, uncopied, unwritten, accepted, writes_all, unread}
 use Rattle.rollout_desk.proofs.modules.add_module.Goals as goal
+
+pub returns-in_err-number-clause-steps : goal.returns-in_err-number-clause-steps
+returns-in_err-number-clause-steps g c = unread HoldsRecords (AddModule c.args.label.now) _ _ _ _ c.in_err-number.ensures.reads _ c.from_residual.ensures.0
 
 pub returns-in-Err-clause-steps : goal.returns-in-Err-clause-steps
 returns-in-Err-clause-steps g c = refused HoldsRecords (AddModule c.args.label.now) _ _ _ _ c.in-Err.refusal (rw c.in-Err.is at c.in_ok-number.ensures.reads) (λ r is. is)

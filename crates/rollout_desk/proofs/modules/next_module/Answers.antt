@@ -1,7 +1,7 @@
 use Rattle.std.proofs.Common.{◌≡◌, ◌+◌, ◌∙◌, sym, arith}
+use Rattle.sql_calls.proofs.Composing.{both_read, reads_as, second_fails}
 use Rattle.desk_records.specs.Holds.{HoldsRecords}
 use Rattle.rollout_desk.proofs.AdditionLemmas.{module_exists, modules_full, module_accepted, some_number}
-use Rattle.rollout_desk.proofs.ComposeLemmas.{reads_as, both_read, second_fails}
 use Rattle.rollout_desk.proofs.modules.next_module.Goals as goal
 
 pub returns-then-branch-clause-reads : goal.returns-then-branch-clause-reads

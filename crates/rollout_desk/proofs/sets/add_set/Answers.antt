@@ -1,8 +1,11 @@
 use Rattle.desk_records.specs.Holds.{HoldsRecords}
 use Rattle.rollout_machine.specs.Commands.{AddSet}
 use Rattle.rollout_desk.proofs.AdditionLemmas.{set_added, whole_is_step}
-use Rattle.rollout_desk.proofs.ComposeLemmas.{refused, uncopied, unwritten, accepted}
+use Rattle.rollout_desk.proofs.ComposeLemmas.{refused, uncopied, unwritten, accepted, unread}
 use Rattle.rollout_desk.proofs.sets.add_set.Goals as goal
+
+pub returns-in_err-number-clause-steps : goal.returns-in_err-number-clause-steps
+returns-in_err-number-clause-steps g c = unread HoldsRecords (AddSet c.args.label.now) _ _ _ _ c.in_err-number.ensures.reads _ c.from_residual.ensures.0
 
 pub returns-in-Err-clause-steps : goal.returns-in-Err-clause-steps
 returns-in-Err-clause-steps g c = refused HoldsRecords (AddSet c.args.label.now) _ _ _ _ c.in-Err.refusal (rw c.in-Err.is at c.in_ok-number.ensures.reads) (λ r is. is)

@@ -1,6 +1,6 @@
+use Rattle.sql_calls.proofs.Composing.{reads_as}
 use Rattle.desk_records.specs.Holds.{HoldsRecords}
 use Rattle.rollout_desk.proofs.AdditionLemmas.{lacks}
-use Rattle.rollout_desk.proofs.ComposeLemmas.{reads_as}
 use Rattle.rollout_desk.proofs.sets.lacks_a_module.Goals as goal
 
 pub returns-clause-reads : goal.returns-clause-reads

@@ -1,7 +1,7 @@
 use Rattle.std.proofs.Common.{◌≡◌, ◌+◌, ◌∙◌, sym, arith}
+use Rattle.sql_calls.proofs.Composing.{both_read, reads_as, second_fails}
 use Rattle.desk_records.specs.Holds.{HoldsRecords}
 use Rattle.rollout_desk.proofs.AdditionLemmas.{set_lacks, set_exists, sets_full, set_accepted, some_number}
-use Rattle.rollout_desk.proofs.ComposeLemmas.{reads_as, both_read, second_fails}
 use Rattle.rollout_desk.proofs.sets.next_set.Goals as goal
 
 pub returns-then-branch-clause-reads : goal.returns-then-branch-clause-reads

@@ -1,6 +1,6 @@
+use Rattle.sql_calls.proofs.Composing.{reads_as}
 use Rattle.desk_records.specs.Holds.{HoldsRecords}
 use Rattle.rollout_machine.specs.Verdicts.{target_of}
-use Rattle.rollout_desk.proofs.ComposeLemmas.{reads_as}
 use Rattle.rollout_desk.proofs.TagStepLemmas.{lacks_it}
 use Rattle.rollout_desk.proofs.tags.lacks_target.Goals as goal
 

@@ -1,9 +1,12 @@
 use Rattle.std.proofs.Common.{Ok, refl}
 use Rattle.desk_records.specs.Holds.{HoldsRecords}
 use Rattle.rollout_machine.specs.Commands.{Untag}
-use Rattle.rollout_desk.proofs.ComposeLemmas.{accepted, refused, unwritten, writes_all}
+use Rattle.rollout_desk.proofs.ComposeLemmas.{accepted, refused, unread, unwritten, writes_all}
 use Rattle.rollout_desk.proofs.TagStepLemmas.{no_target_to_untag, untag_accepted}
 use Rattle.rollout_desk.proofs.tags.untag_target.Goals as goal
+
+pub returns-in_err-lacks_target-clause-steps : goal.returns-in_err-lacks_target-clause-steps
+returns-in_err-lacks_target-clause-steps g c = unread HoldsRecords (Untag c.args.id.now c.args.tag.now) _ _ _ _ c.in_err-lacks_target.ensures.reads _ c.from_residual.ensures.0
 
 pub returns-then-branch-clause-steps : goal.returns-then-branch-clause-steps
 returns-then-branch-clause-steps g c = refused HoldsRecords (Untag c.args.id.now c.args.tag.now) _ _ _ _ _ (rw c.if-branch.true at c.in_ok-lacks_target.ensures.reads) (λ r is. no_target_to_untag r c.args.id.now c.args.tag.now is)

@@ -2,12 +2,14 @@ use Rattle.std.proofs.Common.{[], ◌∷◌, Ok, pos}
 use Rattle.sqlite_value.specs.declared.value.Value.TheVariants.{Int}
 use Rattle.sqlite.specs.Held.{state}
 use Rattle.sql_calls.specs.Calls.{TakesFirst}
+use Rattle.sql_calls.proofs.TypedCalls.{takes_err}
 use Rattle.desk_records.specs.declared.set_texts.TheConstants.{MODULE_LOCKED}
-use Rattle.desk_store.proofs.SetCalls.{locked, not_told}
+use Rattle.desk_records.specs.Holds.{HoldsRecords}
+use Rattle.desk_store.proofs.SetCalls.{locked, locking}
 use Rattle.desk_store.proofs.change.OpenChange.read_module_is_locked.Goals as goal
 
 pub returns-in_err-row-clause-reads : goal.returns-in_err-row-clause-reads
-returns-in_err-row-clause-reads g c = not_told _ _ _ _ _ c.in_err-row.ensures.takes c.from_residual.result c.from_residual.ensures.0
+returns-in_err-row-clause-reads g c = takes_err HoldsRecords _ _ _ _ _ locking _ c.in_err-row.ensures.takes c.from_residual.result c.from_residual.ensures.0
 
 pub returns-clause-reads : goal.returns-clause-reads
 returns-clause-reads g c =

@@ -1,13 +1,15 @@
 use Rattle.std.proofs.Common.{Ok}
 use Rattle.sqlite.specs.Held.{state}
 use Rattle.sql_calls.specs.Calls.{TakesFirst}
+use Rattle.sql_calls.proofs.TypedCalls.{takes_err}
 use Rattle.desk_records.specs.declared.artifact_texts.TheConstants.{FIND_ARTIFACT}
 use Rattle.desk_records.specs.Artifacts.{file_of}
-use Rattle.desk_store.proofs.ArtifactCalls.{found, not_found}
+use Rattle.desk_records.specs.Holds.{HoldsRecords}
+use Rattle.desk_store.proofs.ArtifactCalls.{finding, found}
 use Rattle.desk_store.proofs.change.OpenChange.read_same_artifact.Goals as goal
 
 pub returns-in_err-row-clause-reads : goal.returns-in_err-row-clause-reads
-returns-in_err-row-clause-reads g c = not_found _ _ _ _ _ _ c.in_err-row.ensures.takes c.from_residual.result c.from_residual.ensures.0
+returns-in_err-row-clause-reads g c = takes_err HoldsRecords _ _ _ _ _ finding _ c.in_err-row.ensures.takes c.from_residual.result c.from_residual.ensures.0
 
 pub returns-clause-reads : goal.returns-clause-reads
 returns-clause-reads g c =

@@ -2,12 +2,14 @@ use Rattle.std.proofs.Common.{[], ◌∷◌, Ok, pos, subst, ◌≤◌}
 use Rattle.sqlite_value.specs.declared.value.Value.TheVariants.{Int}
 use Rattle.sqlite.specs.Held.{state}
 use Rattle.sql_calls.specs.Calls.{TakesFirst}
+use Rattle.sql_calls.proofs.TypedCalls.{takes_err}
 use Rattle.desk_records.specs.declared.set_texts.TheConstants.{GET_SET}
-use Rattle.desk_store.proofs.SetCalls.{set_read, set_not_read}
+use Rattle.desk_records.specs.Holds.{HoldsRecords}
+use Rattle.desk_store.proofs.SetCalls.{getting, set_read}
 use Rattle.desk_store.proofs.change.OpenChange.read_set.Goals as goal
 
 pub returns-in_err-row-clause-reads : goal.returns-in_err-row-clause-reads
-returns-in_err-row-clause-reads g c = set_not_read _ _ _ _ _ c.in_err-row.ensures.takes c.from_residual.result c.from_residual.ensures.0
+returns-in_err-row-clause-reads g c = takes_err HoldsRecords _ _ _ _ _ getting _ c.in_err-row.ensures.takes c.from_residual.result c.from_residual.ensures.0
 
 pub returns-clause-reads : goal.returns-clause-reads
 returns-clause-reads g c =

@@ -2,12 +2,14 @@ use Rattle.std.proofs.Common.{[], ◌∷◌, Ok}
 use Rattle.sqlite_value.specs.declared.value.Value.TheVariants.{Text}
 use Rattle.sqlite.specs.Held.{state}
 use Rattle.sql_calls.specs.Calls.{AsksText}
+use Rattle.sql_calls.proofs.TypedCalls.{asks_err}
 use Rattle.desk_records.specs.declared.target_texts.TheConstants.{LIST_TARGET_TAGS}
-use Rattle.desk_store.proofs.TargetCalls.{tags_read, tags_not_read}
+use Rattle.desk_records.specs.Holds.{HoldsRecords}
+use Rattle.desk_store.proofs.TargetCalls.{tags_read}
 use Rattle.desk_store.proofs.change.OpenChange.read_target_tags.Goals as goal
 
 pub returns-in_err-rows-clause-reads : goal.returns-in_err-rows-clause-reads
-returns-in_err-rows-clause-reads g c = tags_not_read _ _ _ _ _ c.in_err-rows.ensures.asks c.from_residual.result c.from_residual.ensures.0
+returns-in_err-rows-clause-reads g c = asks_err HoldsRecords _ _ _ _ _ _ c.in_err-rows.ensures.asks c.from_residual.result c.from_residual.ensures.0
 
 pub returns-clause-reads : goal.returns-clause-reads
 returns-clause-reads g c =
