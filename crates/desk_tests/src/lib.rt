@@ -1,0 +1,23 @@
+//! What only a caller of the desk and of the crates below it sees: no request of the program shows it, and no clause says it.
+#![tactic(auto)]
+
+#[cfg(test)]
+mod asked;
+#[cfg(test)]
+mod attributes;
+#[cfg(test)]
+mod calls;
+#[cfg(test)]
+mod downloads;
+#[cfg(test)]
+mod failing_downloads;
+#[cfg(test)]
+mod memory_of_downloads;
+#[cfg(test)]
+mod program;
+#[cfg(test)]
+mod puts;
+#[cfg(test)]
+mod runs;
+#[cfg(test)]
+mod store;
