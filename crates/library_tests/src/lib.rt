@@ -2,13 +2,21 @@
 #![tactic(auto)]
 
 #[cfg(test)]
+mod device_messages;
+#[cfg(test)]
+mod device_replies;
+#[cfg(test)]
 mod filters;
 #[cfg(test)]
 mod groups;
 #[cfg(test)]
+mod imports;
+#[cfg(test)]
 mod inbox;
 #[cfg(test)]
 mod refusals;
+#[cfg(test)]
+mod report_texts;
 #[cfg(test)]
 mod segments;
 #[cfg(test)]

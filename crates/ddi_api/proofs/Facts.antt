@@ -1,0 +1,51 @@
+-- What the contracts rest on beside their callees.
+use Rattle.std.proofs.Common.{◌≡◌, ℕ, List, Bool, true, false, cond, Some, None, bytes_eq, refl}
+use Rattle.std.specs.Str.{IsUtf8, is_utf8}
+use Rattle.std.proofs.lemmas.Str.{is_utf8-from_IsUtf8, IsUtf8-from_is_utf8}
+use Rattle.matchit.proofs.OnLiterals.{matchit_on_literals}
+use Rattle.rollout_model.specs.Rules.{is_spelled, is_word_letter}
+use Rattle.rollout_model.proofs.RuleLemmas.{spelled_is_utf8}
+use Rattle.request_target.specs.Rows.{are_routes}
+use Rattle.request_target.specs.Routes.{route_in}
+use Rattle.http_wire.specs.Messages.{WireMessage}
+use Rattle.http_wire.specs.Targets.{path_of}
+use Rattle.http_wire.specs.Replies.{refusal_text}
+use Rattle.rollout_model.specs.declared.refusal.Refusal.{Refusal}
+use Rattle.rollout_model.specs.declared.refusal.Refusal.TheVariants.{Unauthorized}
+use Rattle.rollout_machine.specs.Replies.{Refused}
+use Rattle.rollout_machine.specs.Requests.{Rejected}
+use Rattle.ddi_api.specs.declared.call.DeviceCall.{DeviceCall}
+use Rattle.ddi_api.specs.Credentials.{credential_of}
+use Rattle.ddi_api.specs.Reading.{device_reading}
+use Rattle.ddi_api.specs.Replies.{reply_text}
+use Rattle.ddi_api.specs.Routes.{device_table, method_of}
+use Rattle.ddi_api.specs.Table.{device_call}
+
+pub device_table_is_good : are_routes device_table ≡ true
+unfolding matchit_on_literals
+device_table_is_good = refl
+
+pub device_call-text : (path : List ℕ) → IsUtf8 path → device_call path ≡ route_in device_table path
+device_call-text path text = rw (is_utf8-from_IsUtf8 path text) refl
+
+pub device_call-no_text : (path : List ℕ) → (IsUtf8 path → ⊥) → device_call path ≡ None
+device_call-no_text path unread = by (is_utf8 path) (λ is. unread (IsUtf8-from_is_utf8 path is))
+  where
+    by : (v : Bool) → (v ≡ true → ⊥) → cond v (route_in device_table path) None ≡ None
+    by true no_text = absurd (no_text refl)
+    by false no_text = refl
+
+-- what is spelled in the letters of words is a text
+pub spelled-no_text : (low high : ℕ) (bs : List ℕ) → (IsUtf8 bs → ⊥) → None ≡ cond (is_spelled is_word_letter low high bs) (Some bs) None
+spelled-no_text low high bs unread = by (is_spelled is_word_letter low high bs) refl
+  where
+    by : (v : Bool) → is_spelled is_word_letter low high bs ≡ v → None ≡ cond v (Some bs) None
+    by true is = absurd (unread (spelled_is_utf8 low high bs is))
+    by false is = refl
+
+pub unauthorized_first : (m : WireMessage) (call : DeviceCall) → device_call (path_of m.target) ≡ Some call → bytes_eq m.method (method_of call) ≡ true → credential_of m ≡ None → device_reading m ≡ Rejected Unauthorized
+unauthorized_first m call route method nobody = rw (route, method, nobody) refl
+
+pub reply_text-Refused : (refusal : Refusal) → reply_text (Refused refusal) ≡ refusal_text refusal
+unfolding refusal_text
+reply_text-Refused refusal = refl

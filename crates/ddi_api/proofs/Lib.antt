@@ -1,0 +1,4 @@
+pub mod Facts
+pub mod ConfigLemmas
+pub mod ObjectLemmas
+pub mod LettersLemmas

@@ -1,0 +1,10 @@
+use Rattle.std.proofs.Common.{◌≡◌, ◌++◌, List, Some}
+use Rattle.serde_json.specs.View.{members_view}
+use Rattle.serde_json.proofs.Views.{Entry}
+use Rattle.ddi_api.specs.ConfigBodies.{attributes_in}
+use Rattle.ddi_api.proofs.config_body.read_attributes.Given as goal
+
+-- those before were read
+abbrev pub invariant-loop-key : goal.invariant-loop-key
+invariant-loop-key l =
+    (done : List Entry) × (l.members.entries ≡ done ++ l.key-iterator) × (attributes_in (members_view done) ≡ Some l.attributes)

@@ -1,0 +1,8 @@
+use Rattle.serde_json.specs.View.{view}
+use Rattle.mgmt_objects.proofs.TraverseLemmas.{array_listed}
+use Rattle.ddi_api.specs.FeedbackBodies.{detail_in}
+use Rattle.ddi_api.proofs.feedback_body.read_list.Goals as goal
+
+pub returns-in-Some : goal.returns-in-Some
+returns-in-Some c =
+    rw (← array_listed detail_in (view c.args.value.now) c.in-Some.values.now.items c.in-Some.ensures, ← c.deref.ensures.value) c.read_all.ensures

@@ -1,0 +1,7 @@
+use Rattle.std.proofs.Common.{◌≡◌, map, take}
+use Rattle.serde_json.specs.View.{view}
+use Rattle.ddi_api.specs.Objects.{artifact_data}
+use Rattle.ddi_api.proofs.object.artifact_values.Given as goal
+
+abbrev pub invariant-loop-artifact : goal.invariant-loop-artifact
+invariant-loop-artifact l = map view l.values.items ≡ map (artifact_data l.id l.module_number) (take l.artifact-index l.artifacts)

@@ -1,0 +1,7 @@
+use Rattle.std.proofs.Common.{◌≡◌, map, take}
+use Rattle.serde_json.specs.View.{view}
+use Rattle.ddi_api.specs.Objects.{shown_chunk}
+use Rattle.ddi_api.proofs.object.chunk_values.Given as goal
+
+abbrev pub invariant-loop-chunk : goal.invariant-loop-chunk
+invariant-loop-chunk l = map view l.values.items ≡ map (shown_chunk l.id) (take l.chunk-index l.chunks)

@@ -1,0 +1,5 @@
+use Rattle.ddi_api.proofs.Facts.{spelled-no_text}
+use Rattle.ddi_api.proofs.spelled.read_filename.Goals as goal
+
+pub returns-in-Err : goal.returns-in-Err
+returns-in-Err c = spelled-no_text 1 128 c.args.bytes.now c.in-Err.ensures.cases.0

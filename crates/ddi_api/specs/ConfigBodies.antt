@@ -1,0 +1,35 @@
+-- The attributes that a device gives in a body.
+use Rattle.std.specs.Prelude.{ℕ, List, [], ◌∷◌, Bool, true, false, codes, bytes_eq, unwrap_or, Option, Some, None, option_and_then, option_map, if◌then◌else◌}
+use Rattle.serde_json.specs.Data.{Data, Members, no_members, member}
+use Rattle.serde_json.specs.Find.{get, as_str, as_object}
+use Rattle.rollout_model.specs.Pairs.{config_data_of}
+use Rattle.rollout_model.specs.Rules.{value_of, word_of}
+use Rattle.rollout_model.specs.declared.target.Attribute.{Attribute}
+use Rattle.mgmt_objects.specs.Bodies.{body_data}
+
+abbrev pub new_attribute : List ℕ → List ℕ → Attribute
+new_attribute key value = record { key = key; value = value }
+
+-- a key that is a word, and a value of attributes
+abbrev pub attribute_of : List ℕ → Data → Option Attribute
+attribute_of key d = option_and_then (λ word. option_map (λ value. new_attribute word value) (option_and_then value_of (as_str d))) (word_of key)
+
+-- the members of an object, which has each key once, by their keys in byte order
+abbrev pub attributes_in : Members → Option (List Attribute)
+attributes_in no_members = Some []
+attributes_in (member key d members) = option_and_then (λ attribute. option_map (λ more. attribute ∷ more) (attributes_in members)) (attribute_of key d)
+
+-- at most 32 attributes
+abbrev pub data_member : Data → Option (List Attribute)
+data_member d = option_and_then config_data_of (option_and_then attributes_in (option_and_then as_object (get (codes "data") d)))
+
+abbrev pub is_merge : Option Data → Bool
+is_merge None = true
+is_merge (Some d) = unwrap_or (option_map (λ mode. bytes_eq mode (codes "merge")) (as_str d)) false
+
+-- an object's `data`, where its `mode` is `merge` or missing
+abbrev pub config_of : Data → Option (List Attribute)
+config_of d = if is_merge (get (codes "mode") d) then data_member d else None
+
+abbrev pub config_body : List ℕ → Option (List Attribute)
+config_body bytes = option_and_then config_of (body_data bytes)

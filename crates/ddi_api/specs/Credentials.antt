@@ -1,0 +1,30 @@
+-- Who a device says it is.
+use Rattle.std.specs.Prelude.{ℕ, List, codes, length, take, drop, bytes_eq, Option, Some, None, option_and_then, option_map, if◌then◌else◌}
+use Rattle.http_wire.specs.Messages.{WireMessage}
+use Rattle.http_wire.specs.Fields.{sole_value}
+use Rattle.artifact_pieces.specs.Digests.{digest_of}
+use Rattle.rollout_model.specs.Rules.{token_of}
+use Rattle.rollout_model.specs.declared.credential.Credential.{Credential}
+use Rattle.mgmt_api.specs.Reading.{word_in}
+
+-- the scheme, as written, with the one space behind it
+abbrev pub scheme : List ℕ
+scheme = codes "TargetToken "
+
+abbrev pub after_scheme : List ℕ → Option (List ℕ)
+after_scheme value = if bytes_eq (take (length scheme) value) scheme then Some (drop (length scheme) value) else None
+
+-- the value of the field, where there is exactly one
+abbrev pub authorization_of : WireMessage → Option (List ℕ)
+authorization_of m = sole_value (codes "authorization") m.fields
+
+-- the digest of the token that such a value shows
+abbrev pub digest_of_value : List ℕ → Option (List ℕ)
+digest_of_value value = option_map digest_of (option_and_then token_of (after_scheme value))
+
+abbrev pub digest_shown : WireMessage → Option (List ℕ)
+digest_shown m = option_and_then digest_of_value (authorization_of m)
+
+-- the id in the path, and the digest of the token
+abbrev pub credential_of : WireMessage → Option Credential
+credential_of m = option_and_then (λ id. option_map (λ digest. record { id = id; digest = digest }) (digest_shown m)) (word_in m 4)

@@ -1,0 +1,75 @@
+-- What a device reports in a body.
+use Rattle.std.specs.Prelude.{ℕ, List, [], ◌∷◌, codes, bytes_eq, ◌&&◌, Option, Some, None, option_and_then, option_map, if◌then◌else◌}
+use Rattle.serde_json.specs.Data.{Data}
+use Rattle.serde_json.specs.Find.{get, as_str}
+use Rattle.rollout_model.specs.Rules.{detail_of, details_of}
+use Rattle.rollout_model.specs.declared.feedback.Report.{Report}
+use Rattle.rollout_machine.specs.Commands.{Credential, Proceeding, Scheduled, Resumed, DeploymentWord, Succeeded, Failed, Rejected, Noted, CancelWord, ClosedCancel, CanceledCancel, RejectedCancel, NotedCancel}
+use Rattle.mgmt_objects.specs.Bodies.{body_data}
+use Rattle.mgmt_objects.specs.Traverse.{array_of}
+
+-- `execution` and `finished`, and the word that the two say
+abbrev pub Row : Type 0 → Type 0
+Row W = List ℕ × List ℕ × W
+
+abbrev pub deployment_rows : List (Row DeploymentWord)
+deployment_rows =
+    (codes "closed", codes "success", Succeeded)
+    ∷ (codes "closed", codes "failure", Failed)
+    ∷ (codes "proceeding", codes "none", Noted Proceeding)
+    ∷ (codes "scheduled", codes "none", Noted Scheduled)
+    ∷ (codes "resumed", codes "none", Noted Resumed)
+    ∷ (codes "rejected", codes "none", Rejected) ∷ []
+
+abbrev pub cancel_rows : List (Row CancelWord)
+cancel_rows =
+    (codes "closed", codes "success", ClosedCancel)
+    ∷ (codes "canceled", codes "success", CanceledCancel)
+    ∷ (codes "rejected", codes "none", RejectedCancel)
+    ∷ (codes "proceeding", codes "none", NotedCancel Proceeding)
+    ∷ (codes "scheduled", codes "none", NotedCancel Scheduled)
+    ∷ (codes "resumed", codes "none", NotedCancel Resumed) ∷ []
+
+-- the word of a pair, if it has a row
+abbrev pub said_by : {W : Type 0} → List (Row W) → List ℕ → List ℕ → Option W
+said_by [] execution finished = None
+said_by (row ∷ rows) execution finished = if bytes_eq execution row.0 && bytes_eq finished row.1 then Some row.2 else said_by rows execution finished
+
+abbrev pub deployment_word : List ℕ → List ℕ → Option DeploymentWord
+deployment_word execution finished = said_by deployment_rows execution finished
+
+abbrev pub cancel_word : List ℕ → List ℕ → Option CancelWord
+cancel_word execution finished = said_by cancel_rows execution finished
+
+-- a member that is a text
+abbrev pub string_member : List ℕ → Data → Option (List ℕ)
+string_member key d = option_and_then as_str (get key d)
+
+-- `finished` stands in the object `result`
+abbrev pub finished_in : Data → Option (List ℕ)
+finished_in status = option_and_then (string_member (codes "finished")) (get (codes "result") status)
+
+abbrev pub word_member : {W : Type 0} → (List ℕ → List ℕ → Option W) → Data → Option W
+word_member words status = option_and_then (λ execution. option_and_then (words execution) (finished_in status)) (string_member (codes "execution") status)
+
+-- a value that is a line
+abbrev pub detail_in : Data → Option (List ℕ)
+detail_in d = option_and_then detail_of (as_str d)
+
+abbrev pub lines_if : Option Data → Option (List (List ℕ))
+lines_if None = Some []
+lines_if (Some d) = array_of detail_in d
+
+-- at most 8 lines, and none where `details` is missing
+abbrev pub details_member : Data → Option (List (List ℕ))
+details_member status = option_and_then details_of (lines_if (get (codes "details") status))
+
+abbrev pub new_report : {W : Type 0} → Credential → ℕ → W → List (List ℕ) → Report W
+new_report device action word details = record { credential = device; action = action; word = word; details = details }
+
+-- what an object's `status` reports of an action
+abbrev pub report_of : {W : Type 0} → (List ℕ → List ℕ → Option W) → Credential → ℕ → Data → Option (Report W)
+report_of words device action status = option_and_then (λ word. option_map (λ details. new_report device action word details) (details_member status)) (word_member words status)
+
+abbrev pub report_body : {W : Type 0} → (List ℕ → List ℕ → Option W) → Credential → ℕ → List ℕ → Option (Report W)
+report_body words device action bytes = option_and_then (report_of words device action) (option_and_then (get (codes "status")) (body_data bytes))

@@ -1,0 +1,71 @@
+-- What a message of the device interface asks.
+use Rattle.std.specs.Prelude.{◌≡◌, ◌⊎◌, ℕ, List, bytes_eq, if◌then◌else◌, Option, Result, MatchResult, option_and_then, slice_get}
+use Rattle.http_wire.specs.Messages.{WireMessage}
+use Rattle.http_wire.specs.Targets.{path_of}
+use Rattle.rollout_model.specs.declared.refusal.Refusal.{Refusal}
+use Rattle.rollout_model.specs.declared.refusal.Refusal.TheVariants.{BadRequest, Unauthorized, NotFound, BadMethod, NoMemory}
+use Rattle.rollout_model.specs.declared.credential.Credential.{Credential}
+use Rattle.rollout_model.specs.Rules.{filename_of}
+use Rattle.rollout_machine.specs.Commands.{PutAttributes, Feedback, CancelFeedback}
+use Rattle.rollout_machine.specs.Requests.{Do, Ask, Query, Request, Poll, ShowDeployment, ShowCancel, Download, Asked, Rejected, Asks}
+use Rattle.rollout_machine.specs.Views.{command_of, rollout_command_of, rollout_query_of}
+use Rattle.request_target.specs.Routes.{segments}
+use Rattle.mgmt_api.specs.Reading.{added_by, of_item, or_rejected, without_query}
+use Rattle.ddi_api.specs.Routes.{method_of}
+use Rattle.ddi_api.specs.Table.{device_call}
+use Rattle.ddi_api.specs.Credentials.{credential_of}
+use Rattle.ddi_api.specs.FeedbackBodies.{cancel_word, deployment_word, report_body}
+use Rattle.ddi_api.specs.ConfigBodies.{config_body}
+use Rattle.ddi_api.specs.declared.call.DeviceCall.{DeviceCall}
+use Rattle.ddi_api.specs.declared.call.DeviceCall.TheVariants as call
+use Rattle.ddi_api.specs.declared.reading.DeviceRequest.{DeviceRequest}
+use Rattle.ddi_api.specs.declared.reading.DeviceRequest.TheVariants as rust
+
+-- the filename that the segment at this place of the path is
+abbrev pub filename_in : WireMessage → ℕ → Option (List ℕ)
+filename_in m place = option_and_then filename_of (slice_get (segments (path_of m.target)) place)
+
+-- no query
+abbrev pub shown_by : Query → WireMessage → Asked
+shown_by query m = without_query m (Asks (Ask query))
+
+-- an artifact of a module, by its filename, and no query
+abbrev pub downloaded_by : Credential → WireMessage → Asked
+downloaded_by device m = of_item 6 (λ number. or_rejected NotFound (λ filename. shown_by (Download device number filename) m) (filename_in m 8)) m
+
+-- what a device asks once it has said who it is: an action or an artifact is found in the path, no query is taken, and the
+-- body is looked at last
+abbrev pub asked_by : DeviceCall → Credential → WireMessage → Asked
+asked_by call.Poll device m = shown_by (Poll device) m
+asked_by call.ShowDeployment device m = of_item 6 (λ action. shown_by (ShowDeployment device action) m) m
+asked_by call.Feedback device m = of_item 6 (λ action. added_by (report_body deployment_word device action m.body) Feedback m) m
+asked_by call.ShowCancel device m = of_item 6 (λ action. shown_by (ShowCancel device action) m) m
+asked_by call.CancelFeedback device m = of_item 6 (λ action. added_by (report_body cancel_word device action m.body) CancelFeedback m) m
+asked_by call.PutAttributes device m = added_by (config_body m.body) (PutAttributes device) m
+asked_by call.Download device m = downloaded_by device m
+
+-- who the device says it is, and then the call's own
+abbrev pub asked_by_one : DeviceCall → WireMessage → Asked
+asked_by_one called m = or_rejected Unauthorized (λ device. asked_by called device m) (credential_of m)
+
+-- the call's one method comes first
+abbrev pub asked_of : DeviceCall → WireMessage → Asked
+asked_of called m = if bytes_eq m.method (method_of called) then asked_by_one called m else Rejected BadMethod
+
+-- the first refusal that applies: the route, the method, who the device says it is, and then the call's own
+abbrev pub device_reading : WireMessage → Asked
+device_reading m = or_rejected NotFound (λ called. asked_of called m) (device_call (path_of m.target))
+
+-- the pure value of a request
+abbrev pub request_of : DeviceRequest → Request
+request_of (rust.Do command) = Do (command_of command)
+request_of (rust.DoRollout command) = Do (rollout_command_of command)
+request_of (rust.AskRollout query) = Ask (rollout_query_of query)
+
+-- what a reader refuses by, beside want of memory
+abbrev pub IsReadersOwn : Refusal → Type 0
+IsReadersOwn refusal = (refusal ≡ NotFound) ⊎ (refusal ≡ BadMethod) ⊎ (refusal ≡ Unauthorized) ⊎ (refusal ≡ BadRequest)
+
+-- the request that is asked, or the refusal that it is rejected by; in place of either, want of memory
+abbrev pub Reads : Asked → Result DeviceRequest Refusal → Type 0
+Reads asked result = MatchResult result (λ request. asked ≡ Asks (request_of request)) (λ refusal. (refusal ≡ NoMemory) ⊎ ((asked ≡ Rejected refusal) × IsReadersOwn refusal))

@@ -1,0 +1,30 @@
+-- The text of each reply.
+use Rattle.std.specs.Prelude.{ℕ, List, []}
+use Rattle.serde_json.specs.Written.{compact_text}
+use Rattle.http_wire.specs.Replies.{reply_text as wire_text}
+use Rattle.rollout_machine.specs.Replies.{Reply, Refused, Done, ContentsShown, PollShown, DeploymentShown, CancelShown}
+use Rattle.rollout_machine.specs.Views.{reply_of as desk_reply_of, rollout_reply_of}
+use Rattle.mgmt_api.specs.Replies.{ReplyParts, json_reply, octets_reply, parts_of as manage_parts_of}
+use Rattle.ddi_api.specs.Objects.{cancel_data, deployment_data, poll_data}
+use Rattle.ddi_api.specs.declared.reply.DeviceReply.{DeviceReply}
+use Rattle.ddi_api.specs.declared.reply.DeviceReply.TheVariants.{Desk, Rollout}
+
+-- the pure value of a reply
+abbrev pub reply_of : DeviceReply → Reply
+reply_of (Desk reply) = desk_reply_of reply
+reply_of (Rollout reply) = rollout_reply_of reply
+
+-- a refusal and a command that has nothing to show as the management interface has them; the kinds that no request of this
+-- interface is answered by have no body
+abbrev pub parts_of : Reply → ReplyParts
+parts_of (Refused refusal) = manage_parts_of (Refused refusal)
+parts_of Done = manage_parts_of Done
+parts_of (ContentsShown contents) = octets_reply contents
+parts_of (PollShown target offer) = json_reply 200 (compact_text (poll_data target offer))
+parts_of (DeploymentShown d) = json_reply 200 (compact_text (deployment_data d))
+parts_of (CancelShown action) = json_reply 200 (compact_text (cancel_data action))
+parts_of _ = json_reply 200 []
+
+-- the whole text of a reply on the wire
+abbrev pub reply_text : Reply → List ℕ
+reply_text reply = wire_text (parts_of reply).status (parts_of reply).content_type (parts_of reply).ends (parts_of reply).body

@@ -1,0 +1,120 @@
+//! The table of routes, the first refusals, the text of refusals, and worked messages, bodies and replies.
+
+ghost use Rattle.std.specs.Prelude.{◌≡◌, ℕ, List, Option, [], ◌∷◌, true, codes, bytes_eq, replicate, Some, None, false};
+ghost use Rattle.serde_json.specs.Written.{compact_text};
+ghost use Rattle.request_target.specs.Rows.{are_routes};
+ghost use Rattle.http_wire.specs.Messages.{WireMessage};
+ghost use Rattle.http_wire.specs.Targets.{path_of};
+ghost use Rattle.http_wire.specs.Replies.{refusal_text};
+ghost use Rattle.artifact_pieces.specs.Digests.{digest_of};
+ghost use Rattle.rollout_model.specs.declared.refusal.Refusal.{Refusal};
+ghost use Rattle.rollout_model.specs.declared.refusal.Refusal.TheVariants.{Unauthorized};
+ghost use Rattle.rollout_machine.specs.Commands.{Succeeded, RejectedCancel};
+ghost use Rattle.rollout_machine.specs.Replies.{Deployment, PollShown, Refused};
+ghost use Rattle.rollout_machine.specs.Offers.{Offer};
+ghost use Rattle.rollout_machine.specs.Requests.{Ask, Asks, Poll, Rejected};
+ghost use Rattle.mgmt_objects.specs.ModuleBodies.{new_label};
+ghost use Rattle.ddi_api.specs.declared.call.DeviceCall.{DeviceCall};
+ghost use Rattle.ddi_api.specs.ConfigBodies.{config_body, new_attribute};
+ghost use Rattle.ddi_api.specs.Credentials.{credential_of, digest_of_value};
+ghost use Rattle.ddi_api.specs.FeedbackBodies.{cancel_word, deployment_word, new_report, report_body};
+ghost use Rattle.ddi_api.specs.Letters.{cancel_letters, deployment_letters, poll_letters};
+ghost use Rattle.ddi_api.specs.Objects.{cancel_data, deployment_data, poll_data};
+ghost use Rattle.ddi_api.specs.Reading.{device_reading};
+ghost use Rattle.ddi_api.specs.Replies.{reply_text};
+ghost use Rattle.ddi_api.specs.Routes.{device_table, method_of};
+ghost use Rattle.ddi_api.specs.Table.{device_call};
+
+/// The routes are words and parameters that take a whole segment, and no path meets two of them.
+pub fn device_routes_are_apart()
+    ensures { are_routes device_table ≡ true }
+{}
+
+/// Whoever doesn't say who it is in the one form is told so, whatever else the path, the query and the body hold.
+pub fn unauthorized_comes_first()
+    ensures { (m : WireMessage) → (call : DeviceCall) → device_call (path_of m.target) ≡ Some call → bytes_eq m.method (method_of call) ≡ true → credential_of m ≡ None → device_reading m ≡ Rejected Unauthorized }
+{}
+
+/// A worked message asks for a poll.
+pub fn worked_poll()
+    ensures { device_reading (record { method = codes "GET"; target = codes "/DEFAULT/controller/v1/dev-01"; fields = (codes "AUTHORIZATION", codes "TargetToken tok-dev-01") ∷ []; body = [] }) ≡ Asks (Ask (Poll (record { id = codes "dev-01"; digest = digest_of (codes "tok-dev-01") }))) }
+{}
+
+/// Two fields of authorization say nothing, and an id that is no word is told nothing else.
+pub fn worked_strangers()
+    ensures twice { device_reading (record { method = codes "GET"; target = codes "/DEFAULT/controller/v1/dev-01?x=1"; fields = (codes "Authorization", codes "TargetToken tok-dev-01") ∷ (codes "authorization", codes "TargetToken tok-dev-01") ∷ []; body = [] }) ≡ Rejected Unauthorized }
+    ensures id { device_reading (record { method = codes "GET"; target = codes "/DEFAULT/controller/v1/dev%2001/deploymentBase/0"; fields = (codes "Authorization", codes "TargetToken tok-dev-01") ∷ []; body = [] }) ≡ Rejected Unauthorized }
+{}
+
+/// The whole text of a poll where nothing is offered.
+pub fn worked_poll_reply()
+    ensures { reply_text (PollShown (codes "dev-01") None) ≡ codes "HTTP/1.1 200 OK\r\nContent-Type: application/json\r\nContent-Length: 55\r\n\r\n{\"_links\":{},\"config\":{\"polling\":{\"sleep\":\"00:05:00\"}}}" }
+{}
+
+/// A refused request is answered by the refusal's own text.
+pub fn refused_text()
+    ensures { (refusal : Refusal) → reply_text (Refused refusal) ≡ refusal_text refusal }
+{}
+
+/// Of an authorization only the digest of its token is left.
+pub fn worked_authorization()
+    ensures { digest_of_value (codes "TargetToken tok-dev-01") ≡ Some (digest_of (codes "tok-dev-01")) }
+{}
+
+/// Two spaces, another case of the scheme or another scheme show no token.
+pub fn no_authorization()
+    ensures spaces { digest_of_value (codes "TargetToken  tok-dev-01") ≡ None }
+    ensures case { digest_of_value (codes "targettoken tok-dev-01") ≡ None }
+    ensures scheme { digest_of_value (codes "GatewayToken tok-dev-01") ≡ None }
+    ensures short { digest_of_value (codes "TargetToken tok-dev") ≡ None }
+{}
+
+/// A worked body reports that a deployment succeeded, with one line.
+pub fn worked_feedback()
+    ensures { report_body deployment_word (record { id = codes "dev-01"; digest = [] }) 4 (codes "{\"status\":{\"execution\":\"closed\",\"result\":{\"finished\":\"success\"},\"details\":[\"done\"]}}") ≡ Some (new_report (record { id = codes "dev-01"; digest = [] }) 4 Succeeded (codes "done" ∷ [])) }
+{}
+
+/// A worked body reports that a device goes on in spite of a cancel.
+pub fn worked_cancel_feedback()
+    ensures { report_body cancel_word (record { id = codes "dev-01"; digest = [] }) 4 (codes "{\"status\":{\"execution\":\"rejected\",\"result\":{\"finished\":\"none\"}}}") ≡ Some (new_report (record { id = codes "dev-01"; digest = [] }) 4 RejectedCancel []) }
+{}
+
+/// Of equal keys the last one counts, and keys stand in byte order.
+pub fn worked_config()
+    ensures { config_body (codes "{\"mode\":\"merge\",\"data\":{\"os\":\"a\",\"hw\":\"2\",\"os\":\"b\"}}") ≡ Some (new_attribute (codes "hw") (codes "2") ∷ new_attribute (codes "os") (codes "b") ∷ []) }
+{}
+
+/// The texts of all polls are their letters.
+pub fn poll_text_letters()
+    ensures { (id : List ℕ) → (offer : Option Offer) → compact_text (poll_data id offer) ≡ poll_letters id offer }
+{}
+
+/// The texts of all cancels are their letters.
+pub fn cancel_text_letters()
+    ensures { (action : ℕ) → compact_text (cancel_data action) ≡ cancel_letters action }
+{}
+
+/// The texts of all deployments are their letters.
+pub fn deployment_text_letters()
+    ensures { (d : Deployment) → compact_text (deployment_data d) ≡ deployment_letters d }
+{}
+
+/// The text of a poll where nothing is offered.
+pub fn worked_poll_text()
+    ensures { compact_text (poll_data (codes "dev-01") None) ≡ codes "{\"_links\":{},\"config\":{\"polling\":{\"sleep\":\"00:05:00\"}}}" }
+{}
+
+/// The text of a poll where a deployment is offered.
+pub fn worked_offer_text()
+    ensures { compact_text (poll_data (codes "dev-04") (Some (record { action = 4; canceling = false }))) ≡ codes "{\"_links\":{\"deploymentBase\":{\"href\":\"/DEFAULT/controller/v1/dev-04/deploymentBase/4\"}},\"config\":{\"polling\":{\"sleep\":\"00:05:00\"}}}" }
+{}
+
+/// The text of a cancel.
+pub fn worked_cancel_text()
+    ensures { compact_text (cancel_data 1) ≡ codes "{\"cancelAction\":{\"stopId\":\"1\"},\"id\":\"1\"}" }
+{}
+
+/// The text of a deployment of one module with one artifact, whose digest is the same byte 32 times.
+pub fn worked_deployment_text()
+    ensures { compact_text (deployment_data (record { target = codes "dev-01"; action = 1; chunks = record { module_number = 1; label = new_label (codes "app") (codes "os") (codes "1.0"); artifacts = record { number = 1; filename = codes "abc.bin"; size = 3; digest = replicate 32 171 } ∷ [] } ∷ [] })) ≡ codes "{\"deployment\":{\"chunks\":[{\"artifacts\":[{\"_links\":{\"download-http\":{\"href\":\"/DEFAULT/controller/v1/dev-01/softwaremodules/1/artifacts/abc.bin\"}},\"filename\":\"abc.bin\",\"hashes\":{\"sha256\":\"abababababababababababababababababababababababababababababababab\"},\"size\":3}],\"name\":\"app\",\"part\":\"os\",\"version\":\"1.0\"}],\"download\":\"forced\",\"update\":\"forced\"},\"id\":\"1\"}" }
+{}

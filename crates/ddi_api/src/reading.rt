@@ -1,0 +1,237 @@
+//! From a message to the request that it asks.
+
+ghost use Rattle.std.specs.Prelude.{◌≡◌, ◌≢◌, ◌⊎◌, IfOk, IfErr, bytes_eq};
+ghost use Rattle.ddi_api.specs.Routes.{method_of};
+ghost use Rattle.rollout_model.specs.declared.refusal.Refusal.TheVariants.{NoMemory, StoreFailed, Stopped};
+ghost use Rattle.rollout_machine.specs.Requests.{Asks, Rejected};
+ghost use Rattle.http_wire.specs.Inbox.{message_of};
+ghost use Rattle.mgmt_api.specs.Reading.{TakesNoQuery, item_in};
+ghost use Rattle.ddi_api.specs.Reading.{Reads, asked_by, asked_by_one, asked_of, device_reading, filename_in, request_of};
+
+use crate::call::{DeviceCall, method_of};
+use crate::config_body::read_config_body;
+use crate::credential::read_credential;
+use crate::feedback_body::read_report;
+use crate::routes::DeviceRoutes;
+use crate::spelled::read_filename;
+use http_wire::Message;
+use request_target::{number_at, segment_at, takes_query};
+use rollout_model::{
+    ActionNo, CancelWord, Command, Credential, DeploymentWord, Filename, ModuleNo, Refusal,
+    RolloutCommand, RolloutQuery,
+};
+use std::alloc::Global;
+
+/// What a device asks.
+#[derive(Drop)]
+pub enum DeviceRequest {
+    /// A command on the device's target.
+    Do(Command),
+    /// A command on its rollouts: what the device reports.
+    DoRollout(RolloutCommand),
+    /// A query on its rollouts: what the device is offered.
+    AskRollout(RolloutQuery),
+}
+
+/// A call is refused where there is a query: none of them takes one.
+fn take_no_query(alloc: Global, message: &Message<'_>) -> Result<(), Refusal>
+    ensures { TakesNoQuery (message_of message.now) result }
+{
+    if takes_query(alloc, &[], message.query())? {
+        Ok(())
+    } else {
+        Err(Refusal::BadRequest)
+    }
+}
+
+/// The action whose number stands in the seventh segment.
+fn read_action_number(message: &Message<'_>) -> Option<ActionNo>
+    ensures { result ≡ item_in (message_of message.now) 6 }
+{
+    let number = number_at(message.path(), 6)?;
+    ActionNo::new(number)
+}
+
+/// The module whose number stands in the seventh segment.
+fn read_module_number(message: &Message<'_>) -> Option<ModuleNo>
+    ensures { result ≡ item_in (message_of message.now) 6 }
+{
+    let number = number_at(message.path(), 6)?;
+    ModuleNo::new(number)
+}
+
+/// The filename that the ninth segment is.
+fn read_filename_in(message: &Message<'_>) -> Option<Filename>
+    ensures { result ≡ filename_in (message_of message.now) 8 }
+{
+    let segment = segment_at(message.path(), 8)?;
+    read_filename(segment)
+}
+
+fn read_poll(
+    alloc: Global,
+    device: Credential,
+    message: &Message<'_>,
+) -> Result<DeviceRequest, Refusal>
+    ensures { Reads (asked_by DeviceCall.Poll device (message_of message.now)) result }
+{
+    take_no_query(alloc, message)?;
+    Ok(DeviceRequest::AskRollout(RolloutQuery::Poll(device)))
+}
+
+fn read_show_deployment(
+    alloc: Global,
+    device: Credential,
+    message: &Message<'_>,
+) -> Result<DeviceRequest, Refusal>
+    ensures { Reads (asked_by DeviceCall.ShowDeployment device (message_of message.now)) result }
+{
+    let Some(action) = read_action_number(message) else {
+        return Err(Refusal::NotFound);
+    };
+    take_no_query(alloc, message)?;
+    Ok(DeviceRequest::AskRollout(RolloutQuery::Deployment(device, action)))
+}
+
+fn read_show_cancel(
+    alloc: Global,
+    device: Credential,
+    message: &Message<'_>,
+) -> Result<DeviceRequest, Refusal>
+    ensures { Reads (asked_by DeviceCall.ShowCancel device (message_of message.now)) result }
+{
+    let Some(action) = read_action_number(message) else {
+        return Err(Refusal::NotFound);
+    };
+    take_no_query(alloc, message)?;
+    Ok(DeviceRequest::AskRollout(RolloutQuery::Cancel(device, action)))
+}
+
+fn read_download(
+    alloc: Global,
+    device: Credential,
+    message: &Message<'_>,
+) -> Result<DeviceRequest, Refusal>
+    ensures { Reads (asked_by DeviceCall.Download device (message_of message.now)) result }
+{
+    let Some(module_number) = read_module_number(message) else {
+        return Err(Refusal::NotFound);
+    };
+    let Some(filename) = read_filename_in(message) else {
+        return Err(Refusal::NotFound);
+    };
+    take_no_query(alloc, message)?;
+    Ok(DeviceRequest::AskRollout(RolloutQuery::Download(device, module_number, filename)))
+}
+
+fn read_feedback(
+    alloc: Global,
+    device: Credential,
+    message: &Message<'_>,
+) -> Result<DeviceRequest, Refusal>
+    ensures { Reads (asked_by DeviceCall.Feedback device (message_of message.now)) result }
+{
+    let Some(action) = read_action_number(message) else {
+        return Err(Refusal::NotFound);
+    };
+    take_no_query(alloc, message)?;
+    let report = read_report::<DeploymentWord>(alloc, device, action, message.body)?;
+    Ok(DeviceRequest::DoRollout(RolloutCommand::Feedback(report)))
+}
+
+fn read_cancel_feedback(
+    alloc: Global,
+    device: Credential,
+    message: &Message<'_>,
+) -> Result<DeviceRequest, Refusal>
+    ensures { Reads (asked_by DeviceCall.CancelFeedback device (message_of message.now)) result }
+{
+    let Some(action) = read_action_number(message) else {
+        return Err(Refusal::NotFound);
+    };
+    take_no_query(alloc, message)?;
+    let report = read_report::<CancelWord>(alloc, device, action, message.body)?;
+    Ok(DeviceRequest::DoRollout(RolloutCommand::CancelFeedback(report)))
+}
+
+fn read_put_attributes(
+    alloc: Global,
+    device: Credential,
+    message: &Message<'_>,
+) -> Result<DeviceRequest, Refusal>
+    ensures { Reads (asked_by DeviceCall.PutAttributes device (message_of message.now)) result }
+{
+    take_no_query(alloc, message)?;
+    let given = read_config_body(alloc, message.body)?;
+    Ok(DeviceRequest::Do(Command::PutAttributes(device, given)))
+}
+
+fn read_call(
+    alloc: Global,
+    call: DeviceCall,
+    device: Credential,
+    message: &Message<'_>,
+) -> Result<DeviceRequest, Refusal>
+    ensures { Reads (asked_by call device (message_of message.now)) result }
+{
+    match call {
+        DeviceCall::Poll => read_poll(alloc, device, message),
+        DeviceCall::ShowDeployment => read_show_deployment(alloc, device, message),
+        DeviceCall::Feedback => read_feedback(alloc, device, message),
+        DeviceCall::ShowCancel => read_show_cancel(alloc, device, message),
+        DeviceCall::CancelFeedback => read_cancel_feedback(alloc, device, message),
+        DeviceCall::PutAttributes => read_put_attributes(alloc, device, message),
+        DeviceCall::Download => read_download(alloc, device, message),
+    }
+}
+
+/// Who the device says it is, and then what it asks.
+fn read_by_one(
+    alloc: Global,
+    call: DeviceCall,
+    message: &Message<'_>,
+) -> Result<DeviceRequest, Refusal>
+    ensures { Reads (asked_by_one call (message_of message.now)) result }
+{
+    let Some(device) = read_credential(message) else {
+        return Err(Refusal::Unauthorized);
+    };
+    read_call(alloc, call, device, message)
+}
+
+fn has_method(call: DeviceCall, message: &Message<'_>) -> bool
+    ensures { result ≡ bytes_eq (message_of message.now).method (method_of call) }
+{
+    message.method == method_of(call)
+}
+
+fn read_of(alloc: Global, call: DeviceCall, message: &Message<'_>) -> Result<DeviceRequest, Refusal>
+    ensures { Reads (asked_of call (message_of message.now)) result }
+{
+    if has_method(call, message) {
+        read_by_one(alloc, call, message)
+    } else {
+        Err(Refusal::BadMethod)
+    }
+}
+
+fn read_routed(routes: &DeviceRoutes, message: &Message<'_>) -> Result<DeviceRequest, Refusal>
+    ensures { Reads (device_reading (message_of message.now)) result }
+{
+    let Some(call) = routes.find(message.path()) else {
+        return Err(Refusal::NotFound);
+    };
+    read_of(routes.alloc(), call, message)
+}
+
+/// The request that a device's message asks.
+pub fn read_device(routes: &DeviceRoutes, message: &Message<'_>) -> Result<DeviceRequest, Refusal>
+    ensures ok { IfOk result (λ r. device_reading (message_of message.now) ≡ Asks (request_of r)) }
+    ensures err { IfErr result (λ e. (e ≡ NoMemory) ⊎ (device_reading (message_of message.now) ≡ Rejected e)) }
+
+    // What the desk alone answers is never a reader's refusal.
+    ensures no_store { IfErr result (λ e. e ≢ StoreFailed) }
+    ensures no_stop { IfErr result (λ e. e ≢ Stopped) }
+{
+    read_routed(routes, message)
+}

@@ -1,0 +1,94 @@
+-- Records of four fields, and fields that are no text.
+use Rattle.std.proofs.Common.{◌≡◌, ◌≢◌, ◌<◌, ◌≤◌, ◌==◌, ℕ, List, [], ◌∷◌, length, Bool, true, false, ◌&&◌, cond, Option, Some, None, refl, arith, nat_le, count_by, Bor, get_or, map, take, ◌+◌, ◌++◌, sym, ◌∙◌}
+use Rattle.std.specs.List.{list_all, slice_split}
+use Rattle.std.proofs.lemmas.List.{map-append, take_more}
+use Rattle.std.proofs.lemmas.List.Folds.{list_all-map, list_all_at}
+use Rattle.std.proofs.lemmas.Bool.Decides.{nat_tests}
+use Rattle.std.proofs.lemmas.List.Splits.{length-slice_split}
+use Rattle.std.specs.Str.{IsUtf8, is_utf8}
+use Rattle.std.proofs.lemmas.Str.{IsUtf8-from_is_utf8}
+use Rattle.csv.specs.Records.{field_at}
+use Rattle.rollout_model.specs.Rules.{is_spelled, is_text, is_text_letter, is_token, is_word, tag_list_of, text_of, token_of, word_of}
+use Rattle.rollout_model.proofs.RuleLemmas.{both, spelled_is_utf8}
+use Rattle.desk_files.specs.TargetRecords.{row_of, tags_of, words_of}
+
+pub four_are : (fs : List (List ℕ)) (a b c d : List ℕ) → length fs ≡ 4 → Some a ≡ field_at fs 0 → Some b ≡ field_at fs 1 → Some c ≡ field_at fs 2 → Some d ≡ field_at fs 3
+    → fs ≡ a ∷ b ∷ c ∷ d ∷ []
+unfolding field_at
+four_are [] a b c d four at0 at1 at2 at3 = absurd (omega arith)
+four_are (w ∷ []) a b c d four at0 at1 at2 at3 = absurd (omega arith)
+four_are (w ∷ x ∷ []) a b c d four at0 at1 at2 at3 = absurd (omega arith)
+four_are (w ∷ x ∷ y ∷ []) a b c d four at0 at1 at2 at3 = absurd (omega arith)
+four_are (w ∷ x ∷ y ∷ z ∷ []) a b c d four at0 at1 at2 at3 = cc
+four_are (v ∷ w ∷ x ∷ y ∷ z ∷ more) a b c d four at0 at1 at2 at3 = absurd (omega arith)
+
+pub row_of-not_four : (fs : List (List ℕ)) → length fs ≢ 4 → row_of fs ≡ None
+row_of-not_four [] other = refl
+row_of-not_four (w ∷ []) other = refl
+row_of-not_four (w ∷ x ∷ []) other = refl
+row_of-not_four (w ∷ x ∷ y ∷ []) other = refl
+row_of-not_four (w ∷ x ∷ y ∷ z ∷ []) other = absurd (other refl)
+row_of-not_four (v ∷ w ∷ x ∷ y ∷ z ∷ more) other = refl
+
+refused : (v : Bool) (bs : List ℕ) → (v ≡ true → ⊥) → cond v (Some bs) None ≡ None
+refused true bs not_so = absurd (not_so refl)
+refused false bs not_so = refl
+
+-- words, tokens and texts are UTF-8
+pub word_of-no_text : (bs : List ℕ) → (IsUtf8 bs → ⊥) → word_of bs ≡ None
+word_of-no_text bs unread = refused (is_word bs) bs (λ is. unread (spelled_is_utf8 1 64 bs is))
+
+pub token_of-no_text : (bs : List ℕ) → (IsUtf8 bs → ⊥) → token_of bs ≡ None
+token_of-no_text bs unread = refused (is_token bs) bs (λ is. unread (spelled_is_utf8 8 64 bs is))
+
+pub text_of-no_text : (bs : List ℕ) → (IsUtf8 bs → ⊥) → text_of bs ≡ None
+text_of-no_text bs unread = refused (is_text bs) bs (λ is. unread (IsUtf8-from_is_utf8 bs (both (is_spelled is_text_letter 1 128 bs) (is_utf8 bs) is).1))
+
+pub is_word-none : (bs : List ℕ) → word_of bs ≡ None → is_word bs ≡ false
+is_word-none bs none = by (is_word bs) none
+  where
+    by : (v : Bool) → cond v (Some bs) None ≡ None → v ≡ false
+    by true e = cc e
+    by false e = refl
+
+-- ---- tags
+
+pub words_of-some : (field : List ℕ) → 0 < length field → words_of field ≡ slice_split (λ c. c == 32) field
+words_of-some [] some = absurd (omega arith)
+words_of-some (b ∷ bs) some = refl
+
+pub tag_list_of-many : (ws : List (List ℕ)) → 16 < length ws → tag_list_of ws ≡ None
+tag_list_of-many ws many = let few : nat_le (length ws) 16 ≡ false = grind (arith, nat_tests) in rw few refl
+
+pub tag_list_of-no_words : (ws : List (List ℕ)) → list_all is_word ws ≡ false → tag_list_of ws ≡ None
+tag_list_of-no_words ws none = rw none (by (nat_le (length ws) 16))
+  where
+    by : (v : Bool) → cond (v && false) (Some ws) None ≡ None
+    by true = refl
+    by false = refl
+
+-- a field with 16 spaces has more than 16 tags
+pub tags_of-many : (field : List ℕ) → 16 ≤ count_by (λ b. b == 32) field → tags_of field ≡ None
+tags_of-many [] many = absurd (omega arith)
+tags_of-many (b ∷ bs) many =
+    let n = length-slice_split (λ c. c == 32) (b ∷ bs) in
+    tag_list_of-many (slice_split (λ c. c == 32) (b ∷ bs)) (omega (arith, n))
+
+-- ---- the parts of a field
+
+pub no_words : (parts : List (Bor (List ℕ))) (i : ℕ) (d : Bor (List ℕ)) (r : Option (List ℕ)) → i < length parts → r ≡ word_of (get_or parts i d).now → r ≡ None → list_all is_word (map (λ part. part.now) parts) ≡ false
+no_words parts i d r within read none =
+    list_all-map is_word (λ (part : Bor (List ℕ)). part.now) parts ∙ list_all_at (λ (part : Bor (List ℕ)). is_word part.now) parts i d within (is_word-none (get_or parts i d).now (sym read ∙ none))
+
+word_is : (bs w : List ℕ) → Some w ≡ word_of bs → w ≡ bs
+word_is bs w read = by (is_word bs) read
+  where
+    by : (v : Bool) → Some w ≡ cond v (Some bs) None → w ≡ bs
+    by true e = cc e
+    by false e = cc e
+
+pub more_words : (parts : List (Bor (List ℕ))) (i : ℕ) (d : Bor (List ℕ)) (ws : List (List ℕ)) (w : List ℕ) → i < length parts → Some w ≡ word_of (get_or parts i d).now → ws ≡ map (λ part. part.now) (take i parts)
+    → ws ++ w ∷ [] ≡ map (λ part. part.now) (take (i + 1) parts)
+more_words parts i d ws w within read so_far =
+    let more : take (i + 1) parts ≡ take i parts ++ get_or parts i d ∷ [] = take_more parts i d within in
+    rw (more, map-append (λ (part : Bor (List ℕ)). part.now) (take i parts) (get_or parts i d ∷ []), so_far, word_is (get_or parts i d).now w read) refl

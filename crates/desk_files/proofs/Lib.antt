@@ -1,0 +1,5 @@
+pub mod FieldFacts
+pub mod ReaderFacts
+pub mod StepFacts
+pub mod ImportFacts
+pub mod TableFacts

@@ -1,0 +1,5 @@
+use Rattle.std.proofs.Common.{refl}
+use Rattle.desk_files.proofs.laws.worked_cut.Goals as goal
+
+pub returns : goal.returns
+returns c = refl

@@ -1,0 +1,7 @@
+use Rattle.std.proofs.Common.{refl}
+use Rattle.std.specs.Fmt.{digits}
+use Rattle.desk_files.proofs.laws.worked_report.Goals as goal
+
+pub returns : goal.returns
+unfolding digits
+returns c = refl

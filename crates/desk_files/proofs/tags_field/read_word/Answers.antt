@@ -1,0 +1,6 @@
+use Rattle.std.proofs.Common.{sym}
+use Rattle.desk_files.proofs.FieldFacts.{word_of-no_text}
+use Rattle.desk_files.proofs.tags_field.read_word.Goals as goal
+
+pub returns-in_default : goal.returns-in_default
+returns-in_default c = sym (word_of-no_text c.args.field.now c.in_default.ensures.cases.0)

@@ -1,0 +1,9 @@
+pub mod Columns
+pub mod Counts
+pub mod Reports
+pub mod ActionTables
+pub mod TargetRecords
+pub mod Imports
+pub mod ImportSteps
+pub mod RecordReaders
+pub mod Laws

@@ -1,0 +1,24 @@
+//! The files of the desk: the import of targets, the report of a rollout and the table of its actions.
+#![tactic(auto)]
+
+mod actions_table;
+mod columns;
+mod counts;
+mod fields;
+mod import;
+mod import_fault;
+mod imported_rows;
+mod laws;
+mod record_reader;
+mod report;
+mod tags_field;
+mod target_record;
+
+pub use actions_table::actions_csv;
+pub use import::{FILE_LIMIT, read_targets};
+pub use import_fault::ImportFault;
+pub use laws::{
+    file_limit, tables_are_csv, tags_are_joined, worked_cut, worked_fault, worked_import,
+    worked_report, worked_table,
+};
+pub use report::rollout_report;
