@@ -1,57 +1,44 @@
 -- What names no order.
-use Rattle.std.proofs.Common.{◌≡◌, ◌≢◌, Bool, true, false, inl, List, [], Option, Some, None, IfNone, Result, Ok, Err, IfErr, refl, subst, ap, ◌∙◌, codes}
-use Rattle.std.specs.Option.{option_map}
+use Rattle.std.proofs.Common.{◌≡◌, ◌≢◌, Bool, true, false, inl, List, [], Option, Some, None, IfNone, Result, Ok, Err, IfErr, refl, ap, ◌∙◌, arith, slice_index, codes}
 use Rattle.std.specs.Result.{IsErrAnd}
-use Rattle.clap.specs.Words.{Row, Text, first_of, kind_of, subcommand_name_of, subcommand_rows_of, takes}
-use Rattle.clap.specs.declared.parser.matches.ArgMatches.{ArgMatches}
-use Rattle.clap.specs.declared.parser.matches.ArgMatches.TheViews.{out-ArgMatches}
+use Rattle.clap.specs.Words.{Row, Text, first_of, kind_of, takes}
 use Rattle.clap.specs.declared.error.Error.{Error}
 use Rattle.clap.specs.declared.error.kind.ErrorKind.{ErrorKind}
 use Rattle.clap.specs.declared.error.kind.ErrorKind.TheVariants.{OutOfMemory}
-use Rattle.desk_server.specs.declared.order.Order.TheVariants.{Run}
+use Rattle.desk_server.specs.declared.order.Order.TheVariants.{Run, Serve}
+use Rattle.stream_server.specs.declared.interface.Interface.{Interface}
 use Rattle.stream_server.specs.declared.interface.Interface.TheVariants.{Management}
-use Rattle.desk_server.specs.Orders.{AreRefused, NamesOrder, interface_word, program_app}
+use Rattle.desk_server.specs.Orders.{AreRefused, NamesOrder, NamesSetup, interface_word, number_given, program_app}
+
+-- no value is given
+pub no_value : {A : Type 0} (found : Option A) (value : A) → None ≡ found → found ≡ Some value → ⊥
+no_value found value none some = let missed : None ≡ Some value = none ∙ some in cc
+
+-- the interface is none that is served
+pub unknown_interface : (rows : List Row) (word : Text) → Some word ≡ first_of (codes "interface") rows → word ≢ codes "mgmt" → ¬ NamesSetup rows
+unknown_interface rows word given other (setup, is) = go setup.interface is.interface_is
+  where
+    go : (interface : Interface) → first_of (codes "interface") rows ≡ Some (interface_word interface) → ⊥
+    go Management named =
+        let same : Some word ≡ Some (codes "mgmt") = given ∙ named in
+        let word_is : word ≡ codes "mgmt" = cc in
+        other word_is
 
 -- the values of a subcommand
 abbrev values_of : Option (Text × List Row) → List Row
 values_of (Some found) = found.1
 values_of None = []
 
--- no database is given
-pub no_db : (name : Text) (rows : List Row) → None ≡ first_of (codes "db") rows → ¬ NamesOrder (Some (name, rows))
-no_db name rows none (Run db interface approval, run) =
-    let missed : None ≡ Some db.now = none ∙ ap (λ found. first_of (codes "db") (values_of found)) run.subcommand ∙ run.db_is in cc
+-- its name
+abbrev name_of : Option (Text × List Row) → Text
+name_of (Some found) = found.0
+name_of None = []
 
--- no interface is given
-pub no_interface : (name : Text) (rows : List Row) → None ≡ first_of (codes "interface") rows → ¬ NamesOrder (Some (name, rows))
-no_interface name rows none (Run db interface approval, run) =
-    let missed : None ≡ Some (interface_word interface) = none ∙ ap (λ found. first_of (codes "interface") (values_of found)) run.subcommand ∙ run.interface_is in cc
-
--- the interface is none that is served
-pub unknown_interface : (name : Text) (rows : List Row) (word : Text) → Some word ≡ first_of (codes "interface") rows → word ≢ codes "mgmt"
-    → ¬ NamesOrder (Some (name, rows))
-unknown_interface name rows word given other (Run db Management approval, run) =
-    let same : Some word ≡ Some (codes "mgmt") = given ∙ ap (λ found. first_of (codes "interface") (values_of found)) run.subcommand ∙ run.interface_is in
-    let word_is : word ≡ codes "mgmt" = cc in
-    other word_is
-
--- a subcommand, by its name and its values
-found_by_parts : (found : Option (Text × List Row)) (name : Text) (rows : List Row)
-    → option_map (λ p. p.0) found ≡ Some name → option_map (λ p. p.1) found ≡ Some rows → found ≡ Some (name, rows)
-found_by_parts None name rows named valued = let bad : None ≡ Some name = named in cc
-found_by_parts (Some (a, b)) name rows named valued = cc
-
-option_map-map : {A B C : Type 0} (f : B → C) (g : A → B) (o : Option A) → option_map f (option_map g o) ≡ option_map (λ x. f (g x)) o
-option_map-map f g None = refl
-option_map-map f g (Some x) = refl
-
--- the subcommand that a parse met, by its name and its values
-pub met_by_parts : (m : ArgMatches) (name : Text) (rows : List Row) → subcommand_name_of m ≡ Some name
-    → option_map (λ p. p.1) (subcommand_rows_of m) ≡ Some rows → subcommand_rows_of m ≡ Some (name, rows)
-met_by_parts m name rows named = found_by_parts (subcommand_rows_of m) name rows (option_map-map _ _ (out-ArgMatches m).subcommand ∙ named)
-
-pub names_no_order : (found other : Option (Text × List Row)) → found ≡ other → ¬ NamesOrder other → ¬ NamesOrder found
-names_no_order found other same never = λ named. never (subst NamesOrder same named)
+-- the connections are no number in the range
+pub no_connections : (rows : List Row) → None ≡ number_given 1 1000000 (first_of (codes "connections") rows) → ¬ NamesOrder (Some (codes "serve", rows))
+no_connections rows none (Serve setup port connections, serve) =
+    no_value _ connections none (ap (λ found. number_given 1 1000000 (first_of (codes "connections") (values_of found))) serve.subcommand ∙ serve.connections_is)
+no_connections rows none (Run setup, run) = let bad : codes "serve" ≡ codes "run" = ap name_of run.subcommand in let first : 115 ≡ 114 = ap (λ (t : Text). slice_index t 0) bad in absurd (omega (arith, first))
 
 -- words that `clap` takes are refused for want of memory alone
 pub refused_by_clap : (words : List Text) (kind : ErrorKind) → (takes program_app words ≡ true → kind ≡ OutOfMemory) → kind ≢ OutOfMemory

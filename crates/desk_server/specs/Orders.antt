@@ -1,11 +1,13 @@
 -- The command line: the program's subcommands, and the order that the words name.
-use Rattle.std.specs.Prelude.{◌≡◌, ◌⊎◌, Bool, true, false, List, Option, Some, None, codes, bytes_eq}
+use Rattle.std.specs.Prelude.{◌≡◌, ◌⊎◌, ℕ, Bool, true, false, nat_le, ◌&&◌, if◌then◌else◌, List, Option, Some, None, option_and_then, codes, bytes_eq}
 use Rattle.clap.specs.Words.{App, Rule, Row, Text, new_app, new_rule, with_rule, with_subcommand, first_of, subcommand_of, takes}
 use Rattle.clap.specs.declared.builder.ArgAction.TheVariants.{Set, SetTrue}
+use Rattle.request_target.specs.Numbers.{number_of}
 use Rattle.stream_server.specs.declared.interface.Interface.{Interface}
 use Rattle.stream_server.specs.declared.interface.Interface.TheVariants.{Management}
+use Rattle.desk_server.specs.declared.order.Setup.{Setup}
 use Rattle.desk_server.specs.declared.order.Order.{Order}
-use Rattle.desk_server.specs.declared.order.Order.TheVariants.{Run}
+use Rattle.desk_server.specs.declared.order.Order.TheVariants.{Run, Serve}
 
 -- ---- what the command line is made of
 
@@ -24,8 +26,22 @@ approval_rule = record (new_rule (codes "approval")) { long = Some (codes "appro
 abbrev pub run_app : App
 run_app = with_rule (with_rule (with_rule (new_app (codes "run")) db_rule) interface_rule) approval_rule
 
+-- `--port N`
+abbrev pub port_rule : Rule
+port_rule = record (new_rule (codes "port")) { long = Some (codes "port"); action = Some Set; required = true }
+
+-- `--connections N`
+abbrev pub connections_rule : Rule
+connections_rule = record (new_rule (codes "connections")) { long = Some (codes "connections"); action = Some Set; required = true }
+
+abbrev pub port_app : App
+port_app = with_rule (with_rule (new_app (codes "serve")) port_rule) connections_rule
+
+abbrev pub serve_app : App
+serve_app = with_rule (with_rule (with_rule port_app db_rule) interface_rule) approval_rule
+
 abbrev pub program_app : App
-program_app = with_subcommand (new_app (codes "fwdesk")) run_app.top
+program_app = with_subcommand (with_subcommand (new_app (codes "fwdesk")) run_app.top) serve_app.top
 
 -- ---- the order
 
@@ -38,17 +54,39 @@ abbrev pub is_given : Option Text → Bool
 is_given None = false
 is_given (Some text) = bytes_eq text (codes "true")
 
+-- a number of decimal digits without a leading zero, in the range
+abbrev pub number_given : ℕ → ℕ → Option Text → Option ℕ
+number_given low high None = None
+number_given low high (Some text) = option_and_then (λ n. if nat_le low n && nat_le n high then Some n else None) (number_of text)
+
+-- what the values of a subcommand say of the desk
+pub record IsSetup (rows : List Row) (setup : Setup) : Type 0 where
+  pub db_is : first_of (codes "db") rows ≡ Some setup.db.now
+  pub interface_is : first_of (codes "interface") rows ≡ Some (interface_word setup.interface)
+  pub approval_is : setup.approval ≡ is_given (first_of (codes "approval") rows)
+
+-- they say all that every order asks
+abbrev pub NamesSetup : List Row → Type 0
+NamesSetup rows = (setup : Setup) × IsSetup rows setup
+
 -- the subcommand `run` was met, with these values
-pub record IsRun (found : Option (Text × List Row)) (db : Text) (interface : Interface) (approval : Bool) : Type 0 where
+pub record IsRun (found : Option (Text × List Row)) (setup : Setup) : Type 0 where
   pub rows : List Row
   pub subcommand : found ≡ Some (codes "run", rows)
-  pub db_is : first_of (codes "db") rows ≡ Some db
-  pub interface_is : first_of (codes "interface") rows ≡ Some (interface_word interface)
-  pub approval_is : approval ≡ is_given (first_of (codes "approval") rows)
+  pub setup_is : IsSetup rows setup
+
+-- the subcommand `serve` was met, with these values
+pub record IsServe (found : Option (Text × List Row)) (setup : Setup) (port connections : ℕ) : Type 0 where
+  pub rows : List Row
+  pub subcommand : found ≡ Some (codes "serve", rows)
+  pub setup_is : IsSetup rows setup
+  pub port_is : number_given 1 65535 (first_of (codes "port") rows) ≡ Some port
+  pub connections_is : number_given 1 1000000 (first_of (codes "connections") rows) ≡ Some connections
 
 -- what the words name, in the way that `clap` defines the matches of a simple command
 abbrev pub IsOrder : Option (Text × List Row) → Order → Type 0
-IsOrder found (Run db interface approval) = IsRun found db.now interface approval
+IsOrder found (Run setup) = IsRun found setup
+IsOrder found (Serve setup port connections) = IsServe found setup port connections
 
 -- what the words name is an order
 abbrev pub NamesOrder : Option (Text × List Row) → Type 0

@@ -1,18 +1,22 @@
 -- What the program tells, and its exit status.
-use Rattle.std.specs.Prelude.{◌≡◌, ℕ, Bool, List, [], ◌++◌, Option, Result, Ok, Err, codes}
+use Rattle.std.specs.Prelude.{◌≡◌, ◌≤◌, ℕ, Bool, true, false, List, [], ◌++◌, Option, Result, Ok, Err, IfOk, codes}
 use Rattle.std.specs.Io.KnownBytes.{Appends}
 use Rattle.sqlite_trees.specs.declared.store.Store.{Ghosts}
+use Rattle.rollout_machine.specs.CommandList.{CommandList}
+use Rattle.rollout_machine.specs.Standing.{DeskState, StandsFor, StaysStopped}
 use Rattle.rollout_desk.specs.declared.desk.Desk.{Desk}
 use Rattle.rollout_desk.specs.DeskStates.{desk_state}
 use Rattle.desk_opening.specs.declared.opening.OpenFault.{OpenFault}
 use Rattle.desk_opening.specs.declared.opening.OpenFault.TheVariants as open_fault
 use Rattle.stream_server.specs.declared.interface.Interface.{Interface}
-use Rattle.desk_server.specs.declared.order.Order.{Order}
-use Rattle.desk_server.specs.declared.order.Order.TheVariants.{Run}
+use Rattle.desk_server.specs.declared.order.Setup.{Setup}
+use Rattle.stream_server.specs.declared.listening.ListenFault.{ListenFault}
+use Rattle.stream_server.specs.declared.listening.ListenFault.TheVariants as listen_fault
 use Rattle.stream_server.specs.declared.served.Served.{Served}
 use Rattle.stream_server.specs.declared.served.ServeFault.{ServeFault}
 use Rattle.stream_server.specs.declared.served.ServeFault.TheVariants.{Read, Write, Store, Memory}
 use Rattle.stream_server.specs.Headline.{FailsBy}
+use Rattle.stream_server.specs.Listening.{Keeps, StopsAtStore}
 use Rattle.stream_server.specs.Parts.{ServesStream}
 
 -- the line of a fault
@@ -29,9 +33,14 @@ open_line open_fault.NewerVersion = codes "open 2 newer_version\n"
 open_line open_fault.Memory = codes "open 3 memory\n"
 open_line open_fault.Store = codes "open 4 store\n"
 
+-- the line of what ended the listening
+abbrev pub listen_line : ListenFault → List ℕ
+listen_line listen_fault.Store = codes "fault 3 store\n"
+listen_line listen_fault.Net = codes "fault 5 net\n"
+
 -- the exit status
-abbrev pub status_of : Result Served ServeFault → ℕ
-status_of (Ok served) = 0
+abbrev pub status_of : {A F : Type 0} → Result A F → ℕ
+status_of (Ok done) = 0
 status_of (Err fault) = 1
 
 -- the line, or a beginning of it
@@ -43,19 +52,38 @@ abbrev pub Reports : Option (List ℕ) → Option (List ℕ) → Result Served S
 Reports old new (Ok served) = Appends old new []
 Reports old new (Err fault) = Tells old new (fault_line fault)
 
--- the interface that an order serves
-abbrev pub interface_named : Order → Interface
-interface_named (Run db interface approval) = interface
-
--- The order was carried out over an opened desk: its interface was served with this outcome, which gives the status, the line that is told
+-- The order `run` was carried out over an opened desk: its interface was served with this outcome, which gives the status, the line that is told
 -- and the flags of input and output.
-pub record CarriesOut {S : Type 0} (g : Ghosts S) (order : Order) (before after : Desk S)
+pub record CarriesOut {S : Type 0} (g : Ghosts S) (setup : Setup) (before after : Desk S)
     (stream unread out out_new told told_new : Option (List ℕ)) (failed_read reading_fails failed_write writing_fails : Bool) (status : ℕ) : Type 0 where
   pub interface : Interface
-  pub named : interface ≡ interface_named order
+  pub named : interface ≡ setup.interface
   pub outcome : Result Served ServeFault
   pub serves : ServesStream interface (desk_state g before) (desk_state g after) stream unread out out_new outcome
   pub status_is : status ≡ status_of outcome
   pub reports : Reports told told_new outcome
   pub read_failed : FailsBy outcome Read failed_read reading_fails
   pub write_failed : FailsBy outcome Write failed_write writing_fails
+
+-- So many connections were served one after the other, or the port wasn't taken. What a socket gives and takes no contract can say, so this
+-- speaks of the desk and of the outcome.
+pub record Listens {File : Type 0} (bound : Bool) (connections : ℕ) (old new : DeskState File) (outcome : Result ℕ ListenFault) : Type 0 where
+  pub clean : new.is_clean → old.is_clean
+  pub keeps : (h : CommandList) → new.is_clean → StandsFor old h → Keeps new h
+  pub store : (h : CommandList) → new.is_clean → StandsFor old h → StopsAtStore new outcome
+  pub stopped : old.is_stopped ≡ true → StaysStopped old new
+  pub counts : IfOk outcome (λ served. served ≤ connections)
+  pub unbound : bound ≡ false → outcome ≡ Err listen_fault.Net
+  pub unserved : bound ≡ false → (h : CommandList) → StandsFor old h → StandsFor new h
+
+-- nothing where the connections were served, and else the line of what ended the listening
+abbrev pub ReportsOn : Option (List ℕ) → Option (List ℕ) → Result ℕ ListenFault → Type 0
+ReportsOn old new (Ok served) = Appends old new []
+ReportsOn old new (Err fault) = Tells old new (listen_line fault)
+
+-- The order `serve` was carried out over an opened desk, with this outcome, which gives the status and the line that is told.
+pub record CarriesOutOn {File : Type 0} (bound : Bool) (connections : ℕ) (before after : DeskState File) (told told_new : Option (List ℕ)) (status : ℕ) : Type 0 where
+  pub outcome : Result ℕ ListenFault
+  pub listens : Listens bound connections before after outcome
+  pub status_is : status ≡ status_of outcome
+  pub reports : ReportsOn told told_new outcome

@@ -4,6 +4,8 @@
 mod order;
 mod program;
 
-pub use crate::order::{Order, read_order};
-pub use crate::program::carry_out;
-pub use stream_server::{End, Handler, Interface, ServeFault, Served, serve};
+pub use crate::order::{Order, Setup, read_order};
+pub use crate::program::{carry_out, carry_out_on};
+pub use stream_server::{
+    End, Handler, Interface, ListenFault, ServeFault, Served, serve, serve_on,
+};

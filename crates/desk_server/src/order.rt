@@ -2,27 +2,66 @@
 
 ghost use Rattle.std.specs.Prelude.{◌≡◌, ◌≢◌, IfErr, IfOk, IfSome, IfNone, map, false, Some, codes};
 ghost use Rattle.std.specs.Option.{option_map};
-ghost use Rattle.clap.specs.Words.{rule_of, app_of, rows_of, found_of, kind_of, subcommand_of, subcommand_rows_of};
+ghost use Rattle.clap.specs.Words.{rule_of, app_of, rows_of, found_of, first_of, kind_of, subcommand_of, subcommand_rows_of};
 ghost use Rattle.clap.specs.declared.builder.command.Command.TheViews.{out-Command as fields_of};
-ghost use Rattle.desk_server.specs.Orders.{db_rule, interface_rule, approval_rule, run_app, program_app, interface_word, is_given, IsOrder, NamesOrder, AreRefused};
+ghost use Rattle.desk_server.specs.Orders.{db_rule, interface_rule, approval_rule, port_rule, connections_rule, run_app, port_app, serve_app, program_app};
+ghost use Rattle.desk_server.specs.Orders.{interface_word, is_given, number_given, IsSetup, NamesSetup, IsOrder, NamesOrder, AreRefused};
 
 use clap::error::ErrorKind;
 use clap::{Arg, ArgAction, ArgMatches, Command, Error};
+use request_target::number_or;
 use std::alloc::{AllocError, Global};
 use std::convert::AsStr;
 use stream_server::Interface;
+
+/// Which desk an order serves, and to whom.
+#[derive(Clone, Copy)]
+pub struct Setup<'a> {
+    /// The path of the database.
+    pub db: &'a str,
+    pub interface: Interface,
+    /// Whether a new desk asks for approval of each rollout.
+    pub approval: bool,
+}
 
 /// What the command line asks for.
 #[derive(Clone, Copy)]
 pub enum Order<'a> {
     /// Serves standard input to standard output.
-    Run {
-        /// The path of the database.
-        db: &'a str,
-        interface: Interface,
-        /// Whether a new desk asks for approval of each rollout.
-        approval: bool,
+    Run(Setup<'a>),
+    /// Serves so many connections to a port of this machine, one after the other.
+    Serve {
+        setup: Setup<'a>,
+        port: u16,
+        connections: u32,
     },
+}
+
+/// Why the words name no order.
+#[derive(Clone, Copy)]
+enum Misuse {
+    Subcommand,
+    Interface,
+    Port,
+    Connections,
+}
+
+impl Misuse {
+    fn kind(self) -> ErrorKind {
+        match self {
+            Misuse::Subcommand => ErrorKind::MissingSubcommand,
+            Misuse::Interface | Misuse::Port | Misuse::Connections => ErrorKind::InvalidValue,
+        }
+    }
+
+    fn text(self) -> &'static str {
+        match self {
+            Misuse::Subcommand => "a subcommand is needed: run, serve",
+            Misuse::Interface => "the interface is one of: mgmt",
+            Misuse::Port => "the port is a number from 1 to 65535",
+            Misuse::Connections => "the connections are a number from 1 to 1000000",
+        }
+    }
 }
 
 fn db<'a>(alloc: Global) -> Arg<'a>
@@ -66,11 +105,53 @@ fn run<'a>(alloc: Global) -> Result<Command<'a>, AllocError>
     with_interface.arg(approval(alloc))
 }
 
+fn port<'a>(alloc: Global) -> Arg<'a>
+    ensures rule { rule_of result ≡ port_rule }
+    ensures local { result.global ≡ false }
+{
+    Arg::new(alloc, "port")
+        .long("port")
+        .action(ArgAction::Set)
+        .required(true)
+        .help("The port of 127.0.0.1 that is served: 1 to 65535")
+}
+
+fn connections<'a>(alloc: Global) -> Arg<'a>
+    ensures rule { rule_of result ≡ connections_rule }
+    ensures local { result.global ≡ false }
+{
+    Arg::new(alloc, "connections")
+        .long("connections")
+        .action(ArgAction::Set)
+        .required(true)
+        .help("How many connections are served before it ends: 1 to 1000000")
+}
+
+/// The subcommand `serve`, of which only the port and the connections are known yet.
+fn serve_port<'a>(alloc: Global) -> Result<Command<'a>, AllocError>
+    ensures app { IfOk result (λ c. app_of c ≡ port_app) }
+    ensures local { IfOk result (λ c. (fields_of c).has_globals ≡ false) }
+{
+    let with_port = Command::new(alloc, "serve").arg(port(alloc))?;
+    with_port.arg(connections(alloc))
+}
+
+fn serve<'a>(alloc: Global) -> Result<Command<'a>, AllocError>
+    ensures app { IfOk result (λ c. app_of c ≡ serve_app) }
+    ensures local { IfOk result (λ c. (fields_of c).has_globals ≡ false) }
+{
+    let with_db = serve_port(alloc)?.arg(db(alloc))?;
+    let with_interface = with_db.arg(interface(alloc))?;
+    with_interface.arg(approval(alloc))
+}
+
 fn program<'a>(alloc: Global) -> Result<Command<'a>, AllocError>
     ensures app { IfOk result (λ c. app_of c ≡ program_app) }
 {
     let run = run(alloc)?;
-    Command::new(alloc, "fwdesk").subcommand(run)
+    let serve = serve(alloc)?;
+    let with_run = Command::new(alloc, "fwdesk").subcommand(run)?;
+    with_run.subcommand(serve)
 }
 
 fn interface_of(word: &str) -> Option<Interface>
@@ -94,35 +175,103 @@ fn is_given(word: Option<&str>) -> bool
     }
 }
 
-/// The order that the values of `run` name.
-fn run_of<'a>(matches: &ArgMatches<'a>) -> Option<Order<'a>>
-    ensures some { IfSome result (IsOrder (Some (codes "run", rows_of (found_of matches.now)))) }
-    ensures none { IfNone result (¬ NamesOrder (Some (codes "run", rows_of (found_of matches.now)))) }
+/// What the values of a subcommand say of the desk.
+fn setup_of<'a>(matches: &ArgMatches<'a>) -> Option<Setup<'a>>
+    ensures some { IfSome result (IsSetup (rows_of (found_of matches.now))) }
+    ensures none { IfNone result (¬ NamesSetup (rows_of (found_of matches.now))) }
 {
     let db = matches.get_str("db")?;
     let interface = interface_of(matches.get_str("interface")?)?;
-    Some(Order::Run {
+    Some(Setup {
         db,
         interface,
         approval: is_given(matches.get_str("approval")),
     })
 }
 
+/// The number that a text writes, in a range.
+fn number_given(text: Option<&str>, low: u32, high: u32) -> Option<u32>
+    ensures { result ≡ number_given low high (option_map (λ s. s.now) text.entry) }
+{
+    match text {
+        Some(text) => number_or(low, high, low, Some(text)),
+        None => None,
+    }
+}
+
+/// The number of an option, in a range.
+fn number(matches: &ArgMatches<'_>, id: &str, low: u32, high: u32) -> Option<u32>
+    ensures { result ≡ number_given low high (first_of id.now (rows_of (found_of matches.now))) }
+{
+    number_given(matches.get_str(id), low, high)
+}
+
+fn port_of(matches: &ArgMatches<'_>) -> Option<u16>
+    ensures { result ≡ number_given 1 65535 (first_of (codes "port") (rows_of (found_of matches.now))) }
+{
+    let number = number(matches, "port", 1, 65535)?;
+    u16::try_from(number).ok()
+}
+
+/// The order that the values of `run` name.
+fn run_of<'a>(matches: &ArgMatches<'a>) -> Result<Order<'a>, Misuse>
+    ensures ok { IfOk result (IsOrder (Some (codes "run", rows_of (found_of matches.now)))) }
+    ensures err { IfErr result (λ misuse. ¬ NamesOrder (Some (codes "run", rows_of (found_of matches.now)))) }
+{
+    let Some(setup) = setup_of(matches) else {
+        return Err(Misuse::Interface);
+    };
+    Ok(Order::Run(setup))
+}
+
+/// The order that the values of `serve` name.
+fn serve_of<'a>(matches: &ArgMatches<'a>) -> Result<Order<'a>, Misuse>
+    ensures ok { IfOk result (IsOrder (Some (codes "serve", rows_of (found_of matches.now)))) }
+    ensures err { IfErr result (λ misuse. ¬ NamesOrder (Some (codes "serve", rows_of (found_of matches.now)))) }
+{
+    let Some(setup) = setup_of(matches) else {
+        return Err(Misuse::Interface);
+    };
+    let Some(port) = port_of(matches) else {
+        return Err(Misuse::Port);
+    };
+    let Some(connections) = number(matches, "connections", 1, 1_000_000) else {
+        return Err(Misuse::Connections);
+    };
+    Ok(Order::Serve {
+        setup,
+        port,
+        connections,
+    })
+}
+
+/// The order that the matches of the program name.
+fn order_of<'a>(matches: &ArgMatches<'a>) -> Result<Order<'a>, Misuse>
+    ensures ok { IfOk result (IsOrder (subcommand_rows_of matches.now)) }
+    ensures err { IfErr result (λ misuse. ¬ NamesOrder (subcommand_rows_of matches.now)) }
+{
+    if let Some(run) = matches.subcommand_matches("run") {
+        return run_of(run);
+    }
+    if let Some(serve) = matches.subcommand_matches("serve") {
+        return serve_of(serve);
+    }
+    Err(Misuse::Subcommand)
+}
+
 /// The order that the words name, the first being the program's own name. Refused where `clap` refuses the words, where they name no
-/// subcommand, or where the interface is none that is served.
+/// subcommand, or where a value is none that its option takes.
 pub fn read_order<'a, S: AsStr>(alloc: Global, words: &'a [S]) -> Result<Order<'a>, Error>
     ensures taken { IfOk result (IsOrder (subcommand_of program_app (map S.text words.entry.now))) }
     ensures refused { IfErr result (λ error. kind_of error ≢ ErrorKind.OutOfMemory → AreRefused (map S.text words.entry.now)) }
 {
     let mut command = program(alloc)?;
     let matches = command.try_get_matches_from_mut(words)?;
-    let Some(run) = matches.subcommand_matches("run") else {
-        let error = command.error(ErrorKind::MissingSubcommand, "a subcommand is needed: run")?;
-        return Err(error);
-    };
-    let Some(order) = run_of(run) else {
-        let error = command.error(ErrorKind::InvalidValue, "the interface is one of: mgmt")?;
-        return Err(error);
-    };
-    Ok(order)
+    match order_of(&matches) {
+        Ok(order) => Ok(order),
+        Err(misuse) => {
+            let error = command.error(misuse.kind(), misuse.text())?;
+            Err(error)
+        }
+    }
 }

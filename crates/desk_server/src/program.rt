@@ -1,22 +1,24 @@
 //! What the program does with an order.
 
-ghost use Rattle.std.specs.Prelude.{◌≡◌, ◌++◌, ℕ, List, [], Result, IfErr, IfOk, IsOkAnd};
+ghost use Rattle.std.specs.Prelude.{◌≡◌, ◌++◌, ℕ, List, [], Result, is_some, IfErr, IfOk, IsOkAnd};
 ghost use Rattle.std.specs.Io.KnownBytes.{Appends, Consumes};
 ghost use Rattle.http_wire.specs.Watched.{inner_of, has_failed};
 ghost use Rattle.stream_server.specs.declared.served.Served.{Served as Outcome};
 ghost use Rattle.stream_server.specs.declared.served.ServeFault.{ServeFault as Fault};
 ghost use Rattle.stream_server.specs.Headline.{FailsBy};
-ghost use Rattle.desk_server.specs.Program.{fault_line, open_line, status_of, Tells, Reports, interface_named, CarriesOut};
+ghost use Rattle.desk_server.specs.Program.{fault_line, open_line, listen_line, status_of, Tells, Reports, CarriesOut, Listens, CarriesOutOn};
+ghost use Rattle.rollout_desk.specs.DeskStates.{desk_state};
 ghost use Rattle.stream_server.specs.Parts.{ServesStream};
 
-use crate::Order;
+use crate::Setup;
 use desk_opening::OpenFault;
 use http_wire::{Watched, write_all_counted};
 use rollout_desk::Desk;
 use sqlite::Alter;
 use std::alloc::Global;
 use std::io::{Read, Write};
-use stream_server::{Handler, Interface, ServeFault, serve};
+use std::net::TcpListener;
+use stream_server::{Handler, Interface, ListenFault, ServeFault, serve, serve_on};
 
 /// The exit status of what was done.
 const DONE: u8 = 0;
@@ -43,6 +45,15 @@ fn open_line(fault: OpenFault) -> &'static [u8]
         OpenFault::NewerVersion => b"open 2 newer_version\n",
         OpenFault::Memory => b"open 3 memory\n",
         OpenFault::Store => b"open 4 store\n",
+    }
+}
+
+fn listen_line(fault: ListenFault) -> &'static [u8]
+    ensures { result.now ≡ listen_line fault }
+{
+    match fault {
+        ListenFault::Store => b"fault 3 store\n",
+        ListenFault::Net => b"fault 5 net\n",
     }
 }
 
@@ -81,20 +92,49 @@ fn run<R: Read, W: Write, E: Write, D: Handler>(
     }
 }
 
-/// The interface that an order serves.
-fn interface_named(order: &Order<'_>) -> Interface
-    ensures { result ≡ interface_named order.now }
+/// Serves the connections to a port, or answers at once where the port wasn't taken.
+#[tactic(auto, using(stream_server::proofs::ListenLemmas::keeps_what_stands, stream_server::proofs::PartLemmas::stays))]
+fn listen<D: Handler>(
+    alloc: Global,
+    desk: &mut D,
+    interface: Interface,
+    listener: Option<&TcpListener>,
+    connections: u32,
+) -> Result<u32, ListenFault>
+    ensures { Listens (is_some listener.entry) connections (D.state desk.old) (D.state desk.new) result }
 {
-    match order {
-        Order::Run { interface, .. } => *interface,
+    match listener {
+        Some(listener) => serve_on(alloc, desk, listener, connections, interface),
+        None => Err(ListenFault::Net),
     }
 }
 
-/// Carries an order out over the desk, or tells why there is none, and answers the exit status. `file` is an import's bytes, or None
+/// Serves the connections, and tells of a fault.
+fn run_on<E: Write, D: Handler>(
+    alloc: Global,
+    desk: &mut D,
+    interface: Interface,
+    listener: Option<&TcpListener>,
+    connections: u32,
+    errors: &mut Watched<E>,
+) -> u8
+    ensures { CarriesOutOn (is_some listener.entry) connections (D.state desk.old) (D.state desk.new)
+        (E.contents (inner_of errors.old)) (E.contents (inner_of errors.new)) result }
+{
+    match listen(alloc, desk, interface, listener, connections) {
+        Ok(_) => DONE,
+        Err(fault) => {
+            tell(errors, listen_line(fault));
+            FAILED
+        }
+    }
+}
+
+/// Carries the order `run` out over the desk, or tells why there is none, and answers the exit status. `file` is an import's bytes, or None
 /// where they can't be read: no order takes a file yet.
 pub fn carry_out<R: Read, W: Write, E: Write, S: Alter>(
     alloc: Global,
-    order: &Order<'_>,
+    setup: &Setup<'_>,
     desk: &mut Result<Desk<S>, OpenFault>,
     _file: Option<&[u8]>,
     input: &mut Watched<R>,
@@ -104,7 +144,7 @@ pub fn carry_out<R: Read, W: Write, E: Write, S: Alter>(
     ensures unopened { IfErr desk.old (λ fault. (result ≡ 1) × Consumes (R.remaining (inner_of input.old)) (R.remaining (inner_of input.new)) []
         × Appends (W.contents (inner_of output.old)) (W.contents (inner_of output.new)) []
         × Tells (E.contents (inner_of errors.old)) (E.contents (inner_of errors.new)) (open_line fault)) }
-    ensures carries_out { IfOk desk.old (λ before. IsOkAnd desk.new (λ after. CarriesOut S.Store order.now before after
+    ensures carries_out { IfOk desk.old (λ before. IsOkAnd desk.new (λ after. CarriesOut S.Store setup.now before after
         (R.remaining (inner_of input.old)) (R.remaining (inner_of input.new)) (W.contents (inner_of output.old)) (W.contents (inner_of output.new))
         (E.contents (inner_of errors.old)) (E.contents (inner_of errors.new))
         (has_failed input.old) (has_failed input.new) (has_failed output.old) (has_failed output.new) result)) }
@@ -114,6 +154,30 @@ pub fn carry_out<R: Read, W: Write, E: Write, S: Alter>(
             tell(errors, open_line(*fault));
             FAILED
         }
-        Ok(desk) => run(alloc, desk, interface_named(order), input, output, errors),
+        Ok(desk) => run(alloc, desk, setup.interface, input, output, errors),
+    }
+}
+
+/// Carries the order `serve` out over the desk, or tells why there is none, and answers the exit status. `listener` is None where the port
+/// wasn't taken.
+pub fn carry_out_on<E: Write, S: Alter>(
+    alloc: Global,
+    setup: &Setup<'_>,
+    desk: &mut Result<Desk<S>, OpenFault>,
+    listener: Option<&TcpListener>,
+    connections: u32,
+    errors: &mut Watched<E>,
+) -> u8
+    ensures unopened { IfErr desk.old (λ fault. (result ≡ 1)
+        × Tells (E.contents (inner_of errors.old)) (E.contents (inner_of errors.new)) (open_line fault)) }
+    ensures carries_out { IfOk desk.old (λ before. IsOkAnd desk.new (λ after. CarriesOutOn (is_some listener.entry) connections
+        (desk_state S.Store before) (desk_state S.Store after) (E.contents (inner_of errors.old)) (E.contents (inner_of errors.new)) result)) }
+{
+    match desk {
+        Err(fault) => {
+            tell(errors, open_line(*fault));
+            FAILED
+        }
+        Ok(desk) => run_on(alloc, desk, setup.interface, listener, connections, errors),
     }
 }

@@ -2,12 +2,13 @@
 #![tactic(auto)]
 
 use desk_opening::OpenFault;
-use desk_server::{Order, carry_out, read_order};
+use desk_server::{Order, Setup, carry_out, carry_out_on, read_order};
 use http_wire::Watched;
 use rollout_desk::Desk;
 use sqlite::{FileFrom, FileStore, Unknown};
 use std::alloc::Global;
 use std::env;
+use std::net::{Ipv4Addr, TcpListener};
 use std::process::ExitCode;
 
 /// The exit status of a command line that is refused.
@@ -25,19 +26,51 @@ fn words(rt: &HostRuntime, alloc: Global) -> Option<Vec<String>> {
 /// A desk in a file of the host.
 type FileDesk = Desk<FileStore<FileFrom<Unknown>>>;
 
-/// Opens the order's desk and carries the order out over standard input, output and error.
-fn carry_out_from(rt: &HostRuntime, alloc: Global, order: &Order<'_>) -> u8 {
-    let Order::Run { db, approval, .. } = order;
-    let mut desk: Result<FileDesk, OpenFault> = Desk::reopen_path(rt, db, Unknown, *approval);
+fn opened(rt: &HostRuntime, setup: &Setup<'_>) -> Result<FileDesk, OpenFault> {
+    Desk::reopen_path(rt, setup.db, Unknown, setup.approval)
+}
+
+/// Opens the desk and serves standard input to standard output.
+fn run(rt: &HostRuntime, alloc: Global, setup: &Setup<'_>) -> u8 {
+    let mut desk = opened(rt, setup);
     carry_out(
         alloc,
-        order,
+        setup,
         &mut desk,
         None,
         &mut Watched::new(rt.stdin()),
         &mut Watched::new(rt.stdout()),
         &mut Watched::new(rt.stderr()),
     )
+}
+
+/// Opens the desk, takes the port and serves its connections.
+fn serve(rt: &HostRuntime, alloc: Global, setup: &Setup<'_>, port: u16, connections: u32) -> u8 {
+    let mut desk = opened(rt, setup);
+    let listener = match &desk {
+        Ok(_) => TcpListener::bind(rt, (Ipv4Addr::LOCALHOST, port)).ok(),
+        Err(_) => None,
+    };
+    let mut errors = Watched::new(rt.stderr());
+    carry_out_on(
+        alloc,
+        setup,
+        &mut desk,
+        listener.as_ref(),
+        connections,
+        &mut errors,
+    )
+}
+
+fn carry_out_from(rt: &HostRuntime, alloc: Global, order: &Order<'_>) -> u8 {
+    match order {
+        Order::Run(setup) => run(rt, alloc, setup),
+        Order::Serve {
+            setup,
+            port,
+            connections,
+        } => serve(rt, alloc, setup, *port, *connections),
+    }
 }
 
 fn main(rt: HostRuntime) -> ExitCode {

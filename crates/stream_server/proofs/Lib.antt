@@ -4,3 +4,4 @@ pub mod PartLemmas
 pub mod MessageLemmas
 pub mod HeadlineLemmas
 pub mod ExitLemmas
+pub mod ListenLemmas

@@ -100,10 +100,10 @@ takes_more old middle new ms ns before step fed given b =
 
 -- ---- a stopped desk
 
-stays : {File : Type 0} (s : DeskState File) → s.is_stopped ≡ true → StaysStopped s s
+pub stays : {File : Type 0} (s : DeskState File) → s.is_stopped ≡ true → StaysStopped s s
 stays s stopped = record { stopped = stopped; crash = λ file leaves. leaves; holds = λ file h holds. holds }
 
-stays_on : {File : Type 0} (s t u : DeskState File) → (s.is_stopped ≡ true → StaysStopped s t) → (t.is_stopped ≡ true → StaysStopped t u) → s.is_stopped ≡ true → StaysStopped s u
+pub stays_on : {File : Type 0} (s t u : DeskState File) → (s.is_stopped ≡ true → StaysStopped s t) → (t.is_stopped ≡ true → StaysStopped t u) → s.is_stopped ≡ true → StaysStopped s u
 stays_on s t u first second stopped =
     let a = first stopped in
     let b = second a.stopped in record { stopped = b.stopped; crash = λ file leaves. a.crash file (b.crash file leaves); holds = λ file h holds. b.holds file h (a.holds file h holds) }

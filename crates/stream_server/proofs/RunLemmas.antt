@@ -8,7 +8,7 @@ use Rattle.rollout_machine.specs.Requests.{one}
 use Rattle.stream_server.specs.Interfaces.{reply_text}
 use Rattle.stream_server.specs.Run.{Exchange, messages_of, accepted_in, texts_of, Answering, IsRun, GoesOn}
 
-followed_append : (h : CommandList) (cs ds : List Command) → followed_by h (cs ++ ds) ≡ followed_by (followed_by h cs) ds
+pub followed_append : (h : CommandList) (cs ds : List Command) → followed_by h (cs ++ ds) ≡ followed_by (followed_by h cs) ds
 followed_append h [] ds = refl
 followed_append h (c ∷ cs) ds = followed_append (h ▸ c) cs ds
 

@@ -3,3 +3,4 @@ pub mod Run
 pub mod Headline
 pub mod Parts
 pub mod Reading
+pub mod Listening

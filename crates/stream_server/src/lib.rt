@@ -4,6 +4,7 @@
 mod answer;
 mod bytes;
 mod interface;
+mod listening;
 mod reply;
 mod routes;
 mod served;
@@ -11,6 +12,7 @@ mod serving;
 mod stream;
 
 pub use crate::interface::Interface;
+pub use crate::listening::{ListenFault, serve_on};
 pub use crate::served::{ServeFault, Served};
 pub use crate::serving::serve;
 pub use http_wire::End;

@@ -1,0 +1,6 @@
+use Rattle.std.proofs.Common.{◌≤◌, Ok}
+use Rattle.stream_server.specs.Listening.{KeepsOn}
+use Rattle.stream_server.proofs.listening.serve_on.Given as goal
+
+abbrev pub invariant-loop : goal.invariant-loop
+invariant-loop g l = KeepsOn (g.D.Handler.state l.initial.desk) (g.D.Handler.state l.desk) (Ok l.served) × (l.served ≤ l.counter)

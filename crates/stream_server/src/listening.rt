@@ -1,0 +1,69 @@
+//! Serving connections, one after the other.
+
+ghost use Rattle.std.specs.Prelude.{◌≡◌, ◌≤◌, true, IfOk};
+ghost use Rattle.rollout_machine.specs.CommandList.{CommandList};
+ghost use Rattle.rollout_machine.specs.Standing.{StandsFor, StaysStopped};
+ghost use Rattle.stream_server.specs.Listening.{Keeps, KeepsOn, StopsAtStore};
+
+use crate::serving::serve;
+use crate::{Interface, ServeFault};
+use http_wire::Watched;
+use rollout_machine::Handler;
+use std::alloc::Global;
+use std::net::TcpListener;
+
+/// Why no further connection is served.
+#[derive(Clone, Copy)]
+pub enum ListenFault {
+    /// The store failed: the desk is stopped.
+    Store,
+    /// A connection couldn't be accepted.
+    Net,
+}
+
+/// Serves the next connection, and says whether it was served to its end.
+fn serve_next<D: Handler>(
+    alloc: Global,
+    desk: &mut D,
+    listener: &TcpListener,
+    interface: Interface,
+) -> Result<bool, ListenFault>
+    ensures { KeepsOn (D.state desk.old) (D.state desk.new) result }
+{
+    let Ok((stream, _peer)) = listener.accept() else {
+        return Err(ListenFault::Net);
+    };
+    let mut reader = Watched::new(&stream);
+    let mut writer = Watched::new(&stream);
+    match serve(alloc, desk, &mut reader, &mut writer, interface) {
+        Ok(_) => Ok(true),
+        Err(ServeFault::Store) => Err(ListenFault::Store),
+        Err(ServeFault::Read | ServeFault::Write | ServeFault::Memory) => Ok(false),
+    }
+}
+
+/// Serves so many connections one after the other, and counts those that were served to their end. A fault of reading, writing or memory
+/// ends its connection alone.
+pub fn serve_on<D: Handler>(
+    alloc: Global,
+    desk: &mut D,
+    listener: &TcpListener,
+    connections: u32,
+    interface: Interface,
+) -> Result<u32, ListenFault>
+    ensures clean { (D.state desk.new).is_clean → (D.state desk.old).is_clean }
+    ensures keeps { (h : CommandList) → (D.state desk.new).is_clean → StandsFor (D.state desk.old) h → Keeps (D.state desk.new) h }
+    ensures store { (h : CommandList) → (D.state desk.new).is_clean → StandsFor (D.state desk.old) h → StopsAtStore (D.state desk.new) result }
+    ensures stopped { (D.state desk.old).is_stopped ≡ true → StaysStopped (D.state desk.old) (D.state desk.new) }
+    ensures counts { IfOk result (λ served. served ≤ connections) }
+{
+    let mut served = 0;
+    for _ in 0..connections {
+        match serve_next(alloc, desk, listener, interface) {
+            Ok(true) => served += 1,
+            Ok(false) => {}
+            Err(fault) => return Err(fault),
+        }
+    }
+    Ok(served)
+}
