@@ -9,8 +9,9 @@ const AUTHORIZATION: &str = "Authorization: TargetToken tok-dev-01\r\n";
 
 fn message_bytes(alloc: Global, head: &str, fields: &str, body: &str) -> Option<Vec<u8>> {
     let size = body.len();
-    let text =
-        format!(in alloc; "{head} HTTP/1.1\r\n{fields}Content-Length: {size}\r\n\r\n{body}").ok()?;
+    let text = format!(in alloc;
+        "{head} HTTP/1.1\r\n{fields}Content-Length: {size}\r\n\r\n{body}"
+    ).ok()?;
     Some(text.into_bytes())
 }
 
@@ -54,7 +55,10 @@ const HEADS: [(&str, u8); 16] = [
     ("GET /DEFAULT/controller/v1/dev-01/deploymentBase/1", 0),
     ("GET /DEFAULT/controller/v1/dev-01/deploymentBase/01", 3),
     ("GET /DEFAULT/controller/v1/dev-01/cancelAction/0?x=1", 3),
-    ("GET /DEFAULT/controller/v1/dev-01/cancelAction/2147483647", 0),
+    (
+        "GET /DEFAULT/controller/v1/dev-01/cancelAction/2147483647",
+        0,
+    ),
     (
         "GET /DEFAULT/controller/v1/dev-01/softwaremodules/1/artifacts/abc.bin",
         0,
@@ -92,7 +96,10 @@ const FIELDS: [(&str, u8); 9] = [
     ("Authorization: TargetToken tok-dev\r\n", 2),
     ("Authorization: TargetToken tok-dev-01 x\r\n", 2),
     ("Authorization: TargetToken\r\n", 2),
-    ("Authorization: TargetToken tok-dev-01\r\nAUTHORIZATION: TargetToken tok-dev-01\r\n", 2),
+    (
+        "Authorization: TargetToken tok-dev-01\r\nAUTHORIZATION: TargetToken tok-dev-01\r\n",
+        2,
+    ),
     ("Authorization:TargetToken tok-dev-01\t \r\n", 0),
 ];
 
@@ -105,23 +112,76 @@ fn fields(rt: HostRuntime) {
 }
 
 const FEEDBACK: &str = "POST /DEFAULT/controller/v1/dev-01/deploymentBase/1/feedback";
+
 const CANCEL: &str = "POST /DEFAULT/controller/v1/dev-01/cancelAction/1/feedback";
 
 /// Bodies, each with the refusal's number on a deployment and on a cancel.
 const BODIES: [(&str, u8, u8); 14] = [
-    ("{\"status\":{\"execution\":\"closed\",\"result\":{\"finished\":\"success\"}}}", 0, 0),
-    ("{\"status\":{\"execution\":\"closed\",\"result\":{\"finished\":\"failure\"}}}", 0, 1),
-    ("{\"status\":{\"execution\":\"canceled\",\"result\":{\"finished\":\"success\"}}}", 1, 0),
-    ("{\"status\":{\"execution\":\"closed\",\"result\":{\"finished\":\"none\"}}}", 1, 1),
-    ("{\"status\":{\"execution\":\"rejected\",\"result\":{\"finished\":\"none\"}}}", 0, 0),
-    ("{\"status\":{\"execution\":\"rejected\",\"result\":{\"finished\":\"success\"}}}", 1, 1),
-    ("{\"status\":{\"execution\":\"resumed\",\"result\":{\"finished\":\"none\"},\"details\":[]}}", 0, 0),
-    ("{\"status\":{\"execution\":\"resumed\",\"result\":{\"finished\":\"none\"},\"details\":null}}", 1, 1),
-    ("{\"status\":{\"execution\":\"resumed\",\"result\":{\"finished\":\"none\"},\"details\":[1]}}", 1, 1),
-    ("{\"status\":{\"execution\":\"resumed\",\"result\":{\"finished\":\"none\"},\"details\":[\"\",\"2\",\"3\",\"4\",\"5\",\"6\",\"7\",\"8\"]}}", 0, 0),
-    ("{\"status\":{\"execution\":\"resumed\",\"result\":{\"finished\":\"none\"},\"details\":[\"\",\"2\",\"3\",\"4\",\"5\",\"6\",\"7\",\"8\",\"9\"]}}", 1, 1),
-    ("{\"status\":{\"execution\":\"resumed\",\"result\":{\"finished\":\"none\"},\"details\":[\"\\n\"]}}", 1, 1),
-    ("{\"status\":{\"execution\":\"resumed\",\"finished\":\"none\"}}", 1, 1),
+    (
+        "{\"status\":{\"execution\":\"closed\",\"result\":{\"finished\":\"success\"}}}",
+        0,
+        0,
+    ),
+    (
+        "{\"status\":{\"execution\":\"closed\",\"result\":{\"finished\":\"failure\"}}}",
+        0,
+        1,
+    ),
+    (
+        "{\"status\":{\"execution\":\"canceled\",\"result\":{\"finished\":\"success\"}}}",
+        1,
+        0,
+    ),
+    (
+        "{\"status\":{\"execution\":\"closed\",\"result\":{\"finished\":\"none\"}}}",
+        1,
+        1,
+    ),
+    (
+        "{\"status\":{\"execution\":\"rejected\",\"result\":{\"finished\":\"none\"}}}",
+        0,
+        0,
+    ),
+    (
+        "{\"status\":{\"execution\":\"rejected\",\"result\":{\"finished\":\"success\"}}}",
+        1,
+        1,
+    ),
+    (
+        "{\"status\":{\"execution\":\"resumed\",\"result\":{\"finished\":\"none\"},\"details\":[]}}",
+        0,
+        0,
+    ),
+    (
+        "{\"status\":{\"execution\":\"resumed\",\"result\":{\"finished\":\"none\"},\"details\":null}}",
+        1,
+        1,
+    ),
+    (
+        "{\"status\":{\"execution\":\"resumed\",\"result\":{\"finished\":\"none\"},\"details\":[1]}}",
+        1,
+        1,
+    ),
+    (
+        "{\"status\":{\"execution\":\"resumed\",\"result\":{\"finished\":\"none\"},\"details\":[\"\",\"2\",\"3\",\"4\",\"5\",\"6\",\"7\",\"8\"]}}",
+        0,
+        0,
+    ),
+    (
+        "{\"status\":{\"execution\":\"resumed\",\"result\":{\"finished\":\"none\"},\"details\":[\"\",\"2\",\"3\",\"4\",\"5\",\"6\",\"7\",\"8\",\"9\"]}}",
+        1,
+        1,
+    ),
+    (
+        "{\"status\":{\"execution\":\"resumed\",\"result\":{\"finished\":\"none\"},\"details\":[\"\\n\"]}}",
+        1,
+        1,
+    ),
+    (
+        "{\"status\":{\"execution\":\"resumed\",\"finished\":\"none\"}}",
+        1,
+        1,
+    ),
     ("[]", 1, 1),
 ];
 
@@ -169,5 +229,8 @@ fn given(alloc: Global, body: &str) -> Option<usize> {
 #[test]
 fn of_equal_keys_the_last_counts(rt: HostRuntime) {
     let alloc = rt.alloc();
-    assert_eq!(rt; given(alloc, "{\"data\":{\"os\":\"a\",\"os\":\"b\",\"hw\":\"2\"}}"), Some(2));
+    assert_eq!(rt;
+        given(alloc, "{\"data\":{\"os\":\"a\",\"os\":\"b\",\"hw\":\"2\"}}"),
+        Some(2)
+    );
 }

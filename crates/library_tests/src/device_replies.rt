@@ -38,8 +38,14 @@ const DONE: &[u8] =
 #[test]
 fn polls(rt: HostRuntime) {
     let alloc = rt.alloc();
-    assert_eq!(rt; is_written(alloc, poll("dev-01", None), NOTHING), Some(true));
-    assert_eq!(rt; is_written(alloc, poll("dev-04", offer(4, false)), DEPLOYMENT), Some(true));
+    assert_eq!(rt;
+        is_written(alloc, poll("dev-01", None), NOTHING),
+        Some(true)
+    );
+    assert_eq!(rt;
+        is_written(alloc, poll("dev-04", offer(4, false)), DEPLOYMENT),
+        Some(true)
+    );
 }
 
 #[test]

@@ -10,7 +10,8 @@ use crate::{Interface, ServeFault};
 use http_wire::Watched;
 use rollout_machine::Handler;
 use std::alloc::Global;
-use std::net::TcpListener;
+use std::io::Read;
+use std::net::{Shutdown, TcpListener, TcpStream};
 
 /// Why no further connection is served.
 #[derive(Clone, Copy)]
@@ -19,6 +20,42 @@ pub enum ListenFault {
     Store,
     /// A connection couldn't be accepted.
     Net,
+}
+
+/// How many reads are made of what a client still sends once its connection is served.
+const LAST_READS: u32 = 1024;
+
+/// Ends the writing half of a connection and reads what the client still sends, up to 4 MiB: closing a connection with bytes unread takes
+/// back a reply that the client hasn't read yet.
+fn let_go(mut stream: &TcpStream) {
+    let Ok(()) = stream.shutdown(Shutdown::Write) else {
+        return;
+    };
+    let mut rest = [0; 4096];
+    for _ in 0..LAST_READS {
+        match stream.read(&mut rest) {
+            Ok(0) | Err(_) => return,
+            Ok(_) => {}
+        }
+    }
+}
+
+/// Serves a connection, and says whether it was served to its end.
+fn serve_connection<D: Handler>(
+    alloc: Global,
+    desk: &mut D,
+    stream: &TcpStream,
+    interface: Interface,
+) -> Result<bool, ListenFault>
+    ensures { KeepsOn (D.state desk.old) (D.state desk.new) result }
+{
+    let mut reader = Watched::new(stream);
+    let mut writer = Watched::new(stream);
+    match serve(alloc, desk, &mut reader, &mut writer, interface) {
+        Ok(_) => Ok(true),
+        Err(ServeFault::Store) => Err(ListenFault::Store),
+        Err(ServeFault::Read | ServeFault::Write | ServeFault::Memory) => Ok(false),
+    }
 }
 
 /// Serves the next connection, and says whether it was served to its end.
@@ -33,13 +70,9 @@ fn serve_next<D: Handler>(
     let Ok((stream, _peer)) = listener.accept() else {
         return Err(ListenFault::Net);
     };
-    let mut reader = Watched::new(&stream);
-    let mut writer = Watched::new(&stream);
-    match serve(alloc, desk, &mut reader, &mut writer, interface) {
-        Ok(_) => Ok(true),
-        Err(ServeFault::Store) => Err(ListenFault::Store),
-        Err(ServeFault::Read | ServeFault::Write | ServeFault::Memory) => Ok(false),
-    }
+    let told = serve_connection(alloc, desk, &stream, interface);
+    let_go(&stream);
+    told
 }
 
 /// Serves so many connections one after the other, and counts those that were served to their end. A fault of reading, writing or memory
