@@ -26,43 +26,37 @@ pub(super) fn next_of(contents: &[u8]) -> (&[u8], &[u8]) {
     contents.split_at(contents.len().min(PIECE))
 }
 
-/// How many pieces a download hands out, which are the contents one after the other. `None` where one isn't.
-fn handed_out<S: Alter>(
+/// Whether a download hands out so many pieces, which are the contents one after the other, and then no more.
+fn hands_all_out<S: Alter>(
     desk: &mut Desk<S>,
     mut download: Download,
     contents: &[u8],
-) -> Option<usize> {
+    count: usize,
+) -> bool {
     let mut rest = contents;
-    let mut count: usize = 0;
-    while !rest.is_empty() {
+    for _ in 0..count {
         let (piece, more) = next_of(rest);
-        if hands_out(desk, &mut download, piece) != Ok(true) {
-            return None;
+        if piece.is_empty() || hands_out(desk, &mut download, piece) != Ok(true) {
+            return false;
         }
         rest = more;
-        count = count.saturating_add(1);
     }
-    if hands_out(desk, &mut download, &[]) == Ok(true) {
-        Some(count)
-    } else {
-        None
-    }
+    rest.is_empty() && hands_out(desk, &mut download, &[]) == Ok(true)
 }
 
-/// In how many pieces a new artifact of so many bytes comes back.
-fn pieces_of<S: Alter>(
+/// Whether a new artifact of so many bytes comes back in so many pieces.
+fn comes_back<S: Alter>(
     alloc: Global,
     desk: &mut Desk<S>,
-    number: u32,
-    size: usize,
-) -> Option<usize> {
-    let name = format!(in alloc; "{size}").ok()?;
-    let _ = desk.apply(&uploads(alloc, &name, size)?);
+    artifact: (u32, &str, usize),
+    count: usize,
+) -> Option<bool> {
+    let (number, name, size) = artifact;
+    let contents = bytes(alloc, size)?;
+    let _ = desk.apply(&uploads(alloc, name, size)?);
     let download = desk.download(&asks_contents(number)?).ok()?;
-    if download.size() as usize != size {
-        return None;
-    }
-    handed_out(desk, download, &bytes(alloc, size)?)
+    let is_sized = download.size() as usize == size;
+    Some(is_sized && hands_all_out(desk, download, &contents, count))
 }
 
 fn with_module(alloc: Global) -> Option<Desk<MemStore>> {
@@ -71,18 +65,20 @@ fn with_module(alloc: Global) -> Option<Desk<MemStore>> {
 }
 
 /// Whether contents of these sizes come back in so many pieces.
-fn come_back<S: Alter>(alloc: Global, desk: &mut Desk<S>) -> bool {
-    pieces_of(alloc, desk, 1, 0) == Some(0)
-        && pieces_of(alloc, desk, 2, 1) == Some(1)
-        && pieces_of(alloc, desk, 3, 65_536) == Some(1)
-        && pieces_of(alloc, desk, 4, 65_537) == Some(2)
-        && pieces_of(alloc, desk, 5, 1_048_576) == Some(16)
+fn come_back<S: Alter>(alloc: Global, desk: &mut Desk<S>) -> Option<bool> {
+    Some(
+        comes_back(alloc, desk, (1, "none", 0), 0)?
+            && comes_back(alloc, desk, (2, "one", 1), 1)?
+            && comes_back(alloc, desk, (3, "piece", 65_536), 1)?
+            && comes_back(alloc, desk, (4, "more", 65_537), 2)?
+            && comes_back(alloc, desk, (5, "largest", 1_048_576), 16)?,
+    )
 }
 
 #[test]
 fn contents_come_in_pieces(rt: HostRuntime) {
     match with_module(rt.alloc()) {
-        Some(mut desk) => assert!(rt; come_back(rt.alloc(), &mut desk)),
+        Some(mut desk) => assert!(rt; come_back(rt.alloc(), &mut desk) == Some(true)),
         None => assert!(rt; false, "memory"),
     }
 }
@@ -103,7 +99,7 @@ fn goes_on<S: Alter>(alloc: Global, desk: &mut Desk<S>) -> Option<bool> {
     let is_begun = hands_out(desk, &mut early, first) == Ok(true);
     let is_taken = takes(desk, &adds(alloc, "2")?);
     let again = desk.download(&query).ok()?;
-    let is_whole = handed_out(desk, again, &contents) == Some(2);
+    let is_whole = hands_all_out(desk, again, &contents, 2);
     Some(is_begun && is_taken && is_whole && hands_out(desk, &mut early, second) == Ok(true))
 }
 

@@ -10,11 +10,7 @@ mod calls;
 #[cfg(test)]
 mod downloads;
 #[cfg(test)]
-mod failing_downloads;
-#[cfg(test)]
 mod memory_of_downloads;
-#[cfg(test)]
-mod program;
 #[cfg(test)]
 mod puts;
 #[cfg(test)]
