@@ -2,6 +2,7 @@
 import os
 import re
 import select
+import shlex
 import shutil
 import sqlite3
 import subprocess
@@ -240,9 +241,9 @@ class Reader:
         if key in (">", ">>", "<", "<<"):
             self.item = key, text
         elif key == "program":
-            self.begin(text.split())
+            self.begin(shlex.split(text))
         elif key == "again":
-            self.begin(text.split() or (self.case.processes[-1].words if self.case.processes else DEFAULT))
+            self.begin(shlex.split(text) or (self.case.processes[-1].words if self.case.processes else DEFAULT))
         elif key == "exit":
             self.process().status = int(text)
         elif key == "err":
