@@ -327,6 +327,8 @@ def rows_of(database, query):
     connection = sqlite3.connect(database)
     try:
         return ["|".join(map(text_of, row)) for row in connection.execute(query)]
+    except sqlite3.Error as error:
+        return [f"error: {error}"]
     finally:
         connection.close()
 
