@@ -334,9 +334,10 @@ def rows_of(database, query):
 
 
 def started(words, database, program, **how):
-    words = [str(program), *(it.replace("{db}", str(database)) for it in words)]
+    # under its own name, whatever its file is called: clap's texts tell it
+    words = ["fwdesk", *(it.replace("{db}", str(database)) for it in words)]
     pipes = dict.fromkeys(("stdin", "stdout", "stderr"), subprocess.PIPE)
-    return subprocess.Popen(words, **pipes, **how)
+    return subprocess.Popen(words, executable=str(program), **pipes, **how)
 
 
 def fed(child, pieces):
