@@ -42,6 +42,12 @@ static void open_store(const char *path) {
         "CREATE TABLE IF NOT EXISTS target (controller TEXT NOT NULL PRIMARY KEY, name TEXT NOT NULL, digest BLOB NOT NULL) STRICT;"
         "CREATE TABLE IF NOT EXISTS target_tag (controller TEXT NOT NULL, tag TEXT NOT NULL, PRIMARY KEY (controller, tag)) STRICT;"
         "CREATE TABLE IF NOT EXISTS target_attribute (controller TEXT NOT NULL, key TEXT NOT NULL, value TEXT NOT NULL, PRIMARY KEY (controller, key)) STRICT;"
+        "CREATE TABLE IF NOT EXISTS rollout (number INTEGER PRIMARY KEY, name TEXT NOT NULL UNIQUE, dset INTEGER NOT NULL, filter_text TEXT NOT NULL, groups INTEGER NOT NULL, success INTEGER NOT NULL, error INTEGER NOT NULL, approval INTEGER NOT NULL, started INTEGER NOT NULL, paused INTEGER NOT NULL) STRICT;"
+        "CREATE TABLE IF NOT EXISTS member (rollout INTEGER NOT NULL, place INTEGER NOT NULL, controller TEXT NOT NULL, PRIMARY KEY (rollout, place)) STRICT;"
+        "CREATE TABLE IF NOT EXISTS rollout_group (rollout INTEGER NOT NULL, number INTEGER NOT NULL, first_place INTEGER NOT NULL, last_place INTEGER NOT NULL, started INTEGER NOT NULL, ok INTEGER NOT NULL, bad INTEGER NOT NULL, gone INTEGER NOT NULL, PRIMARY KEY (rollout, number), UNIQUE (rollout, last_place), UNIQUE (rollout, started, last_place)) STRICT;"
+        "CREATE TABLE IF NOT EXISTS action (number INTEGER PRIMARY KEY, rollout INTEGER NOT NULL, place INTEGER NOT NULL, controller TEXT NOT NULL, canceling INTEGER NOT NULL, outcome INTEGER NOT NULL, notes INTEGER NOT NULL, entries INTEGER NOT NULL, UNIQUE (rollout, place), UNIQUE (controller, number)) STRICT;"
+        "CREATE TABLE IF NOT EXISTS feedback (action INTEGER NOT NULL, sequence INTEGER NOT NULL, kind INTEGER NOT NULL, word INTEGER NOT NULL, details TEXT NOT NULL, PRIMARY KEY (action, sequence)) STRICT;"
+        "CREATE TABLE IF NOT EXISTS offer (controller TEXT NOT NULL PRIMARY KEY, action INTEGER NOT NULL, kind INTEGER NOT NULL) STRICT;"
         "INSERT OR IGNORE INTO desk (id, format, version, approval) VALUES (1, 'fwdesk', 1, 0);"
         "COMMIT;";
     if (sqlite3_exec(db, setup, NULL, NULL, NULL) != SQLITE_OK) die("setup");

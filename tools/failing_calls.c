@@ -13,8 +13,10 @@
               byte   all of them together move FAIL_AT - 1 bytes, and then they fail
               ends   all of them together move FAIL_AT - 1 bytes, and then there are no more: an input that ends early
    FAIL_MUTE  set: each write to standard error fails
+   FAIL_SEED  a number: the random bytes that the program asks for come of it, so that runs which write the same leave equal files
    FAIL_TELL  a file descriptor, to which a line goes that says which call was disturbed, and how much of standard output was written before it
-   FAIL_KEEP  a path: after each sync of the database, or of its log, that succeeds, a copy lies under this path, or under it and `-wal` */
+   FAIL_KEEP  a path: after each sync of the database, or of its log, that succeeds, a copy lies under this path, or under it and `-wal`. What
+              lies there at the beginning has to be a copy too: from then on only what was changed is written */
 
 typedef unsigned long size_t;
 typedef long ssize_t;
@@ -37,6 +39,8 @@ extern int *__errno_location(void);
 
 enum { E_IO = 5, E_NO_MEMORY = 12, E_NO_SPACE = 28, E_PIPE = 32 };
 enum { WRITE_ONLY = 01, CREATE = 0100, TRUNCATE = 01000 };
+/* further than any file reaches */
+#define FAR (1l << 62)
 enum { ENDED = 137, FILES = 1024, PATH = 4096 };
 
 enum kind { NONE, MEMORY, INPUT, OUTPUT, DATABASE, LOG };
@@ -51,8 +55,12 @@ enum call { ASKS, READS, WRITES };
 static int begun, kind, way, tell = -1, mute, told, ends;
 static long at, seen;
 static size_t moved, output;
+static unsigned long random;
 static const char *file, *keep;
 static unsigned char kinds[FILES];
+
+/* of the database and the log, since the last sync: from where to where they may have changed, and to what length they were cut */
+static struct { off_t first, behind, length; } changed[] = {{FAR, 0, FAR}, {FAR, 0, FAR}, {FAR, 0, FAR}, {FAR, 0, FAR}, {FAR, 0, FAR}, {FAR, 0, FAR}};
 
 static ssize_t (*next_read)(int, void *, size_t);
 static ssize_t (*next_write)(int, const void *, size_t);
@@ -98,6 +106,7 @@ __attribute__((constructor)) static void begin(void) {
   tell = (int)number_of("FAIL_TELL", -1);
   mute = getenv("FAIL_MUTE") != 0;
   at = number_of("FAIL_AT", 0);
+  random = (unsigned long)number_of("FAIL_SEED", 0);
   way = place_of(getenv("FAIL_WAY"), WAYS);
   kind = place_of(getenv("FAIL_KIND"), KINDS);
 }
@@ -224,20 +233,42 @@ static int kind_of_path(const char *path) {
   return LOG;
 }
 
-/* Copies a file that was synced to where the copies are kept. A folder has no bytes to copy. */
+/* Notes that a file changed from one place to another. */
+static void changes(int of, off_t first, off_t behind) {
+  if (first < changed[of].first)
+    changed[of].first = first;
+  if (behind > changed[of].behind)
+    changed[of].behind = behind;
+}
+
+/* Notes that a file was cut, or made longer, to a length. */
+static void cuts(int of, off_t length) {
+  changes(of, length, FAR);
+  if (length < changed[of].length)
+    changed[of].length = length;
+}
+
+/* Brings the kept copy of a file that was synced up to what it is. A folder has no bytes to copy. */
 static void copy(int from) {
   char path[PATH], part[65536];
   int of = kind_of(from);
-  ssize_t count = next_pread(from, part, sizeof part, 0);
-  if (!keep || of < DATABASE || count < 0)
+  if (!keep || of < DATABASE || next_pread(from, part, 1, 0) < 0)
     return;
   snprintf(path, sizeof path, "%s%s", keep, of == LOG ? "-wal" : "");
-  int to = next_open(path, WRITE_ONLY | CREATE | TRUNCATE, 0600);
-  for (off_t place = 0; count > 0; count = next_pread(from, part, sizeof part, place)) {
-    next_write(to, part, (size_t)count);
+  int to = next_open(path, WRITE_ONLY | CREATE, 0600);
+  if (changed[of].length < FAR)
+    next_ftruncate(to, changed[of].length);
+  for (off_t place = changed[of].first; place < changed[of].behind;) {
+    size_t left = (size_t)(changed[of].behind - place);
+    ssize_t count = next_pread(from, part, left < sizeof part ? left : sizeof part, place);
+    if (count <= 0)
+      break;
+    next_pwrite(to, part, (size_t)count, place);
     place += count;
   }
   next_close(to);
+  changed[of].first = changed[of].length = FAR;
+  changed[of].behind = 0;
 }
 
 int open(const char *path, int flags, ...) {
@@ -250,6 +281,8 @@ int open(const char *path, int flags, ...) {
   unsigned mode = flags & CREATE ? __builtin_va_arg(more, unsigned) : 0;
   __builtin_va_end(more);
   int opened = next_open(path, flags, mode);
+  if (opened >= 0 && flags & TRUNCATE)
+    cuts(of, 0);
   if (opened >= 0 && opened < FILES)
     kinds[opened] = (unsigned char)of;
   return opened;
@@ -276,6 +309,8 @@ ssize_t write(int to, const void *from, size_t size) {
   int of = kind_of(to), error = failure(of, WRITES, "write", &size);
   if (mute && to == 2)
     return fail(E_IO);
+  if (of >= DATABASE)
+    changes(of, 0, FAR);
   return error ? fail(error) : done(of, next_write(to, from, size));
 }
 
@@ -283,7 +318,10 @@ ssize_t __write(int to, const void *from, size_t size) { return write(to, from, 
 
 ssize_t pwrite(int to, const void *from, size_t size, off_t place) {
   int of = kind_of(to), error = failure(of, WRITES, "write", &size);
-  return error ? fail(error) : done(of, next_pwrite(to, from, size, place));
+  if (error)
+    return fail(error);
+  changes(of, place, place + (off_t)size);
+  return done(of, next_pwrite(to, from, size, place));
 }
 
 int fsync(int descriptor) {
@@ -307,11 +345,26 @@ int fdatasync(int descriptor) {
 int ftruncate(int descriptor, off_t length) {
   size_t size = (size_t)length;
   int error = failure(kind_of(descriptor), ASKS, "truncation", &size);
-  return error ? fail(error) : next_ftruncate(descriptor, length);
+  if (error)
+    return fail(error);
+  cuts(kind_of(descriptor), length);
+  return next_ftruncate(descriptor, length);
 }
 
 int statx(int descriptor, const char *path, int flags, unsigned mask, void *to) {
   size_t size = 0;
   int of = *path ? kind_of_path(path) : kind_of(descriptor), error = failure(of, ASKS, "statx", &size);
   return error ? fail(error) : next_statx(descriptor, path, flags, mask, to);
+}
+
+/* The salts of a log are such bytes. They come of the seed by splitmix64. */
+int getentropy(void *to, size_t size) {
+  begin();
+  for (size_t place = 0; place < size; place++) {
+    unsigned long mixed = random += 0x9e3779b97f4a7c15ul;
+    mixed = (mixed ^ mixed >> 30) * 0xbf58476d1ce4e5b9ul;
+    mixed = (mixed ^ mixed >> 27) * 0x94d049bb133111ebul;
+    ((unsigned char *)to)[place] = (unsigned char)(mixed ^ mixed >> 31);
+  }
+  return 0;
 }

@@ -7,11 +7,9 @@ ghost use Rattle.artifact_pieces.specs.Pieces.{pieces_of};
 ghost use Rattle.rollout_model.specs.declared.refusal.Refusal.TheVariants.{NoMemory};
 
 use rollout_model::Refusal;
+use rollout_model::limits::PIECE_LENGTH;
 use std::alloc::Global;
 use std::marker::Model;
-
-/// The bytes of every piece but the last.
-const PIECE_LENGTH: usize = 65_536;
 
 /// A piece of some contents.
 #[derive(Clone, Copy)]

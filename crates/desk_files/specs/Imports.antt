@@ -12,10 +12,6 @@ use Rattle.desk_files.specs.TargetRecords.{Record, row_of}
 use Rattle.desk_files.specs.declared.import_fault.ImportFault.{ImportFault}
 use Rattle.desk_files.specs.declared.import_fault.ImportFault.TheVariants.{Line, Memory}
 
--- the bytes of a file
-abbrev pub file_length_limit : ℕ
-file_length_limit = 1048576
-
 -- the records of a file, as `csv` reads them without a header row of its own, whatever their lengths
 abbrev pub records_of : List ℕ → List Record
 records_of bytes = records default_config (strip_bom bytes)

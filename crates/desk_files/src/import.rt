@@ -12,9 +12,6 @@ use csv::ByteRecord;
 use rollout_model::TargetRow;
 use std::alloc::Global;
 
-/// The most bytes that a file has which is handed in as an import. `read_targets` itself reads longer ones too.
-pub const FILE_LIMIT: usize = 1_048_576;
-
 fn is_header(record: &ByteRecord) -> bool
     ensures { result ≡ is_header (fields_of record.now) }
 {

@@ -4,14 +4,15 @@ ghost use Rattle.std.specs.Prelude.{◌≡◌, [], ◌∷◌, codes, Ok, Err};
 ghost use Rattle.rollout_model.specs.declared.action_word.ActionWord.TheVariants as action;
 ghost use Rattle.rollout_model.specs.declared.group_word.GroupWord.TheVariants as group;
 ghost use Rattle.rollout_model.specs.declared.rollout_word.RolloutWord.TheVariants as rollout;
+ghost use Rattle.rollout_model.specs.Limits.{file_length_limit};
 ghost use Rattle.artifact_pieces.specs.Digests.{digest_of};
 ghost use Rattle.desk_files.specs.ActionTables.{table_text};
-ghost use Rattle.desk_files.specs.Imports.{file_length_limit, targets_of};
+ghost use Rattle.desk_files.specs.Imports.{targets_of};
 ghost use Rattle.desk_files.specs.Laws.{TablesAreCsv, TagsAreJoined, worked_action, worked_group, worked_rollout};
 ghost use Rattle.desk_files.specs.Reports.{report_lines};
 ghost use Rattle.desk_files.specs.TargetRecords.{new_row};
 
-use crate::import::FILE_LIMIT;
+use rollout_model::limits::FILE_LENGTH_LIMIT;
 
 /// The words of a field of tags, with one space between two, are the field.
 pub fn tags_are_joined()
@@ -25,7 +26,7 @@ pub fn tables_are_csv()
 
 /// The constant is the limit of an import's file.
 pub fn file_limit()
-    ensures { FILE_LIMIT ≡ file_length_limit }
+    ensures { FILE_LENGTH_LIMIT ≡ file_length_limit }
 {}
 
 /// A worked file: three targets, the second of them without tags.

@@ -15,7 +15,7 @@ mod tags_field;
 mod target_record;
 
 pub use actions_table::actions_csv;
-pub use import::{FILE_LIMIT, read_targets};
+pub use import::read_targets;
 pub use import_fault::ImportFault;
 pub use laws::{
     file_limit, tables_are_csv, tags_are_joined, worked_cut, worked_fault, worked_import,

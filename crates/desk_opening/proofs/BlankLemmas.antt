@@ -3,6 +3,7 @@ use Rattle.std.proofs.Common.{◌≡◌, ◌≤◌, ◌<◌, ◌-◌, ◌*◌, �
 use Rattle.std.specs.List.{AllZip}
 use Rattle.std.proofs.lemmas.List.{length-take}
 use Rattle.std.proofs.Math.Logic.{∥∥₁_elim}
+use Rattle.sqlite.specs.Schema.{Schema}
 use Rattle.sqlite.specs.Tree.{Trees}
 use Rattle.sqlite.specs.Recovery.{Image}
 use Rattle.sqlite.specs.Files.{AreFoundIn, IsNothing}
@@ -18,6 +19,8 @@ use Rattle.sqlite_pool.specs.StoredLaws.{trimmed_some}
 use Rattle.sqlite_pool.specs.File.{header_in, IsSoundFile}
 use Rattle.sqlite_pool.specs.Opening.{IsBlankFile}
 use Rattle.sqlite_pool.proofs.ProbeLemmas.{first_byte}
+use Rattle.sql_front.specs.Free.{LeavesFree}
+use Rattle.desk_records.specs.Schema.{desk_names}
 use Rattle.desk_opening.specs.Reopening.{UsesNoName}
 
 shorter : (n m size : ℕ) (xs wanted : List ℕ) → take n (take m (take size xs)) ≡ wanted → length wanted ≡ n → n ≤ size
@@ -75,13 +78,18 @@ none_zipped : {A B : Type 0} (R : A → B → Type 0) → (xs : List B) → AllZ
 none_zipped R [] h = refl
 none_zipped R (x ∷ xs) h = absurd h
 
+-- a schema of nothing leaves all names free
+pub nothing_is_used : (s : Schema) → s.tables ≡ [] → s.indexes ≡ [] → s.views ≡ [] → (names : List (List ℕ)) → LeavesFree s names
+nothing_is_used s tables indexes views [] = tt
+nothing_is_used s tables indexes views (name ∷ names) = (rw (tables, indexes, views) refl, nothing_is_used s tables indexes views names)
+
 pub empty_is_unused : (db : Trees) → db catalog_tree ≡ [] → UsesNoName db
 empty_is_unused db none s sound =
     let listed : AreListed [] s = subst (λ rows. AreListed rows s) none sound.lists.listed in
     let tables : s.tables ≡ [] = none_zipped IsTableRow s.tables listed.tables in
     let indexes : s.indexes ≡ [] = none_zipped (IsIndexRow s.tables) s.indexes listed.indexes in
     let views : s.views ≡ [] = none_zipped IsViewRow s.views listed.views in
-    rw (tables, indexes, views) (refl, (refl, (refl, (refl, (refl, (refl, (refl, (refl, (refl, tt)))))))))
+    nothing_is_used s tables indexes views desk_names
 
 pub nothing_is_unused : (image : Image) (db : Trees) → IsNothing image → AreFoundIn image db → UsesNoName db
 nothing_is_unused image db nothing (inl found) = absurd (∥∥₁_elim found.4 (λ x. absurd x) (λ ours. not_nothing found.0 image found.1 found.3 ours.file.sound nothing))

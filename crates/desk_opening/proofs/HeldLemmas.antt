@@ -11,15 +11,14 @@ use Rattle.sqlite_trees.specs.Tree.{has_rowid}
 use Rattle.sqlite_rules.specs.Lists.{Has}
 use Rattle.sqlite_catalog.specs.Change.{is_used}
 use Rattle.sql_front.specs.Free.{LeavesFree}
-use Rattle.sql_front.specs.Stands.{Stands}
 use Rattle.sql_front.specs.Found.{StandsSomewhere}
 use Rattle.rollout_machine.specs.Records.{Records}
-use Rattle.desk_records.specs.Schema.{Place, Desk, table_at, name_of, desk_table, desk_names}
-use Rattle.desk_records.specs.Holds.{HoldsRecords, desk_row, flag}
+use Rattle.desk_records.specs.Schema.{Place, Desk, table_at, desk_table, desk_names}
+use Rattle.desk_records.specs.Holds.{HoldsRecords, desk_row}
+use Rattle.desk_records.specs.Rollouts.{flag}
 use Rattle.desk_opening.specs.declared.opening.OpenFault.{OpenFault}
 use Rattle.desk_opening.specs.declared.opening.OpenFault.TheVariants.{NotDesk, NewerVersion, Memory, Store}
 use Rattle.desk_opening.specs.Opening.{FindsTo, HasNoRow, HasRow, IsFailure, IsNewerRow, IsOtherRow, LacksDesk}
-use Rattle.desk_opening.proofs.Places.{is_place}
 use Rattle.desk_opening.proofs.ChoiceLemmas.{used_at}
 
 same_some : {X : Type 0} (x y : X) → Some x ≡ Some y → x ≡ y
@@ -62,11 +61,7 @@ module _ (db : Database) (r : Records) (holds : HoldsRecords db r) where
   has_row h = true≢false (subst (AllByRecursion (λ row. has_rowid (pos 1) row ≡ false)) (desk_rows h.table) h.none).0
 
   stands_at : (t : Place) → StandsSomewhere db.schema (table_at t 0)
-  stands_at t =
-      let spot = holds.spot t in
-      let there : Table = record (table_at t 0) { tree = spot.tree } in
-      let moved : Stands db.schema (name_of t) spot.at there = subst (λ (table : Table). Stands db.schema (name_of t) spot.at table) (sym ((is_place t).moved spot.tree)) (holds.stands t) in
-      record { at = spot.at; tree = spot.tree; stands = subst (λ name. Stands db.schema name spot.at there) (sym (is_place t).named) moved }
+  stands_at t = let spot = holds.spot t in record { at = spot.at; tree = spot.tree; stands = holds.stands t }
 
   lacks_none : ¬ LacksDesk db
   lacks_none (inl none) = none (stands_at Desk)

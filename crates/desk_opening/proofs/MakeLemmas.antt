@@ -19,19 +19,19 @@ use Rattle.rollout_machine.specs.Records.{Records}
 use Rattle.desk_records.specs.Holds.{HoldsRecords}
 use Rattle.desk_records.specs.declared.texts.TheConstants.{PUT_DESK}
 use Rattle.desk_records.proofs.Meaning.{put_desk_is, desk_terms}
-use Rattle.desk_records.specs.Schema.{Place}
+use Rattle.desk_records.specs.Schema.{Place, places}
 use Rattle.desk_opening.specs.declared.making.TheConstants.{BEGIN, COMMIT}
 use Rattle.desk_opening.specs.Making.{HoldsStage, Free, Partly, Whole, LeavesNoDesk, LeavesDesk, first_records, MakesTables, Makes}
 use Rattle.desk_opening.proofs.Steps.{step, step_fails}
 use Rattle.desk_opening.specs.declared.desk_table.DeskTable.{DeskTable}
-use Rattle.desk_opening.specs.Places.{places, place_of, create_text_of}
-use Rattle.desk_opening.proofs.Places.{is_place, all_tables, next_place, places_so_far, HaveNamesApart, names_apart, create_text}
+use Rattle.desk_opening.specs.Places.{place_of, create_text_of}
+use Rattle.desk_opening.proofs.Places.{create_means, all_tables, next_place, places_so_far, HaveNamesApart, names_apart, create_text}
 use Rattle.desk_opening.proofs.Tables.{table_made, desk_filled}
 
 -- ---- what the schema understands on the way
 
 abbrev knows_table : (t : Place) (made left : List Place) (db : Database) → HoldsStage db (Partly made (t ∷ left)) → Known db.schema (create_text_of t)
-knows_table t made left db h = record { command = CreateTable; means = (is_place t).means db.schema h.2.0 }
+knows_table t made left db h = record { command = CreateTable; means = create_means t db.schema h.2.0 }
 
 abbrev knows_row : (db : Database) → HoldsStage db (Partly places []) → Known db.schema PUT_DESK.now
 knows_row db h = record { command = Insert h.1.0.at (Values desk_terms 5); means = put_desk_is db.schema h.1.0.at h.1.0.tree h.1.0.stands }

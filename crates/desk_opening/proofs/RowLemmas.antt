@@ -21,7 +21,8 @@ use Rattle.sql_calls.proofs.Leavings.{first_shown, none_shown, shows_as, runs_pl
 use Rattle.sql_calls.proofs.Selects.{passes, shown_of, simple_rows}
 use Rattle.desk_records.specs.Schema.{desk_table}
 use Rattle.desk_records.specs.declared.texts.TheConstants.{GET_DESK}
-use Rattle.desk_records.proofs.Meaning.{get_desk_is, is_equal}
+use Rattle.desk_records.proofs.MeaningWords.{is_equal}
+use Rattle.desk_records.proofs.Meaning.{get_desk_is}
 use Rattle.desk_opening.specs.declared.opening.OpenFault.{OpenFault}
 use Rattle.desk_opening.specs.declared.opening.OpenFault.TheVariants.{NotDesk, NewerVersion, Memory, Store}
 use Rattle.desk_opening.specs.Opening.{HasNoRow, HasRow, ReadsRow, Tells, IsDeskRow, IsNewerRow, IsOtherRow, IsFailure}

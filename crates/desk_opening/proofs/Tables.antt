@@ -30,13 +30,14 @@ use Rattle.sql_calls.proofs.Inserts.{Inserted, inserts, uncounted, given_rows}
 use Rattle.sql_calls.proofs.NumberedRows.{cast_int, cast_null}
 use Rattle.rollout_machine.specs.RecordSteps.{no_records}
 use Rattle.rollout_machine.proofs.Answering.{made_records}
-use Rattle.desk_records.specs.Schema.{Place, Desk, Modules, Sets, SetModules, Artifacts, Pieces, Targets, TargetTags, TargetAttributes, table_at, name_of, desk_table}
+use Rattle.desk_records.specs.Schema.{Place, Desk, Modules, Sets, SetModules, Artifacts, Pieces, Targets, TargetTags, TargetAttributes, OfRollouts, Rollouts, Members, Groups, Actions, Feedbacks, Offers, places, table_at, name_of, desk_table}
 use Rattle.sql_calls.specs.Keyed.{IsHeldBy}
-use Rattle.desk_records.specs.Holds.{Spot, IsHeld, desk_row}
+use Rattle.desk_records.specs.Holds.{Spot, IsHeld, desk_row, ledger_of}
 use Rattle.desk_records.proofs.Meaning.{desk_terms}
-use Rattle.desk_opening.specs.Places.{places, create_text_of}
+use Rattle.desk_opening.specs.Places.{create_text_of}
 use Rattle.desk_opening.specs.Making.{HoldsStage, Partly, Whole, IsEmptyTable, first_records}
-use Rattle.desk_opening.proofs.Places.{is_place, each_place, HaveNamesApart, names_apart}
+use Rattle.desk_records.proofs.Places.{each_place}
+use Rattle.desk_opening.proofs.Places.{is_place, HaveNamesApart}
 
 -- ---- the tree of a table is low
 
@@ -67,9 +68,6 @@ all_last : {X : Type 0} (P : X → Type 0) (xs : List X) (x : X) → AllByRecurs
 all_last P [] x h k = (k, tt)
 all_last P (y ∷ xs) x h k = (h.0, all_last P xs x h.1 k)
 
-same_tree : (t : Place) (n : ℕ) → (table_at t n).tree ≡ n
-same_tree t n = ap (λ (table : Table). table.tree) (sym ((is_place t).moved n))
-
 -- no index that SQLite makes for a UNIQUE has such a name
 unindexed : (name : List ℕ) → ((rest : List ℕ) → same_name (codes "sqlite_autoindex_" ++ rest) name ≡ false) → (table : Table) (at next i : ℕ) (keys : List (List ℕ))
     → position_from (λ (x : Index). same_name x.name name) i (automatics table at next keys) ≡ None
@@ -88,21 +86,17 @@ module _ (t : Place) (made left : List Place) (apart : AllByRecursion (HaveNames
   g = grown s (table_at t 0) (create_text_of t) (is_place t).defined old new refl [] count w
 
   free : is_used s (table_at t 0).name ≡ false
-  free = ap (is_used s) (is_place t).named ∙ was.2.0
+  free = was.2.0
 
   low : next_tree s < 2 ^ 31
   low = low_tree new.now s.tables g.more new_table w.sound g.tables
 
   made_last : Stands new.now.schema (name_of t) (length s.tables) (table_at t (next_tree s))
-  made_last =
-      let stands = stands_last s new.now.schema (table_at t 0) g.more g.tables ((is_place t).bare.references, g.bare) free (same_itself (table_at t 0).name) low in
-      subst (λ name. Stands new.now.schema name (length s.tables) (table_at t (next_tree s))) (is_place t).named
-      (subst (λ (table : Table). Stands new.now.schema (table_at t 0).name (length s.tables) table) ((is_place t).moved (next_tree s)) stands)
+  made_last = stands_last s new.now.schema (table_at t 0) g.more g.tables ((is_place t).bare.references, g.bare) free (same_itself (table_at t 0).name) low
 
   still_empty : (u : Place) → IsEmptyTable old.now u → IsEmptyTable new.now u
   still_empty u e =
-      let rows : new.now.trees (table_at u e.tree).tree ≡ old.now.trees (table_at u e.tree).tree = all-slice_get (λ (x : Table). new.now.trees x.tree ≡ old.now.trees x.tree) s.tables e.at (table_at u e.tree) e.stands.got g.others in
-      let kept : new.now.trees e.tree ≡ old.now.trees e.tree = subst (λ n. new.now.trees n ≡ old.now.trees n) (same_tree u e.tree) rows in
+      let kept : new.now.trees e.tree ≡ old.now.trees e.tree = all-slice_get (λ (x : Table). new.now.trees x.tree ≡ old.now.trees x.tree) s.tables e.at (table_at u e.tree) e.stands.got g.others in
       record { at = e.at; tree = e.tree; stands = stands_kept s new.now.schema (name_of u) e.at (table_at u e.tree) (new_table ∷ g.more) g.tables ((is_place t).bare.references, g.bare) e.stands; empty = kept ∙ e.empty }
 
   spared : (u : Place) → same_name (table_at t 0).name (name_of u) ≡ false → is_used s (name_of u) ≡ false → is_used new.now.schema (name_of u) ≡ false
@@ -110,7 +104,7 @@ module _ (t : Place) (made left : List Place) (apart : AllByRecursion (HaveNames
 
   still_free : (us : List Place) → AllByRecursion (HaveNamesApart t) us → LeavesFree s (map name_of us) → LeavesFree new.now.schema (map name_of us)
   still_free [] h k = tt
-  still_free (u ∷ us) h k = (spared u (ap (λ name. same_name name (name_of u)) (is_place t).named ∙ h.0) k.0, still_free us h.1 k.1)
+  still_free (u ∷ us) h k = (spared u h.0 k.0, still_free us h.1 k.1)
 
   pub table_made : HoldsTables new.now (made ++ t ∷ []) left
   table_made = (
@@ -125,16 +119,13 @@ only_row : (approval : Bool) (tree : ℕ) → put_all [] (numbered Chosen [] (ma
 only_row true tree = rw (cast_int 1, cast_null)
 only_row false tree = rw (cast_int 1, cast_int 0, cast_null)
 
-named_at : (t : Place) (n : ℕ) → (table_at t n).name ≡ name_of t
-named_at t n = ap (λ (table : Table). table.name) (sym ((is_place t).moved n)) ∙ (is_place t).named
-
 -- a table of another name is in another tree
 in_another : (s : Schema) (desk other : Place) (m n : ℕ) → find (λ (x : Table). x.tree == m) s.tables ≡ Some (table_at desk m) → find (λ (x : Table). x.tree == n) s.tables ≡ Some (table_at other n)
     → HaveNamesApart desk other → n ≢ m
 in_another s desk other m n here there apart same =
     let both : Some (table_at other n) ≡ Some (table_at desk m) = sym there ∙ ap (λ tree. find (λ (x : Table). x.tree == tree) s.tables) same ∙ here in
     let tables : table_at other n ≡ table_at desk m = cc in
-    let names : name_of other ≡ name_of desk = sym (named_at other n) ∙ ap (λ (t : Table). t.name) tables ∙ named_at desk m in
+    let names : name_of other ≡ name_of desk = ap (λ (t : Table). t.name) tables in
     true≢false (sym (same_itself (name_of desk)) ∙ ap (same_name (name_of desk)) (sym names) ∙ apart)
 
 module _ (approval : Bool) (old new : State) (text : List ℕ) (count : ℕ) (was : HoldsStage old.now (Partly places [])) (w : Writes old new None (Insert was.1.0.at (Values desk_terms 5)) text (Int (if approval then pos 1 else pos 0) ∷ []) count) where
@@ -154,29 +145,35 @@ module _ (approval : Bool) (old new : State) (text : List ℕ) (count : ℕ) (wa
   desk_rows = made.applies.rows ∙ rw (was.1.0.empty) (only_row approval was.1.0.tree)
 
   found_at : (t : Place) → find (λ (x : Table). x.tree == (at_place t).tree) here.tables ≡ Some (table_at t (at_place t).tree)
-  found_at t = let e = at_place t in subst (λ n. find (λ (x : Table). x.tree == n) here.tables ≡ Some (table_at t e.tree)) (same_tree t e.tree) e.stands.found
+  found_at t = (at_place t).stands.found
 
   stay_empty : (t : Place) → HaveNamesApart Desk t → new.now.trees (at_place t).tree ≡ []
   stay_empty t apart =
       let e = at_place t in
-      let others : (table_at t e.tree).tree ≢ was.1.0.tree → new.now.trees (table_at t e.tree).tree ≡ old.now.trees (table_at t e.tree).tree =
+      let kept : e.tree ≢ was.1.0.tree → new.now.trees e.tree ≡ old.now.trees e.tree =
       all-slice_get (λ (x : Table). HasNoForeignKey here x.tree → x.tree ≢ was.1.0.tree → new.now.trees x.tree ≡ old.now.trees x.tree) here.tables e.at (table_at t e.tree) e.stands.got made.applies.tables e.stands.keyless in
-      let kept : e.tree ≢ was.1.0.tree → new.now.trees e.tree ≡ old.now.trees e.tree = subst (λ n. n ≢ was.1.0.tree → new.now.trees n ≡ old.now.trees n) (same_tree t e.tree) others in
       kept (in_another here Desk t was.1.0.tree e.tree was.1.0.stands.found (found_at t) apart) ∙ e.empty
 
   no_parts : (t : Place) → HaveNamesApart Desk t → IsHeldBy (new.now.trees (at_place t).tree) []
   no_parts t apart = subst (λ l. IsHeldBy l []) (sym (stay_empty t apart)) (record { order = []; rising = tt; same = IsPermutation-same [] [] refl })
 
-  rows : (t : Place) → IsHeld (no_records approval) t (new.now.trees (spot_of t).tree)
+  rows : (t : Place) → IsHeld (ledger_of (no_records approval)) t (new.now.trees (spot_of t).tree)
+  unfolding same_name
   rows Desk = desk_rows
-  rows Modules = stay_empty Modules names_apart.0.0
-  rows Sets = stay_empty Sets names_apart.0.1.0
-  rows SetModules = no_parts SetModules names_apart.0.1.1.0
-  rows Artifacts = stay_empty Artifacts names_apart.0.1.1.1.0
-  rows Pieces = no_parts Pieces names_apart.0.1.1.1.1.0
-  rows Targets = no_parts Targets names_apart.0.1.1.1.1.1.0
-  rows TargetTags = no_parts TargetTags names_apart.0.1.1.1.1.1.1.0
-  rows TargetAttributes = no_parts TargetAttributes names_apart.0.1.1.1.1.1.1.1.0
+  rows Modules = stay_empty Modules refl
+  rows Sets = stay_empty Sets refl
+  rows SetModules = no_parts SetModules refl
+  rows Artifacts = stay_empty Artifacts refl
+  rows Pieces = no_parts Pieces refl
+  rows Targets = no_parts Targets refl
+  rows TargetTags = no_parts TargetTags refl
+  rows TargetAttributes = no_parts TargetAttributes refl
+  rows (OfRollouts Rollouts) = stay_empty (OfRollouts Rollouts) refl
+  rows (OfRollouts Members) = no_parts (OfRollouts Members) refl
+  rows (OfRollouts Groups) = no_parts (OfRollouts Groups) refl
+  rows (OfRollouts Actions) = stay_empty (OfRollouts Actions) refl
+  rows (OfRollouts Feedbacks) = no_parts (OfRollouts Feedbacks) refl
+  rows (OfRollouts Offers) = record { listed = []; held = no_parts (OfRollouts Offers) refl; its = λ id. refl }
 
   filled_with : HoldsStage new.now (Whole (no_records approval))
   filled_with = record {

@@ -9,9 +9,8 @@ use Rattle.sql_front.specs.Free.{LeavesFree}
 use Rattle.sql_calls.specs.Standing.{Wears, HoldIn, Rests, Changes}
 use Rattle.rollout_machine.specs.CommandList.{Make}
 use Rattle.rollout_machine.specs.Records.{Records, records}
-use Rattle.desk_records.specs.Schema.{Place, table_at, name_of, desk_names}
+use Rattle.desk_records.specs.Schema.{Place, places, table_at, name_of, desk_names}
 use Rattle.desk_records.specs.Holds.{HoldsRecords}
-use Rattle.desk_opening.specs.Places.{places}
 
 -- how far the making has come
 pub data Stage : Type 0 where

@@ -5,8 +5,9 @@ ghost use Rattle.desk_records.specs.Schema.{name_of};
 ghost use Rattle.desk_opening.specs.Places.{place_of, create_text_of};
 
 use desk_records::{
-    CREATE_ARTIFACT, CREATE_DESK, CREATE_MODULE, CREATE_PIECE, CREATE_SET, CREATE_SET_MODULE,
-    CREATE_TARGET, CREATE_TARGET_ATTRIBUTE, CREATE_TARGET_TAG,
+    CREATE_ACTION, CREATE_ARTIFACT, CREATE_DESK, CREATE_FEEDBACK, CREATE_MEMBER, CREATE_MODULE,
+    CREATE_OFFER, CREATE_PIECE, CREATE_ROLLOUT, CREATE_ROLLOUT_GROUP, CREATE_SET,
+    CREATE_SET_MODULE, CREATE_TARGET, CREATE_TARGET_ATTRIBUTE, CREATE_TARGET_TAG,
 };
 
 /// A table of a desk.
@@ -21,10 +22,16 @@ pub(crate) enum DeskTable {
     Targets,
     TargetTags,
     TargetAttributes,
+    Rollouts,
+    Members,
+    Groups,
+    Actions,
+    Feedbacks,
+    Offers,
 }
 
 /// All of them, in the order in which they are made.
-pub(crate) const TABLES: [DeskTable; 9] = [
+pub(crate) const TABLES: [DeskTable; 15] = [
     DeskTable::Desk,
     DeskTable::Modules,
     DeskTable::Sets,
@@ -34,6 +41,12 @@ pub(crate) const TABLES: [DeskTable; 9] = [
     DeskTable::Targets,
     DeskTable::TargetTags,
     DeskTable::TargetAttributes,
+    DeskTable::Rollouts,
+    DeskTable::Members,
+    DeskTable::Groups,
+    DeskTable::Actions,
+    DeskTable::Feedbacks,
+    DeskTable::Offers,
 ];
 
 impl DeskTable {
@@ -51,6 +64,12 @@ impl DeskTable {
             DeskTable::Targets => "target",
             DeskTable::TargetTags => "target_tag",
             DeskTable::TargetAttributes => "target_attribute",
+            DeskTable::Rollouts => "rollout",
+            DeskTable::Members => "member",
+            DeskTable::Groups => "rollout_group",
+            DeskTable::Actions => "action",
+            DeskTable::Feedbacks => "feedback",
+            DeskTable::Offers => "offer",
         }
     }
 
@@ -68,6 +87,12 @@ impl DeskTable {
             DeskTable::Targets => CREATE_TARGET,
             DeskTable::TargetTags => CREATE_TARGET_TAG,
             DeskTable::TargetAttributes => CREATE_TARGET_ATTRIBUTE,
+            DeskTable::Rollouts => CREATE_ROLLOUT,
+            DeskTable::Members => CREATE_MEMBER,
+            DeskTable::Groups => CREATE_ROLLOUT_GROUP,
+            DeskTable::Actions => CREATE_ACTION,
+            DeskTable::Feedbacks => CREATE_FEEDBACK,
+            DeskTable::Offers => CREATE_OFFER,
         }
     }
 }

@@ -1,9 +1,10 @@
--- What the texts of artifacts and their pieces mean, wherever the tables stand.
-use Rattle.std.proofs.Common.{◌≡◌, refl, List, [], ◌∷◌, ℕ, codes, pos, negsuc, true, false}
+-- Written by tools/meanings.
+-- What the texts of src/artifact_texts.rt mean, wherever their tables stand.
+use Rattle.std.proofs.Common.{refl, List, [], ◌∷◌, ℕ, codes, pos, negsuc, true, false}
 use Rattle.sqlite.specs.declared.types.Value.TheVariants.{Null, Int}
 use Rattle.sqlite.specs.Collation.TheVariants.{Binary}
 use Rattle.sqlite.specs.Schema.{Schema}
-use Rattle.sqlite.specs.Command.TheVariants.{Select, Insert, CreateTable}
+use Rattle.sqlite.specs.Command.TheVariants.{Select, Insert}
 use Rattle.sqlite.specs.Source.TheVariants.{Values}
 use Rattle.sqlite.specs.Query.{Query}
 use Rattle.sqlite.specs.Term.{Term, lit, col}
@@ -11,17 +12,22 @@ use Rattle.sqlite_tied.specs.Compute.{everything}
 use Rattle.sqlite_resolve.specs.Compile.{first, new_rows, is_reserved}
 use Rattle.sqlite_resolve.specs.Expr.{combine}
 use Rattle.sqlite_resolve.specs.Select.{named, paging}
-use Rattle.sqlite_catalog.specs.Change.{is_used}
 use Rattle.sql_front.specs.Stands.{Stands}
 use Rattle.sql_front.proofs.Texts.{Reads, reads_known}
-use Rattle.sql_front.proofs.Write.{Adds, Makes, adds_known, makes_known}
+use Rattle.sql_front.proofs.Write.{Adds, Makes, adds_known}
 use Rattle.sql_calls.proofs.Means.{Means}
 use Rattle.sql_calls.proofs.Selects.{simple, by}
 use Rattle.desk_records.specs.declared.artifact_texts.TheConstants.{CREATE_ARTIFACT, CREATE_PIECE, FIND_ARTIFACT, LAST_ARTIFACT, GET_ARTIFACT, LIST_ARTIFACTS, GET_PIECE, PUT_ARTIFACT, PUT_PIECE}
 use Rattle.desk_records.specs.Schema.{artifact_table, piece_table}
-use Rattle.desk_records.proofs.Meaning.{means_of, at_key}
+use Rattle.desk_records.proofs.MeaningWords.{means_of, at_key}
 
--- ---- artifacts
+pub create_artifact_makes : Makes CREATE_ARTIFACT.now (codes "artifact") (artifact_table 0)
+unfolding first is_reserved everything
+create_artifact_makes = record { parsed = _; made = _; read = refl; statement = refl; named = refl; unreserved = refl; defined = refl; whole = refl }
+
+pub create_piece_makes : Makes CREATE_PIECE.now (codes "piece") (piece_table 0)
+unfolding first is_reserved everything
+create_piece_makes = record { parsed = _; made = _; read = refl; statement = refl; named = refl; unreserved = refl; defined = refl; whole = refl }
 
 abbrev pub same_file : List Term
 same_file = at_key 2 0 ∷ at_key 3 1 ∷ []
@@ -73,11 +79,11 @@ last_artifact_reads tree = record {
 pub last_artifact_is : (s : Schema) (at tree : ℕ) → Stands s (codes "artifact") at (artifact_table tree) → Means s LAST_ARTIFACT.now (Select (record { lets = []; body = last_artifact_query tree }) (codes "number" ∷ []))
 last_artifact_is s at tree stands = means_of s LAST_ARTIFACT.now _ (reads_known _ _ _ _ _ (last_artifact_reads tree) s at stands) refl refl
 
-abbrev pub told_columns : List Term
-told_columns = col 1 2 ∷ col 1 3 ∷ col 1 4 ∷ col 1 5 ∷ []
-
 abbrev pub told_names : List (List ℕ)
 told_names = codes "module" ∷ codes "filename" ∷ codes "size" ∷ codes "sha256" ∷ []
+
+abbrev pub told_columns : List Term
+told_columns = col 1 2 ∷ col 1 3 ∷ col 1 4 ∷ col 1 5 ∷ []
 
 get_artifact_reads : (tree : ℕ) → Reads GET_ARTIFACT.now (codes "artifact") (artifact_table tree) (simple tree (at_key 0 0 ∷ []) told_columns) told_names
 unfolding first combine named paging everything
@@ -101,11 +107,11 @@ get_artifact_reads tree = record {
 pub get_artifact_is : (s : Schema) (at tree : ℕ) → Stands s (codes "artifact") at (artifact_table tree) → Means s GET_ARTIFACT.now (Select (record { lets = []; body = simple tree (at_key 0 0 ∷ []) told_columns }) told_names)
 get_artifact_is s at tree stands = means_of s GET_ARTIFACT.now _ (reads_known _ _ _ _ _ (get_artifact_reads tree) s at stands) refl refl
 
-abbrev pub shown_columns : List Term
-shown_columns = col 1 0 ∷ col 1 3 ∷ col 1 4 ∷ col 1 5 ∷ []
-
 abbrev pub shown_names : List (List ℕ)
 shown_names = codes "number" ∷ codes "filename" ∷ codes "size" ∷ codes "sha256" ∷ []
+
+abbrev pub shown_columns : List Term
+shown_columns = col 1 0 ∷ col 1 3 ∷ col 1 4 ∷ col 1 5 ∷ []
 
 abbrev pub artifacts_query : ℕ → Query
 artifacts_query tree = by (simple tree (at_key 2 0 ∷ []) shown_columns) ((col 1 0, record { descending = false; collation = Binary }) ∷ []) (lit (Int (negsuc 0))) (lit (Int (pos 0)))
@@ -132,18 +138,6 @@ list_artifacts_reads tree = record {
 pub list_artifacts_is : (s : Schema) (at tree : ℕ) → Stands s (codes "artifact") at (artifact_table tree) → Means s LIST_ARTIFACTS.now (Select (record { lets = []; body = artifacts_query tree }) shown_names)
 list_artifacts_is s at tree stands = means_of s LIST_ARTIFACTS.now _ (reads_known _ _ _ _ _ (list_artifacts_reads tree) s at stands) refl refl
 
-abbrev pub artifact_terms : List Term
-artifact_terms = col 0 0 ∷ lit Null ∷ col 0 1 ∷ col 0 2 ∷ col 0 3 ∷ col 0 4 ∷ []
-
-put_artifact_adds : (tree : ℕ) → Adds PUT_ARTIFACT.now (codes "artifact") (artifact_table tree) (Values artifact_terms 6)
-unfolding first new_rows everything
-put_artifact_adds tree = record { parsed = _; columns = _; rows = _; read = refl; statement = refl; formats = refl; fits = λ s. refl }
-
-pub put_artifact_is : (s : Schema) (at tree : ℕ) → Stands s (codes "artifact") at (artifact_table tree) → Means s PUT_ARTIFACT.now (Insert at (Values artifact_terms 6))
-put_artifact_is s at tree stands = means_of s PUT_ARTIFACT.now _ (adds_known _ _ (artifact_table tree) _ (put_artifact_adds tree) s at stands) refl refl
-
--- ---- their pieces
-
 abbrev pub at_piece : List Term
 at_piece = at_key 1 0 ∷ at_key 2 1 ∷ []
 
@@ -169,6 +163,16 @@ get_piece_reads tree = record {
 pub get_piece_is : (s : Schema) (at tree : ℕ) → Stands s (codes "piece") at (piece_table tree) → Means s GET_PIECE.now (Select (record { lets = []; body = simple tree at_piece (col 1 3 ∷ []) }) (codes "bytes" ∷ []))
 get_piece_is s at tree stands = means_of s GET_PIECE.now _ (reads_known _ _ _ _ _ (get_piece_reads tree) s at stands) refl refl
 
+abbrev pub artifact_terms : List Term
+artifact_terms = col 0 0 ∷ lit Null ∷ col 0 1 ∷ col 0 2 ∷ col 0 3 ∷ col 0 4 ∷ []
+
+put_artifact_adds : (tree : ℕ) → Adds PUT_ARTIFACT.now (codes "artifact") (artifact_table tree) (Values artifact_terms 6)
+unfolding first new_rows everything
+put_artifact_adds tree = record { parsed = _; columns = _; rows = _; read = refl; statement = refl; formats = refl; fits = λ s. refl }
+
+pub put_artifact_is : (s : Schema) (at tree : ℕ) → Stands s (codes "artifact") at (artifact_table tree) → Means s PUT_ARTIFACT.now (Insert at (Values artifact_terms 6))
+put_artifact_is s at tree stands = means_of s PUT_ARTIFACT.now _ (adds_known _ _ (artifact_table tree) _ (put_artifact_adds tree) s at stands) refl refl
+
 abbrev pub piece_terms : List Term
 piece_terms = lit Null ∷ col 0 0 ∷ col 0 1 ∷ col 0 2 ∷ []
 
@@ -178,19 +182,3 @@ put_piece_adds tree = record { parsed = _; columns = _; rows = _; read = refl; s
 
 pub put_piece_is : (s : Schema) (at tree : ℕ) → Stands s (codes "piece") at (piece_table tree) → Means s PUT_PIECE.now (Insert at (Values piece_terms 4))
 put_piece_is s at tree stands = means_of s PUT_PIECE.now _ (adds_known _ _ (piece_table tree) _ (put_piece_adds tree) s at stands) refl refl
-
--- ---- the tables
-
-pub create_artifact_makes : Makes CREATE_ARTIFACT.now (codes "artifact") (artifact_table 0)
-unfolding first is_reserved everything
-create_artifact_makes = record { parsed = _; made = _; read = refl; statement = refl; named = refl; unreserved = refl; defined = refl; whole = refl }
-
-pub create_artifact_is : (s : Schema) → is_used s (codes "artifact") ≡ false → Means s CREATE_ARTIFACT.now CreateTable
-create_artifact_is s free = means_of s CREATE_ARTIFACT.now _ (makes_known _ _ (artifact_table 0) create_artifact_makes s free) refl refl
-
-pub create_piece_makes : Makes CREATE_PIECE.now (codes "piece") (piece_table 0)
-unfolding first is_reserved everything
-create_piece_makes = record { parsed = _; made = _; read = refl; statement = refl; named = refl; unreserved = refl; defined = refl; whole = refl }
-
-pub create_piece_is : (s : Schema) → is_used s (codes "piece") ≡ false → Means s CREATE_PIECE.now CreateTable
-create_piece_is s free = means_of s CREATE_PIECE.now _ (makes_known _ _ (piece_table 0) create_piece_makes s free) refl refl

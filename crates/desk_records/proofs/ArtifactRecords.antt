@@ -18,11 +18,11 @@ use Rattle.rollout_machine.specs.ByteStrings.{item_numbered}
 use Rattle.rollout_machine.specs.Objects.{artifacts_shown}
 use Rattle.rollout_machine.specs.Records.{Records}
 use Rattle.desk_records.specs.Modules.{IsLastRow}
-use Rattle.desk_records.specs.Schema.{Place, Desk, Modules, Sets, SetModules, Artifacts, Pieces, Targets, TargetTags, TargetAttributes, artifact_table, piece_table}
+use Rattle.desk_records.specs.Schema.{Place, Desk, Modules, Sets, SetModules, Artifacts, Pieces, Targets, TargetTags, TargetAttributes, OfRollouts, artifact_table, piece_table}
 use Rattle.desk_records.specs.Artifacts.{told_of, artifact_row, piece_row, pieces_from, is_same_artifact, file_of, shown_rows, piece_numbered, artifact_filed, with_artifact, and_piece, AddsPiece}
-use Rattle.desk_records.specs.Holds.{HoldsRecords, IsHeld}
-use Rattle.desk_records.proofs.HoldsAfter.{holds_after}
-use Rattle.desk_records.proofs.Meaning.{at_key}
+use Rattle.desk_records.specs.Holds.{HoldsRecords, IsHeld, ledger_of}
+use Rattle.desk_records.proofs.HoldsAfter.{holds_after, rollouts_kept}
+use Rattle.desk_records.proofs.MeaningWords.{at_key}
 use Rattle.desk_records.proofs.ArtifactMeaning.{same_file, last_artifact_query, told_columns, artifacts_query, artifact_terms, at_piece, piece_terms}
 use Rattle.desk_records.proofs.Artifacts as lists
 
@@ -60,7 +60,7 @@ adds_artifact m filename size digest number old new text count now holds next w 
     let table = lists.artifact_added m filename size digest number spot.tree old.now.schema old.now new.now now.artifacts (holds.rows Artifacts) next made in
     holds_after Artifacts now (with_artifact now m filename size digest) old.now new.now holds made.schema_is w.sound table made.applies.tables only holds.sorted (record { rollouts = holds.bare.rollouts; actions = holds.bare.actions })
   where
-    only : (t : Place) → t ≢ Artifacts → (rows : List Row) → IsHeld now t rows → IsHeld (with_artifact now m filename size digest) t rows
+    only : (t : Place) → t ≢ Artifacts → (rows : List Row) → IsHeld (ledger_of now) t rows → IsHeld (ledger_of (with_artifact now m filename size digest)) t rows
     only Desk apart rows held = held
     only Modules apart rows held = held
     only Sets apart rows held = held
@@ -70,6 +70,7 @@ adds_artifact m filename size digest number old new text count now holds next w 
     only Targets apart rows held = held
     only TargetTags apart rows held = held
     only TargetAttributes apart rows held = held
+    only (OfRollouts t) apart rows held = rollouts_kept now (with_artifact now m filename size digest) refl refl t rows held
 
 pub adds_piece : (number sequence : ℕ) (bytes : Bytes) (old new : State) (text : List ℕ) (count : ℕ) (now next : Records) (holds : HoldsRecords old.now now) → AddsPiece number sequence bytes now next
     → (w : Writes old new None (Insert (holds.spot Pieces).at (Values piece_terms 4)) text (piece_row number sequence bytes) count) → HoldsRecords new.now next
@@ -82,7 +83,7 @@ adds_piece number sequence bytes old new text count now next holds change w =
     subst (HoldsRecords new.now) (sym change.next_is)
     (holds_after Pieces now after old.now new.now holds made.schema_is w.sound table made.applies.tables only holds.sorted (record { rollouts = holds.bare.rollouts; actions = holds.bare.actions }))
   where
-    only : (t : Place) → t ≢ Pieces → (rows : List Row) → IsHeld now t rows → IsHeld (record now { artifacts = change.before ++ and_piece change.artifact bytes ∷ [] }) t rows
+    only : (t : Place) → t ≢ Pieces → (rows : List Row) → IsHeld (ledger_of now) t rows → IsHeld (ledger_of (record now { artifacts = change.before ++ and_piece change.artifact bytes ∷ [] })) t rows
     only Desk apart rows held = held
     only Modules apart rows held = held
     only Sets apart rows held = held
@@ -92,3 +93,4 @@ adds_piece number sequence bytes old new text count now next holds change w =
     only Targets apart rows held = held
     only TargetTags apart rows held = held
     only TargetAttributes apart rows held = held
+    only (OfRollouts t) apart rows held = rollouts_kept now (record now { artifacts = change.before ++ and_piece change.artifact bytes ∷ [] }) refl refl t rows held

@@ -29,7 +29,7 @@ use Rattle.rollout_machine.specs.Records.{ArtifactRecord}
 use Rattle.desk_records.specs.Modules.{IsLastRow}
 use Rattle.desk_records.specs.Schema.{artifact_table, piece_table}
 use Rattle.desk_records.specs.Artifacts.{told_of, artifact_row, piece_row, pieces_in, pieces_from, is_same_artifact, file_of, shown_rows, pieces_of_artifact, piece_numbered, artifact_filed, and_piece}
-use Rattle.desk_records.proofs.Meaning.{at_key}
+use Rattle.desk_records.proofs.MeaningWords.{at_key}
 use Rattle.desk_records.proofs.ArtifactMeaning.{same_file, last_artifact_query, told_columns, shown_columns, artifacts_query, artifact_terms, at_piece, piece_terms}
 use Rattle.desk_records.proofs.Comparisons.{judged, words_equal, numbers_equal, and_true}
 use Rattle.desk_records.proofs.NumberedReads.{finds, lasts, gets, first_found}

@@ -25,10 +25,10 @@ use Rattle.rollout_machine.specs.Commands.{Bytes, Attribute}
 use Rattle.rollout_machine.specs.Records.{Records}
 use Rattle.rollout_machine.specs.Targets.{Target}
 use Rattle.rollout_machine.specs.Verdicts.{target_of}
-use Rattle.desk_records.specs.Schema.{Place, Desk, Modules, Sets, SetModules, Artifacts, Pieces, Targets, TargetTags, TargetAttributes, target_attribute_table}
+use Rattle.desk_records.specs.Schema.{Place, Desk, Modules, Sets, SetModules, Artifacts, Pieces, Targets, TargetTags, TargetAttributes, OfRollouts, target_attribute_table}
 use Rattle.desk_records.specs.Targets.{target_row, tag_rows, attribute_rows, in_byte_order, ids_of, keys_of, is_sorted, attributes_of, attributed, with_changed, AddsAttribute, SetsAttribute}
-use Rattle.desk_records.specs.Holds.{HoldsRecords, IsHeld}
-use Rattle.desk_records.proofs.HoldsAfter.{holds_after}
+use Rattle.desk_records.specs.Holds.{HoldsRecords, IsHeld, ledger_of}
+use Rattle.desk_records.proofs.HoldsAfter.{holds_after, rollouts_kept}
 use Rattle.desk_records.proofs.TargetMeaning.{of_target, attributes_query, attribute_terms, of_attribute, new_value, set_attribute_query}
 use Rattle.desk_records.proofs.Comparisons.{words_equal, and_true}
 use Rattle.desk_records.proofs.ByteOrder.{sorted_from}
@@ -82,7 +82,7 @@ module _ (db : Database) (now : Records) (holds : HoldsRecords db now) (names : 
 -- ---- what is written
 
 -- a change of attributes alone leaves the other tables
-only_attributes : (now : Records) (id : Bytes) (a : Attribute) (t : Place) → t ≢ TargetAttributes → (rows : List Row) → IsHeld now t rows → IsHeld (with_changed now id (attributed a)) t rows
+only_attributes : (now : Records) (id : Bytes) (a : Attribute) (t : Place) → t ≢ TargetAttributes → (rows : List Row) → IsHeld (ledger_of now) t rows → IsHeld (ledger_of (with_changed now id (attributed a))) t rows
 only_attributes now id a Desk apart rows held = held
 only_attributes now id a Modules apart rows held = held
 only_attributes now id a Sets apart rows held = held
@@ -92,6 +92,7 @@ only_attributes now id a Pieces apart rows held = held
 only_attributes now id a Targets apart rows held = subst (IsHeldBy rows) (sym (changed_map id (attributed a) target_row (λ t. refl) now.targets)) held
 only_attributes now id a TargetTags apart rows held = subst (IsHeldBy rows) (sym (changed_rows id (attributed a) tag_rows (λ t. refl) now.targets)) held
 only_attributes now id a TargetAttributes apart rows held = absurd (apart refl)
+only_attributes now id a (OfRollouts t) apart rows held = rollouts_kept now (with_changed now id (attributed a)) refl refl t rows held
 
 keeps_sorted : (a : Attribute) (t : Target) → is_sorted t ≡ true → is_sorted (attributed a t) ≡ true
 keeps_sorted a t sorted = let parts = and_parts (in_byte_order t.tags) (in_byte_order (keys_of t.attributes)) sorted in rw (parts.0) (in_order_with_attribute a t.attributes parts.1)

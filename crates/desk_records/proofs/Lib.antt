@@ -1,7 +1,9 @@
+pub mod MeaningWords
 pub mod Meaning
 pub mod SetMeaning
 pub mod ArtifactMeaning
 pub mod TargetMeaning
+pub mod RolloutMeaning
 mod Comparisons
 pub mod ByteOrder
 pub mod Targets
@@ -10,6 +12,7 @@ mod NumberedReads
 mod Parts
 mod PieceLists
 pub mod Sets
+pub mod Places
 pub mod HoldsAfter
 mod RowLemmas
 pub mod Modules

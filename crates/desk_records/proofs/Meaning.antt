@@ -1,41 +1,43 @@
--- What the texts mean, wherever the tables stand.
-use Rattle.std.proofs.Common.{◌≡◌, refl, List, [], ◌∷◌, ℕ, codes, Ok, None, pos, true, false}
+-- Written by tools/meanings.
+-- What the texts of src/texts.rt mean, wherever their tables stand.
+use Rattle.std.proofs.Common.{refl, List, [], ◌∷◌, ℕ, codes, pos, true}
 use Rattle.sqlite.specs.declared.types.Value.TheVariants.{Null, Int, Text}
 use Rattle.sqlite.specs.Collation.TheVariants.{Binary}
 use Rattle.sqlite.specs.Schema.{Schema}
-use Rattle.sqlite.specs.Command.TheVariants.{Select, Insert, CreateTable}
+use Rattle.sqlite.specs.Command.TheVariants.{Select, Insert}
 use Rattle.sqlite.specs.Source.TheVariants.{Values}
 use Rattle.sqlite.specs.Query.{Query}
-use Rattle.sqlite.specs.Term.{Term, lit, col, op2}
-use Rattle.sqlite.specs.Listing.{understood}
-use Rattle.sqlite_sql.specs.declared.ops.BinaryOp.TheVariants.{Compare}
-use Rattle.sqlite_sql.specs.declared.ops.CompareOp.TheVariants.{Eq}
+use Rattle.sqlite.specs.Term.{Term, lit, col}
 use Rattle.sqlite_tied.specs.Compute.{everything}
-use Rattle.sqlite_resolve.specs.declared.compiled.Compiled.{Compiled}
-use Rattle.sqlite_resolve.specs.Compile.{compiled, first, new_rows, is_reserved}
+use Rattle.sqlite_resolve.specs.Compile.{first, new_rows, is_reserved}
 use Rattle.sqlite_resolve.specs.Expr.{combine}
 use Rattle.sqlite_resolve.specs.Select.{named, paging}
-use Rattle.sqlite_catalog.specs.Change.{is_used}
 use Rattle.sql_front.specs.Stands.{Stands}
 use Rattle.sql_front.proofs.Texts.{Reads, reads_known}
-use Rattle.sql_front.proofs.Write.{Adds, Makes, adds_known, makes_known}
+use Rattle.sql_front.proofs.Write.{Adds, Makes, adds_known}
 use Rattle.sql_calls.proofs.Means.{Means}
 use Rattle.sql_calls.proofs.Selects.{simple, by}
 use Rattle.desk_records.specs.declared.texts.TheConstants.{CREATE_DESK, CREATE_MODULE, PUT_DESK, GET_DESK, FIND_MODULE, LAST_MODULE, GET_MODULE, PUT_MODULE}
 use Rattle.desk_records.specs.Schema.{desk_table, module_table}
+use Rattle.desk_records.proofs.MeaningWords.{means_of, is_equal, at_key}
 
-pub means_of : (s : Schema) (sql : List ℕ) (c : Compiled) → compiled s sql ≡ Ok c → c.returning ≡ None → c.formats ≡ [] → Means s sql c.command
-unfolding understood
-means_of s sql c is none timeless = record { is = rw is; plain = rw is (none, timeless); unlisted = rw is }
+pub create_desk_makes : Makes CREATE_DESK.now (codes "desk") (desk_table 0)
+unfolding first is_reserved everything
+create_desk_makes = record { parsed = _; made = _; read = refl; statement = refl; named = refl; unreserved = refl; defined = refl; whole = refl }
 
-abbrev pub is_equal : Term → Term → Term
-is_equal = op2 (Compare Eq Binary)
+pub create_module_makes : Makes CREATE_MODULE.now (codes "module") (module_table 0)
+unfolding first is_reserved everything
+create_module_makes = record { parsed = _; made = _; read = refl; statement = refl; named = refl; unreserved = refl; defined = refl; whole = refl }
 
--- a column is the parameter at a place
-abbrev pub at_key : ℕ → ℕ → Term
-at_key place param = is_equal (col 1 place) (col 0 param)
+abbrev pub desk_terms : List Term
+desk_terms = lit (Int (pos 1)) ∷ lit Null ∷ lit (Text (codes "fwdesk")) ∷ lit (Int (pos 1)) ∷ col 0 0 ∷ []
 
--- ---- the desk's row
+put_desk_adds : (tree : ℕ) → Adds PUT_DESK.now (codes "desk") (desk_table tree) (Values desk_terms 5)
+unfolding first new_rows everything
+put_desk_adds tree = record { parsed = _; columns = _; rows = _; read = refl; statement = refl; formats = refl; fits = λ s. refl }
+
+pub put_desk_is : (s : Schema) (at tree : ℕ) → Stands s (codes "desk") at (desk_table tree) → Means s PUT_DESK.now (Insert at (Values desk_terms 5))
+put_desk_is s at tree stands = means_of s PUT_DESK.now _ (adds_known _ _ (desk_table tree) _ (put_desk_adds tree) s at stands) refl refl
 
 abbrev pub desk_query : ℕ → Query
 desk_query tree = simple tree (is_equal (col 1 0) (lit (Int (pos 1))) ∷ []) (col 1 2 ∷ col 1 3 ∷ col 1 4 ∷ [])
@@ -61,18 +63,6 @@ get_desk_reads tree = record {
 
 pub get_desk_is : (s : Schema) (at tree : ℕ) → Stands s (codes "desk") at (desk_table tree) → Means s GET_DESK.now (Select (record { lets = []; body = desk_query tree }) (codes "format" ∷ codes "version" ∷ codes "approval" ∷ []))
 get_desk_is s at tree stands = means_of s GET_DESK.now _ (reads_known _ _ _ _ _ (get_desk_reads tree) s at stands) refl refl
-
-abbrev pub desk_terms : List Term
-desk_terms = lit (Int (pos 1)) ∷ lit Null ∷ lit (Text (codes "fwdesk")) ∷ lit (Int (pos 1)) ∷ col 0 0 ∷ []
-
-put_desk_adds : (tree : ℕ) → Adds PUT_DESK.now (codes "desk") (desk_table tree) (Values desk_terms 5)
-unfolding first new_rows everything
-put_desk_adds tree = record { parsed = _; columns = _; rows = _; read = refl; statement = refl; formats = refl; fits = λ s. refl }
-
-pub put_desk_is : (s : Schema) (at tree : ℕ) → Stands s (codes "desk") at (desk_table tree) → Means s PUT_DESK.now (Insert at (Values desk_terms 5))
-put_desk_is s at tree stands = means_of s PUT_DESK.now _ (adds_known _ _ (desk_table tree) _ (put_desk_adds tree) s at stands) refl refl
-
--- ---- modules
 
 abbrev pub same_label : List Term
 same_label = at_key 2 0 ∷ at_key 3 1 ∷ at_key 4 2 ∷ []
@@ -158,19 +148,3 @@ put_module_adds tree = record { parsed = _; columns = _; rows = _; read = refl; 
 
 pub put_module_is : (s : Schema) (at tree : ℕ) → Stands s (codes "module") at (module_table tree) → Means s PUT_MODULE.now (Insert at (Values module_terms 5))
 put_module_is s at tree stands = means_of s PUT_MODULE.now _ (adds_known _ _ (module_table tree) _ (put_module_adds tree) s at stands) refl refl
-
--- ---- the tables
-
-pub create_desk_makes : Makes CREATE_DESK.now (codes "desk") (desk_table 0)
-unfolding first is_reserved everything
-create_desk_makes = record { parsed = _; made = _; read = refl; statement = refl; named = refl; unreserved = refl; defined = refl; whole = refl }
-
-pub create_desk_is : (s : Schema) → is_used s (codes "desk") ≡ false → Means s CREATE_DESK.now CreateTable
-create_desk_is s free = means_of s CREATE_DESK.now _ (makes_known _ _ (desk_table 0) create_desk_makes s free) refl refl
-
-pub create_module_makes : Makes CREATE_MODULE.now (codes "module") (module_table 0)
-unfolding first is_reserved everything
-create_module_makes = record { parsed = _; made = _; read = refl; statement = refl; named = refl; unreserved = refl; defined = refl; whole = refl }
-
-pub create_module_is : (s : Schema) → is_used s (codes "module") ≡ false → Means s CREATE_MODULE.now CreateTable
-create_module_is s free = means_of s CREATE_MODULE.now _ (makes_known _ _ (module_table 0) create_module_makes s free) refl refl

@@ -19,13 +19,14 @@ use Rattle.sql_calls.proofs.NumberedTables.{has_number}
 use Rattle.rollout_machine.specs.Commands.{ModuleLabel}
 use Rattle.rollout_machine.specs.ByteStrings.{same_bytes, item_numbered}
 use Rattle.rollout_machine.specs.Records.{Records}
-use Rattle.desk_records.specs.Modules.{words_of, with_module, is_same, IsLastRow, IsModuleRow}
-use Rattle.desk_records.specs.Schema.{Place, Desk, Modules, Sets, SetModules, Artifacts, Pieces, Targets, TargetTags, TargetAttributes, module_table}
-use Rattle.desk_records.specs.Holds.{HoldsRecords, IsHeld, module_row}
-use Rattle.desk_records.proofs.HoldsAfter.{holds_after}
+use Rattle.desk_records.specs.Modules.{words_of, with_module, is_same, IsLastRow}
+use Rattle.desk_records.specs.Schema.{Place, Desk, Modules, Sets, SetModules, Artifacts, Pieces, Targets, TargetTags, TargetAttributes, OfRollouts, module_table}
+use Rattle.desk_records.specs.Holds.{HoldsRecords, IsHeld, ledger_of, module_row}
+use Rattle.desk_records.proofs.HoldsAfter.{holds_after, rollouts_kept}
 use Rattle.desk_records.proofs.Comparisons.{judged, words_equal, and_true}
 use Rattle.desk_records.proofs.NumberedReads.{finds, lasts, gets}
-use Rattle.desk_records.proofs.Meaning.{at_key, same_label, label_columns, last_module_query, module_terms}
+use Rattle.desk_records.proofs.MeaningWords.{at_key}
+use Rattle.desk_records.proofs.Meaning.{same_label, label_columns, last_module_query, module_terms}
 
 -- ---- whether a module is there
 
@@ -48,16 +49,10 @@ passes_number : (number n : ℕ) (label : ModuleLabel) → passes (at_key 0 0 �
 unfolding binary
 passes_number number n label = and_true _ ∙ judged _
 
-is_its_row : (found : Option ModuleLabel) (row : Option Row) → row ≡ option_map words_of found → IsModuleRow found row
-is_its_row None None is = refl
-is_its_row None (Some row) is = absurd cc
-is_its_row (Some label) None is = absurd cc
-is_its_row (Some label) (Some row) is = (label, refl, (let e : row ≡ words_of label = cc in e))
-
 pub gets_module : (number : ℕ) → 1 ≤ number → (db : Database) (now : Records) (holds : HoldsRecords db now) (names : List (List ℕ)) (row : Option Row)
-    → ShowsFirst (Select (record { lets = []; body = simple (holds.spot Modules).tree (at_key 0 0 ∷ []) label_columns }) names) db (Int (pos number) ∷ []) row → IsModuleRow (item_numbered now.modules number) row
+    → ShowsFirst (Select (record { lets = []; body = simple (holds.spot Modules).tree (at_key 0 0 ∷ []) label_columns }) names) db (Int (pos number) ∷ []) row → row ≡ option_map words_of (item_numbered now.modules number)
 gets_module number least db now holds names row shown =
-    is_its_row (item_numbered now.modules number) row (gets module_row (holds.spot Modules).tree db now.modules (holds.rows Modules) names (λ n x. refl) (at_key 0 0 ∷ []) label_columns passes_number number least row shown)
+    gets module_row (holds.spot Modules).tree db now.modules (holds.rows Modules) names (λ n x. refl) (at_key 0 0 ∷ []) label_columns passes_number number least row shown
 
 -- ---- a new row
 
@@ -71,7 +66,7 @@ adds_module label number old new text count now holds next w =
     let table : new.now.trees spot.tree ≡ rows_from module_row 1 (now.modules ++ label ∷ []) = made.applies.rows ∙ rw (cast_int number, cast_null, holds.rows Modules, at) (put_next module_row (λ n x. refl) 1 now.modules label) in
     holds_after Modules now (with_module now label) old.now new.now holds made.schema_is w.sound table made.applies.tables only holds.sorted (record { rollouts = holds.bare.rollouts; actions = holds.bare.actions })
   where
-    only : (t : Place) → t ≢ Modules → (rows : List Row) → IsHeld now t rows → IsHeld (with_module now label) t rows
+    only : (t : Place) → t ≢ Modules → (rows : List Row) → IsHeld (ledger_of now) t rows → IsHeld (ledger_of (with_module now label)) t rows
     only Desk apart rows held = held
     only Modules apart rows held = absurd (apart refl)
     only Sets apart rows held = held
@@ -81,3 +76,4 @@ adds_module label number old new text count now holds next w =
     only Targets apart rows held = held
     only TargetTags apart rows held = held
     only TargetAttributes apart rows held = held
+    only (OfRollouts t) apart rows held = rollouts_kept now (with_module now label) refl refl t rows held

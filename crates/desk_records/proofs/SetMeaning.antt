@@ -1,9 +1,10 @@
--- What the texts of distribution sets mean, wherever the tables stand.
-use Rattle.std.proofs.Common.{◌≡◌, refl, List, [], ◌∷◌, ℕ, codes, pos, negsuc, true, false}
+-- Written by tools/meanings.
+-- What the texts of src/set_texts.rt mean, wherever their tables stand.
+use Rattle.std.proofs.Common.{refl, List, [], ◌∷◌, ℕ, codes, pos, negsuc, true, false}
 use Rattle.sqlite.specs.declared.types.Value.TheVariants.{Null, Int}
 use Rattle.sqlite.specs.Collation.TheVariants.{Binary}
 use Rattle.sqlite.specs.Schema.{Schema}
-use Rattle.sqlite.specs.Command.TheVariants.{Select, Insert, CreateTable}
+use Rattle.sqlite.specs.Command.TheVariants.{Select, Insert}
 use Rattle.sqlite.specs.Source.TheVariants.{Values}
 use Rattle.sqlite.specs.Query.{Query}
 use Rattle.sqlite.specs.Term.{Term, lit, col}
@@ -11,17 +12,22 @@ use Rattle.sqlite_tied.specs.Compute.{everything}
 use Rattle.sqlite_resolve.specs.Compile.{first, new_rows, is_reserved}
 use Rattle.sqlite_resolve.specs.Expr.{combine}
 use Rattle.sqlite_resolve.specs.Select.{named, paging}
-use Rattle.sqlite_catalog.specs.Change.{is_used}
 use Rattle.sql_front.specs.Stands.{Stands}
 use Rattle.sql_front.proofs.Texts.{Reads, reads_known}
-use Rattle.sql_front.proofs.Write.{Adds, Makes, adds_known, makes_known}
+use Rattle.sql_front.proofs.Write.{Adds, Makes, adds_known}
 use Rattle.sql_calls.proofs.Means.{Means}
 use Rattle.sql_calls.proofs.Selects.{simple, by}
 use Rattle.desk_records.specs.declared.set_texts.TheConstants.{CREATE_SET, CREATE_SET_MODULE, FIND_SET, LAST_SET, GET_SET, LIST_SET_MODULES, MODULE_LOCKED, PUT_SET, PUT_SET_MODULE}
 use Rattle.desk_records.specs.Schema.{set_table, set_module_table}
-use Rattle.desk_records.proofs.Meaning.{means_of, at_key}
+use Rattle.desk_records.proofs.MeaningWords.{means_of, at_key}
 
--- ---- sets
+pub create_set_makes : Makes CREATE_SET.now (codes "dset") (set_table 0)
+unfolding first is_reserved everything
+create_set_makes = record { parsed = _; made = _; read = refl; statement = refl; named = refl; unreserved = refl; defined = refl; whole = refl }
+
+pub create_set_module_makes : Makes CREATE_SET_MODULE.now (codes "set_module") (set_module_table 0)
+unfolding first is_reserved everything
+create_set_module_makes = record { parsed = _; made = _; read = refl; statement = refl; named = refl; unreserved = refl; defined = refl; whole = refl }
 
 abbrev pub same_names : List Term
 same_names = at_key 2 0 ∷ at_key 3 1 ∷ []
@@ -98,18 +104,6 @@ get_set_reads tree = record {
 pub get_set_is : (s : Schema) (at tree : ℕ) → Stands s (codes "dset") at (set_table tree) → Means s GET_SET.now (Select (record { lets = []; body = simple tree (at_key 0 0 ∷ []) name_columns }) (codes "name" ∷ codes "version" ∷ []))
 get_set_is s at tree stands = means_of s GET_SET.now _ (reads_known _ _ _ _ _ (get_set_reads tree) s at stands) refl refl
 
-abbrev pub set_terms : List Term
-set_terms = col 0 0 ∷ lit Null ∷ col 0 1 ∷ col 0 2 ∷ []
-
-put_set_adds : (tree : ℕ) → Adds PUT_SET.now (codes "dset") (set_table tree) (Values set_terms 4)
-unfolding first new_rows everything
-put_set_adds tree = record { parsed = _; columns = _; rows = _; read = refl; statement = refl; formats = refl; fits = λ s. refl }
-
-pub put_set_is : (s : Schema) (at tree : ℕ) → Stands s (codes "dset") at (set_table tree) → Means s PUT_SET.now (Insert at (Values set_terms 4))
-put_set_is s at tree stands = means_of s PUT_SET.now _ (adds_known _ _ (set_table tree) _ (put_set_adds tree) s at stands) refl refl
-
--- ---- their modules
-
 abbrev pub set_modules_query : ℕ → Query
 set_modules_query tree = by (simple tree (at_key 1 0 ∷ []) (col 1 3 ∷ [])) ((col 1 2, record { descending = false; collation = Binary }) ∷ []) (lit (Int (negsuc 0))) (lit (Int (pos 0)))
 
@@ -160,6 +154,16 @@ module_locked_reads tree = record {
 pub module_locked_is : (s : Schema) (at tree : ℕ) → Stands s (codes "set_module") at (set_module_table tree) → Means s MODULE_LOCKED.now (Select (record { lets = []; body = locked_query tree }) (codes "dset" ∷ []))
 module_locked_is s at tree stands = means_of s MODULE_LOCKED.now _ (reads_known _ _ _ _ _ (module_locked_reads tree) s at stands) refl refl
 
+abbrev pub set_terms : List Term
+set_terms = col 0 0 ∷ lit Null ∷ col 0 1 ∷ col 0 2 ∷ []
+
+put_set_adds : (tree : ℕ) → Adds PUT_SET.now (codes "dset") (set_table tree) (Values set_terms 4)
+unfolding first new_rows everything
+put_set_adds tree = record { parsed = _; columns = _; rows = _; read = refl; statement = refl; formats = refl; fits = λ s. refl }
+
+pub put_set_is : (s : Schema) (at tree : ℕ) → Stands s (codes "dset") at (set_table tree) → Means s PUT_SET.now (Insert at (Values set_terms 4))
+put_set_is s at tree stands = means_of s PUT_SET.now _ (adds_known _ _ (set_table tree) _ (put_set_adds tree) s at stands) refl refl
+
 abbrev pub set_module_terms : List Term
 set_module_terms = lit Null ∷ col 0 0 ∷ col 0 1 ∷ col 0 2 ∷ []
 
@@ -169,19 +173,3 @@ put_set_module_adds tree = record { parsed = _; columns = _; rows = _; read = re
 
 pub put_set_module_is : (s : Schema) (at tree : ℕ) → Stands s (codes "set_module") at (set_module_table tree) → Means s PUT_SET_MODULE.now (Insert at (Values set_module_terms 4))
 put_set_module_is s at tree stands = means_of s PUT_SET_MODULE.now _ (adds_known _ _ (set_module_table tree) _ (put_set_module_adds tree) s at stands) refl refl
-
--- ---- the tables
-
-pub create_set_makes : Makes CREATE_SET.now (codes "dset") (set_table 0)
-unfolding first is_reserved everything
-create_set_makes = record { parsed = _; made = _; read = refl; statement = refl; named = refl; unreserved = refl; defined = refl; whole = refl }
-
-pub create_set_is : (s : Schema) → is_used s (codes "dset") ≡ false → Means s CREATE_SET.now CreateTable
-create_set_is s free = means_of s CREATE_SET.now _ (makes_known _ _ (set_table 0) create_set_makes s free) refl refl
-
-pub create_set_module_makes : Makes CREATE_SET_MODULE.now (codes "set_module") (set_module_table 0)
-unfolding first is_reserved everything
-create_set_module_makes = record { parsed = _; made = _; read = refl; statement = refl; named = refl; unreserved = refl; defined = refl; whole = refl }
-
-pub create_set_module_is : (s : Schema) → is_used s (codes "set_module") ≡ false → Means s CREATE_SET_MODULE.now CreateTable
-create_set_module_is s free = means_of s CREATE_SET_MODULE.now _ (makes_known _ _ (set_module_table 0) create_set_module_makes s free) refl refl

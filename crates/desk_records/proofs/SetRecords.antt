@@ -19,11 +19,11 @@ use Rattle.rollout_machine.specs.Objects.{modules_of_set}
 use Rattle.rollout_machine.specs.Records.{Records}
 use Rattle.rollout_machine.specs.Verdicts.{is_named_by_set}
 use Rattle.desk_records.specs.Modules.{IsLastRow}
-use Rattle.desk_records.specs.Schema.{Place, Desk, Modules, Sets, SetModules, Artifacts, Pieces, Targets, TargetTags, TargetAttributes, set_table, set_module_table}
+use Rattle.desk_records.specs.Schema.{Place, Desk, Modules, Sets, SetModules, Artifacts, Pieces, Targets, TargetTags, TargetAttributes, OfRollouts, set_table, set_module_table}
 use Rattle.desk_records.specs.Sets.{set_row, place_row, places_from, is_same_set, names_of, module_rows, with_set, and_module, AddsSetModule}
-use Rattle.desk_records.specs.Holds.{HoldsRecords, IsHeld}
-use Rattle.desk_records.proofs.HoldsAfter.{holds_after}
-use Rattle.desk_records.proofs.Meaning.{at_key}
+use Rattle.desk_records.specs.Holds.{HoldsRecords, IsHeld, ledger_of}
+use Rattle.desk_records.proofs.HoldsAfter.{holds_after, rollouts_kept}
+use Rattle.desk_records.proofs.MeaningWords.{at_key}
 use Rattle.desk_records.proofs.SetMeaning.{same_names, last_set_query, name_columns, set_terms, set_modules_query, locked_query, set_module_terms}
 use Rattle.desk_records.proofs.Sets as lists
 
@@ -59,7 +59,7 @@ adds_set name version number old new text count now holds next w =
     let table = lists.set_added name version number spot.tree old.now.schema old.now new.now now.sets (holds.rows Sets) next made in
     holds_after Sets now (with_set now name version) old.now new.now holds made.schema_is w.sound table made.applies.tables only holds.sorted (record { rollouts = holds.bare.rollouts; actions = holds.bare.actions })
   where
-    only : (t : Place) → t ≢ Sets → (rows : List Row) → IsHeld now t rows → IsHeld (with_set now name version) t rows
+    only : (t : Place) → t ≢ Sets → (rows : List Row) → IsHeld (ledger_of now) t rows → IsHeld (ledger_of (with_set now name version)) t rows
     only Desk apart rows held = held
     only Modules apart rows held = held
     only Sets apart rows held = absurd (apart refl)
@@ -69,6 +69,7 @@ adds_set name version number old new text count now holds next w =
     only Targets apart rows held = held
     only TargetTags apart rows held = held
     only TargetAttributes apart rows held = held
+    only (OfRollouts t) apart rows held = rollouts_kept now (with_set now name version) refl refl t rows held
 
 pub adds_set_module : (number place m : ℕ) (old new : State) (text : List ℕ) (count : ℕ) (now next : Records) (holds : HoldsRecords old.now now) → AddsSetModule number place m now next
     → (w : Writes old new None (Insert (holds.spot SetModules).at (Values set_module_terms 4)) text (place_row number place m) count) → HoldsRecords new.now next
@@ -81,7 +82,7 @@ adds_set_module number place m old new text count now next holds change w =
     subst (HoldsRecords new.now) (sym change.next_is)
     (holds_after SetModules now after old.now new.now holds made.schema_is w.sound table made.applies.tables only holds.sorted (record { rollouts = holds.bare.rollouts; actions = holds.bare.actions }))
   where
-    only : (t : Place) → t ≢ SetModules → (rows : List Row) → IsHeld now t rows → IsHeld (record now { sets = change.before ++ and_module change.set m ∷ [] }) t rows
+    only : (t : Place) → t ≢ SetModules → (rows : List Row) → IsHeld (ledger_of now) t rows → IsHeld (ledger_of (record now { sets = change.before ++ and_module change.set m ∷ [] })) t rows
     only Desk apart rows held = held
     only Modules apart rows held = held
     only Sets apart rows held = held ∙ ap (rows_from set_row 1) change.last ∙ sym (lists.same_sets 1 change.before change.set m)
@@ -91,3 +92,4 @@ adds_set_module number place m old new text count now next holds change w =
     only Targets apart rows held = held
     only TargetTags apart rows held = held
     only TargetAttributes apart rows held = held
+    only (OfRollouts t) apart rows held = rollouts_kept now (record now { sets = change.before ++ and_module change.set m ∷ [] }) refl refl t rows held

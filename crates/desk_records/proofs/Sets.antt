@@ -34,7 +34,7 @@ use Rattle.rollout_machine.specs.Verdicts.{is_named_by_set}
 use Rattle.desk_records.specs.Modules.{IsLastRow}
 use Rattle.desk_records.specs.Schema.{set_table, set_module_table}
 use Rattle.desk_records.specs.Sets.{set_row, place_row, places_from, is_same_set, names_of, module_rows, set_named, and_module}
-use Rattle.desk_records.proofs.Meaning.{at_key}
+use Rattle.desk_records.proofs.MeaningWords.{at_key}
 use Rattle.desk_records.proofs.SetMeaning.{same_names, last_set_query, name_columns, set_terms, set_modules_query, locked_query, set_module_terms}
 use Rattle.desk_records.proofs.Comparisons.{judged, words_equal, numbers_equal, and_true}
 use Rattle.desk_records.proofs.NumberedReads.{finds, lasts, gets, some_pass, some_row}

@@ -1,9 +1,10 @@
--- What the texts of targets, their tags and their attributes mean, wherever the tables stand.
-use Rattle.std.proofs.Common.{◌≡◌, refl, List, [], ◌∷◌, ℕ, codes, pos, negsuc, false}
+-- Written by tools/meanings.
+-- What the texts of src/target_texts.rt mean, wherever their tables stand.
+use Rattle.std.proofs.Common.{refl, List, [], ◌∷◌, ℕ, codes, pos, negsuc, false}
 use Rattle.sqlite.specs.declared.types.Value.TheVariants.{Null, Int}
 use Rattle.sqlite.specs.Collation.TheVariants.{Binary}
 use Rattle.sqlite.specs.Schema.{Schema}
-use Rattle.sqlite.specs.Command.TheVariants.{Select, Insert, Update, Delete, CreateTable}
+use Rattle.sqlite.specs.Command.TheVariants.{Select, Insert, Update, Delete}
 use Rattle.sqlite.specs.Source.TheVariants.{Values}
 use Rattle.sqlite.specs.Query.{Query}
 use Rattle.sqlite.specs.Term.{Term, lit, col}
@@ -12,19 +13,28 @@ use Rattle.sqlite_resolve.specs.Compile.{first, new_rows, is_reserved}
 use Rattle.sqlite_resolve.specs.Expr.{combine}
 use Rattle.sqlite_resolve.specs.Select.{named, paging}
 use Rattle.sqlite_resolve.specs.Write.{updated, deleted}
-use Rattle.sqlite_catalog.specs.Change.{is_used}
 use Rattle.sql_front.specs.Stands.{Stands}
 use Rattle.sql_front.proofs.Texts.{Reads, reads_known}
-use Rattle.sql_front.proofs.Write.{Adds, Makes, adds_known, makes_known}
+use Rattle.sql_front.proofs.Write.{Adds, Makes, adds_known}
 use Rattle.sql_front.proofs.Change.{Changes, Removes, changes_known, removes_known}
 use Rattle.sql_calls.proofs.Means.{Means}
 use Rattle.sql_calls.proofs.Selects.{simple, by}
 use Rattle.sql_calls.proofs.Counts.{count_query}
 use Rattle.desk_records.specs.declared.target_texts.TheConstants.{CREATE_TARGET, CREATE_TARGET_TAG, CREATE_TARGET_ATTRIBUTE, GET_TARGET, COUNT_TARGETS, LIST_TARGETS, LIST_TARGET_TAGS, PUT_TARGET, SET_TARGET, PUT_TARGET_TAG, DROP_TARGET_TAG, LIST_TARGET_ATTRIBUTES, PUT_TARGET_ATTRIBUTE, SET_TARGET_ATTRIBUTE}
 use Rattle.desk_records.specs.Schema.{target_table, target_tag_table, target_attribute_table}
-use Rattle.desk_records.proofs.Meaning.{means_of, at_key}
+use Rattle.desk_records.proofs.MeaningWords.{means_of, at_key}
 
--- ---- targets
+pub create_target_makes : Makes CREATE_TARGET.now (codes "target") (target_table 0)
+unfolding first is_reserved everything
+create_target_makes = record { parsed = _; made = _; read = refl; statement = refl; named = refl; unreserved = refl; defined = refl; whole = refl }
+
+pub create_target_tag_makes : Makes CREATE_TARGET_TAG.now (codes "target_tag") (target_tag_table 0)
+unfolding first is_reserved everything
+create_target_tag_makes = record { parsed = _; made = _; read = refl; statement = refl; named = refl; unreserved = refl; defined = refl; whole = refl }
+
+pub create_target_attribute_makes : Makes CREATE_TARGET_ATTRIBUTE.now (codes "target_attribute") (target_attribute_table 0)
+unfolding first is_reserved everything
+create_target_attribute_makes = record { parsed = _; made = _; read = refl; statement = refl; named = refl; unreserved = refl; defined = refl; whole = refl }
 
 abbrev pub of_target : List Term
 of_target = at_key 1 0 ∷ []
@@ -101,6 +111,31 @@ list_targets_reads tree = record {
 pub list_targets_is : (s : Schema) (at tree : ℕ) → Stands s (codes "target") at (target_table tree) → Means s LIST_TARGETS.now (Select (record { lets = []; body = targets_query tree }) (codes "controller" ∷ codes "name" ∷ []))
 list_targets_is s at tree stands = means_of s LIST_TARGETS.now _ (reads_known _ _ _ _ _ (list_targets_reads tree) s at stands) refl refl
 
+abbrev pub tags_query : ℕ → Query
+tags_query tree = by (simple tree of_target (col 1 2 ∷ [])) ((col 1 2, record { descending = false; collation = Binary }) ∷ []) (lit (Int (negsuc 0))) (lit (Int (pos 0)))
+
+list_target_tags_reads : (tree : ℕ) → Reads LIST_TARGET_TAGS.now (codes "target_tag") (target_tag_table tree) (tags_query tree) (codes "tag" ∷ [])
+unfolding first combine named paging everything
+list_target_tags_reads tree = record {
+  parsed = _;
+  select = _;
+  page = _;
+  shown = _;
+  read = refl;
+  selects = record { statement = refl; formats = refl; with = refl; others = refl };
+  one = record { source = _; from = refl; table = refl; alias = refl; on = refl; using = refl; is_inner = refl; group = refl; having = refl; shown = (tt, tt); filter = ((refl, λ cx how x y. refl), tt, tt); sorts = (tt, tt) };
+  paged = λ s. refl;
+  named_alone = refl;
+  known = refl;
+  is_body = refl;
+  are_columns = refl;
+  over = refl;
+  fits = refl;
+}
+
+pub list_target_tags_is : (s : Schema) (at tree : ℕ) → Stands s (codes "target_tag") at (target_tag_table tree) → Means s LIST_TARGET_TAGS.now (Select (record { lets = []; body = tags_query tree }) (codes "tag" ∷ []))
+list_target_tags_is s at tree stands = means_of s LIST_TARGET_TAGS.now _ (reads_known _ _ _ _ _ (list_target_tags_reads tree) s at stands) refl refl
+
 abbrev pub target_terms : List Term
 target_terms = lit Null ∷ col 0 0 ∷ col 0 1 ∷ col 0 2 ∷ []
 
@@ -138,33 +173,6 @@ set_target_changes tree = record {
 pub set_target_is : (s : Schema) (at tree : ℕ) → Stands s (codes "target") at (target_table tree) → Means s SET_TARGET.now (Update at (record { lets = []; body = set_target_query tree }))
 set_target_is s at tree stands = means_of s SET_TARGET.now _ (changes_known _ _ _ _ (set_target_changes tree) s at stands) refl refl
 
--- ---- their tags
-
-abbrev pub tags_query : ℕ → Query
-tags_query tree = by (simple tree of_target (col 1 2 ∷ [])) ((col 1 2, record { descending = false; collation = Binary }) ∷ []) (lit (Int (negsuc 0))) (lit (Int (pos 0)))
-
-list_target_tags_reads : (tree : ℕ) → Reads LIST_TARGET_TAGS.now (codes "target_tag") (target_tag_table tree) (tags_query tree) (codes "tag" ∷ [])
-unfolding first combine named paging everything
-list_target_tags_reads tree = record {
-  parsed = _;
-  select = _;
-  page = _;
-  shown = _;
-  read = refl;
-  selects = record { statement = refl; formats = refl; with = refl; others = refl };
-  one = record { source = _; from = refl; table = refl; alias = refl; on = refl; using = refl; is_inner = refl; group = refl; having = refl; shown = (tt, tt); filter = ((refl, λ cx how x y. refl), tt, tt); sorts = (tt, tt) };
-  paged = λ s. refl;
-  named_alone = refl;
-  known = refl;
-  is_body = refl;
-  are_columns = refl;
-  over = refl;
-  fits = refl;
-}
-
-pub list_target_tags_is : (s : Schema) (at tree : ℕ) → Stands s (codes "target_tag") at (target_tag_table tree) → Means s LIST_TARGET_TAGS.now (Select (record { lets = []; body = tags_query tree }) (codes "tag" ∷ []))
-list_target_tags_is s at tree stands = means_of s LIST_TARGET_TAGS.now _ (reads_known _ _ _ _ _ (list_target_tags_reads tree) s at stands) refl refl
-
 abbrev pub tag_terms : List Term
 tag_terms = lit Null ∷ col 0 0 ∷ col 0 1 ∷ []
 
@@ -200,8 +208,6 @@ drop_target_tag_removes tree = record {
 pub drop_target_tag_is : (s : Schema) (at tree : ℕ) → Stands s (codes "target_tag") at (target_tag_table tree) → Means s DROP_TARGET_TAG.now (Delete at (record { lets = []; body = drop_tag_query tree }))
 drop_target_tag_is s at tree stands = means_of s DROP_TARGET_TAG.now _ (removes_known _ _ _ _ (drop_target_tag_removes tree) s at stands) refl refl
 
--- ---- their attributes
-
 abbrev pub attributes_query : ℕ → Query
 attributes_query tree = by (simple tree of_target (col 1 2 ∷ col 1 3 ∷ [])) ((col 1 2, record { descending = false; collation = Binary }) ∷ []) (lit (Int (negsuc 0))) (lit (Int (pos 0)))
 
@@ -224,8 +230,7 @@ list_target_attributes_reads tree = record {
   fits = refl;
 }
 
-pub list_target_attributes_is : (s : Schema) (at tree : ℕ) → Stands s (codes "target_attribute") at (target_attribute_table tree)
-    → Means s LIST_TARGET_ATTRIBUTES.now (Select (record { lets = []; body = attributes_query tree }) (codes "key" ∷ codes "value" ∷ []))
+pub list_target_attributes_is : (s : Schema) (at tree : ℕ) → Stands s (codes "target_attribute") at (target_attribute_table tree) → Means s LIST_TARGET_ATTRIBUTES.now (Select (record { lets = []; body = attributes_query tree }) (codes "key" ∷ codes "value" ∷ []))
 list_target_attributes_is s at tree stands = means_of s LIST_TARGET_ATTRIBUTES.now _ (reads_known _ _ _ _ _ (list_target_attributes_reads tree) s at stands) refl refl
 
 abbrev pub attribute_terms : List Term
@@ -238,11 +243,11 @@ put_target_attribute_adds tree = record { parsed = _; columns = _; rows = _; rea
 pub put_target_attribute_is : (s : Schema) (at tree : ℕ) → Stands s (codes "target_attribute") at (target_attribute_table tree) → Means s PUT_TARGET_ATTRIBUTE.now (Insert at (Values attribute_terms 4))
 put_target_attribute_is s at tree stands = means_of s PUT_TARGET_ATTRIBUTE.now _ (adds_known _ _ (target_attribute_table tree) _ (put_target_attribute_adds tree) s at stands) refl refl
 
-abbrev pub new_value : List Term
-new_value = col 1 1 ∷ col 1 2 ∷ col 0 2 ∷ []
-
 abbrev pub of_attribute : List Term
 of_attribute = at_key 1 0 ∷ at_key 2 1 ∷ []
+
+abbrev pub new_value : List Term
+new_value = col 1 1 ∷ col 1 2 ∷ col 0 2 ∷ []
 
 abbrev pub set_attribute_query : ℕ → Query
 set_attribute_query tree = simple tree of_attribute (col 1 0 ∷ col 1 0 ∷ new_value)
@@ -267,26 +272,3 @@ set_target_attribute_changes tree = record {
 
 pub set_target_attribute_is : (s : Schema) (at tree : ℕ) → Stands s (codes "target_attribute") at (target_attribute_table tree) → Means s SET_TARGET_ATTRIBUTE.now (Update at (record { lets = []; body = set_attribute_query tree }))
 set_target_attribute_is s at tree stands = means_of s SET_TARGET_ATTRIBUTE.now _ (changes_known _ _ _ _ (set_target_attribute_changes tree) s at stands) refl refl
-
--- ---- the tables
-
-pub create_target_makes : Makes CREATE_TARGET.now (codes "target") (target_table 0)
-unfolding first is_reserved everything
-create_target_makes = record { parsed = _; made = _; read = refl; statement = refl; named = refl; unreserved = refl; defined = refl; whole = refl }
-
-pub create_target_is : (s : Schema) → is_used s (codes "target") ≡ false → Means s CREATE_TARGET.now CreateTable
-create_target_is s free = means_of s CREATE_TARGET.now _ (makes_known _ _ (target_table 0) create_target_makes s free) refl refl
-
-pub create_target_tag_makes : Makes CREATE_TARGET_TAG.now (codes "target_tag") (target_tag_table 0)
-unfolding first is_reserved everything
-create_target_tag_makes = record { parsed = _; made = _; read = refl; statement = refl; named = refl; unreserved = refl; defined = refl; whole = refl }
-
-pub create_target_tag_is : (s : Schema) → is_used s (codes "target_tag") ≡ false → Means s CREATE_TARGET_TAG.now CreateTable
-create_target_tag_is s free = means_of s CREATE_TARGET_TAG.now _ (makes_known _ _ (target_tag_table 0) create_target_tag_makes s free) refl refl
-
-pub create_target_attribute_makes : Makes CREATE_TARGET_ATTRIBUTE.now (codes "target_attribute") (target_attribute_table 0)
-unfolding first is_reserved everything
-create_target_attribute_makes = record { parsed = _; made = _; read = refl; statement = refl; named = refl; unreserved = refl; defined = refl; whole = refl }
-
-pub create_target_attribute_is : (s : Schema) → is_used s (codes "target_attribute") ≡ false → Means s CREATE_TARGET_ATTRIBUTE.now CreateTable
-create_target_attribute_is s free = means_of s CREATE_TARGET_ATTRIBUTE.now _ (makes_known _ _ (target_attribute_table 0) create_target_attribute_makes s free) refl refl

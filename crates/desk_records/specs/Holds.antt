@@ -1,20 +1,24 @@
 -- When tables hold the records of a desk.
-use Rattle.std.specs.Prelude.{◌≡◌, ℕ, Bool, true, if◌then◌else◌, List, [], ◌∷◌, map, codes, pos}
-use Rattle.std.specs.List.{flat_map}
+use Rattle.std.specs.Prelude.{◌≡◌, ℕ, Bool, true, List, [], ◌∷◌, map, codes, Option, pos}
+use Rattle.std.specs.List.{flat_map, zip}
 use Rattle.sqlite_value.specs.declared.value.Value.TheVariants.{Null, Int, Text}
 use Rattle.sqlite_value.specs.Order.{Row}
 use Rattle.sqlite.specs.Effect.{Database, IsDatabase}
 use Rattle.sql_front.specs.Stands.{Stands}
 use Rattle.sql_calls.specs.Keyed.{rows_from, IsHeldBy}
-use Rattle.rollout_machine.specs.Commands.{ModuleLabel}
+use Rattle.rollout_model.specs.declared.rollout.Offer.{Offer}
+use Rattle.rollout_machine.specs.Commands.{Bytes, ModuleLabel}
+use Rattle.rollout_machine.specs.Offers.{offer}
 use Rattle.rollout_machine.specs.Records.{Records}
-use Rattle.desk_records.specs.Schema.{Place, Desk, Modules, Sets, SetModules, Artifacts, Pieces, Targets, TargetTags, TargetAttributes, table_at, name_of}
+use Rattle.rollout_machine.specs.declared.records.ActionRecord.{ActionRecord}
+use Rattle.desk_records.specs.Schema.{Place, Desk, Modules, Sets, SetModules, Artifacts, Pieces, Targets, TargetTags, TargetAttributes, OfRollouts, RolloutPlace, Rollouts, Members, Groups, Actions, Feedbacks, Offers, table_at, name_of}
+use Rattle.desk_records.specs.Actions.{Tally, tally_of, action_row, entry_row}
 use Rattle.desk_records.specs.Artifacts.{artifact_row, pieces_from}
+use Rattle.desk_records.specs.Offers.{HoldsOffers}
+use Rattle.desk_records.specs.Parts.{parts_from}
+use Rattle.desk_records.specs.Rollouts.{flag, rollout_row, member_rows, group_rows}
 use Rattle.desk_records.specs.Sets.{set_row, places_from}
 use Rattle.desk_records.specs.Targets.{target_row, tag_rows, attribute_rows, are_sorted}
-
-abbrev pub flag : Bool → ℕ
-flag b = if b then 1 else 0
 
 -- format `fwdesk`, version 1
 abbrev pub desk_row : Bool → Row
@@ -23,19 +27,38 @@ desk_row approval = Int (pos 1) ∷ Null ∷ Text (codes "fwdesk") ∷ Int (pos 
 abbrev pub module_row : ℕ → ModuleLabel → Row
 module_row number m = Int (pos number) ∷ Null ∷ Text m.name ∷ Text m.kind ∷ Text m.version ∷ []
 
--- The rows of a place: numbered ones in the order of their numbers, all others in any order.
-abbrev pub IsHeld : Records → Place → List Row → Type 0
-IsHeld r Desk rows = rows ≡ desk_row r.approval ∷ []
-IsHeld r Modules rows = rows ≡ rows_from module_row 1 r.modules
-IsHeld r Sets rows = rows ≡ rows_from set_row 1 r.sets
-IsHeld r SetModules rows = IsHeldBy rows (places_from 1 r.sets)
-IsHeld r Artifacts rows = rows ≡ rows_from artifact_row 1 r.artifacts
-IsHeld r Pieces rows = IsHeldBy rows (pieces_from 1 r.artifacts)
-IsHeld r Targets rows = IsHeldBy rows (map target_row r.targets)
-IsHeld r TargetTags rows = IsHeldBy rows (flat_map tag_rows r.targets)
-IsHeld r TargetAttributes rows = IsHeldBy rows (flat_map attribute_rows r.targets)
+-- What tables keep: records, and beside them how many notes and entries each action has, and what each target is offered.
+pub record Ledger : Type 0 where
+  pub records : Records
+  pub tallies : List Tally
+  pub offers : Bytes → Option Offer
 
--- this version has no tables for rollouts and actions
+-- of records alone: what follows from them
+abbrev pub ledger_of : Records → Ledger
+ledger_of r = record { records = r; tallies = map tally_of r.actions; offers = offer r }
+
+-- The rows of a place: numbered ones in the order of their numbers, all others in any order.
+abbrev pub IsHeldOfRollouts : Ledger → RolloutPlace → List Row → Type 0
+IsHeldOfRollouts l Rollouts rows = rows ≡ rows_from rollout_row 1 l.records.rollouts
+IsHeldOfRollouts l Members rows = IsHeldBy rows (flat_map member_rows l.records.rollouts)
+IsHeldOfRollouts l Groups rows = IsHeldBy rows (flat_map group_rows l.records.rollouts)
+IsHeldOfRollouts l Actions rows = rows ≡ rows_from (action_row l.records.rollouts) 1 (zip l.records.actions l.tallies)
+IsHeldOfRollouts l Feedbacks rows = IsHeldBy rows (parts_from entry_row (λ (a : ActionRecord). a.history) 1 l.records.actions)
+IsHeldOfRollouts l Offers rows = HoldsOffers rows l.offers
+
+abbrev pub IsHeld : Ledger → Place → List Row → Type 0
+IsHeld l Desk rows = rows ≡ desk_row l.records.approval ∷ []
+IsHeld l Modules rows = rows ≡ rows_from module_row 1 l.records.modules
+IsHeld l Sets rows = rows ≡ rows_from set_row 1 l.records.sets
+IsHeld l SetModules rows = IsHeldBy rows (places_from 1 l.records.sets)
+IsHeld l Artifacts rows = rows ≡ rows_from artifact_row 1 l.records.artifacts
+IsHeld l Pieces rows = IsHeldBy rows (pieces_from 1 l.records.artifacts)
+IsHeld l Targets rows = IsHeldBy rows (map target_row l.records.targets)
+IsHeld l TargetTags rows = IsHeldBy rows (flat_map tag_rows l.records.targets)
+IsHeld l TargetAttributes rows = IsHeldBy rows (flat_map attribute_rows l.records.targets)
+IsHeld l (OfRollouts t) rows = IsHeldOfRollouts l t rows
+
+-- this version takes no command of rollouts yet
 pub record HasNoRollouts (r : Records) : Type 0 where
   pub rollouts : r.rollouts ≡ []
   pub actions : r.actions ≡ []
@@ -45,11 +68,15 @@ pub record Spot : Type 0 where
   pub at : ℕ
   pub tree : ℕ
 
--- The tables of the schema stand somewhere among those of others, and hold the records.
-pub record HoldsRecords (db : Database) (r : Records) : Type 0 where
+-- The tables of the schema stand somewhere among those of others, and hold the ledger.
+pub record HoldsLedger (db : Database) (l : Ledger) : Type 0 where
   pub sound : IsDatabase db
   pub spot : Place → Spot
   pub stands : (t : Place) → Stands db.schema (name_of t) (spot t).at (table_at t (spot t).tree)
-  pub rows : (t : Place) → IsHeld r t (db.trees (spot t).tree)
-  pub sorted : are_sorted r.targets ≡ true
-  pub bare : HasNoRollouts r
+  pub rows : (t : Place) → IsHeld l t (db.trees (spot t).tree)
+  pub sorted : are_sorted l.records.targets ≡ true
+  pub bare : HasNoRollouts l.records
+
+-- the tables hold the records, and all that follows from them
+abbrev pub HoldsRecords : Database → Records → Type 0
+HoldsRecords db r = HoldsLedger db (ledger_of r)

@@ -9,3 +9,6 @@ pub mod Parts
 pub mod Artifacts
 pub mod ArtifactRow
 pub mod TargetRow
+pub mod Rollouts
+pub mod Actions
+pub mod Offers

@@ -21,8 +21,3 @@ with_module r m = record r { modules = r.modules ++ m ∷ [] }
 abbrev pub IsLastRow : ℕ → Option Row → Type 0
 IsLastRow n None = n ≡ 0
 IsLastRow n (Some row) = column row 0 ≡ Int (pos n)
-
--- no row, or the module's
-abbrev pub IsModuleRow : Option ModuleLabel → Option Row → Type 0
-IsModuleRow found None = found ≡ None
-IsModuleRow found (Some row) = (label : ModuleLabel) × (found ≡ Some label) × (row ≡ words_of label)

@@ -1,5 +1,5 @@
 -- The tables of a desk, version 1.
-use Rattle.std.specs.Prelude.{true, false, [], ◌∷◌, Some, None, codes, List, ℕ}
+use Rattle.std.specs.Prelude.{true, false, [], ◌∷◌, Some, None, codes, List, ℕ, map}
 use Rattle.sqlite_value.specs.Keys.{plain}
 use Rattle.sqlite.specs.Table.{Table}
 use Rattle.sqlite.specs.Kind.TheVariants.{Integer, Text, Blob}
@@ -41,6 +41,42 @@ target_tag_table tree = table_of (codes "target_tag") tree (strict (codes "contr
 abbrev pub target_attribute_table : ℕ → Table
 target_attribute_table tree = table_of (codes "target_attribute") tree (strict (codes "controller") Text true ∷ strict (codes "key") Text true ∷ strict (codes "value") Text true ∷ []) None (1 ∷ 2 ∷ []) ((1 ∷ 2 ∷ []) ∷ []) (plain ∷ [])
 
+-- the k-th row has number k; no two have the same name
+abbrev pub rollout_table : ℕ → Table
+rollout_table tree = table_of (codes "rollout") tree (strict (codes "number") Integer false ∷ strict (codes "name") Text true ∷ strict (codes "dset") Integer true ∷ strict (codes "filter_text") Text true ∷ strict (codes "groups") Integer true ∷ strict (codes "success") Integer true ∷ strict (codes "error") Integer true
+    ∷ strict (codes "approval") Integer true ∷ strict (codes "started") Integer true ∷ strict (codes "paused") Integer true ∷ []) (Some 0) (0 ∷ []) ((2 ∷ []) ∷ []) (plain ∷ [])
+
+-- a row for each member of each rollout; no place of a rollout is taken twice
+abbrev pub member_table : ℕ → Table
+member_table tree = table_of (codes "member") tree (strict (codes "rollout") Integer true ∷ strict (codes "place") Integer true ∷ strict (codes "controller") Text true ∷ []) None (1 ∷ 2 ∷ []) ((1 ∷ 2 ∷ []) ∷ []) (plain ∷ [])
+
+-- a row for each group of each rollout: found by its number, by its last place, and by that among those that are started or aren't
+abbrev pub group_table : ℕ → Table
+group_table tree = table_of (codes "rollout_group") tree (strict (codes "rollout") Integer true ∷ strict (codes "number") Integer true ∷ strict (codes "first_place") Integer true ∷ strict (codes "last_place") Integer true ∷ strict (codes "started") Integer true ∷ strict (codes "ok") Integer true ∷ strict (codes "bad") Integer true ∷ strict (codes "gone") Integer true ∷ [])
+    None (1 ∷ 2 ∷ []) ((1 ∷ 2 ∷ []) ∷ (1 ∷ 4 ∷ []) ∷ (1 ∷ 5 ∷ 4 ∷ []) ∷ []) (plain ∷ plain ∷ plain ∷ [])
+
+-- the k-th row has number k; a member of a rollout has one action
+abbrev pub action_table : ℕ → Table
+action_table tree = table_of (codes "action") tree (strict (codes "number") Integer false ∷ strict (codes "rollout") Integer true ∷ strict (codes "place") Integer true ∷ strict (codes "controller") Text true ∷ strict (codes "canceling") Integer true ∷ strict (codes "outcome") Integer true ∷ strict (codes "notes") Integer true ∷ strict (codes "entries") Integer true ∷ [])
+    (Some 0) (0 ∷ []) ((2 ∷ 3 ∷ []) ∷ (4 ∷ 0 ∷ []) ∷ []) (plain ∷ plain ∷ [])
+
+-- a row for each entry of each action's history; no place in a sequence is taken twice
+abbrev pub feedback_table : ℕ → Table
+feedback_table tree = table_of (codes "feedback") tree (strict (codes "action") Integer true ∷ strict (codes "sequence") Integer true ∷ strict (codes "kind") Integer true ∷ strict (codes "word") Integer true ∷ strict (codes "details") Text true ∷ []) None (1 ∷ 2 ∷ []) ((1 ∷ 2 ∷ []) ∷ []) (plain ∷ [])
+
+-- a row for each target that has an offer
+abbrev pub offer_table : ℕ → Table
+offer_table tree = table_of (codes "offer") tree (strict (codes "controller") Text true ∷ strict (codes "action") Integer true ∷ strict (codes "kind") Integer true ∷ []) None (1 ∷ []) ((1 ∷ []) ∷ []) (plain ∷ [])
+
+-- the tables of rollouts
+pub data RolloutPlace : Type 0 where
+  Rollouts : RolloutPlace
+  Members : RolloutPlace
+  Groups : RolloutPlace
+  Actions : RolloutPlace
+  Feedbacks : RolloutPlace
+  Offers : RolloutPlace
+
 pub data Place : Type 0 where
   Desk : Place
   Modules : Place
@@ -51,30 +87,40 @@ pub data Place : Type 0 where
   Targets : Place
   TargetTags : Place
   TargetAttributes : Place
+  OfRollouts : RolloutPlace → Place
+
+-- all of them, in the order in which they are made
+abbrev pub places : List Place
+places = Desk ∷ Modules ∷ Sets ∷ SetModules ∷ Artifacts ∷ Pieces ∷ Targets ∷ TargetTags ∷ TargetAttributes
+    ∷ OfRollouts Rollouts ∷ OfRollouts Members ∷ OfRollouts Groups ∷ OfRollouts Actions ∷ OfRollouts Feedbacks ∷ OfRollouts Offers ∷ []
+
+abbrev pub table_of_rollouts : RolloutPlace → Table
+table_of_rollouts Rollouts = rollout_table 0
+table_of_rollouts Members = member_table 0
+table_of_rollouts Groups = group_table 0
+table_of_rollouts Actions = action_table 0
+table_of_rollouts Feedbacks = feedback_table 0
+table_of_rollouts Offers = offer_table 0
+
+abbrev pub table_by : Place → Table
+table_by Desk = desk_table 0
+table_by Modules = module_table 0
+table_by Sets = set_table 0
+table_by SetModules = set_module_table 0
+table_by Artifacts = artifact_table 0
+table_by Pieces = piece_table 0
+table_by Targets = target_table 0
+table_by TargetTags = target_tag_table 0
+table_by TargetAttributes = target_attribute_table 0
+table_by (OfRollouts t) = table_of_rollouts t
 
 -- the table, with its rows in a tree
 abbrev pub table_at : Place → ℕ → Table
-table_at Desk tree = desk_table tree
-table_at Modules tree = module_table tree
-table_at Sets tree = set_table tree
-table_at SetModules tree = set_module_table tree
-table_at Artifacts tree = artifact_table tree
-table_at Pieces tree = piece_table tree
-table_at Targets tree = target_table tree
-table_at TargetTags tree = target_tag_table tree
-table_at TargetAttributes tree = target_attribute_table tree
+table_at t tree = record (table_by t) { tree = tree }
 
 abbrev pub name_of : Place → List ℕ
-name_of Desk = codes "desk"
-name_of Modules = codes "module"
-name_of Sets = codes "dset"
-name_of SetModules = codes "set_module"
-name_of Artifacts = codes "artifact"
-name_of Pieces = codes "piece"
-name_of Targets = codes "target"
-name_of TargetTags = codes "target_tag"
-name_of TargetAttributes = codes "target_attribute"
+name_of t = (table_by t).name
 
 -- the names of the schema
 abbrev pub desk_names : List (List ℕ)
-desk_names = name_of Desk ∷ name_of Modules ∷ name_of Sets ∷ name_of SetModules ∷ name_of Artifacts ∷ name_of Pieces ∷ name_of Targets ∷ name_of TargetTags ∷ name_of TargetAttributes ∷ []
+desk_names = map name_of places

@@ -4,6 +4,7 @@
 mod artifact_row;
 mod artifact_texts;
 mod module_row;
+mod rollout_texts;
 mod set_row;
 mod set_texts;
 mod target_row;
@@ -16,6 +17,10 @@ pub use crate::artifact_texts::{
     LIST_ARTIFACTS, PUT_ARTIFACT, PUT_PIECE,
 };
 pub use crate::module_row::{Column, RowFault, read_module_label};
+pub use crate::rollout_texts::{
+    CREATE_ACTION, CREATE_FEEDBACK, CREATE_MEMBER, CREATE_OFFER, CREATE_ROLLOUT,
+    CREATE_ROLLOUT_GROUP,
+};
 pub use crate::set_row::{SetName, read_set_module, read_set_name};
 pub use crate::set_texts::{
     CREATE_SET, CREATE_SET_MODULE, FIND_SET, GET_SET, LAST_SET, LIST_SET_MODULES, MODULE_LOCKED,

@@ -1,8 +1,6 @@
 -- The calls on artifacts and their pieces.
-use Rattle.std.proofs.Common.{◌≡◌, ◌≤◌, ◌<◌, ◌++◌, ℕ, ◌+◌, get_or, take, pos, List, [], ◌∷◌, length, Bool, Option, Some, None, Ok, Err, Result, IsErr, IfOk, option_map, Vec, vec_items, refl, sym, ap, ap₂, subst, ◌∙◌, codes}
+use Rattle.std.proofs.Common.{◌≡◌, ◌≤◌, ℕ, ◌+◌, pos, [], ◌∷◌, length, Bool, Option, Some, Ok, Err, Result, IfOk, option_map, Vec, vec_items, refl, sym, ap, subst, codes}
 use Rattle.std.specs.List.{list_any}
-use Rattle.std.proofs.lemmas.List.{take_more}
-use Rattle.std.proofs.lemmas.Slice.Zip.{all_zipped_more}
 use Rattle.std.specs.declared.alloc.Global.{Global}
 use Rattle.std.specs.Option.{is_some}
 use Rattle.sqlite_value.specs.declared.value.Value.TheVariants.{Int, Text, Blob}
@@ -10,14 +8,14 @@ use Rattle.sqlite_value.specs.Order.{Row, column}
 use Rattle.sqlite.specs.Command.TheVariants.{Select, Insert}
 use Rattle.sqlite.specs.Source.TheVariants.{Values}
 use Rattle.sqlite.specs.Term.{col}
-use Rattle.sqlite.specs.Effect.{Database, Reads as Shows}
+use Rattle.sqlite.specs.Effect.{Database}
 use Rattle.sqlite.specs.State.{State}
 use Rattle.sql_calls.specs.declared.fault.Fault.{Fault}
 use Rattle.sql_calls.specs.Calls.{RunsText, AsksText, TakesFirst}
 use Rattle.sql_calls.specs.Standing.{Reads, Writes}
 use Rattle.sql_calls.proofs.Changes.{Knows, ShowsFirst}
 use Rattle.sql_calls.proofs.Selects.{simple}
-use Rattle.sql_calls.proofs.TypedCalls.{asks_err, asks_ok, takes_err, takes_ok, writes}
+use Rattle.sql_calls.proofs.TypedCalls.{takes_ok, writes}
 use Rattle.rollout_machine.specs.ByteStrings.{item_numbered}
 use Rattle.rollout_machine.specs.Commands.{Bytes}
 use Rattle.rollout_machine.specs.Objects.{artifacts_shown}
@@ -28,12 +26,13 @@ use Rattle.desk_records.specs.declared.artifact_row.StoredArtifact.{StoredArtifa
 use Rattle.desk_records.specs.Schema.{Artifacts, Pieces}
 use Rattle.desk_records.specs.Holds.{HoldsRecords}
 use Rattle.desk_records.specs.Modules.{IsLastRow}
-use Rattle.desk_records.specs.Artifacts.{told_of, piece_row, is_same_artifact, file_of, shown_rows, piece_numbered, artifact_filed, with_artifact, AddsPiece}
-use Rattle.desk_records.specs.ArtifactRow.{IsStoredRow, IsArtifactRow, stored}
-use Rattle.desk_records.proofs.Meaning.{at_key}
+use Rattle.desk_records.specs.Artifacts.{told_of, piece_row, is_same_artifact, file_of, piece_numbered, artifact_filed, with_artifact, AddsPiece}
+use Rattle.desk_records.specs.ArtifactRow.{IsStoredRow, IsArtifactRow, StoredBytes, stored}
+use Rattle.desk_records.proofs.MeaningWords.{at_key}
 use Rattle.desk_records.proofs.ArtifactMeaning.{same_file, last_artifact_query, told_columns, told_names, artifacts_query, shown_names, artifact_terms, at_piece, piece_terms, find_artifact_is, last_artifact_is, get_artifact_is, list_artifacts_is, get_piece_is, put_artifact_is, put_piece_is}
 use Rattle.desk_records.proofs.ArtifactRecords.{finds_artifact, lasts_artifact, gets_artifact, lists_artifacts, gets_piece, adds_artifact, adds_piece}
-use Rattle.desk_store.specs.Rows.{AreArtifacts, IsReadAsArtifact, IsReadAsPiece}
+use Rattle.desk_store.specs.Rows.{AreReadAs, IsReadAs}
+use Rattle.desk_store.proofs.ReadLemmas.{asks_all, takes_one}
 use Rattle.desk_store.proofs.ModuleCalls.{one_last}
 use Rattle.desk_store.proofs.Known.{known_at}
 
@@ -88,32 +87,23 @@ abbrev pub Gets : ℕ → Records → Option StoredArtifact → Type 0
 Gets number r found = found ≡ option_map stored (item_numbered r.artifacts number)
 
 -- a row tells of one artifact
-one_told : (told : StoredArtifact) (a : ArtifactRecord) (row : Row) → IsStoredRow row told → row ≡ told_of a → told ≡ stored a
-one_told told a row h is =
-    let first : Int (pos told.module_number) ≡ Int (pos a.module_number) = sym h.module_number ∙ ap (λ r. column r 0) is in
-    let second : Text told.filename ≡ Text a.filename = sym h.filename ∙ ap (λ r. column r 1) is in
-    let third : Int (pos told.size) ≡ Int (pos a.size) = sym h.size ∙ ap (λ r. column r 2) is in
-    let fourth : Blob told.digest ≡ Blob a.digest = sym h.digest ∙ ap (λ r. column r 3) is in
+one_told : (told : StoredArtifact) (a : ArtifactRecord) → IsStoredRow (told_of a) told → told ≡ stored a
+one_told told a h =
+    let first : Int (pos a.module_number) ≡ Int (pos told.module_number) = h.module_number in
+    let second : Text a.filename ≡ Text told.filename = h.filename in
+    let third : Int (pos a.size) ≡ Int (pos told.size) = h.size in
+    let fourth : Blob a.digest ≡ Blob told.digest = h.digest in
     let m : told.module_number ≡ a.module_number = cc in
     let name : told.filename ≡ a.filename = cc in
     let size : told.size ≡ a.size = cc in
     let digest : told.digest ≡ a.digest = cc in
     λ i. record { module_number = m i; filename = name i; size = size i; digest = digest i }
 
-one_read : (wanted : Option ArtifactRecord) (found : Option StoredArtifact) (row : Option Row) → IsReadAsArtifact found row → row ≡ option_map told_of wanted → found ≡ option_map stored wanted
-one_read None found None h is = h
-one_read (Some a) found None h is = absurd cc
-one_read None found (Some row) h is = absurd cc
-one_read (Some a) found (Some row) h is = let same : row ≡ told_of a = cc in h.1 ∙ ap Some (one_told h.0 a row h.2 same)
-
-gets : (number : ℕ) → 1 ≤ number → (row : Option Row) (out : Result (Option StoredArtifact) Fault) → IfOk out (λ found. IsReadAsArtifact found row)
-    → IfOk out (λ found. (db : Database) (now : Records) (holds : HoldsRecords db now) → ShowsFirst (getting db now holds).command db (Int (pos number) ∷ []) row → found ≡ option_map stored (item_numbered now.artifacts number))
-gets number least row (Ok found) h = λ db now holds shown. one_read (item_numbered now.artifacts number) found row h (gets_artifact db now holds told_names number least row shown)
-gets number least row (Err e) h = tt
-
 pub artifact_read : (number : ℕ) → 1 ≤ number → (old new : State) (row : Option Row) → TakesFirst old new GET_ARTIFACT.now (Int (pos number) ∷ []) (Ok row) → (out : Result (Option StoredArtifact) Fault)
-    → IfOk out (λ found. IsReadAsArtifact found row) → Reads HoldsRecords old new out (Gets number)
-artifact_read number least old new row h out is = takes_ok HoldsRecords GET_ARTIFACT.now (Int (pos number) ∷ []) old new (Gets number) getting (λ db r holds at given. tt) row h out (gets number least row out is)
+    → IfOk out (λ found. IsReadAs IsStoredRow found row) → Reads HoldsRecords old new out (Gets number)
+artifact_read number least old new row =
+    takes_one IsStoredRow told_of GET_ARTIFACT.now (Int (pos number) ∷ []) old new getting (λ r. item_numbered r.artifacts number) (λ found a. found ≡ option_map stored a) refl (λ told a h. ap Some (one_told told a h)) (λ db r holds at given. tt) row
+    (λ db now holds. gets_artifact db now holds told_names number least row)
 
 -- ---- the artifacts of a module
 
@@ -136,52 +126,28 @@ one_shown a b h =
     let digest : a.digest ≡ b.digest = cc in
     λ i. record { number = number i; filename = name i; size = size i; digest = digest i }
 
--- a further row, and its artifact
-pub artifacts_more : (rows : List Row) (artifacts : List Artifact) (at : ℕ) (row : Row) (a : Artifact) → at < length rows → row ≡ get_or rows at row → AreArtifacts (take at rows) artifacts → IsArtifactRow row a
-    → AreArtifacts (take (at + 1) rows) (artifacts ++ a ∷ [])
-artifacts_more rows artifacts at row a within is so_far one =
-    subst (λ l. AreArtifacts l (artifacts ++ a ∷ [])) (sym (take_more rows at row within)) (all_zipped_more IsArtifactRow (take at rows) artifacts (get_or rows at row) a so_far (subst (λ r. IsArtifactRow r a) is one))
-
-all_shown : (artifacts shown : List Artifact) → AreArtifacts (shown_rows shown) artifacts → artifacts ≡ shown
-all_shown [] [] h = refl
-all_shown [] (b ∷ shown) h = absurd h
-all_shown (a ∷ artifacts) [] h = absurd h
-all_shown (a ∷ artifacts) (b ∷ shown) h = ap₂ ◌∷◌ (one_shown a b h.0) (all_shown artifacts shown h.1)
-
-lists : (m : ℕ) (rows : List Row) (out : Result (Vec Artifact Global) Fault) → IfOk out (λ artifacts. AreArtifacts rows artifacts.items)
-    → IfOk out (λ artifacts. (db : Database) (now : Records) (holds : HoldsRecords db now) → Shows (listing db now holds).command db (Int (pos m) ∷ []) rows → artifacts.items ≡ artifacts_shown m 1 now.artifacts)
-lists m rows (Ok artifacts) h = λ db now holds shown.
-    all_shown artifacts.items (artifacts_shown m 1 now.artifacts) (subst (λ l. AreArtifacts l artifacts.items) (lists_artifacts db now holds shown_names m rows shown) h)
-lists m rows (Err e) h = tt
-
 pub artifacts_read : (m : ℕ) (old new : State) (rows : Vec Row Global) → AsksText old new LIST_ARTIFACTS.now (Int (pos m) ∷ []) (Ok rows) → (out : Result (Vec Artifact Global) Fault)
-    → IfOk out (λ artifacts. AreArtifacts rows.items artifacts.items) → Reads HoldsRecords old new out (Lists m)
-artifacts_read m old new rows h out are = asks_ok HoldsRecords LIST_ARTIFACTS.now (Int (pos m) ∷ []) old new (Lists m) listing rows h out (lists m rows.items out are)
+    → IfOk out (λ artifacts. AreReadAs IsArtifactRow rows.items artifacts.items) → Reads HoldsRecords old new out (Lists m)
+artifacts_read m old new rows =
+    asks_all vec_items IsArtifactRow shown_row one_shown LIST_ARTIFACTS.now (Int (pos m) ∷ []) old new listing (λ r. artifacts_shown m 1 r.artifacts) rows (λ db now holds. lists_artifacts db now holds shown_names m rows.items)
 
 -- ---- a piece
 
 abbrev pub Takes : ℕ → ℕ → Records → Option (Vec ℕ Global) → Type 0
 Takes number sequence r found = option_map vec_items found ≡ piece_numbered r.artifacts number sequence
 
-one_piece : (wanted : Option Bytes) (found : Option (Vec ℕ Global)) (row : Option Row) → IsReadAsPiece found row → row ≡ option_map (λ bytes. Blob bytes ∷ []) wanted → option_map vec_items found ≡ wanted
-one_piece None found None h is = ap (option_map vec_items) h
-one_piece (Some bytes) found None h is = absurd cc
-one_piece None found (Some row) h is = absurd cc
-one_piece (Some bytes) found (Some row) h is =
-    let same : row ≡ Blob bytes ∷ [] = cc in
-    let value : Blob h.0.items ≡ Blob bytes = sym h.2 ∙ ap (λ r. column r 0) same in
-    let items : h.0.items ≡ bytes = cc in
-    ap (option_map vec_items) h.1 ∙ ap Some items
+abbrev pub IsPieceRow : Row → Vec ℕ Global → Type 0
+IsPieceRow row bytes = column row 0 ≡ StoredBytes bytes.items
 
-takes : (number sequence : ℕ) → 1 ≤ number → (row : Option Row) (out : Result (Option (Vec ℕ Global)) Fault) → IfOk out (λ found. IsReadAsPiece found row)
-    → IfOk out (λ found. (db : Database) (now : Records) (holds : HoldsRecords db now) → ShowsFirst (taking db now holds).command db (Int (pos number) ∷ Int (pos sequence) ∷ []) row → option_map vec_items found ≡ piece_numbered now.artifacts number sequence)
-takes number sequence least row (Ok found) h = λ db now holds shown. one_piece (piece_numbered now.artifacts number sequence) found row h (gets_piece db now holds (codes "bytes" ∷ []) number sequence least row shown)
-takes number sequence least row (Err e) h = tt
+-- a row has one piece
+one_piece : (a : Vec ℕ Global) (b : Bytes) → IsPieceRow (Blob b ∷ []) a → a.items ≡ b
+one_piece a b h = let same : Blob b ≡ Blob a.items = h in cc
 
 pub piece_read : (number sequence : ℕ) → 1 ≤ number → (old new : State) (row : Option Row) → TakesFirst old new GET_PIECE.now (Int (pos number) ∷ Int (pos sequence) ∷ []) (Ok row) → (out : Result (Option (Vec ℕ Global)) Fault)
-    → IfOk out (λ found. IsReadAsPiece found row) → Reads HoldsRecords old new out (Takes number sequence)
-piece_read number sequence least old new row h out is =
-    takes_ok HoldsRecords GET_PIECE.now (Int (pos number) ∷ Int (pos sequence) ∷ []) old new (Takes number sequence) taking (λ db r holds at given. tt) row h out (takes number sequence least row out is)
+    → IfOk out (λ found. IsReadAs IsPieceRow found row) → Reads HoldsRecords old new out (Takes number sequence)
+piece_read number sequence least old new row =
+    takes_one IsPieceRow (λ bytes. Blob bytes ∷ []) GET_PIECE.now (Int (pos number) ∷ Int (pos sequence) ∷ []) old new taking (λ r. piece_numbered r.artifacts number sequence) (λ found bytes. option_map vec_items found ≡ bytes) refl
+    (λ a b h. ap Some (one_piece a b h)) (λ db r holds at given. tt) row (λ db now holds. gets_piece db now holds (codes "bytes" ∷ []) number sequence least row)
 
 -- ---- a new artifact, and a further piece of it
 

@@ -1,19 +1,16 @@
 -- The calls on attributes of targets.
-use Rattle.std.proofs.Common.{◌≡◌, ◌<◌, ◌++◌, ℕ, ◌+◌, get_or, take, List, [], ◌∷◌, length, Ok, Err, Result, IsErr, IfOk, Vec, refl, sym, ap₂, subst, codes}
-use Rattle.std.proofs.lemmas.List.{take_more}
-use Rattle.std.proofs.lemmas.Slice.Zip.{all_zipped_more}
+use Rattle.std.proofs.Common.{◌≡◌, List, [], ◌∷◌, Ok, Result, IfOk, Vec, refl, codes}
 use Rattle.std.specs.declared.alloc.Global.{Global}
 use Rattle.sqlite_value.specs.declared.value.Value.TheVariants.{Text}
 use Rattle.sqlite_value.specs.Order.{Row}
 use Rattle.sqlite.specs.Command.TheVariants.{Select, Insert, Update}
 use Rattle.sqlite.specs.Source.TheVariants.{Values}
-use Rattle.sqlite.specs.Effect.{Database, Reads as Shows}
 use Rattle.sqlite.specs.State.{State}
 use Rattle.sql_calls.specs.declared.fault.Fault.{Fault}
 use Rattle.sql_calls.specs.Calls.{RunsText, AsksText}
 use Rattle.sql_calls.specs.Standing.{Reads, Writes}
 use Rattle.sql_calls.proofs.Changes.{Knows}
-use Rattle.sql_calls.proofs.TypedCalls.{asks_err, asks_ok, writes}
+use Rattle.sql_calls.proofs.TypedCalls.{writes}
 use Rattle.rollout_machine.specs.Commands.{Bytes, Attribute}
 use Rattle.rollout_machine.specs.Records.{Records}
 use Rattle.rollout_machine.specs.Verdicts.{target_of}
@@ -24,8 +21,9 @@ use Rattle.desk_records.specs.TargetRow.{IsAttributeRow}
 use Rattle.desk_records.specs.Targets.{attributes_of, AddsAttribute, SetsAttribute}
 use Rattle.desk_records.proofs.Attributes.{attribute_row}
 use Rattle.desk_records.proofs.TargetMeaning.{attributes_query, attribute_terms, set_attribute_query, list_target_attributes_is, put_target_attribute_is, set_target_attribute_is}
-use Rattle.desk_records.proofs.AttributeRecords.{shown_attributes, lists_target_attributes, adds_attribute, sets_attribute}
-use Rattle.desk_store.specs.Rows.{AreAttributes}
+use Rattle.desk_records.proofs.AttributeRecords.{lists_target_attributes, adds_attribute, sets_attribute}
+use Rattle.desk_store.specs.Rows.{AreReadAs}
+use Rattle.desk_store.proofs.ReadLemmas.{asks_all}
 use Rattle.desk_store.proofs.Known.{known_at}
 
 -- ---- what the texts mean where the records are held
@@ -44,8 +42,11 @@ setting = known_at TargetAttributes SET_TARGET_ATTRIBUTE.now (λ at tree. Update
 abbrev pub Lists : Bytes → Records → List Attribute → Type 0
 Lists id r attributes = attributes ≡ attributes_of (target_of r id)
 
+abbrev shown_row : Attribute → Row
+shown_row a = Text a.key ∷ Text a.value ∷ []
+
 -- a row shows one attribute
-one_shown : (a b : Attribute) → IsAttributeRow (Text b.key ∷ Text b.value ∷ []) a → a ≡ b
+one_shown : (a b : Attribute) → IsAttributeRow (shown_row b) a → a ≡ b
 one_shown a b h =
     let first : Text b.key ≡ Text a.key = h.key in
     let second : Text b.value ≡ Text a.value = h.value in
@@ -53,27 +54,10 @@ one_shown a b h =
     let value : a.value ≡ b.value = cc in
     λ i. record { key = key i; value = value i }
 
--- a further row, and its attribute
-pub attributes_more : (rows : List Row) (attributes : List Attribute) (at : ℕ) (row : Row) (a : Attribute) → at < length rows → row ≡ get_or rows at row → AreAttributes (take at rows) attributes → IsAttributeRow row a
-    → AreAttributes (take (at + 1) rows) (attributes ++ a ∷ [])
-attributes_more rows attributes at row a within is so_far one =
-    subst (λ l. AreAttributes l (attributes ++ a ∷ [])) (sym (take_more rows at row within)) (all_zipped_more IsAttributeRow (take at rows) attributes (get_or rows at row) a so_far (subst (λ r. IsAttributeRow r a) is one))
-
-all_shown : (attributes shown : List Attribute) → AreAttributes (shown_attributes shown) attributes → attributes ≡ shown
-all_shown [] [] h = refl
-all_shown [] (b ∷ shown) h = absurd h
-all_shown (a ∷ attributes) [] h = absurd h
-all_shown (a ∷ attributes) (b ∷ shown) h = ap₂ ◌∷◌ (one_shown a b h.0) (all_shown attributes shown h.1)
-
-lists : (id : Bytes) (rows : List Row) (out : Result (List Attribute) Fault) → IfOk out (AreAttributes rows)
-    → IfOk out (λ attributes. (db : Database) (now : Records) (holds : HoldsRecords db now) → Shows (listing db now holds).command db (Text id ∷ []) rows → Lists id now attributes)
-lists id rows (Ok attributes) h = λ db now holds shown.
-    all_shown attributes (attributes_of (target_of now id)) (subst (λ l. AreAttributes l attributes) (lists_target_attributes db now holds (codes "key" ∷ codes "value" ∷ []) id rows shown) h)
-lists id rows (Err e) h = tt
-
-pub attributes_read : (id : Bytes) (old new : State) (rows : Vec Row Global) → AsksText old new LIST_TARGET_ATTRIBUTES.now (Text id ∷ []) (Ok rows) → (out : Result (List Attribute) Fault) → IfOk out (AreAttributes rows.items)
+pub attributes_read : (id : Bytes) (old new : State) (rows : Vec Row Global) → AsksText old new LIST_TARGET_ATTRIBUTES.now (Text id ∷ []) (Ok rows) → (out : Result (List Attribute) Fault) → IfOk out (AreReadAs IsAttributeRow rows.items)
     → Reads HoldsRecords old new out (Lists id)
-attributes_read id old new rows h out are = asks_ok HoldsRecords LIST_TARGET_ATTRIBUTES.now (Text id ∷ []) old new (Lists id) listing rows h out (lists id rows.items out are)
+attributes_read id old new rows =
+    asks_all (λ l. l) IsAttributeRow shown_row one_shown LIST_TARGET_ATTRIBUTES.now (Text id ∷ []) old new listing (λ r. attributes_of (target_of r id)) rows (λ db now holds. lists_target_attributes db now holds (codes "key" ∷ codes "value" ∷ []) id rows.items)
 
 -- ---- what is written
 

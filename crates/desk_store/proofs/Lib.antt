@@ -1,4 +1,5 @@
 pub mod Known
+pub mod ReadLemmas
 pub mod ModuleCalls
 pub mod EndLemmas
 pub mod SetCalls

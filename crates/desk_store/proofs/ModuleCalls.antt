@@ -1,9 +1,9 @@
 -- The calls on modules.
-use Rattle.std.proofs.Common.{◌≡◌, ◌≤◌, ℕ, ◌+◌, pos, [], ◌∷◌, length, Bool, Option, Some, None, Ok, Err, Result, IsErr, IfOk, refl, sym, ap, subst, ◌∙◌}
+use Rattle.std.proofs.Common.{◌≡◌, ◌≤◌, ℕ, ◌+◌, pos, [], ◌∷◌, length, Bool, Option, Some, None, Ok, Err, Result, IfOk, refl, sym, ap, subst, ◌∙◌}
 use Rattle.std.specs.List.{list_any}
 use Rattle.std.specs.Option.{is_some}
 use Rattle.sqlite_value.specs.declared.value.Value.TheVariants.{Int, Text}
-use Rattle.sqlite_value.specs.Order.{Row, column}
+use Rattle.sqlite_value.specs.Order.{Row}
 use Rattle.sqlite.specs.Command.TheVariants.{Select, Insert}
 use Rattle.sqlite.specs.Source.TheVariants.{Values}
 use Rattle.sqlite.specs.Term.{col}
@@ -15,7 +15,7 @@ use Rattle.sql_calls.specs.Calls.{RunsText, TakesFirst}
 use Rattle.sql_calls.specs.Standing.{Reads, Writes}
 use Rattle.sql_calls.proofs.Changes.{Knows, ShowsFirst}
 use Rattle.sql_calls.proofs.Selects.{simple}
-use Rattle.sql_calls.proofs.TypedCalls.{takes_err, takes_ok, writes}
+use Rattle.sql_calls.proofs.TypedCalls.{takes_ok, writes}
 use Rattle.rollout_machine.specs.ByteStrings.{item_numbered}
 use Rattle.rollout_machine.specs.Commands.{ModuleLabel}
 use Rattle.rollout_machine.specs.Records.{Records}
@@ -23,10 +23,12 @@ use Rattle.desk_records.specs.declared.texts.TheConstants.{FIND_MODULE, LAST_MOD
 use Rattle.desk_records.specs.ModuleRow.{IsLabelRow}
 use Rattle.desk_records.specs.Schema.{Modules}
 use Rattle.desk_records.specs.Holds.{HoldsRecords}
-use Rattle.desk_records.specs.Modules.{is_same, words_of, with_module, IsLastRow, IsModuleRow}
-use Rattle.desk_records.proofs.Meaning.{at_key, same_label, label_columns, last_module_query, module_terms, find_module_is, last_module_is, get_module_is, put_module_is}
+use Rattle.desk_records.specs.Modules.{is_same, words_of, with_module, IsLastRow}
+use Rattle.desk_records.proofs.MeaningWords.{at_key}
+use Rattle.desk_records.proofs.Meaning.{same_label, label_columns, last_module_query, module_terms, find_module_is, last_module_is, get_module_is, put_module_is}
 use Rattle.desk_records.proofs.Modules.{finds_module, lasts_module, gets_module, adds_module}
 use Rattle.desk_store.specs.Rows.{IsReadAs}
+use Rattle.desk_store.proofs.ReadLemmas.{takes_one}
 use Rattle.desk_store.proofs.Known.{known_at}
 
 -- ---- what the texts mean where the records are held
@@ -74,29 +76,20 @@ abbrev pub Gets : ℕ → Records → Option ModuleLabel → Type 0
 Gets number r found = found ≡ item_numbered r.modules number
 
 -- a row has one label
-one_label : (a b : ModuleLabel) (row : Row) → IsLabelRow row a → row ≡ words_of b → a ≡ b
-one_label a b row h is =
-    let name : Text a.name ≡ Text b.name = sym h.name ∙ ap (λ r. column r 0) is in
-    let kind : Text a.kind ≡ Text b.kind = sym h.kind ∙ ap (λ r. column r 1) is in
-    let version : Text a.version ≡ Text b.version = sym h.version ∙ ap (λ r. column r 2) is in
-    let first : a.name ≡ b.name = cc in
-    let second : a.kind ≡ b.kind = cc in
-    let third : a.version ≡ b.version = cc in
-    ap (λ n. let it : ModuleLabel = record { name = n; kind = a.kind; version = a.version } in it) first ∙ ap (λ k. let it : ModuleLabel = record { name = b.name; kind = k; version = a.version } in it) second
-    ∙ ap (λ v. let it : ModuleLabel = record { name = b.name; kind = b.kind; version = v } in it) third
+one_label : (a b : ModuleLabel) → IsLabelRow (words_of b) a → a ≡ b
+one_label a b h =
+    let first : Text b.name ≡ Text a.name = h.name in
+    let second : Text b.kind ≡ Text a.kind = h.kind in
+    let third : Text b.version ≡ Text a.version = h.version in
+    let name : a.name ≡ b.name = cc in
+    let kind : a.kind ≡ b.kind = cc in
+    let version : a.version ≡ b.version = cc in
+    λ i. record { name = name i; kind = kind i; version = version i }
 
-one_read : (wanted found : Option ModuleLabel) (row : Option Row) → IsReadAs found row → IsModuleRow wanted row → found ≡ wanted
-one_read wanted found None h is = h ∙ sym is
-one_read wanted found (Some row) h is = h.1 ∙ ap Some (one_label h.0 is.0 row h.2 is.2) ∙ sym is.1
-
-gets : (number : ℕ) → 1 ≤ number → (row : Option Row) (out : Result (Option ModuleLabel) Fault) → IfOk out (λ found. IsReadAs found row)
-    → IfOk out (λ found. (db : Database) (now : Records) (holds : HoldsRecords db now) → ShowsFirst (getting db now holds).command db (Int (pos number) ∷ []) row → found ≡ item_numbered now.modules number)
-gets number least row (Ok found) h = λ db now holds shown. one_read (item_numbered now.modules number) found row h (gets_module number least db now holds (codes "name" ∷ codes "type" ∷ codes "version" ∷ []) row shown)
-gets number least row (Err e) h = tt
-
-pub module_read : (number : ℕ) → 1 ≤ number → (old new : State) (row : Option Row) → TakesFirst old new GET_MODULE.now (Int (pos number) ∷ []) (Ok row) → (out : Result (Option ModuleLabel) Fault) → IfOk out (λ found. IsReadAs found row)
+pub module_read : (number : ℕ) → 1 ≤ number → (old new : State) (row : Option Row) → TakesFirst old new GET_MODULE.now (Int (pos number) ∷ []) (Ok row) → (out : Result (Option ModuleLabel) Fault) → IfOk out (λ found. IsReadAs IsLabelRow found row)
     → Reads HoldsRecords old new out (Gets number)
-module_read number least old new row h out is = takes_ok HoldsRecords GET_MODULE.now (Int (pos number) ∷ []) old new (Gets number) getting (λ db r holds at given. tt) row h out (gets number least row out is)
+module_read number least old new row = takes_one IsLabelRow words_of GET_MODULE.now (Int (pos number) ∷ []) old new getting (λ r. item_numbered r.modules number) ◌≡◌ refl (λ a b h. ap Some (one_label a b h)) (λ db r holds at given. tt) row
+    (λ db now holds. gets_module number least db now holds (codes "name" ∷ codes "type" ∷ codes "version" ∷ []) row)
 
 -- ---- a new module
 

@@ -1,5 +1,5 @@
 -- The calls on distribution sets.
-use Rattle.std.proofs.Common.{◌≡◌, ◌≤◌, ℕ, ◌+◌, pos, List, [], ◌∷◌, length, Bool, Option, Some, None, Ok, Err, Result, IsErr, IfOk, option_map, map, Vec, refl, sym, ap, ap₂, subst, ◌∙◌, codes}
+use Rattle.std.proofs.Common.{◌≡◌, ◌≤◌, ℕ, ◌+◌, pos, [], ◌∷◌, length, Bool, Option, Some, Ok, Err, Result, IfOk, option_map, Vec, vec_items, refl, sym, ap, subst, codes}
 use Rattle.std.specs.List.{list_any}
 use Rattle.std.specs.declared.alloc.Global.{Global}
 use Rattle.std.specs.Option.{is_some}
@@ -8,31 +8,33 @@ use Rattle.sqlite_value.specs.Order.{Row, column}
 use Rattle.sqlite.specs.Command.TheVariants.{Select, Insert}
 use Rattle.sqlite.specs.Source.TheVariants.{Values}
 use Rattle.sqlite.specs.Term.{col}
-use Rattle.sqlite.specs.Effect.{Database, Reads as Shows}
+use Rattle.sqlite.specs.Effect.{Database}
 use Rattle.sqlite.specs.State.{State}
 use Rattle.sql_calls.specs.declared.fault.Fault.{Fault}
 use Rattle.sql_calls.specs.Calls.{RunsText, AsksText, TakesFirst}
 use Rattle.sql_calls.specs.Standing.{Reads, Writes}
 use Rattle.sql_calls.proofs.Changes.{Knows, ShowsFirst}
 use Rattle.sql_calls.proofs.Selects.{simple}
-use Rattle.sql_calls.proofs.TypedCalls.{asks_err, asks_ok, takes_err, takes_ok, writes}
+use Rattle.sql_calls.proofs.TypedCalls.{takes_ok, writes}
 use Rattle.rollout_machine.specs.ByteStrings.{item_numbered}
 use Rattle.rollout_machine.specs.Commands.{Bytes, SetLabel}
 use Rattle.rollout_machine.specs.Objects.{modules_of_set}
 use Rattle.rollout_machine.specs.Records.{Records}
-use Rattle.rollout_model.specs.declared.number.ModuleNo.{ModuleNo}
+use Rattle.rollout_model.specs.declared.number.ModuleKind.{ModuleKind}
+use Rattle.rollout_model.specs.declared.number.Number.{Number}
 use Rattle.rollout_machine.specs.Verdicts.{is_named_by_set}
 use Rattle.desk_records.specs.declared.set_texts.TheConstants.{FIND_SET, LAST_SET, GET_SET, LIST_SET_MODULES, MODULE_LOCKED, PUT_SET, PUT_SET_MODULE}
 use Rattle.desk_records.specs.declared.set_row.SetName.{SetName}
 use Rattle.desk_records.specs.Schema.{Sets, SetModules}
 use Rattle.desk_records.specs.Holds.{HoldsRecords}
 use Rattle.desk_records.specs.Modules.{IsLastRow}
-use Rattle.desk_records.specs.Sets.{place_row, is_same_set, names_of, module_rows, with_set, AddsSetModule}
+use Rattle.desk_records.specs.Sets.{place_row, is_same_set, names_of, with_set, AddsSetModule}
 use Rattle.desk_records.specs.SetRow.{IsSetNameRow, StoredNumber, called}
-use Rattle.desk_records.proofs.Meaning.{at_key}
+use Rattle.desk_records.proofs.MeaningWords.{at_key}
 use Rattle.desk_records.proofs.SetMeaning.{same_names, last_set_query, name_columns, set_terms, set_modules_query, locked_query, set_module_terms, find_set_is, last_set_is, get_set_is, list_set_modules_is, module_locked_is, put_set_is, put_set_module_is}
 use Rattle.desk_records.proofs.SetRecords.{finds_set, lasts_set, gets_set, lists_set_modules, finds_lock, adds_set, adds_set_module}
-use Rattle.desk_store.specs.Rows.{IsReadAsSet, AreNumbers}
+use Rattle.desk_store.specs.Rows.{AreReadAs, IsReadAs}
+use Rattle.desk_store.proofs.ReadLemmas.{asks_all, takes_one}
 use Rattle.desk_store.proofs.ModuleCalls.{one_last}
 use Rattle.desk_store.proofs.Known.{known_at}
 
@@ -87,58 +89,36 @@ abbrev pub Gets : ℕ → Records → Option SetName → Type 0
 Gets number r found = found ≡ option_map called (item_numbered r.sets number)
 
 -- a row has one name
-one_name : (name : SetName) (set : SetLabel) (row : Row) → IsSetNameRow row name → row ≡ names_of set.name set.version → name ≡ called set
-one_name name set row h is =
-    let first : Text name.name ≡ Text set.name = sym h.name ∙ ap (λ r. column r 0) is in
-    let second : Text name.version ≡ Text set.version = sym h.version ∙ ap (λ r. column r 1) is in
+one_name : (name : SetName) (set : SetLabel) → IsSetNameRow (names_of set.name set.version) name → name ≡ called set
+one_name name set h =
+    let first : Text set.name ≡ Text name.name = h.name in
+    let second : Text set.version ≡ Text name.version = h.version in
     let same : name.name ≡ set.name = cc in
     let alike : name.version ≡ set.version = cc in
-    ap (λ n. let it : SetName = record { name = n; version = name.version } in it) same ∙ ap (λ v. let it : SetName = record { name = set.name; version = v } in it) alike
+    λ i. record { name = same i; version = alike i }
 
-one_read : (wanted : Option SetLabel) (found : Option SetName) (row : Option Row) → IsReadAsSet found row → row ≡ option_map (λ (set : SetLabel). names_of set.name set.version) wanted → found ≡ option_map called wanted
-one_read None found None h is = h
-one_read (Some set) found None h is = absurd cc
-one_read None found (Some row) h is = absurd cc
-one_read (Some set) found (Some row) h is = let same : row ≡ names_of set.name set.version = cc in h.1 ∙ ap Some (one_name h.0 set row h.2 same)
-
-gets : (number : ℕ) → 1 ≤ number → (row : Option Row) (out : Result (Option SetName) Fault) → IfOk out (λ found. IsReadAsSet found row)
-    → IfOk out (λ found. (db : Database) (now : Records) (holds : HoldsRecords db now) → ShowsFirst (getting db now holds).command db (Int (pos number) ∷ []) row → found ≡ option_map called (item_numbered now.sets number))
-gets number least row (Ok found) h = λ db now holds shown. one_read (item_numbered now.sets number) found row h (gets_set db now holds (codes "name" ∷ codes "version" ∷ []) number least row shown)
-gets number least row (Err e) h = tt
-
-pub set_read : (number : ℕ) → 1 ≤ number → (old new : State) (row : Option Row) → TakesFirst old new GET_SET.now (Int (pos number) ∷ []) (Ok row) → (out : Result (Option SetName) Fault) → IfOk out (λ found. IsReadAsSet found row)
+pub set_read : (number : ℕ) → 1 ≤ number → (old new : State) (row : Option Row) → TakesFirst old new GET_SET.now (Int (pos number) ∷ []) (Ok row) → (out : Result (Option SetName) Fault) → IfOk out (λ found. IsReadAs IsSetNameRow found row)
     → Reads HoldsRecords old new out (Gets number)
-set_read number least old new row h out is = takes_ok HoldsRecords GET_SET.now (Int (pos number) ∷ []) old new (Gets number) getting (λ db r holds at given. tt) row h out (gets number least row out is)
+set_read number least old new row =
+    takes_one IsSetNameRow (λ (set : SetLabel). names_of set.name set.version) GET_SET.now (Int (pos number) ∷ []) old new getting (λ r. item_numbered r.sets number) (λ found set. found ≡ option_map called set) refl (λ a b h. ap Some (one_name a b h))
+    (λ db r holds at given. tt) row (λ db now holds. gets_set db now holds (codes "name" ∷ codes "version" ∷ []) number least row)
 
 -- ---- a set's modules
 
-abbrev pub Lists : ℕ → Records → Vec ModuleNo Global → Type 0
+abbrev pub Lists : ℕ → Records → Vec (Number ModuleKind) Global → Type 0
 Lists number r ms = ms.items ≡ modules_of_set (item_numbered r.sets number)
 
-first_columns : (ms : List ℕ) → map (λ row. column row 0) (module_rows ms) ≡ map StoredNumber ms
-first_columns [] = refl
-first_columns (m ∷ ms) = ap (λ l. StoredNumber m ∷ l) (first_columns ms)
+-- a row shows one number
+abbrev pub IsNumberRow : Row → ℕ → Type 0
+IsNumberRow row number = column row 0 ≡ StoredNumber number
 
-same_numbers : (ns ms : List ℕ) → map StoredNumber ns ≡ map StoredNumber ms → ns ≡ ms
-same_numbers [] [] h = refl
-same_numbers [] (m ∷ ms) h = absurd cc
-same_numbers (n ∷ ns) [] h = absurd cc
-same_numbers (n ∷ ns) (m ∷ ms) h =
-    let first : Int (pos n) ≡ Int (pos m) = cc in
-    let number : n ≡ m = cc in
-    let rest : map StoredNumber ns ≡ map StoredNumber ms = cc in
-    ap₂ ◌∷◌ number (same_numbers ns ms rest)
+one_number : (a b : ℕ) → IsNumberRow (Int (pos b) ∷ []) a → a ≡ b
+one_number a b h = let same : Int (pos b) ≡ Int (pos a) = h in cc
 
-lists : (number : ℕ) → 1 ≤ number → (rows : List Row) (out : Result (Vec ModuleNo Global) Fault) → IfOk out (λ ms. AreNumbers rows ms.items)
-    → IfOk out (λ ms. (db : Database) (now : Records) (holds : HoldsRecords db now) → Shows (listing db now holds).command db (Int (pos number) ∷ []) rows → ms.items ≡ modules_of_set (item_numbered now.sets number))
-lists number least rows (Ok ms) h = λ db now holds shown.
-    let are : rows ≡ module_rows (modules_of_set (item_numbered now.sets number)) = lists_set_modules db now holds (codes "module" ∷ []) number least rows shown in
-    same_numbers ms.items _ (sym h ∙ ap (map (λ row. column row 0)) are ∙ first_columns _)
-lists number least rows (Err e) h = tt
-
-pub modules_read : (number : ℕ) → 1 ≤ number → (old new : State) (rows : Vec Row Global) → AsksText old new LIST_SET_MODULES.now (Int (pos number) ∷ []) (Ok rows) → (out : Result (Vec ModuleNo Global) Fault)
-    → IfOk out (λ ms. AreNumbers rows.items ms.items) → Reads HoldsRecords old new out (Lists number)
-modules_read number least old new rows h out are = asks_ok HoldsRecords LIST_SET_MODULES.now (Int (pos number) ∷ []) old new (Lists number) listing rows h out (lists number least rows.items out are)
+pub modules_read : (number : ℕ) → 1 ≤ number → (old new : State) (rows : Vec Row Global) → AsksText old new LIST_SET_MODULES.now (Int (pos number) ∷ []) (Ok rows) → (out : Result (Vec (Number ModuleKind) Global) Fault)
+    → IfOk out (λ ms. AreReadAs IsNumberRow rows.items ms.items) → Reads HoldsRecords old new out (Lists number)
+modules_read number least old new rows = asks_all vec_items IsNumberRow (λ m. Int (pos m) ∷ []) one_number LIST_SET_MODULES.now (Int (pos number) ∷ []) old new listing (λ r. modules_of_set (item_numbered r.sets number)) rows
+    (λ db now holds. lists_set_modules db now holds (codes "module" ∷ []) number least rows.items)
 
 -- ---- whether a set names a module
 

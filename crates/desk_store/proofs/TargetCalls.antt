@@ -1,13 +1,11 @@
 -- The calls on targets and their tags.
-use Rattle.std.proofs.Common.{◌≡◌, ◌<◌, ◌^◌, ◌++◌, ◌+◌, ℕ, min, pos, get_or, take, drop, List, [], ◌∷◌, length, map, Option, Some, None, option_map, Ok, Err, Result, IsErr, IfOk, Vec, refl, sym, ap, ap₂, subst, ◌∙◌, arith, codes}
-use Rattle.std.proofs.lemmas.List.{take_more}
-use Rattle.std.proofs.lemmas.Slice.Zip.{all_zipped_more}
+use Rattle.std.proofs.Common.{◌≡◌, ◌<◌, ◌^◌, ℕ, min, pos, take, drop, List, [], ◌∷◌, length, map, Option, Some, None, option_map, Ok, Err, Result, IfOk, Vec, vec_items, refl, sym, ap, subst, ◌∙◌, arith, codes}
 use Rattle.std.specs.declared.alloc.Global.{Global}
 use Rattle.sqlite_value.specs.declared.value.Value.TheVariants.{Int, Text, Blob}
 use Rattle.sqlite_value.specs.Order.{Row, column}
 use Rattle.sqlite.specs.Command.TheVariants.{Select, Insert, Update, Delete}
 use Rattle.sqlite.specs.Source.TheVariants.{Values}
-use Rattle.sqlite.specs.Effect.{Database, Reads as Shows}
+use Rattle.sqlite.specs.Effect.{Database}
 use Rattle.sqlite.specs.State.{State}
 use Rattle.sql_calls.specs.declared.fault.Fault.{Fault}
 use Rattle.sql_calls.specs.Calls.{RunsText, AsksText, TakesFirst}
@@ -15,11 +13,12 @@ use Rattle.sql_calls.specs.Standing.{Reads, Writes}
 use Rattle.sql_calls.proofs.Changes.{Knows, ShowsFirst}
 use Rattle.sql_calls.proofs.Counts.{count_query}
 use Rattle.sql_calls.proofs.Selects.{simple}
-use Rattle.sql_calls.proofs.TypedCalls.{asks_err, asks_ok, takes_err, takes_ok, writes}
+use Rattle.sql_calls.proofs.TypedCalls.{takes_ok, writes}
 use Rattle.rollout_machine.specs.Commands.{Bytes}
 use Rattle.rollout_machine.specs.Records.{Records}
 use Rattle.rollout_machine.specs.Targets.{Target}
 use Rattle.rollout_machine.specs.Verdicts.{tags_of, target_of}
+use Rattle.rollout_model.specs.declared.word.LabelKind.{LabelKind}
 use Rattle.rollout_model.specs.declared.word.Word.{Word}
 use Rattle.desk_records.specs.declared.target_texts.TheConstants.{COUNT_TARGETS, DROP_TARGET_TAG, GET_TARGET, LIST_TARGETS, LIST_TARGET_TAGS, PUT_TARGET, PUT_TARGET_TAG, SET_TARGET}
 use Rattle.desk_records.specs.declared.target_row.ListedTarget.{ListedTarget}
@@ -31,8 +30,9 @@ use Rattle.desk_records.specs.TargetRow.{IsTargetRow, IsListedTargetRow, listed_
 use Rattle.desk_records.specs.Targets.{AddsTag, AddsTarget, renamed, untagged, with_changed}
 use Rattle.desk_records.proofs.Targets.{tag_row}
 use Rattle.desk_records.proofs.TargetMeaning.{of_target, target_columns, target_terms, set_target_query, targets_query, tags_query, tag_terms, drop_tag_query, get_target_is, count_targets_is, list_targets_is, list_target_tags_is, put_target_is, set_target_is, put_target_tag_is, drop_target_tag_is}
-use Rattle.desk_records.proofs.TargetRecords.{told_target, listed_row, shown_tags, gets_target, counts_targets, lists_targets, lists_target_tags, adds_target, sets_target, adds_tag, drops_tag}
-use Rattle.desk_store.specs.Rows.{AreListedTargets, AreTags, IsCount, IsReadAsTarget}
+use Rattle.desk_records.proofs.TargetRecords.{told_target, listed_row, gets_target, counts_targets, lists_targets, lists_target_tags, adds_target, sets_target, adds_tag, drops_tag}
+use Rattle.desk_store.specs.Rows.{AreReadAs, IsCount, IsReadAs}
+use Rattle.desk_store.proofs.ReadLemmas.{asks_all, takes_one}
 use Rattle.desk_store.proofs.Known.{known_at}
 
 -- ---- what the texts mean where the records are held
@@ -67,28 +67,19 @@ abbrev pub Gets : Bytes → Records → Option StoredTarget → Type 0
 Gets id r found = found ≡ option_map stored_target (target_of r id)
 
 -- a row tells of one target
-one_told : (told : StoredTarget) (t : Target) (row : Row) → IsTargetRow row told → row ≡ told_target t → told ≡ stored_target t
-one_told told t row h is =
-    let first : Text told.name ≡ Text t.name = sym h.name ∙ ap (λ r. column r 0) is in
-    let second : Blob told.digest ≡ Blob t.digest = sym h.digest ∙ ap (λ r. column r 1) is in
+one_told : (told : StoredTarget) (t : Target) → IsTargetRow (told_target t) told → told ≡ stored_target t
+one_told told t h =
+    let first : Text t.name ≡ Text told.name = h.name in
+    let second : Blob t.digest ≡ Blob told.digest = h.digest in
     let name : told.name ≡ t.name = cc in
     let digest : told.digest ≡ t.digest = cc in
     λ i. record { name = name i; digest = digest i }
 
-one_read : (wanted : Option Target) (found : Option StoredTarget) (row : Option Row) → IsReadAsTarget found row → row ≡ option_map told_target wanted → found ≡ option_map stored_target wanted
-one_read None found None h is = h
-one_read (Some t) found None h is = absurd cc
-one_read None found (Some row) h is = absurd cc
-one_read (Some t) found (Some row) h is = let same : row ≡ told_target t = cc in h.1 ∙ ap Some (one_told h.0 t row h.2 same)
-
-gets : (id : Bytes) (row : Option Row) (out : Result (Option StoredTarget) Fault) → IfOk out (λ found. IsReadAsTarget found row)
-    → IfOk out (λ found. (db : Database) (now : Records) (holds : HoldsRecords db now) → ShowsFirst (getting db now holds).command db (Text id ∷ []) row → Gets id now found)
-gets id row (Ok found) h = λ db now holds shown. one_read (target_of now id) found row h (gets_target db now holds (codes "name" ∷ codes "digest" ∷ []) id row shown)
-gets id row (Err e) h = tt
-
-pub target_read : (id : Bytes) (old new : State) (row : Option Row) → TakesFirst old new GET_TARGET.now (Text id ∷ []) (Ok row) → (out : Result (Option StoredTarget) Fault) → IfOk out (λ found. IsReadAsTarget found row)
+pub target_read : (id : Bytes) (old new : State) (row : Option Row) → TakesFirst old new GET_TARGET.now (Text id ∷ []) (Ok row) → (out : Result (Option StoredTarget) Fault) → IfOk out (λ found. IsReadAs IsTargetRow found row)
     → Reads HoldsRecords old new out (Gets id)
-target_read id old new row h out is = takes_ok HoldsRecords GET_TARGET.now (Text id ∷ []) old new (Gets id) getting (λ db r holds at given. tt) row h out (gets id row out is)
+target_read id old new row =
+    takes_one IsTargetRow told_target GET_TARGET.now (Text id ∷ []) old new getting (λ r. target_of r id) (λ found t. found ≡ option_map stored_target t) refl (λ told t h. ap Some (one_told told t h)) (λ db r holds at given. tt) row
+    (λ db now holds. gets_target db now holds (codes "name" ∷ codes "digest" ∷ []) id row)
 
 -- ---- how many there are
 
@@ -117,66 +108,44 @@ count_read old new row h out is small = takes_ok HoldsRecords COUNT_TARGETS.now 
 abbrev pub Pages : ℕ → ℕ → Records → Vec ListedTarget Global → Type 0
 Pages limit offset r targets = targets.items ≡ map listed_target (take limit (drop offset r.targets))
 
+abbrev row_of : ListedTarget → Row
+row_of listed = Text listed.id ∷ Text listed.name ∷ []
+
 -- a row shows one target
-one_listed : (t : Target) (listed : ListedTarget) → IsListedTargetRow (listed_row t) listed → listed ≡ listed_target t
-one_listed t listed h =
-    let first : Text t.id ≡ Text listed.id = h.id in
-    let second : Text t.name ≡ Text listed.name = h.name in
-    let id : listed.id ≡ t.id = cc in
-    let name : listed.name ≡ t.name = cc in
+one_listed : (a b : ListedTarget) → IsListedTargetRow (row_of b) a → a ≡ b
+one_listed a b h =
+    let first : Text b.id ≡ Text a.id = h.id in
+    let second : Text b.name ≡ Text a.name = h.name in
+    let id : a.id ≡ b.id = cc in
+    let name : a.name ≡ b.name = cc in
     λ i. record { id = id i; name = name i }
 
--- a further row, and its target
-pub targets_more : (rows : List Row) (targets : List ListedTarget) (at : ℕ) (row : Row) (listed : ListedTarget) → at < length rows → row ≡ get_or rows at row → AreListedTargets (take at rows) targets → IsListedTargetRow row listed
-    → AreListedTargets (take (at + 1) rows) (targets ++ listed ∷ [])
-targets_more rows targets at row listed within is so_far one =
-    subst (λ l. AreListedTargets l (targets ++ listed ∷ [])) (sym (take_more rows at row within)) (all_zipped_more IsListedTargetRow (take at rows) targets (get_or rows at row) listed so_far (subst (λ r. IsListedTargetRow r listed) is one))
-
-all_listed : (targets : List ListedTarget) (ts : List Target) → AreListedTargets (map listed_row ts) targets → targets ≡ map listed_target ts
-all_listed [] [] h = refl
-all_listed [] (t ∷ ts) h = absurd h
-all_listed (listed ∷ targets) [] h = absurd h
-all_listed (listed ∷ targets) (t ∷ ts) h = ap₂ ◌∷◌ (one_listed t listed h.0) (all_listed targets ts h.1)
-
-pages : (limit offset : ℕ) (rows : List Row) (out : Result (Vec ListedTarget Global) Fault) → IfOk out (λ targets. AreListedTargets rows targets.items)
-    → IfOk out (λ targets. (db : Database) (now : Records) (holds : HoldsRecords db now) → Shows (paging db now holds).command db (Int (pos limit) ∷ Int (pos offset) ∷ []) rows → Pages limit offset now targets)
-pages limit offset rows (Ok targets) h = λ db now holds shown.
-    all_listed targets.items (take limit (drop offset now.targets)) (subst (λ l. AreListedTargets l targets.items) (lists_targets db now holds (codes "controller" ∷ codes "name" ∷ []) limit offset rows shown) h)
-pages limit offset rows (Err e) h = tt
+rows_listed : (ts : List Target) → map listed_row ts ≡ map row_of (map listed_target ts)
+rows_listed [] = refl
+rows_listed (t ∷ ts) = ap (λ l. listed_row t ∷ l) (rows_listed ts)
 
 pub targets_read : (limit offset : ℕ) (old new : State) (rows : Vec Row Global) → AsksText old new LIST_TARGETS.now (Int (pos limit) ∷ Int (pos offset) ∷ []) (Ok rows) → (out : Result (Vec ListedTarget Global) Fault)
-    → IfOk out (λ targets. AreListedTargets rows.items targets.items) → Reads HoldsRecords old new out (Pages limit offset)
-targets_read limit offset old new rows h out are = asks_ok HoldsRecords LIST_TARGETS.now (Int (pos limit) ∷ Int (pos offset) ∷ []) old new (Pages limit offset) paging rows h out (pages limit offset rows.items out are)
+    → IfOk out (λ targets. AreReadAs IsListedTargetRow rows.items targets.items) → Reads HoldsRecords old new out (Pages limit offset)
+targets_read limit offset old new rows =
+    asks_all vec_items IsListedTargetRow row_of one_listed LIST_TARGETS.now (Int (pos limit) ∷ Int (pos offset) ∷ []) old new paging (λ r. map listed_target (take limit (drop offset r.targets))) rows
+    (λ db now holds shown. lists_targets db now holds (codes "controller" ∷ codes "name" ∷ []) limit offset rows.items shown ∙ rows_listed _)
 
 -- ---- the tags of a target
 
-abbrev pub Lists : Bytes → Records → Vec Word Global → Type 0
+abbrev pub Lists : Bytes → Records → Vec (Word LabelKind) Global → Type 0
 Lists id r tags = tags.items ≡ tags_of (target_of r id)
 
-first_columns : (ws : List Bytes) → map (λ row. column row 0) (shown_tags ws) ≡ map StoredText ws
-first_columns [] = refl
-first_columns (w ∷ ws) = ap (λ l. StoredText w ∷ l) (first_columns ws)
+-- a row shows one tag
+abbrev pub IsTagRow : Row → Bytes → Type 0
+IsTagRow row tag = column row 0 ≡ StoredText tag
 
-same_texts : (vs ws : List Bytes) → map StoredText vs ≡ map StoredText ws → vs ≡ ws
-same_texts [] [] h = refl
-same_texts [] (w ∷ ws) h = absurd cc
-same_texts (v ∷ vs) [] h = absurd cc
-same_texts (v ∷ vs) (w ∷ ws) h =
-    let first : Text v ≡ Text w = cc in
-    let word : v ≡ w = cc in
-    let rest : map StoredText vs ≡ map StoredText ws = cc in
-    ap₂ ◌∷◌ word (same_texts vs ws rest)
+one_tag : (a b : Bytes) → IsTagRow (Text b ∷ []) a → a ≡ b
+one_tag a b h = let same : Text b ≡ Text a = h in cc
 
-lists : (id : Bytes) (rows : List Row) (out : Result (Vec Word Global) Fault) → IfOk out (λ tags. AreTags rows tags.items)
-    → IfOk out (λ tags. (db : Database) (now : Records) (holds : HoldsRecords db now) → Shows (listing db now holds).command db (Text id ∷ []) rows → Lists id now tags)
-lists id rows (Ok tags) h = λ db now holds shown.
-    let are : rows ≡ shown_tags (tags_of (target_of now id)) = lists_target_tags db now holds (codes "tag" ∷ []) id rows shown in
-    same_texts tags.items _ (sym h ∙ ap (map (λ row. column row 0)) are ∙ first_columns _)
-lists id rows (Err e) h = tt
-
-pub tags_read : (id : Bytes) (old new : State) (rows : Vec Row Global) → AsksText old new LIST_TARGET_TAGS.now (Text id ∷ []) (Ok rows) → (out : Result (Vec Word Global) Fault) → IfOk out (λ tags. AreTags rows.items tags.items)
+pub tags_read : (id : Bytes) (old new : State) (rows : Vec Row Global) → AsksText old new LIST_TARGET_TAGS.now (Text id ∷ []) (Ok rows) → (out : Result (Vec (Word LabelKind) Global) Fault) → IfOk out (λ tags. AreReadAs IsTagRow rows.items tags.items)
     → Reads HoldsRecords old new out (Lists id)
-tags_read id old new rows h out are = asks_ok HoldsRecords LIST_TARGET_TAGS.now (Text id ∷ []) old new (Lists id) listing rows h out (lists id rows.items out are)
+tags_read id old new rows =
+    asks_all vec_items IsTagRow (λ w. Text w ∷ []) one_tag LIST_TARGET_TAGS.now (Text id ∷ []) old new listing (λ r. tags_of (target_of r id)) rows (λ db now holds. lists_target_tags db now holds (codes "tag" ∷ []) id rows.items)
 
 -- ---- what is written
 

@@ -11,7 +11,7 @@ ghost use Rattle.desk_store.specs.Changing.{ReadsIn, WritesIn};
 ghost use Rattle.desk_store.specs.Counting.{AddsAtMost};
 
 use crate::change::OpenChange;
-use crate::reading::{artifacts_in, last_number, piece_in, stored_artifact_in};
+use crate::reading::{last_number, read_all, read_optional};
 use desk_records::{
     FIND_ARTIFACT, GET_ARTIFACT, GET_PIECE, LAST_ARTIFACT, LIST_ARTIFACTS, PUT_ARTIFACT, PUT_PIECE,
     StoredArtifact,
@@ -55,8 +55,9 @@ impl<'a, S: Alter> OpenChange<'a, S> {
         ensures reads { ReadsIn S.Store self.old self.new result (λ r found. found ≡ option_map stored (item_numbered r.artifacts number)) }
         ensures work { AddsAtMost 1 self.old.store.now.calls.work self.new.store.now.calls.work }
     {
+        let alloc = self.store.alloc;
         let row = self.store.calls.first(GET_ARTIFACT, params![number.get()])?;
-        stored_artifact_in(row)
+        read_optional(alloc, row)
     }
 
     /// The artifacts of a module, in the order of their numbers. A row that breaks a column's rule is a failed store.
@@ -70,7 +71,7 @@ impl<'a, S: Alter> OpenChange<'a, S> {
             .store
             .calls
             .ask(LIST_ARTIFACTS, params![module_number.get()])?;
-        artifacts_in(alloc, &rows)
+        read_all(alloc, &rows)
     }
 
     /// The piece at a place of an artifact's contents; places are counted from 1. A row that breaks a column's rule is a
@@ -85,11 +86,12 @@ impl<'a, S: Alter> OpenChange<'a, S> {
             (λ r found. option_map vec_items found ≡ piece_numbered r.artifacts number sequence) }
         ensures work { AddsAtMost 1 self.old.store.now.calls.work self.new.store.now.calls.work }
     {
+        let alloc = self.store.alloc;
         let row = self
             .store
             .calls
             .first(GET_PIECE, params![number.get(), sequence])?;
-        piece_in(row)
+        read_optional(alloc, row)
     }
 
     /// Adds the artifact of the next number, with no contents yet. The size is in bytes.

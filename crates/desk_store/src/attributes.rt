@@ -7,7 +7,7 @@ ghost use Rattle.desk_store.specs.Changing.{ReadsIn, WritesIn};
 ghost use Rattle.desk_store.specs.Counting.{AddsAtMost};
 
 use crate::change::OpenChange;
-use crate::reading::attributes_in;
+use crate::reading::read_attributes;
 use desk_records::{LIST_TARGET_ATTRIBUTES, PUT_TARGET_ATTRIBUTE, SET_TARGET_ATTRIBUTE};
 use rollout_model::{Attribute, Attributes, ControllerId};
 use sql_calls::Fault;
@@ -26,7 +26,7 @@ impl<'a, S: Alter> OpenChange<'a, S> {
             .store
             .calls
             .ask(LIST_TARGET_ATTRIBUTES, params![id.as_str()])?;
-        attributes_in(alloc, &rows)
+        read_attributes(alloc, &rows)
     }
 
     /// Gives a target that is there an attribute of a key that it hasn't.

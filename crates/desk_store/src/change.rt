@@ -10,7 +10,7 @@ ghost use Rattle.desk_records.specs.Modules.{is_same, with_module};
 ghost use Rattle.desk_store.specs.Changing.{ReadsIn, WritesIn};
 ghost use Rattle.desk_store.specs.Counting.{AddsAtMost};
 
-use crate::reading::{finished, label_in, last_number};
+use crate::reading::{finished, last_number, read_optional};
 use crate::store::DeskStore;
 use desk_records::{FIND_MODULE, GET_MODULE, LAST_MODULE, PUT_MODULE};
 use rollout_model::{ModuleLabel, ModuleNo};
@@ -58,7 +58,7 @@ impl<'a, S: Alter> OpenChange<'a, S> {
     {
         let alloc = self.store.alloc;
         let row = self.store.calls.first(GET_MODULE, params![number.get()])?;
-        label_in(alloc, row)
+        read_optional(alloc, row)
     }
 
     /// Adds the module of the next number.

@@ -4,6 +4,7 @@
 mod artifacts;
 mod attributes;
 mod change;
+mod from_row;
 mod reading;
 mod sets;
 mod store;

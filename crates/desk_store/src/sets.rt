@@ -12,7 +12,7 @@ ghost use Rattle.desk_store.specs.Changing.{ReadsIn, WritesIn};
 ghost use Rattle.desk_store.specs.Counting.{AddsAtMost};
 
 use crate::change::OpenChange;
-use crate::reading::{last_number, numbers_in, set_name_in};
+use crate::reading::{last_number, read_all, read_optional};
 use desk_records::{
     FIND_SET, GET_SET, LAST_SET, LIST_SET_MODULES, MODULE_LOCKED, PUT_SET, PUT_SET_MODULE, SetName,
 };
@@ -52,7 +52,7 @@ impl<'a, S: Alter> OpenChange<'a, S> {
     {
         let alloc = self.store.alloc;
         let row = self.store.calls.first(GET_SET, params![number.get()])?;
-        set_name_in(alloc, row)
+        read_optional(alloc, row)
     }
 
     /// The modules of the set of a number, in its order; of a set that isn't there none.
@@ -66,7 +66,7 @@ impl<'a, S: Alter> OpenChange<'a, S> {
             .store
             .calls
             .ask(LIST_SET_MODULES, params![number.get()])?;
-        numbers_in(alloc, &rows)
+        read_all(alloc, &rows)
     }
 
     /// Whether a set names the module of a number, so that the module takes no further artifact.

@@ -9,7 +9,7 @@ ghost use Rattle.desk_store.specs.Changing.{ReadsIn, WritesIn};
 ghost use Rattle.desk_store.specs.Counting.{AddsAtMost};
 
 use crate::change::OpenChange;
-use crate::reading::{counted_in, listed_targets_in, stored_target_in, tags_in};
+use crate::reading::{counted_in, read_all, read_optional};
 use desk_records::{
     COUNT_TARGETS, DROP_TARGET_TAG, GET_TARGET, LIST_TARGET_TAGS, LIST_TARGETS, ListedTarget,
     PUT_TARGET, PUT_TARGET_TAG, SET_TARGET, StoredTarget,
@@ -27,7 +27,7 @@ impl<'a, S: Alter> OpenChange<'a, S> {
     {
         let alloc = self.store.alloc;
         let row = self.store.calls.first(GET_TARGET, params![id.as_str()])?;
-        stored_target_in(alloc, row)
+        read_optional(alloc, row)
     }
 
     /// The tags of the target of an id, in byte order; none where there is no such target. A row that breaks the column's rule is a failed store.
@@ -41,7 +41,7 @@ impl<'a, S: Alter> OpenChange<'a, S> {
             .store
             .calls
             .ask(LIST_TARGET_TAGS, params![id.as_str()])?;
-        tags_in(alloc, &rows)
+        read_all(alloc, &rows)
     }
 
     /// The targets of a page by their ids and names, in byte order of their ids. A row that breaks a column's rule is a
@@ -57,7 +57,7 @@ impl<'a, S: Alter> OpenChange<'a, S> {
             .store
             .calls
             .ask(LIST_TARGETS, params![page.limit, page.offset])?;
-        listed_targets_in(alloc, &rows)
+        read_all(alloc, &rows)
     }
 
     /// How many targets there are.

@@ -15,6 +15,7 @@ ghost use Rattle.desk_views.specs.Targets.{matching_shown, target_listed, unassi
 use crate::pages::is_on;
 use crate::targets::{read_listed, shown_unassigned};
 use desk_store::{Fault, ListedTarget, OpenChange};
+use rollout_model::limits::TARGET_LIMIT;
 use rollout_model::{FilterText, Page, PageOf, Refusal, Reply, ShownTarget};
 use sqlite::Alter;
 use std::alloc::Global;
@@ -22,7 +23,7 @@ use target_filter::{Filter, FilterFault, laws};
 
 /// How many targets one statement lists, where a filter goes through them all: as many as a desk keeps, since each
 /// further statement walks over those that were listed before it.
-const CHUNK: u32 = 10_000;
+const CHUNK: u32 = TARGET_LIMIT;
 
 /// Shows a page of the targets in byte order of their ids: of those that match the filter, or else of all.
 pub fn show_targets<S: Alter>(

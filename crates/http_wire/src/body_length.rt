@@ -7,8 +7,8 @@ ghost use Rattle.http_wire.specs.Inbox.{field_view};
 
 use crate::fault::WireFault;
 use crate::fields::{FieldsOfName, find_named};
-use crate::limits::BODY_LIMIT;
 use crate::message::Field;
+use rollout_model::limits::BODY_LENGTH_LIMIT;
 
 fn are_all_digits(text: &[u8]) -> bool
     ensures { result ≡ list_all is_ascii_digit text.now }
@@ -41,7 +41,7 @@ fn length_of(text: &[u8]) -> Result<usize, WireFault>
     let mut length = 0;
     for b in text {
         length = length * 10 + digit_of(*b);
-        if length > BODY_LIMIT {
+        if length > BODY_LENGTH_LIMIT {
             return Err(WireFault::TooLarge);
         }
     }

@@ -5,9 +5,9 @@ ghost use Rattle.http_wire.specs.Heads.{HeadParts, IsOriginForm, SpellsHead, is_
 ghost use Rattle.http_wire.specs.Parse.{lf_follows_cr, is_no_line_break, IsStrict, IsHeadAt};
 ghost use Rattle.httparse.specs.Spans.{IsWithin};
 
-use crate::limits::FIELD_LIMIT;
 use httparse::Status;
 use httparse::spans::{EMPTY_HEADER_SPAN, HeaderSpan, RequestSpans, Span, parse_request};
+use rollout_model::limits::FIELD_LIMIT;
 
 /// Where the parts of a head are.
 #[derive(Clone, Copy)]

@@ -10,9 +10,9 @@ ghost use Rattle.http_wire.specs.Parse.{fields_at};
 use crate::body_length::body_length;
 use crate::fault::WireFault;
 use crate::head::{HeadSpans, parse_head};
-use crate::limits::{FIELD_LIMIT, HEAD_LIMIT};
 use crate::region::{line_ends, region_len};
 use crate::target::{path_of, query_of};
+use rollout_model::limits::{FIELD_LIMIT, HEAD_LENGTH_LIMIT};
 
 /// A name, and its value without the white space around it.
 #[derive(Clone, Copy)]
@@ -115,7 +115,7 @@ pub(crate) fn read_front(bytes: &[u8]) -> Option<Result<(Message<'_>, usize), Wi
     ensures message { IfSome result (λ r. IfOk r (λ m. IsMessage bytes.now (message_of m.0) (drop m.1 bytes.now))) }
 {
     let Some(head_len) = region_len(bytes) else {
-        if bytes.len() < HEAD_LIMIT {
+        if bytes.len() < HEAD_LENGTH_LIMIT {
             return None;
         }
         return Some(Err(WireFault::HeadTooLarge));

@@ -2,7 +2,7 @@
 ghost use Rattle.std.specs.Prelude.{◌≡◌, ℕ, ◌+◌, ◌<◌, ◌≤◌, ◌↔◌, Bool, true, List, length, take, drop, IsTrue, IfSome, IfNone};
 ghost use Rattle.http_wire.specs.Regions.{IsLineEndAt, IsHeadEndAt, HasRegion, HasNoRegion, line_ends};
 
-use crate::limits::HEAD_LIMIT;
+use rollout_model::limits::HEAD_LENGTH_LIMIT;
 
 const CARRIAGE_RETURN: u8 = b'\r';
 
@@ -28,7 +28,7 @@ pub(crate) fn region_len(bytes: &[u8]) -> Option<usize>
     ensures found { IfSome result (λ n. HasRegion bytes.now (take n bytes.now) (drop n bytes.now)) }
     ensures none { IfNone result (HasNoRegion bytes.now) }
 {
-    let limit = bytes.len().min(HEAD_LIMIT);
+    let limit = bytes.len().min(HEAD_LENGTH_LIMIT);
     if limit < 4 {
         return None;
     }

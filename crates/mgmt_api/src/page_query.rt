@@ -6,19 +6,20 @@ ghost use Rattle.mgmt_objects.specs.Readings.{ReadsAs};
 ghost use Rattle.mgmt_api.specs.PageQueries.{limit_of, offset_of, page_asked, page_of};
 
 use request_target::{number_or, read_query, value_of};
+use rollout_model::limits::{NUMBER_LIMIT, PAGE_DEFAULT, PAGE_LIMIT};
 use rollout_model::{Page, Refusal};
 use std::alloc::Global;
 
 fn offset_of(pairs: &[(String, String)]) -> Option<u32>
     ensures { result ≡ offset_of (map seen pairs.now) }
 {
-    number_or(0, 2147483647, 0, value_of(pairs, "offset"))
+    number_or(0, NUMBER_LIMIT, 0, value_of(pairs, "offset"))
 }
 
 fn limit_of(pairs: &[(String, String)]) -> Option<u32>
     ensures { result ≡ limit_of (map seen pairs.now) }
 {
-    number_or(1, 500, 50, value_of(pairs, "limit"))
+    number_or(1, PAGE_LIMIT, PAGE_DEFAULT, value_of(pairs, "limit"))
 }
 
 pub(crate) fn page_of(pairs: &[(String, String)]) -> Option<Page>

@@ -9,6 +9,7 @@ use crate::body::read_value;
 use crate::list::{Item, read_array};
 use crate::member::read_text;
 use artifact_pieces::describe;
+use rollout_model::limits::POSTED_TARGET_LIMIT;
 use rollout_model::{ControllerId, Digest, Refusal, Tags, TargetRow, TargetRows, Token, Word};
 use serde_json::Value;
 use std::alloc::Global;
@@ -112,7 +113,7 @@ fn posted(rows: Vec<TargetRow>) -> Option<TargetRows>
     ensures { result ≡ posted_rows rows.items }
 {
     let count = rows.len();
-    let are_posted = 1 <= count && count <= 100 && have_distinct_ids(&rows);
+    let are_posted = 1 <= count && count <= POSTED_TARGET_LIMIT && have_distinct_ids(&rows);
     if !are_posted {
         return None;
     }

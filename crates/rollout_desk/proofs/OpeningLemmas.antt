@@ -13,6 +13,7 @@ use Rattle.sqlite_store.specs.declared.store.FileStore.{FileStore}
 use Rattle.sqlite.specs.Steps.{IsEmpty}
 use Rattle.sql_front.specs.Free.{LeavesFree}
 use Rattle.sql_calls.specs.Standing.{HoldIn, IsAtRest}
+use Rattle.desk_opening.proofs.BlankLemmas.{nothing_is_used}
 use Rattle.desk_records.specs.Schema.{desk_names}
 use Rattle.desk_opening.specs.Making.{HoldsStage, Free}
 use Rattle.sqlite.specs.Schema.{Schema}
@@ -66,7 +67,7 @@ module _ {D : Type 0} {g : disk.Ghosts D} (given old : Held (FileStore D g)) (sa
 -- ---- in memory
 
 empty_is_free : (s : State) → IsEmpty s → LeavesFree s.now.schema desk_names
-empty_is_free s e = rw (e.2) (refl, (refl, (refl, (refl, (refl, (refl, (refl, (refl, (refl, tt)))))))))
+empty_is_free s e = nothing_is_used s.now.schema (ap (λ (x : Schema). x.tables) e.2) (ap (λ (x : Schema). x.indexes) e.2) (ap (λ (x : Schema). x.views) e.2) desk_names
 
 empty_at_rest : (s : State) → IsSettled s → IsEmpty s → IsAtRest HoldsStage s Free
 empty_at_rest s settled e =

@@ -14,17 +14,9 @@ ghost use Rattle.rollout_desk.specs.Additions.{AddsArtifact, AddsContents, Shows
 use crate::step::Step;
 use artifact_pieces::describe;
 use desk_store::{Fault, OpenChange};
+use rollout_model::limits::{ARTIFACT_LIMIT, MODULE_ARTIFACT_LIMIT, PIECE_LENGTH};
 use rollout_model::{Artifact, ArtifactNo, Contents, Digest, ModuleNo, Refusal, Reply, Upload};
 use sqlite::Alter;
-
-/// How many artifacts a module takes.
-const MODULE_ARTIFACT_LIMIT: usize = 8;
-
-/// How many artifacts a desk takes.
-const ARTIFACT_LIMIT: u32 = 256;
-
-/// The bytes of every piece of contents but the last.
-const PIECE_LENGTH: usize = 65_536;
 
 /// Why the module takes no artifact of this name, whatever its contents.
 fn module_refusal<S: Alter>(

@@ -13,11 +13,9 @@ ghost use Rattle.rollout_desk.specs.Attributes.{GivesAttribute, GivesAttributes,
 
 use crate::step::Step;
 use desk_store::{Fault, OpenChange};
+use rollout_model::limits::ATTRIBUTE_LIMIT;
 use rollout_model::{Attribute, ConfigData, ControllerId, Credential, Refusal, Reply, Word};
 use sqlite::Alter;
-
-/// How many attributes a target takes.
-const ATTRIBUTE_LIMIT: usize = 32;
 
 /// Whether a target of the device's id is there, with the digest of the token that it showed.
 fn knows_device<S: Alter>(

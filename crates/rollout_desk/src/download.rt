@@ -12,11 +12,9 @@ ghost use Rattle.rollout_desk.specs.Downloads.{Begins, HandsPieces, IsInterrupti
 use crate::desk::Desk;
 use crate::look::{of_length, read_piece};
 use crate::refusals::is_failed_store;
+use rollout_model::limits::PIECE_LENGTH;
 use rollout_model::{Artifact, ArtifactNo, ModuleNo, Query, Refusal, Reply};
 use sqlite::Alter;
-
-/// How many bytes a piece of an artifact's contents has; the last one may be shorter.
-const PIECE_LENGTH: u64 = 65_536;
 
 /// A download: how far the contents of an artifact were handed out, piece by piece. One that is dropped early changes nothing.
 #[derive(Clone, Copy)]
@@ -40,8 +38,10 @@ impl Download {
     fn next_length(&self) -> u64
         ensures { result ≡ next_length self.now }
     {
-        let sent = self.pieces as u64 * PIECE_LENGTH;
-        (self.size as u64).saturating_sub(sent).min(PIECE_LENGTH)
+        let sent = self.pieces as u64 * PIECE_LENGTH as u64;
+        (self.size as u64)
+            .saturating_sub(sent)
+            .min(PIECE_LENGTH as u64)
     }
 }
 

@@ -8,12 +8,10 @@ ghost use Rattle.rollout_desk.specs.Additions.{GetsModuleNumber};
 
 use crate::step::Step;
 use desk_store::{Fault, OpenChange};
+use rollout_model::limits::MODULE_LIMIT;
 use rollout_model::{Module, ModuleLabel, ModuleNo, Refusal, Reply};
 use sqlite::Alter;
 use std::alloc::Global;
-
-/// How many modules a desk takes.
-const MODULE_LIMIT: u32 = 1000;
 
 /// The number that a module gets, or why it is refused.
 fn next_module<S: Alter>(

@@ -10,12 +10,10 @@ ghost use Rattle.rollout_desk.specs.Additions.{AddsModules, AddsWhole, GetsSetNu
 
 use crate::step::Step;
 use desk_store::{Fault, OpenChange};
+use rollout_model::limits::SET_LIMIT;
 use rollout_model::{DistributionSet, ModuleList, ModuleNo, Refusal, Reply, SetLabel, SetNo};
 use sqlite::Alter;
 use std::alloc::Global;
-
-/// How many distribution sets a desk takes.
-const SET_LIMIT: u32 = 1000;
 
 /// Whether a number of the list is past the last one.
 fn any_past(modules: &ModuleList, last: u32) -> bool

@@ -9,11 +9,9 @@ ghost use Rattle.rollout_desk.specs.Changing.{StepsIn};
 
 use crate::step::Step;
 use desk_store::{Fault, OpenChange};
+use rollout_model::limits::TAG_LIMIT;
 use rollout_model::{ControllerId, Refusal, Reply, Word};
 use sqlite::Alter;
-
-/// How many tags a target takes.
-const TAG_LIMIT: usize = 16;
 
 /// Whether the target of an id isn't there.
 fn lacks_target<S: Alter>(change: &mut OpenChange<'_, S>, id: &ControllerId) -> Result<bool, Fault>

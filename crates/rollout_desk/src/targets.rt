@@ -9,11 +9,9 @@ ghost use Rattle.rollout_desk.specs.Imports.{AddsTags, DropsTags, LeavesRoom, Pu
 
 use crate::step::Step;
 use desk_store::{Fault, OpenChange, StoredTarget};
+use rollout_model::limits::TARGET_LIMIT;
 use rollout_model::{ControllerId, Refusal, Reply, Tags, TargetRow, TargetRows, Word};
 use sqlite::Alter;
-
-/// How many targets a desk takes.
-const TARGET_LIMIT: u32 = 10_000;
 
 /// Takes from a target the tags that it had and that aren't wanted.
 fn drop_tags<S: Alter>(

@@ -92,6 +92,10 @@ body_length_limit = 1048576
 abbrev pub head_length_limit : ℕ
 head_length_limit = 8192
 
+-- the bytes of a file of targets that is handed in as an import
+abbrev pub file_length_limit : ℕ
+file_length_limit = 1048576
+
 -- the fields of a head
 abbrev pub field_limit : ℕ
 field_limit = 32

@@ -2,11 +2,10 @@
 
 ghost use Rattle.std.specs.Prelude.{◌≡◌, IfOk};
 
-use crate::artifact_number::ArtifactNo;
 use crate::contents::Contents;
 use crate::digest::Digest;
 use crate::filename::Filename;
-use crate::number::ModuleNo;
+use crate::number::{ArtifactNo, ModuleNo};
 use std::alloc::{AllocError, Global};
 
 /// What an artifact is added by: no two artifacts of a module have the same name.

@@ -5,6 +5,7 @@ ghost use Rattle.std.specs.Cmp.{on_equiv, on_per, partial_equiv_from_equiv};
 ghost use Rattle.std.specs.Cmp.Lexicographic.{pointwise, lists_equiv, nat_list_eq_equiv};
 ghost use Rattle.rollout_model.specs.Pairs.{config_data_of, is_config_data, is_same_attribute, pair_of};
 
+use crate::limits::ATTRIBUTE_LIMIT;
 use crate::target::{Attribute, Attributes};
 use std::alloc::{AllocError, Global};
 use std::marker::Model;
@@ -32,7 +33,7 @@ impl ConfigData {
     pub fn from_attributes(attributes: Attributes) -> Option<ConfigData>
         ensures { result ≡ config_data_of attributes }
     {
-        if attributes.as_slice().len() > 32 {
+        if attributes.as_slice().len() > ATTRIBUTE_LIMIT {
             return None;
         }
         Some(ConfigData { attributes })

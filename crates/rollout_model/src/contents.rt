@@ -6,6 +6,7 @@ ghost use Rattle.std.specs.Cmp.Lexicographic.{pointwise, nat_list_eq_equiv};
 ghost use Rattle.rollout_model.specs.Limits.{artifact_size_limit};
 ghost use Rattle.rollout_model.specs.Rules.{is_contents, contents_of};
 
+use crate::limits::ARTIFACT_SIZE_LIMIT;
 use std::alloc::{AllocError, Global};
 use std::marker::Model;
 
@@ -30,7 +31,7 @@ impl Model for Contents {
 fn are_contents(bytes: &[u8]) -> bool
     ensures { result ≡ is_contents bytes.now }
 {
-    bytes.len() <= 1_048_576
+    bytes.len() <= ARTIFACT_SIZE_LIMIT
 }
 
 impl Contents {

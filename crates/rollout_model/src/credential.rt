@@ -1,7 +1,7 @@
 //! Who devices say they are.
 
-use crate::controller_id::ControllerId;
 use crate::digest::Digest;
+use crate::word::ControllerId;
 
 /// Who a device says it is, with the SHA-256 of the token that it showed.
 #[derive(Clone, Copy)]

@@ -6,6 +6,7 @@ ghost use Rattle.std.specs.Cmp.Lexicographic.{pointwise, nat_list_eq_equiv};
 ghost use Rattle.rollout_model.specs.Rules.{is_detail, detail_of};
 
 use crate::letters;
+use crate::limits::DETAIL_LENGTH_LIMIT;
 use std::alloc::{AllocError, Global};
 use std::marker::Model;
 
@@ -31,7 +32,7 @@ impl Detail {
     pub fn read(alloc: Global, text: &str) -> Result<Option<Detail>, AllocError>
         ensures { IfOk result (λ o. o ≡ detail_of text.now) }
     {
-        if !letters::is_text_spelled(text, 0, 256) {
+        if !letters::is_text_spelled(text, 0, DETAIL_LENGTH_LIMIT) {
             return Ok(None);
         }
         let text = String::from_str(alloc, text)?;

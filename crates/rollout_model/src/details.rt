@@ -7,6 +7,7 @@ ghost use Rattle.std.specs.List.{list_all};
 ghost use Rattle.rollout_model.specs.Rules.{are_details, details_of, is_detail};
 
 use crate::detail::Detail;
+use crate::limits::{DETAIL_LENGTH_LIMIT, DETAIL_LIMIT};
 use std::alloc::{AllocError, Global};
 use std::marker::Model;
 
@@ -31,7 +32,9 @@ impl Model for Details {
 fn keep_their_rule(lines: &[Detail]) -> bool
     ensures { result ≡ list_all is_detail lines.now }
 {
-    lines.iter().all(|line| line.as_str().len() <= 256)
+    lines
+        .iter()
+        .all(|line| line.as_str().len() <= DETAIL_LENGTH_LIMIT)
 }
 
 impl Details {
@@ -39,7 +42,7 @@ impl Details {
     pub fn from_lines(lines: Vec<Detail>) -> Option<Details>
         ensures { result ≡ details_of lines.items }
     {
-        let are_few = lines.len() <= 8 && keep_their_rule(&lines);
+        let are_few = lines.len() <= DETAIL_LIMIT && keep_their_rule(&lines);
         if !are_few {
             return None;
         }

@@ -3,12 +3,13 @@
 ghost use Rattle.std.specs.Prelude.{◌≡◌, true, length};
 ghost use Rattle.rollout_model.specs.Rules.{is_digest, sha256_digest_of};
 
+use crate::limits::DIGEST_LENGTH;
 use std::marker::Model;
 
 /// A SHA-256 digest (FIPS 180-4): 32 bytes.
 #[derive(Clone, Copy, PartialEq, Eq)]
 pub struct Digest {
-    bytes: [u8; 32],
+    bytes: [u8; DIGEST_LENGTH],
 }
 
 impl Model for Digest {
@@ -35,7 +36,7 @@ impl Digest {
     pub fn read(bytes: &[u8]) -> Option<Digest>
         ensures { result ≡ sha256_digest_of bytes.now }
     {
-        if bytes.len() != 32 {
+        if bytes.len() != DIGEST_LENGTH {
             return None;
         }
         Some(Digest::of(bytes))
@@ -45,7 +46,7 @@ impl Digest {
         requires { length bytes.now ≡ 32 }
         ensures { result ≡ bytes.now }
     {
-        let mut own = [0; 32];
+        let mut own = [0; DIGEST_LENGTH];
         own.copy_from_slice(bytes);
         Digest { bytes: own }
     }

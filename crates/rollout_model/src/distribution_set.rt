@@ -3,7 +3,7 @@
 ghost use Rattle.std.specs.Prelude.{◌≡◌, IfOk};
 
 use crate::module_list::ModuleList;
-use crate::set_number::SetNo;
+use crate::number::SetNo;
 use crate::text::Text;
 use std::alloc::{AllocError, Global};
 

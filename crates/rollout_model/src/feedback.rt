@@ -2,9 +2,9 @@
 
 ghost use Rattle.std.specs.Prelude.{◌≡◌, IfOk};
 
-use crate::action_number::ActionNo;
 use crate::credential::Credential;
 use crate::details::Details;
+use crate::number::ActionNo;
 use std::alloc::{AllocError, Global};
 
 /// A note on the way, which ends nothing.

@@ -5,13 +5,14 @@ ghost use Rattle.rollout_model.specs.Rules.{is_filename, filename_of};
 
 use crate::inline_bytes::InlineBytes;
 use crate::letters;
+use crate::limits::FILENAME_LENGTH_LIMIT;
 use std::marker::Model;
 use std::str;
 
 /// The name of an artifact: 1 to 128 bytes of `A-Z a-z 0-9 . _ -`.
 #[derive(Clone, Copy)]
 pub struct Filename {
-    letters: InlineBytes<128>,
+    letters: InlineBytes<FILENAME_LENGTH_LIMIT>,
 }
 
 impl Model for Filename {
@@ -32,7 +33,7 @@ impl Filename {
     pub fn read(text: &str) -> Option<Filename>
         ensures { result ≡ filename_of text.now }
     {
-        if !letters::is_word_spelled(text.as_bytes(), 1, 128) {
+        if !letters::is_word_spelled(text.as_bytes(), 1, FILENAME_LENGTH_LIMIT) {
             return None;
         }
         Some(Filename {

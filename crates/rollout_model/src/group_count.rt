@@ -4,6 +4,7 @@ ghost use Rattle.std.specs.Prelude.{◌≡◌, ◌≤◌, true};
 ghost use Rattle.rollout_model.specs.Limits.{group_limit};
 ghost use Rattle.rollout_model.specs.Rules.{is_group_count, group_count_of};
 
+use crate::limits::GROUP_LIMIT;
 use std::marker::Model;
 
 /// How many groups a rollout is cut into, from 1 to 50.
@@ -30,7 +31,7 @@ impl GroupCount {
     pub fn new(count: u32) -> Option<GroupCount>
         ensures { result ≡ group_count_of count }
     {
-        if 1 <= count && count <= 50 {
+        if 1 <= count && count <= GROUP_LIMIT {
             Some(GroupCount { count })
         } else {
             None

@@ -2,14 +2,11 @@
 //! replies.
 #![tactic(auto)]
 
-mod action_number;
 mod action_word;
 mod approval;
 mod artifact;
-mod artifact_number;
 mod config_data;
 mod contents;
-mod controller_id;
 mod credential;
 mod detail;
 mod details;
@@ -23,6 +20,7 @@ mod group_word;
 mod inline_bytes;
 mod items;
 mod letters;
+pub mod limits;
 mod module;
 mod module_list;
 mod number;
@@ -31,11 +29,9 @@ mod percentage;
 mod refusal;
 mod request;
 mod rollout;
-mod rollout_number;
 mod rollout_plan;
 mod rollout_request;
 mod rollout_word;
-mod set_number;
 mod shown_target;
 mod tags;
 mod target;
@@ -46,14 +42,11 @@ mod token;
 mod value;
 mod word;
 
-pub use action_number::ActionNo;
 pub use action_word::ActionWord;
 pub use approval::Approval;
 pub use artifact::{Artifact, Upload};
-pub use artifact_number::ArtifactNo;
 pub use config_data::ConfigData;
 pub use contents::Contents;
-pub use controller_id::ControllerId;
 pub use credential::Credential;
 pub use detail::Detail;
 pub use details::Details;
@@ -68,17 +61,18 @@ pub use inline_bytes::InlineBytes;
 pub use items::Items;
 pub use module::{Module, ModuleLabel};
 pub use module_list::ModuleList;
-pub use number::ModuleNo;
+pub use number::{
+    ActionKind, ActionNo, ArtifactKind, ArtifactNo, ModuleKind, ModuleNo, Number, RolloutKind,
+    RolloutNo, SetKind, SetNo,
+};
 pub use page::{Page, PageOf};
 pub use percentage::Percentage;
 pub use refusal::Refusal;
 pub use request::{Command, Query, Reply, Request};
 pub use rollout::{Action, Chunk, Deployment, Group, NumberedEntry, Offer, Rollout, RolloutReport};
-pub use rollout_number::RolloutNo;
 pub use rollout_plan::RolloutPlan;
 pub use rollout_request::{Cancel, RolloutCommand, RolloutQuery, RolloutReply};
 pub use rollout_word::RolloutWord;
-pub use set_number::SetNo;
 pub use shown_target::ShownTarget;
 pub use tags::Tags;
 pub use target::{Attribute, Attributes, Target};
@@ -87,4 +81,4 @@ pub use target_word::TargetWord;
 pub use text::Text;
 pub use token::Token;
 pub use value::Value;
-pub use word::Word;
+pub use word::{ControllerId, LabelKind, TargetKind, Word};

@@ -6,6 +6,7 @@ ghost use Rattle.std.specs.Cmp.Lexicographic.{pointwise, nat_list_eq_equiv};
 ghost use Rattle.std.specs.List.{list_all, list_any};
 ghost use Rattle.rollout_model.specs.Rules.{are_distinct_numbers, is_module_list, is_number, module_list_of};
 
+use crate::limits::SET_MODULE_LIMIT;
 use crate::number::ModuleNo;
 use std::alloc::{AllocError, Global};
 use std::marker::Model;
@@ -50,7 +51,10 @@ impl ModuleList {
         ensures { result ≡ module_list_of numbers.items }
     {
         let count = numbers.len();
-        let is_list = 1 <= count && count <= 8 && are_numbers(&numbers) && are_distinct(&numbers);
+        let is_list = 1 <= count
+            && count <= SET_MODULE_LIMIT
+            && are_numbers(&numbers)
+            && are_distinct(&numbers);
         if !is_list {
             return None;
         }

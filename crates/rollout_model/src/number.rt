@@ -4,18 +4,18 @@ ghost use Rattle.std.specs.Prelude.{◌≡◌, ◌≤◌, true};
 ghost use Rattle.rollout_model.specs.Limits.{number_limit};
 ghost use Rattle.rollout_model.specs.Rules.{is_number, number_of};
 
-use std::marker::Model;
+use crate::limits::NUMBER_LIMIT;
+use std::marker::{Model, PhantomData};
 
-/// The greatest number of a module, a set, a rollout or an action.
-pub(crate) const GREATEST: u32 = 2_147_483_647;
-
-/// The number of a module, from 1 to 2,147,483,647: the k-th module that was added has number k.
+/// A number from 1 to 2,147,483,647, of a kind: one kind's can't be passed for another's.
 #[derive(Clone, Copy, PartialEq, Eq)]
-pub struct ModuleNo {
+pub struct Number<Kind> {
+    // in front, so that two numbers compare as what they hold: a derived comparison goes from field to field
+    kind: PhantomData<Kind>,
     number: u32,
 }
 
-impl Model for ModuleNo {
+impl<Kind> Model for Number<Kind> {
     ghost use Rattle.std.specs.Prelude.{◌≡◌, ℕ, true};
     ghost use Rattle.rollout_model.specs.Rules.{is_number};
 
@@ -25,16 +25,19 @@ impl Model for ModuleNo {
 
     ghost invariant = { λ s. is_number s.number ≡ true };
 
-    ghost inverse = { λ v. record { number = v } };
+    ghost inverse = { λ v. record { number = v; kind = record {} } };
 }
 
-impl ModuleNo {
+impl<Kind> Number<Kind> {
     /// The number, where it is in its range.
-    pub fn new(number: u32) -> Option<ModuleNo>
+    pub fn new(number: u32) -> Option<Self>
         ensures { result ≡ number_of number }
     {
-        if 1 <= number && number <= GREATEST {
-            Some(ModuleNo { number })
+        if 1 <= number && number <= NUMBER_LIMIT {
+            Some(Number {
+                kind: PhantomData,
+                number,
+            })
         } else {
             None
         }
@@ -49,3 +52,38 @@ impl ModuleNo {
         self.number
     }
 }
+
+/// What is numbered by a `ModuleNo`.
+#[derive(Clone, Copy, PartialEq, Eq)]
+pub struct ModuleKind;
+
+/// What is numbered by an `ArtifactNo`.
+#[derive(Clone, Copy, PartialEq, Eq)]
+pub struct ArtifactKind;
+
+/// What is numbered by a `SetNo`.
+#[derive(Clone, Copy, PartialEq, Eq)]
+pub struct SetKind;
+
+/// What is numbered by a `RolloutNo`.
+#[derive(Clone, Copy, PartialEq, Eq)]
+pub struct RolloutKind;
+
+/// What is numbered by an `ActionNo`.
+#[derive(Clone, Copy, PartialEq, Eq)]
+pub struct ActionKind;
+
+/// The number of a module: the k-th module that was added has number k.
+pub type ModuleNo = Number<ModuleKind>;
+
+/// The number of an artifact: the k-th artifact that was added, to whatever module, has number k.
+pub type ArtifactNo = Number<ArtifactKind>;
+
+/// The number of a distribution set: the k-th set that was added has number k.
+pub type SetNo = Number<SetKind>;
+
+/// The number of a rollout: the k-th rollout that was created has number k.
+pub type RolloutNo = Number<RolloutKind>;
+
+/// The number of an action: the start of a rollout numbers its members' actions on from the last.
+pub type ActionNo = Number<ActionKind>;

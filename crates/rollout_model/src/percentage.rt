@@ -4,6 +4,7 @@ ghost use Rattle.std.specs.Prelude.{◌≡◌, ◌≤◌, true};
 ghost use Rattle.rollout_model.specs.Limits.{percentage_limit};
 ghost use Rattle.rollout_model.specs.Rules.{is_percentage, percentage_of};
 
+use crate::limits::PERCENTAGE_LIMIT;
 use std::marker::Model;
 
 /// A threshold of a rollout's groups: a percentage of a group's members, from 1 to 100.
@@ -30,7 +31,7 @@ impl Percentage {
     pub fn new(percent: u8) -> Option<Percentage>
         ensures { result ≡ percentage_of percent }
     {
-        if 1 <= percent && percent <= 100 {
+        if 1 <= percent && percent <= PERCENTAGE_LIMIT {
             Some(Percentage { percent })
         } else {
             None

@@ -3,21 +3,18 @@
 ghost use Rattle.std.specs.Prelude.{◌≡◌, IfOk};
 
 use crate::artifact::{Artifact, Upload};
-use crate::artifact_number::ArtifactNo;
 use crate::config_data::ConfigData;
 use crate::contents::Contents;
-use crate::controller_id::ControllerId;
 use crate::credential::Credential;
 use crate::distribution_set::{DistributionSet, SetLabel};
 use crate::filter_text::FilterText;
 use crate::module::{Module, ModuleLabel};
-use crate::number::ModuleNo;
+use crate::number::{ArtifactNo, ModuleNo, SetNo};
 use crate::page::{Page, PageOf};
 use crate::refusal::Refusal;
-use crate::set_number::SetNo;
 use crate::shown_target::ShownTarget;
 use crate::target_row::TargetRows;
-use crate::word::Word;
+use crate::word::{ControllerId, Word};
 use std::alloc::{AllocError, Global};
 
 /// What changes a desk.

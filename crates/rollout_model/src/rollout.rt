@@ -1,18 +1,15 @@
 //! Rollouts, groups and actions as they are shown.
 
-use crate::action_number::ActionNo;
 use crate::action_word::ActionWord;
 use crate::artifact::Artifact;
-use crate::controller_id::ControllerId;
 use crate::feedback::HistoryEntry;
 use crate::filter_text::FilterText;
 use crate::group_word::GroupWord;
 use crate::module::ModuleLabel;
-use crate::number::ModuleNo;
-use crate::rollout_number::RolloutNo;
+use crate::number::{ActionNo, ModuleNo, RolloutNo, SetNo};
 use crate::rollout_word::RolloutWord;
-use crate::set_number::SetNo;
 use crate::text::Text;
+use crate::word::ControllerId;
 
 /// A rollout as it is shown.
 #[derive(Drop)]

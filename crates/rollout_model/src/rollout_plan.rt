@@ -4,8 +4,8 @@ ghost use Rattle.std.specs.Prelude.{◌≡◌, IfOk};
 
 use crate::filter_text::FilterText;
 use crate::group_count::GroupCount;
+use crate::number::SetNo;
 use crate::percentage::Percentage;
-use crate::set_number::SetNo;
 use crate::text::Text;
 use std::alloc::{AllocError, Global};
 

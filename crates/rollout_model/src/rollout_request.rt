@@ -2,19 +2,17 @@
 
 ghost use Rattle.std.specs.Prelude.{◌≡◌, IfOk};
 
-use crate::action_number::ActionNo;
 use crate::contents::Contents;
-use crate::controller_id::ControllerId;
 use crate::credential::Credential;
 use crate::feedback::{CancelWord, DeploymentWord, Report};
 use crate::filename::Filename;
-use crate::number::ModuleNo;
+use crate::number::{ActionNo, ModuleNo, RolloutNo};
 use crate::page::{Page, PageOf};
 use crate::refusal::Refusal;
 use crate::rollout::{Action, Deployment, Group, NumberedEntry, Offer, Rollout, RolloutReport};
-use crate::rollout_number::RolloutNo;
 use crate::rollout_plan::RolloutPlan;
 use crate::shown_target::ShownTarget;
+use crate::word::ControllerId;
 use std::alloc::{AllocError, Global};
 
 /// What changes rollouts: what their keepers do, and what devices report.

@@ -1,10 +1,10 @@
 //! Targets as they are shown.
 
-use crate::controller_id::ControllerId;
 use crate::tags::Tags;
 use crate::target::Attributes;
 use crate::target_word::TargetWord;
 use crate::text::Text;
+use crate::word::ControllerId;
 
 /// A target as it is shown, without anything of its token.
 #[derive(Drop)]

@@ -6,6 +6,7 @@ ghost use Rattle.std.specs.Cmp.Lexicographic.{pointwise, lists_equiv, nat_list_e
 ghost use Rattle.std.specs.List.{list_all};
 ghost use Rattle.rollout_model.specs.Rules.{are_distinct_words, is_tag_list, is_word, tag_list_of};
 
+use crate::limits::TAG_LIMIT;
 use crate::word::Word;
 use std::alloc::{AllocError, Global};
 use std::marker::Model;
@@ -49,7 +50,7 @@ impl Tags {
     pub fn from_words(words: Vec<Word>) -> Option<Tags>
         ensures { result ≡ tag_list_of words.items }
     {
-        let is_list = words.len() <= 16 && are_words(&words) && are_distinct(&words);
+        let is_list = words.len() <= TAG_LIMIT && are_words(&words) && are_distinct(&words);
         if !is_list {
             return None;
         }

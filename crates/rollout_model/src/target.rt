@@ -5,11 +5,10 @@ ghost use Rattle.std.specs.Cmp.{on_equiv, on_per, partial_equiv_from_equiv};
 ghost use Rattle.std.specs.Cmp.Lexicographic.{pointwise, lists_equiv, nat_list_eq_equiv};
 ghost use Rattle.rollout_model.specs.Pairs.{is_same_attribute, pair_of};
 
-use crate::controller_id::ControllerId;
 use crate::tags::Tags;
 use crate::text::Text;
 use crate::value::Value;
-use crate::word::Word;
+use crate::word::{ControllerId, Word};
 use std::alloc::{AllocError, Global};
 use std::marker::Model;
 

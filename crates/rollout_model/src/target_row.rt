@@ -5,10 +5,10 @@ ghost use Rattle.std.specs.Cmp.{on_equiv, on_per, partial_equiv_from_equiv};
 ghost use Rattle.std.specs.Cmp.Lexicographic.{pointwise, lists_equiv, nat_list_eq_equiv};
 ghost use Rattle.rollout_model.specs.Rows.{parts_of, is_same_row};
 
-use crate::controller_id::ControllerId;
 use crate::digest::Digest;
 use crate::tags::Tags;
 use crate::text::Text;
+use crate::word::ControllerId;
 use std::alloc::{AllocError, Global};
 use std::marker::Model;
 

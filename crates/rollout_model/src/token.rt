@@ -5,12 +5,13 @@ ghost use Rattle.rollout_model.specs.Rules.{is_token, token_of};
 
 use crate::inline_bytes::InlineBytes;
 use crate::letters;
+use crate::limits::{TOKEN_LENGTH_LEAST, TOKEN_LENGTH_LIMIT};
 use std::marker::Model;
 
 /// What a device shows to be known: 8 to 64 bytes of `A-Z a-z 0-9 . _ -`. It is never printed, and nothing but its digest is kept.
 #[derive(Clone, Copy)]
 pub struct Token {
-    letters: InlineBytes<64>,
+    letters: InlineBytes<TOKEN_LENGTH_LIMIT>,
 }
 
 impl Model for Token {
@@ -31,7 +32,7 @@ impl Token {
     pub fn read(text: &str) -> Option<Token>
         ensures { result ≡ token_of text.now }
     {
-        if !letters::is_word_spelled(text.as_bytes(), 8, 64) {
+        if !letters::is_word_spelled(text.as_bytes(), TOKEN_LENGTH_LEAST, TOKEN_LENGTH_LIMIT) {
             return None;
         }
         Some(Token {

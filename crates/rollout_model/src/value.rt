@@ -6,6 +6,7 @@ ghost use Rattle.std.specs.Cmp.Lexicographic.{pointwise, nat_list_eq_equiv};
 ghost use Rattle.rollout_model.specs.Rules.{is_value, value_of};
 
 use crate::letters;
+use crate::limits::TEXT_LENGTH_LIMIT;
 use std::alloc::{AllocError, Global};
 use std::marker::Model;
 
@@ -31,7 +32,7 @@ impl Value {
     pub fn read(alloc: Global, text: &str) -> Result<Option<Value>, AllocError>
         ensures { IfOk result (λ o. o ≡ value_of text.now) }
     {
-        if !letters::is_text_spelled(text, 0, 128) {
+        if !letters::is_text_spelled(text, 0, TEXT_LENGTH_LIMIT) {
             return Ok(None);
         }
         let text = String::from_str(alloc, text)?;

@@ -1,4 +1,4 @@
-//! Tags and the keys of attributes.
+//! Tags, the keys of attributes, and the ids of targets.
 
 ghost use Rattle.std.specs.Prelude.{◌≡◌, true, refl, nat_eq, Some};
 ghost use Rattle.std.specs.Ordering.{nat_cmp};
@@ -8,17 +8,30 @@ ghost use Rattle.rollout_model.specs.Rules.{is_word, word_of};
 
 use crate::inline_bytes::InlineBytes;
 use crate::letters;
+use crate::limits::WORD_LENGTH_LIMIT;
 use std::cmp::Ordering;
-use std::marker::Model;
+use std::marker::{Model, PhantomData};
 use std::str;
 
-/// A tag or the key of an attribute: 1 to 64 bytes of `A-Z a-z 0-9 . _ -`. Words stand in byte order.
+/// A tag or the key of an attribute.
 #[derive(Clone, Copy)]
-pub struct Word {
-    letters: InlineBytes<64>,
+pub struct LabelKind;
+
+/// What is named by a `ControllerId`.
+#[derive(Clone, Copy)]
+pub struct TargetKind;
+
+/// A word of a kind: 1 to 64 bytes of `A-Z a-z 0-9 . _ -`. Words stand in byte order.
+#[derive(Clone, Copy)]
+pub struct Word<Kind = LabelKind> {
+    letters: InlineBytes<WORD_LENGTH_LIMIT>,
+    kind: PhantomData<Kind>,
 }
 
-impl Model for Word {
+/// The id of a target.
+pub type ControllerId = Word<TargetKind>;
+
+impl<Kind> Model for Word<Kind> {
     ghost use Rattle.std.specs.Prelude.{◌≡◌, List, ℕ, true};
     ghost use Rattle.rollout_model.specs.Rules.{is_word};
 
@@ -28,19 +41,20 @@ impl Model for Word {
 
     ghost invariant = { λ s. is_word s.letters ≡ true };
 
-    ghost inverse = { λ v. record { letters = v } };
+    ghost inverse = { λ v. record { letters = v; kind = record {} } };
 }
 
-impl Word {
+impl<Kind> Word<Kind> {
     /// The text, where it is a word. Takes no memory.
-    pub fn read(text: &str) -> Option<Word>
+    pub fn read(text: &str) -> Option<Self>
         ensures { result ≡ word_of text.now }
     {
-        if !letters::is_word_spelled(text.as_bytes(), 1, 64) {
+        if !letters::is_word_spelled(text.as_bytes(), 1, WORD_LENGTH_LIMIT) {
             return None;
         }
         Some(Word {
             letters: InlineBytes::of(text.as_bytes()),
+            kind: PhantomData,
         })
     }
 
@@ -59,7 +73,7 @@ impl Word {
     }
 }
 
-impl PartialEq for Word {
+impl<Kind> PartialEq for Word<Kind> {
     ghost eq = { λ s t. pointwise nat_eq s t };
 
     ghost laws = { on_per (λ s. s) (partial_equiv_from_equiv nat_list_eq_equiv) };
@@ -69,11 +83,11 @@ impl PartialEq for Word {
     }
 }
 
-impl Eq for Word {
+impl<Kind> Eq for Word<Kind> {
     ghost laws = { nat_list_eq_equiv };
 }
 
-impl PartialOrd for Word {
+impl<Kind> PartialOrd for Word<Kind> {
     ghost partial_cmp = { λ s t. Some (slice_cmp nat_cmp s t) };
 
     ghost laws = { texts_po };
@@ -83,7 +97,7 @@ impl PartialOrd for Word {
     }
 }
 
-impl Ord for Word {
+impl<Kind> Ord for Word<Kind> {
     ghost cmp = { λ s t. slice_cmp nat_cmp s t };
 
     ghost total = { nat_list_cmp_total };

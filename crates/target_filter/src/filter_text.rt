@@ -16,12 +16,9 @@ use crate::parser::or_at;
 use crate::scanner::scan;
 use crate::tree;
 use rollout_model::Target;
+use rollout_model::limits::{FILTER_DEPTH_LIMIT, FILTER_LENGTH_LIMIT};
 use std::alloc::Global;
 use std::marker::Model;
-
-const LENGTH_LIMIT: usize = 512;
-
-const DEPTH_LIMIT: usize = 16;
 
 /// A filter over targets, which contracts see as its text. It has the tree of that text.
 #[derive(Drop)]
@@ -80,12 +77,12 @@ impl Filter {
         ensures fault { IfErr result (λ e. IsRefused text.now e) }
         ensures refused { IfErr result (λ e. (e ≡ Memory) ⊎ (filter_of text.now ≡ None)) }
     {
-        if text.len() > LENGTH_LIMIT {
+        if text.len() > FILTER_LENGTH_LIMIT {
             return Err(FilterFault::TooLong);
         }
         match scan(text.as_bytes()) {
             Err(at) => Err(FilterFault::Syntax { at }),
-            Ok(deepest) if deepest > DEPTH_LIMIT => Err(FilterFault::TooDeep),
+            Ok(deepest) if deepest > FILTER_DEPTH_LIMIT => Err(FilterFault::TooDeep),
             Ok(_) => Filter::of(alloc, text),
         }
     }

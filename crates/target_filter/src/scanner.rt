@@ -8,6 +8,7 @@ ghost use Rattle.target_filter.specs.Scanner.{Ends, Stops};
 ghost use Rattle.target_filter.specs.ScannerViews.{mode_of, move_of, state_of};
 
 use crate::byte_kind::{is_bare_byte, is_quotable_byte, is_word_letter};
+use rollout_model::limits::WORD_LENGTH_LIMIT;
 
 /// What is wanted next.
 #[derive(Clone, Copy)]
@@ -108,7 +109,7 @@ fn in_key(count: usize, byte: u8) -> Move
     ensures { move_of result ≡ scan.next (scan.Key count) byte }
 {
     if is_word_letter(byte) {
-        if count < 64 {
+        if count < WORD_LENGTH_LIMIT {
             Move::Go(Mode::Key(count + 1))
         } else {
             Move::Stop

@@ -3,13 +3,8 @@
 ghost use Rattle.std.specs.Prelude.{◌≡◌, ◌+◌, ◌<◌, Some, None, MatchResult};
 ghost use Rattle.campaign_core.specs.Checks.{artifact_refusal};
 
+use rollout_model::limits::{ARTIFACT_LIMIT, MODULE_ARTIFACT_LIMIT};
 use rollout_model::{ArtifactNo, Digest, Refusal};
-
-/// How many artifacts a module takes.
-const MODULE_ARTIFACT_LIMIT: u32 = 8;
-
-/// How many artifacts a desk takes.
-const ARTIFACT_LIMIT: u32 = 256;
 
 /// What adding an artifact rests on.
 #[derive(Clone, Copy)]
@@ -65,7 +60,7 @@ pub(crate) fn add_artifact(view: &ArtifactView) -> Result<NewArtifact, Refusal>
     if view.same {
         return Err(Refusal::Exists);
     }
-    if view.module_count >= MODULE_ARTIFACT_LIMIT || view.count >= ARTIFACT_LIMIT {
+    if view.module_count as usize >= MODULE_ARTIFACT_LIMIT || view.count >= ARTIFACT_LIMIT {
         return Err(Refusal::Quota);
     }
     if view.wrong_digest {

@@ -3,10 +3,8 @@
 ghost use Rattle.std.specs.Prelude.{◌≡◌, ◌+◌, ◌<◌, Some, None, MatchResult};
 ghost use Rattle.campaign_core.specs.Checks.{module_refusal};
 
+use rollout_model::limits::MODULE_LIMIT;
 use rollout_model::{ModuleNo, Refusal};
-
-/// How many modules a desk takes.
-const MODULE_LIMIT: u32 = 1000;
 
 /// What adding a module rests on.
 #[derive(Clone, Copy)]

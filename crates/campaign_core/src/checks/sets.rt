@@ -3,10 +3,8 @@
 ghost use Rattle.std.specs.Prelude.{◌≡◌, ◌+◌, ◌<◌, Some, None, MatchResult};
 ghost use Rattle.campaign_core.specs.Checks.{set_refusal};
 
+use rollout_model::limits::SET_LIMIT;
 use rollout_model::{Refusal, SetNo};
-
-/// How many sets a desk takes.
-const SET_LIMIT: u32 = 1000;
 
 /// What adding a set rests on.
 #[derive(Clone, Copy)]

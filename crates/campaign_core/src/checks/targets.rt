@@ -4,15 +4,7 @@ ghost use Rattle.std.specs.Prelude.{◌≡◌, Some, None, MatchResult};
 ghost use Rattle.campaign_core.specs.Checks.{attributes_refusal, import_refusal, tag_refusal, untag_refusal};
 
 use rollout_model::Refusal;
-
-/// How many targets a desk takes.
-const TARGET_LIMIT: u32 = 10_000;
-
-/// How many tags a target takes.
-const TAG_LIMIT: u32 = 16;
-
-/// How many attributes a target takes.
-const ATTRIBUTE_LIMIT: u32 = 32;
+use rollout_model::limits::{ATTRIBUTE_LIMIT, TAG_LIMIT, TARGET_LIMIT};
 
 /// What putting targets rests on.
 #[derive(Clone, Copy)]
@@ -65,7 +57,7 @@ pub(crate) fn tag(view: &TagView) -> Result<(), Refusal>
     if view.misses_target {
         return Err(Refusal::NotFound);
     }
-    if !view.same && view.count >= TAG_LIMIT {
+    if !view.same && view.count as usize >= TAG_LIMIT {
         return Err(Refusal::Quota);
     }
     Ok(())
@@ -88,7 +80,7 @@ pub(crate) fn put_attributes(view: &AttributesView) -> Result<(), Refusal>
     if view.misses_device {
         return Err(Refusal::Unauthorized);
     }
-    if view.count_after > ATTRIBUTE_LIMIT {
+    if view.count_after as usize > ATTRIBUTE_LIMIT {
         return Err(Refusal::Quota);
     }
     Ok(())

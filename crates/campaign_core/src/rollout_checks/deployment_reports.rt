@@ -8,8 +8,9 @@ ghost use Rattle.campaign_core.specs.declared.rollout_checks.RolloutCommandView.
 
 use super::RolloutChange;
 use super::actions::{ActionChange, change};
-use super::reports::{NOTE_LIMIT, ReportView, ReportedAction, repeat, reported_action};
+use super::reports::{ReportView, ReportedAction, repeat, reported_action};
 use rollout_machine::Outcome;
+use rollout_model::limits::NOTE_LIMIT;
 use rollout_model::{DeploymentWord, Refusal, Report};
 
 /// The outcome that a report of a deployment gives.

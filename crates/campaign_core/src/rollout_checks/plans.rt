@@ -6,10 +6,8 @@ ghost use Rattle.campaign_core.specs.RolloutChecks.{approval_at, plan_refusal, D
 ghost use Rattle.campaign_core.specs.declared.rollout_checks.RolloutCommandView.TheVariants as seen;
 
 use super::RolloutChange;
+use rollout_model::limits::ROLLOUT_LIMIT;
 use rollout_model::{Approval, Refusal, RolloutNo, RolloutPlan};
-
-/// How many rollouts a desk takes.
-const ROLLOUT_LIMIT: u32 = 1000;
 
 /// What creating a rollout rests on.
 #[derive(Clone, Copy)]

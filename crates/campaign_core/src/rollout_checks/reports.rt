@@ -9,9 +9,6 @@ use super::actions::{ActionChange, ActionView};
 use rollout_machine::Outcome;
 use rollout_model::Refusal;
 
-/// How many notes an action takes.
-pub(crate) const NOTE_LIMIT: u32 = 100;
-
 /// An action of the device that reports, whose group is started.
 #[derive(Clone, Copy)]
 pub struct ReportedAction {

@@ -1,8 +1,7 @@
 use Rattle.std.proofs.Common.{take}
 use Rattle.std.specs.List.{AllByRecursion}
 use Rattle.sql_front.specs.Found.{StandsSomewhere}
-use Rattle.desk_records.specs.Schema.{table_at}
-use Rattle.desk_opening.specs.Places.{places}
+use Rattle.desk_records.specs.Schema.{places, table_at}
 use Rattle.desk_opening.proofs.opening.has_desk_tables.Given as goal
 
 abbrev pub invariant-loop-table : goal.invariant-loop-table

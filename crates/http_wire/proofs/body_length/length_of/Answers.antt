@@ -24,11 +24,11 @@ too_large text i n digits large e =
     let over : body_length_limit < whole = omega (arith, digits_value-take-le 10 text (i + 1) (omega arith)) in
     sym (cond-true (is_digits text) _ _ (sym digits) ∙ cond-true _ _ _ (lt-ltb body_length_limit whole over))
 
-pub returns-then-length-gt-BODY_LIMIT : goal.returns-then-length-gt-BODY_LIMIT
-returns-then-length-gt-BODY_LIMIT c =
+pub returns-then-length-gt-BODY_LENGTH_LIMIT : goal.returns-then-length-gt-BODY_LENGTH_LIMIT
+returns-then-length-gt-BODY_LENGTH_LIMIT c =
     let digits = c.if-not-is_digits.ensures in
     let d = c.digit_of.ensures.value (digit_at c.args.text.now _ digits c.loop-b-test.true) in
-    too_large c.args.text.now c.loop-b.b-index _ digits c.if-length-gt-BODY_LIMIT.true (more c.args.text.now _ _ _ c.loop-b-test.true c.loop-b.invariant.value d)
+    too_large c.args.text.now c.loop-b.b-index _ digits c.if-length-gt-BODY_LENGTH_LIMIT.true (more c.args.text.now _ _ _ c.loop-b-test.true c.loop-b.invariant.value d)
 
 pub loop-b-preserved : goal.loop-b-preserved
 loop-b-preserved c =

@@ -15,4 +15,4 @@ pub returns-clause-reads : goal.returns-clause-reads
 returns-clause-reads g c =
     let asked : AsksText (state g.S.Store c.args.self.now.store.now.calls.conn) (state g.S.Store c.ask.new.self.conn) LIST_ARTIFACTS.now (Int (pos c.args.module_number) ∷ []) (Ok c.in_ok-rows.rows) =
     rw (c.params-to_sql.ensures, c.get.ensures.value) at c.in_ok-rows.ensures.asks in
-    artifacts_read c.args.module_number _ _ c.in_ok-rows.rows asked c.artifacts_in.result (rw c.deref.ensures.value at c.artifacts_in.ensures)
+    artifacts_read c.args.module_number _ _ c.in_ok-rows.rows asked c.read_all.result (rw c.deref.ensures.value at c.read_all.ensures)

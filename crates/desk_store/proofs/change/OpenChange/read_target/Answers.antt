@@ -15,4 +15,4 @@ pub returns-clause-reads : goal.returns-clause-reads
 returns-clause-reads g c =
     let taken : TakesFirst (state g.S.Store c.args.self.now.store.now.calls.conn) (state g.S.Store c.first.new.self.conn) GET_TARGET.now (Text c.args.id.now ∷ []) (Ok c.in_ok-row.row) =
     rw (c.params-to_sql.ensures, c.as_str.ensures.value) at c.in_ok-row.ensures.takes in
-    target_read c.args.id.now _ _ c.in_ok-row.row taken c.stored_target_in.result c.stored_target_in.ensures
+    target_read c.args.id.now _ _ c.in_ok-row.row taken c.read_optional.result c.read_optional.ensures

@@ -15,4 +15,4 @@ pub returns-clause-reads : goal.returns-clause-reads
 returns-clause-reads g c =
     let asked : AsksText (state g.S.Store c.args.self.now.store.now.calls.conn) (state g.S.Store c.ask.new.self.conn) LIST_TARGETS.now (Int (pos c.args.page.limit) ∷ Int (pos c.args.page.offset) ∷ []) (Ok c.in_ok-rows.rows) =
     rw (c.params-to_sql.ensures, c.params-to_sql-2.ensures) at c.in_ok-rows.ensures.asks in
-    targets_read c.args.page.limit c.args.page.offset _ _ c.in_ok-rows.rows asked c.listed_targets_in.result (rw c.deref.ensures.value at c.listed_targets_in.ensures)
+    targets_read c.args.page.limit c.args.page.offset _ _ c.in_ok-rows.rows asked c.read_all.result (rw c.deref.ensures.value at c.read_all.ensures)

@@ -1,0 +1,22 @@
+-- The words in which the meanings of texts are written.
+use Rattle.std.proofs.Common.{◌≡◌, refl, List, [], ℕ, Ok, None}
+use Rattle.sqlite.specs.Collation.TheVariants.{Binary}
+use Rattle.sqlite.specs.Schema.{Schema}
+use Rattle.sqlite.specs.Term.{Term, col, op2}
+use Rattle.sqlite.specs.Listing.{understood}
+use Rattle.sqlite_sql.specs.declared.ops.BinaryOp.TheVariants.{Compare}
+use Rattle.sqlite_sql.specs.declared.ops.CompareOp.TheVariants.{Eq}
+use Rattle.sqlite_resolve.specs.declared.compiled.Compiled.{Compiled}
+use Rattle.sqlite_resolve.specs.Compile.{compiled}
+use Rattle.sql_calls.proofs.Means.{Means}
+
+pub means_of : (s : Schema) (sql : List ℕ) (c : Compiled) → compiled s sql ≡ Ok c → c.returning ≡ None → c.formats ≡ [] → Means s sql c.command
+unfolding understood
+means_of s sql c is none timeless = record { is = rw is; plain = rw is (none, timeless); unlisted = rw is }
+
+abbrev pub is_equal : Term → Term → Term
+is_equal = op2 (Compare Eq Binary)
+
+-- a column is the parameter at a place
+abbrev pub at_key : ℕ → ℕ → Term
+at_key place param = is_equal (col 1 place) (col 0 param)

@@ -1,0 +1,68 @@
+-- Actions in records and in rows.
+use Rattle.std.specs.Prelude.{ℕ, List, [], ◌∷◌, ◌++◌, length, Option, Some, None, pos}
+use Rattle.std.specs.List.{flat_map}
+use Rattle.sqlite_value.specs.declared.value.Value.TheVariants.{Null, Int, Text}
+use Rattle.sqlite_value.specs.Order.{Row}
+use Rattle.rollout_machine.specs.Actions.{HistoryEntry, DeploymentEntry, CancelEntry}
+use Rattle.rollout_machine.specs.ByteStrings.{item_numbered}
+use Rattle.rollout_machine.specs.Commands.{Bytes, DeploymentWord, CancelWord, NoteWord, Proceeding, Scheduled, Resumed, Succeeded, Failed, Rejected, Noted, ClosedCancel, CanceledCancel, RejectedCancel, NotedCancel}
+use Rattle.rollout_machine.specs.StateWords.{member_at}
+use Rattle.rollout_machine.specs.Verdicts.{notes_of}
+use Rattle.rollout_machine.specs.declared.outcome.Outcome.{Outcome}
+use Rattle.rollout_machine.specs.declared.outcome.Outcome.TheVariants.{Good, Bad, Gone}
+use Rattle.rollout_machine.specs.declared.records.ActionRecord.{ActionRecord}
+use Rattle.rollout_machine.specs.declared.records.RolloutRecord.{RolloutRecord}
+use Rattle.desk_records.specs.Rollouts.{flag}
+
+-- ---- what is kept beside an action
+
+-- how many notes an action has, and how many entries its history
+pub record Tally : Type 0 where
+  pub notes : ℕ
+  pub entries : ℕ
+
+abbrev pub tally_of : ActionRecord → Tally
+tally_of a = record { notes = notes_of a; entries = length a.history }
+
+-- ---- the rows
+
+-- 0 while it is open
+abbrev pub outcome_code : Option Outcome → ℕ
+outcome_code None = 0
+outcome_code (Some Good) = 1
+outcome_code (Some Bad) = 2
+outcome_code (Some Gone) = 3
+
+-- the id of the target that is to act
+abbrev pub actor_of : List RolloutRecord → ActionRecord → Bytes
+actor_of rollouts a = member_at (item_numbered rollouts a.rollout) a.position
+
+-- of an action; its history lies in the other table
+abbrev pub action_row : List RolloutRecord → ℕ → ActionRecord × Tally → Row
+action_row rollouts n (a, tally) = Int (pos n) ∷ Null ∷ Int (pos a.rollout) ∷ Int (pos a.position) ∷ Text (actor_of rollouts a) ∷ Int (pos (flag a.canceling)) ∷ Int (pos (outcome_code a.outcome)) ∷ Int (pos tally.notes) ∷ Int (pos tally.entries) ∷ []
+
+abbrev pub note_code : NoteWord → ℕ
+note_code Proceeding = 0
+note_code Scheduled = 1
+note_code Resumed = 2
+
+abbrev pub deployment_code : DeploymentWord → ℕ
+deployment_code Succeeded = 3
+deployment_code Failed = 4
+deployment_code Rejected = 5
+deployment_code (Noted w) = note_code w
+
+abbrev pub cancel_code : CancelWord → ℕ
+cancel_code ClosedCancel = 3
+cancel_code CanceledCancel = 4
+cancel_code RejectedCancel = 5
+cancel_code (NotedCancel w) = note_code w
+
+-- each line ended by a line feed
+abbrev pub lines_of : List Bytes → Bytes
+lines_of details = flat_map (λ (line : Bytes). line ++ 10 ∷ []) details
+
+-- of a report at a place of an action's history: kind 0 is of a deployment, kind 1 of a cancel
+abbrev pub entry_row : ℕ → ℕ → HistoryEntry → Row
+entry_row action sequence (DeploymentEntry word details) = Int (pos action) ∷ Int (pos sequence) ∷ Int (pos 0) ∷ Int (pos (deployment_code word)) ∷ Text (lines_of details) ∷ []
+entry_row action sequence (CancelEntry word details) = Int (pos action) ∷ Int (pos sequence) ∷ Int (pos 1) ∷ Int (pos (cancel_code word)) ∷ Text (lines_of details) ∷ []

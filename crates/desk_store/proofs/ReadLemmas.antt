@@ -1,0 +1,65 @@
+-- Rows that are read, whatever they are read as.
+use Rattle.std.proofs.Common.{◌≡◌, ◌<◌, ◌++◌, ◌+◌, ℕ, get_or, take, List, [], ◌∷◌, length, map, Option, Some, None, option_map, Ok, Err, Result, IfOk, Vec, refl, sym, ap₂, subst}
+use Rattle.std.proofs.lemmas.List.{take_more}
+use Rattle.std.proofs.lemmas.Slice.Zip.{all_zipped_more}
+use Rattle.std.specs.declared.alloc.Global.{Global}
+use Rattle.sqlite_value.specs.Order.{Row}
+use Rattle.sqlite.specs.Effect.{Database, Reads as Shows}
+use Rattle.sqlite.specs.State.{State}
+use Rattle.sqlite.proofs.Callers.{EndsIn}
+use Rattle.sql_calls.specs.declared.fault.Fault.{Fault}
+use Rattle.sql_calls.specs.Calls.{AsksText, TakesFirst}
+use Rattle.sql_calls.specs.Standing.{Reads}
+use Rattle.sql_calls.proofs.Changes.{Knows, ShowsFirst}
+use Rattle.sql_calls.proofs.TypedCalls.{asks_ok, takes_ok}
+use Rattle.rollout_machine.specs.Records.{Records}
+use Rattle.desk_records.specs.Holds.{HoldsRecords}
+use Rattle.desk_store.specs.Rows.{AreReadAs, IsReadAs}
+
+-- a further row, and what it is read as
+pub read_more : {A : Type 0} (is : Row → A → Type 0) (rows : List Row) (found : List A) (at : ℕ) (row : Row) (one : A) → at < length rows → row ≡ get_or rows at row → AreReadAs is (take at rows) found → is row one
+    → AreReadAs is (take (at + 1) rows) (found ++ one ∷ [])
+read_more is rows found at row one within same so_far has =
+    subst (λ l. AreReadAs is l (found ++ one ∷ [])) (sym (take_more rows at row within)) (all_zipped_more is (take at rows) found (get_or rows at row) one so_far (subst (λ r. is r one) same has))
+
+module _ {A B : Type 0} (is : Row → A → Type 0) (row_of : B → Row) where
+  -- what is read of one row tells of what the row was made of, and so does what is read of none
+  one_read : (Tells : Option A → Option B → Type 0) → Tells None None → ((a : A) (b : B) → is (row_of b) a → Tells (Some a) (Some b))
+      → (found : Option A) (wanted : Option B) (row : Option Row) → IsReadAs is found row → row ≡ option_map row_of wanted → Tells found wanted
+  one_read Tells none some found None None h same = subst (λ f. Tells f None) (sym h) none
+  one_read Tells none some found (Some b) None h same = absurd cc
+  one_read Tells none some found None (Some row) h same = absurd cc
+  one_read Tells none some found (Some b) (Some row) h same =
+      let it : row ≡ row_of b = cc in
+      subst (λ f. Tells f (Some b)) (sym h.1) (some h.0 b (subst (λ r. is r h.0) it h.2))
+
+  -- a query whose first row, if there is one, was made of one thing
+  pub takes_one : (sql : List ℕ) (params : Row) (old new : State) (knows : Knows HoldsRecords sql) (wanted : Records → Option B) (Tells : Option A → Option B → Type 0)
+      → Tells None None → ((a : A) (b : B) → is (row_of b) a → Tells (Some a) (Some b))
+      → ((db : Database) (r : Records) (holds : HoldsRecords db r) (at : Database) (given : Row) → EndsIn (knows db r holds).command at given)
+      → (row : Option Row) → ((db : Database) (now : Records) (holds : HoldsRecords db now) → ShowsFirst (knows db now holds).command db params row → row ≡ option_map row_of (wanted now))
+      → TakesFirst old new sql params (Ok row) → (out : Result (Option A) Fault) → IfOk out (λ found. IsReadAs is found row) → Reads HoldsRecords old new out (λ r found. Tells found (wanted r))
+  takes_one sql params old new knows wanted Tells none some ends row shows h out is_read = takes_ok HoldsRecords sql params old new (λ r found. Tells found (wanted r)) knows ends row h out (answers out is_read)
+    where
+      answers : (out : Result (Option A) Fault) → IfOk out (λ found. IsReadAs is found row)
+          → IfOk out (λ found. (db : Database) (now : Records) (holds : HoldsRecords db now) → ShowsFirst (knows db now holds).command db params row → Tells found (wanted now))
+      answers (Ok found) is_read = λ db now holds shown. one_read Tells none some found (wanted now) row is_read (shows db now holds shown)
+      answers (Err e) is_read = tt
+
+module _ {A V : Type 0} (items : V → List A) (is : Row → A → Type 0) (row_of : A → Row) (one : (a b : A) → is (row_of b) a → a ≡ b) where
+  all_read : (found wanted : List A) → AreReadAs is (map row_of wanted) found → found ≡ wanted
+  all_read [] [] h = refl
+  all_read [] (b ∷ bs) h = absurd h
+  all_read (a ∷ as_are) [] h = absurd h
+  all_read (a ∷ as_are) (b ∷ bs) h = ap₂ ◌∷◌ (one a b h.0) (all_read as_are bs h.1)
+
+  -- a query whose rows were made of a list
+  pub asks_all : (sql : List ℕ) (params : Row) (old new : State) (knows : Knows HoldsRecords sql) (wanted : Records → List A) (rows : Vec Row Global)
+      → ((db : Database) (now : Records) (holds : HoldsRecords db now) → Shows (knows db now holds).command db params rows.items → rows.items ≡ map row_of (wanted now))
+      → AsksText old new sql params (Ok rows) → (out : Result V Fault) → IfOk out (λ found. AreReadAs is rows.items (items found)) → Reads HoldsRecords old new out (λ r found. items found ≡ wanted r)
+  asks_all sql params old new knows wanted rows shows h out are_read = asks_ok HoldsRecords sql params old new (λ r found. items found ≡ wanted r) knows rows h out (answers out are_read)
+    where
+      answers : (out : Result V Fault) → IfOk out (λ found. AreReadAs is rows.items (items found))
+          → IfOk out (λ found. (db : Database) (now : Records) (holds : HoldsRecords db now) → Shows (knows db now holds).command db params rows.items → items found ≡ wanted now)
+      answers (Ok found) are_read = λ db now holds shown. all_read (items found) (wanted now) (subst (λ l. AreReadAs is l (items found)) (shows db now holds shown) are_read)
+      answers (Err e) are_read = tt

@@ -1,0 +1,115 @@
+//! What one row is read as.
+
+ghost use Rattle.std.specs.Prelude.{◌≡◌, IfOk};
+ghost use Rattle.sqlite_value.specs.Order.{Row, column};
+ghost use Rattle.desk_records.specs.ArtifactRow.{IsArtifactRow, IsStoredRow, StoredBytes};
+ghost use Rattle.desk_records.specs.ModuleRow.{IsLabelRow, StoredText};
+ghost use Rattle.desk_records.specs.SetRow.{IsSetNameRow, StoredNumber};
+ghost use Rattle.desk_records.specs.TargetRow.{IsAttributeRow, IsListedTargetRow, IsTargetRow};
+
+use desk_records::{
+    ListedTarget, RowFault, SetName, StoredArtifact, StoredTarget, read_artifact, read_attribute,
+    read_listed_target, read_module_label, read_piece, read_set_module, read_set_name,
+    read_stored_artifact, read_stored_target, read_tag,
+};
+use rollout_model::{Artifact, Attribute, ModuleLabel, ModuleNo, Word};
+use sqlite::Row;
+use std::alloc::Global;
+
+/// What is read of a row of its columns.
+pub(crate) trait FromRow: Sized + Drop {
+    ghost is_row: { Row → Self → Type 0 };
+
+    fn from_row(alloc: Global, row: &Row) -> Result<Self, RowFault>
+        ensures { IfOk result (is_row row.now) };
+}
+
+/// Of name, kind and version.
+impl FromRow for ModuleLabel {
+    ghost is_row = { IsLabelRow };
+
+    fn from_row(alloc: Global, row: &Row) -> Result<Self, RowFault> {
+        read_module_label(alloc, row)
+    }
+}
+
+/// Of name and version.
+impl FromRow for SetName {
+    ghost is_row = { IsSetNameRow };
+
+    fn from_row(alloc: Global, row: &Row) -> Result<Self, RowFault> {
+        read_set_name(alloc, row)
+    }
+}
+
+/// Of a module's number.
+impl FromRow for ModuleNo {
+    ghost is_row = { λ row number. column row 0 ≡ StoredNumber number };
+
+    fn from_row(_alloc: Global, row: &Row) -> Result<Self, RowFault> {
+        read_set_module(row)
+    }
+}
+
+/// Of module, filename, size and digest.
+impl FromRow for StoredArtifact {
+    ghost is_row = { IsStoredRow };
+
+    fn from_row(_alloc: Global, row: &Row) -> Result<Self, RowFault> {
+        read_stored_artifact(row)
+    }
+}
+
+/// Of number, filename, size and digest.
+impl FromRow for Artifact {
+    ghost is_row = { IsArtifactRow };
+
+    fn from_row(_alloc: Global, row: &Row) -> Result<Self, RowFault> {
+        read_artifact(row)
+    }
+}
+
+/// Of a piece's bytes.
+impl FromRow for Vec<u8> {
+    ghost is_row = { λ row bytes. column row 0 ≡ StoredBytes bytes.items };
+
+    fn from_row(_alloc: Global, row: &Row) -> Result<Self, RowFault> {
+        read_piece(row)
+    }
+}
+
+/// Of name and digest.
+impl FromRow for StoredTarget {
+    ghost is_row = { IsTargetRow };
+
+    fn from_row(alloc: Global, row: &Row) -> Result<Self, RowFault> {
+        read_stored_target(alloc, row)
+    }
+}
+
+/// Of id and name.
+impl FromRow for ListedTarget {
+    ghost is_row = { IsListedTargetRow };
+
+    fn from_row(alloc: Global, row: &Row) -> Result<Self, RowFault> {
+        read_listed_target(alloc, row)
+    }
+}
+
+/// Of a tag.
+impl FromRow for Word {
+    ghost is_row = { λ row tag. column row 0 ≡ StoredText tag };
+
+    fn from_row(_alloc: Global, row: &Row) -> Result<Self, RowFault> {
+        read_tag(row)
+    }
+}
+
+/// Of key and value.
+impl FromRow for Attribute {
+    ghost is_row = { IsAttributeRow };
+
+    fn from_row(alloc: Global, row: &Row) -> Result<Self, RowFault> {
+        read_attribute(alloc, row)
+    }
+}
