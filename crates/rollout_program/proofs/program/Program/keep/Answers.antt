@@ -1,6 +1,5 @@
 use Rattle.std.proofs.Common.{ap, ◌∙◌, ◌≡◌, None, subst, sym}
 use Rattle.rollout_machine.specs.CommandList.{◌▸◌}
-use Rattle.rollout_machine.specs.CommandRules.{IsWellFormed}
 use Rattle.rollout_machine.specs.Validity.{IsValid}
 use Rattle.rollout_machine.specs.Verdicts.{verdict}
 use Rattle.rollout_program.specs.Lists.{accepted_command, list_from}
