@@ -67,5 +67,5 @@ abbrev pub IsReadersOwn : Refusal → Type 0
 IsReadersOwn refusal = (refusal ≡ NotFound) ⊎ (refusal ≡ BadMethod) ⊎ (refusal ≡ Unauthorized) ⊎ (refusal ≡ BadRequest)
 
 -- the request that is asked, or the refusal that it is rejected by; in place of either, want of memory
-abbrev pub Reads : Asked → Result DeviceRequest Refusal → Type 0
-Reads asked result = MatchResult result (λ request. asked ≡ Asks (request_of request)) (λ refusal. (refusal ≡ NoMemory) ⊎ ((asked ≡ Rejected refusal) × IsReadersOwn refusal))
+abbrev pub ReadsRequest : Asked → Result DeviceRequest Refusal → Type 0
+ReadsRequest asked result = MatchResult result (λ request. asked ≡ Asks (request_of request)) (λ refusal. (refusal ≡ NoMemory) ⊎ ((asked ≡ Rejected refusal) × IsReadersOwn refusal))

@@ -6,7 +6,7 @@ ghost use Rattle.rollout_model.specs.declared.refusal.Refusal.TheVariants.{NoMem
 ghost use Rattle.rollout_machine.specs.Requests.{Asks, Rejected};
 ghost use Rattle.http_wire.specs.Inbox.{message_of};
 ghost use Rattle.mgmt_api.specs.Reading.{TakesNoQuery, item_in};
-ghost use Rattle.ddi_api.specs.Reading.{Reads, asked_by, asked_by_one, asked_of, device_reading, filename_in, request_of};
+ghost use Rattle.ddi_api.specs.Reading.{ReadsRequest, asked_by, asked_by_one, asked_of, device_reading, filename_in, request_of};
 
 use crate::call::{DeviceCall, method_of};
 use crate::config_body::read_config_body;
@@ -73,7 +73,7 @@ fn read_poll(
     device: Credential,
     message: &Message<'_>,
 ) -> Result<DeviceRequest, Refusal>
-    ensures { Reads (asked_by DeviceCall.Poll device (message_of message.now)) result }
+    ensures { ReadsRequest (asked_by DeviceCall.Poll device (message_of message.now)) result }
 {
     take_no_query(alloc, message)?;
     Ok(DeviceRequest::AskRollout(RolloutQuery::Poll(device)))
@@ -84,7 +84,7 @@ fn read_show_deployment(
     device: Credential,
     message: &Message<'_>,
 ) -> Result<DeviceRequest, Refusal>
-    ensures { Reads (asked_by DeviceCall.ShowDeployment device (message_of message.now)) result }
+    ensures { ReadsRequest (asked_by DeviceCall.ShowDeployment device (message_of message.now)) result }
 {
     let Some(action) = read_action_number(message) else {
         return Err(Refusal::NotFound);
@@ -98,7 +98,7 @@ fn read_show_cancel(
     device: Credential,
     message: &Message<'_>,
 ) -> Result<DeviceRequest, Refusal>
-    ensures { Reads (asked_by DeviceCall.ShowCancel device (message_of message.now)) result }
+    ensures { ReadsRequest (asked_by DeviceCall.ShowCancel device (message_of message.now)) result }
 {
     let Some(action) = read_action_number(message) else {
         return Err(Refusal::NotFound);
@@ -112,7 +112,7 @@ fn read_download(
     device: Credential,
     message: &Message<'_>,
 ) -> Result<DeviceRequest, Refusal>
-    ensures { Reads (asked_by DeviceCall.Download device (message_of message.now)) result }
+    ensures { ReadsRequest (asked_by DeviceCall.Download device (message_of message.now)) result }
 {
     let Some(module_number) = read_module_number(message) else {
         return Err(Refusal::NotFound);
@@ -129,7 +129,7 @@ fn read_feedback(
     device: Credential,
     message: &Message<'_>,
 ) -> Result<DeviceRequest, Refusal>
-    ensures { Reads (asked_by DeviceCall.Feedback device (message_of message.now)) result }
+    ensures { ReadsRequest (asked_by DeviceCall.Feedback device (message_of message.now)) result }
 {
     let Some(action) = read_action_number(message) else {
         return Err(Refusal::NotFound);
@@ -144,7 +144,7 @@ fn read_cancel_feedback(
     device: Credential,
     message: &Message<'_>,
 ) -> Result<DeviceRequest, Refusal>
-    ensures { Reads (asked_by DeviceCall.CancelFeedback device (message_of message.now)) result }
+    ensures { ReadsRequest (asked_by DeviceCall.CancelFeedback device (message_of message.now)) result }
 {
     let Some(action) = read_action_number(message) else {
         return Err(Refusal::NotFound);
@@ -159,7 +159,7 @@ fn read_put_attributes(
     device: Credential,
     message: &Message<'_>,
 ) -> Result<DeviceRequest, Refusal>
-    ensures { Reads (asked_by DeviceCall.PutAttributes device (message_of message.now)) result }
+    ensures { ReadsRequest (asked_by DeviceCall.PutAttributes device (message_of message.now)) result }
 {
     take_no_query(alloc, message)?;
     let given = read_config_body(alloc, message.body)?;
@@ -172,7 +172,7 @@ fn read_call(
     device: Credential,
     message: &Message<'_>,
 ) -> Result<DeviceRequest, Refusal>
-    ensures { Reads (asked_by call device (message_of message.now)) result }
+    ensures { ReadsRequest (asked_by call device (message_of message.now)) result }
 {
     match call {
         DeviceCall::Poll => read_poll(alloc, device, message),
@@ -191,7 +191,7 @@ fn read_by_one(
     call: DeviceCall,
     message: &Message<'_>,
 ) -> Result<DeviceRequest, Refusal>
-    ensures { Reads (asked_by_one call (message_of message.now)) result }
+    ensures { ReadsRequest (asked_by_one call (message_of message.now)) result }
 {
     let Some(device) = read_credential(message) else {
         return Err(Refusal::Unauthorized);
@@ -206,7 +206,7 @@ fn has_method(call: DeviceCall, message: &Message<'_>) -> bool
 }
 
 fn read_of(alloc: Global, call: DeviceCall, message: &Message<'_>) -> Result<DeviceRequest, Refusal>
-    ensures { Reads (asked_of call (message_of message.now)) result }
+    ensures { ReadsRequest (asked_of call (message_of message.now)) result }
 {
     if has_method(call, message) {
         read_by_one(alloc, call, message)
@@ -216,7 +216,7 @@ fn read_of(alloc: Global, call: DeviceCall, message: &Message<'_>) -> Result<Dev
 }
 
 fn read_routed(routes: &DeviceRoutes, message: &Message<'_>) -> Result<DeviceRequest, Refusal>
-    ensures { Reads (device_reading (message_of message.now)) result }
+    ensures { ReadsRequest (device_reading (message_of message.now)) result }
 {
     let Some(call) = routes.find(message.path()) else {
         return Err(Refusal::NotFound);

@@ -156,16 +156,16 @@ pub target_written : (id name digest : Bytes) (old new : State) (out : Result (U
 target_written id name digest old new out h = writes HoldsRecords PUT_TARGET.now (named_row id name digest) old new (AddsTarget id name digest) putting (λ db r holds. refl) out h
     (λ now next change holds count w. (w, adds_target id name digest old new _ count now next holds change w))
 
-abbrev pub Changes : Bytes → (Target → Target) → Records → Records → Type 0
-Changes id f r next = next ≡ with_changed r id f
+abbrev pub ChangesTarget : Bytes → (Target → Target) → Records → Records → Type 0
+ChangesTarget id f r next = next ≡ with_changed r id f
 
-pub target_changed : (id name digest : Bytes) (old new : State) (out : Result (Unit {0}) Fault) → RunsText old new SET_TARGET.now (named_row id name digest) out → Writes HoldsRecords old new out (Changes id (renamed name digest))
-target_changed id name digest old new out h = writes HoldsRecords SET_TARGET.now (named_row id name digest) old new (Changes id (renamed name digest)) setting (λ db r holds. refl) out h
+pub target_changed : (id name digest : Bytes) (old new : State) (out : Result (Unit {0}) Fault) → RunsText old new SET_TARGET.now (named_row id name digest) out → Writes HoldsRecords old new out (ChangesTarget id (renamed name digest))
+target_changed id name digest old new out h = writes HoldsRecords SET_TARGET.now (named_row id name digest) old new (ChangesTarget id (renamed name digest)) setting (λ db r holds. refl) out h
     (λ now next change holds count w. (w, subst (HoldsRecords new.now) (sym change) (sets_target id name digest old new _ count now holds w)))
 
 pub tag_written : (id w : Bytes) (old new : State) (out : Result (Unit {0}) Fault) → RunsText old new PUT_TARGET_TAG.now (tag_row id w) out → Writes HoldsRecords old new out (AddsTag id w)
 tag_written id w old new out h = writes HoldsRecords PUT_TARGET_TAG.now (tag_row id w) old new (AddsTag id w) tagging (λ db r holds. refl) out h (λ now next change holds count done. (done, adds_tag id w old new _ count now next holds change done))
 
-pub tag_dropped : (id w : Bytes) (old new : State) (out : Result (Unit {0}) Fault) → RunsText old new DROP_TARGET_TAG.now (tag_row id w) out → Writes HoldsRecords old new out (Changes id (untagged w))
-tag_dropped id w old new out h = writes HoldsRecords DROP_TARGET_TAG.now (tag_row id w) old new (Changes id (untagged w)) dropping (λ db r holds. refl) out h
+pub tag_dropped : (id w : Bytes) (old new : State) (out : Result (Unit {0}) Fault) → RunsText old new DROP_TARGET_TAG.now (tag_row id w) out → Writes HoldsRecords old new out (ChangesTarget id (untagged w))
+tag_dropped id w old new out h = writes HoldsRecords DROP_TARGET_TAG.now (tag_row id w) old new (ChangesTarget id (untagged w)) dropping (λ db r holds. refl) out h
     (λ now next change holds count done. (done, subst (HoldsRecords new.now) (sym change) (drops_tag id w old new _ count now holds done)))

@@ -14,7 +14,7 @@ use Rattle.http_wire.specs.Heads.{FieldLine, HeadParts, SpellsHead, NameAndValue
 use Rattle.http_wire.specs.BodyLengths.{body_length, is_digits, length_of, length_by, unless_coded}
 use Rattle.http_wire.specs.Fields.{fields_named}
 use Rattle.http_wire.specs.Messages.{WireMessage, IsHeadWith, IsMessage, IsBadRegion, IsFault, IsUndecided}
-use Rattle.http_wire.specs.Streams.{Begins, Reads, EndsAs}
+use Rattle.http_wire.specs.Streams.{Begins, HasMessages, EndsAs}
 use Rattle.http_wire.specs.declared.message.Message.{Message}
 use Rattle.http_wire.specs.Inbox.{message_of, Answers, HandsOut}
 use Rattle.http_wire.specs.Faults.{End}
@@ -274,7 +274,7 @@ ends_unique rest (Fault f) Cut a b = absurd (b.1.no_fault f a)
 ends_unique rest (Fault f) (Fault g) a b = ap Fault (fault_unique rest f g a b)
 
 -- A stream has one reading.
-pub reads_unique : (bytes : List ℕ) (ms ns : List WireMessage) (e f : End) → Reads bytes ms e → Reads bytes ns f → (ms ≡ ns) × (e ≡ f)
+pub reads_unique : (bytes : List ℕ) (ms ns : List WireMessage) (e f : End) → HasMessages bytes ms e → HasMessages bytes ns f → (ms ≡ ns) × (e ≡ f)
 reads_unique bytes [] [] e f a b =
     (refl, ends_unique a.0 e f a.2 (subst (λ (x : List ℕ). EndsAs x f) (sym b.1 ∙ a.1) b.2))
 reads_unique bytes [] (n ∷ ns) e f a b =

@@ -1,5 +1,5 @@
 -- The bytes of replies.
-use Rattle.std.specs.Prelude.{ℕ, Bool, false, if◌then◌else◌, List, [], ◌++◌, length, codes, unwrap_or}
+use Rattle.std.specs.Prelude.{◌≡◌, ℕ, Bool, false, if◌then◌else◌, List, [], ◌++◌, length, codes, unwrap_or}
 use Rattle.std.specs.Fmt.{decimal}
 use Rattle.http.specs.StatusCode.{code_digits, reason_phrase}
 use Rattle.rollout_model.specs.declared.Refusal.{Refusal}
@@ -52,6 +52,12 @@ abbrev pub refusal_body : Refusal → List ℕ
 refusal_body refusal =
     codes "{\"error\":\"" ++ (refusal_row refusal).name ++ codes "\"" ++ line_member refusal
     ++ codes ",\"number\":" ++ decimal (refusal_row refusal).number ++ codes "}"
+
+-- an answer has the status of the refusal's row and the object that says why
+pub record TellsOf (refusal : Refusal) (answer : Answer) : Type 0 where
+  pub status : answer.status ≡ (refusal_row refusal).status
+  pub content_type : answer.content_type ≡ Json
+  pub body : answer.body.items ≡ refusal_body refusal
 
 -- the whole text of a refusal, by its row of the table
 unfoldable pub refusal_text : Refusal → List ℕ

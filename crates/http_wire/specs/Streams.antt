@@ -15,5 +15,5 @@ EndsAs rest Cut = (0 < length rest) × IsUndecided rest
 EndsAs rest (Fault f) = IsFault rest f
 
 -- the stream is these messages, and ends so
-abbrev pub Reads : List ℕ → List WireMessage → End → Type 0
-Reads bytes ms end = (rest : List ℕ) × Begins bytes ms rest × EndsAs rest end
+abbrev pub HasMessages : List ℕ → List WireMessage → End → Type 0
+HasMessages bytes ms end = (rest : List ℕ) × Begins bytes ms rest × EndsAs rest end

@@ -22,7 +22,7 @@ pub use crate::fields::sole_value;
 pub use crate::fixed_text::FixedText;
 pub use crate::inbox::Inbox;
 pub use crate::message::{Field, Message};
-pub use crate::reply::{Answer, ContentType, refusal_bytes, reply_bytes};
+pub use crate::reply::{Answer, ContentType, refusal_answer, refusal_bytes, reply_bytes};
 pub use crate::stream::{End, Reading, line_ends_are_lines, one_reading, reading_of};
 pub use crate::target::{path_of, query_of};
 pub use crate::watched::{Cut, Watched, write_all_counted};

@@ -1,13 +1,13 @@
 //! The bytes of replies.
 ghost use Rattle.std.specs.Prelude.{◌≡◌, ◌≤◌, length, IfOk, IfErr};
-ghost use Rattle.http_wire.specs.Replies.{content_type_text, close_line, reason, status_line, reply_head, answer_text, refusal_body, refusal_text, Json};
+ghost use Rattle.http_wire.specs.Replies.{content_type_text, close_line, reason, status_line, reply_head, answer_text, refusal_body, refusal_text, TellsOf, Json};
 ghost use Rattle.rollout_model.specs.declared.Refusal.TheVariants.{NoMemory};
 ghost use Rattle.rollout_model.specs.Refusals.{refusal_row};
 
 use crate::fixed_text::FixedText;
 use http::StatusCode;
 use rollout_model::Refusal;
-use std::alloc::Global;
+use std::alloc::{AllocError, Global};
 
 /// What a body is.
 #[derive(Clone, Copy)]
@@ -22,7 +22,7 @@ pub enum ContentType {
     Csv,
 }
 
-/// What answers a message that isn't refused.
+/// What answers a message: its status, and a body with its type.
 #[derive(Drop)]
 pub struct Answer {
     pub status: StatusCode,
@@ -122,6 +122,19 @@ fn refusal_status(refusal: Refusal) -> StatusCode
     ensures { result ≡ (refusal_row refusal).status }
 {
     StatusCode::from_u16(refusal.status()).unwrap_or(StatusCode::INTERNAL_SERVER_ERROR)
+}
+
+/// What answers a refused message on a connection that goes on: the status of the refusal's row and the object that says why.
+#[tactic(auto)]
+pub fn refusal_answer(alloc: Global, refusal: Refusal) -> Result<Answer, AllocError>
+    ensures { IfOk result (TellsOf refusal) }
+{
+    let body = Vec::from_slice(alloc, refusal_body(refusal).as_bytes())?;
+    Ok(Answer {
+        status: refusal_status(refusal),
+        content_type: ContentType::Json,
+        body,
+    })
 }
 
 /// The bytes of a refusal, whole, by its row of the table of refusals. It takes no memory.

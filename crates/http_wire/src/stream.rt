@@ -2,7 +2,7 @@
 ghost use Rattle.std.specs.Prelude.{◌≡◌, ℕ, List, length};
 ghost use Rattle.http_wire.specs.Regions.{line_ends, HasLines};
 ghost use Rattle.http_wire.specs.Messages.{WireMessage};
-ghost use Rattle.http_wire.specs.Streams.{Reads};
+ghost use Rattle.http_wire.specs.Streams.{HasMessages};
 
 use crate::fault::WireFault;
 use crate::message::read_front;
@@ -28,7 +28,7 @@ pub struct Reading {
 
 /// Counts the messages of a whole stream, and says how it ends: each stream has a reading.
 pub fn reading_of(stream: &[u8]) -> Reading
-    ensures { (ms : List WireMessage) × Reads stream.now ms result.end × (result.messages ≡ length ms) }
+    ensures { (ms : List WireMessage) × HasMessages stream.now ms result.end × (result.messages ≡ length ms) }
 {
     let mut messages = 0;
     let mut rest = stream;
@@ -56,7 +56,7 @@ pub fn reading_of(stream: &[u8]) -> Reading
 
 /// A stream has one reading, however it comes: the same messages and the same end.
 pub fn one_reading()
-    ensures { (bytes : List ℕ) (ms ns : List WireMessage) (e f : End) → Reads bytes ms e → Reads bytes ns f → (ms ≡ ns) × (e ≡ f) }
+    ensures { (bytes : List ℕ) (ms ns : List WireMessage) (e f : End) → HasMessages bytes ms e → HasMessages bytes ns f → (ms ≡ ns) × (e ≡ f) }
 {}
 
 /// The line ends of a head region are as many as its lines.

@@ -3,9 +3,8 @@ use Rattle.std.proofs.Common.{◌≡◌, ℕ, List, [], ◌∷◌, Bool, true, f
 use Rattle.std.specs.Str.{IsUtf8, is_utf8}
 use Rattle.std.proofs.lemmas.Str.{is_utf8-from_IsUtf8, IsUtf8-from_is_utf8}
 use Rattle.matchit.proofs.OnLiterals.{matchit_on_literals}
-use Rattle.http_wire.specs.Replies.{line_member, refusal_text}
+use Rattle.http_wire.specs.Replies.{refusal_text}
 use Rattle.rollout_model.specs.declared.refusal.Refusal.{Refusal}
-use Rattle.rollout_model.specs.declared.refusal.Refusal.TheVariants.{BadImportLine}
 use Rattle.rollout_model.specs.declared.page.PageOf.{PageOf}
 use Rattle.rollout_model.specs.declared.shown_target.ShownTarget.{ShownTarget}
 use Rattle.rollout_machine.specs.Replies.{Refused}
@@ -38,11 +37,6 @@ manage_route-no_text path unread = by (is_utf8 path) (λ is. unread (IsUtf8-from
     by : (v : Bool) → (v ≡ true → ⊥) → cond v (route_in manage_table path) None ≡ None
     by true no_text = absurd (no_text refl)
     by false no_text = refl
-
--- only a refused import names a line
-pub line_member-none : (refusal : Refusal) → ((line : ℕ) → refusal ≡ BadImportLine line → ⊥) → line_member refusal ≡ []
-line_member-none (BadImportLine line) other = absurd (other line refl)
-line_member-none _ other = refl
 
 map-shown_target : (targets : List ShownTarget) → map shown_target_data (map shown_target targets) ≡ map target_data targets
 map-shown_target [] = refl

@@ -113,8 +113,8 @@ abbrev pub IsReadersOwn : Refusal → Type 0
 IsReadersOwn refusal = (refusal ≡ NotFound) ⊎ (refusal ≡ BadMethod) ⊎ (refusal ≡ BadRequest)
 
 -- the request that is asked, or the refusal that it is rejected by; in place of either, want of memory
-abbrev pub Reads : Asked → Result RustRequest Refusal → Type 0
-Reads asked result = MatchResult result (λ request. asked ≡ Asks (request_of request)) (λ refusal. (refusal ≡ NoMemory) ⊎ ((asked ≡ Rejected refusal) × IsReadersOwn refusal))
+abbrev pub ReadsRequest : Asked → Result RustRequest Refusal → Type 0
+ReadsRequest asked result = MatchResult result (λ request. asked ≡ Asks (request_of request)) (λ refusal. (refusal ≡ NoMemory) ⊎ ((asked ≡ Rejected refusal) × IsReadersOwn refusal))
 
 -- no query, or a bad request where there is one; in place of either, want of memory
 abbrev pub TakesNoQuery : WireMessage → Result (Unit {0}) Refusal → Type 0

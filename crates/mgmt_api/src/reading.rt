@@ -6,7 +6,7 @@ ghost use Rattle.rollout_model.specs.declared.refusal.Refusal.TheVariants.{NoMem
 ghost use Rattle.rollout_machine.specs.Requests.{Asks, Rejected};
 ghost use Rattle.rollout_machine.specs.Views.{request_of};
 ghost use Rattle.http_wire.specs.Inbox.{message_of};
-ghost use Rattle.mgmt_api.specs.Reading.{Reads, TakesNoQuery, asked_by, item_in, manage_reading, path_number, word_in};
+ghost use Rattle.mgmt_api.specs.Reading.{ReadsRequest, TakesNoQuery, asked_by, item_in, manage_reading, path_number, word_in};
 
 use crate::call::{ManageCall, call_of};
 use crate::page_query::read_page;
@@ -92,14 +92,14 @@ fn read_tag(message: &Message<'_>) -> Option<Word>
 }
 
 fn read_show_modules(alloc: Global, message: &Message<'_>) -> Result<Request, Refusal>
-    ensures { Reads (asked_by ManageCall.ShowModules (message_of message.now)) result }
+    ensures { ReadsRequest (asked_by ManageCall.ShowModules (message_of message.now)) result }
 {
     let page = read_page(alloc, message.query())?;
     Ok(Request::Ask(Query::Modules(page)))
 }
 
 fn read_add_module(alloc: Global, message: &Message<'_>) -> Result<Request, Refusal>
-    ensures { Reads (asked_by ManageCall.AddModule (message_of message.now)) result }
+    ensures { ReadsRequest (asked_by ManageCall.AddModule (message_of message.now)) result }
 {
     take_no_query(alloc, message)?;
     let label = read_module_body(alloc, message.body)?;
@@ -107,7 +107,7 @@ fn read_add_module(alloc: Global, message: &Message<'_>) -> Result<Request, Refu
 }
 
 fn read_show_module(alloc: Global, message: &Message<'_>) -> Result<Request, Refusal>
-    ensures { Reads (asked_by ManageCall.ShowModule (message_of message.now)) result }
+    ensures { ReadsRequest (asked_by ManageCall.ShowModule (message_of message.now)) result }
 {
     let Some(number) = read_module_number(message) else {
         return Err(Refusal::NotFound);
@@ -117,7 +117,7 @@ fn read_show_module(alloc: Global, message: &Message<'_>) -> Result<Request, Ref
 }
 
 fn read_show_artifacts(alloc: Global, message: &Message<'_>) -> Result<Request, Refusal>
-    ensures { Reads (asked_by ManageCall.ShowArtifacts (message_of message.now)) result }
+    ensures { ReadsRequest (asked_by ManageCall.ShowArtifacts (message_of message.now)) result }
 {
     let Some(number) = read_module_number(message) else {
         return Err(Refusal::NotFound);
@@ -127,7 +127,7 @@ fn read_show_artifacts(alloc: Global, message: &Message<'_>) -> Result<Request, 
 }
 
 fn read_add_artifact(alloc: Global, message: &Message<'_>) -> Result<Request, Refusal>
-    ensures { Reads (asked_by ManageCall.AddArtifact (message_of message.now)) result }
+    ensures { ReadsRequest (asked_by ManageCall.AddArtifact (message_of message.now)) result }
 {
     let Some(number) = read_module_number(message) else {
         return Err(Refusal::NotFound);
@@ -137,7 +137,7 @@ fn read_add_artifact(alloc: Global, message: &Message<'_>) -> Result<Request, Re
 }
 
 fn read_show_artifact(alloc: Global, message: &Message<'_>) -> Result<Request, Refusal>
-    ensures { Reads (asked_by ManageCall.ShowArtifact (message_of message.now)) result }
+    ensures { ReadsRequest (asked_by ManageCall.ShowArtifact (message_of message.now)) result }
 {
     let Some(number) = read_module_number(message) else {
         return Err(Refusal::NotFound);
@@ -150,7 +150,7 @@ fn read_show_artifact(alloc: Global, message: &Message<'_>) -> Result<Request, R
 }
 
 fn read_show_contents(alloc: Global, message: &Message<'_>) -> Result<Request, Refusal>
-    ensures { Reads (asked_by ManageCall.ShowContents (message_of message.now)) result }
+    ensures { ReadsRequest (asked_by ManageCall.ShowContents (message_of message.now)) result }
 {
     let Some(number) = read_module_number(message) else {
         return Err(Refusal::NotFound);
@@ -163,14 +163,14 @@ fn read_show_contents(alloc: Global, message: &Message<'_>) -> Result<Request, R
 }
 
 fn read_show_sets(alloc: Global, message: &Message<'_>) -> Result<Request, Refusal>
-    ensures { Reads (asked_by ManageCall.ShowSets (message_of message.now)) result }
+    ensures { ReadsRequest (asked_by ManageCall.ShowSets (message_of message.now)) result }
 {
     let page = read_page(alloc, message.query())?;
     Ok(Request::Ask(Query::Sets(page)))
 }
 
 fn read_add_set(alloc: Global, message: &Message<'_>) -> Result<Request, Refusal>
-    ensures { Reads (asked_by ManageCall.AddSet (message_of message.now)) result }
+    ensures { ReadsRequest (asked_by ManageCall.AddSet (message_of message.now)) result }
 {
     take_no_query(alloc, message)?;
     let label = read_set_body(alloc, message.body)?;
@@ -178,7 +178,7 @@ fn read_add_set(alloc: Global, message: &Message<'_>) -> Result<Request, Refusal
 }
 
 fn read_show_set(alloc: Global, message: &Message<'_>) -> Result<Request, Refusal>
-    ensures { Reads (asked_by ManageCall.ShowSet (message_of message.now)) result }
+    ensures { ReadsRequest (asked_by ManageCall.ShowSet (message_of message.now)) result }
 {
     let Some(number) = read_set_number(message) else {
         return Err(Refusal::NotFound);
@@ -188,14 +188,14 @@ fn read_show_set(alloc: Global, message: &Message<'_>) -> Result<Request, Refusa
 }
 
 fn read_show_targets(alloc: Global, message: &Message<'_>) -> Result<Request, Refusal>
-    ensures { Reads (asked_by ManageCall.ShowTargets (message_of message.now)) result }
+    ensures { ReadsRequest (asked_by ManageCall.ShowTargets (message_of message.now)) result }
 {
     let selection = read_selection(alloc, message.query())?;
     Ok(Request::Ask(Query::Targets(selection.filter_text, selection.page)))
 }
 
 fn read_put_targets(alloc: Global, message: &Message<'_>) -> Result<Request, Refusal>
-    ensures { Reads (asked_by ManageCall.PutTargets (message_of message.now)) result }
+    ensures { ReadsRequest (asked_by ManageCall.PutTargets (message_of message.now)) result }
 {
     take_no_query(alloc, message)?;
     let rows = read_targets_body(alloc, message.body)?;
@@ -203,7 +203,7 @@ fn read_put_targets(alloc: Global, message: &Message<'_>) -> Result<Request, Ref
 }
 
 fn read_show_target(alloc: Global, message: &Message<'_>) -> Result<Request, Refusal>
-    ensures { Reads (asked_by ManageCall.ShowTarget (message_of message.now)) result }
+    ensures { ReadsRequest (asked_by ManageCall.ShowTarget (message_of message.now)) result }
 {
     let Some(id) = read_target_id(message) else {
         return Err(Refusal::NotFound);
@@ -213,7 +213,7 @@ fn read_show_target(alloc: Global, message: &Message<'_>) -> Result<Request, Ref
 }
 
 fn read_tag_target(alloc: Global, message: &Message<'_>) -> Result<Request, Refusal>
-    ensures { Reads (asked_by ManageCall.Tag (message_of message.now)) result }
+    ensures { ReadsRequest (asked_by ManageCall.Tag (message_of message.now)) result }
 {
     let Some(id) = read_target_id(message) else {
         return Err(Refusal::NotFound);
@@ -226,7 +226,7 @@ fn read_tag_target(alloc: Global, message: &Message<'_>) -> Result<Request, Refu
 }
 
 fn read_untag_target(alloc: Global, message: &Message<'_>) -> Result<Request, Refusal>
-    ensures { Reads (asked_by ManageCall.Untag (message_of message.now)) result }
+    ensures { ReadsRequest (asked_by ManageCall.Untag (message_of message.now)) result }
 {
     let Some(id) = read_target_id(message) else {
         return Err(Refusal::NotFound);
@@ -239,7 +239,7 @@ fn read_untag_target(alloc: Global, message: &Message<'_>) -> Result<Request, Re
 }
 
 fn read_call(alloc: Global, call: ManageCall, message: &Message<'_>) -> Result<Request, Refusal>
-    ensures { Reads (asked_by call (message_of message.now)) result }
+    ensures { ReadsRequest (asked_by call (message_of message.now)) result }
 {
     match call {
         ManageCall::ShowModules => read_show_modules(alloc, message),
@@ -261,7 +261,7 @@ fn read_call(alloc: Global, call: ManageCall, message: &Message<'_>) -> Result<R
 }
 
 fn read_routed(routes: &ManageRoutes, message: &Message<'_>) -> Result<Request, Refusal>
-    ensures { Reads (manage_reading (message_of message.now)) result }
+    ensures { ReadsRequest (manage_reading (message_of message.now)) result }
 {
     let Some(route) = routes.find(message.path()) else {
         return Err(Refusal::NotFound);

@@ -3,14 +3,13 @@
 ghost use Rattle.std.specs.Prelude.{◌≡◌, false, IfOk, IfErr, string_bytes};
 ghost use Rattle.serde_json.specs.Written.{compact_text};
 ghost use Rattle.rollout_model.specs.declared.refusal.Refusal.TheVariants.{NoMemory};
-ghost use Rattle.rollout_model.specs.Refusals.{refusal_row};
 ghost use Rattle.rollout_machine.specs.Replies.{Done, Refused, TargetsPut};
 ghost use Rattle.rollout_machine.specs.Views.{listed, listed_targets, reply_of};
-ghost use Rattle.http_wire.specs.Replies.{answer_text, line_member, refusal_body};
+ghost use Rattle.http_wire.specs.Replies.{answer_text};
 ghost use Rattle.mgmt_api.specs.Replies.{Has, parts_of, reply_text, json_reply, octets_reply, page_reply, shown_target_data};
 
 use http::StatusCode;
-use http_wire::{Answer, ContentType};
+use http_wire::{Answer, ContentType, refusal_answer};
 use mgmt_objects::{Shown, accepted_text, done_text, object_text, page_text, single_text};
 use rollout_model::{Contents, PageOf, Refusal, Reply, ShownTarget};
 use std::alloc::{AllocError, Global};
@@ -49,43 +48,10 @@ fn octets_answer(alloc: Global, contents: &Contents) -> Result<Answer, AllocErro
     })
 }
 
-fn line_member(alloc: Global, refusal: Refusal) -> Result<String, AllocError>
-    ensures { IfOk result (λ text. string_bytes text ≡ line_member refusal) }
-{
-    match refusal {
-        Refusal::BadImportLine(line) => format!(in alloc; ",\"line\":{line}"),
-        _ => Ok(String::new(alloc)),
-    }
-}
-
-fn refusal_body(alloc: Global, refusal: Refusal) -> Result<String, AllocError>
-    ensures { IfOk result (λ body. string_bytes body ≡ refusal_body refusal) }
-{
-    let number = refusal.number();
-    let line = line_member(alloc, refusal)?;
-    let number = format!(in alloc; "{number}")?;
-    let mut body = String::new(alloc);
-    body.push_str("{\"error\":\"")?;
-    body.push_str(refusal.name())?;
-    body.push_str("\"")?;
-    body.push_str(line.as_str())?;
-    body.push_str(",\"number\":")?;
-    body.push_str(number.as_str())?;
-    body.push_str("}")?;
-    Ok(body)
-}
-
-fn refusal_status(refusal: Refusal) -> StatusCode
-    ensures { result ≡ (refusal_row refusal).status }
-{
-    StatusCode::from_u16(refusal.status()).unwrap_or(StatusCode::INTERNAL_SERVER_ERROR)
-}
-
 fn refused_answer(alloc: Global, refusal: Refusal) -> Result<Answer, AllocError>
     ensures { IfOk result (Has (parts_of (Refused refusal))) }
 {
-    let body = refusal_body(alloc, refusal)?;
-    Ok(json_answer(refusal_status(refusal), body))
+    refusal_answer(alloc, refusal)
 }
 
 fn done_answer(alloc: Global) -> Result<Answer, AllocError>

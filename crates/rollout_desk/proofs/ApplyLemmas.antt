@@ -27,18 +27,12 @@ use Rattle.rollout_model.specs.declared.refusal.Refusal.TheVariants.{StoreFailed
 use Rattle.rollout_desk.specs.Desks.{HoldsList, desk_state_at}
 use Rattle.sql_calls.specs.declared.fault.Fault.{Fault}
 use Rattle.sql_calls.specs.declared.fault.Fault.TheVariants.{Memory, Store}
-use Rattle.rollout_desk.specs.Steps.{is_store, is_failed_store, refusal_of_fault, Steps, Shows, Handles, EndsByCommit, EndsByRollback}
+use Rattle.rollout_machine.specs.StoreFailures.{is_failed_store}
+use Rattle.rollout_machine.proofs.StoreFailures.{failed_true}
+use Rattle.rollout_desk.specs.Steps.{refusal_of_fault, Steps, Shows, Handles, EndsByCommit, EndsByRollback}
 use Rattle.rollout_desk.specs.declared.step.Step.TheVariants as step
 
 -- ---- the reply of a failed store
-
-store_true : (refusal : Refusal) → is_store refusal ≡ true → refusal ≡ StoreFailed
-store_true StoreFailed e = refl
-store_true _ e = absurd (false≢true e)
-
-pub failed_true : (reply : Reply) → is_failed_store reply ≡ true → reply ≡ Refused StoreFailed
-failed_true (Refused refusal) e = ap Refused (store_true refusal e)
-failed_true _ e = absurd (false≢true e)
 
 pub not_failed : (reply : Reply) → reply ≢ Refused StoreFailed → is_failed_store reply ≡ false
 not_failed reply never = elim (cases_Bool (is_failed_store reply)) [

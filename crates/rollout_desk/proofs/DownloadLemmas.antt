@@ -26,7 +26,7 @@ use Rattle.rollout_model.specs.declared.request.Reply.TheVariants as reply
 use Rattle.rollout_desk.specs.Desks.{desk_state_at}
 use Rattle.rollout_desk.specs.Downloads.{sent, next_length, artifact_in, Sends, BeginsAt, Begins, HandsPieces, RefusesContents, DownloadsGoOn}
 use Rattle.rollout_desk.specs.Looks.{Looks, bytes_of}
-use Rattle.rollout_desk.specs.Steps.{is_store}
+use Rattle.rollout_machine.specs.StoreFailures.{is_store}
 use Rattle.rollout_desk.specs.declared.download.Download.{Download}
 use Rattle.rollout_desk.proofs.ApplyLemmas.{stands}
 use Rattle.rollout_desk.proofs.PieceLemmas.{size_is, piece_is, so_far, joins}

@@ -15,8 +15,8 @@ use Rattle.rollout_machine.specs.Requests.{Request, Asks, one}
 use Rattle.rollout_machine.specs.Standing.{DeskState, StandsFor, Applies}
 use Rattle.rollout_machine.specs.Views.{request_of, reply_of}
 use Rattle.rollout_desk.specs.Runs.{Exchange, accepted_in, IsRun, GoesOn, RunsThrough, BreaksOff}
-use Rattle.rollout_desk.specs.Steps.{is_failed_store}
-use Rattle.rollout_desk.proofs.ApplyLemmas.{failed_true}
+use Rattle.rollout_machine.specs.StoreFailures.{is_failed_store}
+use Rattle.rollout_machine.proofs.StoreFailures.{failed_true}
 
 followed_append : (h : CommandList) (cs ds : List Command) → followed_by h (cs ++ ds) ≡ followed_by (followed_by h cs) ds
 followed_append h [] ds = refl

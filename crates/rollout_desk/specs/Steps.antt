@@ -11,6 +11,7 @@ use Rattle.rollout_machine.specs.RecordSteps.{step_records}
 use Rattle.rollout_machine.specs.Replies.{Reply, Refused}
 use Rattle.rollout_machine.specs.Requests.{Query, Request, Asks}
 use Rattle.rollout_machine.specs.Standing.{AppliesAt, StandsFor}
+use Rattle.rollout_machine.specs.StoreFailures.{is_failed_store}
 use Rattle.rollout_machine.specs.Validity.{IsValid}
 use Rattle.rollout_machine.specs.Verdicts.{check}
 use Rattle.rollout_machine.specs.Views.{reply_of}
@@ -22,15 +23,6 @@ use Rattle.sql_calls.specs.declared.fault.Fault.TheVariants.{Memory, Store}
 use Rattle.rollout_desk.specs.Desks.{desk_state_at}
 use Rattle.rollout_desk.specs.declared.step.Step.{Step}
 use Rattle.rollout_desk.specs.declared.step.Step.TheVariants as step
-
--- the reply of a failed store
-abbrev pub is_store : Refusal → Bool
-is_store StoreFailed = true
-is_store _ = false
-
-abbrev pub is_failed_store : Reply → Bool
-is_failed_store (Refused refusal) = is_store refusal
-is_failed_store _ = false
 
 -- what a fault of the store is answered with
 abbrev pub refusal_of_fault : Fault → Refusal

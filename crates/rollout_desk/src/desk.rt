@@ -9,8 +9,8 @@ ghost use Rattle.rollout_machine.specs.Views.{command_of, query_of, request_of, 
 ghost use Rattle.rollout_desk.specs.DeskStates.{desk_state};
 
 use crate::change::{run_command, run_query};
-use crate::refusals::says_store_failed;
 use desk_store::DeskStore;
+use rollout_machine::says_store_failed;
 use rollout_model::{Command, Query, Refusal, Reply, Request};
 use sqlite::Alter;
 use std::alloc::Global;

@@ -11,7 +11,7 @@ ghost use Rattle.rollout_desk.specs.Downloads.{Begins, HandsPieces, IsInterrupti
 
 use crate::desk::Desk;
 use crate::look::{of_length, read_piece};
-use crate::refusals::is_failed_store;
+use rollout_machine::is_failed_store;
 use rollout_model::limits::PIECE_LENGTH;
 use rollout_model::{Artifact, ArtifactNo, ModuleNo, Query, Refusal, Reply};
 use sqlite::Alter;

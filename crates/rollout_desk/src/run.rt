@@ -8,7 +8,7 @@ ghost use Rattle.rollout_desk.specs.DeskStates.{desk_state};
 ghost use Rattle.rollout_desk.specs.Runs.{EndsRun};
 
 use crate::desk::Desk;
-use crate::refusals::says_store_failed;
+use rollout_machine::says_store_failed;
 use rollout_model::{Refusal, Reply, Request};
 use sqlite::Alter;
 

@@ -11,6 +11,7 @@ use Rattle.rollout_machine.specs.Records.{records, Records, ArtifactRecord, Roll
 use Rattle.rollout_machine.specs.Replies.{Reply, Refused, PollShown, DeploymentShown, CancelShown, ContentsShown}
 use Rattle.rollout_machine.specs.Requests.{Page, Query, Poll, ShowDeployment, ShowCancel, Download, ShowTargets, ShowTarget, ShowTargetActions, ShowAction, ShowHistory, ShowModules, ShowModule, ShowArtifacts, ShowArtifact, ShowContents, ShowSets, ShowSet, ShowRollouts, ShowRollout, ShowGroups, ShowGroup, ShowGroupTargets, ShowReport, ShowActionsTable, Request, Do, Ask, Asks}
 use Rattle.rollout_machine.specs.StateWords.{group_numbered}
+use Rattle.rollout_machine.specs.StoreFailures.{is_failed_store, is_store}
 use Rattle.rollout_machine.specs.Verdicts.{verdict, check, verdict_row, first_refusal, is_known, target_of}
 use Rattle.rollout_model.specs.declared.refusal.Refusal.{Refusal}
 use Rattle.rollout_model.specs.declared.refusal.Refusal.TheVariants.{StoreFailed, NotFound, Unauthorized}
@@ -19,31 +20,23 @@ use Rattle.std.specs.Prelude.{cond, not, ◌&&◌, nat_eq}
 use Rattle.std.specs.List.{list_any}
 use Rattle.std.proofs.lemmas.Bool.{false≢true, and_parts}
 
-abbrev pub is_store : Refusal → Bool
-is_store StoreFailed = true
-is_store _ = false
-
-abbrev pub is_store_reply : Reply → Bool
-is_store_reply (Refused refusal) = is_store refusal
-is_store_reply _ = false
-
 is_store_true : (refusal : Refusal) → is_store refusal ≡ true → refusal ≡ StoreFailed
 is_store_true StoreFailed e = refl
 is_store_true _ e = absurd (false≢true e)
 
-is_store_reply_true : (reply : Reply) → is_store_reply reply ≡ true → reply ≡ Refused StoreFailed
-is_store_reply_true (Refused refusal) e = ap Refused (is_store_true refusal e)
-is_store_reply_true _ e = absurd (false≢true e)
+pub failed_true : (reply : Reply) → is_failed_store reply ≡ true → reply ≡ Refused StoreFailed
+failed_true (Refused refusal) e = ap Refused (is_store_true refusal e)
+failed_true _ e = absurd (false≢true e)
 
 -- a reply by the test
-pub no_store_reply : (reply : Reply) → is_store_reply reply ≡ false → reply ≢ Refused StoreFailed
-no_store_reply reply never e = false≢true (sym never ∙ ap is_store_reply e)
+pub no_store_reply : (reply : Reply) → is_failed_store reply ≡ false → reply ≢ Refused StoreFailed
+no_store_reply reply never e = false≢true (sym never ∙ ap is_failed_store e)
 
 -- a reply is a failed store, or it isn't
 pub store_or_not : (reply : Reply) → (reply ≡ Refused StoreFailed) ⊎ (reply ≢ Refused StoreFailed)
-store_or_not reply = go (is_store_reply reply) refl where
-  go : (b : Bool) → is_store_reply reply ≡ b → (reply ≡ Refused StoreFailed) ⊎ (reply ≢ Refused StoreFailed)
-  go true e = inl (is_store_reply_true reply e)
+store_or_not reply = go (is_failed_store reply) refl where
+  go : (b : Bool) → is_failed_store reply ≡ b → (reply ≡ Refused StoreFailed) ⊎ (reply ≢ Refused StoreFailed)
+  go true e = inl (failed_true reply e)
   go false e = inr (no_store_reply reply e)
 
 -- ---- verdicts
@@ -87,25 +80,25 @@ check_never_stores rs c refusal e = first_never_stores (verdict_row rs c) refusa
 
 -- ---- queries
 
-found_never : {X : Type 0} (reply : X → Reply) (o : Option X) → ((x : X) → is_store_reply (reply x) ≡ false) → is_store_reply (if_found reply o) ≡ false
+found_never : {X : Type 0} (reply : X → Reply) (o : Option X) → ((x : X) → is_failed_store (reply x) ≡ false) → is_failed_store (if_found reply o) ≡ false
 found_never reply None never = refl
 found_never reply (Some x) never = never x
 
-one_of_two : (b : Bool) (x y : Reply) → is_store_reply x ≡ false → is_store_reply y ≡ false → is_store_reply (cond b x y) ≡ false
+one_of_two : (b : Bool) (x y : Reply) → is_failed_store x ≡ false → is_failed_store y ≡ false → is_failed_store (cond b x y) ≡ false
 one_of_two true x y ex ey = ex
 one_of_two false x y ex ey = ey
 
-device_never : (rs : Records) (device : Credential) (reply : Reply) → is_store_reply reply ≡ false → is_store_reply (for_device rs device reply) ≡ false
+device_never : (rs : Records) (device : Credential) (reply : Reply) → is_failed_store reply ≡ false → is_failed_store (for_device rs device reply) ≡ false
 device_never rs device reply never = one_of_two (is_known rs device) reply (Refused Unauthorized) never refl
 
-targets_never : (rs : Records) (page : Page) (o : Option Bytes) → is_store_reply (targets_reply rs page o) ≡ false
+targets_never : (rs : Records) (page : Page) (o : Option Bytes) → is_failed_store (targets_reply rs page o) ≡ false
 targets_never rs page None = refl
 targets_never rs page (Some text) = go (filter_of text) where
-  go : (o : Option Tree) → is_store_reply (targets_matching rs page o) ≡ false
+  go : (o : Option Tree) → is_failed_store (targets_matching rs page o) ≡ false
   go None = refl
   go (Some f) = refl
 
-query_never_stores : (rs : Records) (query : Query) → is_store_reply (query_reply rs query) ≡ false
+query_never_stores : (rs : Records) (query : Query) → is_failed_store (query_reply rs query) ≡ false
 query_never_stores rs (Poll device) = device_never rs device (PollShown device.id (offer rs device.id)) refl
 query_never_stores rs (ShowDeployment device k) = device_never rs device _ (one_of_two (is_offer_of k false (offer rs device.id)) (DeploymentShown (deployment_shown rs device.id k)) (Refused NotFound) refl refl)
 query_never_stores rs (ShowCancel device k) = device_never rs device _ (one_of_two (is_offer_of k true (offer rs device.id)) (CancelShown k) (Refused NotFound) refl refl)
@@ -135,20 +128,20 @@ query_never_stores rs (ShowActionsTable r) = found_never _ (item_numbered rs.rol
 
 -- ---- commands
 
-artifact_never : (k : ℕ) (o : Option ArtifactRecord) → is_store_reply (added_artifact k o) ≡ false
+artifact_never : (k : ℕ) (o : Option ArtifactRecord) → is_failed_store (added_artifact k o) ≡ false
 artifact_never k None = refl
 artifact_never k (Some a) = refl
 
-rollout_never : (o : Option RolloutRecord) → is_store_reply (added_rollout o) ≡ false
+rollout_never : (o : Option RolloutRecord) → is_failed_store (added_rollout o) ≡ false
 rollout_never None = refl
 rollout_never (Some x) = refl
 
-done_never_stores : (c : Command) (rs : Records) → is_store_reply (command_reply c rs) ≡ false
+done_never_stores : (c : Command) (rs : Records) → is_failed_store (command_reply c rs) ≡ false
 done_never_stores (AddArtifact upload) rs = artifact_never _ (item_numbered rs.artifacts (length rs.artifacts))
 done_never_stores (CreateRollout plan) rs = rollout_never (item_numbered rs.rollouts (length rs.rollouts))
 done_never_stores _ rs = refl
 
-command_never_stores : (h : CommandList) (c : Command) (o : Option Refusal) → verdict h c ≡ o → is_store_reply (command_answer h c o).reply ≡ false
+command_never_stores : (h : CommandList) (c : Command) (o : Option Refusal) → verdict h c ≡ o → is_failed_store (command_answer h c o).reply ≡ false
 command_never_stores h c None e = done_never_stores c (records (h ▸ c))
 command_never_stores h c (Some refusal) e = check_never_stores (records h) c refusal e
 

@@ -8,6 +8,7 @@ mod handler;
 pub mod laws;
 mod outcome;
 mod records;
+mod store_failure;
 mod view;
 mod well_formed;
 
@@ -15,5 +16,6 @@ pub use bounds::Bounds;
 pub use handler::Handler;
 pub use outcome::Outcome;
 pub use records::{ActionRecord, GroupRecord, RolloutRecord};
+pub use store_failure::{is_failed_store, says_store_failed};
 pub use view::{Effects, GroupView, RolloutView};
 pub use well_formed::{command_is_well_formed, rollout_command_is_well_formed};

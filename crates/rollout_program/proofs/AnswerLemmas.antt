@@ -18,7 +18,8 @@ use Rattle.rollout_machine.specs.Requests.{Request, Do, Ask, Page, Query, ShowAr
 use Rattle.rollout_machine.specs.Validity.{IsValid}
 use Rattle.rollout_machine.specs.Verdicts.{verdict, is_named_by_set, wrong_digest}
 use Rattle.rollout_machine.proofs.Answering.{query_answer, refused_answer, accepted_answer}
-use Rattle.rollout_machine.proofs.StoreFailures.{answer_never_stores, check_never_stores, is_store}
+use Rattle.rollout_machine.proofs.StoreFailures.{answer_never_stores, check_never_stores}
+use Rattle.rollout_machine.specs.StoreFailures.{is_store}
 use Rattle.rollout_model.specs.declared.refusal.Refusal.{Refusal}
 use Rattle.rollout_model.specs.declared.refusal.Refusal.TheVariants.{Exists, Quota, NotFound, NoMemory, StoreFailed}
 use Rattle.rollout_model.specs.Rules.{is_number, number_of}

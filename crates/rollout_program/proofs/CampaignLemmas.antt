@@ -12,7 +12,7 @@ use Rattle.rollout_machine.specs.Views.{rollout_command_of}
 use Rattle.rollout_machine.proofs.Main.{records_step}
 use Rattle.rollout_model.specs.declared.refusal.Refusal.{Refusal}
 use Rattle.rollout_model.specs.declared.rollout_request.RolloutCommand.{RolloutCommand}
-use Rattle.rollout_program.specs.Campaigns.{Advances, Changes, IsCampaign, IsCampaignAt}
+use Rattle.rollout_program.specs.Campaigns.{Advances, ChangesCampaign, IsCampaign, IsCampaignAt}
 use Rattle.rollout_program.specs.Lists.{accepted_command, list_from}
 use Rattle.rollout_program.specs.declared.accepted.Accepted.{Accepted}
 use Rattle.rollout_program.specs.declared.campaign.Campaign.{Campaign}
@@ -56,7 +56,7 @@ campaign_more approval commands i c before after below is valid so_far steps =
 -- ---- a command's change
 
 pub advances : (approval : Bool) (before : List Accepted) (campaign : Campaign) (command known : RolloutCommand) (change : Records → Records) (result : Result Campaign Refusal) → command ≡ known → ((rs : Records) → change rs ≡ step_records rs (rollout_command_of known))
-    → Changes campaign change result → Advances approval before campaign (rollout_command_of command) result
+    → ChangesCampaign campaign change result → Advances approval before campaign (rollout_command_of command) result
 advances approval before campaign command known change result is same changes =
     subst (λ (d : RolloutCommand). Advances approval before campaign (rollout_command_of d) result) (sym is)
     (MatchResult-weaker result changes (λ after is_so rs at. subst (IsCampaign after) (same rs) (is_so rs at.campaign_is)) (λ e none. none))

@@ -10,7 +10,8 @@ use Rattle.rollout_machine.specs.StateWords.{has_started, is_for}
 use Rattle.rollout_machine.specs.Targets.{Target, last_row_of}
 use Rattle.rollout_machine.specs.Verdicts.{check, first_refusal, on_action, verdict, verdict_row}
 use Rattle.rollout_machine.specs.declared.records.ActionRecord.{ActionRecord}
-use Rattle.rollout_machine.proofs.StoreFailures.{check_never_stores, is_store}
+use Rattle.rollout_machine.proofs.StoreFailures.{check_never_stores}
+use Rattle.rollout_machine.specs.StoreFailures.{is_store}
 use Rattle.rollout_model.specs.declared.refusal.Refusal.{Refusal}
 use Rattle.rollout_model.specs.declared.refusal.Refusal.TheVariants.{ClosedAction, NoMemory, NotFound, StoreFailed, WrongState}
 use Rattle.rollout_program.specs.Refusals.{device_row}

@@ -24,8 +24,8 @@ pub record IsCampaignAt (approval : Bool) (commands : List Accepted) (campaign :
   pub targets_are : rs.targets ≡ targets (list_from approval commands)
 
 -- The campaign after a change, of whatever records it was before; in place of it, want of memory.
-abbrev pub Changes : Campaign → (Records → Records) → Result Campaign Refusal → Type 0
-Changes campaign change result = MatchResult result (λ after. (rs : Records) → IsCampaign campaign rs → IsCampaign after (change rs)) (λ e. e ≡ NoMemory)
+abbrev pub ChangesCampaign : Campaign → (Records → Records) → Result Campaign Refusal → Type 0
+ChangesCampaign campaign change result = MatchResult result (λ after. (rs : Records) → IsCampaign campaign rs → IsCampaign after (change rs)) (λ e. e ≡ NoMemory)
 
 -- The campaign one command later, of whatever records it was before; in place of it, want of memory.
 abbrev pub Advances : Bool → List Accepted → Campaign → Command → Result Campaign Refusal → Type 0

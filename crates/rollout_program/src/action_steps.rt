@@ -6,7 +6,7 @@ ghost use Rattle.rollout_machine.specs.ByteStrings.{item_numbered};
 ghost use Rattle.rollout_machine.specs.RecordSteps.{action_after, outcome_if_new, own_group, rollouts_after_outcome, step_action};
 ghost use Rattle.rollout_machine.specs.Views.{rollout_command_of};
 ghost use Rattle.rollout_model.specs.declared.refusal.Refusal.TheVariants.{NoMemory};
-ghost use Rattle.rollout_program.specs.Campaigns.{Changes};
+ghost use Rattle.rollout_program.specs.Campaigns.{ChangesCampaign};
 ghost use Rattle.rollout_program.specs.Turns.{standing_by};
 
 use crate::campaign::Campaign;
@@ -238,7 +238,7 @@ pub(crate) fn act(
     number: ActionNo,
     command: &RolloutCommand,
 ) -> Result<Campaign, Refusal>
-    ensures { Changes campaign (λ rs. step_action rs (rollout_command_of command.now) (item_numbered rs.actions number)) result }
+    ensures { ChangesCampaign campaign (λ rs. step_action rs (rollout_command_of command.now) (item_numbered rs.actions number)) result }
 {
     let Campaign { rollouts, actions } = campaign;
     let Some(action) = action_numbered(&actions, number) else {

@@ -7,7 +7,7 @@ ghost use Rattle.rollout_machine.specs.Records.{records};
 ghost use Rattle.rollout_machine.specs.Validity.{IsValid};
 ghost use Rattle.rollout_machine.specs.Views.{rollout_command_of};
 ghost use Rattle.rollout_model.specs.declared.refusal.Refusal.TheVariants.{NoMemory};
-ghost use Rattle.rollout_program.specs.Campaigns.{Advances, Changes, IsCampaign};
+ghost use Rattle.rollout_program.specs.Campaigns.{Advances, ChangesCampaign, IsCampaign};
 ghost use Rattle.rollout_program.specs.Lists.{accepted_command, list_from};
 ghost use Rattle.rollout_program.specs.Turns.{turned};
 
@@ -47,7 +47,7 @@ fn turn(
     number: RolloutNo,
     turn: Turn,
 ) -> Result<Campaign, Refusal>
-    ensures { Changes campaign (λ rs. record rs { rollouts = change_rollout number (turned turn) rs.rollouts }) result }
+    ensures { ChangesCampaign campaign (λ rs. record rs { rollouts = change_rollout number (turned turn) rs.rollouts }) result }
 {
     let Campaign { rollouts, actions } = campaign;
     let rollouts = turn_one(alloc, rollouts, number, turn)?;
@@ -57,7 +57,7 @@ fn turn(
 /// The campaign with the rollout of this number started. One that isn't there, which no accepted command starts, counts as
 /// want of memory.
 fn start(alloc: Global, campaign: Campaign, number: RolloutNo) -> Result<Campaign, Refusal>
-    ensures { Changes campaign (λ rs. step_records rs (Start number)) result }
+    ensures { ChangesCampaign campaign (λ rs. step_records rs (Start number)) result }
 {
     let Campaign { rollouts, actions } = campaign;
     let Some(rollout) = rollout_numbered(&rollouts, number) else {

@@ -69,7 +69,7 @@ module _ (s : Schema) (at : ℕ) (table : Table) (got : slice_get s.tables at �
 -- ---- UPDATE
 
 -- what computes of a text that changes rows of one table, over that table alone
-pub record Changes (text : List ℕ) (name : Name) (table : Table) (body : Query) : Type 0 where
+pub record Updates (text : List ℕ) (name : Name) (table : Table) (body : Query) : Type 0 where
   pub parsed : Parsed
   pub sets : List (Name × Expr)
   pub test : Option Expr
@@ -87,10 +87,10 @@ pub record Changes (text : List ℕ) (name : Name) (table : Table) (body : Query
 abbrev pub with_update : Parsed → ℕ → Query → Compiled
 with_update p at body = record { command = Update at (record { lets = []; body = body }); returning = None; names = p.names; formats = []; start = p.start; end = p.end; tail = p.tail }
 
-module _ (text : List ℕ) (name : Name) (table : Table) (body : Query) (c : Changes text name table body) (s : Schema) (at : ℕ) (stands : Stands s name at table) where
-  pub changes_known : compiled s text ≡ Ok (with_update c.parsed at body)
+module _ (text : List ℕ) (name : Name) (table : Table) (body : Query) (c : Updates text name table body) (s : Schema) (at : ℕ) (stands : Stands s name at table) where
+  pub updates_known : compiled s text ≡ Ok (with_update c.parsed at body)
   unfolding compiled planned meaning timed returning command shows update program
-  changes_known =
+  updates_known =
       let draft : updated s at table c.sets c.test ≡ Ok c.draft = update_alone s at table stands.got c.sets c.test c.values c.filter ∙ c.known in
       let fits : accepts_program s [] (query_of c.draft) [] ≡ true = subst (λ b. accepts_program s [] b [] ≡ true) (sym c.is_body) (accepted s body table c.over stands.stored stands.found c.fits) in
       let is : compiled s text ≡ Ok (with_update c.parsed at (query_of c.draft)) = rw (c.read) (rw (c.statement) (rw (c.formats) (rw (stands.named) (rw (stands.got) (rw draft (rw fits)))))) in

@@ -15,9 +15,9 @@ use Rattle.sqlite_resolve.specs.Expr.{combine}
 use Rattle.sqlite_resolve.specs.Select.{named, paging}
 use Rattle.sqlite_resolve.specs.Write.{updated, deleted}
 use Rattle.sql_front.specs.Bare.{IsBareTable}
-use Rattle.sql_front.proofs.Texts.{Reads}
+use Rattle.sql_front.proofs.Texts.{Selects}
 use Rattle.sql_front.proofs.Write.{Adds, Makes}
-use Rattle.sql_front.proofs.Change.{Changes, Removes}
+use Rattle.sql_front.proofs.Change.{Updates, Removes}
 use Rattle.sql_front.proofs.Examples.{strict, desk_table, is_equal, simple}
 
 abbrev target_table : ℕ → Table
@@ -57,7 +57,7 @@ pub make_tag_makes : Makes (codes "CREATE TABLE target_tag (controller TEXT NOT 
 unfolding first is_reserved everything
 make_tag_makes = record { parsed = _; made = _; read = refl; statement = refl; named = refl; unreserved = refl; defined = refl; whole = refl }
 
-pub set_target_changes : (tree : ℕ) → Changes (codes "UPDATE target SET name = ?2, digest = ?3 WHERE controller = ?1") (codes "target") (target_table tree)
+pub set_target_changes : (tree : ℕ) → Updates (codes "UPDATE target SET name = ?2, digest = ?3 WHERE controller = ?1") (codes "target") (target_table tree)
     (simple tree (is_equal (col 1 1) (col 0 0) ∷ []) (col 1 0 ∷ col 1 0 ∷ col 1 1 ∷ col 0 1 ∷ col 0 2 ∷ []))
 unfolding first combine updated everything
 set_target_changes tree = record {
@@ -77,7 +77,7 @@ set_target_changes tree = record {
 }
 
 -- a number that the rowid stands for is NULL in its column
-pub set_rollout_changes : (tree : ℕ) → Changes (codes "UPDATE rollout SET approval = ?2, first_action = ?3, paused = ?4 WHERE number = ?1") (codes "rollout") (rollout_table tree)
+pub set_rollout_changes : (tree : ℕ) → Updates (codes "UPDATE rollout SET approval = ?2, first_action = ?3, paused = ?4 WHERE number = ?1") (codes "rollout") (rollout_table tree)
     (simple tree (is_equal (col 1 0) (col 0 0) ∷ []) (col 1 0 ∷ col 1 0 ∷ lit Null ∷ col 1 2 ∷ col 0 1 ∷ col 0 2 ∷ col 0 3 ∷ []))
 unfolding first combine updated everything
 set_rollout_changes tree = record {
@@ -134,7 +134,7 @@ unfolding first new_rows everything
 put_tag_adds tree = record { parsed = _; columns = _; rows = _; read = refl; statement = refl; formats = refl; fits = λ s. refl }
 
 -- the next page of targets, after one that was shown
-pub page_targets_reads : (tree : ℕ) → Reads (codes "SELECT controller, name FROM target WHERE controller > ?1 ORDER BY controller LIMIT ?2") (codes "target") (target_table tree)
+pub page_targets_reads : (tree : ℕ) → Selects (codes "SELECT controller, name FROM target WHERE controller > ?1 ORDER BY controller LIMIT ?2") (codes "target") (target_table tree)
     (record (simple tree (op2 (Compare Gt Binary) (col 1 1) (col 0 0) ∷ []) (col 1 1 ∷ col 1 2 ∷ [])) { order = (col 1 1, record { collation = Binary; descending = false }) ∷ []; limit = col 0 1 }) (codes "controller" ∷ codes "name" ∷ [])
 unfolding first combine named paging everything
 page_targets_reads tree = record {

@@ -13,10 +13,10 @@ ghost use Rattle.stream_server.specs.Headline.{FailsBy};
 ghost use Rattle.stream_server.specs.Parts.{Serves, fault_of, Takes, StopsAt};
 
 use crate::ServeFault;
-use crate::reply::{says_store_failed, write_reply};
+use crate::reply::write_reply;
 use crate::routes::Routes;
 use http_wire::{Inbox, Message, Watched, WireFault};
-use rollout_machine::Handler;
+use rollout_machine::{Handler, says_store_failed};
 use rollout_model::{Refusal, Reply};
 use std::alloc::Global;
 use std::io::Write;

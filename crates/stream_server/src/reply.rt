@@ -1,9 +1,7 @@
 //! Writing replies.
 
-ghost use Rattle.std.specs.Prelude.{◌≡◌, ◌≢◌, ◌↔◌, IsTrue, ◌++◌, ℕ, List, true, IfOk, IfErr, OnOk};
+ghost use Rattle.std.specs.Prelude.{◌≡◌, ◌≢◌, ◌++◌, ℕ, List, true, IfOk, IfErr, OnOk};
 ghost use Rattle.std.specs.Io.KnownBytes.{Appends};
-ghost use Rattle.rollout_model.specs.declared.refusal.Refusal.TheVariants.{StoreFailed};
-ghost use Rattle.rollout_machine.specs.Replies.{Refused};
 ghost use Rattle.rollout_machine.specs.Views.{reply_of};
 ghost use Rattle.http_wire.specs.Watched.{inner_of, has_failed};
 ghost use Rattle.stream_server.specs.Interfaces.{reply_text};
@@ -13,7 +11,7 @@ ghost use Rattle.stream_server.specs.Parts.{SendsPart};
 use crate::ServeFault;
 use crate::bytes::{refusal_text, success_text};
 use http_wire::{Watched, write_all_counted};
-use rollout_model::{Refusal, Reply};
+use rollout_model::Reply;
 use std::alloc::Global;
 use std::io::Write;
 
@@ -31,13 +29,6 @@ fn send<W: Write>(writer: &mut Watched<W>, bytes: &[u8]) -> Result<(), ServeFaul
         Ok(()) => Ok(()),
         Err(_) => Err(ServeFault::Write),
     }
-}
-
-/// Whether a reply says that the store failed.
-pub(crate) fn says_store_failed(reply: &Reply) -> bool
-    ensures { IsTrue result ↔ (reply_of reply.now ≡ Refused StoreFailed) }
-{
-    matches!(reply, Reply::Refused(Refusal::StoreFailed))
 }
 
 /// Writes a reply. A refusal takes no memory.

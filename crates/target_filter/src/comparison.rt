@@ -5,7 +5,7 @@ ghost use Rattle.std.specs.Result.{MatchResult};
 ghost use Rattle.std.specs.Option.{option_map};
 ghost use Rattle.target_filter.specs.Descent as descent;
 ghost use Rattle.target_filter.specs.Views.{field_of, operator_of, value_of};
-ghost use Rattle.target_filter.specs.Gives.{Gives, Reads};
+ghost use Rattle.target_filter.specs.Gives.{Gives, GivesAs};
 ghost use Rattle.target_filter.specs.declared.comparison.ParseFault.TheVariants.{Memory};
 
 use crate::byte_kind::{ByteKind, split_run};
@@ -42,7 +42,7 @@ fn copied(alloc: Global, bytes: &[u8]) -> Result<Vec<u8>, ParseFault>
 }
 
 fn attribute_field(alloc: Global, name: &[u8]) -> Result<Field, ParseFault>
-    ensures { Reads field_of (descent.attribute_field name.now) result }
+    ensures { GivesAs field_of (descent.attribute_field name.now) result }
 {
     let Some(key) = name.strip_prefix(b"attribute.") else {
         return Err(ParseFault::Missing);
@@ -52,7 +52,7 @@ fn attribute_field(alloc: Global, name: &[u8]) -> Result<Field, ParseFault>
 }
 
 fn field_of_name(alloc: Global, name: &[u8]) -> Result<Field, ParseFault>
-    ensures { Reads field_of (descent.field_of_name name.now) result }
+    ensures { GivesAs field_of (descent.field_of_name name.now) result }
 {
     if name == b"controllerid".as_slice() {
         Ok(Field::Id)
@@ -80,7 +80,7 @@ fn quoted_value<'a>(
     pattern: &[u8],
     text: &'a [u8],
 ) -> Result<(Value, &'a [u8]), ParseFault>
-    ensures { Reads (λ x. (value_of x.0, x.1.now)) (descent.quoted_value pattern.now text.now) result }
+    ensures { GivesAs (λ x. (value_of x.0, x.1.now)) (descent.quoted_value pattern.now text.now) result }
 {
     match text {
         [b'"', rest @ ..] => {
@@ -96,7 +96,7 @@ fn bare_value<'a>(
     pattern: &[u8],
     text: &'a [u8],
 ) -> Result<(Value, &'a [u8]), ParseFault>
-    ensures { Reads (λ x. (value_of x.0, x.1.now)) (descent.bare_value pattern.now text.now) result }
+    ensures { GivesAs (λ x. (value_of x.0, x.1.now)) (descent.bare_value pattern.now text.now) result }
 {
     if pattern.is_empty() {
         return Err(ParseFault::Missing);
@@ -106,7 +106,7 @@ fn bare_value<'a>(
 }
 
 fn value_at(alloc: Global, text: &[u8]) -> Result<(Value, &[u8]), ParseFault>
-    ensures { Reads (λ x. (value_of x.0, x.1.now)) (descent.value_at text.now) result }
+    ensures { GivesAs (λ x. (value_of x.0, x.1.now)) (descent.value_at text.now) result }
 {
     match text {
         [b'"', quoted @ ..] => {

@@ -13,9 +13,9 @@ returns-in_err-write_reply-clause-serves g c =
 pub returns-then-says_store_failed-clause-serves : goal.returns-then-says_store_failed-clause-serves
 returns-then-says_store_failed-clause-serves g c =
     let e = c.ask-reply.ensures in
-    serves_in_doubt _ _ _ _ _ _ (record { clean = e.clean; applies = e.applies; stopped = e.stopped }) _ _ c.in_ok-write_reply.ensures.ok (c.if-says_store_failed.ensures.0 refl)
+    serves_in_doubt _ _ _ _ _ _ (record { clean = e.clean; applies = e.applies; stopped = e.stopped }) _ _ c.in_ok-write_reply.ensures.ok (c.if-says_store_failed.ensures.only.0 refl)
 
 pub returns-clause-serves : goal.returns-clause-serves
 returns-clause-serves g c =
     let e = c.ask-reply.ensures in
-    serves_whole _ _ _ _ _ _ (record { clean = e.clean; applies = e.applies; stopped = e.stopped }) _ _ c.in_ok-write_reply.ensures.ok (λ same. false≢true (c.if-says_store_failed.ensures.1 same))
+    serves_whole _ _ _ _ _ _ (record { clean = e.clean; applies = e.applies; stopped = e.stopped }) _ _ c.in_ok-write_reply.ensures.ok (λ same. false≢true (c.if-says_store_failed.ensures.only.1 same))
