@@ -3,6 +3,7 @@ use Rattle.std.proofs.Common.{◌≡◌, ℕ, List, [], ◌∷◌, Bool, true, f
 use Rattle.std.specs.Str.{IsUtf8, is_utf8}
 use Rattle.std.proofs.lemmas.Str.{is_utf8-from_IsUtf8, IsUtf8-from_is_utf8}
 use Rattle.matchit.proofs.OnLiterals.{matchit_on_literals}
+use Rattle.http_wire.specs.Messages.{WireMessage}
 use Rattle.http_wire.specs.Replies.{refusal_text}
 use Rattle.rollout_model.specs.declared.refusal.Refusal.{Refusal}
 use Rattle.rollout_model.specs.declared.page.PageOf.{PageOf}
@@ -24,9 +25,9 @@ pub manage_table_is_good : are_routes manage_table ≡ true
 unfolding matchit_on_literals
 manage_table_is_good = refl
 
-pub reply_text-Refused : (refusal : Refusal) → reply_text (Refused refusal) ≡ refusal_text refusal
+pub reply_text-Refused : (m : WireMessage) (refusal : Refusal) → reply_text m (Refused refusal) ≡ refusal_text refusal
 unfolding refusal_text
-reply_text-Refused refusal = refl
+reply_text-Refused m refusal = refl
 
 pub manage_route-text : (path : List ℕ) → IsUtf8 path → manage_route path ≡ route_in manage_table path
 manage_route-text path text = rw (is_utf8-from_IsUtf8 path text) refl

@@ -1,9 +1,9 @@
 -- The calls: what a route is asked by a method.
 use Rattle.std.specs.Prelude.{ℕ, List, codes, bytes_eq, Option, Some, None, if◌then◌else◌}
 use Rattle.mgmt_api.specs.declared.routes.ManageRoute.{ManageRoute}
-use Rattle.mgmt_api.specs.declared.routes.ManageRoute.TheVariants.{Modules, Module, Artifacts, Artifact, Contents, Sets, Set, Targets, Target, TargetTag}
+use Rattle.mgmt_api.specs.declared.routes.ManageRoute.TheVariants.{Modules, Module, Artifacts, Artifact, Contents, Sets, Set, Targets, Target, TargetTag, Import}
 use Rattle.mgmt_api.specs.declared.call.ManageCall.{ManageCall}
-use Rattle.mgmt_api.specs.declared.call.ManageCall.TheVariants.{ShowModules, AddModule, ShowModule, ShowArtifacts, AddArtifact, ShowArtifact, ShowContents, ShowSets, AddSet, ShowSet, ShowTargets, PutTargets, ShowTarget, Tag, Untag}
+use Rattle.mgmt_api.specs.declared.call.ManageCall.TheVariants.{ShowModules, AddModule, ShowModule, ShowArtifacts, AddArtifact, ShowArtifact, ShowContents, ShowSets, AddSet, ShowSet, ShowTargets, PutTargets, ShowTarget, Tag, Untag, Import as ImportCall}
 
 -- the call of a route that has one method
 abbrev pub only_by : List ℕ → ManageCall → List ℕ → Option ManageCall
@@ -28,3 +28,4 @@ call_of Set method = only_by (codes "GET") ShowSet method
 call_of Targets method = of_list ShowTargets PutTargets method
 call_of Target method = only_by (codes "GET") ShowTarget method
 call_of TargetTag method = of_tag method
+call_of Import method = only_by (codes "POST") ImportCall method

@@ -1,11 +1,12 @@
 -- What a message of the management interface asks.
-use Rattle.std.specs.Prelude.{◌≡◌, ◌⊎◌, ℕ, Bool, true, false, List, [], if◌then◌else◌, Option, Some, None, Result, MatchResult, option_and_then, slice_get}
+use Rattle.std.specs.Prelude.{◌≡◌, ◌⊎◌, ℕ, Bool, true, false, List, [], if◌then◌else◌, Option, Some, None, Result, Ok, Err, MatchResult, option_and_then, slice_get}
 use Rattle.std.specs.Option.{is_some}
 use Rattle.http_wire.specs.Messages.{WireMessage}
 use Rattle.http_wire.specs.Targets.{path_of, query_of}
 use Rattle.rollout_model.specs.declared.refusal.Refusal.{Refusal}
-use Rattle.rollout_model.specs.declared.refusal.Refusal.TheVariants.{BadRequest, NotFound, BadMethod, NoMemory}
+use Rattle.rollout_model.specs.declared.refusal.Refusal.TheVariants.{BadRequest, NotFound, BadMethod, BadImportLine, NoMemory}
 use Rattle.rollout_model.specs.declared.request.Request.{Request as RustRequest}
+use Rattle.rollout_model.specs.declared.target_row.TargetRow.{TargetRow}
 use Rattle.rollout_model.specs.Rules.{number_of as item_number_of, word_of}
 use Rattle.rollout_machine.specs.Commands.{Command, AddModule, AddArtifact, AddSet, PutTargets, Tag, Untag}
 use Rattle.rollout_machine.specs.Requests.{Do, Ask, Query, Page, ShowModules, ShowModule, ShowArtifacts, ShowArtifact, ShowContents, ShowSets, ShowSet, ShowTargets, ShowTarget, Asked, Rejected, Asks}
@@ -16,13 +17,14 @@ use Rattle.request_target.specs.Routes.{segments}
 use Rattle.mgmt_objects.specs.ModuleBodies.{module_body}
 use Rattle.mgmt_objects.specs.SetBodies.{set_body}
 use Rattle.mgmt_objects.specs.TargetBodies.{targets_body}
+use Rattle.desk_files.specs.Imports.{targets_of}
 use Rattle.mgmt_api.specs.Table.{manage_route}
 use Rattle.mgmt_api.specs.Calls.{call_of}
 use Rattle.mgmt_api.specs.PageQueries.{page_asked}
 use Rattle.mgmt_api.specs.TargetQueries.{selection_asked}
 use Rattle.mgmt_api.specs.UploadQueries.{upload_asked}
 use Rattle.mgmt_api.specs.declared.call.ManageCall.{ManageCall}
-use Rattle.mgmt_api.specs.declared.call.ManageCall.TheVariants.{ShowModules as ShowModulesCall, AddModule as AddModuleCall, ShowModule as ShowModuleCall, ShowArtifacts as ShowArtifactsCall, AddArtifact as AddArtifactCall, ShowArtifact as ShowArtifactCall, ShowContents as ShowContentsCall, ShowSets as ShowSetsCall, AddSet as AddSetCall, ShowSet as ShowSetCall, ShowTargets as ShowTargetsCall, PutTargets as PutTargetsCall, ShowTarget as ShowTargetCall, Tag as TagCall, Untag as UntagCall}
+use Rattle.mgmt_api.specs.declared.call.ManageCall.TheVariants.{ShowModules as ShowModulesCall, AddModule as AddModuleCall, ShowModule as ShowModuleCall, ShowArtifacts as ShowArtifactsCall, AddArtifact as AddArtifactCall, ShowArtifact as ShowArtifactCall, ShowContents as ShowContentsCall, ShowSets as ShowSetsCall, AddSet as AddSetCall, ShowSet as ShowSetCall, ShowTargets as ShowTargetsCall, PutTargets as PutTargetsCall, ShowTarget as ShowTargetCall, Tag as TagCall, Untag as UntagCall, Import as ImportCall}
 
 -- a part of a message that can't be read rejects it
 abbrev pub or_rejected : {A : Type 0} → Refusal → (A → Asked) → Option A → Asked
@@ -85,6 +87,11 @@ selected_by m = or_rejected BadRequest (λ selection. Asks (Ask (ShowTargets sel
 abbrev pub uploaded_to : ℕ → WireMessage → Asked
 uploaded_to number m = or_rejected BadRequest (λ upload. Asks (Do (AddArtifact upload))) (upload_asked number (query_of m.target) m.body)
 
+-- a file of targets, or the line that it is refused by
+abbrev pub imported : Result (List TargetRow) ℕ → Asked
+imported (Ok rows) = Asks (Do (PutTargets rows))
+imported (Err line) = Rejected (BadImportLine line)
+
 abbrev pub asked_by : ManageCall → WireMessage → Asked
 asked_by ShowModulesCall m = listed_by ShowModules m
 asked_by AddModuleCall m = added_by (module_body m.body) AddModule m
@@ -101,6 +108,7 @@ asked_by PutTargetsCall m = added_by (targets_body m.body) PutTargets m
 asked_by ShowTargetCall m = of_word 4 (λ id. without_query m (Asks (Ask (ShowTarget id)))) m
 asked_by TagCall m = of_tag Tag m
 asked_by UntagCall m = of_tag Untag m
+asked_by ImportCall m = without_query m (imported (targets_of m.body))
 
 -- the first refusal that applies: the route, the method, and then the call's own
 abbrev pub manage_reading : WireMessage → Asked
@@ -110,11 +118,15 @@ manage_reading m =
 
 -- what a reader refuses by, beside want of memory
 abbrev pub IsReadersOwn : Refusal → Type 0
-IsReadersOwn refusal = (refusal ≡ NotFound) ⊎ (refusal ≡ BadMethod) ⊎ (refusal ≡ BadRequest)
+IsReadersOwn refusal = (refusal ≡ NotFound) ⊎ (refusal ≡ BadMethod) ⊎ (refusal ≡ BadRequest) ⊎ ((line : ℕ) × (refusal ≡ BadImportLine line))
 
 -- the request that is asked, or the refusal that it is rejected by; in place of either, want of memory
 abbrev pub ReadsRequest : Asked → Result RustRequest Refusal → Type 0
 ReadsRequest asked result = MatchResult result (λ request. asked ≡ Asks (request_of request)) (λ refusal. (refusal ≡ NoMemory) ⊎ ((asked ≡ Rejected refusal) × IsReadersOwn refusal))
+
+-- the rows of a file of targets, or the refusal of its line; in place of either, want of memory
+abbrev pub ReadsRows : Result (List TargetRow) ℕ → Result (List TargetRow) Refusal → Type 0
+ReadsRows said result = MatchResult result (λ rows. said ≡ Ok rows) (λ refusal. (refusal ≡ NoMemory) ⊎ ((imported said ≡ Rejected refusal) × IsReadersOwn refusal))
 
 -- no query, or a bad request where there is one; in place of either, want of memory
 abbrev pub TakesNoQuery : WireMessage → Result (Unit {0}) Refusal → Type 0

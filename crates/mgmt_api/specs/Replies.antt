@@ -1,7 +1,9 @@
 -- The text of each reply.
-use Rattle.std.specs.Prelude.{◌≡◌, ℕ, Bool, false, List, [], map, codes}
+use Rattle.std.specs.Prelude.{◌≡◌, ℕ, Bool, false, if◌then◌else◌, List, [], map, codes, bytes_eq}
 use Rattle.serde_json.specs.Data.{Data}
 use Rattle.serde_json.specs.Written.{compact_text}
+use Rattle.http_wire.specs.Messages.{WireMessage}
+use Rattle.http_wire.specs.Targets.{path_of}
 use Rattle.http_wire.specs.Replies.{reply_text as wire_text, refusal_body}
 use Rattle.http_wire.specs.declared.reply.ContentType.{ContentType}
 use Rattle.http_wire.specs.declared.reply.ContentType.TheVariants.{Json, Octets}
@@ -13,6 +15,7 @@ use Rattle.mgmt_objects.specs.ModuleObjects.{module_data}
 use Rattle.mgmt_objects.specs.SetObjects.{set_data}
 use Rattle.mgmt_objects.specs.TargetObjects.{accepted_data, target_object}
 use Rattle.mgmt_objects.specs.Pages.{single, page_data}
+use Rattle.mgmt_api.specs.Routes.{import_path}
 
 pub record ReplyParts : Type 0 where
   pub status : ℕ
@@ -32,6 +35,10 @@ page_reply shows page = json_reply 200 (compact_text (page_data (map shows page.
 abbrev pub octets_reply : List ℕ → ReplyParts
 octets_reply contents = record { status = 200; content_type = Octets; ends = false; body = contents }
 
+-- how many rows of targets were put
+abbrev pub put_reply : ℕ → ℕ → ReplyParts
+put_reply status accepted = json_reply status (compact_text (accepted_data accepted))
+
 abbrev pub shown_target_data : ShownTarget → Data
 shown_target_data t = target_object t.id t.name t.tags t.attributes t.word
 
@@ -49,15 +56,28 @@ parts_of (ContentsShown contents) = octets_reply contents
 parts_of (SetAdded s) = json_reply 201 (compact_text (single (set_data s)))
 parts_of (SetShown s) = json_reply 200 (compact_text (set_data s))
 parts_of (SetsShown page) = page_reply set_data page
-parts_of (TargetsPut accepted) = json_reply 201 (compact_text (accepted_data accepted))
+parts_of (TargetsPut accepted) = put_reply 201 accepted
 parts_of (TargetShown t) = json_reply 200 (compact_text (shown_target_data t))
 parts_of (TargetsShown page) = page_reply shown_target_data page
 parts_of Done = json_reply 200 (codes "{}")
 parts_of _ = json_reply 200 []
 
--- the whole text of a reply on the wire
-abbrev pub reply_text : Reply → List ℕ
-reply_text reply = wire_text (parts_of reply).status (parts_of reply).content_type (parts_of reply).ends (parts_of reply).body
+-- whether a message hands in a file of targets
+abbrev pub is_import : WireMessage → Bool
+is_import m = bytes_eq (path_of m.target) import_path
+
+-- the status of targets that were put: 200 where they came as a file
+abbrev pub put_status : WireMessage → ℕ
+put_status m = if is_import m then 200 else 201
+
+-- the reply to a message: its call says by which status targets are put, all else is the reply's own
+abbrev pub parts_to : WireMessage → Reply → ReplyParts
+parts_to m (TargetsPut accepted) = put_reply (put_status m) accepted
+parts_to m reply = parts_of reply
+
+-- its whole text on the wire
+abbrev pub reply_text : WireMessage → Reply → List ℕ
+reply_text m reply = wire_text (parts_to m reply).status (parts_to m reply).content_type (parts_to m reply).ends (parts_to m reply).body
 
 -- an answer has these parts
 pub record Has (parts : ReplyParts) (answer : Answer) : Type 0 where

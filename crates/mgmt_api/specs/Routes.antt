@@ -4,7 +4,11 @@ use Rattle.matchit.specs.Rows.{RowsOf}
 use Rattle.matchit.specs.Router.{RouteOf}
 use Rattle.request_target.specs.Rows.{rows_with}
 use Rattle.mgmt_api.specs.declared.routes.ManageRoute.{ManageRoute}
-use Rattle.mgmt_api.specs.declared.routes.ManageRoute.TheVariants.{Modules, Module, Artifacts, Artifact, Contents, Sets, Set, Targets, Target, TargetTag}
+use Rattle.mgmt_api.specs.declared.routes.ManageRoute.TheVariants.{Modules, Module, Artifacts, Artifact, Contents, Sets, Set, Targets, Target, TargetTag, Import}
+
+-- where a file of targets is handed in
+abbrev pub import_path : List ℕ
+import_path = codes "/desk/v1/import"
 
 -- a segment in braces is a parameter
 abbrev pub manage_table : List (List ℕ × ManageRoute)
@@ -18,7 +22,8 @@ manage_table =
     ∷ (codes "/rest/v1/distributionsets/{set}", Set)
     ∷ (codes "/rest/v1/targets", Targets)
     ∷ (codes "/rest/v1/targets/{target}", Target)
-    ∷ (codes "/rest/v1/targets/{target}/tags/{tag}", TargetTag) ∷ []
+    ∷ (codes "/rest/v1/targets/{target}/tags/{tag}", TargetTag)
+    ∷ (import_path, Import) ∷ []
 
 -- the router's rows
 abbrev pub manage_rows : RowsOf (RouteOf ManageRoute)

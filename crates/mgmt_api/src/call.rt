@@ -38,6 +38,8 @@ pub enum ManageCall {
     Tag,
     /// `DELETE /rest/v1/targets/{target}/tags/{tag}`
     Untag,
+    /// `POST /desk/v1/import`
+    Import,
 }
 
 /// The call of a route that has one method.
@@ -90,5 +92,6 @@ pub fn call_of(route: ManageRoute, method: &[u8]) -> Option<ManageCall>
         ManageRoute::Targets => of_list(ManageCall::ShowTargets, ManageCall::PutTargets, method),
         ManageRoute::Target => only_by(b"GET", ManageCall::ShowTarget, method),
         ManageRoute::TargetTag => of_tag(method),
+        ManageRoute::Import => only_by(b"POST", ManageCall::Import, method),
     }
 }

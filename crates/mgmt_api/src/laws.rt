@@ -2,6 +2,7 @@
 
 ghost use Rattle.std.specs.Prelude.{◌≡◌, true, false, codes};
 ghost use Rattle.request_target.specs.Rows.{are_routes};
+ghost use Rattle.http_wire.specs.Messages.{WireMessage};
 ghost use Rattle.http_wire.specs.Replies.{refusal_text};
 ghost use Rattle.rollout_model.specs.declared.refusal.Refusal.{Refusal};
 ghost use Rattle.rollout_machine.specs.Replies.{ModuleAdded, Refused};
@@ -14,9 +15,9 @@ pub fn manage_routes_are_apart()
     ensures { are_routes manage_table ≡ true }
 {}
 
-/// A refused request is answered by the refusal's own text.
+/// A refused request is answered by the refusal's own text, whatever it asked.
 pub fn refused_text()
-    ensures { (refusal : Refusal) → reply_text (Refused refusal) ≡ refusal_text refusal }
+    ensures { (m : WireMessage) (refusal : Refusal) → reply_text m (Refused refusal) ≡ refusal_text refusal }
 {}
 
 /// A worked reply, letter by letter.

@@ -1,23 +1,25 @@
 //! From a message to the request that it asks.
 
 ghost use Rattle.std.specs.Prelude.{◌≡◌, ◌≢◌, ◌⊎◌, IfOk, IfErr, option_and_then, option_map};
+ghost use Rattle.desk_files.specs.Imports.{targets_of};
 ghost use Rattle.rollout_model.specs.Rules.{word_of};
 ghost use Rattle.rollout_model.specs.declared.refusal.Refusal.TheVariants.{NoMemory, StoreFailed, Stopped};
 ghost use Rattle.rollout_machine.specs.Requests.{Asks, Rejected};
 ghost use Rattle.rollout_machine.specs.Views.{request_of};
 ghost use Rattle.http_wire.specs.Inbox.{message_of};
-ghost use Rattle.mgmt_api.specs.Reading.{ReadsRequest, TakesNoQuery, asked_by, item_in, manage_reading, path_number, word_in};
+ghost use Rattle.mgmt_api.specs.Reading.{ReadsRequest, ReadsRows, TakesNoQuery, asked_by, item_in, manage_reading, path_number, word_in};
 
 use crate::call::{ManageCall, call_of};
 use crate::page_query::read_page;
 use crate::routes::ManageRoutes;
 use crate::target_query::read_selection;
 use crate::upload_query::read_upload;
+use desk_files::read_targets;
 use http_wire::Message;
 use mgmt_objects::{read_module_body, read_set_body, read_targets_body};
 use request_target::{number_at, segment_at, takes_query};
 use rollout_model::{
-    ArtifactNo, Command, ControllerId, ModuleNo, Query, Refusal, Request, SetNo, Word,
+    ArtifactNo, Command, ControllerId, ModuleNo, Query, Refusal, Request, SetNo, TargetRows, Word,
 };
 use std::alloc::Global;
 use std::str;
@@ -238,6 +240,24 @@ fn read_untag_target(alloc: Global, message: &Message<'_>) -> Result<Request, Re
     Ok(Request::Do(Command::Untag(id, tag)))
 }
 
+/// The rows of a file of targets, all of them or none.
+fn read_rows(alloc: Global, bytes: &[u8]) -> Result<TargetRows, Refusal>
+    ensures { ReadsRows (targets_of bytes.now) result }
+{
+    match read_targets(alloc, bytes) {
+        Ok(rows) => Ok(TargetRows::from_rows(rows)),
+        Err(fault) => Err(fault.refusal()),
+    }
+}
+
+fn read_import(alloc: Global, message: &Message<'_>) -> Result<Request, Refusal>
+    ensures { ReadsRequest (asked_by ManageCall.Import (message_of message.now)) result }
+{
+    take_no_query(alloc, message)?;
+    let rows = read_rows(alloc, message.body)?;
+    Ok(Request::Do(Command::PutTargets(rows)))
+}
+
 fn read_call(alloc: Global, call: ManageCall, message: &Message<'_>) -> Result<Request, Refusal>
     ensures { ReadsRequest (asked_by call (message_of message.now)) result }
 {
@@ -257,6 +277,7 @@ fn read_call(alloc: Global, call: ManageCall, message: &Message<'_>) -> Result<R
         ManageCall::ShowTarget => read_show_target(alloc, message),
         ManageCall::Tag => read_tag_target(alloc, message),
         ManageCall::Untag => read_untag_target(alloc, message),
+        ManageCall::Import => read_import(alloc, message),
     }
 }
 

@@ -3,13 +3,14 @@
 ghost use Rattle.std.specs.Prelude.{◌≡◌, false, IfOk, IfErr, string_bytes};
 ghost use Rattle.serde_json.specs.Written.{compact_text};
 ghost use Rattle.rollout_model.specs.declared.refusal.Refusal.TheVariants.{NoMemory};
-ghost use Rattle.rollout_machine.specs.Replies.{Done, Refused, TargetsPut};
+ghost use Rattle.rollout_machine.specs.Replies.{Done, Refused};
 ghost use Rattle.rollout_machine.specs.Views.{listed, listed_targets, reply_of};
+ghost use Rattle.http_wire.specs.Inbox.{message_of};
 ghost use Rattle.http_wire.specs.Replies.{answer_text};
-ghost use Rattle.mgmt_api.specs.Replies.{Has, parts_of, reply_text, json_reply, octets_reply, page_reply, shown_target_data};
+ghost use Rattle.mgmt_api.specs.Replies.{Has, is_import, parts_of, parts_to, put_status, reply_text, json_reply, octets_reply, page_reply, put_reply, shown_target_data};
 
 use http::StatusCode;
-use http_wire::{Answer, ContentType, refusal_answer};
+use http_wire::{Answer, ContentType, Message, refusal_answer};
 use mgmt_objects::{Shown, accepted_text, done_text, object_text, page_text, single_text};
 use rollout_model::{Contents, PageOf, Refusal, Reply, ShownTarget};
 use std::alloc::{AllocError, Global};
@@ -61,14 +62,14 @@ fn done_answer(alloc: Global) -> Result<Answer, AllocError>
     Ok(json_answer(StatusCode::OK, body))
 }
 
-fn accepted_answer(alloc: Global, accepted: u32) -> Result<Answer, AllocError>
-    ensures { IfOk result (Has (parts_of (TargetsPut accepted))) }
+fn put_answer(alloc: Global, status: StatusCode, accepted: u32) -> Result<Answer, AllocError>
+    ensures { IfOk result (Has (put_reply status accepted)) }
 {
     let body = accepted_text(alloc, accepted)?;
-    Ok(json_answer(StatusCode::CREATED, body))
+    Ok(json_answer(status, body))
 }
 
-fn answer_to(alloc: Global, reply: &Reply) -> Result<Answer, AllocError>
+fn answer_of(alloc: Global, reply: &Reply) -> Result<Answer, AllocError>
     ensures { IfOk result (Has (parts_of (reply_of reply.now))) }
 {
     match reply {
@@ -101,7 +102,7 @@ fn answer_to(alloc: Global, reply: &Reply) -> Result<Answer, AllocError>
             Ok(json_answer(StatusCode::OK, body))
         }
         Reply::Sets(page) => page_answer(alloc, page),
-        Reply::TargetsPut(accepted) => accepted_answer(alloc, *accepted),
+        Reply::TargetsPut(accepted) => put_answer(alloc, StatusCode::CREATED, *accepted),
         Reply::Target(target) => {
             let body = object_text(alloc, target)?;
             Ok(json_answer(StatusCode::OK, body))
@@ -111,12 +112,51 @@ fn answer_to(alloc: Global, reply: &Reply) -> Result<Answer, AllocError>
     }
 }
 
-/// Status, content type and body of a reply. Refused for want of memory alone.
+/// Status, content type and body of a reply, whatever was asked; targets are put by 201. Refused for want of memory alone.
 pub fn manage_reply(alloc: Global, reply: &Reply) -> Result<Answer, Refusal>
     ensures parts { IfOk result (Has (parts_of (reply_of reply.now))) }
-    ensures text { IfOk result (λ answer. (parts_of (reply_of reply.now)).ends ≡ false → answer_text answer ≡ reply_text (reply_of reply.now)) }
     ensures memory { IfErr result (λ e. e ≡ NoMemory) }
 {
-    let answer = answer_to(alloc, reply)?;
+    let answer = answer_of(alloc, reply)?;
     Ok(answer)
+}
+
+/// Whether a message hands in a file of targets.
+fn is_import(message: &Message<'_>) -> bool
+    ensures { result ≡ is_import (message_of message.now) }
+{
+    message.path() == b"/desk/v1/import".as_slice()
+}
+
+fn put_status(message: &Message<'_>) -> StatusCode
+    ensures { result ≡ put_status (message_of message.now) }
+{
+    if is_import(message) {
+        StatusCode::OK
+    } else {
+        StatusCode::CREATED
+    }
+}
+
+fn answer_to(alloc: Global, message: &Message<'_>, reply: &Reply) -> Result<Answer, Refusal>
+    ensures parts { IfOk result (Has (parts_to (message_of message.now) (reply_of reply.now))) }
+    ensures memory { IfErr result (λ e. e ≡ NoMemory) }
+{
+    match reply {
+        Reply::TargetsPut(accepted) => Ok(put_answer(alloc, put_status(message), *accepted)?),
+        _ => manage_reply(alloc, reply),
+    }
+}
+
+/// Status, content type and body of the reply to a message: targets that came as a file are put by 200. Refused for want of memory alone.
+pub fn manage_reply_to(
+    alloc: Global,
+    message: &Message<'_>,
+    reply: &Reply,
+) -> Result<Answer, Refusal>
+    ensures parts { IfOk result (Has (parts_to (message_of message.now) (reply_of reply.now))) }
+    ensures text { IfOk result (λ answer. (parts_to (message_of message.now) (reply_of reply.now)).ends ≡ false → answer_text answer ≡ reply_text (message_of message.now) (reply_of reply.now)) }
+    ensures memory { IfErr result (λ e. e ≡ NoMemory) }
+{
+    answer_to(alloc, message, reply)
 }

@@ -33,6 +33,8 @@ pub enum ManageRoute {
     Target,
     /// `/rest/v1/targets/{target}/tags/{tag}`
     TargetTag,
+    /// `/desk/v1/import`
+    Import,
 }
 
 /// The routes of the management interface, each found by its path.
@@ -69,6 +71,7 @@ fn manage_router(alloc: Global) -> Result<Router<ManageRoute>, AllocError>
             "/rest/v1/targets/{target}/tags/{tag}",
             ManageRoute::TargetTag,
         ),
+        ("/desk/v1/import", ManageRoute::Import),
     ];
     router_of(alloc, &routes)
 }
