@@ -16,7 +16,8 @@ use Rattle.stream_server.specs.declared.served.ServeFault.{ServeFault}
 use Rattle.stream_server.specs.declared.served.ServeFault.TheVariants as serve_fault
 use Rattle.stream_server.specs.declared.served.Served.{Served}
 use Rattle.http_wire.specs.Faults.{refusal_of}
-use Rattle.stream_server.specs.Interfaces.{reply_text, end_text}
+use Rattle.http_wire.specs.Replies.{refusal_text}
+use Rattle.stream_server.specs.Interfaces.{end_text}
 use Rattle.stream_server.specs.Run.{Exchange, messages_of, texts_of, GoesOn}
 use Rattle.stream_server.specs.Headline.{AnswersEnd, Exits, IsTold}
 use Rattle.stream_server.specs.Parts.{Conduct, Answers, SendsPart}
@@ -62,17 +63,17 @@ module _ (File : Type 0) (C : Conduct File) (old new : DeskState File) (stream :
       (λ run written same goes e. exit run written same goes (e ∙ append-nil (texts_of run))) other
 
   pub exits_fault : (unread out middle out_new : Option (List ℕ)) (given rest : List ℕ) (ms : List WireMessage) (fault : WireFault) (answered : ℕ)
-      → Consumes stream unread given → Begins given ms rest → Answers C old new out middle ms None → Appends middle out_new (reply_text (Refused (refusal_of fault))) → IsFault rest fault
+      → Consumes stream unread given → Begins given ms rest → Answers C old new out middle ms None → Appends middle out_new (refusal_text (refusal_of fault)) → IsFault rest fault
       → answered ≡ min (length ms) (2 ^ 64 - 1)
       → (h : CommandList) → C.premise new → C.stands old h → AtExit C h new stream unread out out_new (Ok (record { answered = answered; end = Fault fault }))
   exits_fault unread out middle out_new given rest ms fault answered reads begins answers more is count =
-      let text : List ℕ = reply_text (Refused (refusal_of fault)) in
+      let text : List ℕ = refusal_text (refusal_of fault) in
       exits_whole unread out middle out_new given rest ms text [] (Fault fault) (Ok (record { answered = answered; end = Fault fault })) reads begins answers more
       (sym (append-nil text)) (λ run goes. (goes, is))
       (λ run written same goes e. record { all_written = e; goes_on = goes; answered = counted run ms answered same count; ended = is }) (λ e. cc)
 
   pub exits_fault_part : (unread out middle out_new : Option (List ℕ)) (given rest : List ℕ) (ms : List WireMessage) (fault : WireFault) (failed : Bool) (stop : ServeFault)
-      → Consumes stream unread given → Begins given ms rest → Answers C old new out middle ms None → SendsPart middle out_new (Refused (refusal_of fault)) failed stop → IsFault rest fault
+      → Consumes stream unread given → Begins given ms rest → Answers C old new out middle ms None → SendsPart middle out_new (refusal_text (refusal_of fault)) (Refused (refusal_of fault)) failed stop → IsFault rest fault
       → (h : CommandList) → C.premise new → C.stands old h → AtExit C h new stream unread out out_new (Err stop)
   exits_fault_part unread out middle out_new given rest ms fault failed serve_fault.Read reads begins answers part is = absurd part
   exits_fault_part unread out middle out_new given rest ms fault failed serve_fault.Store reads begins answers part is = absurd part
@@ -80,7 +81,7 @@ module _ (File : Type 0) (C : Conduct File) (old new : DeskState File) (stream :
       exits_whole unread out middle out_new given rest ms part.1 part.2 (Fault fault) (Err serve_fault.Write) reads begins answers part.4 part.3 (λ run goes. (goes, is))
       (λ run written same goes e. tt) (λ e. cc)
   exits_fault_part unread out middle out_new given rest ms fault failed serve_fault.Memory reads begins answers part is =
-      exits_whole unread out middle out_new given rest ms [] (reply_text (Refused (refusal_of fault))) (Fault fault) (Err serve_fault.Memory) reads begins answers part.1 refl (λ run goes. (goes, is))
+      exits_whole unread out middle out_new given rest ms [] (refusal_text (refusal_of fault)) (Fault fault) (Err serve_fault.Memory) reads begins answers part.1 refl (λ run goes. (goes, is))
       (λ run written same goes e. inl (goes, e ∙ append-nil (texts_of run))) (λ e. cc)
 
   pub exits_unread : (a unread out out_new : Option (List ℕ)) (fed held held_new : List ℕ) (ms : List WireMessage) (failed : Bool) (stop : ServeFault)

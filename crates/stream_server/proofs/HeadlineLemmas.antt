@@ -186,9 +186,9 @@ module _ (File : Type 0) (C : Conduct File) (h : CommandList) (s : DeskState Fil
       unwritten = left;
       begins = (λ i. sym a.texts i ++ cut i) ∙ sym (append_assoc sent part left);
       whole = λ before last e. (
-        reply_text last.reply ++ part,
-        ap (λ (t : List ℕ). t ++ part) (a.texts ∙ ap texts_of e ∙ texts_append before (last ∷ []) ∙ ap (λ (t : List ℕ). texts_of before ++ t) (append-nil (reply_text last.reply)))
-            ∙ append_assoc (texts_of before) (reply_text last.reply) part,
+        reply_text last.message last.reply ++ part,
+        ap (λ (t : List ℕ). t ++ part) (a.texts ∙ ap texts_of e ∙ texts_append before (last ∷ []) ∙ ap (λ (t : List ℕ). texts_of before ++ t) (append-nil (reply_text last.message last.reply)))
+            ∙ append_assoc (texts_of before) (reply_text last.message last.reply) part,
       );
       exit = exit;
     };
@@ -214,8 +214,8 @@ module _ (File : Type 0) (C : Conduct File) (h : CommandList) (s : DeskState Fil
   broken_says rest ms sent serve_fault.Read b = absurd b.cut
   broken_says rest ms sent serve_fault.Write b = tt
   broken_says rest ms sent serve_fault.Store b =
-      let all : reply_text b.last.reply ≡ b.part = b.whole ∙ ap (λ (t : List ℕ). b.part ++ t) b.cut.1 ∙ append-nil b.part in record {
-        all_written = b.texts ∙ ap (λ (t : List ℕ). texts_of b.before ++ t) (sym (append-nil (reply_text b.last.reply) ∙ all)) ∙ sym (texts_append b.before (b.last ∷ []));
+      let all : reply_text b.last.message b.last.reply ≡ b.part = b.whole ∙ ap (λ (t : List ℕ). b.part ++ t) b.cut.1 ∙ append-nil b.part in record {
+        all_written = b.texts ∙ ap (λ (t : List ℕ). texts_of b.before ++ t) (sym (append-nil (reply_text b.last.message b.last.reply) ∙ all)) ∙ sym (texts_append b.before (b.last ∷ []));
         before = b.before;
         last = b.last;
         place = refl;
@@ -241,7 +241,7 @@ module _ (File : Type 0) (C : Conduct File) (h : CommandList) (s : DeskState Fil
           end = Input;
           ends = tt;
           unwritten = b.left;
-          begins = append-nil (texts_of run) ∙ texts_append b.before (b.last ∷ []) ∙ ap (λ (t : List ℕ). texts_of b.before ++ t) (append-nil (reply_text b.last.reply) ∙ b.whole)
+          begins = append-nil (texts_of run) ∙ texts_append b.before (b.last ∷ []) ∙ ap (λ (t : List ℕ). texts_of b.before ++ t) (append-nil (reply_text b.last.message b.last.reply) ∙ b.whole)
               ∙ sym (append_assoc (texts_of b.before) b.part b.left) ∙ ap (λ (t : List ℕ). t ++ b.left) (sym b.texts);
           whole = λ before last e. (b.part, b.texts ∙ ap (λ (xs : List Exchange). texts_of xs ++ b.part) (same_from_push b.before before b.last last e).0);
           exit = broken_says rest ms sent fault b;

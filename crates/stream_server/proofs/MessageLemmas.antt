@@ -2,6 +2,8 @@
 use Rattle.std.proofs.Common.{◌≡◌, ◌≢◌, ℕ, Bool, true, List, [], ◌∷◌, Option, Some, None, refl, sym, append-nil}
 use Rattle.std.specs.Io.KnownBytes.{Appends}
 use Rattle.http_wire.specs.Messages.{WireMessage}
+use Rattle.http_wire.specs.Replies.{refusal_text}
+use Rattle.rollout_model.specs.declared.refusal.Refusal.{Refusal}
 use Rattle.rollout_model.specs.declared.refusal.Refusal.TheVariants.{StoreFailed, Stopped}
 use Rattle.rollout_machine.specs.CommandList.{CommandList}
 use Rattle.rollout_machine.specs.Replies.{Reply, Refused}
@@ -13,21 +15,26 @@ use Rattle.stream_server.specs.Interfaces.{reading, reply_text}
 use Rattle.stream_server.specs.Parts.{Conduct, running, stopped, AnswersOne, Answers, Serves, SendsPart}
 use Rattle.stream_server.proofs.PartLemmas.{whole_one, broken_one}
 
+-- whatever was asked
+pub refused_text : (m : WireMessage) (refusal : Refusal) → reply_text m (Refused refusal) ≡ refusal_text refusal
+unfolding reply_text refusal_text
+refused_text m refusal = refl
+
 module _ (File : Type 0) (C : Conduct File) (old new : DeskState File) (m : WireMessage) (reply : Reply) (answered : (h : CommandList) → C.premise new → C.stands old h → AnswersOne C h new m reply) where
-  answers_whole : (a b : Option (List ℕ)) → Appends a b (reply_text reply) → reply ≢ Refused StoreFailed → Answers C old new a b (m ∷ []) None
-  answers_whole a b sent goes h premise stands = (reply_text reply, sent, whole_one File C h new m reply (answered h premise stands) goes)
+  answers_whole : (a b : Option (List ℕ)) → Appends a b (reply_text m reply) → reply ≢ Refused StoreFailed → Answers C old new a b (m ∷ []) None
+  answers_whole a b sent goes h premise stands = (reply_text m reply, sent, whole_one File C h new m reply (answered h premise stands) goes)
 
-  answers_in_doubt : (a b : Option (List ℕ)) → Appends a b (reply_text reply) → reply ≡ Refused StoreFailed → Answers C old new a b (m ∷ []) (Some serve_fault.Store)
+  answers_in_doubt : (a b : Option (List ℕ)) → Appends a b (reply_text m reply) → reply ≡ Refused StoreFailed → Answers C old new a b (m ∷ []) (Some serve_fault.Store)
   answers_in_doubt a b sent store h premise stands =
-      (reply_text reply, sent, broken_one File C h new m reply (reply_text reply) [] serve_fault.Store (answered h premise stands) (sym (append-nil (reply_text reply))) (store, refl))
+      (reply_text m reply, sent, broken_one File C h new m reply (reply_text m reply) [] serve_fault.Store (answered h premise stands) (sym (append-nil (reply_text m reply))) (store, refl))
 
-  answers_part : (a b : Option (List ℕ)) (failed : Bool) (fault : ServeFault) → SendsPart a b reply failed fault → Answers C old new a b (m ∷ []) (Some fault)
+  answers_part : (a b : Option (List ℕ)) (failed : Bool) (fault : ServeFault) → SendsPart a b (reply_text m reply) reply failed fault → Answers C old new a b (m ∷ []) (Some fault)
   answers_part a b failed serve_fault.Read part h premise stands = absurd part
   answers_part a b failed serve_fault.Store part h premise stands = absurd part
   answers_part a b failed serve_fault.Write part h premise stands =
       (part.1, part.4, broken_one File C h new m reply part.1 part.2 serve_fault.Write (answered h premise stands) part.3 tt)
   answers_part a b failed serve_fault.Memory part h premise stands =
-      ([], part.1, broken_one File C h new m reply [] (reply_text reply) serve_fault.Memory (answered h premise stands) refl (part.0, refl))
+      ([], part.1, broken_one File C h new m reply [] (reply_text m reply) serve_fault.Memory (answered h premise stands) refl (part.0, refl))
 
 -- what is known of a desk that answered a message
 pub record HasAnswered {File : Type 0} (interface : Interface) (old new : DeskState File) (m : WireMessage) (reply : Reply) : Type 0 where
@@ -46,7 +53,7 @@ module _ (File : Type 0) (interface : Interface) (old new : DeskState File) (m :
       let at = has.stopped over in
       record { accepted = None; answers = (at.0, refl); goes_to = record { in_doubt = λ e. let no : Refused Stopped ≡ Refused StoreFailed = cc (at.0, e) in cc; stands = λ goes. at.1.stopped } }
 
-  pub serves_whole : (a b : Option (List ℕ)) → Appends a b (reply_text reply) → reply ≢ Refused StoreFailed → Serves interface old new a b (m ∷ []) None
+  pub serves_whole : (a b : Option (List ℕ)) → Appends a b (reply_text m reply) → reply ≢ Refused StoreFailed → Serves interface old new a b (m ∷ []) None
   serves_whole a b sent goes = record {
     clean = has.clean;
     by_machine = answers_whole File (running File interface) old new m reply of_machine a b sent goes;
@@ -54,7 +61,7 @@ module _ (File : Type 0) (interface : Interface) (old new : DeskState File) (m :
     stays = λ over. (has.stopped over).1;
   }
 
-  pub serves_in_doubt : (a b : Option (List ℕ)) → Appends a b (reply_text reply) → reply ≡ Refused StoreFailed → Serves interface old new a b (m ∷ []) (Some serve_fault.Store)
+  pub serves_in_doubt : (a b : Option (List ℕ)) → Appends a b (reply_text m reply) → reply ≡ Refused StoreFailed → Serves interface old new a b (m ∷ []) (Some serve_fault.Store)
   serves_in_doubt a b sent store = record {
     clean = has.clean;
     by_machine = answers_in_doubt File (running File interface) old new m reply of_machine a b sent store;
@@ -62,7 +69,7 @@ module _ (File : Type 0) (interface : Interface) (old new : DeskState File) (m :
     stays = λ over. (has.stopped over).1;
   }
 
-  pub serves_part : (a b : Option (List ℕ)) (failed : Bool) (fault : ServeFault) → SendsPart a b reply failed fault → Serves interface old new a b (m ∷ []) (Some fault)
+  pub serves_part : (a b : Option (List ℕ)) (failed : Bool) (fault : ServeFault) → SendsPart a b (reply_text m reply) reply failed fault → Serves interface old new a b (m ∷ []) (Some fault)
   serves_part a b failed fault part = record {
     clean = has.clean;
     by_machine = answers_part File (running File interface) old new m reply of_machine a b failed fault part;

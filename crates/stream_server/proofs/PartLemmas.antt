@@ -20,17 +20,17 @@ module _ (File : Type 0) (C : Conduct File) where
   whole_nil : (h : CommandList) (s : DeskState File) → C.stands s h → Whole C h s [] []
   whole_nil h s stands = record { run = []; messages = refl; is_run = tt; goes_on = tt; texts = refl; stands = stands }
 
-  pub whole_one : (h : CommandList) (s : DeskState File) (m : WireMessage) (reply : Reply) → AnswersOne C h s m reply → reply ≢ Refused StoreFailed → Whole C h s (m ∷ []) (reply_text reply)
+  pub whole_one : (h : CommandList) (s : DeskState File) (m : WireMessage) (reply : Reply) → AnswersOne C h s m reply → reply ≢ Refused StoreFailed → Whole C h s (m ∷ []) (reply_text m reply)
   whole_one h s m reply one_answer goes = record {
     run = record { message = m; reply = reply; accepted = one_answer.accepted } ∷ [];
     messages = refl;
     is_run = (one_answer.answers, λ _. refl, tt);
     goes_on = (goes, tt);
-    texts = sym (append-nil (reply_text reply));
+    texts = sym (append-nil (reply_text m reply));
     stands = subst (λ (cs : List Command). C.stands s (followed_by h cs)) (sym (append-nil (one one_answer.accepted))) (one_answer.goes_to.stands goes);
   }
 
-  pub broken_one : (h : CommandList) (s : DeskState File) (m : WireMessage) (reply : Reply) (part left : List ℕ) (fault : ServeFault) → AnswersOne C h s m reply → reply_text reply ≡ part ++ left
+  pub broken_one : (h : CommandList) (s : DeskState File) (m : WireMessage) (reply : Reply) (part left : List ℕ) (fault : ServeFault) → AnswersOne C h s m reply → reply_text m reply ≡ part ++ left
       → CutsReply fault reply part left → Broken C h s (m ∷ []) part fault
   broken_one h s m reply part left fault one_answer whole cut = record {
     before = [];

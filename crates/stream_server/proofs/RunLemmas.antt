@@ -16,7 +16,7 @@ pub accepted_append : (xs ys : List Exchange) → accepted_in (xs ++ ys) ≡ acc
 accepted_append xs ys = flat_map-append (λ (x : Exchange). one x.accepted) xs ys
 
 pub texts_append : (xs ys : List Exchange) → texts_of (xs ++ ys) ≡ texts_of xs ++ texts_of ys
-texts_append xs ys = flat_map-append (λ (x : Exchange). reply_text x.reply) xs ys
+texts_append xs ys = flat_map-append (λ (x : Exchange). reply_text x.message x.reply) xs ys
 
 pub messages_append : (xs ys : List Exchange) → messages_of (xs ++ ys) ≡ messages_of xs ++ messages_of ys
 messages_append xs ys = map-append (λ (x : Exchange). x.message) xs ys

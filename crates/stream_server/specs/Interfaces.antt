@@ -4,8 +4,9 @@ use Rattle.http_wire.specs.declared.stream.End.{End}
 use Rattle.http_wire.specs.declared.stream.End.TheVariants.{Input, Cut, Fault}
 use Rattle.http_wire.specs.Faults.{refusal_of}
 use Rattle.http_wire.specs.Messages.{WireMessage}
+use Rattle.http_wire.specs.Replies.{refusal_text}
 use Rattle.rollout_machine.specs.Requests.{Asked}
-use Rattle.rollout_machine.specs.Replies.{Reply, Refused}
+use Rattle.rollout_machine.specs.Replies.{Reply}
 use Rattle.mgmt_api.specs.Reading.{manage_reading}
 use Rattle.mgmt_api.specs.Replies.{reply_text as manage_text}
 use Rattle.stream_server.specs.declared.interface.Interface.{Interface}
@@ -15,12 +16,12 @@ use Rattle.stream_server.specs.declared.interface.Interface.TheVariants.{Managem
 unfoldable pub reading : Interface → WireMessage → Asked
 reading Management message = manage_reading message
 
--- the bytes of a reply
-unfoldable pub reply_text : Reply → List ℕ
-reply_text reply = manage_text reply
+-- the bytes of the reply to a message
+unfoldable pub reply_text : WireMessage → Reply → List ℕ
+reply_text message reply = manage_text message reply
 
 -- what is written for the end of a stream: the refusal of a fault
 abbrev pub end_text : End → List ℕ
 end_text Input = []
 end_text Cut = []
-end_text (Fault fault) = reply_text (Refused (refusal_of fault))
+end_text (Fault fault) = refusal_text (refusal_of fault)

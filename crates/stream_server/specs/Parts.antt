@@ -72,7 +72,7 @@ pub record Broken {File : Type 0} (C : Conduct File) (h : CommandList) (s : Desk
   pub goes_on : GoesOn before
   pub part : List ℕ
   pub left : List ℕ
-  pub whole : reply_text last.reply ≡ part ++ left
+  pub whole : reply_text last.message last.reply ≡ part ++ left
   pub texts : sent ≡ texts_of before ++ part
   pub goes_to : GoesTo C s (followed_by h (accepted_in before)) last.reply last.accepted
   pub cut : CutsReply fault last.reply part left
@@ -108,12 +108,12 @@ abbrev pub StopsAt : List ℕ → Option WireFault → Type 0
 StopsAt left None = IsUndecided left
 StopsAt left (Some fault) = IsFault left fault
 
--- a reply of which a part was written
-abbrev pub SendsPart : Option (List ℕ) → Option (List ℕ) → Reply → Bool → ServeFault → Type 0
-SendsPart old new reply failed serve_fault.Read = ⊥
-SendsPart old new reply failed serve_fault.Store = ⊥
-SendsPart old new reply failed serve_fault.Write = (failed ≡ true) × (part : List ℕ) × (left : List ℕ) × (reply_text reply ≡ part ++ left) × Appends old new part
-SendsPart old new reply failed serve_fault.Memory = (reply ≢ Refused StoreFailed) × Appends old new []
+-- a reply of this text, of which a part was written
+abbrev pub SendsPart : Option (List ℕ) → Option (List ℕ) → List ℕ → Reply → Bool → ServeFault → Type 0
+SendsPart old new text reply failed serve_fault.Read = ⊥
+SendsPart old new text reply failed serve_fault.Store = ⊥
+SendsPart old new text reply failed serve_fault.Write = (failed ≡ true) × (part : List ℕ) × (left : List ℕ) × (text ≡ part ++ left) × Appends old new part
+SendsPart old new text reply failed serve_fault.Memory = (reply ≢ Refused StoreFailed) × Appends old new []
 
 -- what `serve` promises, as one record
 pub record ServesStream {File : Type 0} (interface : Interface) (old new : DeskState File) (stream unread out out_new : Option (List ℕ)) (result : Result Served ServeFault) : Type 0 where

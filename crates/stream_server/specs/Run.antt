@@ -25,7 +25,7 @@ accepted_in xs = flat_map (λ x. one x.accepted) xs
 
 -- the bytes of the replies
 abbrev pub texts_of : List Exchange → List ℕ
-texts_of xs = flat_map (λ x. reply_text x.reply) xs
+texts_of xs = flat_map (λ x. reply_text x.message x.reply) xs
 
 -- which reply, and which accepted command, a message may get after these commands
 abbrev pub Answering : Type 1

@@ -50,7 +50,7 @@ fn answer_one<W: Write, D: Handler>(
     ensures reads_nothing { IfErr result (λ fault. fault ≢ ServeFault.Read) }
 {
     let reply = ask(desk, routes, message);
-    write_reply(alloc, writer, &reply)?;
+    write_reply(alloc, writer, message, &reply)?;
     if says_store_failed(&reply) {
         return Err(ServeFault::Store);
     }

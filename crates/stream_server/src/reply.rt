@@ -2,16 +2,19 @@
 
 ghost use Rattle.std.specs.Prelude.{◌≡◌, ◌≢◌, ◌++◌, ℕ, List, true, IfOk, IfErr, OnOk};
 ghost use Rattle.std.specs.Io.KnownBytes.{Appends};
+ghost use Rattle.rollout_machine.specs.Replies.{Refused};
 ghost use Rattle.rollout_machine.specs.Views.{reply_of};
+ghost use Rattle.http_wire.specs.Inbox.{message_of};
+ghost use Rattle.http_wire.specs.Replies.{refusal_text};
 ghost use Rattle.http_wire.specs.Watched.{inner_of, has_failed};
 ghost use Rattle.stream_server.specs.Interfaces.{reply_text};
 ghost use Rattle.stream_server.specs.Headline.{FailsBy};
 ghost use Rattle.stream_server.specs.Parts.{SendsPart};
 
 use crate::ServeFault;
-use crate::bytes::{refusal_text, success_text};
-use http_wire::{Watched, write_all_counted};
-use rollout_model::Reply;
+use crate::bytes::success_text;
+use http_wire::{Message, Watched, refusal_bytes, write_all_counted};
+use rollout_model::{Refusal, Reply};
 use std::alloc::Global;
 use std::io::Write;
 
@@ -31,20 +34,33 @@ fn send<W: Write>(writer: &mut Watched<W>, bytes: &[u8]) -> Result<(), ServeFaul
     }
 }
 
-/// Writes a reply. A refusal takes no memory.
+/// Writes a refusal. It takes no memory.
+pub(crate) fn write_refusal<W: Write>(
+    writer: &mut Watched<W>,
+    refusal: Refusal,
+) -> Result<(), ServeFault>
+    ensures ok { OnOk result (Appends (W.contents (inner_of writer.old)) (W.contents (inner_of writer.new)) (refusal_text refusal)) }
+    ensures write_failed { FailsBy result ServeFault.Write (has_failed writer.old) (has_failed writer.new) }
+    ensures err { IfErr result (SendsPart (W.contents (inner_of writer.old)) (W.contents (inner_of writer.new)) (refusal_text refusal) (Refused refusal) (has_failed writer.new)) }
+{
+    send(writer, refusal_bytes(refusal).as_bytes())
+}
+
+/// Writes the reply to a message. A refusal takes no memory.
 pub(crate) fn write_reply<W: Write>(
     alloc: Global,
     writer: &mut Watched<W>,
+    message: &Message<'_>,
     reply: &Reply,
 ) -> Result<(), ServeFault>
-    ensures ok { OnOk result (Appends (W.contents (inner_of writer.old)) (W.contents (inner_of writer.new)) (reply_text (reply_of reply.now))) }
+    ensures ok { OnOk result (Appends (W.contents (inner_of writer.old)) (W.contents (inner_of writer.new)) (reply_text (message_of message.now) (reply_of reply.now))) }
     ensures write_failed { FailsBy result ServeFault.Write (has_failed writer.old) (has_failed writer.new) }
-    ensures err { IfErr result (SendsPart (W.contents (inner_of writer.old)) (W.contents (inner_of writer.new)) (reply_of reply.now) (has_failed writer.new)) }
+    ensures err { IfErr result (SendsPart (W.contents (inner_of writer.old)) (W.contents (inner_of writer.new)) (reply_text (message_of message.now) (reply_of reply.now)) (reply_of reply.now) (has_failed writer.new)) }
 {
     if let Reply::Refused(refusal) = reply {
-        return send(writer, refusal_text(*refusal).as_bytes());
+        return write_refusal(writer, *refusal);
     }
-    let Ok(bytes) = success_text(alloc, reply) else {
+    let Ok(bytes) = success_text(alloc, message, reply) else {
         return Err(ServeFault::Memory);
     };
     send(writer, bytes.as_slice())

@@ -7,12 +7,11 @@ ghost use Rattle.stream_server.specs.Parts.{ServesStream};
 ghost use Rattle.stream_server.specs.Reading.{ReadsOn};
 
 use crate::answer::answer_all;
-use crate::reply::write_reply;
+use crate::reply::write_refusal;
 use crate::routes::Routes;
 use crate::{ServeFault, Served};
 use http_wire::{End, Inbox, Watched};
 use rollout_machine::Handler;
-use rollout_model::Reply;
 use std::alloc::Global;
 use std::io::{Read, Write};
 
@@ -57,7 +56,7 @@ pub(crate) fn serve_stream<R: Read, W: Write, D: Handler>(
         answered = stop.answered;
         if let Some(fault) = stop.fault {
             let end = End::Fault(fault);
-            write_reply(alloc, writer, &Reply::Refused(fault.refusal()))?;
+            write_refusal(writer, fault.refusal())?;
             return Ok(Served { answered, end });
         }
         if !read_on(reader, &mut inbox)? {

@@ -1,4 +1,4 @@
-use Rattle.std.proofs.Common.{◌≡◌, List, ℕ, Some, slice_get, option_and_then, sym, ap, ◌∙◌}
+use Rattle.std.proofs.Common.{◌≡◌, Some, slice_get, option_and_then, sym, ap, ◌∙◌}
 use Rattle.http_wire.specs.Inbox.{message_of}
 use Rattle.http_wire.specs.Targets.{path_of}
 use Rattle.request_target.specs.Routes.{segments}

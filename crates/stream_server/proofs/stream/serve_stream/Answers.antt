@@ -23,15 +23,15 @@ returns-in_err-stop-clause-serves g c =
     let all = serves_append _ _ _ _ _ _ _ inv.ms taken.0 (Some _) inv.serves taken.3 in
     rw (p.1, p.2) (both _ _ _ _ _ _ _ _ ms (Some _) (Err _) (λ C answers. exits_broken _ C _ _ _ _ _ _ inv.fed _ ms _ inv.reads (taken.1 inv.fed inv.ms inv.begins) answers) all)
 
-pub returns-in_err-write_reply-clause-serves : goal.returns-in_err-write_reply-clause-serves
-returns-in_err-write_reply-clause-serves g c =
-    let p = err_from_is_err_and c.from_residual-in_err-write_reply.result c.from_residual-in_err-write_reply.ensures.1 in
+pub returns-in_err-write_refusal-clause-serves : goal.returns-in_err-write_refusal-clause-serves
+returns-in_err-write_refusal-clause-serves g c =
+    let p = err_from_is_err_and c.from_residual-in_err-write_refusal.result c.from_residual-in_err-write_refusal.ensures.1 in
     let inv = c.loop.invariant.0 in
     let taken = c.in_ok-stop.ensures.serves in
     let ms = inv.ms ++ taken.0 in
     let all = serves_append _ _ _ _ _ _ _ inv.ms taken.0 None inv.serves taken.3 in
     let is = rw c.in-Some.is at c.in_ok-stop.ensures.end in
-    let sent = rw c.refusal.ensures at c.in_err-write_reply.ensures.err in
+    let sent = rw c.refusal.ensures at c.in_err-write_refusal.ensures.err in
     rw (p.1, p.2) (both _ _ _ _ _ _ _ _ ms None (Err _) (λ C answers. exits_fault_part _ C _ _ _ _ _ _ _ inv.fed _ ms c.in-Some.fault _ _ inv.reads (taken.1 inv.fed inv.ms inv.begins) answers sent is) all)
 
 pub returns-in-Some-clause-serves : goal.returns-in-Some-clause-serves
@@ -41,7 +41,7 @@ returns-in-Some-clause-serves g c =
     let ms = inv.ms ++ taken.0 in
     let all = serves_append _ _ _ _ _ _ _ inv.ms taken.0 None inv.serves taken.3 in
     let is = rw c.in-Some.is at c.in_ok-stop.ensures.end in
-    let sent = rw c.refusal.ensures at c.in_ok-write_reply.ensures.ok in
+    let sent = rw c.refusal.ensures at c.in_ok-write_refusal.ensures.ok in
     let count = counts_on c.loop.answered 0 _ inv.ms taken.0 inv.count taken.2 in
     both _ _ _ _ _ _ _ _ ms None (Ok _) (λ C answers. exits_fault _ C _ _ _ _ _ _ _ inv.fed _ ms c.in-Some.fault _ inv.reads (taken.1 inv.fed inv.ms inv.begins) answers sent is count) all
 
