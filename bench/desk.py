@@ -108,6 +108,18 @@ def put(_batch):
     return reply("201 Created", f'{{"accepted":{BATCH}}}')
 
 
+def importing(count):
+    """The request that imports so many targets from a file."""
+    lines = [",".join([id, name, token, " ".join(tags)]) for id, name, token, tags in map(target, range(1, count + 1))]
+    body = "".join(line + "\n" for line in ["controllerid,name,token,tags", *lines])
+    return f"POST /desk/v1/import HTTP/1.1\r\nContent-Length: {len(body)}\r\n\r\n{body}".encode()
+
+
+def imported(count):
+    """The reply to it."""
+    return reply("200 OK", f'{{"accepted":{count}}}')
+
+
 def target_object(number):
     """The object of the target."""
     id, name, _token, tags = target(number)
@@ -150,7 +162,7 @@ NOT_FOUND = reply("404 Not Found", '{"error":"not_found","number":3}')
 def build_twin():
     """Compiles the C program over the system's SQLite."""
     os.makedirs(os.path.dirname(TWIN), exist_ok=True)
-    sources = [os.path.join(HERE, name) for name in ("twin.c", "twin_targets.c")]
+    sources = [os.path.join(HERE, name) for name in ("twin.c", "twin_targets.c", "twin_import.c")]
     subprocess.run(
         ["cc", "-O2", "-Wall", "-D_GNU_SOURCE", "-o", TWIN, *sources, "-lsqlite3"], check=True
     )

@@ -389,8 +389,9 @@ static void answer(const char *head, const char *body, size_t len) {
     if (sscanf(head, "GET /rest/v1/softwaremodules/%lld/artifacts/%lld/download HTTP/1.1%n", &module, &number, &at) == 2 && at)
         return answer_download(module, number);
     const char *post = "POST /rest/v1/softwaremodules HTTP/1.1\r\n", *get = "GET /rest/v1/softwaremodules/";
-    const char *put = "POST /rest/v1/targets HTTP/1.1\r\n", *page = "GET /rest/v1/targets?";
+    const char *put = "POST /rest/v1/targets HTTP/1.1\r\n", *page = "GET /rest/v1/targets?", *import = "POST /desk/v1/import HTTP/1.1\r\n";
     if (!strncmp(head, put, strlen(put))) return answer_put(body, len);
+    if (!strncmp(head, import, strlen(import))) return answer_import(body, len);
     if (!strncmp(head, page, strlen(page))) return answer_page(head + strlen(page));
     if (!strncmp(head, post, strlen(post))) return answer_post(body, len);
     if (!strncmp(head, get, strlen(get))) return answer_get(atoll(head + strlen(get)));

@@ -4,9 +4,11 @@
 #include <stdint.h>
 #include <stdio.h>
 
-enum { BODY_LIMIT = 1048576, TEXT_LIMIT = 128 };
+enum { BODY_LIMIT = 1048576, TEXT_LIMIT = 128, TAG_LIMIT = 16, TARGET_LIMIT = 10000 };
 
 typedef struct { char bytes[TEXT_LIMIT + 1]; size_t len; } Text;
+
+typedef struct { Text id, name, tags[TAG_LIMIT]; int tag_count; unsigned char digest[32]; } Row;
 
 // the store
 extern sqlite3_stmt *begin, *commit, *rollback;
@@ -32,3 +34,6 @@ void prepare_targets(void);
 void finalize_targets(void);
 void answer_put(const char *body, size_t len);
 void answer_page(const char *query);
+int put_row(const Row *row);
+int64_t number_of_targets(void);
+void answer_import(const char *body, size_t len);

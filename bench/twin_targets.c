@@ -4,9 +4,8 @@
 #include <stdlib.h>
 #include <string.h>
 
-enum { ROW_LIMIT = 100, TAG_LIMIT = 16, ATTRIBUTE_LIMIT = 32, TARGET_LIMIT = 10000 };
+enum { ROW_LIMIT = 100, ATTRIBUTE_LIMIT = 32 };
 
-typedef struct { Text id, name, tags[TAG_LIMIT]; int tag_count; unsigned char digest[32]; } Row;
 typedef struct { Text key, value; } Attribute;
 typedef struct { Text id, name, tags[TAG_LIMIT]; Attribute attributes[ATTRIBUTE_LIMIT]; int tag_count, attribute_count; } Target;
 typedef struct { long offset, limit; Text tag; } Page;
@@ -139,8 +138,8 @@ static void put_tags(const Row *row) {
     }
 }
 
-// Puts one row: only what differs is written.
-static void put_row(const Row *row) {
+// Puts one row, and answers whether its target is new: only what differs is written.
+int put_row(const Row *row) {
     bind_text(get_target, 1, &row->id);
     int is_there = row_of(get_target);
     int is_same = is_there && same(&row->name, get_target, 0) && !memcmp(sqlite3_column_blob(get_target, 1), row->digest, 32);
@@ -153,7 +152,10 @@ static void put_row(const Row *row) {
         done(write);
     }
     put_tags(row);
+    return !is_there;
 }
+
+int64_t number_of_targets(void) { return number_in(count_targets); }
 
 // Whether the rows, each of another id, find room.
 static int have_room(int count) {
