@@ -1,5 +1,5 @@
 -- The words in which the meanings of texts are written.
-use Rattle.std.proofs.Common.{◌≡◌, refl, List, [], ℕ, Ok, None}
+use Rattle.std.proofs.Common.{◌≡◌, List, [], ℕ, Ok, None}
 use Rattle.sqlite.specs.Collation.TheVariants.{Binary}
 use Rattle.sqlite.specs.Schema.{Schema}
 use Rattle.sqlite.specs.Term.{Term, col, op2}
