@@ -3,7 +3,9 @@
 
 mod artifact_row;
 mod artifact_texts;
+mod codes;
 mod module_row;
+mod rollout_row;
 mod rollout_texts;
 mod set_row;
 mod set_texts;
@@ -17,6 +19,9 @@ pub use crate::artifact_texts::{
     LIST_ARTIFACTS, PUT_ARTIFACT, PUT_PIECE,
 };
 pub use crate::module_row::{Column, RowFault, read_module_label};
+pub use crate::rollout_row::{
+    StoredAction, StoredRollout, read_group, read_offer, read_stored_action, read_stored_rollout,
+};
 pub use crate::rollout_texts::{
     CREATE_ACTION, CREATE_FEEDBACK, CREATE_MEMBER, CREATE_OFFER, CREATE_ROLLOUT,
     CREATE_ROLLOUT_GROUP,
