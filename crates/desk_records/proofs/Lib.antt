@@ -4,6 +4,7 @@ pub mod SetMeaning
 pub mod ArtifactMeaning
 pub mod TargetMeaning
 pub mod RolloutMeaning
+pub mod ActionMeaning
 mod Comparisons
 pub mod ByteOrder
 pub mod Targets
