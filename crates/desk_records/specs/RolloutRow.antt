@@ -1,6 +1,6 @@
 -- What rows of rollouts, of their groups, of actions and of offers are read as.
-use Rattle.std.specs.Prelude.{◌≡◌, Bool, false, List, [], ◌∷◌, Option, Some, pos}
-use Rattle.std.specs.Option.{is_some}
+use Rattle.std.specs.Prelude.{◌≡◌, ℕ, ◌+◌, Bool, false, cond, nat_eq, List, [], ◌∷◌, Option, Some, pos}
+use Rattle.std.specs.Option.{is_some, option_or}
 use Rattle.std.specs.Str.{is_utf8}
 use Rattle.sqlite_value.specs.declared.value.Value.{Value}
 use Rattle.sqlite_value.specs.declared.value.Value.TheVariants.{Int, Text}
@@ -16,6 +16,7 @@ use Rattle.desk_records.specs.ModuleRow.{has_text}
 use Rattle.desk_records.specs.TargetRow.{has_word}
 use Rattle.desk_records.specs.declared.module_row.Column.{Column}
 use Rattle.desk_records.specs.declared.module_row.Column.TheVariants as rule
+use Rattle.desk_records.specs.declared.rollout_row.ListedAction.{ListedAction}
 use Rattle.desk_records.specs.declared.rollout_row.StoredAction.{StoredAction}
 use Rattle.desk_records.specs.declared.rollout_row.StoredRollout.{StoredRollout}
 
@@ -36,6 +37,13 @@ stored_action rollouts it = record {
   notes = it.1.notes;
   entries = it.1.entries;
 }
+
+-- the actions of a rollout with their numbers, among these, the first of which has a number
+abbrev pub actions_of : List RolloutRecord → ℕ → ℕ → List (ActionRecord × Tally) → List ListedAction
+actions_of rollouts rollout n [] = []
+actions_of rollouts rollout n (it ∷ more) =
+    let rest = actions_of rollouts rollout (n + 1) more in
+    cond (nat_eq it.0.rollout rollout) (record { number = n; action = stored_action rollouts it } ∷ rest) rest
 
 -- ---- in rows
 
@@ -87,6 +95,15 @@ pub record IsActionRow (row : Row) (action : StoredAction) : Type 0 where
 -- the first column of it that breaks its rule
 abbrev pub broken_action_column : Row → Option Column
 broken_action_column row = first_broken ((is_some (number_in (column row 0)), rule.ActionRollout) ∷ (has_size (column row 1), rule.ActionPlace) ∷ (has_word (column row 2), rule.TargetId) ∷ (is_some (flag_in (column row 3)), rule.ActionCanceling) ∷ (is_some (outcome_in (column row 4)), rule.ActionOutcome) ∷ (has_size (column row 5), rule.ActionNotes) ∷ (has_size (column row 6), rule.ActionEntries) ∷ [])
+
+-- the row of an action with its number at the end
+pub record IsListedActionRow (row : Row) (listed : ListedAction) : Type 0 where
+  pub action : IsActionRow row listed.action
+  pub number : number_in (column row 7) ≡ Some listed.number
+
+-- the first column of it that breaks its rule
+abbrev pub broken_listed_action_column : Row → Option Column
+broken_listed_action_column row = option_or (broken_action_column row) (first_broken ((is_some (number_in (column row 7)), rule.ActionNumber) ∷ []))
 
 -- the row of action and kind
 pub record IsOfferRow (row : Row) (offer : Offer) : Type 0 where

@@ -2,6 +2,7 @@
 use Rattle.std.specs.Prelude.{ℕ, ◌+◌, Bool, if◌then◌else◌, List, ◌∷◌, [], Option, pos}
 use Rattle.sqlite_value.specs.declared.value.Value.TheVariants.{Null, Int, Text}
 use Rattle.sqlite_value.specs.Order.{Row}
+use Rattle.rollout_machine.specs.ByteStrings.{same_bytes}
 use Rattle.rollout_machine.specs.Commands.{Bytes}
 use Rattle.rollout_machine.specs.declared.records.GroupRecord.{GroupRecord}
 use Rattle.rollout_machine.specs.declared.records.RolloutRecord.{RolloutRecord}
@@ -24,6 +25,10 @@ told_rollout x = Text x.plan.name ∷ Int (pos x.plan.set_number) ∷ Text x.pla
 
 abbrev pub rollout_row : ℕ → RolloutRecord → Row
 rollout_row n x = Int (pos n) ∷ Null ∷ told_rollout x
+
+-- a rollout of this name
+abbrev pub is_called : Bytes → RolloutRecord → Bool
+is_called name x = same_bytes x.plan.name name
 
 abbrev pub member_row : ℕ → ℕ → Bytes → Row
 member_row = part_row (λ (id : Bytes). Text id ∷ [])

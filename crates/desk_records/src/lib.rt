@@ -25,7 +25,8 @@ pub use crate::artifact_texts::{
 };
 pub use crate::module_row::{Column, RowFault, read_module_label};
 pub use crate::rollout_row::{
-    StoredAction, StoredRollout, read_group, read_offer, read_stored_action, read_stored_rollout,
+    ListedAction, StoredAction, StoredRollout, read_group, read_listed_action, read_offer,
+    read_stored_action, read_stored_rollout,
 };
 pub use crate::rollout_texts::{
     CREATE_MEMBER, CREATE_ROLLOUT, CREATE_ROLLOUT_GROUP, FIND_ROLLOUT, GET_GROUP, GET_ROLLOUT,

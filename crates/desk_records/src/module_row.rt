@@ -45,6 +45,7 @@ pub enum Column {
     GroupOk,
     GroupBad,
     GroupGone,
+    ActionNumber,
     ActionRollout,
     ActionPlace,
     ActionCanceling,

@@ -3,14 +3,14 @@
 ghost use Rattle.std.specs.Prelude.{◌≡◌, ◌⊎◌, IfOk, IfErr, true, false, Some};
 ghost use Rattle.sqlite_value.specs.Order.{column};
 ghost use Rattle.desk_records.specs.ModuleRow.{StoredText};
-ghost use Rattle.desk_records.specs.RolloutRow.{IsActionRow, IsGroupRow, IsOfferRow, IsRolloutRow, broken_action_column, broken_group_column, broken_offer_column, broken_rollout_column, has_filter};
+ghost use Rattle.desk_records.specs.RolloutRow.{IsActionRow, IsGroupRow, IsListedActionRow, IsOfferRow, IsRolloutRow, broken_action_column, broken_group_column, broken_listed_action_column, broken_offer_column, broken_rollout_column, has_filter};
 
 use crate::artifact_row::number_at;
 use crate::codes::{approval_at, flag_at, group_count_at, numbered_at, outcome_at, percentage_at};
 use crate::module_row::{Column, RowFault, row_fault, text_at};
 use crate::target_row::id_at;
 use rollout_machine::{Bounds, GroupRecord, Outcome};
-use rollout_model::{Approval, ControllerId, FilterText, Offer, RolloutNo, RolloutPlan};
+use rollout_model::{ActionNo, Approval, ControllerId, FilterText, Offer, RolloutNo, RolloutPlan};
 use sqlite::Row;
 use std::alloc::Global;
 
@@ -36,6 +36,13 @@ pub struct StoredAction {
     pub notes: u32,
     /// How many entries its history has.
     pub entries: u32,
+}
+
+/// An action with its number.
+#[derive(Clone, Copy)]
+pub struct ListedAction {
+    pub number: ActionNo,
+    pub action: StoredAction,
 }
 
 /// The rollout in a row of its plan, approval, started and paused.
@@ -112,6 +119,16 @@ pub fn read_stored_action(row: &Row) -> Result<StoredAction, RowFault>
         notes,
         entries,
     })
+}
+
+/// The action in a row with its number at the end. Takes no memory.
+pub fn read_listed_action(row: &Row) -> Result<ListedAction, RowFault>
+    ensures ok { IfOk result (IsListedActionRow row.now) }
+    ensures err { IfErr result (λ e. (c : _) × (e ≡ RowFault.Broken c) × (broken_listed_action_column row.now ≡ Some c)) }
+{
+    let action = read_stored_action(row)?;
+    let number = numbered_at(row, 7).ok_or(RowFault::Broken(Column::ActionNumber))?;
+    Ok(ListedAction { number, action })
 }
 
 /// The offer in a row of action and kind. Takes no memory.
