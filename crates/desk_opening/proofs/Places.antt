@@ -26,7 +26,8 @@ use Rattle.sql_calls.specs.Tables.{table_of}
 use Rattle.sql_calls.proofs.Means.{Means}
 use Rattle.desk_records.specs.Schema.{Place, Desk, Modules, Sets, SetModules, Artifacts, Pieces, Targets, TargetTags, TargetAttributes, OfRollouts, Rollouts, Members, Groups, Actions, Feedbacks, Offers, places, table_at, name_of}
 use Rattle.desk_records.proofs.ArtifactMeaning.{create_artifact_makes, create_piece_makes}
-use Rattle.desk_records.proofs.RolloutMeaning.{create_rollout_makes, create_member_makes, create_rollout_group_makes, create_action_makes, create_feedback_makes, create_offer_makes}
+use Rattle.desk_records.proofs.RolloutMeaning.{create_rollout_makes, create_member_makes, create_rollout_group_makes}
+use Rattle.desk_records.proofs.ActionMeaning.{create_action_makes, create_feedback_makes, create_offer_makes}
 use Rattle.desk_records.proofs.TargetMeaning.{create_target_makes, create_target_tag_makes, create_target_attribute_makes}
 use Rattle.desk_records.proofs.SetMeaning.{create_set_makes, create_set_module_makes}
 use Rattle.desk_records.proofs.Meaning.{create_desk_makes, create_module_makes}

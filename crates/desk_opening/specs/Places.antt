@@ -5,7 +5,8 @@ use Rattle.desk_records.specs.declared.texts.TheConstants.{CREATE_DESK, CREATE_M
 use Rattle.desk_records.specs.declared.set_texts.TheConstants.{CREATE_SET, CREATE_SET_MODULE}
 use Rattle.desk_records.specs.declared.artifact_texts.TheConstants.{CREATE_ARTIFACT, CREATE_PIECE}
 use Rattle.desk_records.specs.declared.target_texts.TheConstants.{CREATE_TARGET, CREATE_TARGET_TAG, CREATE_TARGET_ATTRIBUTE}
-use Rattle.desk_records.specs.declared.rollout_texts.TheConstants.{CREATE_ROLLOUT, CREATE_MEMBER, CREATE_ROLLOUT_GROUP, CREATE_ACTION, CREATE_FEEDBACK, CREATE_OFFER}
+use Rattle.desk_records.specs.declared.rollout_texts.TheConstants.{CREATE_ROLLOUT, CREATE_MEMBER, CREATE_ROLLOUT_GROUP}
+use Rattle.desk_records.specs.declared.action_texts.TheConstants.{CREATE_ACTION, CREATE_FEEDBACK, CREATE_OFFER}
 use Rattle.desk_opening.specs.declared.desk_table.DeskTable.{DeskTable}
 use Rattle.desk_opening.specs.declared.desk_table.DeskTable.TheVariants as table
 

@@ -13,40 +13,70 @@ use Rattle.rollout_machine.specs.Records.{Records}
 use Rattle.rollout_machine.specs.declared.records.ActionRecord.{ActionRecord}
 use Rattle.sql_front.specs.Stands.{Stands}
 use Rattle.sql_calls.specs.Apart.{HasNoForeignKey}
-use Rattle.desk_records.specs.Schema.{Place, OfRollouts, RolloutPlace, Rollouts, Members, Groups, Actions, Feedbacks, Offers, table_at, name_of}
+use Rattle.desk_records.specs.Schema.{Place, Desk, Modules, Sets, SetModules, Artifacts, Pieces, Targets, TargetTags, TargetAttributes, OfRollouts, RolloutPlace, Rollouts, Members, Groups, Actions, Feedbacks, Offers, table_at, name_of}
 use Rattle.desk_records.specs.Targets.{are_sorted}
-use Rattle.desk_records.specs.Holds.{HoldsRecords, HasNoRollouts, IsHeld, ledger_of}
+use Rattle.desk_records.specs.Holds.{HoldsKind, HoldsLedger, HoldsRecords, HasNoRollouts, IsHeld, IsHeldOfRollouts, Ledger, IsBeside, ledger_of}
 use Rattle.desk_records.proofs.Places.{place_named, is_named}
 
--- a tree is that of one table alone
-pub one_place : (db : Database) (r : Records) (holds : HoldsRecords db r) (t k : Place) → (holds.spot t).tree ≡ (holds.spot k).tree → t ≡ k
-one_place db r holds t k same =
-    let both : Some (table_at t (holds.spot t).tree) ≡ Some (table_at k (holds.spot k).tree) = sym (holds.stands t).found ∙ ap (λ tree. find (λ (x : Table). x.tree == tree) db.schema.tables) same ∙ (holds.stands k).found in
-    let tables : table_at t (holds.spot t).tree ≡ table_at k (holds.spot k).tree = cc in
-    let named : Some t ≡ Some k = sym (is_named t) ∙ ap (λ (x : Table). place_named x.name) tables ∙ is_named k in
-    cc
+module _ (IsKind : Records → Type 0) (now next : Ledger) (old new : Database) (was : HoldsKind IsKind old now) where
+  -- a tree is that of one table alone
+  one_place : (t k : Place) → (was.spot t).tree ≡ (was.spot k).tree → t ≡ k
+  one_place t k same =
+      let both : Some (table_at t (was.spot t).tree) ≡ Some (table_at k (was.spot k).tree) = sym (was.stands t).found ∙ ap (λ tree. find (λ (x : Table). x.tree == tree) old.schema.tables) same ∙ (was.stands k).found in
+      let tables : table_at t (was.spot t).tree ≡ table_at k (was.spot k).tree = cc in
+      let named : Some t ≡ Some k = sym (is_named t) ∙ ap (λ (x : Table). place_named x.name) tables ∙ is_named k in
+      cc
 
--- One place holds the new records, and the other places, whose rows stay, hold them too.
+  -- One place holds the new ledger, and the other places, whose rows stay, hold it too.
+  pub kind_after : (k : Place) → new.schema ≡ old.schema → IsDatabase new → IsHeld next k (new.trees (was.spot k).tree)
+      → AllByRecursion (λ (s : Table). HasNoForeignKey old.schema s.tree → s.tree ≢ (was.spot k).tree → new.trees s.tree ≡ old.trees s.tree) old.schema.tables
+      → ((t : Place) → t ≢ k → (rows : List Row) → IsHeld now t rows → IsHeld next t rows) → are_sorted next.records.targets ≡ true → IsKind next.records → HoldsKind IsKind new next
+  kind_after k schema sound there others same sorted kind = record {
+    sound = sound;
+    spot = was.spot;
+    stands = λ t. subst (λ s. Stands s (name_of t) (was.spot t).at (table_at t (was.spot t).tree)) (sym schema) (was.stands t);
+    rows = rows;
+    sorted = sorted;
+    bare = kind;
+  }
+    where
+      kept : (t : Place) → (was.spot t).tree ≢ (was.spot k).tree → new.trees (was.spot t).tree ≡ old.trees (was.spot t).tree
+      kept t apart = all-slice_get (λ (s : Table). HasNoForeignKey old.schema s.tree → s.tree ≢ (was.spot k).tree → new.trees s.tree ≡ old.trees s.tree) old.schema.tables (was.spot t).at (table_at t (was.spot t).tree) (was.stands t).got others (was.stands t).keyless apart
+
+      rows : (t : Place) → IsHeld next t (new.trees (was.spot t).tree)
+      rows t = elim (cases_eq (was.spot t).tree (was.spot k).tree) [
+        | inl is ↦ let here : t ≡ k = one_place t k is in subst (λ x. IsHeld next x (new.trees (was.spot x).tree)) (sym here) there
+        | inr apart ↦ subst (IsHeld next t) (sym (kept t apart)) (same t (λ e. apart (ap (λ x. (was.spot x).tree) e)) _ (was.rows t))
+      ]
+
+-- of records
 pub holds_after : (k : Place) (now next : Records) (old new : Database) (was : HoldsRecords old now) → new.schema ≡ old.schema → IsDatabase new → IsHeld (ledger_of next) k (new.trees (was.spot k).tree)
     → AllByRecursion (λ (s : Table). HasNoForeignKey old.schema s.tree → s.tree ≢ (was.spot k).tree → new.trees s.tree ≡ old.trees s.tree) old.schema.tables
     → ((t : Place) → t ≢ k → (rows : List Row) → IsHeld (ledger_of now) t rows → IsHeld (ledger_of next) t rows) → are_sorted next.targets ≡ true → HasNoRollouts next → HoldsRecords new next
-holds_after k now next old new was schema sound there others same sorted bare = record {
-  sound = sound;
-  spot = was.spot;
-  stands = λ t. subst (λ s. Stands s (name_of t) (was.spot t).at (table_at t (was.spot t).tree)) (sym schema) (was.stands t);
-  rows = rows;
-  sorted = sorted;
-  bare = bare;
-}
-  where
-    kept : (t : Place) → (was.spot t).tree ≢ (was.spot k).tree → new.trees (was.spot t).tree ≡ old.trees (was.spot t).tree
-    kept t apart = all-slice_get (λ (s : Table). HasNoForeignKey old.schema s.tree → s.tree ≢ (was.spot k).tree → new.trees s.tree ≡ old.trees s.tree) old.schema.tables (was.spot t).at (table_at t (was.spot t).tree) (was.stands t).got others (was.stands t).keyless apart
+holds_after k now next old new was = kind_after HasNoRollouts (ledger_of now) (ledger_of next) old new was k
 
-    rows : (t : Place) → IsHeld (ledger_of next) t (new.trees (was.spot t).tree)
-    rows t = elim (cases_eq (was.spot t).tree (was.spot k).tree) [
-      | inl is ↦ let here : t ≡ k = one_place old now was t k is in subst (λ x. IsHeld (ledger_of next) x (new.trees (was.spot x).tree)) (sym here) there
-      | inr apart ↦ subst (IsHeld (ledger_of next) t) (sym (kept t apart)) (same t (λ e. apart (ap (λ x. (was.spot x).tree) e)) _ (was.rows t))
-    ]
+-- what one statement leaves of the tables, where it writes the rows of one place
+pub record Leaves (old new : Database) (tree : ℕ) : Type 0 where
+  pub schema : new.schema ≡ old.schema
+  pub sound : IsDatabase new
+  pub others : AllByRecursion (λ (s : Table). HasNoForeignKey old.schema s.tree → s.tree ≢ tree → new.trees s.tree ≡ old.trees s.tree) old.schema.tables
+
+-- of any ledger, where the places are those of rollouts
+pub ledger_after : (k : RolloutPlace) (now next : Ledger) (old new : Database) (was : HoldsLedger old now) → Leaves old new (was.spot (OfRollouts k)).tree → IsHeldOfRollouts next k (new.trees (was.spot (OfRollouts k)).tree)
+    → IsBeside now next → ((t : RolloutPlace) → t ≢ k → (rows : List Row) → IsHeldOfRollouts now t rows → IsHeldOfRollouts next t rows) → HoldsLedger new next
+ledger_after k now next old new was left there beside same = kind_after (λ r. Unit {0}) now next old new was (OfRollouts k) left.schema left.sound there left.others only (ap are_sorted beside.targets ∙ was.sorted) tt
+  where
+    only : (t : Place) → t ≢ OfRollouts k → (rows : List Row) → IsHeld now t rows → IsHeld next t rows
+    only Desk apart rows held = rw beside.approval held
+    only Modules apart rows held = rw beside.modules held
+    only Sets apart rows held = rw beside.sets held
+    only SetModules apart rows held = rw beside.sets held
+    only Artifacts apart rows held = rw beside.artifacts held
+    only Pieces apart rows held = rw beside.artifacts held
+    only Targets apart rows held = rw beside.targets held
+    only TargetTags apart rows held = rw beside.targets held
+    only TargetAttributes apart rows held = rw beside.targets held
+    only (OfRollouts t) apart rows held = same t (λ e. apart (ap OfRollouts e)) rows held
 
 -- ---- the tables of rollouts stay as they are
 

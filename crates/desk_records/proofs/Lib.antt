@@ -4,6 +4,7 @@ pub mod SetMeaning
 pub mod ArtifactMeaning
 pub mod TargetMeaning
 pub mod RolloutMeaning
+pub mod ActionMeaning
 mod Comparisons
 pub mod ByteOrder
 pub mod Targets
@@ -11,6 +12,7 @@ pub mod Attributes
 mod NumberedReads
 mod Parts
 mod PieceLists
+mod PartReads
 pub mod Sets
 pub mod Places
 pub mod HoldsAfter
@@ -21,3 +23,5 @@ pub mod Artifacts
 pub mod ArtifactRecords
 pub mod TargetRecords
 pub mod AttributeRecords
+pub mod RolloutRecords
+pub mod ActionRecords

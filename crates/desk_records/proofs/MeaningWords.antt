@@ -1,11 +1,11 @@
 -- The words in which the meanings of texts are written.
-use Rattle.std.proofs.Common.{◌≡◌, refl, List, [], ℕ, Ok, None}
+use Rattle.std.proofs.Common.{◌≡◌, List, [], ℕ, Ok, None}
 use Rattle.sqlite.specs.Collation.TheVariants.{Binary}
 use Rattle.sqlite.specs.Schema.{Schema}
 use Rattle.sqlite.specs.Term.{Term, col, op2}
 use Rattle.sqlite.specs.Listing.{understood}
 use Rattle.sqlite_sql.specs.declared.ops.BinaryOp.TheVariants.{Compare}
-use Rattle.sqlite_sql.specs.declared.ops.CompareOp.TheVariants.{Eq}
+use Rattle.sqlite_sql.specs.declared.ops.CompareOp.TheVariants.{Eq, Le, Ge}
 use Rattle.sqlite_resolve.specs.declared.compiled.Compiled.{Compiled}
 use Rattle.sqlite_resolve.specs.Compile.{compiled}
 use Rattle.sql_calls.proofs.Means.{Means}
@@ -20,3 +20,11 @@ is_equal = op2 (Compare Eq Binary)
 -- a column is the parameter at a place
 abbrev pub at_key : ℕ → ℕ → Term
 at_key place param = is_equal (col 1 place) (col 0 param)
+
+-- a column is the parameter at a place or more
+abbrev pub at_least : ℕ → ℕ → Term
+at_least place param = op2 (Compare Ge Binary) (col 1 place) (col 0 param)
+
+-- .. or less
+abbrev pub at_most : ℕ → ℕ → Term
+at_most place param = op2 (Compare Le Binary) (col 1 place) (col 0 param)

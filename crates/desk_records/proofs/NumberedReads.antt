@@ -1,25 +1,35 @@
 -- What the usual reads of a table show whose k-th row has number k: one that passes a test, the last number, one by its number.
-use Rattle.std.proofs.Common.{◌≡◌, ◌≤◌, ◌==◌, ◌||◌, ℕ, zero, suc, ◌+◌, pos, List, [], ◌∷◌, map, filter, length, slice_get, Bool, true, false, not, Option, Some, None, option_map, refl, sym, ap, ap₂, subst, ◌∙◌, arith, IsPermutation}
+use Rattle.std.proofs.Common.{◌≡◌, ◌≤◌, ◌==◌, ◌||◌, ◌&&◌, ℕ, zero, suc, ◌+◌, pos, List, [], ◌∷◌, map, filter, take, drop, length, slice_get, Bool, true, false, not, Option, Some, None, option_map, refl, sym, ap, ap₂, subst, ◌∙◌, arith, IsPermutation}
 use Rattle.std.specs.List.{list_any}
 use Rattle.std.specs.Option.{is_some, option_to_list}
 use Rattle.std.proofs.lemmas.Bool.Decides.{nat_tests}
-use Rattle.std.proofs.lemmas.List.{length-map}
+use Rattle.std.proofs.lemmas.List.{length-map, take-map, drop-map}
 use Rattle.std.proofs.lemmas.List.Sorted.{length_permutation}
 use Rattle.sqlite_value.specs.declared.value.Value.TheVariants.{Null, Int}
-use Rattle.sqlite_value.specs.Order.{Row, column}
+use Rattle.sqlite_value.specs.Order.{Row, column, value_cmp}
 use Rattle.sqlite_trees.specs.Tree.{rowid}
-use Rattle.sqlite.specs.Term.{Term}
+use Rattle.sqlite.specs.Term.{Term, col}
+use Rattle.sqlite.specs.Tree.{Trees}
+use Rattle.sqlite.specs.Query.{IsAnswer}
+use Rattle.sqlite.specs.Program.{overlay}
 use Rattle.sqlite.specs.Command.{Command}
 use Rattle.sqlite.specs.Command.TheVariants.{Select}
 use Rattle.sqlite.specs.Effect.{Database, Reads as Shows}
 use Rattle.sqlite.proofs.Callers.{one_permutation}
-use Rattle.sqlite_keyed.proofs.ListLemmas.{none_counted}
+use Rattle.sqlite_keyed.proofs.ListLemmas.{all_of, filter_all, none_counted}
 use Rattle.sql_calls.specs.Keyed.{rows_from}
 use Rattle.sql_calls.proofs.Changes.{ShowsFirst}
 use Rattle.sql_calls.proofs.Selects.{simple, passes, shown_of, simple_rows}
-use Rattle.sql_calls.proofs.NumberedTables.{has_number, filter_numbered, at_number, row_of, last_query, last_number, last_of}
+use Rattle.sql_calls.proofs.NumberedTables.{number_query, numbered_in_order, has_number, filter_numbered, at_number, row_of, last_query, last_number, last_of}
 use Rattle.rollout_machine.specs.ByteStrings.{item_numbered}
+use Rattle.std.specs.Ordering.{is_eq}
+use Rattle.sqlite.specs.Collation.TheVariants.{Binary}
+use Rattle.sqlite_sql.specs.declared.ops.BinaryOp.TheVariants.{Compare}
+use Rattle.sqlite_sql.specs.declared.ops.CompareOp.TheVariants.{Eq}
+use Rattle.sqlite_sql.specs.Ops.{binary, is_true}
 use Rattle.desk_records.specs.Modules.{IsLastRow}
+use Rattle.desk_records.proofs.Comparisons.{and_true, judged}
+use Rattle.desk_records.proofs.MeaningWords.{at_key}
 
 -- ---- whether a row passes
 
@@ -111,3 +121,22 @@ module _ {X : Type 0} (f : ℕ → X → Row) where
         pub gets : (number : ℕ) → 1 ≤ number → (row : Option Row) → ShowsFirst (Select (record { lets = []; body = simple tree test shows }) names) db (Int (pos number) ∷ []) row → row ≡ option_map (shown_at number) (item_numbered xs number)
         gets zero least row shown = absurd (omega (arith, least))
         gets (suc k) least row shown = first_found (shown_of shows (Int (pos (suc k)) ∷ [])) (f (suc k)) (Select (record { lets = []; body = simple tree test shows }) names) db (Int (pos (suc k)) ∷ []) (slice_get xs k) (numbered_rows k) row shown
+
+-- WHERE number = ?1
+pub passes_number : {X : Type 0} (f : ℕ → X → Row) (ids : (n : ℕ) (x : X) → rowid (f n x) ≡ Int (pos n)) (number n : ℕ) (x : X) → passes (at_key 0 0 ∷ []) (Int (pos number) ∷ []) (f n x) ≡ has_number f ids number (f n x)
+unfolding binary
+passes_number f ids number n x =
+    ap (λ v. is_true (binary (Compare Eq Binary) v (Int (pos number))) && true) (ids n x) ∙ and_true _ ∙ judged _ ∙ sym (ap (λ v. is_eq (value_cmp v (Int (pos number)))) (ids n x))
+
+-- the rows of a page, in the order of their numbers
+pub pages : {X : Type 0} (f : ℕ → X → Row) (ids : (n : ℕ) (x : X) → rowid (f n x) ≡ Int (pos n)) (told : X → Row) (shows : List Term) (limit offset : ℕ) → ((n : ℕ) (x : X) → shown_of shows (Int (pos limit) ∷ Int (pos offset) ∷ []) (f n x) ≡ told x)
+    → (tree : ℕ) (db : Trees) (xs : List X) → db tree ≡ rows_from f 1 xs → (rows : List Row) → IsAnswer (number_query f ids tree [] shows (col 0 0) (col 0 1)) (overlay db []) (Int (pos limit) ∷ Int (pos offset) ∷ []) rows
+    → rows ≡ map told (take limit (drop offset xs))
+pages {X = X} f ids told shows limit offset is tree db xs has rows answer =
+    numbered_in_order f ids tree [] shows (col 0 0) (col 0 1) (Int (pos limit) ∷ Int (pos offset) ∷ []) db xs has rows answer
+    ∙ ap (λ l. take limit (drop offset (map (shown_of shows (Int (pos limit) ∷ Int (pos offset) ∷ [])) l))) (filter_all _ _ (all_of _ (λ x. refl) _))
+    ∙ ap (λ l. take limit (drop offset l)) (each 1 xs) ∙ ap (take limit) (drop-map told offset xs) ∙ take-map told limit (drop offset xs)
+  where
+    each : (n : ℕ) (xs : List X) → map (shown_of shows (Int (pos limit) ∷ Int (pos offset) ∷ [])) (rows_from f n xs) ≡ map told xs
+    each n [] = refl
+    each n (x ∷ xs) = ap₂ ◌∷◌ (is n x) (each (n + 1) xs)

@@ -1,11 +1,27 @@
 -- Written by tools/meanings.
 -- What the texts of src/rollout_texts.rt mean, wherever their tables stand.
-use Rattle.std.proofs.Common.{refl, codes}
+use Rattle.std.proofs.Common.{refl, List, [], ◌∷◌, ℕ, codes, pos, negsuc, true, false}
+use Rattle.sqlite.specs.declared.types.Value.TheVariants.{Null, Int}
+use Rattle.sqlite.specs.Collation.TheVariants.{Binary}
+use Rattle.sqlite.specs.Schema.{Schema}
+use Rattle.sqlite.specs.Command.TheVariants.{Select, Insert, Update}
+use Rattle.sqlite.specs.Source.TheVariants.{Values}
+use Rattle.sqlite.specs.Query.{Query}
+use Rattle.sqlite.specs.Term.{Term, lit, col}
 use Rattle.sqlite_tied.specs.Compute.{everything}
-use Rattle.sqlite_resolve.specs.Compile.{first, is_reserved}
-use Rattle.sql_front.proofs.Write.{Makes}
-use Rattle.desk_records.specs.declared.rollout_texts.TheConstants.{CREATE_ROLLOUT, CREATE_MEMBER, CREATE_ROLLOUT_GROUP, CREATE_ACTION, CREATE_FEEDBACK, CREATE_OFFER}
-use Rattle.desk_records.specs.Schema.{rollout_table, member_table, group_table, action_table, feedback_table, offer_table}
+use Rattle.sqlite_resolve.specs.Compile.{first, new_rows, is_reserved}
+use Rattle.sqlite_resolve.specs.Expr.{combine}
+use Rattle.sqlite_resolve.specs.Select.{named, paging}
+use Rattle.sqlite_resolve.specs.Write.{updated}
+use Rattle.sql_front.specs.Stands.{Stands}
+use Rattle.sql_front.proofs.Texts.{Reads, reads_known}
+use Rattle.sql_front.proofs.Write.{Adds, Makes, adds_known}
+use Rattle.sql_front.proofs.Change.{Changes, changes_known}
+use Rattle.sql_calls.proofs.Means.{Means}
+use Rattle.sql_calls.proofs.Selects.{simple, by}
+use Rattle.desk_records.specs.declared.rollout_texts.TheConstants.{CREATE_ROLLOUT, CREATE_MEMBER, CREATE_ROLLOUT_GROUP, FIND_ROLLOUT, LAST_ROLLOUT, GET_ROLLOUT, LIST_ROLLOUTS, LIST_GROUPS, GET_GROUP, HOLDING_GROUP, PUT_ROLLOUT, SET_ROLLOUT, PUT_MEMBER, PUT_GROUP, SET_GROUP}
+use Rattle.desk_records.specs.Schema.{rollout_table, member_table, group_table}
+use Rattle.desk_records.proofs.MeaningWords.{means_of, at_key, at_least, at_most}
 
 pub create_rollout_makes : Makes CREATE_ROLLOUT.now (codes "rollout") (rollout_table 0)
 unfolding first is_reserved everything
@@ -19,14 +35,279 @@ pub create_rollout_group_makes : Makes CREATE_ROLLOUT_GROUP.now (codes "rollout_
 unfolding first is_reserved everything
 create_rollout_group_makes = record { parsed = _; made = _; read = refl; statement = refl; named = refl; unreserved = refl; defined = refl; whole = refl }
 
-pub create_action_makes : Makes CREATE_ACTION.now (codes "action") (action_table 0)
-unfolding first is_reserved everything
-create_action_makes = record { parsed = _; made = _; read = refl; statement = refl; named = refl; unreserved = refl; defined = refl; whole = refl }
+abbrev pub same_name : List Term
+same_name = at_key 2 0 ∷ []
 
-pub create_feedback_makes : Makes CREATE_FEEDBACK.now (codes "feedback") (feedback_table 0)
-unfolding first is_reserved everything
-create_feedback_makes = record { parsed = _; made = _; read = refl; statement = refl; named = refl; unreserved = refl; defined = refl; whole = refl }
+find_rollout_reads : (tree : ℕ) → Reads FIND_ROLLOUT.now (codes "rollout") (rollout_table tree) (simple tree same_name (col 1 0 ∷ [])) (codes "number" ∷ [])
+unfolding first combine named paging everything
+find_rollout_reads tree = record {
+  parsed = _;
+  select = _;
+  page = _;
+  shown = _;
+  read = refl;
+  selects = record { statement = refl; formats = refl; with = refl; others = refl };
+  one = record { source = _; from = refl; table = refl; alias = refl; on = refl; using = refl; is_inner = refl; group = refl; having = refl; shown = (tt, tt); filter = ((refl, λ cx how x y. refl), tt, tt); sorts = tt };
+  paged = λ s. refl;
+  named_alone = refl;
+  known = refl;
+  is_body = refl;
+  are_columns = refl;
+  over = refl;
+  fits = refl;
+}
 
-pub create_offer_makes : Makes CREATE_OFFER.now (codes "offer") (offer_table 0)
-unfolding first is_reserved everything
-create_offer_makes = record { parsed = _; made = _; read = refl; statement = refl; named = refl; unreserved = refl; defined = refl; whole = refl }
+pub find_rollout_is : (s : Schema) (at tree : ℕ) → Stands s (codes "rollout") at (rollout_table tree) → Means s FIND_ROLLOUT.now (Select (record { lets = []; body = simple tree same_name (col 1 0 ∷ []) }) (codes "number" ∷ []))
+find_rollout_is s at tree stands = means_of s FIND_ROLLOUT.now _ (reads_known _ _ _ _ _ (find_rollout_reads tree) s at stands) refl refl
+
+abbrev pub last_rollout_query : ℕ → Query
+last_rollout_query tree = by (simple tree [] (col 1 0 ∷ [])) ((col 1 0, record { descending = true; collation = Binary }) ∷ []) (lit (Int (pos 1))) (lit (Int (pos 0)))
+
+last_rollout_reads : (tree : ℕ) → Reads LAST_ROLLOUT.now (codes "rollout") (rollout_table tree) (last_rollout_query tree) (codes "number" ∷ [])
+unfolding first combine named paging everything
+last_rollout_reads tree = record {
+  parsed = _;
+  select = _;
+  page = _;
+  shown = _;
+  read = refl;
+  selects = record { statement = refl; formats = refl; with = refl; others = refl };
+  one = record { source = _; from = refl; table = refl; alias = refl; on = refl; using = refl; is_inner = refl; group = refl; having = refl; shown = (tt, tt); filter = tt; sorts = (tt, tt) };
+  paged = λ s. refl;
+  named_alone = refl;
+  known = refl;
+  is_body = refl;
+  are_columns = refl;
+  over = refl;
+  fits = refl;
+}
+
+pub last_rollout_is : (s : Schema) (at tree : ℕ) → Stands s (codes "rollout") at (rollout_table tree) → Means s LAST_ROLLOUT.now (Select (record { lets = []; body = last_rollout_query tree }) (codes "number" ∷ []))
+last_rollout_is s at tree stands = means_of s LAST_ROLLOUT.now _ (reads_known _ _ _ _ _ (last_rollout_reads tree) s at stands) refl refl
+
+abbrev pub rollout_names : List (List ℕ)
+rollout_names = codes "name" ∷ codes "dset" ∷ codes "filter_text" ∷ codes "groups" ∷ codes "success" ∷ codes "error" ∷ codes "approval" ∷ codes "started" ∷ codes "paused" ∷ []
+
+abbrev pub rollout_columns : List Term
+rollout_columns = col 1 2 ∷ col 1 3 ∷ col 1 4 ∷ col 1 5 ∷ col 1 6 ∷ col 1 7 ∷ col 1 8 ∷ col 1 9 ∷ col 1 10 ∷ []
+
+get_rollout_reads : (tree : ℕ) → Reads GET_ROLLOUT.now (codes "rollout") (rollout_table tree) (simple tree (at_key 0 0 ∷ []) rollout_columns) rollout_names
+unfolding first combine named paging everything
+get_rollout_reads tree = record {
+  parsed = _;
+  select = _;
+  page = _;
+  shown = _;
+  read = refl;
+  selects = record { statement = refl; formats = refl; with = refl; others = refl };
+  one = record { source = _; from = refl; table = refl; alias = refl; on = refl; using = refl; is_inner = refl; group = refl; having = refl; shown = (tt, (tt, (tt, (tt, (tt, (tt, (tt, (tt, (tt, tt))))))))); filter = ((refl, λ cx how x y. refl), tt, tt); sorts = tt };
+  paged = λ s. refl;
+  named_alone = refl;
+  known = refl;
+  is_body = refl;
+  are_columns = refl;
+  over = refl;
+  fits = refl;
+}
+
+pub get_rollout_is : (s : Schema) (at tree : ℕ) → Stands s (codes "rollout") at (rollout_table tree) → Means s GET_ROLLOUT.now (Select (record { lets = []; body = simple tree (at_key 0 0 ∷ []) rollout_columns }) rollout_names)
+get_rollout_is s at tree stands = means_of s GET_ROLLOUT.now _ (reads_known _ _ _ _ _ (get_rollout_reads tree) s at stands) refl refl
+
+abbrev pub list_rollouts_query : ℕ → Query
+list_rollouts_query tree = by (simple tree [] rollout_columns) ((col 1 0, record { descending = false; collation = Binary }) ∷ []) (col 0 0) (col 0 1)
+
+list_rollouts_reads : (tree : ℕ) → Reads LIST_ROLLOUTS.now (codes "rollout") (rollout_table tree) (list_rollouts_query tree) rollout_names
+unfolding first combine named paging everything
+list_rollouts_reads tree = record {
+  parsed = _;
+  select = _;
+  page = _;
+  shown = _;
+  read = refl;
+  selects = record { statement = refl; formats = refl; with = refl; others = refl };
+  one = record { source = _; from = refl; table = refl; alias = refl; on = refl; using = refl; is_inner = refl; group = refl; having = refl; shown = (tt, (tt, (tt, (tt, (tt, (tt, (tt, (tt, (tt, tt))))))))); filter = tt; sorts = (tt, tt) };
+  paged = λ s. refl;
+  named_alone = refl;
+  known = refl;
+  is_body = refl;
+  are_columns = refl;
+  over = refl;
+  fits = refl;
+}
+
+pub list_rollouts_is : (s : Schema) (at tree : ℕ) → Stands s (codes "rollout") at (rollout_table tree) → Means s LIST_ROLLOUTS.now (Select (record { lets = []; body = list_rollouts_query tree }) rollout_names)
+list_rollouts_is s at tree stands = means_of s LIST_ROLLOUTS.now _ (reads_known _ _ _ _ _ (list_rollouts_reads tree) s at stands) refl refl
+
+abbrev pub group_names : List (List ℕ)
+group_names = codes "number" ∷ codes "first_place" ∷ codes "last_place" ∷ codes "started" ∷ codes "ok" ∷ codes "bad" ∷ codes "gone" ∷ []
+
+abbrev pub of_rollout : List Term
+of_rollout = at_key 1 0 ∷ []
+
+abbrev pub group_columns : List Term
+group_columns = col 1 2 ∷ col 1 3 ∷ col 1 4 ∷ col 1 5 ∷ col 1 6 ∷ col 1 7 ∷ col 1 8 ∷ []
+
+abbrev pub list_groups_query : ℕ → Query
+list_groups_query tree = by (simple tree of_rollout group_columns) ((col 1 2, record { descending = false; collation = Binary }) ∷ []) (lit (Int (negsuc 0))) (lit (Int (pos 0)))
+
+list_groups_reads : (tree : ℕ) → Reads LIST_GROUPS.now (codes "rollout_group") (group_table tree) (list_groups_query tree) group_names
+unfolding first combine named paging everything
+list_groups_reads tree = record {
+  parsed = _;
+  select = _;
+  page = _;
+  shown = _;
+  read = refl;
+  selects = record { statement = refl; formats = refl; with = refl; others = refl };
+  one = record { source = _; from = refl; table = refl; alias = refl; on = refl; using = refl; is_inner = refl; group = refl; having = refl; shown = (tt, (tt, (tt, (tt, (tt, (tt, (tt, tt))))))); filter = ((refl, λ cx how x y. refl), tt, tt); sorts = (tt, tt) };
+  paged = λ s. refl;
+  named_alone = refl;
+  known = refl;
+  is_body = refl;
+  are_columns = refl;
+  over = refl;
+  fits = refl;
+}
+
+pub list_groups_is : (s : Schema) (at tree : ℕ) → Stands s (codes "rollout_group") at (group_table tree) → Means s LIST_GROUPS.now (Select (record { lets = []; body = list_groups_query tree }) group_names)
+list_groups_is s at tree stands = means_of s LIST_GROUPS.now _ (reads_known _ _ _ _ _ (list_groups_reads tree) s at stands) refl refl
+
+abbrev pub of_group : List Term
+of_group = at_key 1 0 ∷ at_key 2 1 ∷ []
+
+abbrev pub get_group_query : ℕ → Query
+get_group_query tree = by (simple tree of_group group_columns) ((col 1 2, record { descending = false; collation = Binary }) ∷ []) (lit (Int (negsuc 0))) (lit (Int (pos 0)))
+
+get_group_reads : (tree : ℕ) → Reads GET_GROUP.now (codes "rollout_group") (group_table tree) (get_group_query tree) group_names
+unfolding first combine named paging everything
+get_group_reads tree = record {
+  parsed = _;
+  select = _;
+  page = _;
+  shown = _;
+  read = refl;
+  selects = record { statement = refl; formats = refl; with = refl; others = refl };
+  one = record { source = _; from = refl; table = refl; alias = refl; on = refl; using = refl; is_inner = refl; group = refl; having = refl; shown = (tt, (tt, (tt, (tt, (tt, (tt, (tt, tt))))))); filter = ((refl, λ cx how x y. refl), ((refl, λ cx how x y. refl), tt, tt), ((refl, λ cx how x y. refl), tt, tt)); sorts = (tt, tt) };
+  paged = λ s. refl;
+  named_alone = refl;
+  known = refl;
+  is_body = refl;
+  are_columns = refl;
+  over = refl;
+  fits = refl;
+}
+
+pub get_group_is : (s : Schema) (at tree : ℕ) → Stands s (codes "rollout_group") at (group_table tree) → Means s GET_GROUP.now (Select (record { lets = []; body = get_group_query tree }) group_names)
+get_group_is s at tree stands = means_of s GET_GROUP.now _ (reads_known _ _ _ _ _ (get_group_reads tree) s at stands) refl refl
+
+abbrev pub holding : List Term
+holding = at_key 1 0 ∷ at_most 3 1 ∷ at_least 4 1 ∷ []
+
+abbrev pub holding_group_query : ℕ → Query
+holding_group_query tree = by (simple tree holding group_columns) ((col 1 2, record { descending = false; collation = Binary }) ∷ []) (lit (Int (negsuc 0))) (lit (Int (pos 0)))
+
+holding_group_reads : (tree : ℕ) → Reads HOLDING_GROUP.now (codes "rollout_group") (group_table tree) (holding_group_query tree) group_names
+unfolding first combine named paging everything
+holding_group_reads tree = record {
+  parsed = _;
+  select = _;
+  page = _;
+  shown = _;
+  read = refl;
+  selects = record { statement = refl; formats = refl; with = refl; others = refl };
+  one = record { source = _; from = refl; table = refl; alias = refl; on = refl; using = refl; is_inner = refl; group = refl; having = refl; shown = (tt, (tt, (tt, (tt, (tt, (tt, (tt, tt))))))); filter = ((refl, λ cx how x y. refl), ((refl, λ cx how x y. refl), ((refl, λ cx how x y. refl), tt, tt), ((refl, λ cx how x y. refl), tt, tt)), ((refl, λ cx how x y. refl), tt, tt)); sorts = (tt, tt) };
+  paged = λ s. refl;
+  named_alone = refl;
+  known = refl;
+  is_body = refl;
+  are_columns = refl;
+  over = refl;
+  fits = refl;
+}
+
+pub holding_group_is : (s : Schema) (at tree : ℕ) → Stands s (codes "rollout_group") at (group_table tree) → Means s HOLDING_GROUP.now (Select (record { lets = []; body = holding_group_query tree }) group_names)
+holding_group_is s at tree stands = means_of s HOLDING_GROUP.now _ (reads_known _ _ _ _ _ (holding_group_reads tree) s at stands) refl refl
+
+abbrev pub rollout_terms : List Term
+rollout_terms = col 0 0 ∷ lit Null ∷ col 0 1 ∷ col 0 2 ∷ col 0 3 ∷ col 0 4 ∷ col 0 5 ∷ col 0 6 ∷ col 0 7 ∷ lit (Int (pos 0)) ∷ lit (Int (pos 0)) ∷ []
+
+put_rollout_adds : (tree : ℕ) → Adds PUT_ROLLOUT.now (codes "rollout") (rollout_table tree) (Values rollout_terms 11)
+unfolding first new_rows everything
+put_rollout_adds tree = record { parsed = _; columns = _; rows = _; read = refl; statement = refl; formats = refl; fits = λ s. refl }
+
+pub put_rollout_is : (s : Schema) (at tree : ℕ) → Stands s (codes "rollout") at (rollout_table tree) → Means s PUT_ROLLOUT.now (Insert at (Values rollout_terms 11))
+put_rollout_is s at tree stands = means_of s PUT_ROLLOUT.now _ (adds_known _ _ (rollout_table tree) _ (put_rollout_adds tree) s at stands) refl refl
+
+abbrev pub rollout_values : List Term
+rollout_values = lit Null ∷ col 1 2 ∷ col 1 3 ∷ col 1 4 ∷ col 1 5 ∷ col 1 6 ∷ col 1 7 ∷ col 0 1 ∷ col 0 2 ∷ col 0 3 ∷ []
+
+abbrev pub set_rollout_query : ℕ → Query
+set_rollout_query tree = simple tree (at_key 0 0 ∷ []) (col 1 0 ∷ col 1 0 ∷ rollout_values)
+
+set_rollout_changes : (tree : ℕ) → Changes SET_ROLLOUT.now (codes "rollout") (rollout_table tree) (set_rollout_query tree)
+unfolding first combine updated everything
+set_rollout_changes tree = record {
+  parsed = _;
+  sets = _;
+  test = _;
+  draft = _;
+  read = refl;
+  statement = refl;
+  formats = refl;
+  values = (tt, (tt, (tt, tt)));
+  filter = ((refl, λ cx how x y. refl), tt, tt);
+  known = refl;
+  is_body = refl;
+  over = refl;
+  fits = refl;
+}
+
+pub set_rollout_is : (s : Schema) (at tree : ℕ) → Stands s (codes "rollout") at (rollout_table tree) → Means s SET_ROLLOUT.now (Update at (record { lets = []; body = set_rollout_query tree }))
+set_rollout_is s at tree stands = means_of s SET_ROLLOUT.now _ (changes_known _ _ _ _ (set_rollout_changes tree) s at stands) refl refl
+
+abbrev pub member_terms : List Term
+member_terms = lit Null ∷ col 0 0 ∷ col 0 1 ∷ col 0 2 ∷ []
+
+put_member_adds : (tree : ℕ) → Adds PUT_MEMBER.now (codes "member") (member_table tree) (Values member_terms 4)
+unfolding first new_rows everything
+put_member_adds tree = record { parsed = _; columns = _; rows = _; read = refl; statement = refl; formats = refl; fits = λ s. refl }
+
+pub put_member_is : (s : Schema) (at tree : ℕ) → Stands s (codes "member") at (member_table tree) → Means s PUT_MEMBER.now (Insert at (Values member_terms 4))
+put_member_is s at tree stands = means_of s PUT_MEMBER.now _ (adds_known _ _ (member_table tree) _ (put_member_adds tree) s at stands) refl refl
+
+abbrev pub group_terms : List Term
+group_terms = lit Null ∷ col 0 0 ∷ col 0 1 ∷ col 0 2 ∷ col 0 3 ∷ lit (Int (pos 0)) ∷ lit (Int (pos 0)) ∷ lit (Int (pos 0)) ∷ lit (Int (pos 0)) ∷ []
+
+put_group_adds : (tree : ℕ) → Adds PUT_GROUP.now (codes "rollout_group") (group_table tree) (Values group_terms 9)
+unfolding first new_rows everything
+put_group_adds tree = record { parsed = _; columns = _; rows = _; read = refl; statement = refl; formats = refl; fits = λ s. refl }
+
+pub put_group_is : (s : Schema) (at tree : ℕ) → Stands s (codes "rollout_group") at (group_table tree) → Means s PUT_GROUP.now (Insert at (Values group_terms 9))
+put_group_is s at tree stands = means_of s PUT_GROUP.now _ (adds_known _ _ (group_table tree) _ (put_group_adds tree) s at stands) refl refl
+
+abbrev pub group_values : List Term
+group_values = col 1 1 ∷ col 1 2 ∷ col 1 3 ∷ col 1 4 ∷ col 0 2 ∷ col 0 3 ∷ col 0 4 ∷ col 0 5 ∷ []
+
+abbrev pub set_group_query : ℕ → Query
+set_group_query tree = simple tree of_group (col 1 0 ∷ col 1 0 ∷ group_values)
+
+set_group_changes : (tree : ℕ) → Changes SET_GROUP.now (codes "rollout_group") (group_table tree) (set_group_query tree)
+unfolding first combine updated everything
+set_group_changes tree = record {
+  parsed = _;
+  sets = _;
+  test = _;
+  draft = _;
+  read = refl;
+  statement = refl;
+  formats = refl;
+  values = (tt, (tt, (tt, (tt, tt))));
+  filter = ((refl, λ cx how x y. refl), ((refl, λ cx how x y. refl), tt, tt), ((refl, λ cx how x y. refl), tt, tt));
+  known = refl;
+  is_body = refl;
+  over = refl;
+  fits = refl;
+}
+
+pub set_group_is : (s : Schema) (at tree : ℕ) → Stands s (codes "rollout_group") at (group_table tree) → Means s SET_GROUP.now (Update at (record { lets = []; body = set_group_query tree }))
+set_group_is s at tree stands = means_of s SET_GROUP.now _ (changes_known _ _ _ _ (set_group_changes tree) s at stands) refl refl

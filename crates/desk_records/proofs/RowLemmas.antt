@@ -1,6 +1,6 @@
 -- A column that is not read breaks its rule.
 use Rattle.std.proofs.Common.{◌≡◌, ◌≢◌, ◌⊎◌, inl, inr, ◌<◌, ℕ, Bool, false, List, refl, ap, ◌∙◌, length, arith, nat_lt}
-use Rattle.std.specs.Str.{IsUtf8}
+use Rattle.std.specs.Str.{IsUtf8, is_utf8}
 use Rattle.std.proofs.lemmas.Bool.{cases_Bool, and_parts}
 use Rattle.std.proofs.lemmas.Str.{IsUtf8-from_is_utf8}
 use Rattle.std.proofs.lemmas.Bool.Decides.{nat_tests}
@@ -17,6 +17,7 @@ use Rattle.desk_records.specs.declared.module_row.Column.{Column}
 use Rattle.desk_records.specs.declared.module_row.RowFault.TheVariants.{Memory, Broken}
 use Rattle.desk_records.specs.ModuleRow.{has_text, fault_at}
 use Rattle.desk_records.specs.TargetRow.{has_value}
+use Rattle.desk_records.specs.RolloutRow.{has_filter}
 
 unread_text : (t : List ℕ) → ((s : List ℕ) × (Text t ≡ Text s) × IsUtf8 s → ⊥) → is_text t ≡ false
 unread_text t h = elim (cases_Bool (is_text t)) [
@@ -43,6 +44,13 @@ unread_value (Int n) h = refl
 unread_value (Real x) h = refl
 unread_value (Text t) h = unread_spelled t h
 unread_value (Blob b) h = refl
+
+pub unread_filter : (v : Value) → ((s : List ℕ) × (v ≡ Text s) × IsUtf8 s → ⊥) → has_filter v ≡ false
+unread_filter Null h = refl
+unread_filter (Int n) h = refl
+unread_filter (Real x) h = refl
+unread_filter (Text t) h = elim (cases_Bool (is_utf8 t)) [ inl kept ↦ absurd (h (t, refl, IsUtf8-from_is_utf8 t kept)) | inr broken ↦ broken ]
+unread_filter (Blob b) h = refl
 
 code_told : (code : ErrorCode) (c : Column) → (fault_at (SqliteFailure code) c ≡ Memory) ⊎ ((fault_at (SqliteFailure code) c ≡ Broken c) × (SqliteFailure code ≢ SqliteFailure OutOfMemory))
 code_told OutOfMemory c = inl refl

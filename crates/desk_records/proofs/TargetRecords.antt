@@ -79,7 +79,7 @@ listed_row t = Text t.id ∷ Text t.name ∷ []
 abbrev pub shown_tags : List Bytes → List Row
 shown_tags ws = map (λ (w : Bytes). Text w ∷ []) ws
 
-first_row : (command : Command) (db : Database) (params : Row) (is : Option Row) → ((rows : List Row) → Shows command db params rows → slice_get rows 0 ≡ is) → (row : Option Row) → ShowsFirst command db params row → row ≡ is
+pub first_row : (command : Command) (db : Database) (params : Row) (is : Option Row) → ((rows : List Row) → Shows command db params rows → slice_get rows 0 ≡ is) → (row : Option Row) → ShowsFirst command db params row → row ≡ is
 first_row command db params is all None shown = all [] shown
 first_row command db params is all (Some row) shown = all (row ∷ shown.0) shown.1
 

@@ -12,6 +12,7 @@ use Rattle.rollout_machine.specs.declared.outcome.Outcome.{Outcome}
 use Rattle.rollout_machine.specs.declared.outcome.Outcome.TheVariants.{Good, Bad, Gone}
 use Rattle.rollout_machine.specs.declared.records.ActionRecord.{ActionRecord}
 use Rattle.rollout_machine.specs.declared.records.RolloutRecord.{RolloutRecord}
+use Rattle.desk_records.specs.Parts.{part_row}
 use Rattle.desk_records.specs.Rollouts.{flag}
 
 -- ---- what is kept beside an action
@@ -37,9 +38,12 @@ outcome_code (Some Gone) = 3
 abbrev pub actor_of : List RolloutRecord → ActionRecord → Bytes
 actor_of rollouts a = member_at (item_numbered rollouts a.rollout) a.position
 
--- of an action; its history lies in the other table
+-- what is told of an action; its history lies in the other table
+abbrev pub told_action : List RolloutRecord → ActionRecord × Tally → Row
+told_action rollouts it = Int (pos it.0.rollout) ∷ Int (pos it.0.position) ∷ Text (actor_of rollouts it.0) ∷ Int (pos (flag it.0.canceling)) ∷ Int (pos (outcome_code it.0.outcome)) ∷ Int (pos it.1.notes) ∷ Int (pos it.1.entries) ∷ []
+
 abbrev pub action_row : List RolloutRecord → ℕ → ActionRecord × Tally → Row
-action_row rollouts n (a, tally) = Int (pos n) ∷ Null ∷ Int (pos a.rollout) ∷ Int (pos a.position) ∷ Text (actor_of rollouts a) ∷ Int (pos (flag a.canceling)) ∷ Int (pos (outcome_code a.outcome)) ∷ Int (pos tally.notes) ∷ Int (pos tally.entries) ∷ []
+action_row rollouts n it = Int (pos n) ∷ Null ∷ told_action rollouts it
 
 abbrev pub note_code : NoteWord → ℕ
 note_code Proceeding = 0
@@ -62,7 +66,11 @@ cancel_code (NotedCancel w) = note_code w
 abbrev pub lines_of : List Bytes → Bytes
 lines_of details = flat_map (λ (line : Bytes). line ++ 10 ∷ []) details
 
--- of a report at a place of an action's history: kind 0 is of a deployment, kind 1 of a cancel
+-- what is told of a report: kind 0 is of a deployment, kind 1 of a cancel
+abbrev pub told_entry : HistoryEntry → Row
+told_entry (DeploymentEntry word details) = Int (pos 0) ∷ Int (pos (deployment_code word)) ∷ Text (lines_of details) ∷ []
+told_entry (CancelEntry word details) = Int (pos 1) ∷ Int (pos (cancel_code word)) ∷ Text (lines_of details) ∷ []
+
+-- at a place of an action's history
 abbrev pub entry_row : ℕ → ℕ → HistoryEntry → Row
-entry_row action sequence (DeploymentEntry word details) = Int (pos action) ∷ Int (pos sequence) ∷ Int (pos 0) ∷ Int (pos (deployment_code word)) ∷ Text (lines_of details) ∷ []
-entry_row action sequence (CancelEntry word details) = Int (pos action) ∷ Int (pos sequence) ∷ Int (pos 1) ∷ Int (pos (cancel_code word)) ∷ Text (lines_of details) ∷ []
+entry_row = part_row told_entry

@@ -16,7 +16,7 @@ use Rattle.desk_records.specs.Actions.{Tally, tally_of, action_row, entry_row}
 use Rattle.desk_records.specs.Artifacts.{artifact_row, pieces_from}
 use Rattle.desk_records.specs.Offers.{HoldsOffers}
 use Rattle.desk_records.specs.Parts.{parts_from}
-use Rattle.desk_records.specs.Rollouts.{flag, rollout_row, member_rows, group_rows}
+use Rattle.desk_records.specs.Rollouts.{flag, rollout_row, members_from, groups_from}
 use Rattle.desk_records.specs.Sets.{set_row, places_from}
 use Rattle.desk_records.specs.Targets.{target_row, tag_rows, attribute_rows, are_sorted}
 
@@ -37,11 +37,19 @@ pub record Ledger : Type 0 where
 abbrev pub ledger_of : Records → Ledger
 ledger_of r = record { records = r; tallies = map tally_of r.actions; offers = offer r }
 
+-- the same approval, modules, artifacts, sets and targets
+pub record IsBeside (l next : Ledger) : Type 0 where
+  pub approval : next.records.approval ≡ l.records.approval
+  pub modules : next.records.modules ≡ l.records.modules
+  pub artifacts : next.records.artifacts ≡ l.records.artifacts
+  pub sets : next.records.sets ≡ l.records.sets
+  pub targets : next.records.targets ≡ l.records.targets
+
 -- The rows of a place: numbered ones in the order of their numbers, all others in any order.
 abbrev pub IsHeldOfRollouts : Ledger → RolloutPlace → List Row → Type 0
 IsHeldOfRollouts l Rollouts rows = rows ≡ rows_from rollout_row 1 l.records.rollouts
-IsHeldOfRollouts l Members rows = IsHeldBy rows (flat_map member_rows l.records.rollouts)
-IsHeldOfRollouts l Groups rows = IsHeldBy rows (flat_map group_rows l.records.rollouts)
+IsHeldOfRollouts l Members rows = IsHeldBy rows (members_from 1 l.records.rollouts)
+IsHeldOfRollouts l Groups rows = IsHeldBy rows (groups_from 1 l.records.rollouts)
 IsHeldOfRollouts l Actions rows = rows ≡ rows_from (action_row l.records.rollouts) 1 (zip l.records.actions l.tallies)
 IsHeldOfRollouts l Feedbacks rows = IsHeldBy rows (parts_from entry_row (λ (a : ActionRecord). a.history) 1 l.records.actions)
 IsHeldOfRollouts l Offers rows = HoldsOffers rows l.offers
@@ -68,15 +76,19 @@ pub record Spot : Type 0 where
   pub at : ℕ
   pub tree : ℕ
 
--- The tables of the schema stand somewhere among those of others, and hold the ledger.
-pub record HoldsLedger (db : Database) (l : Ledger) : Type 0 where
+-- The tables of the schema stand somewhere among those of others, and hold the ledger, whose records are of a kind.
+pub record HoldsKind (IsKind : Records → Type 0) (db : Database) (l : Ledger) : Type 0 where
   pub sound : IsDatabase db
   pub spot : Place → Spot
   pub stands : (t : Place) → Stands db.schema (name_of t) (spot t).at (table_at t (spot t).tree)
   pub rows : (t : Place) → IsHeld l t (db.trees (spot t).tree)
   pub sorted : are_sorted l.records.targets ≡ true
-  pub bare : HasNoRollouts l.records
+  pub bare : IsKind l.records
+
+-- any ledger
+abbrev pub HoldsLedger : Database → Ledger → Type 0
+HoldsLedger = HoldsKind (λ r. Unit {0})
 
 -- the tables hold the records, and all that follows from them
 abbrev pub HoldsRecords : Database → Records → Type 0
-HoldsRecords db r = HoldsLedger db (ledger_of r)
+HoldsRecords db r = HoldsKind HasNoRollouts db (ledger_of r)

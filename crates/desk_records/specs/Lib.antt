@@ -12,3 +12,5 @@ pub mod TargetRow
 pub mod Rollouts
 pub mod Actions
 pub mod Offers
+pub mod Codes
+pub mod RolloutRow

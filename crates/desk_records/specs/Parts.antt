@@ -1,5 +1,6 @@
 -- The rows of the parts of numbered records.
-use Rattle.std.specs.Prelude.{ℕ, ◌+◌, List, [], ◌∷◌, ◌++◌}
+use Rattle.std.specs.Prelude.{ℕ, ◌+◌, List, [], ◌∷◌, ◌++◌, Option, Some, None, pos}
+use Rattle.sqlite_value.specs.declared.value.Value.TheVariants.{Int}
 use Rattle.sqlite_value.specs.Order.{Row}
 use Rattle.sql_calls.specs.Keyed.{rows_from}
 
@@ -7,3 +8,12 @@ use Rattle.sql_calls.specs.Keyed.{rows_from}
 abbrev pub parts_from : {X : Type 0} → {Y : Type 0} → (ℕ → ℕ → Y → Row) → (X → List Y) → ℕ → List X → List Row
 parts_from f parts n [] = []
 parts_from f parts n (x ∷ xs) = rows_from (f n) 1 (parts x) ++ parts_from f parts (n + 1) xs
+
+-- of a part at a place of the record of a number, with what else its row has
+abbrev pub part_row : {Y : Type 0} → (Y → Row) → ℕ → ℕ → Y → Row
+part_row rest n place y = Int (pos n) ∷ Int (pos place) ∷ rest y
+
+-- the parts of a record, where it is there
+abbrev pub parts_of : {X : Type 0} → {Y : Type 0} → (X → List Y) → Option X → List Y
+parts_of parts None = []
+parts_of parts (Some x) = parts x

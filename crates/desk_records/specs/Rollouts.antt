@@ -1,13 +1,14 @@
 -- Rollouts in records and in rows.
-use Rattle.std.specs.Prelude.{ℕ, Bool, if◌then◌else◌, List, ◌∷◌, [], map, pos}
+use Rattle.std.specs.Prelude.{ℕ, ◌+◌, Bool, if◌then◌else◌, List, ◌∷◌, [], Option, pos}
 use Rattle.sqlite_value.specs.declared.value.Value.TheVariants.{Null, Int, Text}
 use Rattle.sqlite_value.specs.Order.{Row}
-use Rattle.sql_calls.specs.Keyed.{rows_from}
+use Rattle.rollout_machine.specs.ByteStrings.{same_bytes}
 use Rattle.rollout_machine.specs.Commands.{Bytes}
 use Rattle.rollout_machine.specs.declared.records.GroupRecord.{GroupRecord}
 use Rattle.rollout_machine.specs.declared.records.RolloutRecord.{RolloutRecord}
 use Rattle.rollout_model.specs.declared.approval.Approval.{Approval}
 use Rattle.rollout_model.specs.declared.approval.Approval.TheVariants.{Waiting, Denied, Given}
+use Rattle.desk_records.specs.Parts.{part_row, parts_from, parts_of}
 
 abbrev pub flag : Bool → ℕ
 flag b = if b then 1 else 0
@@ -17,18 +18,40 @@ approval_code Waiting = 0
 approval_code Given = 1
 approval_code Denied = 2
 
--- of a rollout; its members and groups lie in the other tables
-abbrev pub rollout_row : ℕ → RolloutRecord → Row
-rollout_row n x = Int (pos n) ∷ Null ∷ Text x.plan.name ∷ Int (pos x.plan.set_number) ∷ Text x.plan.filter_text ∷ Int (pos x.plan.groups) ∷ Int (pos x.plan.success) ∷ Int (pos x.plan.error)
+-- what is told of a rollout; its members and groups lie in the other tables
+abbrev pub told_rollout : RolloutRecord → Row
+told_rollout x = Text x.plan.name ∷ Int (pos x.plan.set_number) ∷ Text x.plan.filter_text ∷ Int (pos x.plan.groups) ∷ Int (pos x.plan.success) ∷ Int (pos x.plan.error)
     ∷ Int (pos (approval_code x.approval)) ∷ Int (pos (flag x.started)) ∷ Int (pos (flag x.paused)) ∷ []
 
--- a row for each member of a rollout, with its place
-abbrev pub member_rows : RolloutRecord → List Row
-member_rows x = rows_from (λ place (id : Bytes). Int (pos x.number) ∷ Int (pos place) ∷ Text id ∷ []) 1 x.members
+abbrev pub rollout_row : ℕ → RolloutRecord → Row
+rollout_row n x = Int (pos n) ∷ Null ∷ told_rollout x
 
--- of a group, with how many of its actions succeeded, failed and were given up
-abbrev pub group_row : ℕ → GroupRecord → Row
-group_row rollout g = Int (pos rollout) ∷ Int (pos g.number) ∷ Int (pos g.bounds.first) ∷ Int (pos g.bounds.last) ∷ Int (pos (flag g.started)) ∷ Int (pos g.ok) ∷ Int (pos g.bad) ∷ Int (pos g.gone) ∷ []
+-- a rollout of this name
+abbrev pub is_called : Bytes → RolloutRecord → Bool
+is_called name x = same_bytes x.plan.name name
 
-abbrev pub group_rows : RolloutRecord → List Row
-group_rows x = map (group_row x.number) x.groups
+abbrev pub member_row : ℕ → ℕ → Bytes → Row
+member_row = part_row (λ (id : Bytes). Text id ∷ [])
+
+-- of all members of rollouts that are numbered from a number on
+abbrev pub members_from : ℕ → List RolloutRecord → List Row
+members_from n xs = parts_from member_row (λ (x : RolloutRecord). x.members) n xs
+
+-- what is told of a group, with how many of its actions succeeded, failed and were given up
+abbrev pub told_group : GroupRecord → Row
+told_group g = Int (pos g.bounds.first) ∷ Int (pos g.bounds.last) ∷ Int (pos (flag g.started)) ∷ Int (pos g.ok) ∷ Int (pos g.bad) ∷ Int (pos g.gone) ∷ []
+
+-- its number is its place
+abbrev pub group_row : ℕ → ℕ → GroupRecord → Row
+group_row = part_row told_group
+
+abbrev pub groups_from : ℕ → List RolloutRecord → List Row
+groups_from n xs = parts_from group_row (λ (x : RolloutRecord). x.groups) n xs
+
+-- the groups of a rollout that is there, by the places that are their numbers
+abbrev pub numbered_from : ℕ → List GroupRecord → List GroupRecord
+numbered_from n [] = []
+numbered_from n (g ∷ gs) = record g { number = n } ∷ numbered_from (n + 1) gs
+
+abbrev pub groups_of : Option RolloutRecord → List GroupRecord
+groups_of found = numbered_from 1 (parts_of (λ (x : RolloutRecord). x.groups) found)

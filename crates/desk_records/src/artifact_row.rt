@@ -125,7 +125,7 @@ pub(crate) fn digest_at(row: &Row, at: usize, at_column: Column) -> Result<Diges
 }
 
 /// The number of 32 bits in a column.
-fn number_at(row: &Row, at: usize) -> Option<u32>
+pub(crate) fn number_at(row: &Row, at: usize) -> Option<u32>
     ensures { result ≡ small_number (column row.now at) }
 {
     match row.get_ref(at) {

@@ -1,9 +1,12 @@
 //! The tables of a desk: their texts, the texts of the statements on them, and rows read to records.
 #![tactic(auto)]
 
+mod action_texts;
 mod artifact_row;
 mod artifact_texts;
+mod codes;
 mod module_row;
+mod rollout_row;
 mod rollout_texts;
 mod set_row;
 mod set_texts;
@@ -11,15 +14,24 @@ mod target_row;
 mod target_texts;
 mod texts;
 
+pub use crate::action_texts::{
+    CREATE_ACTION, CREATE_FEEDBACK, CREATE_OFFER, DROP_OFFER, GET_ACTION, GET_OFFER, LAST_ACTION,
+    LIST_ACTIONS, PUT_ACTION, PUT_FEEDBACK, PUT_OFFER, SET_ACTION, SET_OFFER,
+};
 pub use crate::artifact_row::{StoredArtifact, read_artifact, read_piece, read_stored_artifact};
 pub use crate::artifact_texts::{
     CREATE_ARTIFACT, CREATE_PIECE, FIND_ARTIFACT, GET_ARTIFACT, GET_PIECE, LAST_ARTIFACT,
     LIST_ARTIFACTS, PUT_ARTIFACT, PUT_PIECE,
 };
 pub use crate::module_row::{Column, RowFault, read_module_label};
+pub use crate::rollout_row::{
+    ListedAction, StoredAction, StoredRollout, read_group, read_listed_action, read_offer,
+    read_stored_action, read_stored_rollout,
+};
 pub use crate::rollout_texts::{
-    CREATE_ACTION, CREATE_FEEDBACK, CREATE_MEMBER, CREATE_OFFER, CREATE_ROLLOUT,
-    CREATE_ROLLOUT_GROUP,
+    CREATE_MEMBER, CREATE_ROLLOUT, CREATE_ROLLOUT_GROUP, FIND_ROLLOUT, GET_GROUP, GET_ROLLOUT,
+    HOLDING_GROUP, LAST_ROLLOUT, LIST_GROUPS, LIST_ROLLOUTS, PUT_GROUP, PUT_MEMBER, PUT_ROLLOUT,
+    SET_GROUP, SET_ROLLOUT,
 };
 pub use crate::set_row::{SetName, read_set_module, read_set_name};
 pub use crate::set_texts::{

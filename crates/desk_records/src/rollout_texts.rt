@@ -1,4 +1,4 @@
-//! The texts of rollouts.
+//! The texts of rollouts, their members and groups.
 
 /// The k-th rollout that was created has number k; no two have the same name.
 pub const CREATE_ROLLOUT: &str =
@@ -12,14 +12,44 @@ pub const CREATE_MEMBER: &str =
 pub const CREATE_ROLLOUT_GROUP: &str =
     "CREATE TABLE rollout_group (rollout INTEGER NOT NULL, number INTEGER NOT NULL, first_place INTEGER NOT NULL, last_place INTEGER NOT NULL, started INTEGER NOT NULL, ok INTEGER NOT NULL, bad INTEGER NOT NULL, gone INTEGER NOT NULL, PRIMARY KEY (rollout, number), UNIQUE (rollout, last_place), UNIQUE (rollout, started, last_place)) STRICT";
 
-/// The k-th action that was made has number k; a member of a rollout has one.
-pub const CREATE_ACTION: &str =
-    "CREATE TABLE action (number INTEGER PRIMARY KEY, rollout INTEGER NOT NULL, place INTEGER NOT NULL, controller TEXT NOT NULL, canceling INTEGER NOT NULL, outcome INTEGER NOT NULL, notes INTEGER NOT NULL, entries INTEGER NOT NULL, UNIQUE (rollout, place), UNIQUE (controller, number)) STRICT";
+/// The rollout of a name.
+pub const FIND_ROLLOUT: &str = "SELECT number FROM rollout WHERE name = ?1";
 
-/// The history of the actions, by places in a sequence from 1.
-pub const CREATE_FEEDBACK: &str =
-    "CREATE TABLE feedback (action INTEGER NOT NULL, sequence INTEGER NOT NULL, kind INTEGER NOT NULL, word INTEGER NOT NULL, details TEXT NOT NULL, PRIMARY KEY (action, sequence)) STRICT";
+/// The last number, which is how many rollouts there are.
+pub const LAST_ROLLOUT: &str = "SELECT number FROM rollout ORDER BY number DESC LIMIT 1";
 
-/// What each target is offered now.
-pub const CREATE_OFFER: &str =
-    "CREATE TABLE offer (controller TEXT NOT NULL PRIMARY KEY, action INTEGER NOT NULL, kind INTEGER NOT NULL) STRICT";
+pub const GET_ROLLOUT: &str =
+    "SELECT name, dset, filter_text, groups, success, error, approval, started, paused FROM rollout WHERE number = ?1";
+
+/// The rollouts of a page in the order of their numbers: at most as many as the first parameter, after as many as the second.
+pub const LIST_ROLLOUTS: &str =
+    "SELECT name, dset, filter_text, groups, success, error, approval, started, paused FROM rollout ORDER BY number LIMIT ?1 OFFSET ?2";
+
+/// The groups of a rollout, in the order of their numbers.
+pub const LIST_GROUPS: &str =
+    "SELECT number, first_place, last_place, started, ok, bad, gone FROM rollout_group WHERE rollout = ?1 ORDER BY number";
+
+/// The group of a rollout and a number.
+pub const GET_GROUP: &str =
+    "SELECT number, first_place, last_place, started, ok, bad, gone FROM rollout_group WHERE rollout = ?1 AND number = ?2 ORDER BY number";
+
+/// The group of a rollout that has a place.
+pub const HOLDING_GROUP: &str =
+    "SELECT number, first_place, last_place, started, ok, bad, gone FROM rollout_group WHERE rollout = ?1 AND first_place <= ?2 AND last_place >= ?2 ORDER BY number";
+
+/// A rollout that is neither started nor paused.
+pub const PUT_ROLLOUT: &str =
+    "INSERT INTO rollout (number, name, dset, filter_text, groups, success, error, approval, started, paused) VALUES (?1, ?2, ?3, ?4, ?5, ?6, ?7, ?8, 0, 0)";
+
+pub const SET_ROLLOUT: &str =
+    "UPDATE rollout SET approval = ?2, started = ?3, paused = ?4 WHERE number = ?1";
+
+pub const PUT_MEMBER: &str = "INSERT INTO member (rollout, place, controller) VALUES (?1, ?2, ?3)";
+
+/// A group that isn't started, with no action that ended.
+pub const PUT_GROUP: &str =
+    "INSERT INTO rollout_group (rollout, number, first_place, last_place, started, ok, bad, gone) VALUES (?1, ?2, ?3, ?4, 0, 0, 0, 0)";
+
+/// What a group has besides its bounds.
+pub const SET_GROUP: &str =
+    "UPDATE rollout_group SET started = ?3, ok = ?4, bad = ?5, gone = ?6 WHERE rollout = ?1 AND number = ?2";

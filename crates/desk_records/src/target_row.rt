@@ -67,7 +67,7 @@ pub fn read_attribute(alloc: Global, row: &Row) -> Result<Attribute, RowFault>
 }
 
 /// The id of a target in a column.
-fn id_at(row: &Row, at: usize) -> Result<ControllerId, RowFault>
+pub(crate) fn id_at(row: &Row, at: usize) -> Result<ControllerId, RowFault>
     ensures ok { IfOk result (λ id. column row.now at ≡ StoredText id) }
     ensures kept { IfOk result (λ id. has_word (column row.now at) ≡ true) }
     ensures err { IfErr result (λ e. (e ≡ RowFault.Broken Column.TargetId) × (has_word (column row.now at) ≡ false)) }

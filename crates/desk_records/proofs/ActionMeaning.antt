@@ -1,0 +1,257 @@
+-- Written by tools/meanings.
+-- What the texts of src/action_texts.rt mean, wherever their tables stand.
+use Rattle.std.proofs.Common.{refl, List, [], ◌∷◌, ℕ, codes, pos, true, false}
+use Rattle.sqlite.specs.declared.types.Value.TheVariants.{Null, Int}
+use Rattle.sqlite.specs.Collation.TheVariants.{Binary}
+use Rattle.sqlite.specs.Schema.{Schema}
+use Rattle.sqlite.specs.Command.TheVariants.{Select, Insert, Update, Delete}
+use Rattle.sqlite.specs.Source.TheVariants.{Values}
+use Rattle.sqlite.specs.Query.{Query}
+use Rattle.sqlite.specs.Term.{Term, lit, col}
+use Rattle.sqlite_tied.specs.Compute.{everything}
+use Rattle.sqlite_resolve.specs.Compile.{first, new_rows, is_reserved}
+use Rattle.sqlite_resolve.specs.Expr.{combine}
+use Rattle.sqlite_resolve.specs.Select.{named, paging}
+use Rattle.sqlite_resolve.specs.Write.{updated, deleted}
+use Rattle.sql_front.specs.Stands.{Stands}
+use Rattle.sql_front.proofs.Texts.{Reads, reads_known}
+use Rattle.sql_front.proofs.Write.{Adds, Makes, adds_known}
+use Rattle.sql_front.proofs.Change.{Changes, Removes, changes_known, removes_known}
+use Rattle.sql_calls.proofs.Means.{Means}
+use Rattle.sql_calls.proofs.Selects.{simple, by}
+use Rattle.desk_records.specs.declared.action_texts.TheConstants.{CREATE_ACTION, CREATE_FEEDBACK, CREATE_OFFER, LAST_ACTION, GET_ACTION, LIST_ACTIONS, PUT_ACTION, SET_ACTION, PUT_FEEDBACK, GET_OFFER, PUT_OFFER, SET_OFFER, DROP_OFFER}
+use Rattle.desk_records.specs.Schema.{action_table, feedback_table, offer_table}
+use Rattle.desk_records.proofs.MeaningWords.{means_of, at_key}
+
+pub create_action_makes : Makes CREATE_ACTION.now (codes "action") (action_table 0)
+unfolding first is_reserved everything
+create_action_makes = record { parsed = _; made = _; read = refl; statement = refl; named = refl; unreserved = refl; defined = refl; whole = refl }
+
+pub create_feedback_makes : Makes CREATE_FEEDBACK.now (codes "feedback") (feedback_table 0)
+unfolding first is_reserved everything
+create_feedback_makes = record { parsed = _; made = _; read = refl; statement = refl; named = refl; unreserved = refl; defined = refl; whole = refl }
+
+pub create_offer_makes : Makes CREATE_OFFER.now (codes "offer") (offer_table 0)
+unfolding first is_reserved everything
+create_offer_makes = record { parsed = _; made = _; read = refl; statement = refl; named = refl; unreserved = refl; defined = refl; whole = refl }
+
+abbrev pub last_action_query : ℕ → Query
+last_action_query tree = by (simple tree [] (col 1 0 ∷ [])) ((col 1 0, record { descending = true; collation = Binary }) ∷ []) (lit (Int (pos 1))) (lit (Int (pos 0)))
+
+last_action_reads : (tree : ℕ) → Reads LAST_ACTION.now (codes "action") (action_table tree) (last_action_query tree) (codes "number" ∷ [])
+unfolding first combine named paging everything
+last_action_reads tree = record {
+  parsed = _;
+  select = _;
+  page = _;
+  shown = _;
+  read = refl;
+  selects = record { statement = refl; formats = refl; with = refl; others = refl };
+  one = record { source = _; from = refl; table = refl; alias = refl; on = refl; using = refl; is_inner = refl; group = refl; having = refl; shown = (tt, tt); filter = tt; sorts = (tt, tt) };
+  paged = λ s. refl;
+  named_alone = refl;
+  known = refl;
+  is_body = refl;
+  are_columns = refl;
+  over = refl;
+  fits = refl;
+}
+
+pub last_action_is : (s : Schema) (at tree : ℕ) → Stands s (codes "action") at (action_table tree) → Means s LAST_ACTION.now (Select (record { lets = []; body = last_action_query tree }) (codes "number" ∷ []))
+last_action_is s at tree stands = means_of s LAST_ACTION.now _ (reads_known _ _ _ _ _ (last_action_reads tree) s at stands) refl refl
+
+abbrev pub action_names : List (List ℕ)
+action_names = codes "rollout" ∷ codes "place" ∷ codes "controller" ∷ codes "canceling" ∷ codes "outcome" ∷ codes "notes" ∷ codes "entries" ∷ []
+
+abbrev pub action_columns : List Term
+action_columns = col 1 2 ∷ col 1 3 ∷ col 1 4 ∷ col 1 5 ∷ col 1 6 ∷ col 1 7 ∷ col 1 8 ∷ []
+
+get_action_reads : (tree : ℕ) → Reads GET_ACTION.now (codes "action") (action_table tree) (simple tree (at_key 0 0 ∷ []) action_columns) action_names
+unfolding first combine named paging everything
+get_action_reads tree = record {
+  parsed = _;
+  select = _;
+  page = _;
+  shown = _;
+  read = refl;
+  selects = record { statement = refl; formats = refl; with = refl; others = refl };
+  one = record { source = _; from = refl; table = refl; alias = refl; on = refl; using = refl; is_inner = refl; group = refl; having = refl; shown = (tt, (tt, (tt, (tt, (tt, (tt, (tt, tt))))))); filter = ((refl, λ cx how x y. refl), tt, tt); sorts = tt };
+  paged = λ s. refl;
+  named_alone = refl;
+  known = refl;
+  is_body = refl;
+  are_columns = refl;
+  over = refl;
+  fits = refl;
+}
+
+pub get_action_is : (s : Schema) (at tree : ℕ) → Stands s (codes "action") at (action_table tree) → Means s GET_ACTION.now (Select (record { lets = []; body = simple tree (at_key 0 0 ∷ []) action_columns }) action_names)
+get_action_is s at tree stands = means_of s GET_ACTION.now _ (reads_known _ _ _ _ _ (get_action_reads tree) s at stands) refl refl
+
+abbrev pub listed_names : List (List ℕ)
+listed_names = codes "rollout" ∷ codes "place" ∷ codes "controller" ∷ codes "canceling" ∷ codes "outcome" ∷ codes "notes" ∷ codes "entries" ∷ codes "number" ∷ []
+
+abbrev pub of_rollout : List Term
+of_rollout = at_key 2 0 ∷ []
+
+abbrev pub listed_columns : List Term
+listed_columns = col 1 2 ∷ col 1 3 ∷ col 1 4 ∷ col 1 5 ∷ col 1 6 ∷ col 1 7 ∷ col 1 8 ∷ col 1 0 ∷ []
+
+abbrev pub list_actions_query : ℕ → Query
+list_actions_query tree = by (simple tree of_rollout listed_columns) ((col 1 0, record { descending = false; collation = Binary }) ∷ []) (col 0 1) (col 0 2)
+
+list_actions_reads : (tree : ℕ) → Reads LIST_ACTIONS.now (codes "action") (action_table tree) (list_actions_query tree) listed_names
+unfolding first combine named paging everything
+list_actions_reads tree = record {
+  parsed = _;
+  select = _;
+  page = _;
+  shown = _;
+  read = refl;
+  selects = record { statement = refl; formats = refl; with = refl; others = refl };
+  one = record { source = _; from = refl; table = refl; alias = refl; on = refl; using = refl; is_inner = refl; group = refl; having = refl; shown = (tt, (tt, (tt, (tt, (tt, (tt, (tt, (tt, tt)))))))); filter = ((refl, λ cx how x y. refl), tt, tt); sorts = (tt, tt) };
+  paged = λ s. refl;
+  named_alone = refl;
+  known = refl;
+  is_body = refl;
+  are_columns = refl;
+  over = refl;
+  fits = refl;
+}
+
+pub list_actions_is : (s : Schema) (at tree : ℕ) → Stands s (codes "action") at (action_table tree) → Means s LIST_ACTIONS.now (Select (record { lets = []; body = list_actions_query tree }) listed_names)
+list_actions_is s at tree stands = means_of s LIST_ACTIONS.now _ (reads_known _ _ _ _ _ (list_actions_reads tree) s at stands) refl refl
+
+abbrev pub action_terms : List Term
+action_terms = col 0 0 ∷ lit Null ∷ col 0 1 ∷ col 0 2 ∷ col 0 3 ∷ lit (Int (pos 0)) ∷ lit (Int (pos 0)) ∷ lit (Int (pos 0)) ∷ lit (Int (pos 0)) ∷ []
+
+put_action_adds : (tree : ℕ) → Adds PUT_ACTION.now (codes "action") (action_table tree) (Values action_terms 9)
+unfolding first new_rows everything
+put_action_adds tree = record { parsed = _; columns = _; rows = _; read = refl; statement = refl; formats = refl; fits = λ s. refl }
+
+pub put_action_is : (s : Schema) (at tree : ℕ) → Stands s (codes "action") at (action_table tree) → Means s PUT_ACTION.now (Insert at (Values action_terms 9))
+put_action_is s at tree stands = means_of s PUT_ACTION.now _ (adds_known _ _ (action_table tree) _ (put_action_adds tree) s at stands) refl refl
+
+abbrev pub action_values : List Term
+action_values = lit Null ∷ col 1 2 ∷ col 1 3 ∷ col 1 4 ∷ col 0 1 ∷ col 0 2 ∷ col 0 3 ∷ col 0 4 ∷ []
+
+abbrev pub set_action_query : ℕ → Query
+set_action_query tree = simple tree (at_key 0 0 ∷ []) (col 1 0 ∷ col 1 0 ∷ action_values)
+
+set_action_changes : (tree : ℕ) → Changes SET_ACTION.now (codes "action") (action_table tree) (set_action_query tree)
+unfolding first combine updated everything
+set_action_changes tree = record {
+  parsed = _;
+  sets = _;
+  test = _;
+  draft = _;
+  read = refl;
+  statement = refl;
+  formats = refl;
+  values = (tt, (tt, (tt, (tt, tt))));
+  filter = ((refl, λ cx how x y. refl), tt, tt);
+  known = refl;
+  is_body = refl;
+  over = refl;
+  fits = refl;
+}
+
+pub set_action_is : (s : Schema) (at tree : ℕ) → Stands s (codes "action") at (action_table tree) → Means s SET_ACTION.now (Update at (record { lets = []; body = set_action_query tree }))
+set_action_is s at tree stands = means_of s SET_ACTION.now _ (changes_known _ _ _ _ (set_action_changes tree) s at stands) refl refl
+
+abbrev pub feedback_terms : List Term
+feedback_terms = lit Null ∷ col 0 0 ∷ col 0 1 ∷ col 0 2 ∷ col 0 3 ∷ col 0 4 ∷ []
+
+put_feedback_adds : (tree : ℕ) → Adds PUT_FEEDBACK.now (codes "feedback") (feedback_table tree) (Values feedback_terms 6)
+unfolding first new_rows everything
+put_feedback_adds tree = record { parsed = _; columns = _; rows = _; read = refl; statement = refl; formats = refl; fits = λ s. refl }
+
+pub put_feedback_is : (s : Schema) (at tree : ℕ) → Stands s (codes "feedback") at (feedback_table tree) → Means s PUT_FEEDBACK.now (Insert at (Values feedback_terms 6))
+put_feedback_is s at tree stands = means_of s PUT_FEEDBACK.now _ (adds_known _ _ (feedback_table tree) _ (put_feedback_adds tree) s at stands) refl refl
+
+abbrev pub of_controller : List Term
+of_controller = at_key 1 0 ∷ []
+
+abbrev pub offer_columns : List Term
+offer_columns = col 1 2 ∷ col 1 3 ∷ []
+
+get_offer_reads : (tree : ℕ) → Reads GET_OFFER.now (codes "offer") (offer_table tree) (simple tree of_controller offer_columns) (codes "action" ∷ codes "kind" ∷ [])
+unfolding first combine named paging everything
+get_offer_reads tree = record {
+  parsed = _;
+  select = _;
+  page = _;
+  shown = _;
+  read = refl;
+  selects = record { statement = refl; formats = refl; with = refl; others = refl };
+  one = record { source = _; from = refl; table = refl; alias = refl; on = refl; using = refl; is_inner = refl; group = refl; having = refl; shown = (tt, (tt, tt)); filter = ((refl, λ cx how x y. refl), tt, tt); sorts = tt };
+  paged = λ s. refl;
+  named_alone = refl;
+  known = refl;
+  is_body = refl;
+  are_columns = refl;
+  over = refl;
+  fits = refl;
+}
+
+pub get_offer_is : (s : Schema) (at tree : ℕ) → Stands s (codes "offer") at (offer_table tree) → Means s GET_OFFER.now (Select (record { lets = []; body = simple tree of_controller offer_columns }) (codes "action" ∷ codes "kind" ∷ []))
+get_offer_is s at tree stands = means_of s GET_OFFER.now _ (reads_known _ _ _ _ _ (get_offer_reads tree) s at stands) refl refl
+
+abbrev pub offer_terms : List Term
+offer_terms = lit Null ∷ col 0 0 ∷ col 0 1 ∷ col 0 2 ∷ []
+
+put_offer_adds : (tree : ℕ) → Adds PUT_OFFER.now (codes "offer") (offer_table tree) (Values offer_terms 4)
+unfolding first new_rows everything
+put_offer_adds tree = record { parsed = _; columns = _; rows = _; read = refl; statement = refl; formats = refl; fits = λ s. refl }
+
+pub put_offer_is : (s : Schema) (at tree : ℕ) → Stands s (codes "offer") at (offer_table tree) → Means s PUT_OFFER.now (Insert at (Values offer_terms 4))
+put_offer_is s at tree stands = means_of s PUT_OFFER.now _ (adds_known _ _ (offer_table tree) _ (put_offer_adds tree) s at stands) refl refl
+
+abbrev pub offer_values : List Term
+offer_values = col 1 1 ∷ col 0 1 ∷ col 0 2 ∷ []
+
+abbrev pub set_offer_query : ℕ → Query
+set_offer_query tree = simple tree of_controller (col 1 0 ∷ col 1 0 ∷ offer_values)
+
+set_offer_changes : (tree : ℕ) → Changes SET_OFFER.now (codes "offer") (offer_table tree) (set_offer_query tree)
+unfolding first combine updated everything
+set_offer_changes tree = record {
+  parsed = _;
+  sets = _;
+  test = _;
+  draft = _;
+  read = refl;
+  statement = refl;
+  formats = refl;
+  values = (tt, (tt, tt));
+  filter = ((refl, λ cx how x y. refl), tt, tt);
+  known = refl;
+  is_body = refl;
+  over = refl;
+  fits = refl;
+}
+
+pub set_offer_is : (s : Schema) (at tree : ℕ) → Stands s (codes "offer") at (offer_table tree) → Means s SET_OFFER.now (Update at (record { lets = []; body = set_offer_query tree }))
+set_offer_is s at tree stands = means_of s SET_OFFER.now _ (changes_known _ _ _ _ (set_offer_changes tree) s at stands) refl refl
+
+abbrev pub drop_offer_query : ℕ → Query
+drop_offer_query tree = simple tree of_controller (col 1 0 ∷ [])
+
+drop_offer_removes : (tree : ℕ) → Removes DROP_OFFER.now (codes "offer") (offer_table tree) (drop_offer_query tree)
+unfolding first combine deleted everything
+drop_offer_removes tree = record {
+  parsed = _;
+  test = _;
+  draft = _;
+  read = refl;
+  statement = refl;
+  formats = refl;
+  filter = ((refl, λ cx how x y. refl), tt, tt);
+  known = refl;
+  is_body = refl;
+  over = refl;
+  fits = refl;
+}
+
+pub drop_offer_is : (s : Schema) (at tree : ℕ) → Stands s (codes "offer") at (offer_table tree) → Means s DROP_OFFER.now (Delete at (record { lets = []; body = drop_offer_query tree }))
+drop_offer_is s at tree stands = means_of s DROP_OFFER.now _ (removes_known _ _ _ _ (drop_offer_removes tree) s at stands) refl refl

@@ -1,0 +1,127 @@
+-- What is read of actions and offers, where a ledger is held.
+use Rattle.std.proofs.Common.{◌≡◌, ◌≤◌, ◌&&◌, ℕ, ◌+◌, pos, List, [], ◌∷◌, map, filter, take, drop, length, slice_get, Bool, true, false, cond, Option, Some, None, option_map, refl, ap, ◌∙◌, nat_eq}
+use Rattle.std.specs.List.{zip}
+use Rattle.std.proofs.lemmas.List.{take-map, drop-map}
+use Rattle.sqlite_value.specs.declared.value.Value.TheVariants.{Null, Int, Text}
+use Rattle.sqlite_value.specs.Order.{Row}
+use Rattle.sqlite.specs.Term.{col}
+use Rattle.sqlite.specs.Command.TheVariants.{Select}
+use Rattle.sqlite.specs.Effect.{Database, Reads as Shows}
+use Rattle.sqlite_value.specs.Keys.{first_key, plain}
+use Rattle.sqlite_schema.specs.Rules.{agree}
+use Rattle.sql_calls.specs.Keyed.{rows_from}
+use Rattle.sql_calls.proofs.Changes.{ShowsFirst}
+use Rattle.sql_calls.proofs.KeyedRows.{on_content}
+use Rattle.sql_calls.proofs.KeyedTables.{keys_apart, reads_key}
+use Rattle.sql_calls.proofs.NumberedTables.{numbered_in_order}
+use Rattle.sql_calls.proofs.Selects.{simple, passes, shown_of}
+use Rattle.rollout_machine.specs.ByteStrings.{item_numbered}
+use Rattle.rollout_machine.specs.Commands.{Bytes}
+use Rattle.rollout_machine.specs.Kinds.{TargetOffer, offer_to}
+use Rattle.rollout_machine.specs.Records.{Records}
+use Rattle.rollout_machine.specs.declared.records.ActionRecord.{ActionRecord}
+use Rattle.rollout_model.specs.declared.rollout.Offer.{Offer}
+use Rattle.desk_records.specs.declared.rollout_row.ListedAction.{ListedAction}
+use Rattle.desk_records.specs.declared.rollout_row.StoredAction.{StoredAction}
+use Rattle.desk_records.specs.Actions.{Tally, action_row, outcome_code}
+use Rattle.desk_records.specs.Holds.{HoldsKind, Ledger}
+use Rattle.desk_records.specs.Modules.{IsLastRow}
+use Rattle.desk_records.specs.Offers.{is_to, offer_row}
+use Rattle.desk_records.specs.RolloutRow.{actions_of, stored_action}
+use Rattle.desk_records.specs.Rollouts.{flag}
+use Rattle.desk_records.specs.Schema.{OfRollouts, Actions, Offers, offer_table}
+use Rattle.desk_records.proofs.ActionMeaning.{last_action_query, action_columns, listed_columns, list_actions_query, of_rollout, of_controller, offer_columns}
+use Rattle.desk_records.proofs.Comparisons.{and_true, numbers_equal, words_equal}
+use Rattle.desk_records.proofs.MeaningWords.{at_key}
+use Rattle.desk_records.proofs.NumberedReads.{gets, lasts, passes_number}
+use Rattle.desk_records.proofs.TargetRecords.{first_row}
+
+-- what is read of an action
+abbrev pub shown_action : StoredAction → Row
+shown_action a = Int (pos a.rollout) ∷ Int (pos a.position) ∷ Text a.target ∷ Int (pos (flag a.canceling)) ∷ Int (pos (outcome_code a.outcome)) ∷ Int (pos a.notes) ∷ Int (pos a.entries) ∷ []
+
+-- .. and of one with its number
+abbrev pub told_listed : ListedAction → Row
+told_listed it = Int (pos it.action.rollout) ∷ Int (pos it.action.position) ∷ Text it.action.target ∷ Int (pos (flag it.action.canceling)) ∷ Int (pos (outcome_code it.action.outcome)) ∷ Int (pos it.action.notes) ∷ Int (pos it.action.entries) ∷ Int (pos it.number) ∷ []
+
+module _ {IsKind : Records → Type 0} (db : Database) (l : Ledger) (holds : HoldsKind IsKind db l) (names : List (List ℕ)) where
+  abbrev tree : ℕ
+  tree = (holds.spot (OfRollouts Actions)).tree
+
+  abbrev xs : List (ActionRecord × Tally)
+  xs = zip l.records.actions l.tallies
+
+  abbrev row : ℕ → ActionRecord × Tally → Row
+  row = action_row l.records.rollouts
+
+  -- the last number
+  pub lasts_action : (last : Option Row) → ShowsFirst (Select (record { lets = []; body = last_action_query tree }) names) db [] last → IsLastRow (length xs) last
+  lasts_action = lasts row tree db xs (holds.rows (OfRollouts Actions)) names (λ n x. refl)
+
+  -- an action by its number
+  pub gets_action : (number : ℕ) → 1 ≤ number → (found : Option Row) → ShowsFirst (Select (record { lets = []; body = simple tree (at_key 0 0 ∷ []) action_columns }) names) db (Int (pos number) ∷ []) found
+      → found ≡ option_map (λ it. shown_action (stored_action l.records.rollouts it)) (item_numbered xs number)
+  gets_action = gets row tree db xs (holds.rows (OfRollouts Actions)) names (λ n x. refl) (at_key 0 0 ∷ []) action_columns (passes_number row (λ n x. refl))
+
+  -- those of a rollout, a page of them in the order of their numbers
+  module _ (rollout limit offset : ℕ) where
+    abbrev params : Row
+    params = Int (pos rollout) ∷ Int (pos limit) ∷ Int (pos offset) ∷ []
+
+    its_actions : (n : ℕ) (ys : List (ActionRecord × Tally)) → map (shown_of listed_columns params) (filter (passes of_rollout params) (rows_from row n ys)) ≡ map told_listed (actions_of l.records.rollouts rollout n ys)
+    its_actions n [] = refl
+    its_actions n (y ∷ ys) = rw (numbers_equal y.0.rollout rollout) (go (nat_eq y.0.rollout rollout) (its_actions (n + 1) ys))
+      where
+        go : (b : Bool) → map (shown_of listed_columns params) (filter (passes of_rollout params) (rows_from row (n + 1) ys)) ≡ map told_listed (actions_of l.records.rollouts rollout (n + 1) ys)
+            → map (shown_of listed_columns params) (cond (b && true) (row n y ∷ filter (passes of_rollout params) (rows_from row (n + 1) ys)) (filter (passes of_rollout params) (rows_from row (n + 1) ys)))
+            ≡ map told_listed (cond b (record { number = n; action = stored_action l.records.rollouts y } ∷ actions_of l.records.rollouts rollout (n + 1) ys) (actions_of l.records.rollouts rollout (n + 1) ys))
+        go true rest = ap (λ more. told_listed (record { number = n; action = stored_action l.records.rollouts y }) ∷ more) rest
+        go false rest = rest
+
+    pub lists_actions : (rows : List Row) → Shows (Select (record { lets = []; body = list_actions_query tree }) names) db params rows → rows ≡ map told_listed (take limit (drop offset (actions_of l.records.rollouts rollout 1 xs)))
+    lists_actions rows shows =
+        let all = actions_of l.records.rollouts rollout 1 xs in
+        numbered_in_order row (λ n x. refl) tree of_rollout listed_columns (col 0 1) (col 0 2) params db.trees xs (holds.rows (OfRollouts Actions)) rows (shows.answer Null)
+        ∙ ap (λ more. take limit (drop offset more)) (its_actions 1 xs) ∙ ap (take limit) (drop-map told_listed offset all) ∙ take-map told_listed limit (drop offset all)
+
+-- ---- offers
+
+-- what is told of an offer
+abbrev pub told_offer : Offer → Row
+told_offer o = Int (pos o.action) ∷ Int (pos (flag o.canceling)) ∷ []
+
+pub offer_keyed : (params r : Row) → passes of_controller params r ≡ true → agree plain (1 ∷ []) r (0 ∷ []) params ≡ true
+unfolding first_key
+offer_keyed params r h = h
+
+-- of all rows a statement may name, those of the id
+pub names_offer : (id : Bytes) (more : Row) (o : TargetOffer) → on_content (passes of_controller (Text id ∷ more)) (offer_row o) ≡ is_to id o
+names_offer id more o = and_true _ ∙ words_equal o.target id
+
+pub its_offers : (p : Row → Bool) (id : Bytes) → ((o : TargetOffer) → p (offer_row o) ≡ is_to id o) → (listed : List TargetOffer) → filter p (map offer_row listed) ≡ map offer_row (filter (is_to id) listed)
+its_offers p id is [] = refl
+its_offers p id is (o ∷ listed) = rw (is o) (go (is_to id o) (its_offers p id is listed))
+  where
+    go : (b : Bool) → filter p (map offer_row listed) ≡ map offer_row (filter (is_to id) listed) → cond b (offer_row o ∷ filter p (map offer_row listed)) (filter p (map offer_row listed)) ≡ map offer_row (cond b (o ∷ filter (is_to id) listed) (filter (is_to id) listed))
+    go true rest = ap (λ l. offer_row o ∷ l) rest
+    go false rest = rest
+
+module _ {IsKind : Records → Type 0} (db : Database) (l : Ledger) (holds : HoldsKind IsKind db l) (names : List (List ℕ)) (id : Bytes) where
+  abbrev query_params : Row
+  query_params = Text id ∷ []
+
+  first_offer_row : (o : Option Offer) → slice_get (map (on_content (shown_of offer_columns query_params)) (map offer_row (offer_to id o))) 0 ≡ option_map told_offer o
+  first_offer_row None = refl
+  first_offer_row (Some o) = refl
+
+  -- the offer of a target
+  pub gets_offer : (found : Option Row) → ShowsFirst (Select (record { lets = []; body = simple (holds.spot (OfRollouts Offers)).tree of_controller offer_columns }) names) db query_params found → found ≡ option_map told_offer (l.offers id)
+  gets_offer found shown =
+      let spot = holds.spot (OfRollouts Offers) in
+      let held = holds.rows (OfRollouts Offers) in
+      let table = offer_table spot.tree in
+      first_row (Select (record { lets = []; body = simple spot.tree of_controller offer_columns }) names) db query_params _ (λ rows shows. ap (λ (r : List Row). slice_get r 0)
+      (reads_key db.schema table (1 ∷ []) of_controller query_params (λ i x. refl) (0 ∷ []) (offer_keyed query_params) offer_columns (λ i x. refl) db.trees (map offer_row held.listed)
+      (keys_apart db.schema db.trees spot.at table 0 (1 ∷ []) holds.sound (holds.stands (OfRollouts Offers)).got refl refl) held.held rows (shows.answer Null)
+      ∙ ap (map (on_content (shown_of offer_columns query_params))) (its_offers _ id (names_offer id []) held.listed ∙ ap (map offer_row) (held.its id)))
+      ∙ first_offer_row (l.offers id)) found shown

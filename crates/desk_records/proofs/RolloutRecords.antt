@@ -1,0 +1,132 @@
+-- What is read of rollouts and groups, where a ledger is held.
+use Rattle.std.proofs.Common.{◌≡◌, ◌≤◌, ◌&&◌, ℕ, ◌+◌, pos, negsuc, List, [], ◌∷◌, map, filter, take, drop, find, length, slice_get, Bool, true, false, cond, Option, Some, option_map, refl, ap, ◌∙◌, arith, nat_eq, nat_le}
+use Rattle.std.specs.List.{list_any}
+use Rattle.std.specs.Option.{is_some}
+use Rattle.std.proofs.lemmas.Bool.Decides.{nat_tests}
+use Rattle.sqlite_value.specs.declared.value.Value.TheVariants.{Null, Int, Text}
+use Rattle.sqlite_value.specs.Order.{Row}
+use Rattle.sqlite.specs.Term.{Term, lit, col}
+use Rattle.sqlite.specs.Command.TheVariants.{Select}
+use Rattle.sqlite.specs.Effect.{Database, Reads as Shows}
+use Rattle.sql_calls.specs.Keyed.{rows_from}
+use Rattle.sql_calls.proofs.Changes.{ShowsFirst}
+use Rattle.sql_calls.proofs.KeyedRows.{on_content}
+use Rattle.sql_calls.proofs.Selects.{simple, passes, shown_of}
+use Rattle.rollout_machine.specs.ByteStrings.{item_numbered}
+use Rattle.rollout_machine.specs.Commands.{Bytes}
+use Rattle.rollout_machine.specs.Groups.{holds_position}
+use Rattle.rollout_machine.specs.Records.{Records}
+use Rattle.rollout_machine.specs.StateWords.{group_numbered, group_holding}
+use Rattle.rollout_machine.specs.declared.records.GroupRecord.{GroupRecord}
+use Rattle.rollout_machine.specs.declared.records.RolloutRecord.{RolloutRecord}
+use Rattle.desk_records.specs.Modules.{IsLastRow}
+use Rattle.desk_records.specs.Schema.{OfRollouts, Rollouts, Groups}
+use Rattle.desk_records.specs.Parts.{parts_of}
+use Rattle.desk_records.specs.Rollouts.{is_called, rollout_row, told_rollout, group_row, told_group, numbered_from, groups_of}
+use Rattle.desk_records.specs.Holds.{HoldsKind, Ledger}
+use Rattle.desk_records.proofs.Comparisons.{and_true, numbers_equal, numbers_at_least, numbers_at_most, words_equal}
+use Rattle.desk_records.proofs.MeaningWords.{at_key}
+use Rattle.desk_records.proofs.RolloutMeaning.{same_name, last_rollout_query, rollout_columns, list_rollouts_query, of_rollout, group_columns, list_groups_query, of_group, get_group_query, holding, holding_group_query}
+use Rattle.desk_records.proofs.NumberedReads.{finds, gets, lasts, pages, passes_number}
+use Rattle.desk_records.proofs.PartReads.{reads_parts}
+use Rattle.desk_records.proofs.TargetRecords.{first_row}
+
+same : (n : ℕ) → nat_eq n n ≡ true
+same n = grind (arith, nat_tests)
+
+module _ {IsKind : Records → Type 0} (db : Database) (l : Ledger) (holds : HoldsKind IsKind db l) (names : List (List ℕ)) where
+  abbrev tree : ℕ
+  tree = (holds.spot (OfRollouts Rollouts)).tree
+
+  abbrev xs : List RolloutRecord
+  xs = l.records.rollouts
+
+  -- whether a name is taken
+  pub finds_rollout : (name : Bytes) (row : Option Row) → ShowsFirst (Select (record { lets = []; body = simple tree same_name (col 1 0 ∷ []) }) names) db (Text name ∷ []) row → is_some row ≡ list_any (is_called name) xs
+  finds_rollout name = finds rollout_row tree db xs (holds.rows (OfRollouts Rollouts)) names same_name (col 1 0 ∷ []) (Text name ∷ []) (is_called name) (λ n x. and_true _ ∙ words_equal x.plan.name name)
+
+  -- the last number
+  pub lasts_rollout : (row : Option Row) → ShowsFirst (Select (record { lets = []; body = last_rollout_query tree }) names) db [] row → IsLastRow (length xs) row
+  lasts_rollout = lasts rollout_row tree db xs (holds.rows (OfRollouts Rollouts)) names (λ n x. refl)
+
+  -- a rollout by its number
+  pub gets_rollout : (number : ℕ) → 1 ≤ number → (row : Option Row) → ShowsFirst (Select (record { lets = []; body = simple tree (at_key 0 0 ∷ []) rollout_columns }) names) db (Int (pos number) ∷ []) row
+      → row ≡ option_map told_rollout (item_numbered xs number)
+  gets_rollout = gets rollout_row tree db xs (holds.rows (OfRollouts Rollouts)) names (λ n x. refl) (at_key 0 0 ∷ []) rollout_columns (passes_number rollout_row (λ n x. refl))
+
+  -- those of a page
+  pub lists_rollouts : (limit offset : ℕ) (rows : List Row) → Shows (Select (record { lets = []; body = list_rollouts_query tree }) names) db (Int (pos limit) ∷ Int (pos offset) ∷ []) rows → rows ≡ map told_rollout (take limit (drop offset xs))
+  lists_rollouts limit offset rows shows = pages rollout_row (λ n x. refl) told_rollout rollout_columns limit offset (λ n x. refl) tree db.trees xs (holds.rows (OfRollouts Rollouts)) rows (shows.answer Null)
+
+-- ---- groups
+
+-- what is read of a group: its number, and what is told of it
+abbrev pub shown_group : GroupRecord → Row
+shown_group g = Int (pos g.number) ∷ told_group g
+
+shown_groups : (rollout : ℕ) (test : List Term) (params : Row) (wanted : GroupRecord → Bool) → ((place : ℕ) (g : GroupRecord) → on_content (passes test params) (group_row rollout place g) ≡ wanted (record g { number = place })) → (n : ℕ) (gs : List GroupRecord)
+    → map (on_content (shown_of group_columns params)) (filter (on_content (passes test params)) (rows_from (group_row rollout) n gs)) ≡ map shown_group (filter wanted (numbered_from n gs))
+shown_groups rollout test params wanted is n [] = refl
+shown_groups rollout test params wanted is n (g ∷ gs) = rw (is n g) (go (wanted (record g { number = n })) (shown_groups rollout test params wanted is (n + 1) gs))
+  where
+    go : (b : Bool) → map (on_content (shown_of group_columns params)) (filter (on_content (passes test params)) (rows_from (group_row rollout) (n + 1) gs)) ≡ map shown_group (filter wanted (numbered_from (n + 1) gs))
+        → map (on_content (shown_of group_columns params)) (cond b (group_row rollout n g ∷ filter (on_content (passes test params)) (rows_from (group_row rollout) (n + 1) gs)) (filter (on_content (passes test params)) (rows_from (group_row rollout) (n + 1) gs)))
+        ≡ map shown_group (cond b (record g { number = n } ∷ filter wanted (numbered_from (n + 1) gs)) (filter wanted (numbered_from (n + 1) gs)))
+    go true rest = ap (λ l. shown_group (record g { number = n }) ∷ l) rest
+    go false rest = rest
+
+all_kept : (gs : List GroupRecord) → filter (λ g. true) gs ≡ gs
+all_kept [] = refl
+all_kept (g ∷ gs) = ap (λ l. g ∷ l) (all_kept gs)
+
+first_kept : (wanted : GroupRecord → Bool) (gs : List GroupRecord) → slice_get (map shown_group (filter wanted gs)) 0 ≡ option_map shown_group (find wanted gs)
+first_kept wanted [] = refl
+first_kept wanted (g ∷ gs) = go (wanted g) (first_kept wanted gs)
+  where
+    go : (b : Bool) → slice_get (map shown_group (filter wanted gs)) 0 ≡ option_map shown_group (find wanted gs) → slice_get (map shown_group (cond b (g ∷ filter wanted gs) (filter wanted gs))) 0 ≡ option_map shown_group (cond b (Some g) (find wanted gs))
+    go true rest = refl
+    go false rest = rest
+
+module _ {IsKind : Records → Type 0} (db : Database) (l : Ledger) (holds : HoldsKind IsKind db l) (names : List (List ℕ)) where
+  abbrev at : ℕ
+  at = (holds.spot (OfRollouts Groups)).tree
+
+  abbrev found : ℕ → List GroupRecord
+  found number = groups_of (item_numbered l.records.rollouts number)
+
+  -- in the order of their numbers
+  pub lists_groups : (number : ℕ) → 1 ≤ number → (rows : List Row) → Shows (Select (record { lets = []; body = list_groups_query at }) names) db (Int (pos number) ∷ []) rows → rows ≡ map shown_group (found number)
+  lists_groups number least rows shows =
+      let params = Int (pos number) ∷ [] in
+      reads_parts told_group (λ (x : RolloutRecord). x.groups) at of_rollout group_columns (lit (Int (negsuc 0))) (lit (Int (pos 0))) params number least (λ id x. refl) (λ id x. refl) (λ n place g apart. and_true _ ∙ numbers_equal n number ∙ apart)
+      db.trees l.records.rollouts (holds.rows (OfRollouts Groups)) rows (shows.answer Null)
+      ∙ shown_groups number of_rollout params (λ g. true) (λ place g. and_true _ ∙ numbers_equal number number ∙ same number) 1 (parts_of (λ (x : RolloutRecord). x.groups) (item_numbered l.records.rollouts number))
+      ∙ ap (map shown_group) (all_kept _)
+
+  -- the group of a number
+  pub gets_group : (number place : ℕ) → 1 ≤ number → (row : Option Row) → ShowsFirst (Select (record { lets = []; body = get_group_query at }) names) db (Int (pos number) ∷ Int (pos place) ∷ []) row
+      → row ≡ option_map shown_group (group_numbered place (found number))
+  gets_group number place least row shown =
+      let params = Int (pos number) ∷ Int (pos place) ∷ [] in
+      first_row (Select (record { lets = []; body = get_group_query at }) names) db params _ (λ rows shows. ap (λ (l : List Row). slice_get l 0)
+      (reads_parts told_group (λ (x : RolloutRecord). x.groups) at of_group group_columns (lit (Int (negsuc 0))) (lit (Int (pos 0))) params number least (λ id x. refl) (λ id x. refl) (λ n k g apart. is_group n k g ∙ ap (λ b. b && nat_eq k place) apart)
+      db.trees l.records.rollouts (holds.rows (OfRollouts Groups)) rows (shows.answer Null)
+      ∙ shown_groups number of_group params (λ g. nat_eq g.number place) (λ k g. is_group number k g ∙ ap (λ b. b && nat_eq k place) (same number)) 1 (parts_of (λ (x : RolloutRecord). x.groups) (item_numbered l.records.rollouts number)))
+      ∙ first_kept (λ g. nat_eq g.number place) (found number)) row shown
+    where
+      is_group : (n k : ℕ) (g : GroupRecord) → on_content (passes of_group (Int (pos number) ∷ Int (pos place) ∷ [])) (group_row n k g) ≡ (nat_eq n number && nat_eq k place)
+      is_group n k g = rw (numbers_equal n number, numbers_equal k place, and_true (nat_eq k place)) refl
+
+  -- the group that has a place
+  pub holds_group : (number place : ℕ) → 1 ≤ number → (row : Option Row) → ShowsFirst (Select (record { lets = []; body = holding_group_query at }) names) db (Int (pos number) ∷ Int (pos place) ∷ []) row
+      → row ≡ option_map shown_group (group_holding place (found number))
+  holds_group number place least row shown =
+      let params = Int (pos number) ∷ Int (pos place) ∷ [] in
+      first_row (Select (record { lets = []; body = holding_group_query at }) names) db params _ (λ rows shows. ap (λ (l : List Row). slice_get l 0)
+      (reads_parts told_group (λ (x : RolloutRecord). x.groups) at holding group_columns (lit (Int (negsuc 0))) (lit (Int (pos 0))) params number least (λ id x. refl) (λ id x. refl) (λ n k g apart. is_holding n k g ∙ ap (λ b. b && holds_position place g.bounds) apart)
+      db.trees l.records.rollouts (holds.rows (OfRollouts Groups)) rows (shows.answer Null)
+      ∙ shown_groups number holding params (λ g. holds_position place g.bounds) (λ k g. is_holding number k g ∙ ap (λ b. b && holds_position place g.bounds) (same number)) 1 (parts_of (λ (x : RolloutRecord). x.groups) (item_numbered l.records.rollouts number)))
+      ∙ first_kept (λ g. holds_position place g.bounds) (found number)) row shown
+    where
+      is_holding : (n k : ℕ) (g : GroupRecord) → on_content (passes holding (Int (pos number) ∷ Int (pos place) ∷ [])) (group_row n k g) ≡ (nat_eq n number && holds_position place g.bounds)
+      is_holding n k g = rw (numbers_equal n number, numbers_at_most g.bounds.first place, numbers_at_least g.bounds.last place, and_true (nat_le place g.bounds.last)) refl

@@ -1,0 +1,13 @@
+use Rattle.std.proofs.Common.{◌≡◌, true, ap, ◌∙◌, subst}
+use Rattle.std.specs.Str.{is_utf8}
+use Rattle.std.proofs.lemmas.Str.{is_utf8-from_IsUtf8}
+use Rattle.desk_records.proofs.RowLemmas.{fails_at, unread_filter}
+use Rattle.desk_records.specs.RolloutRow.{has_filter}
+use Rattle.desk_records.proofs.rollout_row.filter_at.Goals as goal
+
+pub returns-in-Err-clause-err : goal.returns-in-Err-clause-err
+returns-in-Err-clause-err c = rw c.row_fault.ensures (fails_at has_filter unread_filter c.args.row.now c.args.at c.in-Err.error _ c.in-Err.ensures.kind)
+
+-- a String is UTF-8
+pub returns-in-Ok-from_text-clause-kept : goal.returns-in-Ok-from_text-clause-kept
+returns-in-Ok-from_text-clause-kept c = ap has_filter c.in-Ok.ensures.ok.1 ∙ subst (λ s. is_utf8 s ≡ true) c.as_str.ensures.value (is_utf8-from_IsUtf8 _ c.as_str.utf8)

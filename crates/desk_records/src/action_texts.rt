@@ -1,0 +1,42 @@
+//! The texts of actions, their history and offers.
+
+/// The k-th action that was made has number k; a member of a rollout has one.
+pub const CREATE_ACTION: &str =
+    "CREATE TABLE action (number INTEGER PRIMARY KEY, rollout INTEGER NOT NULL, place INTEGER NOT NULL, controller TEXT NOT NULL, canceling INTEGER NOT NULL, outcome INTEGER NOT NULL, notes INTEGER NOT NULL, entries INTEGER NOT NULL, UNIQUE (rollout, place), UNIQUE (controller, number)) STRICT";
+
+/// The history of the actions, by places in a sequence from 1.
+pub const CREATE_FEEDBACK: &str =
+    "CREATE TABLE feedback (action INTEGER NOT NULL, sequence INTEGER NOT NULL, kind INTEGER NOT NULL, word INTEGER NOT NULL, details TEXT NOT NULL, PRIMARY KEY (action, sequence)) STRICT";
+
+/// What each target is offered now.
+pub const CREATE_OFFER: &str =
+    "CREATE TABLE offer (controller TEXT NOT NULL PRIMARY KEY, action INTEGER NOT NULL, kind INTEGER NOT NULL) STRICT";
+
+/// The last number, which is how many actions there are.
+pub const LAST_ACTION: &str = "SELECT number FROM action ORDER BY number DESC LIMIT 1";
+
+pub const GET_ACTION: &str =
+    "SELECT rollout, place, controller, canceling, outcome, notes, entries FROM action WHERE number = ?1";
+
+/// The actions of a rollout, in the order of their numbers: at most as many as the second parameter, after as many as the third.
+pub const LIST_ACTIONS: &str =
+    "SELECT rollout, place, controller, canceling, outcome, notes, entries, number FROM action WHERE rollout = ?1 ORDER BY number LIMIT ?2 OFFSET ?3";
+
+/// An action that is open, with no history.
+pub const PUT_ACTION: &str =
+    "INSERT INTO action (number, rollout, place, controller, canceling, outcome, notes, entries) VALUES (?1, ?2, ?3, ?4, 0, 0, 0, 0)";
+
+pub const SET_ACTION: &str =
+    "UPDATE action SET canceling = ?2, outcome = ?3, notes = ?4, entries = ?5 WHERE number = ?1";
+
+pub const PUT_FEEDBACK: &str =
+    "INSERT INTO feedback (action, sequence, kind, word, details) VALUES (?1, ?2, ?3, ?4, ?5)";
+
+/// The offer of a target.
+pub const GET_OFFER: &str = "SELECT action, kind FROM offer WHERE controller = ?1";
+
+pub const PUT_OFFER: &str = "INSERT INTO offer (controller, action, kind) VALUES (?1, ?2, ?3)";
+
+pub const SET_OFFER: &str = "UPDATE offer SET action = ?2, kind = ?3 WHERE controller = ?1";
+
+pub const DROP_OFFER: &str = "DELETE FROM offer WHERE controller = ?1";
