@@ -6,3 +6,6 @@ pub mod SetCalls
 pub mod ArtifactCalls
 pub mod TargetCalls
 pub mod AttributeCalls
+pub mod LedgerReads
+pub mod RolloutCalls
+pub mod ActionCalls

@@ -12,8 +12,6 @@ use Rattle.sql_calls.specs.Calls.{AsksText, TakesFirst}
 use Rattle.sql_calls.specs.Standing.{Reads}
 use Rattle.sql_calls.proofs.Changes.{Knows, ShowsFirst}
 use Rattle.sql_calls.proofs.TypedCalls.{asks_ok, takes_ok}
-use Rattle.rollout_machine.specs.Records.{Records}
-use Rattle.desk_records.specs.Holds.{HoldsRecords}
 use Rattle.desk_store.specs.Rows.{AreReadAs, IsReadAs}
 
 -- a further row, and what it is read as
@@ -34,15 +32,15 @@ module _ {A B : Type 0} (is : Row → A → Type 0) (row_of : B → Row) where
       subst (λ f. Tells f (Some b)) (sym h.1) (some h.0 b (subst (λ r. is r h.0) it h.2))
 
   -- a query whose first row, if there is one, was made of one thing
-  pub takes_one : (sql : List ℕ) (params : Row) (old new : State) (knows : Knows HoldsRecords sql) (wanted : Records → Option B) (Tells : Option A → Option B → Type 0)
+  pub takes_one : {R : Type 0} {Holds : Database → R → Type 0} (sql : List ℕ) (params : Row) (old new : State) (knows : Knows Holds sql) (wanted : R → Option B) (Tells : Option A → Option B → Type 0)
       → Tells None None → ((a : A) (b : B) → is (row_of b) a → Tells (Some a) (Some b))
-      → ((db : Database) (r : Records) (holds : HoldsRecords db r) (at : Database) (given : Row) → EndsIn (knows db r holds).command at given)
-      → (row : Option Row) → ((db : Database) (now : Records) (holds : HoldsRecords db now) → ShowsFirst (knows db now holds).command db params row → row ≡ option_map row_of (wanted now))
-      → TakesFirst old new sql params (Ok row) → (out : Result (Option A) Fault) → IfOk out (λ found. IsReadAs is found row) → Reads HoldsRecords old new out (λ r found. Tells found (wanted r))
-  takes_one sql params old new knows wanted Tells none some ends row shows h out is_read = takes_ok HoldsRecords sql params old new (λ r found. Tells found (wanted r)) knows ends row h out (answers out is_read)
+      → ((db : Database) (r : R) (holds : Holds db r) (at : Database) (given : Row) → EndsIn (knows db r holds).command at given)
+      → (row : Option Row) → ((db : Database) (now : R) (holds : Holds db now) → ShowsFirst (knows db now holds).command db params row → row ≡ option_map row_of (wanted now))
+      → TakesFirst old new sql params (Ok row) → (out : Result (Option A) Fault) → IfOk out (λ found. IsReadAs is found row) → Reads Holds old new out (λ r found. Tells found (wanted r))
+  takes_one {R = R} {Holds = Holds} sql params old new knows wanted Tells none some ends row shows h out is_read = takes_ok Holds sql params old new (λ r found. Tells found (wanted r)) knows ends row h out (answers out is_read)
     where
       answers : (out : Result (Option A) Fault) → IfOk out (λ found. IsReadAs is found row)
-          → IfOk out (λ found. (db : Database) (now : Records) (holds : HoldsRecords db now) → ShowsFirst (knows db now holds).command db params row → Tells found (wanted now))
+          → IfOk out (λ found. (db : Database) (now : R) (holds : Holds db now) → ShowsFirst (knows db now holds).command db params row → Tells found (wanted now))
       answers (Ok found) is_read = λ db now holds shown. one_read Tells none some found (wanted now) row is_read (shows db now holds shown)
       answers (Err e) is_read = tt
 
@@ -54,12 +52,12 @@ module _ {A V : Type 0} (items : V → List A) (is : Row → A → Type 0) (row_
   all_read (a ∷ as_are) (b ∷ bs) h = ap₂ ◌∷◌ (one a b h.0) (all_read as_are bs h.1)
 
   -- a query whose rows were made of a list
-  pub asks_all : (sql : List ℕ) (params : Row) (old new : State) (knows : Knows HoldsRecords sql) (wanted : Records → List A) (rows : Vec Row Global)
-      → ((db : Database) (now : Records) (holds : HoldsRecords db now) → Shows (knows db now holds).command db params rows.items → rows.items ≡ map row_of (wanted now))
-      → AsksText old new sql params (Ok rows) → (out : Result V Fault) → IfOk out (λ found. AreReadAs is rows.items (items found)) → Reads HoldsRecords old new out (λ r found. items found ≡ wanted r)
-  asks_all sql params old new knows wanted rows shows h out are_read = asks_ok HoldsRecords sql params old new (λ r found. items found ≡ wanted r) knows rows h out (answers out are_read)
+  pub asks_all : {R : Type 0} {Holds : Database → R → Type 0} (sql : List ℕ) (params : Row) (old new : State) (knows : Knows Holds sql) (wanted : R → List A) (rows : Vec Row Global)
+      → ((db : Database) (now : R) (holds : Holds db now) → Shows (knows db now holds).command db params rows.items → rows.items ≡ map row_of (wanted now))
+      → AsksText old new sql params (Ok rows) → (out : Result V Fault) → IfOk out (λ found. AreReadAs is rows.items (items found)) → Reads Holds old new out (λ r found. items found ≡ wanted r)
+  asks_all {R = R} {Holds = Holds} sql params old new knows wanted rows shows h out are_read = asks_ok Holds sql params old new (λ r found. items found ≡ wanted r) knows rows h out (answers out are_read)
     where
       answers : (out : Result V Fault) → IfOk out (λ found. AreReadAs is rows.items (items found))
-          → IfOk out (λ found. (db : Database) (now : Records) (holds : HoldsRecords db now) → Shows (knows db now holds).command db params rows.items → items found ≡ wanted now)
+          → IfOk out (λ found. (db : Database) (now : R) (holds : Holds db now) → Shows (knows db now holds).command db params rows.items → items found ≡ wanted now)
       answers (Ok found) are_read = λ db now holds shown. all_read (items found) (wanted now) (subst (λ l. AreReadAs is l (items found)) (shows db now holds shown) are_read)
       answers (Err e) are_read = tt

@@ -1,16 +1,20 @@
 //! The store of a desk: typed reads and writes of records in one change at a time, which is kept whole or not at all.
 #![tactic(auto)]
 
+mod actions;
 mod artifacts;
 mod attributes;
 mod change;
 mod from_row;
 mod reading;
+mod rollouts;
 mod sets;
 mod store;
 mod targets;
 
 pub use crate::change::OpenChange;
 pub use crate::store::DeskStore;
-pub use desk_records::{ListedTarget, SetName, StoredArtifact, StoredTarget};
+pub use desk_records::{
+    ListedAction, ListedTarget, SetName, StoredAction, StoredArtifact, StoredRollout, StoredTarget,
+};
 pub use sql_calls::{Fault, Work};

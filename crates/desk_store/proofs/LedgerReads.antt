@@ -1,0 +1,131 @@
+-- What rows of rollouts, groups, actions and offers tell of the ledger that they show.
+use Rattle.std.proofs.Common.{◌≡◌, ℕ, pos, List, [], ◌∷◌, Bool, true, false, Option, Some, None, option_map, refl, if◌then◌else◌, nat_lt}
+use Rattle.std.specs.Option.{option_and_then}
+use Rattle.sqlite_value.specs.declared.value.Value.TheVariants.{Int, Text}
+use Rattle.sqlite_value.specs.Order.{Row}
+use Rattle.sqlite.specs.Command.{Command}
+use Rattle.sqlite.specs.Schema.{Schema}
+use Rattle.sql_calls.proofs.Changes.{Knows}
+use Rattle.sql_calls.proofs.Means.{Means}
+use Rattle.sql_front.specs.Stands.{Stands}
+use Rattle.rollout_machine.specs.declared.outcome.Outcome.{Outcome}
+use Rattle.rollout_machine.specs.declared.outcome.Outcome.TheVariants.{Good, Bad, Gone}
+use Rattle.rollout_machine.specs.declared.records.GroupRecord.{GroupRecord}
+use Rattle.rollout_model.specs.Rules.{is_number, is_group_count, is_percentage}
+use Rattle.rollout_model.specs.declared.approval.Approval.{Approval}
+use Rattle.rollout_model.specs.declared.approval.Approval.TheVariants.{Waiting, Denied, Given}
+use Rattle.rollout_model.specs.declared.rollout.Offer.{Offer}
+use Rattle.desk_records.specs.declared.rollout_row.ListedAction.{ListedAction}
+use Rattle.desk_records.specs.declared.rollout_row.StoredAction.{StoredAction}
+use Rattle.desk_records.specs.declared.rollout_row.StoredRollout.{StoredRollout}
+use Rattle.desk_records.specs.Actions.{outcome_code}
+use Rattle.desk_records.specs.Codes.{coded_in, flag_of, approval_from, outcome_from, flag_in, approval_in, outcome_in}
+use Rattle.desk_records.specs.Holds.{HoldsLedger}
+use Rattle.desk_records.specs.RolloutRow.{IsRolloutRow, IsGroupRow, IsActionRow, IsListedActionRow, IsOfferRow}
+use Rattle.desk_records.specs.Rollouts.{approval_code, flag}
+use Rattle.desk_records.specs.Schema.{Place, name_of, table_at}
+use Rattle.desk_records.proofs.RolloutRecords.{shown_group}
+use Rattle.desk_records.proofs.ActionRecords.{shown_action, told_listed, told_offer}
+
+-- what a text means wherever the table stands
+abbrev pub ledger_knows : (t : Place) (sql : List ℕ) (command : ℕ → ℕ → Command) → ((s : Schema) (at tree : ℕ) → Stands s (name_of t) at (table_at t tree) → Means s sql (command at tree)) → Knows HoldsLedger sql
+ledger_knows t sql command means db l holds = record { command = command (holds.spot t).at (holds.spot t).tree; means = means db.schema (holds.spot t).at (holds.spot t).tree (holds.stands t) }
+
+pub both_mapped : {A B C : Type 0} (f : B → C) (g : A → B) (o : Option A) → option_map (λ a. f (g a)) o ≡ option_map f (option_map g o)
+both_mapped f g None = refl
+both_mapped f g (Some a) = refl
+
+-- ---- codes
+
+coded : {A : Type 0} (meant : ℕ → Option A) (n : ℕ) (a : A) → coded_in meant (Int (pos n)) ≡ Some a → meant n ≡ Some a
+coded meant n a h = go (nat_lt n 4294967296) h
+  where
+    go : (b : Bool) → option_and_then meant (if b then Some n else None) ≡ Some a → meant n ≡ Some a
+    go true e = e
+    go false e = absurd cc
+
+-- a number of a range is read as itself
+kept_number : (fits : ℕ → Bool) (n m : ℕ) → coded_in (λ k. if fits k then Some k else None) (Int (pos n)) ≡ Some m → m ≡ n
+kept_number fits n m h = go (fits n) (coded (λ k. if fits k then Some k else None) n m h)
+  where
+    go : (b : Bool) → (if b then Some n else None) ≡ Some m → m ≡ n
+    go true e = cc
+    go false e = absurd cc
+
+kept_flag : (b c : Bool) → flag_in (Int (pos (flag b))) ≡ Some c → c ≡ b
+kept_flag true c h = let e : Some true ≡ Some c = coded flag_of 1 c h in cc
+kept_flag false c h = let e : Some false ≡ Some c = coded flag_of 0 c h in cc
+
+kept_approval : (a c : Approval) → approval_in (Int (pos (approval_code a))) ≡ Some c → c ≡ a
+kept_approval Waiting c h = let e : Some Waiting ≡ Some c = coded approval_from 0 c h in cc
+kept_approval Given c h = let e : Some Given ≡ Some c = coded approval_from 1 c h in cc
+kept_approval Denied c h = let e : Some Denied ≡ Some c = coded approval_from 2 c h in cc
+
+kept_outcome : (o c : Option Outcome) → outcome_in (Int (pos (outcome_code o))) ≡ Some c → c ≡ o
+kept_outcome None c h = let e : Some None ≡ Some c = coded outcome_from 0 c h in cc
+kept_outcome (Some Good) c h = let e : Some (Some Good) ≡ Some c = coded outcome_from 1 c h in cc
+kept_outcome (Some Bad) c h = let e : Some (Some Bad) ≡ Some c = coded outcome_from 2 c h in cc
+kept_outcome (Some Gone) c h = let e : Some (Some Gone) ≡ Some c = coded outcome_from 3 c h in cc
+
+same_text : (a b : List ℕ) → Text a ≡ Text b → b ≡ a
+same_text a b h = cc
+
+same_int : (a b : ℕ) → Int (pos a) ≡ Int (pos b) → b ≡ a
+same_int a b h = cc
+
+-- ---- rows
+
+abbrev pub shown_rollout : StoredRollout → Row
+shown_rollout x = Text x.plan.name ∷ Int (pos x.plan.set_number) ∷ Text x.plan.filter_text ∷ Int (pos x.plan.groups) ∷ Int (pos x.plan.success) ∷ Int (pos x.plan.error)
+    ∷ Int (pos (approval_code x.approval)) ∷ Int (pos (flag x.started)) ∷ Int (pos (flag x.paused)) ∷ []
+
+pub one_rollout : (a b : StoredRollout) → IsRolloutRow (shown_rollout b) a → a ≡ b
+one_rollout a b h =
+    let name = same_text b.plan.name a.plan.name h.name in
+    let set_number = kept_number is_number b.plan.set_number a.plan.set_number h.set_number in
+    let filter_text = same_text b.plan.filter_text a.plan.filter_text h.filter_text in
+    let groups = kept_number is_group_count b.plan.groups a.plan.groups h.groups in
+    let success = kept_number is_percentage b.plan.success a.plan.success h.success in
+    let error = kept_number is_percentage b.plan.error a.plan.error h.error in
+    let approval = kept_approval b.approval a.approval h.approval in
+    let started = kept_flag b.started a.started h.started in
+    let paused = kept_flag b.paused a.paused h.paused in
+    λ i. record { plan = record { name = name i; set_number = set_number i; filter_text = filter_text i; groups = groups i; success = success i; error = error i }; approval = approval i; started = started i; paused = paused i }
+
+pub one_group : (a b : GroupRecord) → IsGroupRow (shown_group b) a → a ≡ b
+one_group a b h =
+    let number = same_int b.number a.number h.number in
+    let first = same_int b.bounds.first a.bounds.first h.first in
+    let last = same_int b.bounds.last a.bounds.last h.last in
+    let started = kept_flag b.started a.started h.started in
+    let ok = same_int b.ok a.ok h.ok in
+    let bad = same_int b.bad a.bad h.bad in
+    let gone = same_int b.gone a.gone h.gone in
+    λ i. record { number = number i; bounds = record { first = first i; last = last i }; started = started i; ok = ok i; bad = bad i; gone = gone i }
+
+-- whatever else the row has
+one_of : (a b : StoredAction) (more : Row) → IsActionRow (Int (pos b.rollout) ∷ Int (pos b.position) ∷ Text b.target ∷ Int (pos (flag b.canceling)) ∷ Int (pos (outcome_code b.outcome)) ∷ Int (pos b.notes) ∷ Int (pos b.entries) ∷ more) a → a ≡ b
+one_of a b more h =
+    let rollout = kept_number is_number b.rollout a.rollout h.rollout in
+    let position = same_int b.position a.position h.position in
+    let target = same_text b.target a.target h.target in
+    let canceling = kept_flag b.canceling a.canceling h.canceling in
+    let outcome = kept_outcome b.outcome a.outcome h.outcome in
+    let notes = same_int b.notes a.notes h.notes in
+    let entries = same_int b.entries a.entries h.entries in
+    λ i. record { rollout = rollout i; position = position i; target = target i; canceling = canceling i; outcome = outcome i; notes = notes i; entries = entries i }
+
+pub one_action : (a b : StoredAction) → IsActionRow (shown_action b) a → a ≡ b
+one_action a b h = one_of a b [] h
+
+pub one_listed : (a b : ListedAction) → IsListedActionRow (told_listed b) a → a ≡ b
+one_listed a b h =
+    let action = one_of a.action b.action (Int (pos b.number) ∷ []) h.action in
+    let number = kept_number is_number b.number a.number h.number in
+    λ i. record { number = number i; action = action i }
+
+pub one_offer : (a b : Offer) → IsOfferRow (told_offer b) a → a ≡ b
+one_offer a b h =
+    let action = kept_number is_number b.action a.action h.action in
+    let canceling = kept_flag b.canceling a.canceling h.canceling in
+    λ i. record { action = action i; canceling = canceling i }

@@ -1,0 +1,106 @@
+-- The calls on rollouts and groups.
+use Rattle.std.proofs.Common.{◌≡◌, ◌≤◌, ℕ, pos, take, drop, [], ◌∷◌, length, map, Option, Some, Ok, Err, Result, IfOk, option_map, Vec, vec_items, refl, sym, ap, ◌∙◌, codes}
+use Rattle.std.specs.List.{list_any}
+use Rattle.std.specs.Option.{is_some}
+use Rattle.std.specs.declared.alloc.Global.{Global}
+use Rattle.sqlite_value.specs.declared.value.Value.TheVariants.{Int, Text}
+use Rattle.sqlite_value.specs.Order.{Row}
+use Rattle.sqlite.specs.Command.TheVariants.{Select}
+use Rattle.sqlite.specs.Term.{col}
+use Rattle.sqlite.specs.Effect.{Database}
+use Rattle.sqlite.specs.State.{State}
+use Rattle.sqlite_keyed.proofs.ListLemmas.{map-map}
+use Rattle.sql_calls.specs.declared.fault.Fault.{Fault}
+use Rattle.sql_calls.specs.Calls.{AsksText, TakesFirst}
+use Rattle.sql_calls.specs.Standing.{Reads}
+use Rattle.sql_calls.proofs.Changes.{Knows, ShowsFirst}
+use Rattle.sql_calls.proofs.Selects.{simple}
+use Rattle.sql_calls.proofs.TypedCalls.{takes_ok}
+use Rattle.rollout_machine.specs.ByteStrings.{item_numbered}
+use Rattle.rollout_machine.specs.Commands.{Bytes}
+use Rattle.rollout_machine.specs.StateWords.{group_numbered, group_holding}
+use Rattle.rollout_machine.specs.declared.records.GroupRecord.{GroupRecord}
+use Rattle.desk_records.specs.declared.rollout_texts.TheConstants.{FIND_ROLLOUT, LAST_ROLLOUT, GET_ROLLOUT, LIST_ROLLOUTS, LIST_GROUPS, GET_GROUP, HOLDING_GROUP}
+use Rattle.desk_records.specs.declared.rollout_row.StoredRollout.{StoredRollout}
+use Rattle.desk_records.specs.Holds.{HoldsLedger, Ledger}
+use Rattle.desk_records.specs.Modules.{IsLastRow}
+use Rattle.desk_records.specs.RolloutRow.{IsRolloutRow, IsGroupRow, stored_rollout}
+use Rattle.desk_records.specs.Rollouts.{is_called, groups_of}
+use Rattle.desk_records.specs.Schema.{OfRollouts, Rollouts, Groups}
+use Rattle.desk_records.proofs.MeaningWords.{at_key}
+use Rattle.desk_records.proofs.RolloutMeaning.{same_name, last_rollout_query, rollout_columns, rollout_names, list_rollouts_query, group_names, list_groups_query, get_group_query, holding_group_query, find_rollout_is, last_rollout_is, get_rollout_is, list_rollouts_is, list_groups_is, get_group_is, holding_group_is}
+use Rattle.desk_records.proofs.RolloutRecords.{finds_rollout, lasts_rollout, gets_rollout, lists_rollouts, shown_group, lists_groups, gets_group, holds_group}
+use Rattle.desk_store.specs.Rows.{AreReadAs, IsReadAs}
+use Rattle.desk_store.proofs.LedgerReads.{ledger_knows, both_mapped, shown_rollout, one_rollout, one_group}
+use Rattle.desk_store.proofs.ModuleCalls.{one_last}
+use Rattle.desk_store.proofs.ReadLemmas.{asks_all, takes_one}
+
+-- ---- what the texts mean where a ledger is held
+
+abbrev pub finding : Knows HoldsLedger FIND_ROLLOUT.now
+finding = ledger_knows (OfRollouts Rollouts) FIND_ROLLOUT.now (λ at tree. Select (record { lets = []; body = simple tree same_name (col 1 0 ∷ []) }) (codes "number" ∷ [])) find_rollout_is
+
+abbrev pub ending : Knows HoldsLedger LAST_ROLLOUT.now
+ending = ledger_knows (OfRollouts Rollouts) LAST_ROLLOUT.now (λ at tree. Select (record { lets = []; body = last_rollout_query tree }) (codes "number" ∷ [])) last_rollout_is
+
+abbrev pub getting : Knows HoldsLedger GET_ROLLOUT.now
+getting = ledger_knows (OfRollouts Rollouts) GET_ROLLOUT.now (λ at tree. Select (record { lets = []; body = simple tree (at_key 0 0 ∷ []) rollout_columns }) rollout_names) get_rollout_is
+
+abbrev pub paging : Knows HoldsLedger LIST_ROLLOUTS.now
+paging = ledger_knows (OfRollouts Rollouts) LIST_ROLLOUTS.now (λ at tree. Select (record { lets = []; body = list_rollouts_query tree }) rollout_names) list_rollouts_is
+
+abbrev pub listing : Knows HoldsLedger LIST_GROUPS.now
+listing = ledger_knows (OfRollouts Groups) LIST_GROUPS.now (λ at tree. Select (record { lets = []; body = list_groups_query tree }) group_names) list_groups_is
+
+abbrev pub getting_group : Knows HoldsLedger GET_GROUP.now
+getting_group = ledger_knows (OfRollouts Groups) GET_GROUP.now (λ at tree. Select (record { lets = []; body = get_group_query tree }) group_names) get_group_is
+
+abbrev pub holding_group : Knows HoldsLedger HOLDING_GROUP.now
+holding_group = ledger_knows (OfRollouts Groups) HOLDING_GROUP.now (λ at tree. Select (record { lets = []; body = holding_group_query tree }) group_names) holding_group_is
+
+-- ---- rollouts
+
+pub found : {E : Type 0} (name : Bytes) (old new : State) (row : Option Row) → TakesFirst old new FIND_ROLLOUT.now (Text name ∷ []) (Ok row) → Reads HoldsLedger {E = E} old new (Ok (is_some row)) (λ l there. there ≡ list_any (is_called name) l.records.rollouts)
+found name old new row h =
+    takes_ok HoldsLedger FIND_ROLLOUT.now (Text name ∷ []) old new (λ l there. there ≡ list_any (is_called name) l.records.rollouts) finding (λ db l holds at given. tt) row h (Ok (is_some row))
+    (λ db l holds shown. finds_rollout db l holds (codes "number" ∷ []) name row shown)
+
+lasts : (row : Option Row) (out : Result ℕ Fault) → IfOk out (λ n. IsLastRow n row)
+    → IfOk out (λ n. (db : Database) (l : Ledger) (holds : HoldsLedger db l) → ShowsFirst (ending db l holds).command db [] row → n ≡ length l.records.rollouts)
+lasts row (Ok n) h = λ db l holds shown. one_last row n (length l.records.rollouts) h (lasts_rollout db l holds (codes "number" ∷ []) row shown)
+lasts row (Err e) h = tt
+
+pub last_read : (old new : State) (row : Option Row) → TakesFirst old new LAST_ROLLOUT.now [] (Ok row) → (out : Result ℕ Fault) → IfOk out (λ n. IsLastRow n row) → Reads HoldsLedger old new out (λ l last. last ≡ length l.records.rollouts)
+last_read old new row h out is = takes_ok HoldsLedger LAST_ROLLOUT.now [] old new (λ l last. last ≡ length l.records.rollouts) ending (λ db l holds at given. tt) row h out (lasts row out is)
+
+pub rollout_read : (number : ℕ) → 1 ≤ number → (old new : State) (row : Option Row) → TakesFirst old new GET_ROLLOUT.now (Int (pos number) ∷ []) (Ok row) → (out : Result (Option StoredRollout) Fault) → IfOk out (λ found. IsReadAs IsRolloutRow found row)
+    → Reads HoldsLedger old new out (λ l found. found ≡ option_map stored_rollout (item_numbered l.records.rollouts number))
+rollout_read number least old new row =
+    takes_one IsRolloutRow shown_rollout GET_ROLLOUT.now (Int (pos number) ∷ []) old new getting (λ l. option_map stored_rollout (item_numbered l.records.rollouts number)) ◌≡◌ refl (λ a b h. ap Some (one_rollout a b h)) (λ db l holds at given. tt) row
+    (λ db l holds shown. gets_rollout db l holds rollout_names number least row shown ∙ both_mapped shown_rollout stored_rollout _)
+
+pub rollouts_read : (limit offset : ℕ) (old new : State) (rows : Vec Row Global) → AsksText old new LIST_ROLLOUTS.now (Int (pos limit) ∷ Int (pos offset) ∷ []) (Ok rows) → (out : Result (Vec StoredRollout Global) Fault) → IfOk out (λ found. AreReadAs IsRolloutRow rows.items found.items)
+    → Reads HoldsLedger old new out (λ l found. found.items ≡ map stored_rollout (take limit (drop offset l.records.rollouts)))
+rollouts_read limit offset old new rows =
+    asks_all vec_items IsRolloutRow shown_rollout one_rollout LIST_ROLLOUTS.now (Int (pos limit) ∷ Int (pos offset) ∷ []) old new paging (λ l. map stored_rollout (take limit (drop offset l.records.rollouts))) rows
+    (λ db l holds shown. lists_rollouts db l holds rollout_names limit offset rows.items shown ∙ sym (map-map shown_rollout stored_rollout _))
+
+-- ---- groups
+
+pub groups_read : (number : ℕ) → 1 ≤ number → (old new : State) (rows : Vec Row Global) → AsksText old new LIST_GROUPS.now (Int (pos number) ∷ []) (Ok rows) → (out : Result (Vec GroupRecord Global) Fault) → IfOk out (λ found. AreReadAs IsGroupRow rows.items found.items)
+    → Reads HoldsLedger old new out (λ l found. found.items ≡ groups_of (item_numbered l.records.rollouts number))
+groups_read number least old new rows =
+    asks_all vec_items IsGroupRow shown_group one_group LIST_GROUPS.now (Int (pos number) ∷ []) old new listing (λ l. groups_of (item_numbered l.records.rollouts number)) rows
+    (λ db l holds shown. lists_groups db l holds group_names number least rows.items shown)
+
+pub group_read : (number place : ℕ) → 1 ≤ number → (old new : State) (row : Option Row) → TakesFirst old new GET_GROUP.now (Int (pos number) ∷ Int (pos place) ∷ []) (Ok row) → (out : Result (Option GroupRecord) Fault) → IfOk out (λ found. IsReadAs IsGroupRow found row)
+    → Reads HoldsLedger old new out (λ l found. found ≡ group_numbered place (groups_of (item_numbered l.records.rollouts number)))
+group_read number place least old new row =
+    takes_one IsGroupRow shown_group GET_GROUP.now (Int (pos number) ∷ Int (pos place) ∷ []) old new getting_group (λ l. group_numbered place (groups_of (item_numbered l.records.rollouts number))) ◌≡◌ refl (λ a b h. ap Some (one_group a b h)) (λ db l holds at given. tt) row
+    (λ db l holds shown. gets_group db l holds group_names number place least row shown)
+
+pub holding_read : (number place : ℕ) → 1 ≤ number → (old new : State) (row : Option Row) → TakesFirst old new HOLDING_GROUP.now (Int (pos number) ∷ Int (pos place) ∷ []) (Ok row) → (out : Result (Option GroupRecord) Fault) → IfOk out (λ found. IsReadAs IsGroupRow found row)
+    → Reads HoldsLedger old new out (λ l found. found ≡ group_holding place (groups_of (item_numbered l.records.rollouts number)))
+holding_read number place least old new row =
+    takes_one IsGroupRow shown_group HOLDING_GROUP.now (Int (pos number) ∷ Int (pos place) ∷ []) old new holding_group (λ l. group_holding place (groups_of (item_numbered l.records.rollouts number))) ◌≡◌ refl (λ a b h. ap Some (one_group a b h)) (λ db l holds at given. tt) row
+    (λ db l holds shown. holds_group db l holds group_names number place least row shown)

@@ -1,0 +1,139 @@
+//! Rollouts and their groups, in a change that is under way.
+
+ghost use Rattle.std.specs.Prelude.{◌≡◌, ◌≤◌, ◌+◌, length, map, take, drop};
+ghost use Rattle.std.specs.List.{list_any};
+ghost use Rattle.std.specs.Option.{option_map};
+ghost use Rattle.rollout_machine.specs.ByteStrings.{item_numbered};
+ghost use Rattle.rollout_machine.specs.StateWords.{group_holding, group_numbered};
+ghost use Rattle.desk_records.specs.RolloutRow.{IsGroupRow, IsRolloutRow, stored_rollout};
+ghost use Rattle.desk_records.specs.Rollouts.{groups_of, is_called};
+ghost use Rattle.desk_store.specs.Counting.{AddsAtMost};
+ghost use Rattle.desk_store.specs.Ledgers.{ReadsLedger};
+
+use crate::change::OpenChange;
+use crate::from_row::FromRow;
+use crate::reading::{last_number, read_all, read_optional};
+use desk_records::{
+    FIND_ROLLOUT, GET_GROUP, GET_ROLLOUT, HOLDING_GROUP, LAST_ROLLOUT, LIST_GROUPS, LIST_ROLLOUTS,
+    RowFault, StoredRollout, read_group, read_stored_rollout,
+};
+use rollout_machine::GroupRecord;
+use rollout_model::{Page, RolloutNo, Text};
+use sql_calls::Fault;
+use sqlite::{Alter, Row, params};
+use std::alloc::Global;
+
+/// Of plan, approval, started and paused.
+impl FromRow for StoredRollout {
+    ghost is_row = { IsRolloutRow };
+
+    fn from_row(alloc: Global, row: &Row) -> Result<Self, RowFault> {
+        read_stored_rollout(alloc, row)
+    }
+}
+
+/// Of number, first and last place, started and counts.
+impl FromRow for GroupRecord {
+    ghost is_row = { IsGroupRow };
+
+    fn from_row(_alloc: Global, row: &Row) -> Result<Self, RowFault> {
+        read_group(row)
+    }
+}
+
+impl<'a, S: Alter> OpenChange<'a, S> {
+    /// Whether there is a rollout of the name.
+    pub fn read_same_rollout(&mut self, name: &Text) -> Result<bool, Fault>
+        ensures same_reference { self.new.store.ghost_name ≡ self.old.store.ghost_name }
+        ensures reads { ReadsLedger S.Store self.old self.new result (λ l found. found ≡ list_any (is_called name.now) l.records.rollouts) }
+        ensures work { AddsAtMost 1 self.old.store.now.calls.work self.new.store.now.calls.work }
+    {
+        let row = self
+            .store
+            .calls
+            .first(FIND_ROLLOUT, params![name.as_str()])?;
+        Ok(row.is_some())
+    }
+
+    /// The number of the last rollout, which is how many there are.
+    pub fn read_last_rollout(&mut self) -> Result<u32, Fault>
+        ensures same_reference { self.new.store.ghost_name ≡ self.old.store.ghost_name }
+        ensures reads { ReadsLedger S.Store self.old self.new result (λ l last. last ≡ length l.records.rollouts) }
+        ensures work { AddsAtMost 1 self.old.store.now.calls.work self.new.store.now.calls.work }
+    {
+        let row = self.store.calls.first(LAST_ROLLOUT, &[])?;
+        last_number(row)
+    }
+
+    /// The rollout of a number, without its members and groups. A row that breaks a column's rule is a failed store.
+    pub fn read_rollout(&mut self, number: RolloutNo) -> Result<Option<StoredRollout>, Fault>
+        ensures same_reference { self.new.store.ghost_name ≡ self.old.store.ghost_name }
+        ensures reads { ReadsLedger S.Store self.old self.new result (λ l found. found ≡ option_map stored_rollout (item_numbered l.records.rollouts number)) }
+        ensures work { AddsAtMost 1 self.old.store.now.calls.work self.new.store.now.calls.work }
+    {
+        let alloc = self.store.alloc;
+        let row = self.store.calls.first(GET_ROLLOUT, params![number.get()])?;
+        read_optional(alloc, row)
+    }
+
+    /// The rollouts of a page, in the order of their numbers. A row that breaks a column's rule is a failed store.
+    pub fn read_rollouts(&mut self, page: Page) -> Result<Vec<StoredRollout>, Fault>
+        ensures same_reference { self.new.store.ghost_name ≡ self.old.store.ghost_name }
+        ensures reads { ReadsLedger S.Store self.old self.new result (λ l found. found.items ≡ map stored_rollout (take page.limit (drop page.offset l.records.rollouts))) }
+        ensures work { self.new.store.now.calls.work.statements ≤ self.old.store.now.calls.work.statements + 1 }
+    {
+        let alloc = self.store.alloc;
+        let rows = self
+            .store
+            .calls
+            .ask(LIST_ROLLOUTS, params![page.limit, page.offset])?;
+        read_all(alloc, &rows)
+    }
+
+    /// The groups of a rollout, in the order of their numbers, which are counted from 1; none where there is no such rollout. A row that breaks a column's rule is a failed store.
+    pub fn read_groups(&mut self, number: RolloutNo) -> Result<Vec<GroupRecord>, Fault>
+        ensures same_reference { self.new.store.ghost_name ≡ self.old.store.ghost_name }
+        ensures reads { ReadsLedger S.Store self.old self.new result (λ l groups. groups.items ≡ groups_of (item_numbered l.records.rollouts number)) }
+        ensures work { self.new.store.now.calls.work.statements ≤ self.old.store.now.calls.work.statements + 1 }
+    {
+        let alloc = self.store.alloc;
+        let rows = self.store.calls.ask(LIST_GROUPS, params![number.get()])?;
+        read_all(alloc, &rows)
+    }
+
+    /// The group of a rollout and a number. A row that breaks a column's rule is a failed store.
+    pub fn read_group(
+        &mut self,
+        number: RolloutNo,
+        group: u32,
+    ) -> Result<Option<GroupRecord>, Fault>
+        ensures same_reference { self.new.store.ghost_name ≡ self.old.store.ghost_name }
+        ensures reads { ReadsLedger S.Store self.old self.new result (λ l found. found ≡ group_numbered group (groups_of (item_numbered l.records.rollouts number))) }
+        ensures work { AddsAtMost 1 self.old.store.now.calls.work self.new.store.now.calls.work }
+    {
+        let alloc = self.store.alloc;
+        let row = self
+            .store
+            .calls
+            .first(GET_GROUP, params![number.get(), group])?;
+        read_optional(alloc, row)
+    }
+
+    /// The first group of a rollout that has a place. A row that breaks a column's rule is a failed store.
+    pub fn read_holding_group(
+        &mut self,
+        number: RolloutNo,
+        place: u32,
+    ) -> Result<Option<GroupRecord>, Fault>
+        ensures same_reference { self.new.store.ghost_name ≡ self.old.store.ghost_name }
+        ensures reads { ReadsLedger S.Store self.old self.new result (λ l found. found ≡ group_holding place (groups_of (item_numbered l.records.rollouts number))) }
+        ensures work { AddsAtMost 1 self.old.store.now.calls.work self.new.store.now.calls.work }
+    {
+        let alloc = self.store.alloc;
+        let row = self
+            .store
+            .calls
+            .first(HOLDING_GROUP, params![number.get(), place])?;
+        read_optional(alloc, row)
+    }
+}
