@@ -14,7 +14,7 @@ use Rattle.sqlite_resolve.specs.Expr.{combine}
 use Rattle.sqlite_resolve.specs.Select.{named, paging}
 use Rattle.sqlite_resolve.specs.Write.{updated, deleted}
 use Rattle.sql_front.specs.Stands.{Stands}
-use Rattle.sql_front.proofs.Texts.{Selects, selects_known}
+use Rattle.sql_front.proofs.Texts.{Queries, queries_known}
 use Rattle.sql_front.proofs.Write.{Adds, Makes, adds_known}
 use Rattle.sql_front.proofs.Change.{Updates, Removes, updates_known, removes_known}
 use Rattle.sql_calls.proofs.Means.{Means}
@@ -38,9 +38,9 @@ create_offer_makes = record { parsed = _; made = _; read = refl; statement = ref
 abbrev pub last_action_query : ℕ → Query
 last_action_query tree = by (simple tree [] (col 1 0 ∷ [])) ((col 1 0, record { descending = true; collation = Binary }) ∷ []) (lit (Int (pos 1))) (lit (Int (pos 0)))
 
-last_action_selects : (tree : ℕ) → Selects LAST_ACTION.now (codes "action") (action_table tree) (last_action_query tree) (codes "number" ∷ [])
+last_action_queries : (tree : ℕ) → Queries LAST_ACTION.now (codes "action") (action_table tree) (last_action_query tree) (codes "number" ∷ [])
 unfolding first combine named paging everything
-last_action_selects tree = record {
+last_action_queries tree = record {
   parsed = _;
   select = _;
   page = _;
@@ -58,7 +58,7 @@ last_action_selects tree = record {
 }
 
 pub last_action_is : (s : Schema) (at tree : ℕ) → Stands s (codes "action") at (action_table tree) → Means s LAST_ACTION.now (Select (record { lets = []; body = last_action_query tree }) (codes "number" ∷ []))
-last_action_is s at tree stands = means_of s LAST_ACTION.now _ (selects_known _ _ _ _ _ (last_action_selects tree) s at stands) refl refl
+last_action_is s at tree stands = means_of s LAST_ACTION.now _ (queries_known _ _ _ _ _ (last_action_queries tree) s at stands) refl refl
 
 abbrev pub action_names : List (List ℕ)
 action_names = codes "rollout" ∷ codes "place" ∷ codes "controller" ∷ codes "canceling" ∷ codes "outcome" ∷ codes "notes" ∷ codes "entries" ∷ []
@@ -66,9 +66,9 @@ action_names = codes "rollout" ∷ codes "place" ∷ codes "controller" ∷ code
 abbrev pub action_columns : List Term
 action_columns = col 1 2 ∷ col 1 3 ∷ col 1 4 ∷ col 1 5 ∷ col 1 6 ∷ col 1 7 ∷ col 1 8 ∷ []
 
-get_action_selects : (tree : ℕ) → Selects GET_ACTION.now (codes "action") (action_table tree) (simple tree (at_key 0 0 ∷ []) action_columns) action_names
+get_action_queries : (tree : ℕ) → Queries GET_ACTION.now (codes "action") (action_table tree) (simple tree (at_key 0 0 ∷ []) action_columns) action_names
 unfolding first combine named paging everything
-get_action_selects tree = record {
+get_action_queries tree = record {
   parsed = _;
   select = _;
   page = _;
@@ -86,7 +86,7 @@ get_action_selects tree = record {
 }
 
 pub get_action_is : (s : Schema) (at tree : ℕ) → Stands s (codes "action") at (action_table tree) → Means s GET_ACTION.now (Select (record { lets = []; body = simple tree (at_key 0 0 ∷ []) action_columns }) action_names)
-get_action_is s at tree stands = means_of s GET_ACTION.now _ (selects_known _ _ _ _ _ (get_action_selects tree) s at stands) refl refl
+get_action_is s at tree stands = means_of s GET_ACTION.now _ (queries_known _ _ _ _ _ (get_action_queries tree) s at stands) refl refl
 
 abbrev pub listed_names : List (List ℕ)
 listed_names = codes "rollout" ∷ codes "place" ∷ codes "controller" ∷ codes "canceling" ∷ codes "outcome" ∷ codes "notes" ∷ codes "entries" ∷ codes "number" ∷ []
@@ -100,9 +100,9 @@ listed_columns = col 1 2 ∷ col 1 3 ∷ col 1 4 ∷ col 1 5 ∷ col 1 6 ∷ col
 abbrev pub list_actions_query : ℕ → Query
 list_actions_query tree = by (simple tree of_rollout listed_columns) ((col 1 0, record { descending = false; collation = Binary }) ∷ []) (col 0 1) (col 0 2)
 
-list_actions_selects : (tree : ℕ) → Selects LIST_ACTIONS.now (codes "action") (action_table tree) (list_actions_query tree) listed_names
+list_actions_queries : (tree : ℕ) → Queries LIST_ACTIONS.now (codes "action") (action_table tree) (list_actions_query tree) listed_names
 unfolding first combine named paging everything
-list_actions_selects tree = record {
+list_actions_queries tree = record {
   parsed = _;
   select = _;
   page = _;
@@ -120,7 +120,7 @@ list_actions_selects tree = record {
 }
 
 pub list_actions_is : (s : Schema) (at tree : ℕ) → Stands s (codes "action") at (action_table tree) → Means s LIST_ACTIONS.now (Select (record { lets = []; body = list_actions_query tree }) listed_names)
-list_actions_is s at tree stands = means_of s LIST_ACTIONS.now _ (selects_known _ _ _ _ _ (list_actions_selects tree) s at stands) refl refl
+list_actions_is s at tree stands = means_of s LIST_ACTIONS.now _ (queries_known _ _ _ _ _ (list_actions_queries tree) s at stands) refl refl
 
 abbrev pub action_terms : List Term
 action_terms = col 0 0 ∷ lit Null ∷ col 0 1 ∷ col 0 2 ∷ col 0 3 ∷ lit (Int (pos 0)) ∷ lit (Int (pos 0)) ∷ lit (Int (pos 0)) ∷ lit (Int (pos 0)) ∷ []
@@ -175,9 +175,9 @@ of_controller = at_key 1 0 ∷ []
 abbrev pub offer_columns : List Term
 offer_columns = col 1 2 ∷ col 1 3 ∷ []
 
-get_offer_selects : (tree : ℕ) → Selects GET_OFFER.now (codes "offer") (offer_table tree) (simple tree of_controller offer_columns) (codes "action" ∷ codes "kind" ∷ [])
+get_offer_queries : (tree : ℕ) → Queries GET_OFFER.now (codes "offer") (offer_table tree) (simple tree of_controller offer_columns) (codes "action" ∷ codes "kind" ∷ [])
 unfolding first combine named paging everything
-get_offer_selects tree = record {
+get_offer_queries tree = record {
   parsed = _;
   select = _;
   page = _;
@@ -195,7 +195,7 @@ get_offer_selects tree = record {
 }
 
 pub get_offer_is : (s : Schema) (at tree : ℕ) → Stands s (codes "offer") at (offer_table tree) → Means s GET_OFFER.now (Select (record { lets = []; body = simple tree of_controller offer_columns }) (codes "action" ∷ codes "kind" ∷ []))
-get_offer_is s at tree stands = means_of s GET_OFFER.now _ (selects_known _ _ _ _ _ (get_offer_selects tree) s at stands) refl refl
+get_offer_is s at tree stands = means_of s GET_OFFER.now _ (queries_known _ _ _ _ _ (get_offer_queries tree) s at stands) refl refl
 
 abbrev pub offer_terms : List Term
 offer_terms = lit Null ∷ col 0 0 ∷ col 0 1 ∷ col 0 2 ∷ []

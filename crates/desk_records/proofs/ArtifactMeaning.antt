@@ -13,7 +13,7 @@ use Rattle.sqlite_resolve.specs.Compile.{first, new_rows, is_reserved}
 use Rattle.sqlite_resolve.specs.Expr.{combine}
 use Rattle.sqlite_resolve.specs.Select.{named, paging}
 use Rattle.sql_front.specs.Stands.{Stands}
-use Rattle.sql_front.proofs.Texts.{Selects, selects_known}
+use Rattle.sql_front.proofs.Texts.{Queries, queries_known}
 use Rattle.sql_front.proofs.Write.{Adds, Makes, adds_known}
 use Rattle.sql_calls.proofs.Means.{Means}
 use Rattle.sql_calls.proofs.Selects.{simple, by}
@@ -32,9 +32,9 @@ create_piece_makes = record { parsed = _; made = _; read = refl; statement = ref
 abbrev pub same_file : List Term
 same_file = at_key 2 0 ∷ at_key 3 1 ∷ []
 
-find_artifact_selects : (tree : ℕ) → Selects FIND_ARTIFACT.now (codes "artifact") (artifact_table tree) (simple tree same_file (col 1 0 ∷ [])) (codes "number" ∷ [])
+find_artifact_queries : (tree : ℕ) → Queries FIND_ARTIFACT.now (codes "artifact") (artifact_table tree) (simple tree same_file (col 1 0 ∷ [])) (codes "number" ∷ [])
 unfolding first combine named paging everything
-find_artifact_selects tree = record {
+find_artifact_queries tree = record {
   parsed = _;
   select = _;
   page = _;
@@ -52,14 +52,14 @@ find_artifact_selects tree = record {
 }
 
 pub find_artifact_is : (s : Schema) (at tree : ℕ) → Stands s (codes "artifact") at (artifact_table tree) → Means s FIND_ARTIFACT.now (Select (record { lets = []; body = simple tree same_file (col 1 0 ∷ []) }) (codes "number" ∷ []))
-find_artifact_is s at tree stands = means_of s FIND_ARTIFACT.now _ (selects_known _ _ _ _ _ (find_artifact_selects tree) s at stands) refl refl
+find_artifact_is s at tree stands = means_of s FIND_ARTIFACT.now _ (queries_known _ _ _ _ _ (find_artifact_queries tree) s at stands) refl refl
 
 abbrev pub last_artifact_query : ℕ → Query
 last_artifact_query tree = by (simple tree [] (col 1 0 ∷ [])) ((col 1 0, record { descending = true; collation = Binary }) ∷ []) (lit (Int (pos 1))) (lit (Int (pos 0)))
 
-last_artifact_selects : (tree : ℕ) → Selects LAST_ARTIFACT.now (codes "artifact") (artifact_table tree) (last_artifact_query tree) (codes "number" ∷ [])
+last_artifact_queries : (tree : ℕ) → Queries LAST_ARTIFACT.now (codes "artifact") (artifact_table tree) (last_artifact_query tree) (codes "number" ∷ [])
 unfolding first combine named paging everything
-last_artifact_selects tree = record {
+last_artifact_queries tree = record {
   parsed = _;
   select = _;
   page = _;
@@ -77,7 +77,7 @@ last_artifact_selects tree = record {
 }
 
 pub last_artifact_is : (s : Schema) (at tree : ℕ) → Stands s (codes "artifact") at (artifact_table tree) → Means s LAST_ARTIFACT.now (Select (record { lets = []; body = last_artifact_query tree }) (codes "number" ∷ []))
-last_artifact_is s at tree stands = means_of s LAST_ARTIFACT.now _ (selects_known _ _ _ _ _ (last_artifact_selects tree) s at stands) refl refl
+last_artifact_is s at tree stands = means_of s LAST_ARTIFACT.now _ (queries_known _ _ _ _ _ (last_artifact_queries tree) s at stands) refl refl
 
 abbrev pub told_names : List (List ℕ)
 told_names = codes "module" ∷ codes "filename" ∷ codes "size" ∷ codes "sha256" ∷ []
@@ -85,9 +85,9 @@ told_names = codes "module" ∷ codes "filename" ∷ codes "size" ∷ codes "sha
 abbrev pub told_columns : List Term
 told_columns = col 1 2 ∷ col 1 3 ∷ col 1 4 ∷ col 1 5 ∷ []
 
-get_artifact_selects : (tree : ℕ) → Selects GET_ARTIFACT.now (codes "artifact") (artifact_table tree) (simple tree (at_key 0 0 ∷ []) told_columns) told_names
+get_artifact_queries : (tree : ℕ) → Queries GET_ARTIFACT.now (codes "artifact") (artifact_table tree) (simple tree (at_key 0 0 ∷ []) told_columns) told_names
 unfolding first combine named paging everything
-get_artifact_selects tree = record {
+get_artifact_queries tree = record {
   parsed = _;
   select = _;
   page = _;
@@ -105,7 +105,7 @@ get_artifact_selects tree = record {
 }
 
 pub get_artifact_is : (s : Schema) (at tree : ℕ) → Stands s (codes "artifact") at (artifact_table tree) → Means s GET_ARTIFACT.now (Select (record { lets = []; body = simple tree (at_key 0 0 ∷ []) told_columns }) told_names)
-get_artifact_is s at tree stands = means_of s GET_ARTIFACT.now _ (selects_known _ _ _ _ _ (get_artifact_selects tree) s at stands) refl refl
+get_artifact_is s at tree stands = means_of s GET_ARTIFACT.now _ (queries_known _ _ _ _ _ (get_artifact_queries tree) s at stands) refl refl
 
 abbrev pub shown_names : List (List ℕ)
 shown_names = codes "number" ∷ codes "filename" ∷ codes "size" ∷ codes "sha256" ∷ []
@@ -116,9 +116,9 @@ shown_columns = col 1 0 ∷ col 1 3 ∷ col 1 4 ∷ col 1 5 ∷ []
 abbrev pub artifacts_query : ℕ → Query
 artifacts_query tree = by (simple tree (at_key 2 0 ∷ []) shown_columns) ((col 1 0, record { descending = false; collation = Binary }) ∷ []) (lit (Int (negsuc 0))) (lit (Int (pos 0)))
 
-list_artifacts_selects : (tree : ℕ) → Selects LIST_ARTIFACTS.now (codes "artifact") (artifact_table tree) (artifacts_query tree) shown_names
+list_artifacts_queries : (tree : ℕ) → Queries LIST_ARTIFACTS.now (codes "artifact") (artifact_table tree) (artifacts_query tree) shown_names
 unfolding first combine named paging everything
-list_artifacts_selects tree = record {
+list_artifacts_queries tree = record {
   parsed = _;
   select = _;
   page = _;
@@ -136,14 +136,14 @@ list_artifacts_selects tree = record {
 }
 
 pub list_artifacts_is : (s : Schema) (at tree : ℕ) → Stands s (codes "artifact") at (artifact_table tree) → Means s LIST_ARTIFACTS.now (Select (record { lets = []; body = artifacts_query tree }) shown_names)
-list_artifacts_is s at tree stands = means_of s LIST_ARTIFACTS.now _ (selects_known _ _ _ _ _ (list_artifacts_selects tree) s at stands) refl refl
+list_artifacts_is s at tree stands = means_of s LIST_ARTIFACTS.now _ (queries_known _ _ _ _ _ (list_artifacts_queries tree) s at stands) refl refl
 
 abbrev pub at_piece : List Term
 at_piece = at_key 1 0 ∷ at_key 2 1 ∷ []
 
-get_piece_selects : (tree : ℕ) → Selects GET_PIECE.now (codes "piece") (piece_table tree) (simple tree at_piece (col 1 3 ∷ [])) (codes "bytes" ∷ [])
+get_piece_queries : (tree : ℕ) → Queries GET_PIECE.now (codes "piece") (piece_table tree) (simple tree at_piece (col 1 3 ∷ [])) (codes "bytes" ∷ [])
 unfolding first combine named paging everything
-get_piece_selects tree = record {
+get_piece_queries tree = record {
   parsed = _;
   select = _;
   page = _;
@@ -161,7 +161,7 @@ get_piece_selects tree = record {
 }
 
 pub get_piece_is : (s : Schema) (at tree : ℕ) → Stands s (codes "piece") at (piece_table tree) → Means s GET_PIECE.now (Select (record { lets = []; body = simple tree at_piece (col 1 3 ∷ []) }) (codes "bytes" ∷ []))
-get_piece_is s at tree stands = means_of s GET_PIECE.now _ (selects_known _ _ _ _ _ (get_piece_selects tree) s at stands) refl refl
+get_piece_is s at tree stands = means_of s GET_PIECE.now _ (queries_known _ _ _ _ _ (get_piece_queries tree) s at stands) refl refl
 
 abbrev pub artifact_terms : List Term
 artifact_terms = col 0 0 ∷ lit Null ∷ col 0 1 ∷ col 0 2 ∷ col 0 3 ∷ col 0 4 ∷ []

@@ -13,7 +13,7 @@ use Rattle.sqlite_resolve.specs.Compile.{first, new_rows, is_reserved}
 use Rattle.sqlite_resolve.specs.Expr.{combine}
 use Rattle.sqlite_resolve.specs.Select.{named, paging}
 use Rattle.sql_front.specs.Stands.{Stands}
-use Rattle.sql_front.proofs.Texts.{Selects, selects_known}
+use Rattle.sql_front.proofs.Texts.{Queries, queries_known}
 use Rattle.sql_front.proofs.Write.{Adds, Makes, adds_known}
 use Rattle.sql_calls.proofs.Means.{Means}
 use Rattle.sql_calls.proofs.Selects.{simple, by}
@@ -42,9 +42,9 @@ put_desk_is s at tree stands = means_of s PUT_DESK.now _ (adds_known _ _ (desk_t
 abbrev pub desk_query : ℕ → Query
 desk_query tree = simple tree (is_equal (col 1 0) (lit (Int (pos 1))) ∷ []) (col 1 2 ∷ col 1 3 ∷ col 1 4 ∷ [])
 
-get_desk_selects : (tree : ℕ) → Selects GET_DESK.now (codes "desk") (desk_table tree) (desk_query tree) (codes "format" ∷ codes "version" ∷ codes "approval" ∷ [])
+get_desk_queries : (tree : ℕ) → Queries GET_DESK.now (codes "desk") (desk_table tree) (desk_query tree) (codes "format" ∷ codes "version" ∷ codes "approval" ∷ [])
 unfolding first combine named paging everything
-get_desk_selects tree = record {
+get_desk_queries tree = record {
   parsed = _;
   select = _;
   page = _;
@@ -62,14 +62,14 @@ get_desk_selects tree = record {
 }
 
 pub get_desk_is : (s : Schema) (at tree : ℕ) → Stands s (codes "desk") at (desk_table tree) → Means s GET_DESK.now (Select (record { lets = []; body = desk_query tree }) (codes "format" ∷ codes "version" ∷ codes "approval" ∷ []))
-get_desk_is s at tree stands = means_of s GET_DESK.now _ (selects_known _ _ _ _ _ (get_desk_selects tree) s at stands) refl refl
+get_desk_is s at tree stands = means_of s GET_DESK.now _ (queries_known _ _ _ _ _ (get_desk_queries tree) s at stands) refl refl
 
 abbrev pub same_label : List Term
 same_label = at_key 2 0 ∷ at_key 3 1 ∷ at_key 4 2 ∷ []
 
-find_module_selects : (tree : ℕ) → Selects FIND_MODULE.now (codes "module") (module_table tree) (simple tree same_label (col 1 0 ∷ [])) (codes "number" ∷ [])
+find_module_queries : (tree : ℕ) → Queries FIND_MODULE.now (codes "module") (module_table tree) (simple tree same_label (col 1 0 ∷ [])) (codes "number" ∷ [])
 unfolding first combine named paging everything
-find_module_selects tree = record {
+find_module_queries tree = record {
   parsed = _;
   select = _;
   page = _;
@@ -87,14 +87,14 @@ find_module_selects tree = record {
 }
 
 pub find_module_is : (s : Schema) (at tree : ℕ) → Stands s (codes "module") at (module_table tree) → Means s FIND_MODULE.now (Select (record { lets = []; body = simple tree same_label (col 1 0 ∷ []) }) (codes "number" ∷ []))
-find_module_is s at tree stands = means_of s FIND_MODULE.now _ (selects_known _ _ _ _ _ (find_module_selects tree) s at stands) refl refl
+find_module_is s at tree stands = means_of s FIND_MODULE.now _ (queries_known _ _ _ _ _ (find_module_queries tree) s at stands) refl refl
 
 abbrev pub last_module_query : ℕ → Query
 last_module_query tree = by (simple tree [] (col 1 0 ∷ [])) ((col 1 0, record { descending = true; collation = Binary }) ∷ []) (lit (Int (pos 1))) (lit (Int (pos 0)))
 
-last_module_selects : (tree : ℕ) → Selects LAST_MODULE.now (codes "module") (module_table tree) (last_module_query tree) (codes "number" ∷ [])
+last_module_queries : (tree : ℕ) → Queries LAST_MODULE.now (codes "module") (module_table tree) (last_module_query tree) (codes "number" ∷ [])
 unfolding first combine named paging everything
-last_module_selects tree = record {
+last_module_queries tree = record {
   parsed = _;
   select = _;
   page = _;
@@ -112,14 +112,14 @@ last_module_selects tree = record {
 }
 
 pub last_module_is : (s : Schema) (at tree : ℕ) → Stands s (codes "module") at (module_table tree) → Means s LAST_MODULE.now (Select (record { lets = []; body = last_module_query tree }) (codes "number" ∷ []))
-last_module_is s at tree stands = means_of s LAST_MODULE.now _ (selects_known _ _ _ _ _ (last_module_selects tree) s at stands) refl refl
+last_module_is s at tree stands = means_of s LAST_MODULE.now _ (queries_known _ _ _ _ _ (last_module_queries tree) s at stands) refl refl
 
 abbrev pub label_columns : List Term
 label_columns = col 1 2 ∷ col 1 3 ∷ col 1 4 ∷ []
 
-get_module_selects : (tree : ℕ) → Selects GET_MODULE.now (codes "module") (module_table tree) (simple tree (at_key 0 0 ∷ []) label_columns) (codes "name" ∷ codes "type" ∷ codes "version" ∷ [])
+get_module_queries : (tree : ℕ) → Queries GET_MODULE.now (codes "module") (module_table tree) (simple tree (at_key 0 0 ∷ []) label_columns) (codes "name" ∷ codes "type" ∷ codes "version" ∷ [])
 unfolding first combine named paging everything
-get_module_selects tree = record {
+get_module_queries tree = record {
   parsed = _;
   select = _;
   page = _;
@@ -137,7 +137,7 @@ get_module_selects tree = record {
 }
 
 pub get_module_is : (s : Schema) (at tree : ℕ) → Stands s (codes "module") at (module_table tree) → Means s GET_MODULE.now (Select (record { lets = []; body = simple tree (at_key 0 0 ∷ []) label_columns }) (codes "name" ∷ codes "type" ∷ codes "version" ∷ []))
-get_module_is s at tree stands = means_of s GET_MODULE.now _ (selects_known _ _ _ _ _ (get_module_selects tree) s at stands) refl refl
+get_module_is s at tree stands = means_of s GET_MODULE.now _ (queries_known _ _ _ _ _ (get_module_queries tree) s at stands) refl refl
 
 abbrev pub module_terms : List Term
 module_terms = col 0 0 ∷ lit Null ∷ col 0 1 ∷ col 0 2 ∷ col 0 3 ∷ []

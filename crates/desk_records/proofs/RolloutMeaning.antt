@@ -14,7 +14,7 @@ use Rattle.sqlite_resolve.specs.Expr.{combine}
 use Rattle.sqlite_resolve.specs.Select.{named, paging}
 use Rattle.sqlite_resolve.specs.Write.{updated}
 use Rattle.sql_front.specs.Stands.{Stands}
-use Rattle.sql_front.proofs.Texts.{Selects, selects_known}
+use Rattle.sql_front.proofs.Texts.{Queries, queries_known}
 use Rattle.sql_front.proofs.Write.{Adds, Makes, adds_known}
 use Rattle.sql_front.proofs.Change.{Updates, updates_known}
 use Rattle.sql_calls.proofs.Means.{Means}
@@ -38,9 +38,9 @@ create_rollout_group_makes = record { parsed = _; made = _; read = refl; stateme
 abbrev pub same_name : List Term
 same_name = at_key 2 0 ∷ []
 
-find_rollout_selects : (tree : ℕ) → Selects FIND_ROLLOUT.now (codes "rollout") (rollout_table tree) (simple tree same_name (col 1 0 ∷ [])) (codes "number" ∷ [])
+find_rollout_queries : (tree : ℕ) → Queries FIND_ROLLOUT.now (codes "rollout") (rollout_table tree) (simple tree same_name (col 1 0 ∷ [])) (codes "number" ∷ [])
 unfolding first combine named paging everything
-find_rollout_selects tree = record {
+find_rollout_queries tree = record {
   parsed = _;
   select = _;
   page = _;
@@ -58,14 +58,14 @@ find_rollout_selects tree = record {
 }
 
 pub find_rollout_is : (s : Schema) (at tree : ℕ) → Stands s (codes "rollout") at (rollout_table tree) → Means s FIND_ROLLOUT.now (Select (record { lets = []; body = simple tree same_name (col 1 0 ∷ []) }) (codes "number" ∷ []))
-find_rollout_is s at tree stands = means_of s FIND_ROLLOUT.now _ (selects_known _ _ _ _ _ (find_rollout_selects tree) s at stands) refl refl
+find_rollout_is s at tree stands = means_of s FIND_ROLLOUT.now _ (queries_known _ _ _ _ _ (find_rollout_queries tree) s at stands) refl refl
 
 abbrev pub last_rollout_query : ℕ → Query
 last_rollout_query tree = by (simple tree [] (col 1 0 ∷ [])) ((col 1 0, record { descending = true; collation = Binary }) ∷ []) (lit (Int (pos 1))) (lit (Int (pos 0)))
 
-last_rollout_selects : (tree : ℕ) → Selects LAST_ROLLOUT.now (codes "rollout") (rollout_table tree) (last_rollout_query tree) (codes "number" ∷ [])
+last_rollout_queries : (tree : ℕ) → Queries LAST_ROLLOUT.now (codes "rollout") (rollout_table tree) (last_rollout_query tree) (codes "number" ∷ [])
 unfolding first combine named paging everything
-last_rollout_selects tree = record {
+last_rollout_queries tree = record {
   parsed = _;
   select = _;
   page = _;
@@ -83,7 +83,7 @@ last_rollout_selects tree = record {
 }
 
 pub last_rollout_is : (s : Schema) (at tree : ℕ) → Stands s (codes "rollout") at (rollout_table tree) → Means s LAST_ROLLOUT.now (Select (record { lets = []; body = last_rollout_query tree }) (codes "number" ∷ []))
-last_rollout_is s at tree stands = means_of s LAST_ROLLOUT.now _ (selects_known _ _ _ _ _ (last_rollout_selects tree) s at stands) refl refl
+last_rollout_is s at tree stands = means_of s LAST_ROLLOUT.now _ (queries_known _ _ _ _ _ (last_rollout_queries tree) s at stands) refl refl
 
 abbrev pub rollout_names : List (List ℕ)
 rollout_names = codes "name" ∷ codes "dset" ∷ codes "filter_text" ∷ codes "groups" ∷ codes "success" ∷ codes "error" ∷ codes "approval" ∷ codes "started" ∷ codes "paused" ∷ []
@@ -91,9 +91,9 @@ rollout_names = codes "name" ∷ codes "dset" ∷ codes "filter_text" ∷ codes 
 abbrev pub rollout_columns : List Term
 rollout_columns = col 1 2 ∷ col 1 3 ∷ col 1 4 ∷ col 1 5 ∷ col 1 6 ∷ col 1 7 ∷ col 1 8 ∷ col 1 9 ∷ col 1 10 ∷ []
 
-get_rollout_selects : (tree : ℕ) → Selects GET_ROLLOUT.now (codes "rollout") (rollout_table tree) (simple tree (at_key 0 0 ∷ []) rollout_columns) rollout_names
+get_rollout_queries : (tree : ℕ) → Queries GET_ROLLOUT.now (codes "rollout") (rollout_table tree) (simple tree (at_key 0 0 ∷ []) rollout_columns) rollout_names
 unfolding first combine named paging everything
-get_rollout_selects tree = record {
+get_rollout_queries tree = record {
   parsed = _;
   select = _;
   page = _;
@@ -111,14 +111,14 @@ get_rollout_selects tree = record {
 }
 
 pub get_rollout_is : (s : Schema) (at tree : ℕ) → Stands s (codes "rollout") at (rollout_table tree) → Means s GET_ROLLOUT.now (Select (record { lets = []; body = simple tree (at_key 0 0 ∷ []) rollout_columns }) rollout_names)
-get_rollout_is s at tree stands = means_of s GET_ROLLOUT.now _ (selects_known _ _ _ _ _ (get_rollout_selects tree) s at stands) refl refl
+get_rollout_is s at tree stands = means_of s GET_ROLLOUT.now _ (queries_known _ _ _ _ _ (get_rollout_queries tree) s at stands) refl refl
 
 abbrev pub list_rollouts_query : ℕ → Query
 list_rollouts_query tree = by (simple tree [] rollout_columns) ((col 1 0, record { descending = false; collation = Binary }) ∷ []) (col 0 0) (col 0 1)
 
-list_rollouts_selects : (tree : ℕ) → Selects LIST_ROLLOUTS.now (codes "rollout") (rollout_table tree) (list_rollouts_query tree) rollout_names
+list_rollouts_queries : (tree : ℕ) → Queries LIST_ROLLOUTS.now (codes "rollout") (rollout_table tree) (list_rollouts_query tree) rollout_names
 unfolding first combine named paging everything
-list_rollouts_selects tree = record {
+list_rollouts_queries tree = record {
   parsed = _;
   select = _;
   page = _;
@@ -136,7 +136,7 @@ list_rollouts_selects tree = record {
 }
 
 pub list_rollouts_is : (s : Schema) (at tree : ℕ) → Stands s (codes "rollout") at (rollout_table tree) → Means s LIST_ROLLOUTS.now (Select (record { lets = []; body = list_rollouts_query tree }) rollout_names)
-list_rollouts_is s at tree stands = means_of s LIST_ROLLOUTS.now _ (selects_known _ _ _ _ _ (list_rollouts_selects tree) s at stands) refl refl
+list_rollouts_is s at tree stands = means_of s LIST_ROLLOUTS.now _ (queries_known _ _ _ _ _ (list_rollouts_queries tree) s at stands) refl refl
 
 abbrev pub group_names : List (List ℕ)
 group_names = codes "number" ∷ codes "first_place" ∷ codes "last_place" ∷ codes "started" ∷ codes "ok" ∷ codes "bad" ∷ codes "gone" ∷ []
@@ -150,9 +150,9 @@ group_columns = col 1 2 ∷ col 1 3 ∷ col 1 4 ∷ col 1 5 ∷ col 1 6 ∷ col 
 abbrev pub list_groups_query : ℕ → Query
 list_groups_query tree = by (simple tree of_rollout group_columns) ((col 1 2, record { descending = false; collation = Binary }) ∷ []) (lit (Int (negsuc 0))) (lit (Int (pos 0)))
 
-list_groups_selects : (tree : ℕ) → Selects LIST_GROUPS.now (codes "rollout_group") (group_table tree) (list_groups_query tree) group_names
+list_groups_queries : (tree : ℕ) → Queries LIST_GROUPS.now (codes "rollout_group") (group_table tree) (list_groups_query tree) group_names
 unfolding first combine named paging everything
-list_groups_selects tree = record {
+list_groups_queries tree = record {
   parsed = _;
   select = _;
   page = _;
@@ -170,7 +170,7 @@ list_groups_selects tree = record {
 }
 
 pub list_groups_is : (s : Schema) (at tree : ℕ) → Stands s (codes "rollout_group") at (group_table tree) → Means s LIST_GROUPS.now (Select (record { lets = []; body = list_groups_query tree }) group_names)
-list_groups_is s at tree stands = means_of s LIST_GROUPS.now _ (selects_known _ _ _ _ _ (list_groups_selects tree) s at stands) refl refl
+list_groups_is s at tree stands = means_of s LIST_GROUPS.now _ (queries_known _ _ _ _ _ (list_groups_queries tree) s at stands) refl refl
 
 abbrev pub of_group : List Term
 of_group = at_key 1 0 ∷ at_key 2 1 ∷ []
@@ -178,9 +178,9 @@ of_group = at_key 1 0 ∷ at_key 2 1 ∷ []
 abbrev pub get_group_query : ℕ → Query
 get_group_query tree = by (simple tree of_group group_columns) ((col 1 2, record { descending = false; collation = Binary }) ∷ []) (lit (Int (negsuc 0))) (lit (Int (pos 0)))
 
-get_group_selects : (tree : ℕ) → Selects GET_GROUP.now (codes "rollout_group") (group_table tree) (get_group_query tree) group_names
+get_group_queries : (tree : ℕ) → Queries GET_GROUP.now (codes "rollout_group") (group_table tree) (get_group_query tree) group_names
 unfolding first combine named paging everything
-get_group_selects tree = record {
+get_group_queries tree = record {
   parsed = _;
   select = _;
   page = _;
@@ -198,7 +198,7 @@ get_group_selects tree = record {
 }
 
 pub get_group_is : (s : Schema) (at tree : ℕ) → Stands s (codes "rollout_group") at (group_table tree) → Means s GET_GROUP.now (Select (record { lets = []; body = get_group_query tree }) group_names)
-get_group_is s at tree stands = means_of s GET_GROUP.now _ (selects_known _ _ _ _ _ (get_group_selects tree) s at stands) refl refl
+get_group_is s at tree stands = means_of s GET_GROUP.now _ (queries_known _ _ _ _ _ (get_group_queries tree) s at stands) refl refl
 
 abbrev pub holding : List Term
 holding = at_key 1 0 ∷ at_most 3 1 ∷ at_least 4 1 ∷ []
@@ -206,9 +206,9 @@ holding = at_key 1 0 ∷ at_most 3 1 ∷ at_least 4 1 ∷ []
 abbrev pub holding_group_query : ℕ → Query
 holding_group_query tree = by (simple tree holding group_columns) ((col 1 2, record { descending = false; collation = Binary }) ∷ []) (lit (Int (negsuc 0))) (lit (Int (pos 0)))
 
-holding_group_selects : (tree : ℕ) → Selects HOLDING_GROUP.now (codes "rollout_group") (group_table tree) (holding_group_query tree) group_names
+holding_group_queries : (tree : ℕ) → Queries HOLDING_GROUP.now (codes "rollout_group") (group_table tree) (holding_group_query tree) group_names
 unfolding first combine named paging everything
-holding_group_selects tree = record {
+holding_group_queries tree = record {
   parsed = _;
   select = _;
   page = _;
@@ -226,7 +226,7 @@ holding_group_selects tree = record {
 }
 
 pub holding_group_is : (s : Schema) (at tree : ℕ) → Stands s (codes "rollout_group") at (group_table tree) → Means s HOLDING_GROUP.now (Select (record { lets = []; body = holding_group_query tree }) group_names)
-holding_group_is s at tree stands = means_of s HOLDING_GROUP.now _ (selects_known _ _ _ _ _ (holding_group_selects tree) s at stands) refl refl
+holding_group_is s at tree stands = means_of s HOLDING_GROUP.now _ (queries_known _ _ _ _ _ (holding_group_queries tree) s at stands) refl refl
 
 abbrev pub rollout_terms : List Term
 rollout_terms = col 0 0 ∷ lit Null ∷ col 0 1 ∷ col 0 2 ∷ col 0 3 ∷ col 0 4 ∷ col 0 5 ∷ col 0 6 ∷ col 0 7 ∷ lit (Int (pos 0)) ∷ lit (Int (pos 0)) ∷ []

@@ -13,7 +13,7 @@ use Rattle.sqlite_resolve.specs.Compile.{first, new_rows, is_reserved}
 use Rattle.sqlite_resolve.specs.Expr.{combine}
 use Rattle.sqlite_resolve.specs.Select.{named, paging}
 use Rattle.sql_front.specs.Stands.{Stands}
-use Rattle.sql_front.proofs.Texts.{Selects, selects_known}
+use Rattle.sql_front.proofs.Texts.{Queries, queries_known}
 use Rattle.sql_front.proofs.Write.{Adds, Makes, adds_known}
 use Rattle.sql_calls.proofs.Means.{Means}
 use Rattle.sql_calls.proofs.Selects.{simple, by}
@@ -32,9 +32,9 @@ create_set_module_makes = record { parsed = _; made = _; read = refl; statement 
 abbrev pub same_names : List Term
 same_names = at_key 2 0 ∷ at_key 3 1 ∷ []
 
-find_set_selects : (tree : ℕ) → Selects FIND_SET.now (codes "dset") (set_table tree) (simple tree same_names (col 1 0 ∷ [])) (codes "number" ∷ [])
+find_set_queries : (tree : ℕ) → Queries FIND_SET.now (codes "dset") (set_table tree) (simple tree same_names (col 1 0 ∷ [])) (codes "number" ∷ [])
 unfolding first combine named paging everything
-find_set_selects tree = record {
+find_set_queries tree = record {
   parsed = _;
   select = _;
   page = _;
@@ -52,14 +52,14 @@ find_set_selects tree = record {
 }
 
 pub find_set_is : (s : Schema) (at tree : ℕ) → Stands s (codes "dset") at (set_table tree) → Means s FIND_SET.now (Select (record { lets = []; body = simple tree same_names (col 1 0 ∷ []) }) (codes "number" ∷ []))
-find_set_is s at tree stands = means_of s FIND_SET.now _ (selects_known _ _ _ _ _ (find_set_selects tree) s at stands) refl refl
+find_set_is s at tree stands = means_of s FIND_SET.now _ (queries_known _ _ _ _ _ (find_set_queries tree) s at stands) refl refl
 
 abbrev pub last_set_query : ℕ → Query
 last_set_query tree = by (simple tree [] (col 1 0 ∷ [])) ((col 1 0, record { descending = true; collation = Binary }) ∷ []) (lit (Int (pos 1))) (lit (Int (pos 0)))
 
-last_set_selects : (tree : ℕ) → Selects LAST_SET.now (codes "dset") (set_table tree) (last_set_query tree) (codes "number" ∷ [])
+last_set_queries : (tree : ℕ) → Queries LAST_SET.now (codes "dset") (set_table tree) (last_set_query tree) (codes "number" ∷ [])
 unfolding first combine named paging everything
-last_set_selects tree = record {
+last_set_queries tree = record {
   parsed = _;
   select = _;
   page = _;
@@ -77,14 +77,14 @@ last_set_selects tree = record {
 }
 
 pub last_set_is : (s : Schema) (at tree : ℕ) → Stands s (codes "dset") at (set_table tree) → Means s LAST_SET.now (Select (record { lets = []; body = last_set_query tree }) (codes "number" ∷ []))
-last_set_is s at tree stands = means_of s LAST_SET.now _ (selects_known _ _ _ _ _ (last_set_selects tree) s at stands) refl refl
+last_set_is s at tree stands = means_of s LAST_SET.now _ (queries_known _ _ _ _ _ (last_set_queries tree) s at stands) refl refl
 
 abbrev pub name_columns : List Term
 name_columns = col 1 2 ∷ col 1 3 ∷ []
 
-get_set_selects : (tree : ℕ) → Selects GET_SET.now (codes "dset") (set_table tree) (simple tree (at_key 0 0 ∷ []) name_columns) (codes "name" ∷ codes "version" ∷ [])
+get_set_queries : (tree : ℕ) → Queries GET_SET.now (codes "dset") (set_table tree) (simple tree (at_key 0 0 ∷ []) name_columns) (codes "name" ∷ codes "version" ∷ [])
 unfolding first combine named paging everything
-get_set_selects tree = record {
+get_set_queries tree = record {
   parsed = _;
   select = _;
   page = _;
@@ -102,14 +102,14 @@ get_set_selects tree = record {
 }
 
 pub get_set_is : (s : Schema) (at tree : ℕ) → Stands s (codes "dset") at (set_table tree) → Means s GET_SET.now (Select (record { lets = []; body = simple tree (at_key 0 0 ∷ []) name_columns }) (codes "name" ∷ codes "version" ∷ []))
-get_set_is s at tree stands = means_of s GET_SET.now _ (selects_known _ _ _ _ _ (get_set_selects tree) s at stands) refl refl
+get_set_is s at tree stands = means_of s GET_SET.now _ (queries_known _ _ _ _ _ (get_set_queries tree) s at stands) refl refl
 
 abbrev pub set_modules_query : ℕ → Query
 set_modules_query tree = by (simple tree (at_key 1 0 ∷ []) (col 1 3 ∷ [])) ((col 1 2, record { descending = false; collation = Binary }) ∷ []) (lit (Int (negsuc 0))) (lit (Int (pos 0)))
 
-list_set_modules_selects : (tree : ℕ) → Selects LIST_SET_MODULES.now (codes "set_module") (set_module_table tree) (set_modules_query tree) (codes "module" ∷ [])
+list_set_modules_queries : (tree : ℕ) → Queries LIST_SET_MODULES.now (codes "set_module") (set_module_table tree) (set_modules_query tree) (codes "module" ∷ [])
 unfolding first combine named paging everything
-list_set_modules_selects tree = record {
+list_set_modules_queries tree = record {
   parsed = _;
   select = _;
   page = _;
@@ -127,14 +127,14 @@ list_set_modules_selects tree = record {
 }
 
 pub list_set_modules_is : (s : Schema) (at tree : ℕ) → Stands s (codes "set_module") at (set_module_table tree) → Means s LIST_SET_MODULES.now (Select (record { lets = []; body = set_modules_query tree }) (codes "module" ∷ []))
-list_set_modules_is s at tree stands = means_of s LIST_SET_MODULES.now _ (selects_known _ _ _ _ _ (list_set_modules_selects tree) s at stands) refl refl
+list_set_modules_is s at tree stands = means_of s LIST_SET_MODULES.now _ (queries_known _ _ _ _ _ (list_set_modules_queries tree) s at stands) refl refl
 
 abbrev pub locked_query : ℕ → Query
 locked_query tree = by (simple tree (at_key 3 0 ∷ []) (col 1 1 ∷ [])) [] (lit (Int (pos 1))) (lit (Int (pos 0)))
 
-module_locked_selects : (tree : ℕ) → Selects MODULE_LOCKED.now (codes "set_module") (set_module_table tree) (locked_query tree) (codes "dset" ∷ [])
+module_locked_queries : (tree : ℕ) → Queries MODULE_LOCKED.now (codes "set_module") (set_module_table tree) (locked_query tree) (codes "dset" ∷ [])
 unfolding first combine named paging everything
-module_locked_selects tree = record {
+module_locked_queries tree = record {
   parsed = _;
   select = _;
   page = _;
@@ -152,7 +152,7 @@ module_locked_selects tree = record {
 }
 
 pub module_locked_is : (s : Schema) (at tree : ℕ) → Stands s (codes "set_module") at (set_module_table tree) → Means s MODULE_LOCKED.now (Select (record { lets = []; body = locked_query tree }) (codes "dset" ∷ []))
-module_locked_is s at tree stands = means_of s MODULE_LOCKED.now _ (selects_known _ _ _ _ _ (module_locked_selects tree) s at stands) refl refl
+module_locked_is s at tree stands = means_of s MODULE_LOCKED.now _ (queries_known _ _ _ _ _ (module_locked_queries tree) s at stands) refl refl
 
 abbrev pub set_terms : List Term
 set_terms = col 0 0 ∷ lit Null ∷ col 0 1 ∷ col 0 2 ∷ []

@@ -14,7 +14,7 @@ use Rattle.sqlite_resolve.specs.Expr.{combine}
 use Rattle.sqlite_resolve.specs.Select.{named, paging}
 use Rattle.sqlite_resolve.specs.Write.{updated, deleted}
 use Rattle.sql_front.specs.Stands.{Stands}
-use Rattle.sql_front.proofs.Texts.{Selects, selects_known}
+use Rattle.sql_front.proofs.Texts.{Queries, queries_known}
 use Rattle.sql_front.proofs.Write.{Adds, Makes, adds_known}
 use Rattle.sql_front.proofs.Change.{Updates, Removes, updates_known, removes_known}
 use Rattle.sql_calls.proofs.Means.{Means}
@@ -42,9 +42,9 @@ of_target = at_key 1 0 ∷ []
 abbrev pub target_columns : List Term
 target_columns = col 1 2 ∷ col 1 3 ∷ []
 
-get_target_selects : (tree : ℕ) → Selects GET_TARGET.now (codes "target") (target_table tree) (simple tree of_target target_columns) (codes "name" ∷ codes "digest" ∷ [])
+get_target_queries : (tree : ℕ) → Queries GET_TARGET.now (codes "target") (target_table tree) (simple tree of_target target_columns) (codes "name" ∷ codes "digest" ∷ [])
 unfolding first combine named paging everything
-get_target_selects tree = record {
+get_target_queries tree = record {
   parsed = _;
   select = _;
   page = _;
@@ -62,11 +62,11 @@ get_target_selects tree = record {
 }
 
 pub get_target_is : (s : Schema) (at tree : ℕ) → Stands s (codes "target") at (target_table tree) → Means s GET_TARGET.now (Select (record { lets = []; body = simple tree of_target target_columns }) (codes "name" ∷ codes "digest" ∷ []))
-get_target_is s at tree stands = means_of s GET_TARGET.now _ (selects_known _ _ _ _ _ (get_target_selects tree) s at stands) refl refl
+get_target_is s at tree stands = means_of s GET_TARGET.now _ (queries_known _ _ _ _ _ (get_target_queries tree) s at stands) refl refl
 
-count_targets_selects : (tree : ℕ) → Selects COUNT_TARGETS.now (codes "target") (target_table tree) (count_query tree) (codes "count(*)" ∷ [])
+count_targets_queries : (tree : ℕ) → Queries COUNT_TARGETS.now (codes "target") (target_table tree) (count_query tree) (codes "count(*)" ∷ [])
 unfolding first combine named paging everything
-count_targets_selects tree = record {
+count_targets_queries tree = record {
   parsed = _;
   select = _;
   page = _;
@@ -84,14 +84,14 @@ count_targets_selects tree = record {
 }
 
 pub count_targets_is : (s : Schema) (at tree : ℕ) → Stands s (codes "target") at (target_table tree) → Means s COUNT_TARGETS.now (Select (record { lets = []; body = count_query tree }) (codes "count(*)" ∷ []))
-count_targets_is s at tree stands = means_of s COUNT_TARGETS.now _ (selects_known _ _ _ _ _ (count_targets_selects tree) s at stands) refl refl
+count_targets_is s at tree stands = means_of s COUNT_TARGETS.now _ (queries_known _ _ _ _ _ (count_targets_queries tree) s at stands) refl refl
 
 abbrev pub targets_query : ℕ → Query
 targets_query tree = by (simple tree [] (col 1 1 ∷ col 1 2 ∷ [])) ((col 1 1, record { descending = false; collation = Binary }) ∷ []) (col 0 0) (col 0 1)
 
-list_targets_selects : (tree : ℕ) → Selects LIST_TARGETS.now (codes "target") (target_table tree) (targets_query tree) (codes "controller" ∷ codes "name" ∷ [])
+list_targets_queries : (tree : ℕ) → Queries LIST_TARGETS.now (codes "target") (target_table tree) (targets_query tree) (codes "controller" ∷ codes "name" ∷ [])
 unfolding first combine named paging everything
-list_targets_selects tree = record {
+list_targets_queries tree = record {
   parsed = _;
   select = _;
   page = _;
@@ -109,14 +109,14 @@ list_targets_selects tree = record {
 }
 
 pub list_targets_is : (s : Schema) (at tree : ℕ) → Stands s (codes "target") at (target_table tree) → Means s LIST_TARGETS.now (Select (record { lets = []; body = targets_query tree }) (codes "controller" ∷ codes "name" ∷ []))
-list_targets_is s at tree stands = means_of s LIST_TARGETS.now _ (selects_known _ _ _ _ _ (list_targets_selects tree) s at stands) refl refl
+list_targets_is s at tree stands = means_of s LIST_TARGETS.now _ (queries_known _ _ _ _ _ (list_targets_queries tree) s at stands) refl refl
 
 abbrev pub tags_query : ℕ → Query
 tags_query tree = by (simple tree of_target (col 1 2 ∷ [])) ((col 1 2, record { descending = false; collation = Binary }) ∷ []) (lit (Int (negsuc 0))) (lit (Int (pos 0)))
 
-list_target_tags_selects : (tree : ℕ) → Selects LIST_TARGET_TAGS.now (codes "target_tag") (target_tag_table tree) (tags_query tree) (codes "tag" ∷ [])
+list_target_tags_queries : (tree : ℕ) → Queries LIST_TARGET_TAGS.now (codes "target_tag") (target_tag_table tree) (tags_query tree) (codes "tag" ∷ [])
 unfolding first combine named paging everything
-list_target_tags_selects tree = record {
+list_target_tags_queries tree = record {
   parsed = _;
   select = _;
   page = _;
@@ -134,7 +134,7 @@ list_target_tags_selects tree = record {
 }
 
 pub list_target_tags_is : (s : Schema) (at tree : ℕ) → Stands s (codes "target_tag") at (target_tag_table tree) → Means s LIST_TARGET_TAGS.now (Select (record { lets = []; body = tags_query tree }) (codes "tag" ∷ []))
-list_target_tags_is s at tree stands = means_of s LIST_TARGET_TAGS.now _ (selects_known _ _ _ _ _ (list_target_tags_selects tree) s at stands) refl refl
+list_target_tags_is s at tree stands = means_of s LIST_TARGET_TAGS.now _ (queries_known _ _ _ _ _ (list_target_tags_queries tree) s at stands) refl refl
 
 abbrev pub target_terms : List Term
 target_terms = lit Null ∷ col 0 0 ∷ col 0 1 ∷ col 0 2 ∷ []
@@ -211,9 +211,9 @@ drop_target_tag_is s at tree stands = means_of s DROP_TARGET_TAG.now _ (removes_
 abbrev pub attributes_query : ℕ → Query
 attributes_query tree = by (simple tree of_target (col 1 2 ∷ col 1 3 ∷ [])) ((col 1 2, record { descending = false; collation = Binary }) ∷ []) (lit (Int (negsuc 0))) (lit (Int (pos 0)))
 
-list_target_attributes_selects : (tree : ℕ) → Selects LIST_TARGET_ATTRIBUTES.now (codes "target_attribute") (target_attribute_table tree) (attributes_query tree) (codes "key" ∷ codes "value" ∷ [])
+list_target_attributes_queries : (tree : ℕ) → Queries LIST_TARGET_ATTRIBUTES.now (codes "target_attribute") (target_attribute_table tree) (attributes_query tree) (codes "key" ∷ codes "value" ∷ [])
 unfolding first combine named paging everything
-list_target_attributes_selects tree = record {
+list_target_attributes_queries tree = record {
   parsed = _;
   select = _;
   page = _;
@@ -231,7 +231,7 @@ list_target_attributes_selects tree = record {
 }
 
 pub list_target_attributes_is : (s : Schema) (at tree : ℕ) → Stands s (codes "target_attribute") at (target_attribute_table tree) → Means s LIST_TARGET_ATTRIBUTES.now (Select (record { lets = []; body = attributes_query tree }) (codes "key" ∷ codes "value" ∷ []))
-list_target_attributes_is s at tree stands = means_of s LIST_TARGET_ATTRIBUTES.now _ (selects_known _ _ _ _ _ (list_target_attributes_selects tree) s at stands) refl refl
+list_target_attributes_is s at tree stands = means_of s LIST_TARGET_ATTRIBUTES.now _ (queries_known _ _ _ _ _ (list_target_attributes_queries tree) s at stands) refl refl
 
 abbrev pub attribute_terms : List Term
 attribute_terms = lit Null ∷ col 0 0 ∷ col 0 1 ∷ col 0 2 ∷ []

@@ -15,7 +15,7 @@ use Rattle.sqlite_resolve.specs.Expr.{combine}
 use Rattle.sqlite_resolve.specs.Select.{named, paging}
 use Rattle.sqlite_resolve.specs.Write.{updated, deleted}
 use Rattle.sql_front.specs.Bare.{IsBareTable}
-use Rattle.sql_front.proofs.Texts.{Selects}
+use Rattle.sql_front.proofs.Texts.{Queries}
 use Rattle.sql_front.proofs.Write.{Adds, Makes}
 use Rattle.sql_front.proofs.Change.{Updates, Removes}
 use Rattle.sql_front.proofs.Examples.{strict, desk_table, is_equal, simple}
@@ -134,7 +134,7 @@ unfolding first new_rows everything
 put_tag_adds tree = record { parsed = _; columns = _; rows = _; read = refl; statement = refl; formats = refl; fits = λ s. refl }
 
 -- the next page of targets, after one that was shown
-pub page_targets_reads : (tree : ℕ) → Selects (codes "SELECT controller, name FROM target WHERE controller > ?1 ORDER BY controller LIMIT ?2") (codes "target") (target_table tree)
+pub page_targets_reads : (tree : ℕ) → Queries (codes "SELECT controller, name FROM target WHERE controller > ?1 ORDER BY controller LIMIT ?2") (codes "target") (target_table tree)
     (record (simple tree (op2 (Compare Gt Binary) (col 1 1) (col 0 0) ∷ []) (col 1 1 ∷ col 1 2 ∷ [])) { order = (col 1 1, record { collation = Binary; descending = false }) ∷ []; limit = col 0 1 }) (codes "controller" ∷ codes "name" ∷ [])
 unfolding first combine named paging everything
 page_targets_reads tree = record {

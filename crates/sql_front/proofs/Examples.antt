@@ -17,7 +17,7 @@ use Rattle.sqlite.specs.Source.TheVariants.{Values}
 use Rattle.sqlite_resolve.specs.Expr.{combine}
 use Rattle.sqlite_resolve.specs.Select.{named, paging}
 use Rattle.sql_front.specs.Bare.{IsBareTable}
-use Rattle.sql_front.proofs.Texts.{Selects}
+use Rattle.sql_front.proofs.Texts.{Queries}
 use Rattle.sql_front.proofs.Write.{Adds, Makes}
 
 abbrev pub strict : List ℕ → Kind → Bool → Column
@@ -59,7 +59,7 @@ is_equal = op2 (Compare Eq Binary)
 abbrev pub simple : ℕ → List Term → List Term → Query
 simple tree filter project = record { from = inner tree end; filter = filter; group = None; project = project; distinct = false; collations = []; order = []; limit = lit (Int (negsuc 0)); offset = lit (Int (pos 0)) }
 
-pub desk_reads : (tree : ℕ) → Selects (codes "SELECT format, version, approval FROM desk WHERE id = 1") (codes "desk") (desk_table tree) (simple tree (is_equal (col 1 0) (lit (Int (pos 1))) ∷ []) (col 1 2 ∷ col 1 3 ∷ col 1 4 ∷ [])) (codes "format" ∷ codes "version" ∷ codes "approval" ∷ [])
+pub desk_reads : (tree : ℕ) → Queries (codes "SELECT format, version, approval FROM desk WHERE id = 1") (codes "desk") (desk_table tree) (simple tree (is_equal (col 1 0) (lit (Int (pos 1))) ∷ []) (col 1 2 ∷ col 1 3 ∷ col 1 4 ∷ [])) (codes "format" ∷ codes "version" ∷ codes "approval" ∷ [])
 unfolding first combine named paging everything
 desk_reads tree = record {
   parsed = _;
@@ -78,7 +78,7 @@ desk_reads tree = record {
   fits = refl;
 }
 
-pub same_module_reads : (tree : ℕ) → Selects (codes "SELECT number FROM module WHERE name = ?1 AND type = ?2 AND version = ?3") (codes "module") (module_table tree) (simple tree (is_equal (col 1 2) (col 0 0) ∷ is_equal (col 1 3) (col 0 1) ∷ is_equal (col 1 4) (col 0 2) ∷ []) (col 1 0 ∷ [])) (codes "number" ∷ [])
+pub same_module_reads : (tree : ℕ) → Queries (codes "SELECT number FROM module WHERE name = ?1 AND type = ?2 AND version = ?3") (codes "module") (module_table tree) (simple tree (is_equal (col 1 2) (col 0 0) ∷ is_equal (col 1 3) (col 0 1) ∷ is_equal (col 1 4) (col 0 2) ∷ []) (col 1 0 ∷ [])) (codes "number" ∷ [])
 unfolding first combine named paging everything
 same_module_reads tree = record {
   parsed = _;
@@ -97,7 +97,7 @@ same_module_reads tree = record {
   fits = refl;
 }
 
-pub last_module_reads : (tree : ℕ) → Selects (codes "SELECT number FROM module ORDER BY number DESC LIMIT 1") (codes "module") (module_table tree) (record (simple tree [] (col 1 0 ∷ [])) { order = (col 1 0, record { collation = Binary; descending = true }) ∷ []; limit = lit (Int (pos 1)) }) (codes "number" ∷ [])
+pub last_module_reads : (tree : ℕ) → Queries (codes "SELECT number FROM module ORDER BY number DESC LIMIT 1") (codes "module") (module_table tree) (record (simple tree [] (col 1 0 ∷ [])) { order = (col 1 0, record { collation = Binary; descending = true }) ∷ []; limit = lit (Int (pos 1)) }) (codes "number" ∷ [])
 unfolding first combine named paging everything
 last_module_reads tree = record {
   parsed = _;
@@ -116,7 +116,7 @@ last_module_reads tree = record {
   fits = refl;
 }
 
-pub module_reads : (tree : ℕ) → Selects (codes "SELECT number, name, type, version FROM module WHERE number = ?1") (codes "module") (module_table tree) (simple tree (is_equal (col 1 0) (col 0 0) ∷ []) (col 1 0 ∷ col 1 2 ∷ col 1 3 ∷ col 1 4 ∷ [])) (codes "number" ∷ codes "name" ∷ codes "type" ∷ codes "version" ∷ [])
+pub module_reads : (tree : ℕ) → Queries (codes "SELECT number, name, type, version FROM module WHERE number = ?1") (codes "module") (module_table tree) (simple tree (is_equal (col 1 0) (col 0 0) ∷ []) (col 1 0 ∷ col 1 2 ∷ col 1 3 ∷ col 1 4 ∷ [])) (codes "number" ∷ codes "name" ∷ codes "type" ∷ codes "version" ∷ [])
 unfolding first combine named paging everything
 module_reads tree = record {
   parsed = _;

@@ -23,7 +23,7 @@ abbrev pub alone : Table → Schema
 alone table = record { tables = table ∷ []; indexes = []; views = [] }
 
 -- what computes of a text over one table alone
-pub record Selects (text : List ℕ) (name : Name) (table : Table) (body : Query) (columns : List Name) : Type 0 where
+pub record Queries (text : List ℕ) (name : Name) (table : Table) (body : Query) (columns : List Name) : Type 0 where
   pub parsed : Parsed
   pub select : written_select.Select
   pub page : Term × Term
@@ -42,9 +42,9 @@ pub record Selects (text : List ℕ) (name : Name) (table : Table) (body : Query
 abbrev pub with_query : Parsed → Query → List Name → Compiled
 with_query p body columns = record { command = Select (record { lets = []; body = body }) columns; returning = None; names = p.names; formats = []; start = p.start; end = p.end; tail = p.tail }
 
-module _ (text : List ℕ) (name : Name) (table : Table) (body : Query) (columns : List Name) (r : Selects text name table body columns) (s : Schema) (at : ℕ) (stands : Stands s name at table) where
-  pub selects_known : compiled s text ≡ Ok (with_query r.parsed body columns)
-  selects_known =
+module _ (text : List ℕ) (name : Name) (table : Table) (body : Query) (columns : List Name) (r : Queries text name table body columns) (s : Schema) (at : ℕ) (stands : Stands s name at table) where
+  pub queries_known : compiled s text ≡ Ok (with_query r.parsed body columns)
+  queries_known =
       let same = same_named s (alone table) at 0 table name stands.named stands.got r.named_alone refl _ _ r.one r.page in
       let fits = accepted s body table r.over stands.stored stands.found r.fits in
       let known : compiled s text ≡ Ok (with_query r.parsed (query_of r.shown.0) r.shown.1) =
