@@ -1,5 +1,5 @@
 -- Lists in which one changes, and rows that don't tell of the change.
-use Rattle.std.proofs.Common.{◌≡◌, ◌≢◌, ◌++◌, ◌<◌, ℕ, zero, suc, ◌+◌, List, [], ◌∷◌, length, set, slice_get, Option, Some, None, refl, sym, ap, ap₂, subst, ◌∙◌, arith, nat_eq, not, cond, Bool, true, false, ◌&&◌, append_assoc, IsPermutation}
+use Rattle.std.proofs.Common.{◌≡◌, ◌≢◌, ◌++◌, ◌<◌, ℕ, zero, suc, ◌+◌, List, [], ◌∷◌, length, set, slice_get, Option, Some, refl, sym, ap, ap₂, subst, ◌∙◌, arith, nat_eq, not, cond, Bool, true, false, ◌&&◌, append_assoc, IsPermutation}
 use Rattle.std.specs.List.{list_all, zip}
 use Rattle.std.proofs.lemmas.Bool.{and_parts}
 use Rattle.std.proofs.lemmas.Bool.Decides.{nat_tests}
@@ -8,7 +8,6 @@ use Rattle.sqlite_value.specs.Order.{Row}
 use Rattle.sql_calls.specs.Keyed.{rows_from, IsHeldBy}
 use Rattle.sql_calls.proofs.KeyedRows.{changed}
 use Rattle.rollout_machine.specs.ByteStrings.{item_numbered}
-use Rattle.rollout_machine.specs.Commands.{Bytes}
 use Rattle.rollout_machine.specs.StateWords.{member_at}
 use Rattle.rollout_machine.specs.declared.records.ActionRecord.{ActionRecord}
 use Rattle.rollout_machine.specs.declared.records.RolloutRecord.{RolloutRecord}
@@ -198,3 +197,12 @@ module _ {A B : Type 0} where
   first_of (x ∷ as') [] k it there = absurd cc
   first_of (x ∷ as') (y ∷ bs) zero it there = let is : (x, y) ≡ it = cc in ap (λ (z : A × B). Some z.0) is
   first_of (x ∷ as') (y ∷ bs) (suc k) it there = first_of as' bs k it there
+
+-- an action whose row doesn't tell of the change
+pub acts_stay : (rollouts : List RolloutRecord) (x y : ActionRecord) → ((n : ℕ) (t : Tally) → action_row rollouts n (y, t) ≡ action_row rollouts n (x, t)) → (n k : ℕ) (as' : List ActionRecord) (ts : List Tally) → slice_get as' k ≡ Some x
+    → rows_from (action_row rollouts) n (zip (set as' k y) ts) ≡ rows_from (action_row rollouts) n (zip as' ts)
+acts_stay rollouts x y same n k [] ts there = refl
+acts_stay rollouts x y same n zero (a ∷ as') [] there = refl
+acts_stay rollouts x y same n (suc k) (a ∷ as') [] there = refl
+acts_stay rollouts x y same n zero (a ∷ as') (t ∷ ts) there = let is : a ≡ x = cc in ap (λ r. r ∷ rows_from (action_row rollouts) (n + 1) (zip as' ts)) (same n t ∙ ap (λ z. action_row rollouts n (z, t)) (sym is))
+acts_stay rollouts x y same n (suc k) (a ∷ as') (t ∷ ts) there = ap (λ l. action_row rollouts n (a, t) ∷ l) (acts_stay rollouts x y same (n + 1) k as' ts there)

@@ -1,11 +1,11 @@
 -- The statements on rollouts, actions and offers that write, in ledgers.
-use Rattle.std.proofs.Common.{◌≡◌, ◌≢◌, ◌∷◌, ◌++◌, ◌&&◌, ℕ, zero, suc, ◌+◌, pos, List, [], Bool, true, false, not, cond, map, filter, set, length, slice_get, Option, Some, None, refl, sym, ap, ap₂, subst, ◌∙◌, arith}
+use Rattle.std.proofs.Common.{◌≡◌, ◌≢◌, ◌∷◌, ◌++◌, ℕ, zero, suc, ◌+◌, pos, List, [], Bool, set, length, slice_get, Option, Some, None, refl, sym, ap, subst, ◌∙◌, arith}
 use Rattle.std.specs.List.{zip}
 use Rattle.std.proofs.lemmas.Option.{slice_get_within}
-use Rattle.sqlite_value.specs.declared.value.Value.TheVariants.{Null, Int, Text}
+use Rattle.sqlite_value.specs.declared.value.Value.TheVariants.{Int, Text}
 use Rattle.sqlite_value.specs.Order.{Row}
 use Rattle.sqlite.specs.Term.{Term, col}
-use Rattle.sqlite.specs.Command.TheVariants.{Insert, Update, Delete}
+use Rattle.sqlite.specs.Command.TheVariants.{Insert, Update}
 use Rattle.sqlite.specs.Source.TheVariants.{Values}
 use Rattle.sqlite.specs.Effect.{Database}
 use Rattle.sqlite.specs.State.{State, Writes}
@@ -14,26 +14,24 @@ use Rattle.sqlite_rules.specs.Cast.{cast_all}
 use Rattle.sqlite_trees.specs.Tree.{put_row, rowid}
 use Rattle.sql_calls.specs.Keyed.{rows_from, IsHeldBy}
 use Rattle.sql_calls.proofs.Inserts.{inserts}
-use Rattle.sql_calls.proofs.KeyedRows.{on_content}
 use Rattle.sql_calls.proofs.NumberedRows.{put_next, cast_int, cast_null}
 use Rattle.sql_calls.proofs.NumberedTables.{has_number, sets_at}
 use Rattle.sql_calls.proofs.Selects.{simple, shown_of}
 use Rattle.sql_calls.proofs.Updates.{updates, Updated}
-use Rattle.rollout_machine.specs.ByteStrings.{item_numbered}
 use Rattle.rollout_machine.specs.Commands.{Bytes, RolloutPlan}
 use Rattle.rollout_machine.specs.declared.outcome.Outcome.{Outcome}
 use Rattle.rollout_machine.specs.declared.records.ActionRecord.{ActionRecord}
 use Rattle.rollout_machine.specs.declared.records.RolloutRecord.{RolloutRecord}
 use Rattle.rollout_model.specs.declared.approval.Approval.{Approval}
-use Rattle.desk_records.specs.Actions.{Tally, action_row, actor_of, entry_row, outcome_code}
-use Rattle.desk_records.specs.Holds.{HoldsLedger, IsHeldOfRollouts, IsBeside, Ledger}
-use Rattle.desk_records.specs.LedgerSteps.{AddsRollout, AddsAction, SetsRollout, SetsAction, acted, created, no_tally, scheduled, set_numbered, turned, with_actions, with_rollouts}
+use Rattle.desk_records.specs.Actions.{Tally, action_row, entry_row, outcome_code}
+use Rattle.desk_records.specs.Holds.{HoldsLedger, IsHeldOfRollouts, Ledger}
+use Rattle.desk_records.specs.LedgerSteps.{AddsRollout, AddsAction, SetsRollout, SetsAction, acted, created, no_tally, scheduled, turned, with_actions, with_rollouts}
 use Rattle.desk_records.specs.Parts.{parts_from}
 use Rattle.desk_records.specs.Rollouts.{approval_code, flag, group_row, groups_from, member_row, members_from, rollout_row}
 use Rattle.desk_records.specs.Schema.{OfRollouts, RolloutPlace, Rollouts, Members, Groups, Actions, Feedbacks, Offers, action_table, rollout_table}
 use Rattle.desk_records.proofs.ActionMeaning.{action_terms, action_values, set_action_query}
-use Rattle.desk_records.proofs.HoldsAfter.{Leaves, ledger_after}
-use Rattle.desk_records.proofs.LedgerLists.{actions_stay, actors_of_more, actors_stay, first_of, length_zip, parts_stay, rows_stay, zip_more, zip_set}
+use Rattle.desk_records.proofs.HoldsAfter.{ledger_after}
+use Rattle.desk_records.proofs.LedgerLists.{actions_stay, actors_of_more, actors_stay, first_of, length_zip, parts_stay, zip_more, zip_set}
 use Rattle.desk_records.proofs.MeaningWords.{at_key}
 use Rattle.desk_records.proofs.NumberedReads.{passes_number}
 use Rattle.desk_records.proofs.Parts.{no_parts}

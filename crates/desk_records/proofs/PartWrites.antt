@@ -1,7 +1,6 @@
 -- The statements on members, groups and histories that write, in ledgers.
-use Rattle.std.proofs.Common.{◌≡◌, ◌∷◌, ◌++◌, ◌&&◌, ℕ, zero, suc, ◌+◌, pos, List, [], Bool, true, set, length, slice_get, Option, Some, None, refl, sym, ap, subst, ◌∙◌, arith, nat_eq}
-use Rattle.std.specs.List.{zip}
-use Rattle.sqlite_value.specs.declared.value.Value.TheVariants.{Null, Int, Text}
+use Rattle.std.proofs.Common.{◌≡◌, ◌∷◌, ◌++◌, ◌&&◌, ℕ, zero, suc, pos, List, [], Bool, true, set, slice_get, Some, None, refl, sym, ap, subst, ◌∙◌, arith, nat_eq}
+use Rattle.sqlite_value.specs.declared.value.Value.TheVariants.{Int, Text}
 use Rattle.sqlite_value.specs.Keys.{plain, first_key}
 use Rattle.sqlite_value.specs.Order.{Row}
 use Rattle.sqlite_schema.specs.Rules.{agree}
@@ -17,20 +16,21 @@ use Rattle.sql_calls.proofs.KeyedTables.{adds_row, changes_key, keys_apart}
 use Rattle.sql_calls.proofs.NumberedRows.{cast_int}
 use Rattle.sql_calls.proofs.Selects.{passes, shown_of}
 use Rattle.sql_calls.proofs.Updates.{updates}
-use Rattle.rollout_machine.specs.Actions.{HistoryEntry}
 use Rattle.rollout_machine.specs.Commands.{Bytes}
 use Rattle.rollout_machine.specs.declared.bounds.Bounds.{Bounds}
 use Rattle.rollout_machine.specs.declared.records.ActionRecord.{ActionRecord}
 use Rattle.rollout_machine.specs.declared.records.GroupRecord.{GroupRecord}
 use Rattle.rollout_machine.specs.declared.records.RolloutRecord.{RolloutRecord}
-use Rattle.desk_records.specs.Holds.{HoldsLedger, IsHeldOfRollouts, Ledger}
+use Rattle.desk_records.specs.Actions.{entry_row}
+use Rattle.desk_records.specs.Holds.{HoldsLedger, Ledger}
 use Rattle.desk_records.specs.LedgerSteps.{AddsMember, AddsGroup, SetsGroup, AddsEntry, and_member, and_group, and_entry, counted, cut_group, with_actions, with_groups, with_rollouts}
 use Rattle.desk_records.specs.Rollouts.{flag, group_row, groups_from, member_row, members_from, rollout_row, told_group}
-use Rattle.desk_records.specs.Schema.{OfRollouts, RolloutPlace, Rollouts, Members, Groups, Actions, Feedbacks, Offers, group_table, member_table}
+use Rattle.desk_records.specs.Schema.{OfRollouts, Members, Groups, Feedbacks, feedback_table, group_table, member_table}
+use Rattle.desk_records.proofs.ActionMeaning.{feedback_terms}
 use Rattle.desk_records.proofs.Comparisons.{and_true, numbers_equal}
 use Rattle.desk_records.proofs.HoldsAfter.{Leaves, ledger_after}
-use Rattle.desk_records.proofs.LedgerLists.{actions_of_others, actions_stay, actors_stay, part_held, part_set, parts_stay, rows_stay}
-use Rattle.desk_records.proofs.LedgerWrites.{rollouts_differ}
+use Rattle.desk_records.proofs.LedgerLists.{acts_stay, actions_of_others, actions_stay, actors_stay, part_held, part_set, parts_stay, rows_stay}
+use Rattle.desk_records.proofs.LedgerWrites.{actions_differ, histories_from, rollouts_differ}
 use Rattle.desk_records.proofs.RolloutMeaning.{group_terms, group_values, member_terms, of_group, set_group_query}
 
 -- ---- a new member
@@ -116,3 +116,27 @@ sets_group (suc k) (suc j) started ok bad gone old new text count l next holds c
   where
     named : (n m : ℕ) (z : GroupRecord) → on_content (passes of_group (counted_params (suc k) (suc j) started ok bad gone)) (group_row n m z) ≡ (nat_eq n (suc k) && nat_eq m (suc j))
     named n m z = rw (numbers_equal n (suc k), numbers_equal m (suc j), and_true (nat_eq m (suc j))) refl
+
+-- ---- histories
+
+abbrev pub entry_params : ℕ → ℕ → ℕ → ℕ → Bytes → Row
+entry_params number sequence kind word details = Int (pos number) ∷ Int (pos sequence) ∷ Int (pos kind) ∷ Int (pos word) ∷ Text details ∷ []
+
+pub adds_entry : (number sequence kind word : ℕ) (details : Bytes) (old new : State) (text : List ℕ) (count : ℕ) (l next : Ledger) (holds : HoldsLedger old.now l) → AddsEntry number sequence kind word details l next
+    → (w : Writes old new None (Insert (holds.spot (OfRollouts Feedbacks)).at (Values feedback_terms 6)) text (entry_params number sequence kind word details) count) → HoldsLedger new.now next
+adds_entry zero sequence kind word details old new text count l next holds change w = absurd (let none = change.is_there in cc)
+adds_entry (suc k) sequence kind word details old new text count l next holds change w =
+    let spot = holds.spot (OfRollouts Feedbacks) in
+    let table = feedback_table spot.tree in
+    let as' = l.records.actions in
+    let a = change.action in
+    let after = and_entry a change.entry in
+    let given = entry_params (suc k) sequence kind word details in
+    let made = inserts old.now.schema spot.at table feedback_terms 6 (holds.stands (OfRollouts Feedbacks)).got old new refl text given count w in
+    let more = adds_row old.now.schema table (1 ∷ 2 ∷ []) given feedback_terms 6 given refl old.now new.now (histories_from 1 as') (holds.rows (OfRollouts Feedbacks)) made in
+    let cast : cast_all table.columns given ≡ given = rw (cast_int (suc k), cast_int sequence, cast_int kind, cast_int word) refl in
+    let row : cast_all table.columns given ≡ entry_row (suc k) sequence change.entry = cast ∙ ap (λ told. Int (pos (suc k)) ∷ Int (pos sequence) ∷ told) (sym change.told) in
+    let held = part_held entry_row (λ (z : ActionRecord). z.history) a after change.entry refl k sequence as' (new.now.trees spot.tree) change.is_there change.sequence_is (subst (λ r. IsHeldBy (new.now.trees spot.tree) (r ∷ histories_from 1 as')) row more) in
+    subst (HoldsLedger new.now) (sym change.next_is) (ledger_after Feedbacks l (with_actions l (set as' k after) l.tallies) old.now new.now holds (record { schema = made.schema_is; sound = w.sound; others = made.applies.tables }) held
+    (record { approval = refl; modules = refl; artifacts = refl; sets = refl; targets = refl })
+    (actions_differ l (set as' k after) l.tallies Feedbacks (λ apart. acts_stay l.records.rollouts a after (λ n t. refl) 1 k as' l.tallies change.is_there) (λ apart. absurd (apart refl))))

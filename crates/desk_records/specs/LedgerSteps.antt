@@ -1,6 +1,7 @@
 -- What statements make of a ledger.
-use Rattle.std.specs.Prelude.{◌≡◌, ℕ, zero, suc, ◌+◌, Bool, true, false, not, cond, nat_eq, List, [], ◌∷◌, ◌++◌, length, set, Option, Some, None}
+use Rattle.std.specs.Prelude.{◌≡◌, ℕ, zero, suc, ◌+◌, Bool, true, false, not, cond, nat_eq, List, [], ◌∷◌, ◌++◌, length, set, Option, Some, None, pos}
 use Rattle.std.specs.List.{list_all, zip}
+use Rattle.sqlite_value.specs.declared.value.Value.TheVariants.{Int, Text}
 use Rattle.rollout_machine.specs.ByteStrings.{item_numbered, same_bytes}
 use Rattle.rollout_machine.specs.Commands.{Bytes, RolloutPlan}
 use Rattle.rollout_machine.specs.Actions.{HistoryEntry}
@@ -11,7 +12,7 @@ use Rattle.rollout_machine.specs.declared.records.ActionRecord.{ActionRecord}
 use Rattle.rollout_machine.specs.declared.records.RolloutRecord.{RolloutRecord}
 use Rattle.rollout_model.specs.declared.approval.Approval.{Approval}
 use Rattle.rollout_model.specs.declared.rollout.Offer.{Offer}
-use Rattle.desk_records.specs.Actions.{Tally, actor_of}
+use Rattle.desk_records.specs.Actions.{Tally, actor_of, told_entry}
 use Rattle.desk_records.specs.Holds.{Ledger}
 
 -- another in place of the one of a number
@@ -112,11 +113,13 @@ pub record SetsAction (number : ℕ) (canceling : Bool) (outcome : Option Outcom
 abbrev pub and_entry : ActionRecord → HistoryEntry → ActionRecord
 and_entry a entry = record a { history = a.history ++ entry ∷ [] }
 
--- the action is there, and the place is its history's next; its tally stays
-pub record AddsEntry (number sequence : ℕ) (entry : HistoryEntry) (l next : Ledger) : Type 0 where
+-- the action is there, the place is its history's next, and the row tells of the entry; the action's tally stays
+pub record AddsEntry (number sequence kind word : ℕ) (details : Bytes) (l next : Ledger) : Type 0 where
   pub action : ActionRecord
   pub is_there : item_numbered l.records.actions number ≡ Some action
   pub sequence_is : sequence ≡ length action.history + 1
+  pub entry : HistoryEntry
+  pub told : told_entry entry ≡ Int (pos kind) ∷ Int (pos word) ∷ Text details ∷ []
   pub next_is : next ≡ with_actions l (set_numbered l.records.actions number (and_entry action entry)) l.tallies
 
 -- ---- offers

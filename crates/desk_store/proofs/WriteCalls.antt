@@ -14,17 +14,17 @@ use Rattle.rollout_machine.specs.declared.bounds.Bounds.{Bounds}
 use Rattle.rollout_machine.specs.declared.outcome.Outcome.{Outcome}
 use Rattle.rollout_model.specs.declared.approval.Approval.{Approval}
 use Rattle.rollout_model.specs.declared.rollout.Offer.{Offer}
-use Rattle.desk_records.specs.declared.action_texts.TheConstants.{PUT_ACTION, SET_ACTION, PUT_OFFER, SET_OFFER, DROP_OFFER}
+use Rattle.desk_records.specs.declared.action_texts.TheConstants.{PUT_ACTION, SET_ACTION, PUT_FEEDBACK, PUT_OFFER, SET_OFFER, DROP_OFFER}
 use Rattle.desk_records.specs.declared.rollout_texts.TheConstants.{PUT_ROLLOUT, SET_ROLLOUT, PUT_MEMBER, PUT_GROUP, SET_GROUP}
 use Rattle.desk_records.specs.Actions.{Tally}
 use Rattle.desk_records.specs.Holds.{HoldsLedger}
-use Rattle.desk_records.specs.LedgerSteps.{AddsRollout, SetsRollout, AddsMember, AddsGroup, SetsGroup, AddsAction, SetsAction, AddsOffer, SetsOffer, with_offer}
+use Rattle.desk_records.specs.LedgerSteps.{AddsRollout, SetsRollout, AddsMember, AddsGroup, SetsGroup, AddsAction, SetsAction, AddsEntry, AddsOffer, SetsOffer, with_offer}
 use Rattle.desk_records.specs.Rollouts.{member_row}
-use Rattle.desk_records.specs.Schema.{OfRollouts, Rollouts, Members, Groups, Actions, Offers}
-use Rattle.desk_records.proofs.ActionMeaning.{action_terms, set_action_query, offer_terms, set_offer_query, drop_offer_query, put_action_is, set_action_is, put_offer_is, set_offer_is, drop_offer_is}
+use Rattle.desk_records.specs.Schema.{OfRollouts, Rollouts, Members, Groups, Actions, Feedbacks, Offers}
+use Rattle.desk_records.proofs.ActionMeaning.{feedback_terms, put_feedback_is, action_terms, set_action_query, offer_terms, set_offer_query, drop_offer_query, put_action_is, set_action_is, put_offer_is, set_offer_is, drop_offer_is}
 use Rattle.desk_records.proofs.LedgerWrites.{created_params, turned_params, scheduled_params, acted_params, adds_rollout, sets_rollout, adds_action, sets_action}
 use Rattle.desk_records.proofs.OfferWrites.{offered_params, adds_offer, sets_offer, drops_offer}
-use Rattle.desk_records.proofs.PartWrites.{cut_params, counted_params, adds_member, adds_group, sets_group}
+use Rattle.desk_records.proofs.PartWrites.{entry_params, adds_entry, cut_params, counted_params, adds_member, adds_group, sets_group}
 use Rattle.desk_records.proofs.RolloutMeaning.{rollout_terms, set_rollout_query, member_terms, group_terms, set_group_query, put_rollout_is, set_rollout_is, put_member_is, put_group_is, set_group_is}
 use Rattle.desk_store.proofs.LedgerReads.{ledger_knows}
 
@@ -87,3 +87,11 @@ knows_drop_offer = ledger_knows (OfRollouts Offers) DROP_OFFER.now (λ at tree. 
 
 pub offer_dropped : (id : Bytes) (old new : State) (out : Result (Unit {0}) Fault) → RunsText old new DROP_OFFER.now (Text id ∷ []) out → Writes HoldsLedger old new out (λ l next. next ≡ with_offer l id None)
 offer_dropped id old new out h = writes HoldsLedger DROP_OFFER.now (Text id ∷ []) old new (λ l next. next ≡ with_offer l id None) knows_drop_offer (λ db l holds. refl) out h (λ now next change holds count w. (w, subst (HoldsLedger new.now) (sym change) (drops_offer id old new _ count now holds w)))
+
+abbrev knows_put_feedback : Knows HoldsLedger PUT_FEEDBACK.now
+knows_put_feedback = ledger_knows (OfRollouts Feedbacks) PUT_FEEDBACK.now (λ at tree. Insert at (Values feedback_terms 6)) put_feedback_is
+
+pub entry_written : (number sequence kind word : ℕ) (details : Bytes) (old new : State) (out : Result (Unit {0}) Fault) → RunsText old new PUT_FEEDBACK.now (entry_params number sequence kind word details) out
+    → Writes HoldsLedger old new out (AddsEntry number sequence kind word details)
+entry_written number sequence kind word details old new out h = writes HoldsLedger PUT_FEEDBACK.now (entry_params number sequence kind word details) old new (AddsEntry number sequence kind word details) knows_put_feedback (λ db l holds. refl) out h
+    (λ now next change holds count w. (w, adds_entry number sequence kind word details old new _ count now next holds change w))

@@ -4,7 +4,7 @@ ghost use Rattle.std.specs.Prelude.{◌≡◌, ◌≤◌, ◌+◌, length, take,
 ghost use Rattle.std.specs.List.{zip};
 ghost use Rattle.std.specs.Option.{option_map};
 ghost use Rattle.rollout_machine.specs.ByteStrings.{item_numbered};
-ghost use Rattle.desk_records.specs.LedgerSteps.{AddsAction, AddsOffer, SetsAction, SetsOffer, with_offer};
+ghost use Rattle.desk_records.specs.LedgerSteps.{AddsAction, AddsEntry, AddsOffer, SetsAction, SetsOffer, with_offer};
 ghost use Rattle.desk_records.specs.RolloutRow.{IsActionRow, IsListedActionRow, IsOfferRow, actions_of, stored_action};
 ghost use Rattle.desk_store.specs.Counting.{AddsAtMost};
 ghost use Rattle.desk_store.specs.Ledgers.{ReadsLedger, WritesLedger};
@@ -15,8 +15,8 @@ use crate::from_row::FromRow;
 use crate::reading::{last_number, read_all, read_optional};
 use desk_records::{
     DROP_OFFER, GET_ACTION, GET_OFFER, LAST_ACTION, LIST_ACTIONS, ListedAction, PUT_ACTION,
-    PUT_OFFER, RowFault, SET_ACTION, SET_OFFER, StoredAction, read_listed_action, read_offer,
-    read_stored_action,
+    PUT_FEEDBACK, PUT_OFFER, RowFault, SET_ACTION, SET_OFFER, StoredAction, read_listed_action,
+    read_offer, read_stored_action,
 };
 use rollout_machine::Outcome;
 use rollout_model::{ActionNo, ControllerId, Offer, Page, RolloutNo};
@@ -138,6 +138,26 @@ impl<'a, S: Alter> OpenChange<'a, S> {
         self.store.calls.run(
             SET_ACTION,
             params![number.get(), canceling_code, outcome_code, notes, entries],
+        )
+    }
+
+    /// Adds the entry of this kind, word and lines to the history of an action that is there, at its next place. Its numbers of notes and
+    /// entries stay.
+    pub fn write_entry(
+        &mut self,
+        number: ActionNo,
+        sequence: u32,
+        kind: u32,
+        word: u32,
+        details: &str,
+    ) -> Result<(), Fault>
+        ensures same_reference { self.new.store.ghost_name ≡ self.old.store.ghost_name }
+        ensures writes { WritesLedger S.Store self.old self.new result (AddsEntry number sequence kind word details.now) }
+        ensures work { AddsAtMost 0 self.old.store.now.calls.work self.new.store.now.calls.work }
+    {
+        self.store.calls.run(
+            PUT_FEEDBACK,
+            params![number.get(), sequence, kind, word, details],
         )
     }
 
