@@ -90,9 +90,9 @@ module _ {IsKind : Records → Type 0} (db : Database) (l : Ledger) (holds : Hol
 abbrev pub told_offer : Offer → Row
 told_offer o = Int (pos o.action) ∷ Int (pos (flag o.canceling)) ∷ []
 
-pub offer_keyed : (params r : Row) → passes of_controller params r ≡ true → agree plain (1 ∷ []) r (0 ∷ []) params ≡ true
+pub offer_keyed : (given r : Row) → passes of_controller given r ≡ true → agree plain (1 ∷ []) r (0 ∷ []) given ≡ true
 unfolding first_key
-offer_keyed params r h = h
+offer_keyed given r h = h
 
 -- of all rows a statement may name, those of the id
 pub names_offer : (id : Bytes) (more : Row) (o : TargetOffer) → on_content (passes of_controller (Text id ∷ more)) (offer_row o) ≡ is_to id o

@@ -25,3 +25,7 @@ pub mod TargetRecords
 pub mod AttributeRecords
 pub mod RolloutRecords
 pub mod ActionRecords
+mod LedgerLists
+pub mod LedgerWrites
+pub mod OfferWrites
+pub mod PartWrites

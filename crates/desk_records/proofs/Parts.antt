@@ -46,7 +46,7 @@ module _ {Y : Type 0} (f : ℕ → Y → Row) (p : Row → Bool) where
       let apart : p (f first y) ≡ false = is first y ∙ grind (arith, nat_tests) in
       rw apart (at_place (first + 1) k (λ place z. is place z ∙ ap (nat_eq place) (sym at)) ys ∙ ap (λ n. option_to_list (option_map (f n) (slice_get ys k))) at)
 
-next_place : {Y : Type 0} (f : ℕ → Y → Row) (place : ℕ) (ys : List Y) (y : Y) → rows_from f place (ys ++ y ∷ []) ≡ rows_from f place ys ++ f (place + length ys) y ∷ []
+pub next_place : {Y : Type 0} (f : ℕ → Y → Row) (place : ℕ) (ys : List Y) (y : Y) → rows_from f place (ys ++ y ∷ []) ≡ rows_from f place ys ++ f (place + length ys) y ∷ []
 next_place f place [] y = let at : place ≡ place + 0 = omega arith in ap (λ n. f n y ∷ []) at
 next_place f place (z ∷ ys) y =
     let at : (place + 1) + length ys ≡ place + length (z ∷ ys) = omega arith in

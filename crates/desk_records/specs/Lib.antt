@@ -14,3 +14,4 @@ pub mod Actions
 pub mod Offers
 pub mod Codes
 pub mod RolloutRow
+pub mod LedgerSteps

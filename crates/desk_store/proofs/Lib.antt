@@ -9,3 +9,4 @@ pub mod AttributeCalls
 pub mod LedgerReads
 pub mod RolloutCalls
 pub mod ActionCalls
+pub mod WriteCalls

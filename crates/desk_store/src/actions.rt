@@ -1,20 +1,24 @@
 //! Actions and offers, in a change that is under way.
 
-ghost use Rattle.std.specs.Prelude.{◌≡◌, ◌≤◌, ◌+◌, length, take, drop};
+ghost use Rattle.std.specs.Prelude.{◌≡◌, ◌≤◌, ◌+◌, length, take, drop, None};
 ghost use Rattle.std.specs.List.{zip};
 ghost use Rattle.std.specs.Option.{option_map};
 ghost use Rattle.rollout_machine.specs.ByteStrings.{item_numbered};
+ghost use Rattle.desk_records.specs.LedgerSteps.{AddsAction, AddsEntry, AddsOffer, SetsAction, SetsOffer, with_offer};
 ghost use Rattle.desk_records.specs.RolloutRow.{IsActionRow, IsListedActionRow, IsOfferRow, actions_of, stored_action};
 ghost use Rattle.desk_store.specs.Counting.{AddsAtMost};
-ghost use Rattle.desk_store.specs.Ledgers.{ReadsLedger};
+ghost use Rattle.desk_store.specs.Ledgers.{ReadsLedger, WritesLedger};
 
 use crate::change::OpenChange;
+use crate::codes::{code_of_outcome, flag_code};
 use crate::from_row::FromRow;
 use crate::reading::{last_number, read_all, read_optional};
 use desk_records::{
-    GET_ACTION, GET_OFFER, LAST_ACTION, LIST_ACTIONS, ListedAction, RowFault, StoredAction,
-    read_listed_action, read_offer, read_stored_action,
+    DROP_OFFER, GET_ACTION, GET_OFFER, LAST_ACTION, LIST_ACTIONS, ListedAction, PUT_ACTION,
+    PUT_FEEDBACK, PUT_OFFER, RowFault, SET_ACTION, SET_OFFER, StoredAction, read_listed_action,
+    read_offer, read_stored_action,
 };
+use rollout_machine::Outcome;
 use rollout_model::{ActionNo, ControllerId, Offer, Page, RolloutNo};
 use sql_calls::Fault;
 use sqlite::{Alter, Row, params};
@@ -96,5 +100,99 @@ impl<'a, S: Alter> OpenChange<'a, S> {
         let alloc = self.store.alloc;
         let row = self.store.calls.first(GET_OFFER, params![id.as_str()])?;
         read_optional(alloc, row)
+    }
+
+    /// Adds the action of the next number, which is open and has no history, for the target that is its rollout's member at the place.
+    pub fn write_action(
+        &mut self,
+        number: ActionNo,
+        rollout: RolloutNo,
+        place: u32,
+        id: &ControllerId,
+    ) -> Result<(), Fault>
+        ensures same_reference { self.new.store.ghost_name ≡ self.old.store.ghost_name }
+        ensures writes { WritesLedger S.Store self.old self.new result (AddsAction number rollout place id.now) }
+        ensures work { AddsAtMost 0 self.old.store.now.calls.work self.new.store.now.calls.work }
+    {
+        self.store.calls.run(
+            PUT_ACTION,
+            params![number.get(), rollout.get(), place, id.as_str()],
+        )
+    }
+
+    /// Sets whether an action that is there is being cancelled, how it ended, and how many notes and entries its history has.
+    pub fn change_action(
+        &mut self,
+        number: ActionNo,
+        canceling: bool,
+        outcome: Option<Outcome>,
+        notes: u32,
+        entries: u32,
+    ) -> Result<(), Fault>
+        ensures same_reference { self.new.store.ghost_name ≡ self.old.store.ghost_name }
+        ensures writes { WritesLedger S.Store self.old self.new result (SetsAction number canceling outcome (record { notes = notes; entries = entries })) }
+        ensures work { AddsAtMost 0 self.old.store.now.calls.work self.new.store.now.calls.work }
+    {
+        let canceling_code = flag_code(canceling);
+        let outcome_code = code_of_outcome(outcome);
+        self.store.calls.run(
+            SET_ACTION,
+            params![number.get(), canceling_code, outcome_code, notes, entries],
+        )
+    }
+
+    /// Adds the entry of this kind, word and lines to the history of an action that is there, at its next place. Its numbers of notes and
+    /// entries stay.
+    pub fn write_entry(
+        &mut self,
+        number: ActionNo,
+        sequence: u32,
+        kind: u32,
+        word: u32,
+        details: &str,
+    ) -> Result<(), Fault>
+        ensures same_reference { self.new.store.ghost_name ≡ self.old.store.ghost_name }
+        ensures writes { WritesLedger S.Store self.old self.new result (AddsEntry number sequence kind word details.now) }
+        ensures work { AddsAtMost 0 self.old.store.now.calls.work self.new.store.now.calls.work }
+    {
+        self.store.calls.run(
+            PUT_FEEDBACK,
+            params![number.get(), sequence, kind, word, details],
+        )
+    }
+
+    /// Offers something to a target that is offered nothing.
+    pub fn write_offer(&mut self, id: &ControllerId, offer: Offer) -> Result<(), Fault>
+        ensures same_reference { self.new.store.ghost_name ≡ self.old.store.ghost_name }
+        ensures writes { WritesLedger S.Store self.old self.new result (AddsOffer id.now offer) }
+        ensures work { AddsAtMost 0 self.old.store.now.calls.work self.new.store.now.calls.work }
+    {
+        let canceling = flag_code(offer.canceling);
+        self.store.calls.run(
+            PUT_OFFER,
+            params![id.as_str(), offer.action.get(), canceling],
+        )
+    }
+
+    /// Offers a target something in place of what it is offered.
+    pub fn change_offer(&mut self, id: &ControllerId, offer: Offer) -> Result<(), Fault>
+        ensures same_reference { self.new.store.ghost_name ≡ self.old.store.ghost_name }
+        ensures writes { WritesLedger S.Store self.old self.new result (SetsOffer id.now offer) }
+        ensures work { AddsAtMost 0 self.old.store.now.calls.work self.new.store.now.calls.work }
+    {
+        let canceling = flag_code(offer.canceling);
+        self.store.calls.run(
+            SET_OFFER,
+            params![id.as_str(), offer.action.get(), canceling],
+        )
+    }
+
+    /// Offers a target nothing any more.
+    pub fn drop_offer(&mut self, id: &ControllerId) -> Result<(), Fault>
+        ensures same_reference { self.new.store.ghost_name ≡ self.old.store.ghost_name }
+        ensures writes { WritesLedger S.Store self.old self.new result (λ l next. next ≡ with_offer l id.now None) }
+        ensures work { AddsAtMost 0 self.old.store.now.calls.work self.new.store.now.calls.work }
+    {
+        self.store.calls.run(DROP_OFFER, params![id.as_str()])
     }
 }

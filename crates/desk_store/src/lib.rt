@@ -5,6 +5,7 @@ mod actions;
 mod artifacts;
 mod attributes;
 mod change;
+mod codes;
 mod from_row;
 mod reading;
 mod rollouts;

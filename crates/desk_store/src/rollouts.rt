@@ -5,20 +5,23 @@ ghost use Rattle.std.specs.List.{list_any};
 ghost use Rattle.std.specs.Option.{option_map};
 ghost use Rattle.rollout_machine.specs.ByteStrings.{item_numbered};
 ghost use Rattle.rollout_machine.specs.StateWords.{group_holding, group_numbered};
+ghost use Rattle.desk_records.specs.LedgerSteps.{AddsGroup, AddsMember, AddsRollout, SetsGroup, SetsRollout};
 ghost use Rattle.desk_records.specs.RolloutRow.{IsGroupRow, IsRolloutRow, stored_rollout};
 ghost use Rattle.desk_records.specs.Rollouts.{groups_of, is_called};
 ghost use Rattle.desk_store.specs.Counting.{AddsAtMost};
-ghost use Rattle.desk_store.specs.Ledgers.{ReadsLedger};
+ghost use Rattle.desk_store.specs.Ledgers.{ReadsLedger, WritesLedger};
 
 use crate::change::OpenChange;
+use crate::codes::{code_of_approval, flag_code};
 use crate::from_row::FromRow;
 use crate::reading::{last_number, read_all, read_optional};
 use desk_records::{
     FIND_ROLLOUT, GET_GROUP, GET_ROLLOUT, HOLDING_GROUP, LAST_ROLLOUT, LIST_GROUPS, LIST_ROLLOUTS,
-    RowFault, StoredRollout, read_group, read_stored_rollout,
+    PUT_GROUP, PUT_MEMBER, PUT_ROLLOUT, RowFault, SET_GROUP, SET_ROLLOUT, StoredRollout,
+    read_group, read_stored_rollout,
 };
-use rollout_machine::GroupRecord;
-use rollout_model::{Page, RolloutNo, Text};
+use rollout_machine::{Bounds, GroupRecord};
+use rollout_model::{Approval, ControllerId, Page, RolloutNo, RolloutPlan, Text};
 use sql_calls::Fault;
 use sqlite::{Alter, Row, params};
 use std::alloc::Global;
@@ -135,5 +138,109 @@ impl<'a, S: Alter> OpenChange<'a, S> {
             .calls
             .first(HOLDING_GROUP, params![number.get(), place])?;
         read_optional(alloc, row)
+    }
+
+    /// Adds the rollout of the next number, which is neither started nor paused and has no members and groups yet.
+    pub fn write_rollout(
+        &mut self,
+        number: RolloutNo,
+        plan: &RolloutPlan,
+        approval: Approval,
+    ) -> Result<(), Fault>
+        ensures same_reference { self.new.store.ghost_name ≡ self.old.store.ghost_name }
+        ensures writes { WritesLedger S.Store self.old self.new result (AddsRollout number plan.now approval) }
+        ensures work { AddsAtMost 0 self.old.store.now.calls.work self.new.store.now.calls.work }
+    {
+        let success = u32::from(plan.success.get());
+        let error = u32::from(plan.error.get());
+        let approval = code_of_approval(approval);
+        self.store.calls.run(
+            PUT_ROLLOUT,
+            params![
+                number.get(),
+                plan.name.as_str(),
+                plan.set_number.get(),
+                plan.filter_text.as_str(),
+                plan.groups.get(),
+                success,
+                error,
+                approval
+            ],
+        )
+    }
+
+    /// Sets whether a rollout that is there is approved, is started and is paused.
+    pub fn change_rollout(
+        &mut self,
+        number: RolloutNo,
+        approval: Approval,
+        started: bool,
+        paused: bool,
+    ) -> Result<(), Fault>
+        ensures same_reference { self.new.store.ghost_name ≡ self.old.store.ghost_name }
+        ensures writes { WritesLedger S.Store self.old self.new result (SetsRollout number approval started paused) }
+        ensures work { AddsAtMost 0 self.old.store.now.calls.work self.new.store.now.calls.work }
+    {
+        let approval_code = code_of_approval(approval);
+        let started_code = flag_code(started);
+        let paused_code = flag_code(paused);
+        self.store.calls.run(
+            SET_ROLLOUT,
+            params![number.get(), approval_code, started_code, paused_code],
+        )
+    }
+
+    /// Adds a member to a rollout that has no action yet, at its next place.
+    pub fn write_member(
+        &mut self,
+        number: RolloutNo,
+        place: u32,
+        id: &ControllerId,
+    ) -> Result<(), Fault>
+        ensures same_reference { self.new.store.ghost_name ≡ self.old.store.ghost_name }
+        ensures writes { WritesLedger S.Store self.old self.new result (AddsMember number place id.now) }
+        ensures work { AddsAtMost 0 self.old.store.now.calls.work self.new.store.now.calls.work }
+    {
+        self.store
+            .calls
+            .run(PUT_MEMBER, params![number.get(), place, id.as_str()])
+    }
+
+    /// Adds a group to a rollout, of its next number. It isn't started, and none of its actions ended.
+    pub fn write_group(
+        &mut self,
+        number: RolloutNo,
+        group: u32,
+        bounds: Bounds,
+    ) -> Result<(), Fault>
+        ensures same_reference { self.new.store.ghost_name ≡ self.old.store.ghost_name }
+        ensures writes { WritesLedger S.Store self.old self.new result (AddsGroup number group bounds) }
+        ensures work { AddsAtMost 0 self.old.store.now.calls.work self.new.store.now.calls.work }
+    {
+        self.store.calls.run(
+            PUT_GROUP,
+            params![number.get(), group, bounds.first, bounds.last],
+        )
+    }
+
+    /// Sets whether a group that is there is started, and how many of its actions succeeded, failed and were given up.
+    pub fn change_group(
+        &mut self,
+        number: RolloutNo,
+        group: u32,
+        started: bool,
+        ok: u32,
+        bad: u32,
+        gone: u32,
+    ) -> Result<(), Fault>
+        ensures same_reference { self.new.store.ghost_name ≡ self.old.store.ghost_name }
+        ensures writes { WritesLedger S.Store self.old self.new result (SetsGroup number group started ok bad gone) }
+        ensures work { AddsAtMost 0 self.old.store.now.calls.work self.new.store.now.calls.work }
+    {
+        let started_code = flag_code(started);
+        self.store.calls.run(
+            SET_GROUP,
+            params![number.get(), group, started_code, ok, bad, gone],
+        )
     }
 }

@@ -1,0 +1,193 @@
+-- The statements on offers that write, in ledgers.
+use Rattle.std.proofs.Common.{◌≡◌, ◌≢◌, ◌&&◌, ℕ, pos, List, [], ◌∷◌, Bool, true, false, not, cond, map, filter, Option, Some, None, refl, sym, ap, ap₂, subst, ◌∙◌, arith, nat_eq}
+use Rattle.std.proofs.lemmas.Bool.Decides.{nat_tests}
+use Rattle.sqlite_value.specs.declared.value.Value.TheVariants.{Null, Int, Text}
+use Rattle.sqlite_value.specs.Order.{Row}
+use Rattle.sqlite.specs.Command.TheVariants.{Insert, Update, Delete}
+use Rattle.sqlite.specs.Source.TheVariants.{Values}
+use Rattle.sqlite.specs.Effect.{Database}
+use Rattle.sqlite.specs.State.{State, Writes}
+use Rattle.sqlite_rules.specs.Cast.{cast_all}
+use Rattle.sql_calls.specs.Keyed.{IsHeldBy}
+use Rattle.sql_calls.proofs.Inserts.{inserts}
+use Rattle.sql_calls.proofs.KeyedRows.{on_content, changed}
+use Rattle.sql_calls.proofs.KeyedTables.{adds_row, changes_key, drops, keys_apart}
+use Rattle.sql_calls.proofs.NumberedRows.{cast_int}
+use Rattle.sql_calls.proofs.Selects.{passes, shown_of}
+use Rattle.sql_calls.proofs.Updates.{deletes, updates}
+use Rattle.rollout_machine.specs.ByteStrings.{same_bytes}
+use Rattle.rollout_machine.specs.Commands.{Bytes}
+use Rattle.rollout_machine.specs.Kinds.{TargetOffer, offer_to}
+use Rattle.rollout_machine.proofs.TargetTies.{same_true}
+use Rattle.rollout_model.specs.declared.rollout.Offer.{Offer}
+use Rattle.desk_records.specs.Holds.{HoldsLedger, IsHeldOfRollouts, Ledger}
+use Rattle.desk_records.specs.LedgerSteps.{AddsOffer, SetsOffer, with_offer}
+use Rattle.desk_records.specs.Offers.{HoldsOffers, is_to, offer_row}
+use Rattle.desk_records.specs.Rollouts.{flag}
+use Rattle.desk_records.specs.Schema.{OfRollouts, RolloutPlace, Rollouts, Members, Groups, Actions, Feedbacks, Offers, offer_table}
+use Rattle.desk_records.proofs.ActionMeaning.{drop_offer_query, of_controller, offer_terms, offer_values, set_offer_query}
+use Rattle.desk_records.proofs.ActionRecords.{names_offer, offer_keyed}
+use Rattle.desk_records.proofs.HoldsAfter.{Leaves, ledger_after}
+
+-- ---- the offers of one id, in lists
+
+same_turned : (a b : Bytes) → same_bytes a b ≡ same_bytes b a
+same_turned [] [] = refl
+same_turned [] (y ∷ ys) = refl
+same_turned (x ∷ xs) [] = refl
+same_turned (x ∷ xs) (y ∷ ys) = ap₂ ◌&&◌ (turned x y) (same_turned xs ys)
+  where
+    turned : (x y : ℕ) → nat_eq x y ≡ nat_eq y x
+    turned x y = grind (arith, nat_tests)
+
+abbrev new_offer : Bytes → Offer → TargetOffer
+new_offer id o = record { target = id; offer = o }
+
+its_more : (id t : Bytes) (o : Offer) (offers : Bytes → Option Offer) (listed : List TargetOffer) → offers id ≡ None → filter (is_to t) listed ≡ offer_to t (offers t) → filter (is_to t) (new_offer id o ∷ listed) ≡ offer_to t (cond (same_bytes id t) (Some o) (offers t))
+its_more id t o offers listed none its = go (same_bytes id t) refl
+  where
+    go : (b : Bool) → same_bytes id t ≡ b → cond b (new_offer id o ∷ filter (is_to t) listed) (filter (is_to t) listed) ≡ offer_to t (cond b (Some o) (offers t))
+    go true e =
+        let is : id ≡ t = same_true id t e in
+        ap₂ (λ i l. new_offer i o ∷ l) is (its ∙ ap (λ i. offer_to t (offers i)) (sym is) ∙ ap (offer_to t) none)
+    go false e = its
+
+abbrev other_offer : Bytes → Offer → TargetOffer → TargetOffer
+other_offer id o it = cond (is_to id it) (record it { offer = o }) it
+
+its_set : (id t : Bytes) (o : Offer) (listed : List TargetOffer) → filter (is_to t) (map (other_offer id o) listed) ≡ map (other_offer id o) (filter (is_to t) listed)
+its_set id t o [] = refl
+its_set id t o (it ∷ listed) = rw (target (same_bytes it.target id)) (go (same_bytes it.target t) (its_set id t o listed))
+  where
+    target : (b : Bool) → (cond b (record it { offer = o }) it).target ≡ it.target
+    target true = refl
+    target false = refl
+
+    go : (b : Bool) → filter (is_to t) (map (other_offer id o) listed) ≡ map (other_offer id o) (filter (is_to t) listed)
+        → cond b (other_offer id o it ∷ filter (is_to t) (map (other_offer id o) listed)) (filter (is_to t) (map (other_offer id o) listed)) ≡ map (other_offer id o) (cond b (it ∷ filter (is_to t) listed) (filter (is_to t) listed))
+    go true rest = ap (λ l. other_offer id o it ∷ l) rest
+    go false rest = rest
+
+offers_set : (id t : Bytes) (o was : Offer) (offers : Bytes → Option Offer) → offers id ≡ Some was → map (other_offer id o) (offer_to t (offers t)) ≡ offer_to t (cond (same_bytes id t) (Some o) (offers t))
+offers_set id t o was offers there = go (same_bytes id t) refl
+  where
+    each : (b : Bool) → same_bytes t id ≡ b → (found : Option Offer) → map (other_offer id o) (offer_to t found) ≡ cond b (map (λ (it : TargetOffer). record it { offer = o }) (offer_to t found)) (offer_to t found)
+    each true e None = refl
+    each false e None = refl
+    each true e (Some w) = rw e refl
+    each false e (Some w) = rw e refl
+
+    go : (b : Bool) → same_bytes id t ≡ b → map (other_offer id o) (offer_to t (offers t)) ≡ offer_to t (cond b (Some o) (offers t))
+    go true e =
+        let is : id ≡ t = same_true id t e in
+        each true (same_turned t id ∙ e) (offers t) ∙ ap (λ i. map (λ (it : TargetOffer). record it { offer = o }) (offer_to t (offers i))) (sym is) ∙ ap (λ found. map (λ (it : TargetOffer). record it { offer = o }) (offer_to t found)) there
+    go false e = each false (same_turned t id ∙ e) (offers t)
+
+abbrev not_to : Bytes → TargetOffer → Bool
+not_to id it = not (is_to id it)
+
+its_left : (id t : Bytes) (listed : List TargetOffer) → filter (is_to t) (filter (not_to id) listed) ≡ cond (same_bytes id t) [] (filter (is_to t) listed)
+its_left id t listed = go (same_bytes id t) refl listed
+  where
+    one : (b : Bool) → same_bytes id t ≡ b → (o : TargetOffer) (rest left : List TargetOffer) → filter (is_to t) left ≡ cond b [] (filter (is_to t) rest) → (s : Bool) → same_bytes o.target id ≡ s
+        → filter (is_to t) (cond (not s) (o ∷ left) left) ≡ cond b [] (filter (is_to t) (o ∷ rest))
+    one true e o rest left ih true d = ih
+    one false e o rest left ih true d =
+        let apart : same_bytes o.target t ≡ false = ap (λ (i : Bytes). same_bytes i t) (same_true o.target id d) ∙ e in ih ∙ sym (ap (λ b. cond b (o ∷ filter (is_to t) rest) (filter (is_to t) rest)) apart)
+    one true e o rest left ih false d =
+        let apart : same_bytes o.target t ≡ false = ap (same_bytes o.target) (sym (same_true id t e)) ∙ d in ap (λ b. cond b (o ∷ filter (is_to t) left) (filter (is_to t) left)) apart ∙ ih
+    one false e o rest left ih false d = ap (λ l. cond (same_bytes o.target t) (o ∷ l) l) ih
+
+    go : (b : Bool) → same_bytes id t ≡ b → (xs : List TargetOffer) → filter (is_to t) (filter (not_to id) xs) ≡ cond b [] (filter (is_to t) xs)
+    go true e [] = refl
+    go false e [] = refl
+    go b e (o ∷ xs) = one b e o xs (filter (not_to id) xs) (go b e xs) (same_bytes o.target id) refl
+
+-- ---- their rows
+
+rows_left : (id : Bytes) (p : Row → Bool) → ((o : TargetOffer) → p (offer_row o) ≡ is_to id o) → (listed : List TargetOffer) → filter (λ x. not (p x)) (map offer_row listed) ≡ map offer_row (filter (not_to id) listed)
+rows_left id p is [] = refl
+rows_left id p is (o ∷ listed) = rw (is o) (go (same_bytes o.target id) (rows_left id p is listed))
+  where
+    go : (b : Bool) → filter (λ x. not (p x)) (map offer_row listed) ≡ map offer_row (filter (not_to id) listed)
+        → cond (not b) (offer_row o ∷ filter (λ x. not (p x)) (map offer_row listed)) (filter (λ x. not (p x)) (map offer_row listed)) ≡ map offer_row (cond (not b) (o ∷ filter (not_to id) listed) (filter (not_to id) listed))
+    go true ih = ih
+    go false ih = ap (λ l. offer_row o ∷ l) ih
+
+rows_set : (id : Bytes) (o : Offer) (p : Row → Bool) (g : Row → Row) → ((it : TargetOffer) → p (offer_row it) ≡ is_to id it) → ((it : TargetOffer) → g (offer_row it) ≡ offer_row (record it { offer = o })) → (listed : List TargetOffer)
+    → changed p g (map offer_row listed) ≡ map offer_row (map (other_offer id o) listed)
+rows_set id o p g is becomes [] = refl
+rows_set id o p g is becomes (it ∷ listed) = ap₂ ◌∷◌ (rw (is it) (go (same_bytes it.target id))) (rows_set id o p g is becomes listed)
+  where
+    go : (b : Bool) → cond b (g (offer_row it)) (offer_row it) ≡ offer_row (cond b (record it { offer = o }) it)
+    go true = becomes it
+    go false = refl
+
+-- ---- the statements
+
+-- the rows of offers change, and nothing else
+offers_after : (l : Ledger) (id : Bytes) (o : Option Offer) (old new : Database) (holds : HoldsLedger old l) → Leaves old new (holds.spot (OfRollouts Offers)).tree → HoldsOffers (new.trees (holds.spot (OfRollouts Offers)).tree) (with_offer l id o).offers
+    → HoldsLedger new (with_offer l id o)
+offers_after l id o old new holds left held = ledger_after Offers l (with_offer l id o) old new holds left held (record { approval = refl; modules = refl; artifacts = refl; sets = refl; targets = refl }) same
+  where
+    same : (t : RolloutPlace) → t ≢ Offers → (rows : List Row) → IsHeldOfRollouts l t rows → IsHeldOfRollouts (with_offer l id o) t rows
+    same Rollouts apart rows held = held
+    same Members apart rows held = held
+    same Groups apart rows held = held
+    same Actions apart rows held = held
+    same Feedbacks apart rows held = held
+    same Offers apart rows held = absurd (apart refl)
+
+abbrev pub offered_params : Bytes → Offer → Row
+offered_params id o = Text id ∷ Int (pos o.action) ∷ Int (pos (flag o.canceling)) ∷ []
+
+pub adds_offer : (id : Bytes) (o : Offer) (old new : State) (text : List ℕ) (count : ℕ) (l next : Ledger) (holds : HoldsLedger old.now l) → AddsOffer id o l next
+    → (w : Writes old new None (Insert (holds.spot (OfRollouts Offers)).at (Values offer_terms 4)) text (offered_params id o) count) → HoldsLedger new.now next
+adds_offer id o old new text count l next holds change w =
+    let spot = holds.spot (OfRollouts Offers) in
+    let had = holds.rows (OfRollouts Offers) in
+    let table = offer_table spot.tree in
+    let made = inserts old.now.schema spot.at table offer_terms 4 (holds.stands (OfRollouts Offers)).got old new refl text (offered_params id o) count w in
+    let more = adds_row old.now.schema table (1 ∷ []) (offered_params id o) offer_terms 4 (offered_params id o) refl old.now new.now (map offer_row had.listed) had.held made in
+    let cast : cast_all table.columns (offered_params id o) ≡ offered_params id o = rw (cast_int o.action, cast_int (flag o.canceling)) refl in
+    subst (HoldsLedger new.now) (sym change.next_is) (offers_after l id (Some o) old.now new.now holds (record { schema = made.schema_is; sound = w.sound; others = made.applies.tables }) (record {
+      listed = new_offer id o ∷ had.listed;
+      held = subst (λ r. IsHeldBy (new.now.trees spot.tree) (r ∷ map offer_row had.listed)) cast more;
+      its = λ t. its_more id t o l.offers had.listed change.is_new (had.its t);
+    }))
+
+pub sets_offer : (id : Bytes) (o : Offer) (old new : State) (text : List ℕ) (count : ℕ) (l next : Ledger) (holds : HoldsLedger old.now l) → SetsOffer id o l next
+    → (w : Writes old new None (Update (holds.spot (OfRollouts Offers)).at (record { lets = []; body = set_offer_query (holds.spot (OfRollouts Offers)).tree })) text (offered_params id o) count) → HoldsLedger new.now next
+sets_offer id o old new text count l next holds change w =
+    let spot = holds.spot (OfRollouts Offers) in
+    let had = holds.rows (OfRollouts Offers) in
+    let table = offer_table spot.tree in
+    let params = offered_params id o in
+    let made = updates old.now.schema spot.at table (record { lets = []; body = set_offer_query spot.tree }) (holds.stands (OfRollouts Offers)).got (holds.stands (OfRollouts Offers)).keyless old new refl text params count w in
+    let set = changes_key old.now.schema table (1 ∷ []) of_controller params (λ i x. refl) (0 ∷ []) (offer_keyed params) offer_values (λ i x. refl) old.now new.now (map offer_row had.listed)
+    (keys_apart old.now.schema old.now.trees spot.at table 0 (1 ∷ []) holds.sound (holds.stands (OfRollouts Offers)).got refl refl) had.held made in
+    let is = rows_set id o (on_content (passes of_controller params)) (λ x. cast_all table.columns (on_content (shown_of offer_values params) x)) (names_offer id (Int (pos o.action) ∷ Int (pos (flag o.canceling)) ∷ []))
+    (λ it. rw (cast_int o.action, cast_int (flag o.canceling)) refl) had.listed in
+    subst (HoldsLedger new.now) (sym change.next_is) (offers_after l id (Some o) old.now new.now holds (record { schema = made.schema_is; sound = w.sound; others = made.applies.tables }) (record {
+      listed = map (other_offer id o) had.listed;
+      held = subst (IsHeldBy (new.now.trees spot.tree)) is set;
+      its = λ t. its_set id t o had.listed ∙ ap (map (other_offer id o)) (had.its t) ∙ offers_set id t o change.was l.offers change.is_there;
+    }))
+
+pub drops_offer : (id : Bytes) (old new : State) (text : List ℕ) (count : ℕ) (l : Ledger) (holds : HoldsLedger old.now l)
+    → (w : Writes old new None (Delete (holds.spot (OfRollouts Offers)).at (record { lets = []; body = drop_offer_query (holds.spot (OfRollouts Offers)).tree })) text (Text id ∷ []) count) → HoldsLedger new.now (with_offer l id None)
+drops_offer id old new text count l holds w =
+    let spot = holds.spot (OfRollouts Offers) in
+    let had = holds.rows (OfRollouts Offers) in
+    let table = offer_table spot.tree in
+    let made = deletes old.now.schema spot.at table (record { lets = []; body = drop_offer_query spot.tree }) (holds.stands (OfRollouts Offers)).got (holds.stands (OfRollouts Offers)).keyless old new refl text (Text id ∷ []) count w in
+    let left = drops old.now.schema table (1 ∷ []) of_controller (Text id ∷ []) (λ i x. refl) old.now new.now (map offer_row had.listed) had.held made in
+    offers_after l id None old.now new.now holds (record { schema = made.schema_is; sound = w.sound; others = made.applies.tables }) (record {
+      listed = filter (not_to id) had.listed;
+      held = subst (IsHeldBy (new.now.trees spot.tree)) (rows_left id (λ x. passes of_controller (Text id ∷ []) (Null ∷ x)) (names_offer id []) had.listed) left;
+      its = λ t. its_left id t had.listed ∙ ends t (same_bytes id t) (had.its t);
+    })
+  where
+    ends : (t : Bytes) (b : Bool) → filter (is_to t) (holds.rows (OfRollouts Offers)).listed ≡ offer_to t (l.offers t) → cond b [] (filter (is_to t) (holds.rows (OfRollouts Offers)).listed) ≡ offer_to t (cond b None (l.offers t))
+    ends t true e = refl
+    ends t false e = e

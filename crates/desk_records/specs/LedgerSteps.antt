@@ -1,0 +1,140 @@
+-- What statements make of a ledger.
+use Rattle.std.specs.Prelude.{◌≡◌, ℕ, zero, suc, ◌+◌, Bool, true, false, not, cond, nat_eq, List, [], ◌∷◌, ◌++◌, length, set, Option, Some, None, pos}
+use Rattle.std.specs.List.{list_all, zip}
+use Rattle.sqlite_value.specs.declared.value.Value.TheVariants.{Int, Text}
+use Rattle.rollout_machine.specs.ByteStrings.{item_numbered, same_bytes}
+use Rattle.rollout_machine.specs.Commands.{Bytes, RolloutPlan}
+use Rattle.rollout_machine.specs.Actions.{HistoryEntry}
+use Rattle.rollout_machine.specs.declared.bounds.Bounds.{Bounds}
+use Rattle.rollout_machine.specs.declared.records.GroupRecord.{GroupRecord}
+use Rattle.rollout_machine.specs.declared.outcome.Outcome.{Outcome}
+use Rattle.rollout_machine.specs.declared.records.ActionRecord.{ActionRecord}
+use Rattle.rollout_machine.specs.declared.records.RolloutRecord.{RolloutRecord}
+use Rattle.rollout_model.specs.declared.approval.Approval.{Approval}
+use Rattle.rollout_model.specs.declared.rollout.Offer.{Offer}
+use Rattle.desk_records.specs.Actions.{Tally, actor_of, told_entry}
+use Rattle.desk_records.specs.Holds.{Ledger}
+
+-- another in place of the one of a number
+abbrev pub set_numbered : {X : Type 0} → List X → ℕ → X → List X
+set_numbered xs zero x = xs
+set_numbered xs (suc k) x = set xs k x
+
+abbrev pub with_rollouts : Ledger → List RolloutRecord → Ledger
+with_rollouts l xs = record l { records = record l.records { rollouts = xs } }
+
+abbrev pub with_actions : Ledger → List ActionRecord → List Tally → Ledger
+with_actions l as' tallies = record l { records = record l.records { actions = as' }; tallies = tallies }
+
+-- ---- rollouts
+
+-- neither started nor paused, before its members and groups are added
+abbrev pub created : ℕ → RolloutPlan → Approval → RolloutRecord
+created number plan approval = record { number = number; plan = plan; members = []; approval = approval; started = false; paused = false; groups = [] }
+
+-- the number is the next
+pub record AddsRollout (number : ℕ) (plan : RolloutPlan) (approval : Approval) (l next : Ledger) : Type 0 where
+  pub number_is : number ≡ length l.records.rollouts + 1
+  pub next_is : next ≡ with_rollouts l (l.records.rollouts ++ created number plan approval ∷ [])
+
+abbrev pub turned : Approval → Bool → Bool → RolloutRecord → RolloutRecord
+turned approval started paused x = record x { approval = approval; started = started; paused = paused }
+
+-- the rollout is there
+pub record SetsRollout (number : ℕ) (approval : Approval) (started paused : Bool) (l next : Ledger) : Type 0 where
+  pub rollout : RolloutRecord
+  pub is_there : item_numbered l.records.rollouts number ≡ Some rollout
+  pub next_is : next ≡ with_rollouts l (set_numbered l.records.rollouts number (turned approval started paused rollout))
+
+abbrev pub and_member : RolloutRecord → Bytes → RolloutRecord
+and_member x id = record x { members = x.members ++ id ∷ [] }
+
+-- the rollout is there, the place is its next, and no action is its yet
+pub record AddsMember (number place : ℕ) (id : Bytes) (l next : Ledger) : Type 0 where
+  pub rollout : RolloutRecord
+  pub is_there : item_numbered l.records.rollouts number ≡ Some rollout
+  pub place_is : place ≡ length rollout.members + 1
+  pub unacted : list_all (λ (a : ActionRecord). not (nat_eq a.rollout number)) l.records.actions ≡ true
+  pub next_is : next ≡ with_rollouts l (set_numbered l.records.rollouts number (and_member rollout id))
+
+abbrev pub and_group : RolloutRecord → GroupRecord → RolloutRecord
+and_group x g = record x { groups = x.groups ++ g ∷ [] }
+
+-- not started, and none of its actions ended
+abbrev pub cut_group : ℕ → Bounds → GroupRecord
+cut_group number bounds = record { number = number; bounds = bounds; started = false; ok = 0; bad = 0; gone = 0 }
+
+-- the rollout is there, and the number is that of its next group
+pub record AddsGroup (number group : ℕ) (bounds : Bounds) (l next : Ledger) : Type 0 where
+  pub rollout : RolloutRecord
+  pub is_there : item_numbered l.records.rollouts number ≡ Some rollout
+  pub group_is : group ≡ length rollout.groups + 1
+  pub next_is : next ≡ with_rollouts l (set_numbered l.records.rollouts number (and_group rollout (cut_group group bounds)))
+
+abbrev pub counted : Bool → ℕ → ℕ → ℕ → GroupRecord → GroupRecord
+counted started ok bad gone g = record g { started = started; ok = ok; bad = bad; gone = gone }
+
+abbrev pub with_groups : RolloutRecord → List GroupRecord → RolloutRecord
+with_groups x gs = record x { groups = gs }
+
+-- the group is there
+pub record SetsGroup (number group : ℕ) (started : Bool) (ok bad gone : ℕ) (l next : Ledger) : Type 0 where
+  pub rollout : RolloutRecord
+  pub is_there : item_numbered l.records.rollouts number ≡ Some rollout
+  pub was : GroupRecord
+  pub is_its : item_numbered rollout.groups group ≡ Some was
+  pub next_is : next ≡ with_rollouts l (set_numbered l.records.rollouts number (with_groups rollout (set_numbered rollout.groups group (counted started ok bad gone was))))
+
+-- ---- actions
+
+-- open, and with no history
+abbrev pub scheduled : ℕ → ℕ → ActionRecord
+scheduled rollout place = record { rollout = rollout; position = place; canceling = false; outcome = None; history = [] }
+
+abbrev pub no_tally : Tally
+no_tally = record { notes = 0; entries = 0 }
+
+-- the number is the next, and the target that of the rollout's member at the place
+pub record AddsAction (number rollout place : ℕ) (id : Bytes) (l next : Ledger) : Type 0 where
+  pub tallied : length l.tallies ≡ length l.records.actions
+  pub number_is : number ≡ length l.records.actions + 1
+  pub id_is : id ≡ actor_of l.records.rollouts (scheduled rollout place)
+  pub next_is : next ≡ with_actions l (l.records.actions ++ scheduled rollout place ∷ []) (l.tallies ++ no_tally ∷ [])
+
+abbrev pub acted : Bool → Option Outcome → ActionRecord → ActionRecord
+acted canceling outcome a = record a { canceling = canceling; outcome = outcome }
+
+-- the action is there
+pub record SetsAction (number : ℕ) (canceling : Bool) (outcome : Option Outcome) (tally : Tally) (l next : Ledger) : Type 0 where
+  pub action : ActionRecord × Tally
+  pub is_there : item_numbered (zip l.records.actions l.tallies) number ≡ Some action
+  pub next_is : next ≡ with_actions l (set_numbered l.records.actions number (acted canceling outcome action.0)) (set_numbered l.tallies number tally)
+
+abbrev pub and_entry : ActionRecord → HistoryEntry → ActionRecord
+and_entry a entry = record a { history = a.history ++ entry ∷ [] }
+
+-- the action is there, the place is its history's next, and the row tells of the entry; the action's tally stays
+pub record AddsEntry (number sequence kind word : ℕ) (details : Bytes) (l next : Ledger) : Type 0 where
+  pub action : ActionRecord
+  pub is_there : item_numbered l.records.actions number ≡ Some action
+  pub sequence_is : sequence ≡ length action.history + 1
+  pub entry : HistoryEntry
+  pub told : told_entry entry ≡ Int (pos kind) ∷ Int (pos word) ∷ Text details ∷ []
+  pub next_is : next ≡ with_actions l (set_numbered l.records.actions number (and_entry action entry)) l.tallies
+
+-- ---- offers
+
+-- of one target another offer, or none
+abbrev pub with_offer : Ledger → Bytes → Option Offer → Ledger
+with_offer l id o = record l { offers = λ (t : Bytes). cond (same_bytes id t) o (l.offers t) }
+
+-- the target has none
+pub record AddsOffer (id : Bytes) (o : Offer) (l next : Ledger) : Type 0 where
+  pub is_new : l.offers id ≡ None
+  pub next_is : next ≡ with_offer l id (Some o)
+
+-- the target has one
+pub record SetsOffer (id : Bytes) (o : Offer) (l next : Ledger) : Type 0 where
+  pub was : Offer
+  pub is_there : l.offers id ≡ Some was
+  pub next_is : next ≡ with_offer l id (Some o)
