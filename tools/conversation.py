@@ -205,7 +205,7 @@ def unrolled(lines):
 class Reader:
     """Reads the lines of a case, one after the other."""
 
-    ITEMS = (">", ">>", "<", "<<", "program", "again", "exit", "err", "sql", "database", "rows", "pieces", "awaits")
+    ITEMS = (">", ">>", "<", "<<", "program", "again", "exit", "err", "sql", "database", "file", "rows", "pieces", "awaits")
 
     def __init__(self, path):
         self.case, self.item, self.body, self.before = Case(path), None, [], []
@@ -225,7 +225,9 @@ class Reader:
             return
         (key, text), body = self.item, b"".join(map(body_line, self.body))
         self.item, self.body = None, []
-        if key == ">":
+        if key == "file":
+            self.before.append((key, body))
+        elif key == ">":
             self.process().exchanges.append(Exchange(request_bytes(text, body)))
         elif key == ">>":
             self.process().exchanges.append(Exchange(escaped(text) + body))
@@ -238,7 +240,7 @@ class Reader:
 
     def take(self, key, text):
         self.end_item()
-        if key in (">", ">>", "<", "<<"):
+        if key in (">", ">>", "<", "<<", "file"):
             self.item = key, text
         elif key == "program":
             self.begin(shlex.split(text))
@@ -304,11 +306,18 @@ def cases_below(places):
         yield from sorted(place.rglob("*.case")) if place.is_dir() else [place]
 
 
+def file_beside(database):
+    """The file of a case, beside its database."""
+    return Path(f"{database}.csv")
+
+
 def prepare(process, database):
     """Does by hand what the case has done to the file before the process."""
     for key, what in process.before:
         if key == "database":
             Path(database).write_bytes(what)
+        elif key == "file":
+            file_beside(database).write_bytes(what)
         else:
             connection = sqlite3.connect(database, isolation_level=None)
             try:
@@ -335,7 +344,7 @@ def rows_of(database, query):
 
 def started(words, database, program, **how):
     # under its own name, whatever its file is called: clap's texts tell it
-    words = ["fwdesk", *(it.replace("{db}", str(database)) for it in words)]
+    words = ["fwdesk", *(it.replace("{db}", str(database)).replace("{file}", str(file_beside(database))) for it in words)]
     pipes = dict.fromkeys(("stdin", "stdout", "stderr"), subprocess.PIPE)
     return subprocess.Popen(words, executable=str(program), **pipes, **how)
 

@@ -5,10 +5,10 @@ use Rattle.clap.specs.Words.{Row, Text, first_of, kind_of, takes}
 use Rattle.clap.specs.declared.error.Error.{Error}
 use Rattle.clap.specs.declared.error.kind.ErrorKind.{ErrorKind}
 use Rattle.clap.specs.declared.error.kind.ErrorKind.TheVariants.{OutOfMemory}
-use Rattle.desk_server.specs.declared.order.Order.TheVariants.{Run, Serve}
+use Rattle.desk_server.specs.declared.order.Order.TheVariants.{Run, Serve, Import}
 use Rattle.stream_server.specs.declared.interface.Interface.{Interface}
 use Rattle.stream_server.specs.declared.interface.Interface.TheVariants.{Management}
-use Rattle.desk_server.specs.Orders.{AreRefused, NamesOrder, NamesSetup, interface_word, number_given, program_app}
+use Rattle.desk_server.specs.Orders.{AreRefused, IsImport, NamesOrder, NamesSetup, interface_word, number_given, program_app}
 
 -- no value is given
 pub no_value : {A : Type 0} (found : Option A) (value : A) → None ≡ found → found ≡ Some value → ⊥
@@ -25,7 +25,7 @@ unknown_interface rows word given other (setup, is) = go setup.interface is.inte
         other word_is
 
 -- the values of a subcommand
-abbrev values_of : Option (Text × List Row) → List Row
+abbrev pub values_of : Option (Text × List Row) → List Row
 values_of (Some found) = found.1
 values_of None = []
 
@@ -38,7 +38,14 @@ name_of None = []
 pub no_connections : (rows : List Row) → None ≡ number_given 1 1000000 (first_of (codes "connections") rows) → ¬ NamesOrder (Some (codes "serve", rows))
 no_connections rows none (Serve setup port connections, serve) =
     no_value _ connections none (ap (λ found. number_given 1 1000000 (first_of (codes "connections") (values_of found))) serve.subcommand ∙ serve.connections_is)
-no_connections rows none (Run setup, run) = let bad : codes "serve" ≡ codes "run" = ap name_of run.subcommand in let first : 115 ≡ 114 = ap (λ (t : Text). slice_index t 0) bad in absurd (omega (arith, first))
+no_connections rows none (Run setup, is) = let bad : codes "serve" ≡ codes "run" = ap name_of is.subcommand in let first : 115 ≡ 114 = ap (λ (t : Text). slice_index t 0) bad in absurd (omega (arith, first))
+no_connections rows none (Import db file, is) = let bad : codes "serve" ≡ codes "import" = ap name_of is.subcommand in let first : 115 ≡ 105 = ap (λ (t : Text). slice_index t 0) bad in absurd (omega (arith, first))
+
+-- the values of `import` name no order where they aren't a database and a file
+pub no_import : (rows : List Row) → ((db file : Text) → ¬ IsImport (Some (codes "import", rows)) db file) → ¬ NamesOrder (Some (codes "import", rows))
+no_import rows never (Import db file, is) = never db.now file.now is
+no_import rows never (Run setup, is) = let bad : codes "import" ≡ codes "run" = ap name_of is.subcommand in let first : 105 ≡ 114 = ap (λ (t : Text). slice_index t 0) bad in absurd (omega (arith, first))
+no_import rows never (Serve setup port connections, is) = let bad : codes "import" ≡ codes "serve" = ap name_of is.subcommand in let first : 105 ≡ 115 = ap (λ (t : Text). slice_index t 0) bad in absurd (omega (arith, first))
 
 -- words that `clap` takes are refused for want of memory alone
 pub refused_by_clap : (words : List Text) (kind : ErrorKind) → (takes program_app words ≡ true → kind ≡ OutOfMemory) → kind ≢ OutOfMemory

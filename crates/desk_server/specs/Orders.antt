@@ -7,7 +7,7 @@ use Rattle.stream_server.specs.declared.interface.Interface.{Interface}
 use Rattle.stream_server.specs.declared.interface.Interface.TheVariants.{Management}
 use Rattle.desk_server.specs.declared.order.Setup.{Setup}
 use Rattle.desk_server.specs.declared.order.Order.{Order}
-use Rattle.desk_server.specs.declared.order.Order.TheVariants.{Run, Serve}
+use Rattle.desk_server.specs.declared.order.Order.TheVariants.{Run, Serve, Import}
 
 -- ---- what the command line is made of
 
@@ -40,8 +40,15 @@ port_app = with_rule (with_rule (new_app (codes "serve")) port_rule) connections
 abbrev pub serve_app : App
 serve_app = with_rule (with_rule (with_rule port_app db_rule) interface_rule) approval_rule
 
+-- `--file PATH`
+abbrev pub file_rule : Rule
+file_rule = record (new_rule (codes "file")) { long = Some (codes "file"); action = Some Set; required = true }
+
+abbrev pub import_app : App
+import_app = with_rule (with_rule (new_app (codes "import")) db_rule) file_rule
+
 abbrev pub program_app : App
-program_app = with_subcommand (with_subcommand (new_app (codes "fwdesk")) run_app.top) serve_app.top
+program_app = with_subcommand (with_subcommand (with_subcommand (new_app (codes "fwdesk")) run_app.top) serve_app.top) import_app.top
 
 -- ---- the order
 
@@ -83,10 +90,18 @@ pub record IsServe (found : Option (Text × List Row)) (setup : Setup) (port con
   pub port_is : number_given 1 65535 (first_of (codes "port") rows) ≡ Some port
   pub connections_is : number_given 1 1000000 (first_of (codes "connections") rows) ≡ Some connections
 
+-- the subcommand `import` was met, with these values
+pub record IsImport (found : Option (Text × List Row)) (db file : Text) : Type 0 where
+  pub rows : List Row
+  pub subcommand : found ≡ Some (codes "import", rows)
+  pub db_is : first_of (codes "db") rows ≡ Some db
+  pub file_is : first_of (codes "file") rows ≡ Some file
+
 -- what the words name, in the way that `clap` defines the matches of a simple command
 abbrev pub IsOrder : Option (Text × List Row) → Order → Type 0
 IsOrder found (Run setup) = IsRun found setup
 IsOrder found (Serve setup port connections) = IsServe found setup port connections
+IsOrder found (Import db file) = IsImport found db.now file.now
 
 -- what the words name is an order
 abbrev pub NamesOrder : Option (Text × List Row) → Type 0

@@ -47,9 +47,9 @@ status_of (Err fault) = 1
 abbrev pub Tells : Option (List ℕ) → Option (List ℕ) → List ℕ → Type 0
 Tells old new line = (part : List ℕ) × (left : List ℕ) × (line ≡ part ++ left) × Appends old new part
 
--- nothing where a stream was served, and else the line of the fault
-abbrev pub Reports : Option (List ℕ) → Option (List ℕ) → Result Served ServeFault → Type 0
-Reports old new (Ok served) = Appends old new []
+-- nothing where it was done, and else the line of the fault
+abbrev pub Reports : {A : Type 0} → Option (List ℕ) → Option (List ℕ) → Result A ServeFault → Type 0
+Reports old new (Ok done) = Appends old new []
 Reports old new (Err fault) = Tells old new (fault_line fault)
 
 -- The order `run` was carried out over an opened desk: its interface was served with this outcome, which gives the status, the line that is told

@@ -1,9 +1,11 @@
 //! The program's orders: the command line, and what is done over a desk.
 #![tactic(auto)]
 
+mod import;
 mod order;
 mod program;
 
+pub use crate::import::carry_out_import;
 pub use crate::order::{Order, Setup, read_order};
 pub use crate::program::{carry_out, carry_out_on};
 pub use stream_server::{

@@ -4,7 +4,7 @@ ghost use Rattle.std.specs.Prelude.{◌≡◌, ◌≢◌, IfErr, IfOk, IfSome, I
 ghost use Rattle.std.specs.Option.{option_map};
 ghost use Rattle.clap.specs.Words.{rule_of, app_of, rows_of, found_of, first_of, kind_of, subcommand_of, subcommand_rows_of};
 ghost use Rattle.clap.specs.declared.builder.command.Command.TheViews.{out-Command as fields_of};
-ghost use Rattle.desk_server.specs.Orders.{db_rule, interface_rule, approval_rule, port_rule, connections_rule, run_app, port_app, serve_app, program_app};
+ghost use Rattle.desk_server.specs.Orders.{db_rule, interface_rule, approval_rule, port_rule, connections_rule, file_rule, run_app, port_app, serve_app, import_app, program_app};
 ghost use Rattle.desk_server.specs.Orders.{interface_word, is_given, number_given, IsSetup, NamesSetup, IsOrder, NamesOrder, AreRefused};
 
 use clap::error::ErrorKind;
@@ -35,6 +35,13 @@ pub enum Order<'a> {
         port: u16,
         connections: u32,
     },
+    /// Puts the targets of a file.
+    Import {
+        /// The path of the database.
+        db: &'a str,
+        /// The path of the file.
+        file: &'a str,
+    },
 }
 
 /// Why the words name no order.
@@ -44,22 +51,26 @@ enum Misuse {
     Interface,
     Port,
     Connections,
+    File,
 }
 
 impl Misuse {
     fn kind(self) -> ErrorKind {
         match self {
             Misuse::Subcommand => ErrorKind::MissingSubcommand,
-            Misuse::Interface | Misuse::Port | Misuse::Connections => ErrorKind::InvalidValue,
+            Misuse::Interface | Misuse::Port | Misuse::Connections | Misuse::File => {
+                ErrorKind::InvalidValue
+            }
         }
     }
 
     fn text(self) -> &'static str {
         match self {
-            Misuse::Subcommand => "a subcommand is needed: run, serve",
+            Misuse::Subcommand => "a subcommand is needed: run, serve, import",
             Misuse::Interface => "the interface is one of: mgmt",
             Misuse::Port => "the port is a number from 1 to 65535",
             Misuse::Connections => "the connections are a number from 1 to 1000000",
+            Misuse::File => "the database and the file are paths",
         }
     }
 }
@@ -145,13 +156,34 @@ fn serve<'a>(alloc: Global) -> Result<Command<'a>, AllocError>
     with_interface.arg(approval(alloc))
 }
 
+fn file<'a>(alloc: Global) -> Arg<'a>
+    ensures rule { rule_of result ≡ file_rule }
+    ensures local { result.global ≡ false }
+{
+    Arg::new(alloc, "file")
+        .long("file")
+        .action(ArgAction::Set)
+        .required(true)
+        .help("The file of targets that is imported: CSV, at most 1048576 bytes")
+}
+
+fn import<'a>(alloc: Global) -> Result<Command<'a>, AllocError>
+    ensures app { IfOk result (λ c. app_of c ≡ import_app) }
+    ensures local { IfOk result (λ c. (fields_of c).has_globals ≡ false) }
+{
+    let with_db = Command::new(alloc, "import").arg(db(alloc))?;
+    with_db.arg(file(alloc))
+}
+
 fn program<'a>(alloc: Global) -> Result<Command<'a>, AllocError>
     ensures app { IfOk result (λ c. app_of c ≡ program_app) }
 {
     let run = run(alloc)?;
     let serve = serve(alloc)?;
+    let import = import(alloc)?;
     let with_run = Command::new(alloc, "fwdesk").subcommand(run)?;
-    with_run.subcommand(serve)
+    let with_serve = with_run.subcommand(serve)?;
+    with_serve.subcommand(import)
 }
 
 fn interface_of(word: &str) -> Option<Interface>
@@ -245,6 +277,20 @@ fn serve_of<'a>(matches: &ArgMatches<'a>) -> Result<Order<'a>, Misuse>
     })
 }
 
+/// The order that the values of `import` name.
+fn import_of<'a>(matches: &ArgMatches<'a>) -> Result<Order<'a>, Misuse>
+    ensures ok { IfOk result (IsOrder (Some (codes "import", rows_of (found_of matches.now)))) }
+    ensures err { IfErr result (λ misuse. ¬ NamesOrder (Some (codes "import", rows_of (found_of matches.now)))) }
+{
+    let Some(db) = matches.get_str("db") else {
+        return Err(Misuse::File);
+    };
+    let Some(file) = matches.get_str("file") else {
+        return Err(Misuse::File);
+    };
+    Ok(Order::Import { db, file })
+}
+
 /// The order that the matches of the program name.
 fn order_of<'a>(matches: &ArgMatches<'a>) -> Result<Order<'a>, Misuse>
     ensures ok { IfOk result (IsOrder (subcommand_rows_of matches.now)) }
@@ -255,6 +301,9 @@ fn order_of<'a>(matches: &ArgMatches<'a>) -> Result<Order<'a>, Misuse>
     }
     if let Some(serve) = matches.subcommand_matches("serve") {
         return serve_of(serve);
+    }
+    if let Some(import) = matches.subcommand_matches("import") {
+        return import_of(import);
     }
     Err(Misuse::Subcommand)
 }

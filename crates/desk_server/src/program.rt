@@ -21,12 +21,12 @@ use std::net::TcpListener;
 use stream_server::{Handler, Interface, ListenFault, ServeFault, serve, serve_on};
 
 /// The exit status of what was done.
-const DONE: u8 = 0;
+pub(crate) const DONE: u8 = 0;
 
 /// The exit status of what failed.
-const FAILED: u8 = 1;
+pub(crate) const FAILED: u8 = 1;
 
-fn fault_line(fault: ServeFault) -> &'static [u8]
+pub(crate) fn fault_line(fault: ServeFault) -> &'static [u8]
     ensures { result.now ≡ fault_line fault }
 {
     match fault {
@@ -37,7 +37,7 @@ fn fault_line(fault: ServeFault) -> &'static [u8]
     }
 }
 
-fn open_line(fault: OpenFault) -> &'static [u8]
+pub(crate) fn open_line(fault: OpenFault) -> &'static [u8]
     ensures { result.now ≡ open_line fault }
 {
     match fault {
@@ -58,7 +58,7 @@ fn listen_line(fault: ListenFault) -> &'static [u8]
 }
 
 /// Writes a line, or a beginning of it where a write fails: there is nobody left to tell.
-fn tell<E: Write>(errors: &mut Watched<E>, line: &[u8])
+pub(crate) fn tell<E: Write>(errors: &mut Watched<E>, line: &[u8])
     ensures { Tells (E.contents (inner_of errors.old)) (E.contents (inner_of errors.new)) line.now }
 {
     let Ok(()) = write_all_counted(errors, line) else {
@@ -130,13 +130,11 @@ fn run_on<E: Write, D: Handler>(
     }
 }
 
-/// Carries the order `run` out over the desk, or tells why there is none, and answers the exit status. `file` is an import's bytes, or None
-/// where they can't be read: no order takes a file yet.
+/// Carries the order `run` out over the desk, or tells why there is none, and answers the exit status.
 pub fn carry_out<R: Read, W: Write, E: Write, S: Alter>(
     alloc: Global,
     setup: &Setup<'_>,
     desk: &mut Result<Desk<S>, OpenFault>,
-    _file: Option<&[u8]>,
     input: &mut Watched<R>,
     output: &mut Watched<W>,
     errors: &mut Watched<E>,

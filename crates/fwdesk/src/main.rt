@@ -2,14 +2,16 @@
 #![tactic(auto)]
 
 use desk_opening::OpenFault;
-use desk_server::{Order, Setup, carry_out, carry_out_on, read_order};
+use desk_server::{Order, Setup, carry_out, carry_out_import, carry_out_on, read_order};
 use http_wire::Watched;
 use rollout_desk::Desk;
 use sqlite::{FileFrom, FileStore, Unknown};
 use std::alloc::Global;
-use std::env;
+use std::fs::File;
+use std::io::Read;
 use std::net::{Ipv4Addr, TcpListener};
 use std::process::ExitCode;
+use std::{env, io};
 
 /// The exit status of a command line that is refused.
 const REFUSED: u8 = 2;
@@ -30,6 +32,18 @@ fn opened(rt: &HostRuntime, setup: &Setup<'_>) -> Result<FileDesk, OpenFault> {
     Desk::reopen_path(rt, setup.db, Unknown, setup.approval)
 }
 
+/// How many bytes of an import's file are read: one more than it may have.
+const READ_LIMIT: u64 = 1_048_577;
+
+/// The first bytes of a file, by which one that is too large is known as such.
+fn first_bytes(rt: &HostRuntime, alloc: Global, path: &str) -> io::Result<Vec<u8>> {
+    let mut bytes = Vec::new(alloc);
+    File::open(rt, path)?
+        .take(READ_LIMIT)
+        .read_to_end(&mut bytes)?;
+    Ok(bytes)
+}
+
 /// Opens the desk and serves standard input to standard output.
 fn run(rt: &HostRuntime, alloc: Global, setup: &Setup<'_>) -> u8 {
     let mut desk = opened(rt, setup);
@@ -37,7 +51,6 @@ fn run(rt: &HostRuntime, alloc: Global, setup: &Setup<'_>) -> u8 {
         alloc,
         setup,
         &mut desk,
-        None,
         &mut Watched::new(rt.stdin()),
         &mut Watched::new(rt.stdout()),
         &mut Watched::new(rt.stderr()),
@@ -62,6 +75,22 @@ fn serve(rt: &HostRuntime, alloc: Global, setup: &Setup<'_>, port: u16, connecti
     )
 }
 
+/// Opens the desk, reads the file and puts its targets.
+fn import(rt: &HostRuntime, alloc: Global, db: &str, path: &str) -> u8 {
+    let mut desk = Desk::reopen_path(rt, db, Unknown, false);
+    let file = match &desk {
+        Ok(_) => first_bytes(rt, alloc, path).ok(),
+        Err(_) => None,
+    };
+    carry_out_import(
+        alloc,
+        &mut desk,
+        file.as_deref(),
+        &mut Watched::new(rt.stdout()),
+        &mut Watched::new(rt.stderr()),
+    )
+}
+
 fn carry_out_from(rt: &HostRuntime, alloc: Global, order: &Order<'_>) -> u8 {
     match order {
         Order::Run(setup) => run(rt, alloc, setup),
@@ -70,6 +99,7 @@ fn carry_out_from(rt: &HostRuntime, alloc: Global, order: &Order<'_>) -> u8 {
             port,
             connections,
         } => serve(rt, alloc, setup, *port, *connections),
+        Order::Import { db, file } => import(rt, alloc, db, file),
     }
 }
 

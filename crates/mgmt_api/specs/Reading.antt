@@ -124,10 +124,6 @@ IsReadersOwn refusal = (refusal ≡ NotFound) ⊎ (refusal ≡ BadMethod) ⊎ (r
 abbrev pub ReadsRequest : Asked → Result RustRequest Refusal → Type 0
 ReadsRequest asked result = MatchResult result (λ request. asked ≡ Asks (request_of request)) (λ refusal. (refusal ≡ NoMemory) ⊎ ((asked ≡ Rejected refusal) × IsReadersOwn refusal))
 
--- the rows of a file of targets, or the refusal of its line; in place of either, want of memory
-abbrev pub ReadsRows : Result (List TargetRow) ℕ → Result (List TargetRow) Refusal → Type 0
-ReadsRows said result = MatchResult result (λ rows. said ≡ Ok rows) (λ refusal. (refusal ≡ NoMemory) ⊎ ((imported said ≡ Rejected refusal) × IsReadersOwn refusal))
-
 -- no query, or a bad request where there is one; in place of either, want of memory
 abbrev pub TakesNoQuery : WireMessage → Result (Unit {0}) Refusal → Type 0
 TakesNoQuery m result = MatchResult result (λ _. has_no_query m ≡ true) (λ refusal. (refusal ≡ NoMemory) ⊎ ((refusal ≡ BadRequest) × (has_no_query m ≡ false)))

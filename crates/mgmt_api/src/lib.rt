@@ -15,6 +15,6 @@ mod upload_query;
 
 pub use call::{ManageCall, call_of};
 pub use laws::{manage_routes_are_apart, refused_text, worked_module_added};
-pub use reading::read_manage;
+pub use reading::{read_file, read_manage};
 pub use reply::{manage_reply, manage_reply_to};
 pub use routes::{ManageRoute, ManageRoutes};

@@ -7,7 +7,7 @@ ghost use Rattle.rollout_model.specs.declared.refusal.Refusal.TheVariants.{NoMem
 ghost use Rattle.rollout_machine.specs.Requests.{Asks, Rejected};
 ghost use Rattle.rollout_machine.specs.Views.{request_of};
 ghost use Rattle.http_wire.specs.Inbox.{message_of};
-ghost use Rattle.mgmt_api.specs.Reading.{ReadsRequest, ReadsRows, TakesNoQuery, asked_by, item_in, manage_reading, path_number, word_in};
+ghost use Rattle.mgmt_api.specs.Reading.{ReadsRequest, TakesNoQuery, asked_by, imported, item_in, manage_reading, path_number, word_in};
 
 use crate::call::{ManageCall, call_of};
 use crate::page_query::read_page;
@@ -240,12 +240,12 @@ fn read_untag_target(alloc: Global, message: &Message<'_>) -> Result<Request, Re
     Ok(Request::Do(Command::Untag(id, tag)))
 }
 
-/// The rows of a file of targets, all of them or none.
-fn read_rows(alloc: Global, bytes: &[u8]) -> Result<TargetRows, Refusal>
-    ensures { ReadsRows (targets_of bytes.now) result }
+/// What a file of targets asks: that all of them are put. A faulty file is refused by its line, as [`read_targets`] finds it.
+pub fn read_file(alloc: Global, file: &[u8]) -> Result<Request, Refusal>
+    ensures { ReadsRequest (imported (targets_of file.now)) result }
 {
-    match read_targets(alloc, bytes) {
-        Ok(rows) => Ok(TargetRows::from_rows(rows)),
+    match read_targets(alloc, file) {
+        Ok(rows) => Ok(Request::Do(Command::PutTargets(TargetRows::from_rows(rows)))),
         Err(fault) => Err(fault.refusal()),
     }
 }
@@ -254,8 +254,7 @@ fn read_import(alloc: Global, message: &Message<'_>) -> Result<Request, Refusal>
     ensures { ReadsRequest (asked_by ManageCall.Import (message_of message.now)) result }
 {
     take_no_query(alloc, message)?;
-    let rows = read_rows(alloc, message.body)?;
-    Ok(Request::Do(Command::PutTargets(rows)))
+    read_file(alloc, message.body)
 }
 
 fn read_call(alloc: Global, call: ManageCall, message: &Message<'_>) -> Result<Request, Refusal>

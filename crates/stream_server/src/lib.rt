@@ -13,6 +13,7 @@ mod stream;
 
 pub use crate::interface::Interface;
 pub use crate::listening::{ListenFault, serve_on};
+pub use crate::reply::send;
 pub use crate::served::{ServeFault, Served};
 pub use crate::serving::serve;
 pub use http_wire::End;

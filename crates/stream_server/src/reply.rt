@@ -18,8 +18,8 @@ use rollout_model::{Refusal, Reply};
 use std::alloc::Global;
 use std::io::Write;
 
-/// Writes all the bytes out and flushes.
-fn send<W: Write>(writer: &mut Watched<W>, bytes: &[u8]) -> Result<(), ServeFault>
+/// Writes all the bytes out and flushes. The fault is `Write`, and a beginning of the bytes was written then.
+pub fn send<W: Write>(writer: &mut Watched<W>, bytes: &[u8]) -> Result<(), ServeFault>
     ensures ok { OnOk result (Appends (W.contents (inner_of writer.old)) (W.contents (inner_of writer.new)) bytes.now) }
     ensures unfailed { OnOk result ((has_failed writer.new) ≡ (has_failed writer.old)) }
     ensures err { IfErr result (λ fault. (fault ≡ ServeFault.Write) × ((has_failed writer.new) ≡ true)

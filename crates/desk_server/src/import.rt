@@ -1,0 +1,220 @@
+//! The order `import`.
+
+ghost use Rattle.std.specs.Prelude.{◌≡◌, ◌≢◌, ◌⊎◌, [], OnOk, IfErr, IfOk, IsOkAnd, string_bytes, true};
+ghost use Rattle.std.specs.Io.KnownBytes.{Appends};
+ghost use Rattle.std.specs.Option.{option_map};
+ghost use Rattle.rollout_model.specs.Refusals.{refusal_row};
+ghost use Rattle.rollout_model.specs.declared.refusal.Refusal.TheVariants.{NoMemory, StoreFailed};
+ghost use Rattle.rollout_machine.specs.Requests.{Asks, Rejected};
+ghost use Rattle.rollout_machine.specs.Standing.{Applies, StaysStopped};
+ghost use Rattle.rollout_machine.specs.Views.{request_of, reply_of};
+ghost use Rattle.http_wire.specs.Watched.{inner_of, has_failed};
+ghost use Rattle.stream_server.specs.Headline.{FailsBy};
+ghost use Rattle.rollout_desk.specs.DeskStates.{desk_state};
+ghost use Rattle.desk_server.specs.Imports.{CarriesOutImport, Imports, LacksFile, Prints, Refuses, TellsOutcome, asked_by_file, imported_line, line_part, outcome_of, refusal_line};
+ghost use Rattle.desk_server.specs.Program.{Tells, fault_line, open_line};
+
+use crate::program::{DONE, FAILED, fault_line, open_line, tell};
+use desk_opening::OpenFault;
+use http_wire::Watched;
+use mgmt_api::read_file;
+use rollout_desk::Desk;
+use rollout_model::limits::FILE_LENGTH_LIMIT;
+use rollout_model::{Refusal, Reply, Request};
+use sqlite::Alter;
+use std::alloc::{AllocError, Global};
+use std::io::Write;
+use stream_server::{Handler, ServeFault, send};
+
+/// What a file asks of the desk, or its refusal.
+fn request_in(alloc: Global, file: &[u8]) -> Result<Request, Refusal>
+    ensures ok { IfOk result (λ request. asked_by_file file.now ≡ Asks (request_of request)) }
+    ensures err { IfErr result (λ refusal. (refusal ≡ NoMemory) ⊎ (asked_by_file file.now ≡ Rejected refusal)) }
+    ensures no_store { IfErr result (λ refusal. refusal ≢ StoreFailed) }
+{
+    if FILE_LENGTH_LIMIT < file.len() {
+        return Err(Refusal::TooLarge);
+    }
+    read_file(alloc, file)
+}
+
+/// What the desk answers to a file.
+#[tactic(auto, using(stream_server::proofs::AskLemmas::refuses, stream_server::proofs::PartLemmas::stays))]
+fn ask<D: Handler>(alloc: Global, desk: &mut D, file: &[u8]) -> Reply
+    ensures clean { (D.state desk.new).is_clean → (D.state desk.old).is_clean }
+    ensures applies { Applies (D.state desk.old) (D.state desk.new) (asked_by_file file.now) (reply_of result) }
+    ensures stays { (D.state desk.old).is_stopped ≡ true → StaysStopped (D.state desk.old) (D.state desk.new) }
+{
+    match request_in(alloc, file) {
+        Ok(request) => desk.handle(&request),
+        Err(refusal) => Reply::Refused(refusal),
+    }
+}
+
+/// How many targets were put, or why none was.
+fn outcome_of(reply: &Reply) -> Result<u32, Refusal>
+    ensures { result ≡ outcome_of (reply_of reply.now) }
+{
+    match reply {
+        Reply::TargetsPut(accepted) => Ok(*accepted),
+        Reply::Refused(refusal) => Err(*refusal),
+        _ => Err(Refusal::StoreFailed),
+    }
+}
+
+fn imported_line(alloc: Global, accepted: u32) -> Result<String, AllocError>
+    ensures { IfOk result (λ line. string_bytes line ≡ imported_line accepted) }
+{
+    let number = format!(in alloc; "{accepted}")?;
+    let mut line = String::new(alloc);
+    line.push_str("imported ")?;
+    line.push_str(number.as_str())?;
+    line.push_str("\n")?;
+    Ok(line)
+}
+
+/// The faulty line of a file.
+fn line_part(alloc: Global, refusal: Refusal) -> Result<String, AllocError>
+    ensures { IfOk result (λ text. string_bytes text ≡ line_part refusal) }
+{
+    match refusal {
+        Refusal::BadImportLine(line) => format!(in alloc; " line {line}"),
+        _ => Ok(String::new(alloc)),
+    }
+}
+
+fn refusal_line(alloc: Global, refusal: Refusal) -> Result<String, AllocError>
+    ensures { IfOk result (λ line. string_bytes line ≡ refusal_line refusal) }
+{
+    let number = refusal.number();
+    let part = line_part(alloc, refusal)?;
+    let number = format!(in alloc; "{number}")?;
+    let mut line = String::new(alloc);
+    line.push_str("error ")?;
+    line.push_str(number.as_str())?;
+    line.push_str(" ")?;
+    line.push_str(refusal.name())?;
+    line.push_str(part.as_str())?;
+    line.push_str("\n")?;
+    Ok(line)
+}
+
+/// Tells of a refusal, or of want of memory where its line can't be made.
+fn tell_refusal<E: Write>(alloc: Global, errors: &mut Watched<E>, refusal: Refusal)
+    ensures { Tells (E.contents (inner_of errors.old)) (E.contents (inner_of errors.new)) (refusal_line refusal)
+        ⊎ Tells (E.contents (inner_of errors.old)) (E.contents (inner_of errors.new)) (fault_line ServeFault.Memory) }
+{
+    match refusal_line(alloc, refusal) {
+        Ok(line) => tell(errors, line.as_bytes()),
+        Err(_) => tell(errors, fault_line(ServeFault::Memory)),
+    }
+}
+
+/// Writes how many targets were put.
+fn print<W: Write>(alloc: Global, output: &mut Watched<W>, accepted: u32) -> Result<(), ServeFault>
+    ensures whole { OnOk result (Appends (W.contents (inner_of output.old)) (W.contents (inner_of output.new)) (imported_line accepted)) }
+    ensures part { IfErr result (λ fault. Tells (W.contents (inner_of output.old)) (W.contents (inner_of output.new)) (imported_line accepted)) }
+    ensures write_failed { FailsBy result ServeFault.Write (has_failed output.old) (has_failed output.new) }
+{
+    let Ok(line) = imported_line(alloc, accepted) else {
+        return Err(ServeFault::Memory);
+    };
+    send(output, line.as_bytes())
+}
+
+/// Writes how many targets were put, and tells of a fault.
+fn print_or_tell<W: Write, E: Write>(
+    alloc: Global,
+    accepted: u32,
+    output: &mut Watched<W>,
+    errors: &mut Watched<E>,
+) -> u8
+    ensures { Prints (imported_line accepted) (W.contents (inner_of output.old)) (W.contents (inner_of output.new))
+        (E.contents (inner_of errors.old)) (E.contents (inner_of errors.new)) (has_failed output.old) (has_failed output.new) result }
+{
+    match print(alloc, output, accepted) {
+        Ok(()) => DONE,
+        Err(fault) => {
+            tell(errors, fault_line(fault));
+            FAILED
+        }
+    }
+}
+
+/// Tells what an import came to.
+fn tell_outcome<W: Write, E: Write>(
+    alloc: Global,
+    outcome: Result<u32, Refusal>,
+    output: &mut Watched<W>,
+    errors: &mut Watched<E>,
+) -> u8
+    ensures { TellsOutcome outcome (W.contents (inner_of output.old)) (W.contents (inner_of output.new))
+        (E.contents (inner_of errors.old)) (E.contents (inner_of errors.new)) (has_failed output.old) (has_failed output.new) result }
+{
+    match outcome {
+        Ok(accepted) => print_or_tell(alloc, accepted, output, errors),
+        Err(refusal) => {
+            tell_refusal(alloc, errors, refusal);
+            FAILED
+        }
+    }
+}
+
+/// Puts the targets of a file, and tells what came of it.
+fn import<W: Write, E: Write, D: Handler>(
+    alloc: Global,
+    desk: &mut D,
+    file: &[u8],
+    output: &mut Watched<W>,
+    errors: &mut Watched<E>,
+) -> u8
+    ensures { Imports file.now (D.state desk.old) (D.state desk.new) (W.contents (inner_of output.old)) (W.contents (inner_of output.new))
+        (E.contents (inner_of errors.old)) (E.contents (inner_of errors.new)) (has_failed output.old) (has_failed output.new) result }
+{
+    let reply = ask(alloc, desk, file);
+    tell_outcome(alloc, outcome_of(&reply), output, errors)
+}
+
+/// Puts the targets of a file, or tells that it can't be read.
+fn import_given<W: Write, E: Write, D: Handler>(
+    alloc: Global,
+    desk: &mut D,
+    file: Option<&[u8]>,
+    output: &mut Watched<W>,
+    errors: &mut Watched<E>,
+) -> u8
+    ensures { CarriesOutImport (option_map (λ s. s.now) file.entry) (D.state desk.old) (D.state desk.new) (W.contents (inner_of output.old)) (W.contents (inner_of output.new))
+        (E.contents (inner_of errors.old)) (E.contents (inner_of errors.new)) (has_failed output.old) (has_failed output.new) result }
+{
+    match file {
+        Some(file) => import(alloc, desk, file, output, errors),
+        None => {
+            tell(errors, b"fault 6 file\n");
+            FAILED
+        }
+    }
+}
+
+/// Carries the order `import` out over the desk, or tells why there is none, and answers the exit status. `file` is the file's bytes, of
+/// which those past 1,048,577 may be left out, or None where they can't be read.
+pub fn carry_out_import<W: Write, E: Write, S: Alter>(
+    alloc: Global,
+    desk: &mut Result<Desk<S>, OpenFault>,
+    file: Option<&[u8]>,
+    output: &mut Watched<W>,
+    errors: &mut Watched<E>,
+) -> u8
+    ensures unopened { IfErr desk.old (λ fault. (result ≡ 1) × Appends (W.contents (inner_of output.old)) (W.contents (inner_of output.new)) []
+        × Tells (E.contents (inner_of errors.old)) (E.contents (inner_of errors.new)) (open_line fault)) }
+    ensures carries_out { IfOk desk.old (λ before. IsOkAnd desk.new (λ after. CarriesOutImport (option_map (λ s. s.now) file.entry)
+        (desk_state S.Store before) (desk_state S.Store after) (W.contents (inner_of output.old)) (W.contents (inner_of output.new))
+        (E.contents (inner_of errors.old)) (E.contents (inner_of errors.new)) (has_failed output.old) (has_failed output.new) result)) }
+{
+    match desk {
+        Err(fault) => {
+            tell(errors, open_line(*fault));
+            FAILED
+        }
+        Ok(desk) => import_given(alloc, desk, file, output, errors),
+    }
+}
