@@ -22,7 +22,7 @@ loop-request-preserved g c =
       count = search rules;
       clean = λ clean. so_far.clean (c.answer-reply.ensures.clean clean);
       ran = goes_on was before now c.args.requests.now c.loop-request.request-index c.request-item.result c.loop-request-test.true c.request-item.is
-          c.loop-request.replies.items c.push_reserved.new.self.items c.answer-reply.result c.push_reserved.ensures.items so_far.ran c.answer-reply.ensures.clean c.answer-reply.ensures.applies c.if-failed.ensures;
+          c.loop-request.replies.items c.push_reserved.new.self.items c.answer-reply.result c.push_reserved.ensures.items so_far.ran c.answer-reply.ensures.clean c.answer-reply.ensures.applies c.if-failed.ensures.is;
     }
 
 pub returns-then-failed : goal.returns-then-failed
@@ -33,7 +33,7 @@ returns-then-failed g c =
     let now = desk_state g.S.Store c.answer-reply.new.self in record {
       clean = λ clean. so_far.clean (c.answer-reply.ensures.clean clean);
       ran = λ h clean stands. inr (ends was before now c.args.requests.now c.loop-request.request-index c.request-item.result c.loop-request-test.true c.request-item.is
-          c.loop-request.replies.items c.push_reserved.new.self.items c.answer-reply.result c.push_reserved.ensures.items so_far.ran c.answer-reply.ensures.clean c.answer-reply.ensures.applies c.if-failed.ensures h clean stands);
+          c.loop-request.replies.items c.push_reserved.new.self.items c.answer-reply.result c.push_reserved.ensures.items so_far.ran c.answer-reply.ensures.clean c.answer-reply.ensures.applies c.if-failed.ensures.is h clean stands);
       stopped = λ stopped. absurd (false≢true (sym c.if-self.false ∙ stopped));
     }
 
