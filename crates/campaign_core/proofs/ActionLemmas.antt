@@ -19,7 +19,7 @@ use Rattle.rollout_machine.specs.declared.outcome.Outcome.{Outcome}
 use Rattle.rollout_machine.specs.declared.view.RolloutView.{RolloutView}
 use Rattle.rollout_model.specs.declared.refusal.Refusal.{Refusal}
 use Rattle.rollout_model.specs.declared.refusal.Refusal.TheVariants.{ClosedAction, NotFound, WrongState}
-use Rattle.campaign_core.specs.RolloutChecks.{AreSound, BothOrNone, ChangesAction, Decides, IsActionView, IsCancelView, MayChangeAction, action_for, action_with, cancel_refusal, change_by, change_if_open, change_numbered, ended_by, only_if, outcome_forced, rollout_with, rollouts_with}
+use Rattle.campaign_core.specs.RolloutChecks.{AreSound, BothOrNone, ChangesAction, Decides, IsActionView, IsCancelView, MakesCancel, MayChangeAction, action_for, action_with, cancel_refusal, change_by, change_if_open, change_numbered, ended_by, only_if, outcome_forced, rollout_with, rollouts_with}
 use Rattle.campaign_core.specs.declared.rollout_checks.RolloutChange.TheVariants as change
 use Rattle.campaign_core.specs.declared.rollout_checks.RolloutCommandView.TheVariants as seen
 use Rattle.campaign_core.specs.declared.rollout_checks.actions.ActionChange.{ActionChange}
@@ -171,6 +171,10 @@ cancel_row rs t k force v is = go (target_of rs t) (item_numbered rs.actions k) 
 open_if : (o : Option Outcome) (rest : Option Refusal) → cond (is_some o) (Some ClosedAction) rest ≡ None → o ≡ None
 open_if None rest e = refl
 open_if (Some o) rest e = cc
+
+pub cancel_makes : (v : Option CancelView) (force : Bool) (c : ActionChange) → cancel_refusal v force ≡ None → IfSome v (λ w. c ≡ change_by w.action (outcome_forced w.action.canceling force) true) → MakesCancel v force c
+cancel_makes None force c e by = cc
+cancel_makes (Some w) force c e by = (w, refl, e, by)
 
 pub cancels : (v : Option CancelView) (t : Bytes) (k : ℕ) (force : Bool) (c : ActionChange) → cancel_refusal v force ≡ None → IfSome v (λ w. c ≡ change_by w.action (outcome_forced w.action.canceling force) true)
     → Decides (seen.Cancel v) (Cancel t k force) (Ok (change.Cancel c))

@@ -1,5 +1,5 @@
 -- What the verdict on a command rests on, what its change is, and that both are those of the records and of a command list.
-use Rattle.std.specs.Prelude.{◌≡◌, ◌+◌, ℕ, Bool, ◌&&◌, ◌||◌, not, nat_eq, nat_le, nat_lt, List, [], ◌∷◌, ◌++◌, map, filter, length, Option, Some, None, is_none, Result, Ok, Err}
+use Rattle.std.specs.Prelude.{◌≡◌, ◌+◌, ℕ, Bool, ◌&&◌, ◌||◌, not, nat_eq, nat_le, nat_lt, List, [], ◌∷◌, ◌++◌, map, filter, length, Option, Some, None, is_none, Result, Ok, Err, ⊤}
 use Rattle.std.specs.List.{list_any}
 use Rattle.rollout_machine.specs.ByteStrings.{contains_word, item_numbered, same_bytes, with_word, with_words, without_word}
 use Rattle.rollout_machine.specs.CommandList.{CommandList, ◌▸◌}
@@ -27,6 +27,7 @@ use Rattle.campaign_core.specs.declared.checks.targets.AttributesView.{Attribute
 use Rattle.campaign_core.specs.declared.checks.targets.ImportView.{ImportView}
 use Rattle.campaign_core.specs.declared.checks.targets.TagView.{TagView}
 use Rattle.campaign_core.specs.declared.checks.targets.UntagView.{UntagView}
+use Rattle.campaign_core.specs.RolloutChecks.{AreSound, IsViewOf as IsRolloutViewOf, LeadsTo as LeadsRolloutTo}
 
 -- ---- adding a module
 
@@ -152,6 +153,7 @@ IsViewOf (view.PutTargets v) (PutTargets rows) rs = IsImportView v rows rs
 IsViewOf (view.Tag v) (Tag t x) rs = IsTagView v t x rs
 IsViewOf (view.Untag v) (Untag t x) rs = IsUntagView v t rs
 IsViewOf (view.PutAttributes v) (PutAttributes device given) rs = IsAttributesView v device given rs
+IsViewOf (view.OnRollouts v) c rs = IsRolloutViewOf v c rs
 IsViewOf _ _ rs = ⊥
 
 -- the change of the command takes the old records to the new ones
@@ -163,6 +165,7 @@ LeadsTo change.PutTargets (PutTargets rows) old new = new ≡ record old { targe
 LeadsTo change.Tag (Tag t x) old new = ChangesTags (with_word x) t old new
 LeadsTo change.Untag (Untag t x) old new = ChangesTags (without_word x) t old new
 LeadsTo change.PutAttributes (PutAttributes device given) old new = GivesAttributes given device.id old new
+LeadsTo (change.OnRollouts on) c old new = LeadsRolloutTo on c old new
 LeadsTo _ _ old new = ⊥
 
 -- the machine's verdict over these records, and its step
@@ -170,9 +173,14 @@ abbrev pub DecidesAt : Records → Command → Result Change Refusal → Type 0
 DecidesAt rs c (Ok change) = (check rs c ≡ None) × LeadsTo change c rs (step_records rs c)
 DecidesAt rs c (Err refusal) = check rs c ≡ Some refusal
 
--- The verdict and the change are those of all records that the view is of.
+-- what a verdict asks of the records beside its view: on rollouts that they are sound
+abbrev pub Suffice : View → Records → Type 0
+Suffice (view.OnRollouts v) rs = AreSound rs
+Suffice _ rs = ⊤
+
+-- The verdict and the change are those of all such records that the view is of.
 abbrev pub Decides : View → Command → Result Change Refusal → Type 0
-Decides v c result = (rs : Records) → IsViewOf v c rs → DecidesAt rs c result
+Decides v c result = (rs : Records) → Suffice v rs → IsViewOf v c rs → DecidesAt rs c result
 
 -- the machine's verdict at this list, and the records of the longer one
 abbrev pub FollowsAt : CommandList → Command → Result Change Refusal → Type 0

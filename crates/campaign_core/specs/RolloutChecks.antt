@@ -227,6 +227,14 @@ abbrev pub canceling_after : CancelWord → Bool → Bool
 canceling_after RejectedCancel canceling = false
 canceling_after _ canceling = canceling
 
+-- an accepted report makes of its action what its outcome says, and what it says of the canceling
+abbrev pub MakesReport : ReportView → Option Outcome → (Bool → Bool) → Option ActionChange → Type 0
+MakesReport v gives canceling c = (a : ReportedAction) × (v.reported ≡ Some a) × (c ≡ change_if_open a.action gives (canceling a.action.canceling))
+
+-- so does an accepted cancel
+abbrev pub MakesCancel : Option CancelView → Bool → ActionChange → Type 0
+MakesCancel v force c = (a : CancelView) × (v ≡ Some a) × (cancel_refusal v force ≡ None) × (c ≡ change_by a.action (outcome_forced a.action.canceling force) true)
+
 abbrev pub action_with : ActionChange → ActionRecord → ActionRecord
 action_with (StaysOpen canceling) a = record a { canceling = canceling }
 action_with (Ends e) a = record a { outcome = Some e.outcome; canceling = false }

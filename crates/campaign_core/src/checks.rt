@@ -8,6 +8,7 @@ mod modules;
 mod sets;
 mod targets;
 
+use crate::rollout_checks::{RolloutChange, RolloutCommandView, check_rollout};
 pub use artifacts::{ArtifactView, NewArtifact};
 pub use modules::{ModuleView, NewModule};
 use rollout_model::{Command, Refusal};
@@ -24,6 +25,8 @@ pub enum View {
     Tag(TagView),
     Untag(UntagView),
     PutAttributes(AttributesView),
+    /// Of a command on rollouts.
+    OnRollouts(RolloutCommandView),
 }
 
 /// What is written of an accepted command, beside what the command itself says.
@@ -36,9 +39,10 @@ pub enum Change {
     Tag,
     Untag,
     PutAttributes,
+    OnRollouts(RolloutChange),
 }
 
-/// The verdict on a command and its change, over all records that the view is of.
+/// The verdict on a command and its change, over all records that the view is of; on rollouts, over all sound ones.
 fn decide(view: &View, command: &Command) -> Result<Change, Refusal>
     ensures { Decides view.now (command_of command.now) result }
 {
@@ -73,6 +77,10 @@ fn decide(view: &View, command: &Command) -> Result<Change, Refusal>
                 Err(refusal) => Err(refusal),
             }
         }
+        (View::OnRollouts(view), command) => match check_rollout(view, command) {
+            Ok(change) => Ok(Change::OnRollouts(change)),
+            Err(refusal) => Err(refusal),
+        },
         (_, _) => Err(Refusal::WrongState),
     }
 }

@@ -17,7 +17,8 @@ pub use effects::{after_feedback, after_resume, after_trigger};
 pub use groups::{cut_groups, group_bounds};
 pub use rollout_checks::{
     ActionChange, ActionView, CancelView, Ending, NewRollout, PlanView, ReportView, ReportedAction,
-    ResumeView, RolloutChange, RolloutCommandView, StandingView, TriggerView, check_rollout,
+    ResumeView, RolloutChange, RolloutCommandView, StandingView, TriggerView, approve, cancel,
+    cancel_feedback, create, deny, feedback, new_rollout, pause, resume, start, trigger,
 };
 pub use status_words::{
     ActionStatus, GroupStatus, RolloutStatus, TargetStatus, action_word, group_word, rollout_word,

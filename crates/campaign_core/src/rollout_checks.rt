@@ -1,6 +1,6 @@
 //! Whether a command on rollouts is accepted, and what is written where it is.
 
-ghost use Rattle.rollout_machine.specs.Views.{rollout_command_of};
+ghost use Rattle.rollout_machine.specs.Views.{command_of};
 ghost use Rattle.campaign_core.specs.RolloutChecks.{Decides, Follows};
 
 mod actions;
@@ -11,19 +11,15 @@ mod progress;
 mod reports;
 mod standing;
 
-use actions::cancel;
-pub use actions::{ActionChange, ActionView, CancelView, Ending};
-use cancel_reports::cancel_feedback;
-use deployment_reports::feedback;
-use plans::create;
-pub use plans::{NewRollout, PlanView};
-pub use progress::{ResumeView, TriggerView};
-use progress::{resume, trigger};
+pub use actions::{ActionChange, ActionView, CancelView, Ending, cancel};
+pub use cancel_reports::cancel_feedback;
+pub use deployment_reports::feedback;
+pub use plans::{NewRollout, PlanView, create, new_rollout};
+pub use progress::{ResumeView, TriggerView, resume, trigger};
 pub use reports::{ReportView, ReportedAction};
 use rollout_machine::Effects;
-use rollout_model::{Refusal, RolloutCommand};
-pub use standing::StandingView;
-use standing::{approve, deny, pause, start};
+use rollout_model::{Command, Refusal};
+pub use standing::{StandingView, approve, deny, pause, start};
 
 /// What the verdict on a command on rollouts and its change rest on.
 #[derive(Clone, Copy)]
@@ -61,13 +57,13 @@ pub enum RolloutChange {
 }
 
 /// The verdict on a command and its change, over all sound records that the view is of.
-fn decide(view: &RolloutCommandView, command: &RolloutCommand) -> Result<RolloutChange, Refusal>
-    ensures { Decides view.now (rollout_command_of command.now) result }
+fn decide(view: &RolloutCommandView, command: &Command) -> Result<RolloutChange, Refusal>
+    ensures { Decides view.now (command_of command.now) result }
 {
-    use RolloutCommand as Asked;
+    use Command as Asked;
     use RolloutCommandView as Seen;
     match (view, command) {
-        (Seen::Create(view), Asked::Create(plan)) => create(view, plan),
+        (Seen::Create(view), Asked::CreateRollout(plan)) => create(view, plan),
         (Seen::Approve(view), Asked::Approve(_)) => approve(view),
         (Seen::Deny(view), Asked::Deny(_)) => deny(view),
         (Seen::Start(view), Asked::Start(_)) => start(view),
@@ -85,12 +81,12 @@ fn decide(view: &RolloutCommandView, command: &RolloutCommand) -> Result<Rollout
 
 /// The verdict on a command on rollouts: its change where it is accepted, and otherwise the first refusal that applies.
 /// Takes no memory.
-pub fn check_rollout(
+pub(crate) fn check_rollout(
     view: &RolloutCommandView,
-    command: &RolloutCommand,
+    command: &Command,
 ) -> Result<RolloutChange, Refusal>
-    ensures decides { Decides view.now (rollout_command_of command.now) result }
-    ensures follows { Follows view.now (rollout_command_of command.now) result }
+    ensures decides { Decides view.now (command_of command.now) result }
+    ensures follows { Follows view.now (command_of command.now) result }
 {
     decide(view, command)
 }

@@ -7,8 +7,9 @@ use Rattle.rollout_model.specs.declared.refusal.Refusal.TheVariants.{BadRequest,
 use Rattle.rollout_model.specs.declared.credential.Credential.{Credential}
 use Rattle.rollout_model.specs.Rules.{filename_of}
 use Rattle.rollout_machine.specs.Commands.{PutAttributes, Feedback, CancelFeedback}
-use Rattle.rollout_machine.specs.Requests.{Do, Ask, Query, Request, Poll, ShowDeployment, ShowCancel, Download, Asked, Rejected, Asks}
-use Rattle.rollout_machine.specs.Views.{command_of, rollout_command_of, rollout_query_of}
+use Rattle.rollout_machine.specs.Requests.{Ask, Query, Poll, ShowDeployment, ShowCancel, Download, Asked, Rejected, Asks}
+use Rattle.rollout_machine.specs.Views.{request_of}
+use Rattle.rollout_model.specs.declared.request.Request.{Request as RustRequest}
 use Rattle.request_target.specs.Routes.{segments}
 use Rattle.mgmt_api.specs.Reading.{added_by, of_item, or_rejected, without_query}
 use Rattle.ddi_api.specs.Routes.{method_of}
@@ -18,8 +19,6 @@ use Rattle.ddi_api.specs.FeedbackBodies.{cancel_word, deployment_word, report_bo
 use Rattle.ddi_api.specs.ConfigBodies.{config_body}
 use Rattle.ddi_api.specs.declared.call.DeviceCall.{DeviceCall}
 use Rattle.ddi_api.specs.declared.call.DeviceCall.TheVariants as call
-use Rattle.ddi_api.specs.declared.reading.DeviceRequest.{DeviceRequest}
-use Rattle.ddi_api.specs.declared.reading.DeviceRequest.TheVariants as rust
 
 -- the filename that the segment at this place of the path is
 abbrev pub filename_in : WireMessage → ℕ → Option (List ℕ)
@@ -56,16 +55,10 @@ asked_of called m = if bytes_eq m.method (method_of called) then asked_by_one ca
 abbrev pub device_reading : WireMessage → Asked
 device_reading m = or_rejected NotFound (λ called. asked_of called m) (device_call (path_of m.target))
 
--- the pure value of a request
-abbrev pub request_of : DeviceRequest → Request
-request_of (rust.Do command) = Do (command_of command)
-request_of (rust.DoRollout command) = Do (rollout_command_of command)
-request_of (rust.AskRollout query) = Ask (rollout_query_of query)
-
 -- what a reader refuses by, beside want of memory
 abbrev pub IsReadersOwn : Refusal → Type 0
 IsReadersOwn refusal = (refusal ≡ NotFound) ⊎ (refusal ≡ BadMethod) ⊎ (refusal ≡ Unauthorized) ⊎ (refusal ≡ BadRequest)
 
 -- the request that is asked, or the refusal that it is rejected by; in place of either, want of memory
-abbrev pub ReadsRequest : Asked → Result DeviceRequest Refusal → Type 0
+abbrev pub ReadsRequest : Asked → Result RustRequest Refusal → Type 0
 ReadsRequest asked result = MatchResult result (λ request. asked ≡ Asks (request_of request)) (λ refusal. (refusal ≡ NoMemory) ⊎ ((asked ≡ Rejected refusal) × IsReadersOwn refusal))

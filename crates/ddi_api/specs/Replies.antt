@@ -3,16 +3,8 @@ use Rattle.std.specs.Prelude.{ℕ, List, []}
 use Rattle.serde_json.specs.Written.{compact_text}
 use Rattle.http_wire.specs.Replies.{reply_text as wire_text}
 use Rattle.rollout_machine.specs.Replies.{Reply, Refused, Done, ContentsShown, PollShown, DeploymentShown, CancelShown}
-use Rattle.rollout_machine.specs.Views.{reply_of as desk_reply_of, rollout_reply_of}
 use Rattle.mgmt_api.specs.Replies.{ReplyParts, json_reply, octets_reply, parts_of as manage_parts_of}
 use Rattle.ddi_api.specs.Objects.{cancel_data, deployment_data, poll_data}
-use Rattle.ddi_api.specs.declared.reply.DeviceReply.{DeviceReply}
-use Rattle.ddi_api.specs.declared.reply.DeviceReply.TheVariants.{Desk, Rollout}
-
--- the pure value of a reply
-abbrev pub reply_of : DeviceReply → Reply
-reply_of (Desk reply) = desk_reply_of reply
-reply_of (Rollout reply) = rollout_reply_of reply
 
 -- a refusal and a command that has nothing to show as the management interface has them; the kinds that no request of this
 -- interface is answered by have no body

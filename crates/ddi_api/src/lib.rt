@@ -24,6 +24,6 @@ pub use laws::{
     worked_feedback, worked_offer_text, worked_poll, worked_poll_reply, worked_poll_text,
     worked_strangers,
 };
-pub use reading::{DeviceRequest, read_device};
-pub use reply::{DeviceReply, device_reply};
+pub use reading::read_device;
+pub use reply::device_reply;
 pub use routes::DeviceRoutes;

@@ -4,9 +4,10 @@ ghost use Rattle.std.specs.Prelude.{◌≡◌, ◌≢◌, ◌⊎◌, IfOk, IfErr
 ghost use Rattle.ddi_api.specs.Routes.{method_of};
 ghost use Rattle.rollout_model.specs.declared.refusal.Refusal.TheVariants.{NoMemory, StoreFailed, Stopped};
 ghost use Rattle.rollout_machine.specs.Requests.{Asks, Rejected};
+ghost use Rattle.rollout_machine.specs.Views.{request_of};
 ghost use Rattle.http_wire.specs.Inbox.{message_of};
 ghost use Rattle.mgmt_api.specs.Reading.{TakesNoQuery, item_in};
-ghost use Rattle.ddi_api.specs.Reading.{ReadsRequest, asked_by, asked_by_one, asked_of, device_reading, filename_in, request_of};
+ghost use Rattle.ddi_api.specs.Reading.{ReadsRequest, asked_by, asked_by_one, asked_of, device_reading, filename_in};
 
 use crate::call::{DeviceCall, method_of};
 use crate::config_body::read_config_body;
@@ -17,21 +18,10 @@ use crate::spelled::read_filename;
 use http_wire::Message;
 use request_target::{number_at, segment_at, takes_query};
 use rollout_model::{
-    ActionNo, CancelWord, Command, Credential, DeploymentWord, Filename, ModuleNo, Refusal,
-    RolloutCommand, RolloutQuery,
+    ActionNo, CancelWord, Command, Credential, DeploymentWord, Filename, ModuleNo, Query, Refusal,
+    Request,
 };
 use std::alloc::Global;
-
-/// What a device asks.
-#[derive(Drop)]
-pub enum DeviceRequest {
-    /// A command on the device's target.
-    Do(Command),
-    /// A command on its rollouts: what the device reports.
-    DoRollout(RolloutCommand),
-    /// A query on its rollouts: what the device is offered.
-    AskRollout(RolloutQuery),
-}
 
 /// A call is refused where there is a query: none of them takes one.
 fn take_no_query(alloc: Global, message: &Message<'_>) -> Result<(), Refusal>
@@ -68,50 +58,46 @@ fn read_filename_in(message: &Message<'_>) -> Option<Filename>
     read_filename(segment)
 }
 
-fn read_poll(
-    alloc: Global,
-    device: Credential,
-    message: &Message<'_>,
-) -> Result<DeviceRequest, Refusal>
+fn read_poll(alloc: Global, device: Credential, message: &Message<'_>) -> Result<Request, Refusal>
     ensures { ReadsRequest (asked_by DeviceCall.Poll device (message_of message.now)) result }
 {
     take_no_query(alloc, message)?;
-    Ok(DeviceRequest::AskRollout(RolloutQuery::Poll(device)))
+    Ok(Request::Ask(Query::Poll(device)))
 }
 
 fn read_show_deployment(
     alloc: Global,
     device: Credential,
     message: &Message<'_>,
-) -> Result<DeviceRequest, Refusal>
+) -> Result<Request, Refusal>
     ensures { ReadsRequest (asked_by DeviceCall.ShowDeployment device (message_of message.now)) result }
 {
     let Some(action) = read_action_number(message) else {
         return Err(Refusal::NotFound);
     };
     take_no_query(alloc, message)?;
-    Ok(DeviceRequest::AskRollout(RolloutQuery::Deployment(device, action)))
+    Ok(Request::Ask(Query::Deployment(device, action)))
 }
 
 fn read_show_cancel(
     alloc: Global,
     device: Credential,
     message: &Message<'_>,
-) -> Result<DeviceRequest, Refusal>
+) -> Result<Request, Refusal>
     ensures { ReadsRequest (asked_by DeviceCall.ShowCancel device (message_of message.now)) result }
 {
     let Some(action) = read_action_number(message) else {
         return Err(Refusal::NotFound);
     };
     take_no_query(alloc, message)?;
-    Ok(DeviceRequest::AskRollout(RolloutQuery::Cancel(device, action)))
+    Ok(Request::Ask(Query::CancelOf(device, action)))
 }
 
 fn read_download(
     alloc: Global,
     device: Credential,
     message: &Message<'_>,
-) -> Result<DeviceRequest, Refusal>
+) -> Result<Request, Refusal>
     ensures { ReadsRequest (asked_by DeviceCall.Download device (message_of message.now)) result }
 {
     let Some(module_number) = read_module_number(message) else {
@@ -121,14 +107,14 @@ fn read_download(
         return Err(Refusal::NotFound);
     };
     take_no_query(alloc, message)?;
-    Ok(DeviceRequest::AskRollout(RolloutQuery::Download(device, module_number, filename)))
+    Ok(Request::Ask(Query::Download(device, module_number, filename)))
 }
 
 fn read_feedback(
     alloc: Global,
     device: Credential,
     message: &Message<'_>,
-) -> Result<DeviceRequest, Refusal>
+) -> Result<Request, Refusal>
     ensures { ReadsRequest (asked_by DeviceCall.Feedback device (message_of message.now)) result }
 {
     let Some(action) = read_action_number(message) else {
@@ -136,14 +122,14 @@ fn read_feedback(
     };
     take_no_query(alloc, message)?;
     let report = read_report::<DeploymentWord>(alloc, device, action, message.body)?;
-    Ok(DeviceRequest::DoRollout(RolloutCommand::Feedback(report)))
+    Ok(Request::Do(Command::Feedback(report)))
 }
 
 fn read_cancel_feedback(
     alloc: Global,
     device: Credential,
     message: &Message<'_>,
-) -> Result<DeviceRequest, Refusal>
+) -> Result<Request, Refusal>
     ensures { ReadsRequest (asked_by DeviceCall.CancelFeedback device (message_of message.now)) result }
 {
     let Some(action) = read_action_number(message) else {
@@ -151,19 +137,19 @@ fn read_cancel_feedback(
     };
     take_no_query(alloc, message)?;
     let report = read_report::<CancelWord>(alloc, device, action, message.body)?;
-    Ok(DeviceRequest::DoRollout(RolloutCommand::CancelFeedback(report)))
+    Ok(Request::Do(Command::CancelFeedback(report)))
 }
 
 fn read_put_attributes(
     alloc: Global,
     device: Credential,
     message: &Message<'_>,
-) -> Result<DeviceRequest, Refusal>
+) -> Result<Request, Refusal>
     ensures { ReadsRequest (asked_by DeviceCall.PutAttributes device (message_of message.now)) result }
 {
     take_no_query(alloc, message)?;
     let given = read_config_body(alloc, message.body)?;
-    Ok(DeviceRequest::Do(Command::PutAttributes(device, given)))
+    Ok(Request::Do(Command::PutAttributes(device, given)))
 }
 
 fn read_call(
@@ -171,7 +157,7 @@ fn read_call(
     call: DeviceCall,
     device: Credential,
     message: &Message<'_>,
-) -> Result<DeviceRequest, Refusal>
+) -> Result<Request, Refusal>
     ensures { ReadsRequest (asked_by call device (message_of message.now)) result }
 {
     match call {
@@ -186,11 +172,7 @@ fn read_call(
 }
 
 /// Who the device says it is, and then what it asks.
-fn read_by_one(
-    alloc: Global,
-    call: DeviceCall,
-    message: &Message<'_>,
-) -> Result<DeviceRequest, Refusal>
+fn read_by_one(alloc: Global, call: DeviceCall, message: &Message<'_>) -> Result<Request, Refusal>
     ensures { ReadsRequest (asked_by_one call (message_of message.now)) result }
 {
     let Some(device) = read_credential(message) else {
@@ -205,7 +187,7 @@ fn has_method(call: DeviceCall, message: &Message<'_>) -> bool
     message.method == method_of(call)
 }
 
-fn read_of(alloc: Global, call: DeviceCall, message: &Message<'_>) -> Result<DeviceRequest, Refusal>
+fn read_of(alloc: Global, call: DeviceCall, message: &Message<'_>) -> Result<Request, Refusal>
     ensures { ReadsRequest (asked_of call (message_of message.now)) result }
 {
     if has_method(call, message) {
@@ -215,7 +197,7 @@ fn read_of(alloc: Global, call: DeviceCall, message: &Message<'_>) -> Result<Dev
     }
 }
 
-fn read_routed(routes: &DeviceRoutes, message: &Message<'_>) -> Result<DeviceRequest, Refusal>
+fn read_routed(routes: &DeviceRoutes, message: &Message<'_>) -> Result<Request, Refusal>
     ensures { ReadsRequest (device_reading (message_of message.now)) result }
 {
     let Some(call) = routes.find(message.path()) else {
@@ -225,7 +207,7 @@ fn read_routed(routes: &DeviceRoutes, message: &Message<'_>) -> Result<DeviceReq
 }
 
 /// The request that a device's message asks.
-pub fn read_device(routes: &DeviceRoutes, message: &Message<'_>) -> Result<DeviceRequest, Refusal>
+pub fn read_device(routes: &DeviceRoutes, message: &Message<'_>) -> Result<Request, Refusal>
     ensures ok { IfOk result (λ r. device_reading (message_of message.now) ≡ Asks (request_of r)) }
     ensures err { IfErr result (λ e. (e ≡ NoMemory) ⊎ (device_reading (message_of message.now) ≡ Rejected e)) }
 

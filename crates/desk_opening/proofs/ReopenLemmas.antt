@@ -60,7 +60,7 @@ holds_over : (z : Schema) (trees : Trees) (r : Records) → IsSound z trees → 
 holds_over z trees r sound held =
     let h = held.1 in
     let same = same_tables z held.0 trees sound h.sound in
-    record { sound = sound; spot = h.spot; stands = λ t. stands_over held.0 z _ _ _ same (h.stands t); rows = h.rows; sorted = h.sorted; bare = h.bare }
+    record { sound = sound; spot = h.spot; stands = λ t. stands_over held.0 z _ _ _ same (h.stands t); rows = h.rows; sorted = h.sorted }
 
 -- ---- a connection that was just opened
 

@@ -182,7 +182,6 @@ module _ (approval : Bool) (old new : State) (text : List ℕ) (count : ℕ) (wa
     stands = λ t. subst (λ x. Stands x (name_of t) (at_place t).at (table_at t (at_place t).tree)) (sym made.schema_is) (at_place t).stands;
     rows = rows;
     sorted = refl;
-    bare = record { rollouts = refl; actions = refl };
   }
 
   pub desk_filled : HoldsStage new.now (Whole (first_records approval))

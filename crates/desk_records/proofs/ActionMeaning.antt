@@ -19,7 +19,7 @@ use Rattle.sql_front.proofs.Write.{Adds, Makes, adds_known}
 use Rattle.sql_front.proofs.Change.{Updates, Removes, updates_known, removes_known}
 use Rattle.sql_calls.proofs.Means.{Means}
 use Rattle.sql_calls.proofs.Selects.{simple, by}
-use Rattle.desk_records.specs.declared.action_texts.TheConstants.{CREATE_ACTION, CREATE_FEEDBACK, CREATE_OFFER, LAST_ACTION, GET_ACTION, LIST_ACTIONS, PUT_ACTION, SET_ACTION, PUT_FEEDBACK, GET_OFFER, PUT_OFFER, SET_OFFER, DROP_OFFER}
+use Rattle.desk_records.specs.declared.action_texts.TheConstants.{CREATE_ACTION, CREATE_FEEDBACK, CREATE_OFFER, LAST_ACTION, GET_ACTION, LIST_ACTIONS, LIST_TARGET_ACTIONS, PUT_ACTION, SET_ACTION, PUT_FEEDBACK, LIST_ENTRIES, GET_OFFER, PUT_OFFER, SET_OFFER, DROP_OFFER}
 use Rattle.desk_records.specs.Schema.{action_table, feedback_table, offer_table}
 use Rattle.desk_records.proofs.MeaningWords.{means_of, at_key}
 
@@ -122,6 +122,34 @@ list_actions_queries tree = record {
 pub list_actions_is : (s : Schema) (at tree : ℕ) → Stands s (codes "action") at (action_table tree) → Means s LIST_ACTIONS.now (Select (record { lets = []; body = list_actions_query tree }) listed_names)
 list_actions_is s at tree stands = means_of s LIST_ACTIONS.now _ (queries_known _ _ _ _ _ (list_actions_queries tree) s at stands) refl refl
 
+abbrev pub of_actor : List Term
+of_actor = at_key 4 0 ∷ []
+
+abbrev pub list_target_actions_query : ℕ → Query
+list_target_actions_query tree = by (simple tree of_actor listed_columns) ((col 1 0, record { descending = false; collation = Binary }) ∷ []) (col 0 1) (col 0 2)
+
+list_target_actions_queries : (tree : ℕ) → Queries LIST_TARGET_ACTIONS.now (codes "action") (action_table tree) (list_target_actions_query tree) listed_names
+unfolding first combine named paging everything
+list_target_actions_queries tree = record {
+  parsed = _;
+  select = _;
+  page = _;
+  shown = _;
+  read = refl;
+  selects = record { statement = refl; formats = refl; with = refl; others = refl };
+  one = record { source = _; from = refl; table = refl; alias = refl; on = refl; using = refl; is_inner = refl; group = refl; having = refl; shown = (tt, (tt, (tt, (tt, (tt, (tt, (tt, (tt, tt)))))))); filter = ((refl, λ cx how x y. refl), tt, tt); sorts = (tt, tt) };
+  paged = λ s. refl;
+  named_alone = refl;
+  known = refl;
+  is_body = refl;
+  are_columns = refl;
+  over = refl;
+  fits = refl;
+}
+
+pub list_target_actions_is : (s : Schema) (at tree : ℕ) → Stands s (codes "action") at (action_table tree) → Means s LIST_TARGET_ACTIONS.now (Select (record { lets = []; body = list_target_actions_query tree }) listed_names)
+list_target_actions_is s at tree stands = means_of s LIST_TARGET_ACTIONS.now _ (queries_known _ _ _ _ _ (list_target_actions_queries tree) s at stands) refl refl
+
 abbrev pub action_terms : List Term
 action_terms = col 0 0 ∷ lit Null ∷ col 0 1 ∷ col 0 2 ∷ col 0 3 ∷ lit (Int (pos 0)) ∷ lit (Int (pos 0)) ∷ lit (Int (pos 0)) ∷ lit (Int (pos 0)) ∷ []
 
@@ -168,6 +196,40 @@ put_feedback_adds tree = record { parsed = _; columns = _; rows = _; read = refl
 
 pub put_feedback_is : (s : Schema) (at tree : ℕ) → Stands s (codes "feedback") at (feedback_table tree) → Means s PUT_FEEDBACK.now (Insert at (Values feedback_terms 6))
 put_feedback_is s at tree stands = means_of s PUT_FEEDBACK.now _ (adds_known _ _ (feedback_table tree) _ (put_feedback_adds tree) s at stands) refl refl
+
+abbrev pub entry_names : List (List ℕ)
+entry_names = codes "kind" ∷ codes "word" ∷ codes "details" ∷ []
+
+abbrev pub of_action : List Term
+of_action = at_key 1 0 ∷ []
+
+abbrev pub entry_columns : List Term
+entry_columns = col 1 3 ∷ col 1 4 ∷ col 1 5 ∷ []
+
+abbrev pub list_entries_query : ℕ → Query
+list_entries_query tree = by (simple tree of_action entry_columns) ((col 1 2, record { descending = false; collation = Binary }) ∷ []) (col 0 1) (col 0 2)
+
+list_entries_queries : (tree : ℕ) → Queries LIST_ENTRIES.now (codes "feedback") (feedback_table tree) (list_entries_query tree) entry_names
+unfolding first combine named paging everything
+list_entries_queries tree = record {
+  parsed = _;
+  select = _;
+  page = _;
+  shown = _;
+  read = refl;
+  selects = record { statement = refl; formats = refl; with = refl; others = refl };
+  one = record { source = _; from = refl; table = refl; alias = refl; on = refl; using = refl; is_inner = refl; group = refl; having = refl; shown = (tt, (tt, (tt, tt))); filter = ((refl, λ cx how x y. refl), tt, tt); sorts = (tt, tt) };
+  paged = λ s. refl;
+  named_alone = refl;
+  known = refl;
+  is_body = refl;
+  are_columns = refl;
+  over = refl;
+  fits = refl;
+}
+
+pub list_entries_is : (s : Schema) (at tree : ℕ) → Stands s (codes "feedback") at (feedback_table tree) → Means s LIST_ENTRIES.now (Select (record { lets = []; body = list_entries_query tree }) entry_names)
+list_entries_is s at tree stands = means_of s LIST_ENTRIES.now _ (queries_known _ _ _ _ _ (list_entries_queries tree) s at stands) refl refl
 
 abbrev pub of_controller : List Term
 of_controller = at_key 1 0 ∷ []

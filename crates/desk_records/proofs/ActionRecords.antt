@@ -2,9 +2,11 @@
 use Rattle.std.proofs.Common.{◌≡◌, ◌≤◌, ◌&&◌, ℕ, ◌+◌, pos, List, [], ◌∷◌, map, filter, take, drop, length, slice_get, Bool, true, false, cond, Option, Some, None, option_map, refl, ap, ◌∙◌, nat_eq}
 use Rattle.std.specs.List.{zip}
 use Rattle.std.proofs.lemmas.List.{take-map, drop-map}
+use Rattle.sqlite_value.specs.declared.value.Value.{Value}
 use Rattle.sqlite_value.specs.declared.value.Value.TheVariants.{Null, Int, Text}
 use Rattle.sqlite_value.specs.Order.{Row}
-use Rattle.sqlite.specs.Term.{col}
+use Rattle.sqlite.specs.Collation.TheVariants.{Binary}
+use Rattle.sqlite.specs.Term.{Term, col}
 use Rattle.sqlite.specs.Command.TheVariants.{Select}
 use Rattle.sqlite.specs.Effect.{Database, Reads as Shows}
 use Rattle.sqlite_value.specs.Keys.{first_key, plain}
@@ -14,23 +16,22 @@ use Rattle.sql_calls.proofs.Changes.{ShowsFirst}
 use Rattle.sql_calls.proofs.KeyedRows.{on_content}
 use Rattle.sql_calls.proofs.KeyedTables.{keys_apart, reads_key}
 use Rattle.sql_calls.proofs.NumberedTables.{numbered_in_order}
-use Rattle.sql_calls.proofs.Selects.{simple, passes, shown_of}
-use Rattle.rollout_machine.specs.ByteStrings.{item_numbered}
+use Rattle.sql_calls.proofs.Selects.{simple, by, passes, shown_of}
+use Rattle.rollout_machine.specs.ByteStrings.{item_numbered, same_bytes}
 use Rattle.rollout_machine.specs.Commands.{Bytes}
 use Rattle.rollout_machine.specs.Kinds.{TargetOffer, offer_to}
-use Rattle.rollout_machine.specs.Records.{Records}
 use Rattle.rollout_machine.specs.declared.records.ActionRecord.{ActionRecord}
 use Rattle.rollout_model.specs.declared.rollout.Offer.{Offer}
 use Rattle.desk_records.specs.declared.rollout_row.ListedAction.{ListedAction}
 use Rattle.desk_records.specs.declared.rollout_row.StoredAction.{StoredAction}
-use Rattle.desk_records.specs.Actions.{Tally, action_row, outcome_code}
-use Rattle.desk_records.specs.Holds.{HoldsKind, Ledger}
+use Rattle.desk_records.specs.Actions.{Tally, action_row, actor_of, outcome_code}
+use Rattle.desk_records.specs.Holds.{HoldsLedger, Ledger}
 use Rattle.desk_records.specs.Modules.{IsLastRow}
 use Rattle.desk_records.specs.Offers.{is_to, offer_row}
-use Rattle.desk_records.specs.RolloutRow.{actions_of, stored_action}
+use Rattle.desk_records.specs.RolloutRow.{actions_of, actions_for, listed_where, stored_action}
 use Rattle.desk_records.specs.Rollouts.{flag}
 use Rattle.desk_records.specs.Schema.{OfRollouts, Actions, Offers, offer_table}
-use Rattle.desk_records.proofs.ActionMeaning.{last_action_query, action_columns, listed_columns, list_actions_query, of_rollout, of_controller, offer_columns}
+use Rattle.desk_records.proofs.ActionMeaning.{last_action_query, action_columns, listed_columns, list_actions_query, list_target_actions_query, of_rollout, of_actor, of_controller, offer_columns}
 use Rattle.desk_records.proofs.Comparisons.{and_true, numbers_equal, words_equal}
 use Rattle.desk_records.proofs.MeaningWords.{at_key}
 use Rattle.desk_records.proofs.NumberedReads.{gets, lasts, passes_number}
@@ -44,7 +45,7 @@ shown_action a = Int (pos a.rollout) ∷ Int (pos a.position) ∷ Text a.target 
 abbrev pub told_listed : ListedAction → Row
 told_listed it = Int (pos it.action.rollout) ∷ Int (pos it.action.position) ∷ Text it.action.target ∷ Int (pos (flag it.action.canceling)) ∷ Int (pos (outcome_code it.action.outcome)) ∷ Int (pos it.action.notes) ∷ Int (pos it.action.entries) ∷ Int (pos it.number) ∷ []
 
-module _ {IsKind : Records → Type 0} (db : Database) (l : Ledger) (holds : HoldsKind IsKind db l) (names : List (List ℕ)) where
+module _ (db : Database) (l : Ledger) (holds : HoldsLedger db l) (names : List (List ℕ)) where
   abbrev tree : ℕ
   tree = (holds.spot (OfRollouts Actions)).tree
 
@@ -63,26 +64,39 @@ module _ {IsKind : Records → Type 0} (db : Database) (l : Ledger) (holds : Hol
       → found ≡ option_map (λ it. shown_action (stored_action l.records.rollouts it)) (item_numbered xs number)
   gets_action = gets row tree db xs (holds.rows (OfRollouts Actions)) names (λ n x. refl) (at_key 0 0 ∷ []) action_columns (passes_number row (λ n x. refl))
 
-  -- those of a rollout, a page of them in the order of their numbers
-  module _ (rollout limit offset : ℕ) where
+  -- those that pass, a page of them in the order of their numbers
+  module _ (given : Value) (test : List Term) (wanted : ActionRecord × Tally → Bool) (limit offset : ℕ) where
     abbrev params : Row
-    params = Int (pos rollout) ∷ Int (pos limit) ∷ Int (pos offset) ∷ []
+    params = given ∷ Int (pos limit) ∷ Int (pos offset) ∷ []
 
-    its_actions : (n : ℕ) (ys : List (ActionRecord × Tally)) → map (shown_of listed_columns params) (filter (passes of_rollout params) (rows_from row n ys)) ≡ map told_listed (actions_of l.records.rollouts rollout n ys)
-    its_actions n [] = refl
-    its_actions n (y ∷ ys) = rw (numbers_equal y.0.rollout rollout) (go (nat_eq y.0.rollout rollout) (its_actions (n + 1) ys))
+    its_actions : ((n : ℕ) (y : ActionRecord × Tally) → passes test params (row n y) ≡ wanted y) → (n : ℕ) (ys : List (ActionRecord × Tally))
+        → map (shown_of listed_columns params) (filter (passes test params) (rows_from row n ys)) ≡ map told_listed (listed_where wanted l.records.rollouts n ys)
+    its_actions is n [] = refl
+    its_actions is n (y ∷ ys) = rw (is n y) (go (wanted y) (its_actions is (n + 1) ys))
       where
-        go : (b : Bool) → map (shown_of listed_columns params) (filter (passes of_rollout params) (rows_from row (n + 1) ys)) ≡ map told_listed (actions_of l.records.rollouts rollout (n + 1) ys)
-            → map (shown_of listed_columns params) (cond (b && true) (row n y ∷ filter (passes of_rollout params) (rows_from row (n + 1) ys)) (filter (passes of_rollout params) (rows_from row (n + 1) ys)))
-            ≡ map told_listed (cond b (record { number = n; action = stored_action l.records.rollouts y } ∷ actions_of l.records.rollouts rollout (n + 1) ys) (actions_of l.records.rollouts rollout (n + 1) ys))
+        go : (b : Bool) → map (shown_of listed_columns params) (filter (passes test params) (rows_from row (n + 1) ys)) ≡ map told_listed (listed_where wanted l.records.rollouts (n + 1) ys)
+            → map (shown_of listed_columns params) (cond b (row n y ∷ filter (passes test params) (rows_from row (n + 1) ys)) (filter (passes test params) (rows_from row (n + 1) ys)))
+            ≡ map told_listed (cond b (record { number = n; action = stored_action l.records.rollouts y } ∷ listed_where wanted l.records.rollouts (n + 1) ys) (listed_where wanted l.records.rollouts (n + 1) ys))
         go true rest = ap (λ more. told_listed (record { number = n; action = stored_action l.records.rollouts y }) ∷ more) rest
         go false rest = rest
 
-    pub lists_actions : (rows : List Row) → Shows (Select (record { lets = []; body = list_actions_query tree }) names) db params rows → rows ≡ map told_listed (take limit (drop offset (actions_of l.records.rollouts rollout 1 xs)))
-    lists_actions rows shows =
-        let all = actions_of l.records.rollouts rollout 1 xs in
-        numbered_in_order row (λ n x. refl) tree of_rollout listed_columns (col 0 1) (col 0 2) params db.trees xs (holds.rows (OfRollouts Actions)) rows (shows.answer Null)
-        ∙ ap (λ more. take limit (drop offset more)) (its_actions 1 xs) ∙ ap (take limit) (drop-map told_listed offset all) ∙ take-map told_listed limit (drop offset all)
+    lists_where : ((n : ℕ) (y : ActionRecord × Tally) → passes test params (row n y) ≡ wanted y) → (rows : List Row)
+        → Shows (Select (record { lets = []; body = by (simple tree test listed_columns) ((col 1 0, record { descending = false; collation = Binary }) ∷ []) (col 0 1) (col 0 2) }) names) db params rows
+        → rows ≡ map told_listed (take limit (drop offset (listed_where wanted l.records.rollouts 1 xs)))
+    lists_where is rows shows =
+        let all = listed_where wanted l.records.rollouts 1 xs in
+        numbered_in_order row (λ n x. refl) tree test listed_columns (col 0 1) (col 0 2) params db.trees xs (holds.rows (OfRollouts Actions)) rows (shows.answer Null)
+        ∙ ap (λ more. take limit (drop offset more)) (its_actions is 1 xs) ∙ ap (take limit) (drop-map told_listed offset all) ∙ take-map told_listed limit (drop offset all)
+
+  -- those of a rollout
+  pub lists_actions : (rollout limit offset : ℕ) (rows : List Row) → Shows (Select (record { lets = []; body = list_actions_query tree }) names) db (Int (pos rollout) ∷ Int (pos limit) ∷ Int (pos offset) ∷ []) rows
+      → rows ≡ map told_listed (take limit (drop offset (actions_of l.records.rollouts rollout 1 xs)))
+  lists_actions rollout limit offset = lists_where (Int (pos rollout)) of_rollout (λ it. nat_eq it.0.rollout rollout) limit offset (λ n y. and_true _ ∙ numbers_equal y.0.rollout rollout)
+
+  -- those of a target
+  pub lists_target_actions : (id : Bytes) (limit offset : ℕ) (rows : List Row) → Shows (Select (record { lets = []; body = list_target_actions_query tree }) names) db (Text id ∷ Int (pos limit) ∷ Int (pos offset) ∷ []) rows
+      → rows ≡ map told_listed (take limit (drop offset (actions_for l.records.rollouts id 1 xs)))
+  lists_target_actions id limit offset = lists_where (Text id) of_actor (λ it. same_bytes (actor_of l.records.rollouts it.0) id) limit offset (λ n y. and_true _ ∙ words_equal (actor_of l.records.rollouts y.0) id)
 
 -- ---- offers
 
@@ -106,7 +120,7 @@ its_offers p id is (o ∷ listed) = rw (is o) (go (is_to id o) (its_offers p id 
     go true rest = ap (λ l. offer_row o ∷ l) rest
     go false rest = rest
 
-module _ {IsKind : Records → Type 0} (db : Database) (l : Ledger) (holds : HoldsKind IsKind db l) (names : List (List ℕ)) (id : Bytes) where
+module _ (db : Database) (l : Ledger) (holds : HoldsLedger db l) (names : List (List ℕ)) (id : Bytes) where
   abbrev query_params : Row
   query_params = Text id ∷ []
 

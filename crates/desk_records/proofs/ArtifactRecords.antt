@@ -58,7 +58,7 @@ adds_artifact m filename size digest number old new text count now holds next w 
     let spot = holds.spot Artifacts in
     let made = inserts old.now.schema spot.at (artifact_table spot.tree) artifact_terms 6 (holds.stands Artifacts).got old new refl text (Int (pos number) ∷ told_of (artifact_filed m filename size digest)) count w in
     let table = lists.artifact_added m filename size digest number spot.tree old.now.schema old.now new.now now.artifacts (holds.rows Artifacts) next made in
-    holds_after Artifacts now (with_artifact now m filename size digest) old.now new.now holds made.schema_is w.sound table made.applies.tables only holds.sorted (record { rollouts = holds.bare.rollouts; actions = holds.bare.actions })
+    holds_after Artifacts now (with_artifact now m filename size digest) old.now new.now holds made.schema_is w.sound table made.applies.tables only holds.sorted
   where
     only : (t : Place) → t ≢ Artifacts → (rows : List Row) → IsHeld (ledger_of now) t rows → IsHeld (ledger_of (with_artifact now m filename size digest)) t rows
     only Desk apart rows held = held
@@ -81,7 +81,7 @@ adds_piece number sequence bytes old new text count now next holds change w =
     let were : IsHeldBy (old.now.trees spot.tree) (pieces_from 1 (change.before ++ change.artifact ∷ [])) = subst (λ artifacts. IsHeldBy (old.now.trees spot.tree) (pieces_from 1 artifacts)) change.last (holds.rows Pieces) in
     let table = lists.piece_added number sequence bytes spot.tree old.now.schema old.now new.now change.before change.artifact were change.number_is change.sequence_least change.so_far change.bytes_least change.bytes_limit made in
     subst (HoldsRecords new.now) (sym change.next_is)
-    (holds_after Pieces now after old.now new.now holds made.schema_is w.sound table made.applies.tables only holds.sorted (record { rollouts = holds.bare.rollouts; actions = holds.bare.actions }))
+    (holds_after Pieces now after old.now new.now holds made.schema_is w.sound table made.applies.tables only holds.sorted)
   where
     only : (t : Place) → t ≢ Pieces → (rows : List Row) → IsHeld (ledger_of now) t rows → IsHeld (ledger_of (record now { artifacts = change.before ++ and_piece change.artifact bytes ∷ [] })) t rows
     only Desk apart rows held = held

@@ -107,7 +107,7 @@ adds_attribute id a old new text count now next holds change done =
     let rows = held_as _ _ _ more (attribute_is_more id a now.targets (sorted_from (ids_of now.targets) (ids_sorted old.now now holds)) change.is_there change.is_new) in
     subst (HoldsRecords new.now) (sym change.next_is)
     (holds_after TargetAttributes now (with_changed now id (attributed a)) old.now new.now holds made.schema_is done.sound rows made.applies.tables (only_attributes now id a) (changed_sorted id (attributed a) (λ t. refl) (keeps_sorted a) now.targets holds.sorted)
-    (record { rollouts = holds.bare.rollouts; actions = holds.bare.actions }))
+    )
 
 both_fixed : (params r : Row) → passes of_attribute params r ≡ true → agree plain (1 ∷ 2 ∷ []) r (0 ∷ 1 ∷ []) params ≡ true
 unfolding first_key
@@ -129,4 +129,4 @@ sets_attribute id a old new text count now next holds change done =
     (sorted_from (ids_of now.targets) (ids_sorted old.now now holds)) (each_sorted old.now now holds) change.is_there in
     subst (HoldsRecords new.now) (sym change.next_is)
     (holds_after TargetAttributes now (with_changed now id (attributed a)) old.now new.now holds made.schema_is done.sound (subst (IsHeldBy (new.now.trees spot.tree)) is set) made.applies.tables (only_attributes now id a)
-    (changed_sorted id (attributed a) (λ t. refl) (keeps_sorted a) now.targets holds.sorted) (record { rollouts = holds.bare.rollouts; actions = holds.bare.actions }))
+    (changed_sorted id (attributed a) (λ t. refl) (keeps_sorted a) now.targets holds.sorted))

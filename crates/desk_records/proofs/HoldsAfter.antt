@@ -15,10 +15,10 @@ use Rattle.sql_front.specs.Stands.{Stands}
 use Rattle.sql_calls.specs.Apart.{HasNoForeignKey}
 use Rattle.desk_records.specs.Schema.{Place, Desk, Modules, Sets, SetModules, Artifacts, Pieces, Targets, TargetTags, TargetAttributes, OfRollouts, RolloutPlace, Rollouts, Members, Groups, Actions, Feedbacks, Offers, table_at, name_of}
 use Rattle.desk_records.specs.Targets.{are_sorted}
-use Rattle.desk_records.specs.Holds.{HoldsKind, HoldsLedger, HoldsRecords, HasNoRollouts, IsHeld, IsHeldOfRollouts, Ledger, IsBeside, ledger_of}
+use Rattle.desk_records.specs.Holds.{HoldsLedger, HoldsRecords, IsHeld, IsHeldOfRollouts, Ledger, IsBeside, ledger_of}
 use Rattle.desk_records.proofs.Places.{place_named, is_named}
 
-module _ (IsKind : Records → Type 0) (now next : Ledger) (old new : Database) (was : HoldsKind IsKind old now) where
+module _ (now next : Ledger) (old new : Database) (was : HoldsLedger old now) where
   -- a tree is that of one table alone
   one_place : (t k : Place) → (was.spot t).tree ≡ (was.spot k).tree → t ≡ k
   one_place t k same =
@@ -28,16 +28,15 @@ module _ (IsKind : Records → Type 0) (now next : Ledger) (old new : Database) 
       cc
 
   -- One place holds the new ledger, and the other places, whose rows stay, hold it too.
-  pub kind_after : (k : Place) → new.schema ≡ old.schema → IsDatabase new → IsHeld next k (new.trees (was.spot k).tree)
+  pub place_after : (k : Place) → new.schema ≡ old.schema → IsDatabase new → IsHeld next k (new.trees (was.spot k).tree)
       → AllByRecursion (λ (s : Table). HasNoForeignKey old.schema s.tree → s.tree ≢ (was.spot k).tree → new.trees s.tree ≡ old.trees s.tree) old.schema.tables
-      → ((t : Place) → t ≢ k → (rows : List Row) → IsHeld now t rows → IsHeld next t rows) → are_sorted next.records.targets ≡ true → IsKind next.records → HoldsKind IsKind new next
-  kind_after k schema sound there others same sorted kind = record {
+      → ((t : Place) → t ≢ k → (rows : List Row) → IsHeld now t rows → IsHeld next t rows) → are_sorted next.records.targets ≡ true → HoldsLedger new next
+  place_after k schema sound there others same sorted = record {
     sound = sound;
     spot = was.spot;
     stands = λ t. subst (λ s. Stands s (name_of t) (was.spot t).at (table_at t (was.spot t).tree)) (sym schema) (was.stands t);
     rows = rows;
     sorted = sorted;
-    bare = kind;
   }
     where
       kept : (t : Place) → (was.spot t).tree ≢ (was.spot k).tree → new.trees (was.spot t).tree ≡ old.trees (was.spot t).tree
@@ -52,8 +51,8 @@ module _ (IsKind : Records → Type 0) (now next : Ledger) (old new : Database) 
 -- of records
 pub holds_after : (k : Place) (now next : Records) (old new : Database) (was : HoldsRecords old now) → new.schema ≡ old.schema → IsDatabase new → IsHeld (ledger_of next) k (new.trees (was.spot k).tree)
     → AllByRecursion (λ (s : Table). HasNoForeignKey old.schema s.tree → s.tree ≢ (was.spot k).tree → new.trees s.tree ≡ old.trees s.tree) old.schema.tables
-    → ((t : Place) → t ≢ k → (rows : List Row) → IsHeld (ledger_of now) t rows → IsHeld (ledger_of next) t rows) → are_sorted next.targets ≡ true → HasNoRollouts next → HoldsRecords new next
-holds_after k now next old new was = kind_after HasNoRollouts (ledger_of now) (ledger_of next) old new was k
+    → ((t : Place) → t ≢ k → (rows : List Row) → IsHeld (ledger_of now) t rows → IsHeld (ledger_of next) t rows) → are_sorted next.targets ≡ true → HoldsRecords new next
+holds_after k now next old new was = place_after (ledger_of now) (ledger_of next) old new was k
 
 -- what one statement leaves of the tables, where it writes the rows of one place
 pub record Leaves (old new : Database) (tree : ℕ) : Type 0 where
@@ -64,7 +63,7 @@ pub record Leaves (old new : Database) (tree : ℕ) : Type 0 where
 -- of any ledger, where the places are those of rollouts
 pub ledger_after : (k : RolloutPlace) (now next : Ledger) (old new : Database) (was : HoldsLedger old now) → Leaves old new (was.spot (OfRollouts k)).tree → IsHeldOfRollouts next k (new.trees (was.spot (OfRollouts k)).tree)
     → IsBeside now next → ((t : RolloutPlace) → t ≢ k → (rows : List Row) → IsHeldOfRollouts now t rows → IsHeldOfRollouts next t rows) → HoldsLedger new next
-ledger_after k now next old new was left there beside same = kind_after (λ r. Unit {0}) now next old new was (OfRollouts k) left.schema left.sound there left.others only (ap are_sorted beside.targets ∙ was.sorted) tt
+ledger_after k now next old new was left there beside same = place_after now next old new was (OfRollouts k) left.schema left.sound there left.others only (ap are_sorted beside.targets ∙ was.sorted)
   where
     only : (t : Place) → t ≢ OfRollouts k → (rows : List Row) → IsHeld now t rows → IsHeld next t rows
     only Desk apart rows held = rw beside.approval held

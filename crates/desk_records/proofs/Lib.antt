@@ -29,3 +29,5 @@ mod LedgerLists
 pub mod LedgerWrites
 pub mod OfferWrites
 pub mod PartWrites
+pub mod DeskRecords
+pub mod EntryRecords

@@ -64,7 +64,7 @@ adds_module label number old new text count now holds next w =
     let made = inserts old.now.schema spot.at (module_table spot.tree) module_terms 5 (holds.stands Modules).got old new refl text params count w in
     let at : number ≡ 1 + length now.modules = omega (arith, next) in
     let table : new.now.trees spot.tree ≡ rows_from module_row 1 (now.modules ++ label ∷ []) = made.applies.rows ∙ rw (cast_int number, cast_null, holds.rows Modules, at) (put_next module_row (λ n x. refl) 1 now.modules label) in
-    holds_after Modules now (with_module now label) old.now new.now holds made.schema_is w.sound table made.applies.tables only holds.sorted (record { rollouts = holds.bare.rollouts; actions = holds.bare.actions })
+    holds_after Modules now (with_module now label) old.now new.now holds made.schema_is w.sound table made.applies.tables only holds.sorted
   where
     only : (t : Place) → t ≢ Modules → (rows : List Row) → IsHeld (ledger_of now) t rows → IsHeld (ledger_of (with_module now label)) t rows
     only Desk apart rows held = held

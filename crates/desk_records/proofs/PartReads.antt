@@ -71,3 +71,10 @@ module _ {X Y : Type 0} (rest : Y → Row) (parts : X → List Y) (tree : ℕ) (
       let all : IsPermutation (map shown kept) it.ordered = subst (λ l. IsPermutation (map shown l) it.ordered) its (IsPermutation-trans _ _ _ seen it.same) in
       it.is ∙ ap (λ l. page place_query params (map (λ (o : Output). o.1) l)) (sorted_unique (output_cmp place_query) (output_cmp_total place_query) _ it.ordered (in_order (suc k) 1 (parts_of parts (slice_get xs k))) all it.sorted)
       ∙ ap (page place_query params) (map-map (λ (o : Output). o.1) shown kept)
+
+-- of all parts of the record, by a test that each of them passes
+pub all_shown : {Y : Type 0} (rest told : Y → Row) (number : ℕ) (test shows : List Term) (params : Row) → ((place : ℕ) (y : Y) → on_content (passes test params) (part_row rest number place y) ≡ true)
+    → ((place : ℕ) (y : Y) → on_content (shown_of shows params) (part_row rest number place y) ≡ told y) → (place : ℕ) (ys : List Y)
+    → map (on_content (shown_of shows params)) (filter (on_content (passes test params)) (rows_from (part_row rest number) place ys)) ≡ map told ys
+all_shown rest told number test shows params all is place [] = refl
+all_shown rest told number test shows params all is place (y ∷ ys) = rw (all place y, is place y) (ap (λ more. told y ∷ more) (all_shown rest told number test shows params all is (place + 1) ys))

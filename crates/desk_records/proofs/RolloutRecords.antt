@@ -2,6 +2,7 @@
 use Rattle.std.proofs.Common.{◌≡◌, ◌≤◌, ◌&&◌, ℕ, ◌+◌, pos, negsuc, List, [], ◌∷◌, map, filter, take, drop, find, length, slice_get, Bool, true, false, cond, Option, Some, option_map, refl, ap, ◌∙◌, arith, nat_eq, nat_le}
 use Rattle.std.specs.List.{list_any}
 use Rattle.std.specs.Option.{is_some}
+use Rattle.std.proofs.lemmas.List.{take-map, drop-map}
 use Rattle.std.proofs.lemmas.Bool.Decides.{nat_tests}
 use Rattle.sqlite_value.specs.declared.value.Value.TheVariants.{Null, Int, Text}
 use Rattle.sqlite_value.specs.Order.{Row}
@@ -15,26 +16,25 @@ use Rattle.sql_calls.proofs.Selects.{simple, passes, shown_of}
 use Rattle.rollout_machine.specs.ByteStrings.{item_numbered}
 use Rattle.rollout_machine.specs.Commands.{Bytes}
 use Rattle.rollout_machine.specs.Groups.{holds_position}
-use Rattle.rollout_machine.specs.Records.{Records}
 use Rattle.rollout_machine.specs.StateWords.{group_numbered, group_holding}
 use Rattle.rollout_machine.specs.declared.records.GroupRecord.{GroupRecord}
 use Rattle.rollout_machine.specs.declared.records.RolloutRecord.{RolloutRecord}
 use Rattle.desk_records.specs.Modules.{IsLastRow}
-use Rattle.desk_records.specs.Schema.{OfRollouts, Rollouts, Groups}
+use Rattle.desk_records.specs.Schema.{OfRollouts, Rollouts, Groups, Members}
 use Rattle.desk_records.specs.Parts.{parts_of}
-use Rattle.desk_records.specs.Rollouts.{is_called, rollout_row, told_rollout, group_row, told_group, numbered_from, groups_of}
-use Rattle.desk_records.specs.Holds.{HoldsKind, Ledger}
+use Rattle.desk_records.specs.Rollouts.{is_called, rollout_row, told_rollout, group_row, told_group, numbered_from, groups_of, members_of}
+use Rattle.desk_records.specs.Holds.{HoldsLedger, Ledger}
 use Rattle.desk_records.proofs.Comparisons.{and_true, numbers_equal, numbers_at_least, numbers_at_most, words_equal}
 use Rattle.desk_records.proofs.MeaningWords.{at_key}
-use Rattle.desk_records.proofs.RolloutMeaning.{same_name, last_rollout_query, rollout_columns, list_rollouts_query, of_rollout, group_columns, list_groups_query, of_group, get_group_query, holding, holding_group_query}
+use Rattle.desk_records.proofs.RolloutMeaning.{same_name, last_rollout_query, rollout_columns, list_rollouts_query, of_rollout, group_columns, list_groups_query, of_group, get_group_query, holding, holding_group_query, list_members_query, member_columns}
 use Rattle.desk_records.proofs.NumberedReads.{finds, gets, lasts, pages, passes_number}
-use Rattle.desk_records.proofs.PartReads.{reads_parts}
+use Rattle.desk_records.proofs.PartReads.{all_shown, reads_parts}
 use Rattle.desk_records.proofs.TargetRecords.{first_row}
 
 same : (n : ℕ) → nat_eq n n ≡ true
 same n = grind (arith, nat_tests)
 
-module _ {IsKind : Records → Type 0} (db : Database) (l : Ledger) (holds : HoldsKind IsKind db l) (names : List (List ℕ)) where
+module _ (db : Database) (l : Ledger) (holds : HoldsLedger db l) (names : List (List ℕ)) where
   abbrev tree : ℕ
   tree = (holds.spot (OfRollouts Rollouts)).tree
 
@@ -87,7 +87,7 @@ first_kept wanted (g ∷ gs) = go (wanted g) (first_kept wanted gs)
     go true rest = refl
     go false rest = rest
 
-module _ {IsKind : Records → Type 0} (db : Database) (l : Ledger) (holds : HoldsKind IsKind db l) (names : List (List ℕ)) where
+module _ (db : Database) (l : Ledger) (holds : HoldsLedger db l) (names : List (List ℕ)) where
   abbrev at : ℕ
   at = (holds.spot (OfRollouts Groups)).tree
 
@@ -130,3 +130,19 @@ module _ {IsKind : Records → Type 0} (db : Database) (l : Ledger) (holds : Hol
     where
       is_holding : (n k : ℕ) (g : GroupRecord) → on_content (passes holding (Int (pos number) ∷ Int (pos place) ∷ [])) (group_row n k g) ≡ (nat_eq n number && holds_position place g.bounds)
       is_holding n k g = rw (numbers_equal n number, numbers_at_most g.bounds.first place, numbers_at_least g.bounds.last place, and_true (nat_le place g.bounds.last)) refl
+
+-- ---- members
+
+module _ (db : Database) (l : Ledger) (holds : HoldsLedger db l) (names : List (List ℕ)) where
+  -- a page of them in the order of their places
+  pub lists_members : (number limit offset : ℕ) → 1 ≤ number → (rows : List Row)
+      → Shows (Select (record { lets = []; body = list_members_query (holds.spot (OfRollouts Members)).tree }) names) db (Int (pos number) ∷ Int (pos limit) ∷ Int (pos offset) ∷ []) rows
+      → rows ≡ map (λ (id : Bytes). Text id ∷ []) (take limit (drop offset (members_of (item_numbered l.records.rollouts number))))
+  lists_members number limit offset least rows shows =
+      let params = Int (pos number) ∷ Int (pos limit) ∷ Int (pos offset) ∷ [] in
+      let told = λ (id : Bytes). Text id ∷ [] in
+      let all = members_of (item_numbered l.records.rollouts number) in
+      reads_parts told (λ (x : RolloutRecord). x.members) (holds.spot (OfRollouts Members)).tree of_rollout member_columns (col 0 1) (col 0 2) params number least (λ id x. refl) (λ id x. refl) (λ n place id apart. and_true _ ∙ numbers_equal n number ∙ apart)
+      db.trees l.records.rollouts (holds.rows (OfRollouts Members)) rows (shows.answer Null)
+      ∙ ap (λ more. take limit (drop offset more)) (all_shown told told number of_rollout member_columns params (λ place id. and_true _ ∙ numbers_equal number number ∙ same number) (λ place id. refl) 1 all)
+      ∙ ap (take limit) (drop-map told offset all) ∙ take-map told limit (drop offset all)

@@ -57,7 +57,7 @@ adds_set name version number old new text count now holds next w =
     let spot = holds.spot Sets in
     let made = inserts old.now.schema spot.at (set_table spot.tree) set_terms 4 (holds.stands Sets).got old new refl text (Int (pos number) ∷ names_of name version) count w in
     let table = lists.set_added name version number spot.tree old.now.schema old.now new.now now.sets (holds.rows Sets) next made in
-    holds_after Sets now (with_set now name version) old.now new.now holds made.schema_is w.sound table made.applies.tables only holds.sorted (record { rollouts = holds.bare.rollouts; actions = holds.bare.actions })
+    holds_after Sets now (with_set now name version) old.now new.now holds made.schema_is w.sound table made.applies.tables only holds.sorted
   where
     only : (t : Place) → t ≢ Sets → (rows : List Row) → IsHeld (ledger_of now) t rows → IsHeld (ledger_of (with_set now name version)) t rows
     only Desk apart rows held = held
@@ -80,7 +80,7 @@ adds_set_module number place m old new text count now next holds change w =
     let were : IsHeldBy (old.now.trees spot.tree) (places_from 1 (change.before ++ change.set ∷ [])) = subst (λ sets. IsHeldBy (old.now.trees spot.tree) (places_from 1 sets)) change.last (holds.rows SetModules) in
     let table = lists.set_module_added number place m spot.tree old.now.schema old.now new.now change.before change.set were change.number_is change.place_is made in
     subst (HoldsRecords new.now) (sym change.next_is)
-    (holds_after SetModules now after old.now new.now holds made.schema_is w.sound table made.applies.tables only holds.sorted (record { rollouts = holds.bare.rollouts; actions = holds.bare.actions }))
+    (holds_after SetModules now after old.now new.now holds made.schema_is w.sound table made.applies.tables only holds.sorted)
   where
     only : (t : Place) → t ≢ SetModules → (rows : List Row) → IsHeld (ledger_of now) t rows → IsHeld (ledger_of (record now { sets = change.before ++ and_module change.set m ∷ [] })) t rows
     only Desk apart rows held = held

@@ -169,7 +169,7 @@ adds_target id name digest old new text count now next holds change w =
     let table : IsHeld (ledger_of (with_target now id name digest)) Targets (new.now.trees spot.tree) = held_as _ _ _ more (IsPermutation-map target_row _ _ (put_is_more row now.targets change.is_new)) in
     subst (HoldsRecords new.now) (sym change.next_is)
     (holds_after Targets now (with_target now id name digest) old.now new.now holds made.schema_is w.sound table made.applies.tables only (put_sorted row refl now.targets change.is_new holds.sorted)
-    (record { rollouts = holds.bare.rollouts; actions = holds.bare.actions }))
+    )
   where
     row : TargetRow
     row = record { id = id; name = name; digest = digest; tags = [] }
@@ -207,7 +207,7 @@ sets_target id name digest old new text count now holds w =
     (keys_apart old.now.schema old.now.trees spot.at table 0 (1 ∷ []) holds.sound (holds.stands Targets).got refl refl) (holds.rows Targets) made in
     let is = changed_targets (on_content (passes of_target params)) (λ x. cast_all table.columns (on_content (shown_of new_values params) x)) id (renamed name digest) (λ t. names_it id t.id (Text t.name ∷ Blob t.digest ∷ []) (Text name ∷ Blob digest ∷ [])) (λ t. refl) now.targets in
     holds_after Targets now (with_changed now id (renamed name digest)) old.now new.now holds made.schema_is w.sound (subst (IsHeldBy (new.now.trees spot.tree)) is set) made.applies.tables only
-    (changed_sorted id (renamed name digest) (λ t. refl) (λ t sorted. sorted) now.targets holds.sorted) (record { rollouts = holds.bare.rollouts; actions = holds.bare.actions })
+    (changed_sorted id (renamed name digest) (λ t. refl) (λ t sorted. sorted) now.targets holds.sorted)
   where
     only : (t : Place) → t ≢ Targets → (rows : List Row) → IsHeld (ledger_of now) t rows → IsHeld (ledger_of (with_changed now id (renamed name digest))) t rows
     only Desk apart rows held = held
@@ -248,7 +248,7 @@ adds_tag id w old new text count now next holds change done =
     let table : IsHeld (ledger_of (with_changed now id (tagged w))) TargetTags (new.now.trees spot.tree) = held_as _ _ _ more (tag_is_more id w now.targets (sorted_from (ids_of now.targets) (ids_sorted old.now now holds)) change.is_there change.is_new) in
     subst (HoldsRecords new.now) (sym change.next_is)
     (holds_after TargetTags now (with_changed now id (tagged w)) old.now new.now holds made.schema_is done.sound table made.applies.tables (only_tags now id (with_word w))
-    (changed_sorted id (tagged w) (λ t. refl) (tags_keep (with_word w) (in_order_with w)) now.targets holds.sorted) (record { rollouts = holds.bare.rollouts; actions = holds.bare.actions }))
+    (changed_sorted id (tagged w) (λ t. refl) (tags_keep (with_word w) (in_order_with w)) now.targets holds.sorted))
 
 names_tag : (id w i v : Bytes) → not (passes of_tag (tag_row id w) (Null ∷ tag_row i v)) ≡ not (same_bytes i id && same_bytes v w)
 names_tag id w i v = ap not (rw (words_equal i id, words_equal v w) (ap (λ b. same_bytes i id && b) (and_true (same_bytes v w))))
@@ -262,4 +262,4 @@ drops_tag id w old new text count now holds done =
     let left = drops old.now.schema table (1 ∷ 2 ∷ []) of_tag (tag_row id w) (λ i x. refl) old.now new.now (flat_map tag_rows now.targets) (holds.rows TargetTags) made in
     let is = tag_is_less id w (λ x. not (passes of_tag (tag_row id w) (Null ∷ x))) (names_tag id w) now.targets in
     holds_after TargetTags now (with_changed now id (untagged w)) old.now new.now holds made.schema_is done.sound (subst (IsHeldBy (new.now.trees spot.tree)) is left) made.applies.tables (only_tags now id (without_word w))
-    (changed_sorted id (untagged w) (λ t. refl) (tags_keep (without_word w) (in_order_without w)) now.targets holds.sorted) (record { rollouts = holds.bare.rollouts; actions = holds.bare.actions })
+    (changed_sorted id (untagged w) (λ t. refl) (tags_keep (without_word w) (in_order_without w)) now.targets holds.sorted)

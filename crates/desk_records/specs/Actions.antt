@@ -12,7 +12,7 @@ use Rattle.rollout_machine.specs.declared.outcome.Outcome.{Outcome}
 use Rattle.rollout_machine.specs.declared.outcome.Outcome.TheVariants.{Good, Bad, Gone}
 use Rattle.rollout_machine.specs.declared.records.ActionRecord.{ActionRecord}
 use Rattle.rollout_machine.specs.declared.records.RolloutRecord.{RolloutRecord}
-use Rattle.desk_records.specs.Parts.{part_row}
+use Rattle.desk_records.specs.Parts.{part_row, parts_of}
 use Rattle.desk_records.specs.Rollouts.{flag}
 
 -- ---- what is kept beside an action
@@ -74,3 +74,7 @@ told_entry (CancelEntry word details) = Int (pos 1) ∷ Int (pos (cancel_code wo
 -- at a place of an action's history
 abbrev pub entry_row : ℕ → ℕ → HistoryEntry → Row
 entry_row = part_row told_entry
+
+-- the history of an action that is there
+abbrev pub history_of : Option ActionRecord → List HistoryEntry
+history_of found = parts_of (λ (a : ActionRecord). a.history) found

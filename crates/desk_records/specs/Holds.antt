@@ -66,29 +66,19 @@ IsHeld l TargetTags rows = IsHeldBy rows (flat_map tag_rows l.records.targets)
 IsHeld l TargetAttributes rows = IsHeldBy rows (flat_map attribute_rows l.records.targets)
 IsHeld l (OfRollouts t) rows = IsHeldOfRollouts l t rows
 
--- this version takes no command of rollouts yet
-pub record HasNoRollouts (r : Records) : Type 0 where
-  pub rollouts : r.rollouts ≡ []
-  pub actions : r.actions ≡ []
-
 -- where a table stands: its place among all tables of the database, and its tree
 pub record Spot : Type 0 where
   pub at : ℕ
   pub tree : ℕ
 
--- The tables of the schema stand somewhere among those of others, and hold the ledger, whose records are of a kind.
-pub record HoldsKind (IsKind : Records → Type 0) (db : Database) (l : Ledger) : Type 0 where
+-- the tables of the schema stand somewhere among those of others, and hold the ledger
+pub record HoldsLedger (db : Database) (l : Ledger) : Type 0 where
   pub sound : IsDatabase db
   pub spot : Place → Spot
   pub stands : (t : Place) → Stands db.schema (name_of t) (spot t).at (table_at t (spot t).tree)
   pub rows : (t : Place) → IsHeld l t (db.trees (spot t).tree)
   pub sorted : are_sorted l.records.targets ≡ true
-  pub bare : IsKind l.records
-
--- any ledger
-abbrev pub HoldsLedger : Database → Ledger → Type 0
-HoldsLedger = HoldsKind (λ r. Unit {0})
 
 -- the tables hold the records, and all that follows from them
 abbrev pub HoldsRecords : Database → Records → Type 0
-HoldsRecords db r = HoldsKind HasNoRollouts db (ledger_of r)
+HoldsRecords db r = HoldsLedger db (ledger_of r)

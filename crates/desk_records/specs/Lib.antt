@@ -15,3 +15,4 @@ pub mod Offers
 pub mod Codes
 pub mod RolloutRow
 pub mod LedgerSteps
+pub mod EntryRow

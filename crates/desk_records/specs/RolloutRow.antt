@@ -5,6 +5,8 @@ use Rattle.std.specs.Str.{is_utf8}
 use Rattle.sqlite_value.specs.declared.value.Value.{Value}
 use Rattle.sqlite_value.specs.declared.value.Value.TheVariants.{Int, Text}
 use Rattle.sqlite_value.specs.Order.{Row, column}
+use Rattle.rollout_machine.specs.ByteStrings.{same_bytes}
+use Rattle.rollout_machine.specs.Commands.{Bytes}
 use Rattle.rollout_machine.specs.declared.records.ActionRecord.{ActionRecord}
 use Rattle.rollout_machine.specs.declared.records.GroupRecord.{GroupRecord}
 use Rattle.rollout_machine.specs.declared.records.RolloutRecord.{RolloutRecord}
@@ -38,12 +40,20 @@ stored_action rollouts it = record {
   entries = it.1.entries;
 }
 
--- the actions of a rollout with their numbers, among these, the first of which has a number
+-- those that pass, with their numbers, among these, the first of which has a number
+abbrev pub listed_where : (ActionRecord × Tally → Bool) → List RolloutRecord → ℕ → List (ActionRecord × Tally) → List ListedAction
+listed_where test rollouts n [] = []
+listed_where test rollouts n (it ∷ more) =
+    let rest = listed_where test rollouts (n + 1) more in
+    cond (test it) (record { number = n; action = stored_action rollouts it } ∷ rest) rest
+
+-- the actions of a rollout
 abbrev pub actions_of : List RolloutRecord → ℕ → ℕ → List (ActionRecord × Tally) → List ListedAction
-actions_of rollouts rollout n [] = []
-actions_of rollouts rollout n (it ∷ more) =
-    let rest = actions_of rollouts rollout (n + 1) more in
-    cond (nat_eq it.0.rollout rollout) (record { number = n; action = stored_action rollouts it } ∷ rest) rest
+actions_of rollouts rollout = listed_where (λ it. nat_eq it.0.rollout rollout) rollouts
+
+-- the actions of a target
+abbrev pub actions_for : List RolloutRecord → Bytes → ℕ → List (ActionRecord × Tally) → List ListedAction
+actions_for rollouts id = listed_where (λ it. same_bytes (actor_of rollouts it.0) id) rollouts
 
 -- ---- in rows
 

@@ -33,6 +33,10 @@ is_called name x = same_bytes x.plan.name name
 abbrev pub member_row : ℕ → ℕ → Bytes → Row
 member_row = part_row (λ (id : Bytes). Text id ∷ [])
 
+-- the members of a rollout that is there
+abbrev pub members_of : Option RolloutRecord → List Bytes
+members_of found = parts_of (λ (x : RolloutRecord). x.members) found
+
 -- of all members of rollouts that are numbered from a number on
 abbrev pub members_from : ℕ → List RolloutRecord → List Row
 members_from n xs = parts_from member_row (λ (x : RolloutRecord). x.members) n xs

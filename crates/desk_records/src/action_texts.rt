@@ -22,6 +22,10 @@ pub const GET_ACTION: &str =
 pub const LIST_ACTIONS: &str =
     "SELECT rollout, place, controller, canceling, outcome, notes, entries, number FROM action WHERE rollout = ?1 ORDER BY number LIMIT ?2 OFFSET ?3";
 
+/// The actions of a target, in the order of their numbers: at most as many as the second parameter, after as many as the third.
+pub const LIST_TARGET_ACTIONS: &str =
+    "SELECT rollout, place, controller, canceling, outcome, notes, entries, number FROM action WHERE controller = ?1 ORDER BY number LIMIT ?2 OFFSET ?3";
+
 /// An action that is open, with no history.
 pub const PUT_ACTION: &str =
     "INSERT INTO action (number, rollout, place, controller, canceling, outcome, notes, entries) VALUES (?1, ?2, ?3, ?4, 0, 0, 0, 0)";
@@ -31,6 +35,10 @@ pub const SET_ACTION: &str =
 
 pub const PUT_FEEDBACK: &str =
     "INSERT INTO feedback (action, sequence, kind, word, details) VALUES (?1, ?2, ?3, ?4, ?5)";
+
+/// The history of an action, in its order: at most as many entries as the second parameter, after as many as the third.
+pub const LIST_ENTRIES: &str =
+    "SELECT kind, word, details FROM feedback WHERE action = ?1 ORDER BY sequence LIMIT ?2 OFFSET ?3";
 
 /// The offer of a target.
 pub const GET_OFFER: &str = "SELECT action, kind FROM offer WHERE controller = ?1";

@@ -5,6 +5,8 @@ mod action_texts;
 mod artifact_row;
 mod artifact_texts;
 mod codes;
+mod desk_row;
+mod entry_row;
 mod module_row;
 mod rollout_row;
 mod rollout_texts;
@@ -16,13 +18,16 @@ mod texts;
 
 pub use crate::action_texts::{
     CREATE_ACTION, CREATE_FEEDBACK, CREATE_OFFER, DROP_OFFER, GET_ACTION, GET_OFFER, LAST_ACTION,
-    LIST_ACTIONS, PUT_ACTION, PUT_FEEDBACK, PUT_OFFER, SET_ACTION, SET_OFFER,
+    LIST_ACTIONS, LIST_ENTRIES, LIST_TARGET_ACTIONS, PUT_ACTION, PUT_FEEDBACK, PUT_OFFER,
+    SET_ACTION, SET_OFFER,
 };
 pub use crate::artifact_row::{StoredArtifact, read_artifact, read_piece, read_stored_artifact};
 pub use crate::artifact_texts::{
     CREATE_ARTIFACT, CREATE_PIECE, FIND_ARTIFACT, GET_ARTIFACT, GET_PIECE, LAST_ARTIFACT,
     LIST_ARTIFACTS, PUT_ARTIFACT, PUT_PIECE,
 };
+pub use crate::desk_row::read_approval;
+pub use crate::entry_row::read_entry;
 pub use crate::module_row::{Column, RowFault, read_module_label};
 pub use crate::rollout_row::{
     ListedAction, StoredAction, StoredRollout, read_group, read_listed_action, read_offer,
@@ -30,8 +35,8 @@ pub use crate::rollout_row::{
 };
 pub use crate::rollout_texts::{
     CREATE_MEMBER, CREATE_ROLLOUT, CREATE_ROLLOUT_GROUP, FIND_ROLLOUT, GET_GROUP, GET_ROLLOUT,
-    HOLDING_GROUP, LAST_ROLLOUT, LIST_GROUPS, LIST_ROLLOUTS, PUT_GROUP, PUT_MEMBER, PUT_ROLLOUT,
-    SET_GROUP, SET_ROLLOUT,
+    HOLDING_GROUP, LAST_ROLLOUT, LIST_GROUPS, LIST_MEMBERS, LIST_ROLLOUTS, PUT_GROUP, PUT_MEMBER,
+    PUT_ROLLOUT, SET_GROUP, SET_ROLLOUT,
 };
 pub use crate::set_row::{SetName, read_set_module, read_set_name};
 pub use crate::set_texts::{
@@ -39,7 +44,8 @@ pub use crate::set_texts::{
     PUT_SET, PUT_SET_MODULE,
 };
 pub use crate::target_row::{
-    ListedTarget, StoredTarget, read_attribute, read_listed_target, read_stored_target, read_tag,
+    ListedTarget, StoredTarget, read_attribute, read_listed_target, read_member,
+    read_stored_target, read_tag,
 };
 pub use crate::target_texts::{
     COUNT_TARGETS, CREATE_TARGET, CREATE_TARGET_ATTRIBUTE, CREATE_TARGET_TAG, DROP_TARGET_TAG,

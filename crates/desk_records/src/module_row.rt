@@ -11,6 +11,7 @@ use std::alloc::Global;
 /// A column that has a rule.
 #[derive(Clone, Copy)]
 pub enum Column {
+    DeskApproval,
     ModuleName,
     ModuleType,
     ModuleVersion,
@@ -52,6 +53,9 @@ pub enum Column {
     ActionOutcome,
     ActionNotes,
     ActionEntries,
+    EntryKind,
+    EntryWord,
+    EntryDetails,
     OfferAction,
     OfferKind,
 }

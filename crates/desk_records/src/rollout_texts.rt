@@ -25,6 +25,10 @@ pub const GET_ROLLOUT: &str =
 pub const LIST_ROLLOUTS: &str =
     "SELECT name, dset, filter_text, groups, success, error, approval, started, paused FROM rollout ORDER BY number LIMIT ?1 OFFSET ?2";
 
+/// The members of a rollout, in the order of their places: at most as many as the second parameter, after as many as the third.
+pub const LIST_MEMBERS: &str =
+    "SELECT controller FROM member WHERE rollout = ?1 ORDER BY place LIMIT ?2 OFFSET ?3";
+
 /// The groups of a rollout, in the order of their numbers.
 pub const LIST_GROUPS: &str =
     "SELECT number, first_place, last_place, started, ok, bad, gone FROM rollout_group WHERE rollout = ?1 ORDER BY number";

@@ -48,6 +48,14 @@ pub fn read_listed_target(alloc: Global, row: &Row) -> Result<ListedTarget, RowF
     Ok(ListedTarget { id, name })
 }
 
+/// The member of a rollout in a row of its id. Takes no memory.
+pub fn read_member(row: &Row) -> Result<ControllerId, RowFault>
+    ensures ok { IfOk result (λ id. column row.now 0 ≡ StoredText id) }
+    ensures err { IfErr result (λ e. (e ≡ RowFault.Broken Column.TargetId) × (has_word (column row.now 0) ≡ false)) }
+{
+    id_at(row, 0)
+}
+
 /// The tag in a row of one. Takes no memory.
 pub fn read_tag(row: &Row) -> Result<Word, RowFault>
     ensures ok { IfOk result (λ tag. column row.now 0 ≡ StoredText tag) }

@@ -1,28 +1,26 @@
 -- What names no order.
-use Rattle.std.proofs.Common.{◌≡◌, ◌≢◌, Bool, true, false, inl, List, [], Option, Some, None, IfNone, Result, Ok, Err, IfErr, refl, ap, ◌∙◌, arith, slice_index, codes}
+use Rattle.std.proofs.Common.{◌≡◌, ◌≢◌, Bool, true, false, inl, List, [], Option, Some, None, ℕ, IfNone, Result, Ok, Err, IfErr, refl, ap, ◌∙◌, codes, bytes_eq}
 use Rattle.std.specs.Result.{IsErrAnd}
+use Rattle.std.proofs.lemmas.Bool.Decides.{not_from_Decides}
+use Rattle.std.proofs.lemmas.Slice.Eq.{bytes_eq-Decides}
 use Rattle.clap.specs.Words.{Row, Text, first_of, kind_of, takes}
 use Rattle.clap.specs.declared.error.Error.{Error}
 use Rattle.clap.specs.declared.error.kind.ErrorKind.{ErrorKind}
 use Rattle.clap.specs.declared.error.kind.ErrorKind.TheVariants.{OutOfMemory}
-use Rattle.desk_server.specs.declared.order.Order.TheVariants.{Run, Serve, Import}
+use Rattle.desk_server.specs.declared.order.Order.TheVariants.{Run, Serve, Import, Report}
 use Rattle.stream_server.specs.declared.interface.Interface.{Interface}
-use Rattle.stream_server.specs.declared.interface.Interface.TheVariants.{Management}
-use Rattle.desk_server.specs.Orders.{AreRefused, IsImport, NamesOrder, NamesSetup, interface_word, number_given, program_app}
+use Rattle.desk_server.specs.Orders.{AreRefused, IsImport, IsReport, NamesOrder, NamesSetup, interface_word, number_given, program_app}
 
 -- no value is given
 pub no_value : {A : Type 0} (found : Option A) (value : A) → None ≡ found → found ≡ Some value → ⊥
 no_value found value none some = let missed : None ≡ Some value = none ∙ some in cc
 
 -- the interface is none that is served
-pub unknown_interface : (rows : List Row) (word : Text) → Some word ≡ first_of (codes "interface") rows → word ≢ codes "mgmt" → ¬ NamesSetup rows
-unknown_interface rows word given other (setup, is) = go setup.interface is.interface_is
-  where
-    go : (interface : Interface) → first_of (codes "interface") rows ≡ Some (interface_word interface) → ⊥
-    go Management named =
-        let same : Some word ≡ Some (codes "mgmt") = given ∙ named in
-        let word_is : word ≡ codes "mgmt" = cc in
-        other word_is
+pub unknown_interface : (rows : List Row) (word : Text) → Some word ≡ first_of (codes "interface") rows → ((interface : Interface) → word ≢ interface_word interface) → ¬ NamesSetup rows
+unknown_interface rows word given other (setup, is) =
+    let same : Some word ≡ Some (interface_word setup.interface) = given ∙ is.interface_is in
+    let word_is : word ≡ interface_word setup.interface = cc in
+    other setup.interface word_is
 
 -- the values of a subcommand
 abbrev pub values_of : Option (Text × List Row) → List Row
@@ -34,18 +32,35 @@ abbrev name_of : Option (Text × List Row) → Text
 name_of (Some found) = found.0
 name_of None = []
 
+-- a subcommand of this name, with these values
+abbrev met : Text → List Row → Option (Text × List Row)
+met name rows = Some (name, rows)
+
+-- another name than the order's
+other_name : (name other : Text) (rows more : List Row) → bytes_eq name other ≡ false → met name rows ≡ met other more → ⊥
+other_name name other rows more apart same = not_from_Decides (bytes_eq name other) (bytes_eq-Decides name other) apart (ap name_of same)
+
 -- the connections are no number in the range
 pub no_connections : (rows : List Row) → None ≡ number_given 1 1000000 (first_of (codes "connections") rows) → ¬ NamesOrder (Some (codes "serve", rows))
 no_connections rows none (Serve setup port connections, serve) =
     no_value _ connections none (ap (λ found. number_given 1 1000000 (first_of (codes "connections") (values_of found))) serve.subcommand ∙ serve.connections_is)
-no_connections rows none (Run setup, is) = let bad : codes "serve" ≡ codes "run" = ap name_of is.subcommand in let first : 115 ≡ 114 = ap (λ (t : Text). slice_index t 0) bad in absurd (omega (arith, first))
-no_connections rows none (Import db file, is) = let bad : codes "serve" ≡ codes "import" = ap name_of is.subcommand in let first : 115 ≡ 105 = ap (λ (t : Text). slice_index t 0) bad in absurd (omega (arith, first))
+no_connections rows none (Run setup, is) = other_name (codes "serve") (codes "run") rows is.rows refl is.subcommand
+no_connections rows none (Import db file, is) = other_name (codes "serve") (codes "import") rows is.rows refl is.subcommand
+no_connections rows none (Report db rollout, is) = other_name (codes "serve") (codes "report") rows is.rows refl is.subcommand
 
 -- the values of `import` name no order where they aren't a database and a file
 pub no_import : (rows : List Row) → ((db file : Text) → ¬ IsImport (Some (codes "import", rows)) db file) → ¬ NamesOrder (Some (codes "import", rows))
 no_import rows never (Import db file, is) = never db.now file.now is
-no_import rows never (Run setup, is) = let bad : codes "import" ≡ codes "run" = ap name_of is.subcommand in let first : 105 ≡ 114 = ap (λ (t : Text). slice_index t 0) bad in absurd (omega (arith, first))
-no_import rows never (Serve setup port connections, is) = let bad : codes "import" ≡ codes "serve" = ap name_of is.subcommand in let first : 105 ≡ 115 = ap (λ (t : Text). slice_index t 0) bad in absurd (omega (arith, first))
+no_import rows never (Run setup, is) = other_name (codes "import") (codes "run") rows is.rows refl is.subcommand
+no_import rows never (Serve setup port connections, is) = other_name (codes "import") (codes "serve") rows is.rows refl is.subcommand
+no_import rows never (Report db rollout, is) = other_name (codes "import") (codes "report") rows is.rows refl is.subcommand
+
+-- the values of `report` name no order where they aren't a database and a rollout's number
+pub no_report : (rows : List Row) → ((db : Text) (rollout : ℕ) → ¬ IsReport (Some (codes "report", rows)) db rollout) → ¬ NamesOrder (Some (codes "report", rows))
+no_report rows never (Report db rollout, is) = never db.now rollout is
+no_report rows never (Run setup, is) = other_name (codes "report") (codes "run") rows is.rows refl is.subcommand
+no_report rows never (Serve setup port connections, is) = other_name (codes "report") (codes "serve") rows is.rows refl is.subcommand
+no_report rows never (Import db file, is) = other_name (codes "report") (codes "import") rows is.rows refl is.subcommand
 
 -- words that `clap` takes are refused for want of memory alone
 pub refused_by_clap : (words : List Text) (kind : ErrorKind) → (takes program_app words ≡ true → kind ≡ OutOfMemory) → kind ≢ OutOfMemory

@@ -1,69 +1,35 @@
 -- What the order `import` asks, what it comes to, and what is told of it.
-use Rattle.std.specs.Prelude.{◌≡◌, ◌⊎◌, ℕ, nat_le, if◌then◌else◌, Bool, true, List, [], ◌++◌, length, Option, Some, None, Result, Ok, Err, OnOk, IfErr, codes}
+use Rattle.std.specs.Prelude.{◌≡◌, ℕ, nat_le, if◌then◌else◌, Bool, true, List, [], ◌++◌, length, Option, Some, None, Result, Ok, Err, codes}
 use Rattle.std.specs.Fmt.{decimal}
 use Rattle.std.specs.Io.KnownBytes.{Appends}
 use Rattle.rollout_model.specs.Limits.{file_length_limit}
-use Rattle.rollout_model.specs.Refusals.{refusal_row}
 use Rattle.rollout_model.specs.declared.refusal.Refusal.{Refusal}
-use Rattle.rollout_model.specs.declared.refusal.Refusal.TheVariants.{TooLarge, BadImportLine, StoreFailed}
+use Rattle.rollout_model.specs.declared.refusal.Refusal.TheVariants.{TooLarge, StoreFailed}
 use Rattle.rollout_machine.specs.CommandList.{CommandList}
 use Rattle.rollout_machine.specs.Replies.{Reply, Refused, TargetsPut}
 use Rattle.rollout_machine.specs.Requests.{Asked, Rejected}
 use Rattle.rollout_machine.specs.Standing.{DeskState, Applies, StandsFor, StaysStopped}
 use Rattle.desk_files.specs.Imports.{targets_of}
 use Rattle.mgmt_api.specs.Reading.{imported}
-use Rattle.stream_server.specs.declared.served.ServeFault.{ServeFault}
-use Rattle.stream_server.specs.declared.served.ServeFault.TheVariants.{Write, Memory}
-use Rattle.stream_server.specs.Headline.{FailsBy}
-use Rattle.desk_server.specs.Program.{Reports, Tells, fault_line, status_of}
+use Rattle.desk_server.specs.Program.{Tells}
+use Rattle.desk_server.specs.Telling.{TellsOutcome}
 
 -- a file asks that its targets are put; one over 1,048,576 bytes is too large, whatever it says
 abbrev pub asked_by_file : List ℕ → Asked
 asked_by_file file = if nat_le (length file) file_length_limit then imported (targets_of file) else Rejected TooLarge
 
--- how many targets were put, or why none was; no reply of another kind is given to a put
-abbrev pub outcome_of : Reply → Result ℕ Refusal
-outcome_of (TargetsPut accepted) = Ok accepted
-outcome_of (Refused refusal) = Err refusal
-outcome_of reply = Err StoreFailed
-
--- ---- what is told
-
 abbrev pub imported_line : ℕ → List ℕ
 imported_line accepted = codes "imported " ++ decimal accepted ++ codes "\n"
 
--- the faulty line of a file
-abbrev pub line_part : Refusal → List ℕ
-line_part (BadImportLine line) = codes " line " ++ decimal line
-line_part refusal = []
-
--- the line of a refusal, by its row of the table
-abbrev pub refusal_line : Refusal → List ℕ
-refusal_line refusal = codes "error " ++ decimal (refusal_row refusal).number ++ codes " " ++ (refusal_row refusal).name ++ line_part refusal ++ codes "\n"
+-- the line of how many targets were put, or why none was; no reply of another kind is given to a put
+abbrev pub outcome_of : Reply → Result (List ℕ) Refusal
+outcome_of (TargetsPut accepted) = Ok (imported_line accepted)
+outcome_of (Refused refusal) = Err refusal
+outcome_of reply = Err StoreFailed
 
 -- the line of a file that can't be read
 abbrev pub file_line : List ℕ
 file_line = codes "fault 6 file\n"
-
--- Targets were put: the line went out whole, or a fault is told.
-pub record Prints (line : List ℕ) (out out_new told told_new : Option (List ℕ)) (failed_write writing_fails : Bool) (status : ℕ) : Type 0 where
-  pub outcome : Result (Unit {0}) ServeFault
-  pub whole : OnOk outcome (Appends out out_new line)
-  pub part : IfErr outcome (λ fault. Tells out out_new line)
-  pub status_is : status ≡ status_of outcome
-  pub reports : Reports told told_new outcome
-  pub write_failed : FailsBy outcome Write failed_write writing_fails
-
--- None was put: the refusal is told, or want of memory where its line can't be made.
-pub record Refuses (refusal : Refusal) (out out_new told told_new : Option (List ℕ)) (failed_write writing_fails : Bool) (status : ℕ) : Type 0 where
-  pub status_is : status ≡ 1
-  pub unwritten : Appends out out_new []
-  pub tells : Tells told told_new (refusal_line refusal) ⊎ Tells told told_new (fault_line Memory)
-  pub unfailed : writing_fails ≡ failed_write
-
-abbrev pub TellsOutcome : Result ℕ Refusal → Option (List ℕ) → Option (List ℕ) → Option (List ℕ) → Option (List ℕ) → Bool → Bool → ℕ → Type 0
-TellsOutcome (Ok accepted) = Prints (imported_line accepted)
-TellsOutcome (Err refusal) = Refuses refusal
 
 -- ---- the order
 

@@ -1,3 +1,5 @@
 pub mod Orders
 pub mod Program
 pub mod Imports
+pub mod Telling
+pub mod ReportOrders

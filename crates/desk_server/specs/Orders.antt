@@ -4,10 +4,10 @@ use Rattle.clap.specs.Words.{App, Rule, Row, Text, new_app, new_rule, with_rule,
 use Rattle.clap.specs.declared.builder.ArgAction.TheVariants.{Set, SetTrue}
 use Rattle.request_target.specs.Numbers.{number_of}
 use Rattle.stream_server.specs.declared.interface.Interface.{Interface}
-use Rattle.stream_server.specs.declared.interface.Interface.TheVariants.{Management}
+use Rattle.stream_server.specs.declared.interface.Interface.TheVariants.{Devices, Management, Both}
 use Rattle.desk_server.specs.declared.order.Setup.{Setup}
 use Rattle.desk_server.specs.declared.order.Order.{Order}
-use Rattle.desk_server.specs.declared.order.Order.TheVariants.{Run, Serve, Import}
+use Rattle.desk_server.specs.declared.order.Order.TheVariants.{Run, Serve, Import, Report}
 
 -- ---- what the command line is made of
 
@@ -47,14 +47,26 @@ file_rule = record (new_rule (codes "file")) { long = Some (codes "file"); actio
 abbrev pub import_app : App
 import_app = with_rule (with_rule (new_app (codes "import")) db_rule) file_rule
 
+-- `--rollout N`
+abbrev pub rollout_rule : Rule
+rollout_rule = record (new_rule (codes "rollout")) { long = Some (codes "rollout"); action = Some Set; required = true }
+
+abbrev pub report_app : App
+report_app = with_rule (with_rule (new_app (codes "report")) db_rule) rollout_rule
+
+abbrev pub serving_app : App
+serving_app = with_subcommand (with_subcommand (new_app (codes "fwdesk")) run_app.top) serve_app.top
+
 abbrev pub program_app : App
-program_app = with_subcommand (with_subcommand (with_subcommand (new_app (codes "fwdesk")) run_app.top) serve_app.top) import_app.top
+program_app = with_subcommand (with_subcommand serving_app import_app.top) report_app.top
 
 -- ---- the order
 
 -- the word of an interface
 abbrev pub interface_word : Interface → Text
+interface_word Devices = codes "ddi"
 interface_word Management = codes "mgmt"
+interface_word Both = codes "both"
 
 -- whether a flag was given
 abbrev pub is_given : Option Text → Bool
@@ -97,11 +109,19 @@ pub record IsImport (found : Option (Text × List Row)) (db file : Text) : Type 
   pub db_is : first_of (codes "db") rows ≡ Some db
   pub file_is : first_of (codes "file") rows ≡ Some file
 
+-- the subcommand `report` was met, with these values
+pub record IsReport (found : Option (Text × List Row)) (db : Text) (rollout : ℕ) : Type 0 where
+  pub rows : List Row
+  pub subcommand : found ≡ Some (codes "report", rows)
+  pub db_is : first_of (codes "db") rows ≡ Some db
+  pub rollout_is : number_given 1 2147483647 (first_of (codes "rollout") rows) ≡ Some rollout
+
 -- what the words name, in the way that `clap` defines the matches of a simple command
 abbrev pub IsOrder : Option (Text × List Row) → Order → Type 0
 IsOrder found (Run setup) = IsRun found setup
 IsOrder found (Serve setup port connections) = IsServe found setup port connections
 IsOrder found (Import db file) = IsImport found db.now file.now
+IsOrder found (Report db rollout) = IsReport found db.now rollout
 
 -- what the words name is an order
 abbrev pub NamesOrder : Option (Text × List Row) → Type 0

@@ -1,20 +1,20 @@
 //! The order `import`.
 
-ghost use Rattle.std.specs.Prelude.{◌≡◌, ◌≢◌, ◌⊎◌, [], OnOk, IfErr, IfOk, IsOkAnd, string_bytes, true};
+ghost use Rattle.std.specs.Prelude.{◌≡◌, ◌≢◌, ◌⊎◌, [], IfErr, IfOk, IsOkAnd, string_bytes, true};
 ghost use Rattle.std.specs.Io.KnownBytes.{Appends};
 ghost use Rattle.std.specs.Option.{option_map};
-ghost use Rattle.rollout_model.specs.Refusals.{refusal_row};
 ghost use Rattle.rollout_model.specs.declared.refusal.Refusal.TheVariants.{NoMemory, StoreFailed};
 ghost use Rattle.rollout_machine.specs.Requests.{Asks, Rejected};
 ghost use Rattle.rollout_machine.specs.Standing.{Applies, StaysStopped};
 ghost use Rattle.rollout_machine.specs.Views.{request_of, reply_of};
 ghost use Rattle.http_wire.specs.Watched.{inner_of, has_failed};
-ghost use Rattle.stream_server.specs.Headline.{FailsBy};
 ghost use Rattle.rollout_desk.specs.DeskStates.{desk_state};
-ghost use Rattle.desk_server.specs.Imports.{CarriesOutImport, Imports, LacksFile, Prints, Refuses, TellsOutcome, asked_by_file, imported_line, line_part, outcome_of, refusal_line};
-ghost use Rattle.desk_server.specs.Program.{Tells, fault_line, open_line};
+ghost use Rattle.desk_server.specs.Imports.{CarriesOutImport, Imports, asked_by_file, imported_line, outcome_of};
+ghost use Rattle.desk_server.specs.Program.{Tells, open_line};
+ghost use Rattle.desk_server.specs.Telling.{Prints, TellsOutcome};
 
-use crate::program::{DONE, FAILED, fault_line, open_line, tell};
+use crate::program::{FAILED, open_line, tell};
+use crate::telling::{print_or_tell, refuse, tell_no_memory};
 use desk_opening::OpenFault;
 use http_wire::Watched;
 use mgmt_api::read_file;
@@ -24,7 +24,7 @@ use rollout_model::{Refusal, Reply, Request};
 use sqlite::Alter;
 use std::alloc::{AllocError, Global};
 use std::io::Write;
-use stream_server::{Handler, ServeFault, send};
+use stream_server::Handler;
 
 /// What a file asks of the desk, or its refusal.
 fn request_in(alloc: Global, file: &[u8]) -> Result<Request, Refusal>
@@ -51,17 +51,6 @@ fn ask<D: Handler>(alloc: Global, desk: &mut D, file: &[u8]) -> Reply
     }
 }
 
-/// How many targets were put, or why none was.
-fn outcome_of(reply: &Reply) -> Result<u32, Refusal>
-    ensures { result ≡ outcome_of (reply_of reply.now) }
-{
-    match reply {
-        Reply::TargetsPut(accepted) => Ok(*accepted),
-        Reply::Refused(refusal) => Err(*refusal),
-        _ => Err(Refusal::StoreFailed),
-    }
-}
-
 fn imported_line(alloc: Global, accepted: u32) -> Result<String, AllocError>
     ensures { IfOk result (λ line. string_bytes line ≡ imported_line accepted) }
 {
@@ -73,57 +62,8 @@ fn imported_line(alloc: Global, accepted: u32) -> Result<String, AllocError>
     Ok(line)
 }
 
-/// The faulty line of a file.
-fn line_part(alloc: Global, refusal: Refusal) -> Result<String, AllocError>
-    ensures { IfOk result (λ text. string_bytes text ≡ line_part refusal) }
-{
-    match refusal {
-        Refusal::BadImportLine(line) => format!(in alloc; " line {line}"),
-        _ => Ok(String::new(alloc)),
-    }
-}
-
-fn refusal_line(alloc: Global, refusal: Refusal) -> Result<String, AllocError>
-    ensures { IfOk result (λ line. string_bytes line ≡ refusal_line refusal) }
-{
-    let number = refusal.number();
-    let part = line_part(alloc, refusal)?;
-    let number = format!(in alloc; "{number}")?;
-    let mut line = String::new(alloc);
-    line.push_str("error ")?;
-    line.push_str(number.as_str())?;
-    line.push_str(" ")?;
-    line.push_str(refusal.name())?;
-    line.push_str(part.as_str())?;
-    line.push_str("\n")?;
-    Ok(line)
-}
-
-/// Tells of a refusal, or of want of memory where its line can't be made.
-fn tell_refusal<E: Write>(alloc: Global, errors: &mut Watched<E>, refusal: Refusal)
-    ensures { Tells (E.contents (inner_of errors.old)) (E.contents (inner_of errors.new)) (refusal_line refusal)
-        ⊎ Tells (E.contents (inner_of errors.old)) (E.contents (inner_of errors.new)) (fault_line ServeFault.Memory) }
-{
-    match refusal_line(alloc, refusal) {
-        Ok(line) => tell(errors, line.as_bytes()),
-        Err(_) => tell(errors, fault_line(ServeFault::Memory)),
-    }
-}
-
-/// Writes how many targets were put.
-fn print<W: Write>(alloc: Global, output: &mut Watched<W>, accepted: u32) -> Result<(), ServeFault>
-    ensures whole { OnOk result (Appends (W.contents (inner_of output.old)) (W.contents (inner_of output.new)) (imported_line accepted)) }
-    ensures part { IfErr result (λ fault. Tells (W.contents (inner_of output.old)) (W.contents (inner_of output.new)) (imported_line accepted)) }
-    ensures write_failed { FailsBy result ServeFault.Write (has_failed output.old) (has_failed output.new) }
-{
-    let Ok(line) = imported_line(alloc, accepted) else {
-        return Err(ServeFault::Memory);
-    };
-    send(output, line.as_bytes())
-}
-
-/// Writes how many targets were put, and tells of a fault.
-fn print_or_tell<W: Write, E: Write>(
+/// Tells how many targets were put.
+fn tell_count<W: Write, E: Write>(
     alloc: Global,
     accepted: u32,
     output: &mut Watched<W>,
@@ -132,31 +72,26 @@ fn print_or_tell<W: Write, E: Write>(
     ensures { Prints (imported_line accepted) (W.contents (inner_of output.old)) (W.contents (inner_of output.new))
         (E.contents (inner_of errors.old)) (E.contents (inner_of errors.new)) (has_failed output.old) (has_failed output.new) result }
 {
-    match print(alloc, output, accepted) {
-        Ok(()) => DONE,
-        Err(fault) => {
-            tell(errors, fault_line(fault));
-            FAILED
-        }
+    match imported_line(alloc, accepted) {
+        Ok(line) => print_or_tell(line.as_str(), output, errors),
+        Err(_) => tell_no_memory(errors),
     }
 }
 
 /// Tells what an import came to.
 fn tell_outcome<W: Write, E: Write>(
     alloc: Global,
-    outcome: Result<u32, Refusal>,
+    reply: &Reply,
     output: &mut Watched<W>,
     errors: &mut Watched<E>,
 ) -> u8
-    ensures { TellsOutcome outcome (W.contents (inner_of output.old)) (W.contents (inner_of output.new))
+    ensures { TellsOutcome (outcome_of (reply_of reply.now)) (W.contents (inner_of output.old)) (W.contents (inner_of output.new))
         (E.contents (inner_of errors.old)) (E.contents (inner_of errors.new)) (has_failed output.old) (has_failed output.new) result }
 {
-    match outcome {
-        Ok(accepted) => print_or_tell(alloc, accepted, output, errors),
-        Err(refusal) => {
-            tell_refusal(alloc, errors, refusal);
-            FAILED
-        }
+    match reply {
+        Reply::TargetsPut(accepted) => tell_count(alloc, *accepted, output, errors),
+        Reply::Refused(refusal) => refuse(alloc, *refusal, errors),
+        _ => refuse(alloc, Refusal::StoreFailed, errors),
     }
 }
 
@@ -172,7 +107,7 @@ fn import<W: Write, E: Write, D: Handler>(
         (E.contents (inner_of errors.old)) (E.contents (inner_of errors.new)) (has_failed output.old) (has_failed output.new) result }
 {
     let reply = ask(alloc, desk, file);
-    tell_outcome(alloc, outcome_of(&reply), output, errors)
+    tell_outcome(alloc, &reply, output, errors)
 }
 
 /// Puts the targets of a file, or tells that it can't be read.

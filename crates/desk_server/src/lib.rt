@@ -4,10 +4,13 @@
 mod import;
 mod order;
 mod program;
+mod report;
+mod telling;
 
 pub use crate::import::carry_out_import;
 pub use crate::order::{Order, Setup, read_order};
 pub use crate::program::{carry_out, carry_out_on};
+pub use crate::report::carry_out_report;
 pub use stream_server::{
     End, Handler, Interface, ListenFault, ServeFault, Served, serve, serve_on,
 };

@@ -4,12 +4,13 @@ ghost use Rattle.std.specs.Prelude.{◌≡◌, ◌≢◌, IfErr, IfOk, IfSome, I
 ghost use Rattle.std.specs.Option.{option_map};
 ghost use Rattle.clap.specs.Words.{rule_of, app_of, rows_of, found_of, first_of, kind_of, subcommand_of, subcommand_rows_of};
 ghost use Rattle.clap.specs.declared.builder.command.Command.TheViews.{out-Command as fields_of};
-ghost use Rattle.desk_server.specs.Orders.{db_rule, interface_rule, approval_rule, port_rule, connections_rule, file_rule, run_app, port_app, serve_app, import_app, program_app};
+ghost use Rattle.desk_server.specs.Orders.{db_rule, interface_rule, approval_rule, port_rule, connections_rule, file_rule, run_app, port_app, serve_app, import_app, rollout_rule, report_app, serving_app, program_app};
 ghost use Rattle.desk_server.specs.Orders.{interface_word, is_given, number_given, IsSetup, NamesSetup, IsOrder, NamesOrder, AreRefused};
 
 use clap::error::ErrorKind;
 use clap::{Arg, ArgAction, ArgMatches, Command, Error};
 use request_target::number_or;
+use rollout_model::RolloutNo;
 use std::alloc::{AllocError, Global};
 use std::convert::AsStr;
 use stream_server::Interface;
@@ -42,6 +43,12 @@ pub enum Order<'a> {
         /// The path of the file.
         file: &'a str,
     },
+    /// Prints the report of a rollout.
+    Report {
+        /// The path of the database.
+        db: &'a str,
+        rollout: RolloutNo,
+    },
 }
 
 /// Why the words name no order.
@@ -52,25 +59,29 @@ enum Misuse {
     Port,
     Connections,
     File,
+    Rollout,
 }
 
 impl Misuse {
     fn kind(self) -> ErrorKind {
         match self {
             Misuse::Subcommand => ErrorKind::MissingSubcommand,
-            Misuse::Interface | Misuse::Port | Misuse::Connections | Misuse::File => {
-                ErrorKind::InvalidValue
-            }
+            Misuse::Interface
+            | Misuse::Port
+            | Misuse::Connections
+            | Misuse::File
+            | Misuse::Rollout => ErrorKind::InvalidValue,
         }
     }
 
     fn text(self) -> &'static str {
         match self {
-            Misuse::Subcommand => "a subcommand is needed: run, serve, import",
-            Misuse::Interface => "the interface is one of: mgmt",
+            Misuse::Subcommand => "a subcommand is needed: run, serve, import, report",
+            Misuse::Interface => "the interface is one of: ddi, mgmt, both",
             Misuse::Port => "the port is a number from 1 to 65535",
             Misuse::Connections => "the connections are a number from 1 to 1000000",
             Misuse::File => "the database and the file are paths",
+            Misuse::Rollout => "the rollout is a number from 1 to 2147483647",
         }
     }
 }
@@ -94,7 +105,7 @@ fn interface<'a>(alloc: Global) -> Arg<'a>
         .long("interface")
         .action(ArgAction::Set)
         .required(true)
-        .help("Which calls are served: mgmt")
+        .help("Which calls are served: ddi (devices), mgmt (keepers) or both")
 }
 
 fn approval<'a>(alloc: Global) -> Arg<'a>
@@ -175,23 +186,54 @@ fn import<'a>(alloc: Global) -> Result<Command<'a>, AllocError>
     with_db.arg(file(alloc))
 }
 
-fn program<'a>(alloc: Global) -> Result<Command<'a>, AllocError>
-    ensures app { IfOk result (λ c. app_of c ≡ program_app) }
+fn rollout<'a>(alloc: Global) -> Arg<'a>
+    ensures rule { rule_of result ≡ rollout_rule }
+    ensures local { result.global ≡ false }
+{
+    Arg::new(alloc, "rollout")
+        .long("rollout")
+        .action(ArgAction::Set)
+        .required(true)
+        .help("The rollout that is reported: 1 to 2147483647")
+}
+
+fn report<'a>(alloc: Global) -> Result<Command<'a>, AllocError>
+    ensures app { IfOk result (λ c. app_of c ≡ report_app) }
+    ensures local { IfOk result (λ c. (fields_of c).has_globals ≡ false) }
+{
+    let with_db = Command::new(alloc, "report").arg(db(alloc))?;
+    with_db.arg(rollout(alloc))
+}
+
+/// The program with the subcommands that serve.
+fn serving<'a>(alloc: Global) -> Result<Command<'a>, AllocError>
+    ensures app { IfOk result (λ c. app_of c ≡ serving_app) }
 {
     let run = run(alloc)?;
     let serve = serve(alloc)?;
-    let import = import(alloc)?;
     let with_run = Command::new(alloc, "fwdesk").subcommand(run)?;
-    let with_serve = with_run.subcommand(serve)?;
-    with_serve.subcommand(import)
+    with_run.subcommand(serve)
+}
+
+fn program<'a>(alloc: Global) -> Result<Command<'a>, AllocError>
+    ensures app { IfOk result (λ c. app_of c ≡ program_app) }
+{
+    let import = import(alloc)?;
+    let report = report(alloc)?;
+    let with_import = serving(alloc)?.subcommand(import)?;
+    with_import.subcommand(report)
 }
 
 fn interface_of(word: &str) -> Option<Interface>
     ensures some { IfSome result (λ interface. word.now ≡ interface_word interface) }
-    ensures none { IfNone result (word.now ≢ codes "mgmt") }
+    ensures none { IfNone result ((interface : Interface) → word.now ≢ interface_word interface) }
 {
-    if word == "mgmt" {
+    if word == "ddi" {
+        Some(Interface::Devices)
+    } else if word == "mgmt" {
         Some(Interface::Management)
+    } else if word == "both" {
+        Some(Interface::Both)
     } else {
         None
     }
@@ -291,6 +333,27 @@ fn import_of<'a>(matches: &ArgMatches<'a>) -> Result<Order<'a>, Misuse>
     Ok(Order::Import { db, file })
 }
 
+fn rollout_of(matches: &ArgMatches<'_>) -> Option<RolloutNo>
+    ensures { result ≡ number_given 1 2147483647 (first_of (codes "rollout") (rows_of (found_of matches.now))) }
+{
+    let number = number(matches, "rollout", 1, 2_147_483_647)?;
+    RolloutNo::new(number)
+}
+
+/// The order that the values of `report` name.
+fn report_of<'a>(matches: &ArgMatches<'a>) -> Result<Order<'a>, Misuse>
+    ensures ok { IfOk result (IsOrder (Some (codes "report", rows_of (found_of matches.now)))) }
+    ensures err { IfErr result (λ misuse. ¬ NamesOrder (Some (codes "report", rows_of (found_of matches.now)))) }
+{
+    let Some(db) = matches.get_str("db") else {
+        return Err(Misuse::File);
+    };
+    let Some(rollout) = rollout_of(matches) else {
+        return Err(Misuse::Rollout);
+    };
+    Ok(Order::Report { db, rollout })
+}
+
 /// The order that the matches of the program name.
 fn order_of<'a>(matches: &ArgMatches<'a>) -> Result<Order<'a>, Misuse>
     ensures ok { IfOk result (IsOrder (subcommand_rows_of matches.now)) }
@@ -304,6 +367,9 @@ fn order_of<'a>(matches: &ArgMatches<'a>) -> Result<Order<'a>, Misuse>
     }
     if let Some(import) = matches.subcommand_matches("import") {
         return import_of(import);
+    }
+    if let Some(report) = matches.subcommand_matches("report") {
+        return report_of(report);
     }
     Err(Misuse::Subcommand)
 }

@@ -1,33 +1,38 @@
 -- The calls on actions and offers.
-use Rattle.std.proofs.Common.{◌≡◌, ◌≤◌, ℕ, pos, take, drop, [], ◌∷◌, length, Option, Some, Ok, Err, Result, IfOk, option_map, Vec, vec_items, refl, ap, ◌∙◌, codes}
-use Rattle.std.specs.List.{zip}
+use Rattle.std.proofs.Common.{◌≡◌, ◌≤◌, ℕ, zero, suc, pos, take, drop, Bool, true, List, [], ◌∷◌, length, Option, Some, Ok, Err, Result, IfOk, option_map, Vec, vec_items, refl, ap, subst, ◌∙◌, codes}
+use Rattle.std.specs.List.{list_all, zip}
 use Rattle.std.specs.declared.alloc.Global.{Global}
 use Rattle.sqlite_value.specs.declared.value.Value.TheVariants.{Int, Text}
 use Rattle.sqlite_value.specs.Order.{Row}
 use Rattle.sqlite.specs.Command.TheVariants.{Select}
-use Rattle.sqlite.specs.Effect.{Database}
+use Rattle.sqlite.specs.Effect.{Database, Reads as Shows}
 use Rattle.sqlite.specs.State.{State}
 use Rattle.sql_calls.specs.declared.fault.Fault.{Fault}
 use Rattle.sql_calls.specs.Calls.{AsksText, TakesFirst}
 use Rattle.sql_calls.specs.Standing.{Reads}
 use Rattle.sql_calls.proofs.Changes.{Knows, ShowsFirst}
 use Rattle.sql_calls.proofs.Selects.{simple}
-use Rattle.sql_calls.proofs.TypedCalls.{takes_ok}
+use Rattle.sql_calls.proofs.TypedCalls.{asks_ok, takes_ok}
+use Rattle.std.proofs.lemmas.Bool.{and_parts}
+use Rattle.rollout_machine.specs.Actions.{HistoryEntry}
 use Rattle.rollout_machine.specs.ByteStrings.{item_numbered}
 use Rattle.rollout_machine.specs.Commands.{Bytes}
 use Rattle.rollout_model.specs.declared.rollout.Offer.{Offer}
-use Rattle.desk_records.specs.declared.action_texts.TheConstants.{LAST_ACTION, GET_ACTION, LIST_ACTIONS, GET_OFFER}
+use Rattle.desk_records.specs.declared.action_texts.TheConstants.{LAST_ACTION, GET_ACTION, LIST_ACTIONS, LIST_TARGET_ACTIONS, LIST_ENTRIES, GET_OFFER}
 use Rattle.desk_records.specs.declared.rollout_row.ListedAction.{ListedAction}
 use Rattle.desk_records.specs.declared.rollout_row.StoredAction.{StoredAction}
+use Rattle.desk_records.specs.Actions.{history_of}
+use Rattle.desk_records.specs.EntryRow.{IsEntryRow, keeps_details}
 use Rattle.desk_records.specs.Holds.{HoldsLedger, Ledger}
 use Rattle.desk_records.specs.Modules.{IsLastRow}
-use Rattle.desk_records.specs.RolloutRow.{IsActionRow, IsListedActionRow, IsOfferRow, actions_of, stored_action}
-use Rattle.desk_records.specs.Schema.{OfRollouts, Actions, Offers}
+use Rattle.desk_records.specs.RolloutRow.{IsActionRow, IsListedActionRow, IsOfferRow, actions_for, actions_of, stored_action}
+use Rattle.desk_records.specs.Schema.{OfRollouts, Actions, Feedbacks, Offers}
 use Rattle.desk_records.proofs.MeaningWords.{at_key}
-use Rattle.desk_records.proofs.ActionMeaning.{last_action_query, action_columns, action_names, listed_names, list_actions_query, of_controller, offer_columns, last_action_is, get_action_is, list_actions_is, get_offer_is}
-use Rattle.desk_records.proofs.ActionRecords.{shown_action, told_listed, lasts_action, gets_action, lists_actions, told_offer, gets_offer}
+use Rattle.desk_records.proofs.ActionMeaning.{last_action_query, action_columns, action_names, listed_names, list_actions_query, list_target_actions_query, list_entries_query, entry_names, of_controller, offer_columns, last_action_is, get_action_is, list_actions_is, list_target_actions_is, list_entries_is, get_offer_is}
+use Rattle.desk_records.proofs.ActionRecords.{shown_action, told_listed, lasts_action, gets_action, lists_actions, lists_target_actions, told_offer, gets_offer}
+use Rattle.desk_records.proofs.EntryRecords.{lists_entries}
 use Rattle.desk_store.specs.Rows.{AreReadAs, IsReadAs}
-use Rattle.desk_store.proofs.LedgerReads.{ledger_knows, both_mapped, one_action, one_listed, one_offer}
+use Rattle.desk_store.proofs.LedgerReads.{ledger_knows, both_mapped, one_action, one_listed, one_offer, same_entries}
 use Rattle.desk_store.proofs.ModuleCalls.{one_last}
 use Rattle.desk_store.proofs.ReadLemmas.{asks_all, takes_one}
 
@@ -41,6 +46,12 @@ getting = ledger_knows (OfRollouts Actions) GET_ACTION.now (λ at tree. Select (
 
 abbrev pub listing : Knows HoldsLedger LIST_ACTIONS.now
 listing = ledger_knows (OfRollouts Actions) LIST_ACTIONS.now (λ at tree. Select (record { lets = []; body = list_actions_query tree }) listed_names) list_actions_is
+
+abbrev pub listing_targets : Knows HoldsLedger LIST_TARGET_ACTIONS.now
+listing_targets = ledger_knows (OfRollouts Actions) LIST_TARGET_ACTIONS.now (λ at tree. Select (record { lets = []; body = list_target_actions_query tree }) listed_names) list_target_actions_is
+
+abbrev pub listing_entries : Knows HoldsLedger LIST_ENTRIES.now
+listing_entries = ledger_knows (OfRollouts Feedbacks) LIST_ENTRIES.now (λ at tree. Select (record { lets = []; body = list_entries_query tree }) entry_names) list_entries_is
 
 abbrev pub offered : Knows HoldsLedger GET_OFFER.now
 offered = ledger_knows (OfRollouts Offers) GET_OFFER.now (λ at tree. Select (record { lets = []; body = simple tree of_controller offer_columns }) (codes "action" ∷ codes "kind" ∷ [])) get_offer_is
@@ -66,6 +77,43 @@ pub actions_read : (number limit offset : ℕ) (old new : State) (rows : Vec Row
 actions_read number limit offset old new rows =
     asks_all vec_items IsListedActionRow told_listed one_listed LIST_ACTIONS.now (Int (pos number) ∷ Int (pos limit) ∷ Int (pos offset) ∷ []) old new listing (λ l. take limit (drop offset (actions_of l.records.rollouts number 1 (zip l.records.actions l.tallies)))) rows
     (λ db l holds shown. lists_actions db l holds listed_names number limit offset rows.items shown)
+
+pub target_actions_read : (id : Bytes) (limit offset : ℕ) (old new : State) (rows : Vec Row Global) → AsksText old new LIST_TARGET_ACTIONS.now (Text id ∷ Int (pos limit) ∷ Int (pos offset) ∷ []) (Ok rows) → (out : Result (Vec ListedAction Global) Fault)
+    → IfOk out (λ found. AreReadAs IsListedActionRow rows.items found.items) → Reads HoldsLedger old new out (λ l found. found.items ≡ take limit (drop offset (actions_for l.records.rollouts id 1 (zip l.records.actions l.tallies))))
+target_actions_read id limit offset old new rows =
+    asks_all vec_items IsListedActionRow told_listed one_listed LIST_TARGET_ACTIONS.now (Text id ∷ Int (pos limit) ∷ Int (pos offset) ∷ []) old new listing_targets (λ l. take limit (drop offset (actions_for l.records.rollouts id 1 (zip l.records.actions l.tallies)))) rows
+    (λ db l holds shown. lists_target_actions db l holds listed_names id limit offset rows.items shown)
+
+-- ---- histories
+
+kept_from : (p : HistoryEntry → Bool) (n : ℕ) (es : List HistoryEntry) → list_all p es ≡ true → list_all p (drop n es) ≡ true
+kept_from p zero es h = h
+kept_from p (suc n) [] h = refl
+kept_from p (suc n) (e ∷ es) h = kept_from p n es (and_parts (p e) (list_all p es) h).1
+
+kept_to : (p : HistoryEntry → Bool) (n : ℕ) (es : List HistoryEntry) → list_all p es ≡ true → list_all p (take n es) ≡ true
+kept_to p zero es h = refl
+kept_to p (suc n) [] h = refl
+kept_to p (suc n) (e ∷ es) h = let parts = and_parts (p e) (list_all p es) h in rw parts.0 (kept_to p n es parts.1)
+
+pub entries_read : (number limit offset : ℕ) → 1 ≤ number → (old new : State) (rows : Vec Row Global) → AsksText old new LIST_ENTRIES.now (Int (pos number) ∷ Int (pos limit) ∷ Int (pos offset) ∷ []) (Ok rows) → (out : Result (Vec HistoryEntry Global) Fault)
+    → IfOk out (λ found. AreReadAs IsEntryRow rows.items found.items)
+    → Reads HoldsLedger old new out (λ l found. list_all keeps_details (history_of (item_numbered l.records.actions number)) ≡ true → found.items ≡ take limit (drop offset (history_of (item_numbered l.records.actions number))))
+entries_read number limit offset least old new rows h out are_read =
+    asks_ok HoldsLedger LIST_ENTRIES.now (Int (pos number) ∷ Int (pos limit) ∷ Int (pos offset) ∷ []) old new (λ l found. list_all keeps_details (history_of (item_numbered l.records.actions number)) ≡ true → found.items ≡ part l)
+    listing_entries rows h out (answers out are_read)
+  where
+    part : Ledger → List HistoryEntry
+    part l = take limit (drop offset (history_of (item_numbered l.records.actions number)))
+
+    answers : (out : Result (Vec HistoryEntry Global) Fault) → IfOk out (λ found. AreReadAs IsEntryRow rows.items found.items)
+        → IfOk out (λ found. (db : Database) (l : Ledger) (holds : HoldsLedger db l) → Shows (listing_entries db l holds).command db (Int (pos number) ∷ Int (pos limit) ∷ Int (pos offset) ∷ []) rows.items
+        → list_all keeps_details (history_of (item_numbered l.records.actions number)) ≡ true → found.items ≡ part l)
+    answers (Ok found) is = λ db l holds shown keep.
+        let all = history_of (item_numbered l.records.actions number) in
+        same_entries found.items (part l) (kept_to keeps_details limit (drop offset all) (kept_from keeps_details offset all keep))
+        (subst (λ rs. AreReadAs IsEntryRow rs found.items) (lists_entries db l holds entry_names number limit offset least rows.items shown) is)
+    answers (Err e) is = tt
 
 -- ---- offers
 

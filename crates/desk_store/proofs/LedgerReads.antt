@@ -1,5 +1,7 @@
 -- What rows of rollouts, groups, actions and offers tell of the ledger that they show.
-use Rattle.std.proofs.Common.{◌≡◌, ℕ, pos, List, [], ◌∷◌, Bool, true, false, Option, Some, None, option_map, refl, if◌then◌else◌, nat_lt}
+use Rattle.std.proofs.Common.{◌≡◌, ℕ, pos, List, [], ◌∷◌, map, Bool, true, false, Option, Some, None, option_map, refl, ap₂, if◌then◌else◌, nat_lt}
+use Rattle.std.specs.List.{list_all}
+use Rattle.std.proofs.lemmas.Bool.{and_parts}
 use Rattle.std.specs.Option.{option_and_then}
 use Rattle.sqlite_value.specs.declared.value.Value.TheVariants.{Int, Text}
 use Rattle.sqlite_value.specs.Order.{Row}
@@ -8,6 +10,8 @@ use Rattle.sqlite.specs.Schema.{Schema}
 use Rattle.sql_calls.proofs.Changes.{Knows}
 use Rattle.sql_calls.proofs.Means.{Means}
 use Rattle.sql_front.specs.Stands.{Stands}
+use Rattle.rollout_machine.specs.Actions.{HistoryEntry, DeploymentEntry, CancelEntry}
+use Rattle.rollout_machine.specs.Commands.{DeploymentWord, CancelWord, Proceeding, Scheduled, Resumed, Succeeded, Failed, Rejected, Noted, ClosedCancel, CanceledCancel, RejectedCancel, NotedCancel}
 use Rattle.rollout_machine.specs.declared.outcome.Outcome.{Outcome}
 use Rattle.rollout_machine.specs.declared.outcome.Outcome.TheVariants.{Good, Bad, Gone}
 use Rattle.rollout_machine.specs.declared.records.GroupRecord.{GroupRecord}
@@ -18,7 +22,8 @@ use Rattle.rollout_model.specs.declared.rollout.Offer.{Offer}
 use Rattle.desk_records.specs.declared.rollout_row.ListedAction.{ListedAction}
 use Rattle.desk_records.specs.declared.rollout_row.StoredAction.{StoredAction}
 use Rattle.desk_records.specs.declared.rollout_row.StoredRollout.{StoredRollout}
-use Rattle.desk_records.specs.Actions.{outcome_code}
+use Rattle.desk_records.specs.Actions.{cancel_code, deployment_code, lines_of, outcome_code, told_entry}
+use Rattle.desk_records.specs.EntryRow.{IsEntryRow, cancel_from, cancel_in, deployment_from, deployment_in, keeps_details}
 use Rattle.desk_records.specs.Codes.{coded_in, flag_of, approval_from, outcome_from, flag_in, approval_in, outcome_in}
 use Rattle.desk_records.specs.Holds.{HoldsLedger}
 use Rattle.desk_records.specs.RolloutRow.{IsRolloutRow, IsGroupRow, IsActionRow, IsListedActionRow, IsOfferRow}
@@ -26,6 +31,8 @@ use Rattle.desk_records.specs.Rollouts.{approval_code, flag}
 use Rattle.desk_records.specs.Schema.{Place, name_of, table_at}
 use Rattle.desk_records.proofs.RolloutRecords.{shown_group}
 use Rattle.desk_records.proofs.ActionRecords.{shown_action, told_listed, told_offer}
+use Rattle.desk_records.proofs.EntryRecords.{same_details}
+use Rattle.desk_store.specs.Rows.{AreReadAs}
 
 -- what a text means wherever the table stands
 abbrev pub ledger_knows : (t : Place) (sql : List ℕ) (command : ℕ → ℕ → Command) → ((s : Schema) (at tree : ℕ) → Stands s (name_of t) at (table_at t tree) → Means s sql (command at tree)) → Knows HoldsLedger sql
@@ -52,7 +59,7 @@ kept_number fits n m h = go (fits n) (coded (λ k. if fits k then Some k else No
     go true e = cc
     go false e = absurd cc
 
-kept_flag : (b c : Bool) → flag_in (Int (pos (flag b))) ≡ Some c → c ≡ b
+pub kept_flag : (b c : Bool) → flag_in (Int (pos (flag b))) ≡ Some c → c ≡ b
 kept_flag true c h = let e : Some true ≡ Some c = coded flag_of 1 c h in cc
 kept_flag false c h = let e : Some false ≡ Some c = coded flag_of 0 c h in cc
 
@@ -129,3 +136,39 @@ one_offer a b h =
     let action = kept_number is_number b.action a.action h.action in
     let canceling = kept_flag b.canceling a.canceling h.canceling in
     λ i. record { action = action i; canceling = canceling i }
+
+-- ---- entries
+
+kept_deployment : (w v : DeploymentWord) → deployment_in (Int (pos (deployment_code w))) ≡ Some v → v ≡ w
+kept_deployment (Noted Proceeding) v h = let e : Some (Noted Proceeding) ≡ Some v = coded deployment_from 0 v h in cc
+kept_deployment (Noted Scheduled) v h = let e : Some (Noted Scheduled) ≡ Some v = coded deployment_from 1 v h in cc
+kept_deployment (Noted Resumed) v h = let e : Some (Noted Resumed) ≡ Some v = coded deployment_from 2 v h in cc
+kept_deployment Succeeded v h = let e : Some Succeeded ≡ Some v = coded deployment_from 3 v h in cc
+kept_deployment Failed v h = let e : Some Failed ≡ Some v = coded deployment_from 4 v h in cc
+kept_deployment Rejected v h = let e : Some Rejected ≡ Some v = coded deployment_from 5 v h in cc
+
+kept_cancel : (w v : CancelWord) → cancel_in (Int (pos (cancel_code w))) ≡ Some v → v ≡ w
+kept_cancel (NotedCancel Proceeding) v h = let e : Some (NotedCancel Proceeding) ≡ Some v = coded cancel_from 0 v h in cc
+kept_cancel (NotedCancel Scheduled) v h = let e : Some (NotedCancel Scheduled) ≡ Some v = coded cancel_from 1 v h in cc
+kept_cancel (NotedCancel Resumed) v h = let e : Some (NotedCancel Resumed) ≡ Some v = coded cancel_from 2 v h in cc
+kept_cancel ClosedCancel v h = let e : Some ClosedCancel ≡ Some v = coded cancel_from 3 v h in cc
+kept_cancel CanceledCancel v h = let e : Some CanceledCancel ≡ Some v = coded cancel_from 4 v h in cc
+kept_cancel RejectedCancel v h = let e : Some RejectedCancel ≡ Some v = coded cancel_from 5 v h in cc
+
+one_entry : (a b : HistoryEntry) → keeps_details b ≡ true → IsEntryRow (told_entry b) a → a ≡ b
+one_entry (DeploymentEntry v d) (DeploymentEntry w e) keep h =
+    let word = kept_deployment w v h.1 in
+    let details = same_details d e h.3 keep (same_text (lines_of e) (lines_of d) h.2) in
+    λ i. DeploymentEntry (word i) (details i)
+one_entry (CancelEntry v d) (CancelEntry w e) keep h =
+    let word = kept_cancel w v h.1 in
+    let details = same_details d e h.3 keep (same_text (lines_of e) (lines_of d) h.2) in
+    λ i. CancelEntry (word i) (details i)
+one_entry (CancelEntry v d) (DeploymentEntry w e) keep h = absurd (let it : true ≡ false = kept_flag false true h.0 in cc)
+one_entry (DeploymentEntry v d) (CancelEntry w e) keep h = absurd (let it : false ≡ true = kept_flag true false h.0 in cc)
+
+pub same_entries : (found wanted : List HistoryEntry) → list_all keeps_details wanted ≡ true → AreReadAs IsEntryRow (map told_entry wanted) found → found ≡ wanted
+same_entries [] [] keep h = refl
+same_entries [] (b ∷ bs) keep h = absurd h
+same_entries (a ∷ found) [] keep h = absurd h
+same_entries (a ∷ found) (b ∷ bs) keep h = let parts = and_parts (keeps_details b) (list_all keeps_details bs) keep in ap₂ ◌∷◌ (one_entry a b parts.0 h.0) (same_entries found bs parts.1 h.1)

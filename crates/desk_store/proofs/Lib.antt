@@ -10,3 +10,4 @@ pub mod LedgerReads
 pub mod RolloutCalls
 pub mod ActionCalls
 pub mod WriteCalls
+pub mod LedgersOfRecords

@@ -1,10 +1,10 @@
 -- The calls on rollouts and groups.
-use Rattle.std.proofs.Common.{◌≡◌, ◌≤◌, ℕ, pos, take, drop, [], ◌∷◌, length, map, Option, Some, Ok, Err, Result, IfOk, option_map, Vec, vec_items, refl, sym, ap, ◌∙◌, codes}
+use Rattle.std.proofs.Common.{◌≡◌, ◌≤◌, ℕ, Bool, pos, take, drop, [], ◌∷◌, length, map, Option, Some, None, Ok, Err, Result, IfOk, option_map, Vec, vec_items, refl, sym, ap, subst, ◌∙◌, codes}
 use Rattle.std.specs.List.{list_any}
 use Rattle.std.specs.Option.{is_some}
 use Rattle.std.specs.declared.alloc.Global.{Global}
 use Rattle.sqlite_value.specs.declared.value.Value.TheVariants.{Int, Text}
-use Rattle.sqlite_value.specs.Order.{Row}
+use Rattle.sqlite_value.specs.Order.{Row, column}
 use Rattle.sqlite.specs.Command.TheVariants.{Select}
 use Rattle.sqlite.specs.Term.{col}
 use Rattle.sqlite.specs.Effect.{Database}
@@ -20,18 +20,24 @@ use Rattle.rollout_machine.specs.ByteStrings.{item_numbered}
 use Rattle.rollout_machine.specs.Commands.{Bytes}
 use Rattle.rollout_machine.specs.StateWords.{group_numbered, group_holding}
 use Rattle.rollout_machine.specs.declared.records.GroupRecord.{GroupRecord}
-use Rattle.desk_records.specs.declared.rollout_texts.TheConstants.{FIND_ROLLOUT, LAST_ROLLOUT, GET_ROLLOUT, LIST_ROLLOUTS, LIST_GROUPS, GET_GROUP, HOLDING_GROUP}
+use Rattle.rollout_model.specs.declared.word.TargetKind.{TargetKind}
+use Rattle.rollout_model.specs.declared.word.Word.{Word}
+use Rattle.desk_records.specs.declared.texts.TheConstants.{GET_DESK}
+use Rattle.desk_records.specs.declared.rollout_texts.TheConstants.{FIND_ROLLOUT, LAST_ROLLOUT, GET_ROLLOUT, LIST_ROLLOUTS, LIST_MEMBERS, LIST_GROUPS, GET_GROUP, HOLDING_GROUP}
 use Rattle.desk_records.specs.declared.rollout_row.StoredRollout.{StoredRollout}
 use Rattle.desk_records.specs.Holds.{HoldsLedger, Ledger}
 use Rattle.desk_records.specs.Modules.{IsLastRow}
 use Rattle.desk_records.specs.RolloutRow.{IsRolloutRow, IsGroupRow, stored_rollout}
-use Rattle.desk_records.specs.Rollouts.{is_called, groups_of}
-use Rattle.desk_records.specs.Schema.{OfRollouts, Rollouts, Groups}
+use Rattle.desk_records.specs.Rollouts.{is_called, groups_of, members_of}
+use Rattle.desk_records.specs.Schema.{Desk, OfRollouts, Rollouts, Groups, Members}
+use Rattle.desk_records.specs.Codes.{flag_in}
+use Rattle.desk_records.proofs.DeskRecords.{gets_desk, told_desk}
+use Rattle.desk_records.proofs.Meaning.{desk_query, get_desk_is}
 use Rattle.desk_records.proofs.MeaningWords.{at_key}
-use Rattle.desk_records.proofs.RolloutMeaning.{same_name, last_rollout_query, rollout_columns, rollout_names, list_rollouts_query, group_names, list_groups_query, get_group_query, holding_group_query, find_rollout_is, last_rollout_is, get_rollout_is, list_rollouts_is, list_groups_is, get_group_is, holding_group_is}
-use Rattle.desk_records.proofs.RolloutRecords.{finds_rollout, lasts_rollout, gets_rollout, lists_rollouts, shown_group, lists_groups, gets_group, holds_group}
-use Rattle.desk_store.specs.Rows.{AreReadAs, IsReadAs}
-use Rattle.desk_store.proofs.LedgerReads.{ledger_knows, both_mapped, shown_rollout, one_rollout, one_group}
+use Rattle.desk_records.proofs.RolloutMeaning.{same_name, last_rollout_query, rollout_columns, rollout_names, list_rollouts_query, group_names, list_groups_query, get_group_query, holding_group_query, find_rollout_is, last_rollout_is, get_rollout_is, list_rollouts_is, list_members_query, list_members_is, list_groups_is, get_group_is, holding_group_is}
+use Rattle.desk_records.proofs.RolloutRecords.{finds_rollout, lasts_rollout, gets_rollout, lists_rollouts, lists_members, shown_group, lists_groups, gets_group, holds_group}
+use Rattle.desk_store.specs.Rows.{AreReadAs, IsApproval, IsReadAs}
+use Rattle.desk_store.proofs.LedgerReads.{ledger_knows, both_mapped, kept_flag, shown_rollout, one_rollout, one_group}
 use Rattle.desk_store.proofs.ModuleCalls.{one_last}
 use Rattle.desk_store.proofs.ReadLemmas.{asks_all, takes_one}
 
@@ -57,6 +63,26 @@ getting_group = ledger_knows (OfRollouts Groups) GET_GROUP.now (λ at tree. Sele
 
 abbrev pub holding_group : Knows HoldsLedger HOLDING_GROUP.now
 holding_group = ledger_knows (OfRollouts Groups) HOLDING_GROUP.now (λ at tree. Select (record { lets = []; body = holding_group_query tree }) group_names) holding_group_is
+
+abbrev pub listing_members : Knows HoldsLedger LIST_MEMBERS.now
+listing_members = ledger_knows (OfRollouts Members) LIST_MEMBERS.now (λ at tree. Select (record { lets = []; body = list_members_query tree }) (codes "controller" ∷ [])) list_members_is
+
+abbrev pub getting_desk : Knows HoldsLedger GET_DESK.now
+getting_desk = ledger_knows Desk GET_DESK.now (λ at tree. Select (record { lets = []; body = desk_query tree }) (codes "format" ∷ codes "version" ∷ codes "approval" ∷ [])) get_desk_is
+
+-- ---- the desk
+
+one_approval : (a b : Bool) (row : Option Row) → IsApproval a row → row ≡ Some (told_desk b) → a ≡ b
+one_approval a b None h is = absurd h
+one_approval a b (Some row) h is = let it : row ≡ told_desk b = cc in kept_flag b a (subst (λ r. flag_in (column r 2) ≡ Some a) it h)
+
+approves : (row : Option Row) (out : Result Bool Fault) → IfOk out (λ a. IsApproval a row)
+    → IfOk out (λ a. (db : Database) (l : Ledger) (holds : HoldsLedger db l) → ShowsFirst (getting_desk db l holds).command db [] row → a ≡ l.records.approval)
+approves row (Ok a) h = λ db l holds shown. one_approval a l.records.approval row h (gets_desk db l holds (codes "format" ∷ codes "version" ∷ codes "approval" ∷ []) row shown)
+approves row (Err e) h = tt
+
+pub approval_read : (old new : State) (row : Option Row) → TakesFirst old new GET_DESK.now [] (Ok row) → (out : Result Bool Fault) → IfOk out (λ a. IsApproval a row) → Reads HoldsLedger old new out (λ l a. a ≡ l.records.approval)
+approval_read old new row h out is = takes_ok HoldsLedger GET_DESK.now [] old new (λ l a. a ≡ l.records.approval) getting_desk (λ db l holds at given. tt) row h out (approves row out is)
 
 -- ---- rollouts
 
@@ -84,6 +110,17 @@ pub rollouts_read : (limit offset : ℕ) (old new : State) (rows : Vec Row Globa
 rollouts_read limit offset old new rows =
     asks_all vec_items IsRolloutRow shown_rollout one_rollout LIST_ROLLOUTS.now (Int (pos limit) ∷ Int (pos offset) ∷ []) old new paging (λ l. map stored_rollout (take limit (drop offset l.records.rollouts))) rows
     (λ db l holds shown. lists_rollouts db l holds rollout_names limit offset rows.items shown ∙ sym (map-map shown_rollout stored_rollout _))
+
+-- ---- members
+
+one_member : (a b : Bytes) → column (Text b ∷ []) 0 ≡ Text a → a ≡ b
+one_member a b h = let same : Text b ≡ Text a = h in cc
+
+pub members_read : (number limit offset : ℕ) → 1 ≤ number → (old new : State) (rows : Vec Row Global) → AsksText old new LIST_MEMBERS.now (Int (pos number) ∷ Int (pos limit) ∷ Int (pos offset) ∷ []) (Ok rows) → (out : Result (Vec (Word TargetKind) Global) Fault)
+    → IfOk out (λ found. AreReadAs (λ row id. column row 0 ≡ Text id) rows.items found.items) → Reads HoldsLedger old new out (λ l found. found.items ≡ take limit (drop offset (members_of (item_numbered l.records.rollouts number))))
+members_read number limit offset least old new rows =
+    asks_all vec_items (λ row id. column row 0 ≡ Text id) (λ id. Text id ∷ []) one_member LIST_MEMBERS.now (Int (pos number) ∷ Int (pos limit) ∷ Int (pos offset) ∷ []) old new listing_members (λ l. take limit (drop offset (members_of (item_numbered l.records.rollouts number)))) rows
+    (λ db l holds shown. lists_members db l holds (codes "controller" ∷ []) number limit offset least rows.items shown)
 
 -- ---- groups
 

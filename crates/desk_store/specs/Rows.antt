@@ -1,7 +1,8 @@
 -- What rows are read as, where a relation says what one row is read as.
-use Rattle.std.specs.Prelude.{◌≡◌, ℕ, List, Option, Some, None}
+use Rattle.std.specs.Prelude.{◌≡◌, ℕ, Bool, List, Option, Some, None}
 use Rattle.std.specs.List.{AllZip}
 use Rattle.sqlite_value.specs.Order.{Row, column}
+use Rattle.desk_records.specs.Codes.{flag_in}
 use Rattle.desk_records.specs.SetRow.{StoredNumber}
 
 -- no row is nothing
@@ -17,3 +18,8 @@ AreReadAs is rows found = AllZip is rows found
 abbrev pub IsCount : ℕ → Option Row → Type 0
 IsCount n None = ⊥
 IsCount n (Some row) = column row 0 ≡ StoredNumber n
+
+-- the desk always has a row
+abbrev pub IsApproval : Bool → Option Row → Type 0
+IsApproval approval None = ⊥
+IsApproval approval (Some row) = flag_in (column row 2) ≡ Some approval

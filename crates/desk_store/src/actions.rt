@@ -1,11 +1,13 @@
 //! Actions and offers, in a change that is under way.
 
-ghost use Rattle.std.specs.Prelude.{◌≡◌, ◌≤◌, ◌+◌, length, take, drop, None};
-ghost use Rattle.std.specs.List.{zip};
+ghost use Rattle.std.specs.Prelude.{◌≡◌, ◌≤◌, ◌+◌, length, take, drop, None, true};
+ghost use Rattle.std.specs.List.{list_all, zip};
 ghost use Rattle.std.specs.Option.{option_map};
 ghost use Rattle.rollout_machine.specs.ByteStrings.{item_numbered};
+ghost use Rattle.desk_records.specs.Actions.{history_of};
+ghost use Rattle.desk_records.specs.EntryRow.{IsEntryRow, keeps_details};
 ghost use Rattle.desk_records.specs.LedgerSteps.{AddsAction, AddsEntry, AddsOffer, SetsAction, SetsOffer, with_offer};
-ghost use Rattle.desk_records.specs.RolloutRow.{IsActionRow, IsListedActionRow, IsOfferRow, actions_of, stored_action};
+ghost use Rattle.desk_records.specs.RolloutRow.{IsActionRow, IsListedActionRow, IsOfferRow, actions_for, actions_of, stored_action};
 ghost use Rattle.desk_store.specs.Counting.{AddsAtMost};
 ghost use Rattle.desk_store.specs.Ledgers.{ReadsLedger, WritesLedger};
 
@@ -14,12 +16,12 @@ use crate::codes::{code_of_outcome, flag_code};
 use crate::from_row::FromRow;
 use crate::reading::{last_number, read_all, read_optional};
 use desk_records::{
-    DROP_OFFER, GET_ACTION, GET_OFFER, LAST_ACTION, LIST_ACTIONS, ListedAction, PUT_ACTION,
-    PUT_FEEDBACK, PUT_OFFER, RowFault, SET_ACTION, SET_OFFER, StoredAction, read_listed_action,
-    read_offer, read_stored_action,
+    DROP_OFFER, GET_ACTION, GET_OFFER, LAST_ACTION, LIST_ACTIONS, LIST_ENTRIES,
+    LIST_TARGET_ACTIONS, ListedAction, PUT_ACTION, PUT_FEEDBACK, PUT_OFFER, RowFault, SET_ACTION,
+    SET_OFFER, StoredAction, read_entry, read_listed_action, read_offer, read_stored_action,
 };
 use rollout_machine::Outcome;
-use rollout_model::{ActionNo, ControllerId, Offer, Page, RolloutNo};
+use rollout_model::{ActionNo, ControllerId, HistoryEntry, Offer, Page, RolloutNo};
 use sql_calls::Fault;
 use sqlite::{Alter, Row, params};
 use std::alloc::Global;
@@ -48,6 +50,15 @@ impl FromRow for Offer {
 
     fn from_row(_alloc: Global, row: &Row) -> Result<Self, RowFault> {
         read_offer(row)
+    }
+}
+
+/// Of kind, word and details.
+impl FromRow for HistoryEntry {
+    ghost is_row = { IsEntryRow };
+
+    fn from_row(alloc: Global, row: &Row) -> Result<Self, RowFault> {
+        read_entry(alloc, row)
     }
 }
 
@@ -86,6 +97,39 @@ impl<'a, S: Alter> OpenChange<'a, S> {
         let alloc = self.store.alloc;
         let rows = self.store.calls.ask(
             LIST_ACTIONS,
+            params![number.get(), page.limit, page.offset],
+        )?;
+        read_all(alloc, &rows)
+    }
+
+    /// The actions of a target, a page of them in the order of their numbers. A row that breaks a column's rule is a failed store.
+    pub fn read_target_actions(
+        &mut self,
+        id: &ControllerId,
+        page: Page,
+    ) -> Result<Vec<ListedAction>, Fault>
+        ensures same_reference { self.new.store.ghost_name ≡ self.old.store.ghost_name }
+        ensures reads { ReadsLedger S.Store self.old self.new result (λ l found. found.items ≡ take page.limit (drop page.offset (actions_for l.records.rollouts id.now 1 (zip l.records.actions l.tallies)))) }
+        ensures work { self.new.store.now.calls.work.statements ≤ self.old.store.now.calls.work.statements + 1 }
+    {
+        let alloc = self.store.alloc;
+        let rows = self.store.calls.ask(
+            LIST_TARGET_ACTIONS,
+            params![id.as_str(), page.limit, page.offset],
+        )?;
+        read_all(alloc, &rows)
+    }
+
+    /// The history of an action, a page of it in its order. A row that breaks a column's rule is a failed store.
+    pub fn read_entries(&mut self, number: ActionNo, page: Page) -> Result<Vec<HistoryEntry>, Fault>
+        ensures same_reference { self.new.store.ghost_name ≡ self.old.store.ghost_name }
+        ensures reads { ReadsLedger S.Store self.old self.new result
+            (λ l found. list_all keeps_details (history_of (item_numbered l.records.actions number)) ≡ true → found.items ≡ take page.limit (drop page.offset (history_of (item_numbered l.records.actions number)))) }
+        ensures work { self.new.store.now.calls.work.statements ≤ self.old.store.now.calls.work.statements + 1 }
+    {
+        let alloc = self.store.alloc;
+        let rows = self.store.calls.ask(
+            LIST_ENTRIES,
             params![number.get(), page.limit, page.offset],
         )?;
         read_all(alloc, &rows)

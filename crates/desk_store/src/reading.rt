@@ -3,11 +3,11 @@
 ghost use Rattle.std.specs.Prelude.{◌≡◌, ◌<◌, ◌^◌, IfOk};
 ghost use Rattle.desk_records.specs.Modules.{IsLastRow};
 ghost use Rattle.desk_records.specs.TargetRow.{IsAttributeRow};
-ghost use Rattle.desk_store.specs.Rows.{AreReadAs, IsCount, IsReadAs};
+ghost use Rattle.desk_store.specs.Rows.{AreReadAs, IsApproval, IsCount, IsReadAs};
 ghost use Rattle.desk_store.specs.Faults.{as_store, fault_of_row};
 
 use crate::from_row::FromRow;
-use desk_records::RowFault;
+use desk_records::{RowFault, read_approval};
 use rollout_model::{Attribute, Attributes};
 use sql_calls::{Fault, fault_of};
 use sqlite::Row;
@@ -87,6 +87,19 @@ pub(crate) fn counted_in(row: Option<Row>) -> Result<u32, Fault>
     match row.get(0) {
         Ok(number) => Ok(number),
         Err(error) => Err(fault_of(error)),
+    }
+}
+
+/// Whether rollouts wait for approval, in the desk's row.
+pub(crate) fn approval_in(row: Option<Row>) -> Result<bool, Fault>
+    ensures { IfOk result (λ approval. IsApproval approval row) }
+{
+    let Some(row) = row else {
+        return Err(Fault::Store);
+    };
+    match read_approval(&row) {
+        Ok(approval) => Ok(approval),
+        Err(fault) => Err(row_fault(fault)),
     }
 }
 

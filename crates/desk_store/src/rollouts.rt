@@ -3,22 +3,24 @@
 ghost use Rattle.std.specs.Prelude.{◌≡◌, ◌≤◌, ◌+◌, length, map, take, drop};
 ghost use Rattle.std.specs.List.{list_any};
 ghost use Rattle.std.specs.Option.{option_map};
+ghost use Rattle.sqlite_value.specs.Order.{column};
 ghost use Rattle.rollout_machine.specs.ByteStrings.{item_numbered};
 ghost use Rattle.rollout_machine.specs.StateWords.{group_holding, group_numbered};
 ghost use Rattle.desk_records.specs.LedgerSteps.{AddsGroup, AddsMember, AddsRollout, SetsGroup, SetsRollout};
+ghost use Rattle.desk_records.specs.ModuleRow.{StoredText};
 ghost use Rattle.desk_records.specs.RolloutRow.{IsGroupRow, IsRolloutRow, stored_rollout};
-ghost use Rattle.desk_records.specs.Rollouts.{groups_of, is_called};
+ghost use Rattle.desk_records.specs.Rollouts.{groups_of, is_called, members_of};
 ghost use Rattle.desk_store.specs.Counting.{AddsAtMost};
 ghost use Rattle.desk_store.specs.Ledgers.{ReadsLedger, WritesLedger};
 
 use crate::change::OpenChange;
 use crate::codes::{code_of_approval, flag_code};
 use crate::from_row::FromRow;
-use crate::reading::{last_number, read_all, read_optional};
+use crate::reading::{approval_in, last_number, read_all, read_optional};
 use desk_records::{
-    FIND_ROLLOUT, GET_GROUP, GET_ROLLOUT, HOLDING_GROUP, LAST_ROLLOUT, LIST_GROUPS, LIST_ROLLOUTS,
-    PUT_GROUP, PUT_MEMBER, PUT_ROLLOUT, RowFault, SET_GROUP, SET_ROLLOUT, StoredRollout,
-    read_group, read_stored_rollout,
+    FIND_ROLLOUT, GET_DESK, GET_GROUP, GET_ROLLOUT, HOLDING_GROUP, LAST_ROLLOUT, LIST_GROUPS,
+    LIST_MEMBERS, LIST_ROLLOUTS, PUT_GROUP, PUT_MEMBER, PUT_ROLLOUT, RowFault, SET_GROUP,
+    SET_ROLLOUT, StoredRollout, read_group, read_member, read_stored_rollout,
 };
 use rollout_machine::{Bounds, GroupRecord};
 use rollout_model::{Approval, ControllerId, Page, RolloutNo, RolloutPlan, Text};
@@ -44,7 +46,26 @@ impl FromRow for GroupRecord {
     }
 }
 
+/// Of a member's id.
+impl FromRow for ControllerId {
+    ghost is_row = { λ row id. column row 0 ≡ StoredText id };
+
+    fn from_row(_alloc: Global, row: &Row) -> Result<Self, RowFault> {
+        read_member(row)
+    }
+}
+
 impl<'a, S: Alter> OpenChange<'a, S> {
+    /// Whether new rollouts wait for approval.
+    pub fn read_approval(&mut self) -> Result<bool, Fault>
+        ensures same_reference { self.new.store.ghost_name ≡ self.old.store.ghost_name }
+        ensures reads { ReadsLedger S.Store self.old self.new result (λ l approval. approval ≡ l.records.approval) }
+        ensures work { AddsAtMost 1 self.old.store.now.calls.work self.new.store.now.calls.work }
+    {
+        let row = self.store.calls.first(GET_DESK, &[])?;
+        approval_in(row)
+    }
+
     /// Whether there is a rollout of the name.
     pub fn read_same_rollout(&mut self, name: &Text) -> Result<bool, Fault>
         ensures same_reference { self.new.store.ghost_name ≡ self.old.store.ghost_name }
@@ -90,6 +111,24 @@ impl<'a, S: Alter> OpenChange<'a, S> {
             .store
             .calls
             .ask(LIST_ROLLOUTS, params![page.limit, page.offset])?;
+        read_all(alloc, &rows)
+    }
+
+    /// The members of a rollout, a page of them in the order of their places; none where there is no such rollout. A row that breaks the column's rule is a failed store.
+    pub fn read_members(
+        &mut self,
+        number: RolloutNo,
+        page: Page,
+    ) -> Result<Vec<ControllerId>, Fault>
+        ensures same_reference { self.new.store.ghost_name ≡ self.old.store.ghost_name }
+        ensures reads { ReadsLedger S.Store self.old self.new result (λ l found. found.items ≡ take page.limit (drop page.offset (members_of (item_numbered l.records.rollouts number)))) }
+        ensures work { self.new.store.now.calls.work.statements ≤ self.old.store.now.calls.work.statements + 1 }
+    {
+        let alloc = self.store.alloc;
+        let rows = self.store.calls.ask(
+            LIST_MEMBERS,
+            params![number.get(), page.limit, page.offset],
+        )?;
         read_all(alloc, &rows)
     }
 

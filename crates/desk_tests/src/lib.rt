@@ -4,8 +4,6 @@
 #[cfg(test)]
 mod asked;
 #[cfg(test)]
-mod attributes;
-#[cfg(test)]
 mod calls;
 #[cfg(test)]
 mod downloads;

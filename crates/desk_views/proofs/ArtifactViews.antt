@@ -36,7 +36,7 @@ pub no_artifact : (m : ℕ) (x : Option ArtifactRecord) → None ≡ option_map 
 no_artifact m None is = refl
 no_artifact m (Some a) is = absurd cc
 
-turned : (b wanted : Bool) → not b ≡ wanted → b ≡ not wanted
+pub turned : (b wanted : Bool) → not b ≡ wanted → b ≡ not wanted
 turned true wanted is = rw (sym is) refl
 turned false wanted is = rw (sym is) refl
 
@@ -110,12 +110,12 @@ pub no_contents : (x : Option ArtifactRecord) → None ≡ option_map stored x �
 no_contents None is = refl
 no_contents (Some a) is = absurd cc
 
-pub contents_replied : (m : ℕ) (x : Option ArtifactRecord) (found : StoredArtifact) (contents bytes : Bytes) → Some found ≡ option_map stored (artifact_if m x) → bytes ≡ contents_found x → contents ≡ bytes
+pub contents_replied : (m : ℕ) (x : Option ArtifactRecord) (found : StoredArtifact) (contents : Bytes) → Some found ≡ option_map stored (artifact_if m x) → contents ≡ contents_found x
     → ContentsShown contents ≡ if_found (λ (a : ArtifactRecord). ContentsShown a.contents) (artifact_if m x)
-contents_replied m None found contents bytes is read same = absurd cc
-contents_replied m (Some a) found contents bytes is read same = go (nat_eq a.module_number m) is where
+contents_replied m None found contents is read = absurd cc
+contents_replied m (Some a) found contents is read = go (nat_eq a.module_number m) is where
   go : (b : Bool) → Some found ≡ option_map stored (cond b (Some a) None) → ContentsShown contents ≡ if_found (λ (a : ArtifactRecord). ContentsShown a.contents) (cond b (Some a) None)
-  go true own = ap ContentsShown (same ∙ read)
+  go true own = ap ContentsShown read
   go false other = absurd cc
 
 pub no_module : (found : Option ModuleLabel) (page : shown.Reply) → is_some found ≡ false → Refused NotFound ≡ if_found (λ _. page) found

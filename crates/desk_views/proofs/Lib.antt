@@ -1,6 +1,16 @@
+pub mod HistoryViews
+pub mod ActionViews
+pub mod MemberViews
+pub mod GroupViews
+pub mod MemberLemmas
+pub mod RolloutViews
+pub mod ListLemmas
 pub mod PageLemmas
 pub mod ModuleViews
 pub mod SetViews
 pub mod ArtifactViews
+pub mod WordViews
 pub mod TargetViews
 pub mod TargetPages
+pub mod DeviceViews
+pub mod HistoryKept

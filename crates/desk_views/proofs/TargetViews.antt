@@ -1,9 +1,7 @@
 -- From typed reads of targets to what is shown.
-use Rattle.std.proofs.Common.{◌≡◌, ◌∷◌, Bool, true, false, cond, ◌&&◌, List, [], filter, find, Option, Some, None, is_none, refl, sym, ap, ◌∙◌}
-use Rattle.std.specs.List.{list_any}
+use Rattle.std.proofs.Common.{◌≡◌, ◌∷◌, Bool, true, false, cond, List, [], find, Option, Some, None, refl, sym, ap, ◌∙◌}
 use Rattle.std.specs.Option.{option_map}
 use Rattle.desk_records.specs.declared.target_row.StoredTarget.{StoredTarget}
-use Rattle.desk_records.specs.Holds.{HasNoRollouts}
 use Rattle.desk_records.specs.TargetRow.{stored_target}
 use Rattle.desk_records.specs.Targets.{attributes_of}
 use Rattle.desk_records.proofs.Targets.{has_id}
@@ -12,10 +10,9 @@ use Rattle.rollout_machine.specs.ByteStrings.{same_bytes}
 use Rattle.rollout_machine.specs.Commands.{Attribute, Bytes}
 use Rattle.rollout_machine.specs.Objects.{target_shown}
 use Rattle.rollout_machine.specs.Records.{Records}
-use Rattle.rollout_machine.specs.declared.records.ActionRecord.{ActionRecord}
 use Rattle.rollout_machine.specs.Replies.{TargetShown}
 use Rattle.rollout_machine.specs.Requests.{ShowTarget}
-use Rattle.rollout_machine.specs.StateWords.{has_started, is_for, target_word, word_by_last, Pending, TargetWord, Unknown}
+use Rattle.rollout_machine.specs.StateWords.{target_word}
 use Rattle.rollout_machine.specs.Targets.{Target}
 use Rattle.rollout_machine.specs.Verdicts.{tags_of, target_of}
 use Rattle.rollout_machine.specs.Views.{reply_of, shown_target}
@@ -26,17 +23,10 @@ use Rattle.rollout_model.specs.declared.request.Reply.TheVariants as reply
 use Rattle.rollout_model.specs.declared.shown_target.ShownTarget.{ShownTarget}
 use Rattle.rollout_model.specs.declared.target.Target.{Target as SeenTarget}
 use Rattle.desk_records.specs.declared.target_row.ListedTarget.{ListedTarget}
-use Rattle.desk_views.specs.Targets.{target_listed, unassigned}
-
--- no action was assigned
-pub bare_word : (r : Records) (t : Bytes) → HasNoRollouts r → target_word r t ≡ Unknown
-bare_word r t bare = ap (λ (actions : List ActionRecord). word_by (filter (λ a. is_for r t a && has_started r a) actions)) bare.actions
-  where
-    word_by : List ActionRecord → TargetWord
-    word_by actions = cond (list_any (λ (a : ActionRecord). is_none a.outcome) actions) Pending (word_by_last Unknown actions)
+use Rattle.desk_views.specs.Targets.{target_listed, worded}
 
 -- what is found by an id has it
-id_found : (id : Bytes) (t : Target) (ts : List Target) → find (has_id id) ts ≡ Some t → t.id ≡ id
+pub id_found : (id : Bytes) (t : Target) (ts : List Target) → find (has_id id) ts ≡ Some t → t.id ≡ id
 id_found id t [] found = absurd cc
 id_found id t (x ∷ ts) found = go (same_bytes x.id id) refl found (id_found id t ts)
   where
@@ -54,23 +44,22 @@ module _ (r : Records) (id : Bytes) where
   no_target None is = refl
   no_target (Some t) is = absurd cc
 
-  -- what was found of the target, and then read with its tags and its attributes
-  module _ (stored : StoredTarget) (target : SeenTarget) (bare : HasNoRollouts r) where
-    pub one_target : Some stored ≡ option_map stored_target (target_of r id) → target ≡ target_listed r (record { id = id; name = stored.name })
-        → Some (shown_target (unassigned target)) ≡ option_map (target_shown r) (target_of r id)
-    one_target found read = ap (λ (t : SeenTarget). Some (shown_target (unassigned t))) read ∙ go (target_of r id) refl found
+  -- what was found of the target, then read with its tags and its attributes, and then shown with its word
+  module _ (stored : StoredTarget) (target : SeenTarget) (shown : ShownTarget) where
+    pub one_target : Some stored ≡ option_map stored_target (target_of r id) → target ≡ target_listed r (record { id = id; name = stored.name }) → shown ≡ worded r target
+        → Some (shown_target shown) ≡ option_map (target_shown r) (target_of r id)
+    one_target found read is = ap (λ (s : ShownTarget). Some (shown_target s)) (is ∙ ap (worded r) read) ∙ go (target_of r id) refl found
       where
         read_as : Option Target → SeenTarget
         read_as wanted = record { id = id; name = stored.name; tags = tags_of wanted; attributes = attributes_of wanted }
 
-        go : (wanted : Option Target) → target_of r id ≡ wanted → Some stored ≡ option_map stored_target wanted → Some (shown_target (unassigned (read_as wanted))) ≡ option_map (target_shown r) wanted
+        go : (wanted : Option Target) → target_of r id ≡ wanted → Some stored ≡ option_map stored_target wanted → Some (shown_target (worded r (read_as wanted))) ≡ option_map (target_shown r) wanted
         go None found is = absurd cc
         go (Some t) found is =
             let same : stored ≡ stored_target t = cc in
             let here = sym (id_found id t r.targets found) in
             let named = ap (λ (s : StoredTarget). s.name) same in
-            let word = sym (bare_word r t.id bare) in
-            λ i. Some (record { id = here i; name = named i; tags = t.tags; attributes = t.attributes; word = word i })
+            λ i. Some (record { id = here i; name = named i; tags = t.tags; attributes = t.attributes; word = target_word r (here i) })
 
   -- the reply to a query for it
   abbrev reply_for : Option ShownTarget → Reply

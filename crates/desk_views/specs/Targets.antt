@@ -1,7 +1,7 @@
 -- Targets as they are read, matched and shown.
 use Rattle.std.specs.Prelude.{List, map, filter}
 use Rattle.rollout_machine.specs.Records.{Records}
-use Rattle.rollout_machine.specs.StateWords.{Unknown}
+use Rattle.rollout_machine.specs.StateWords.{target_word}
 use Rattle.rollout_machine.specs.Verdicts.{tags_of, target_of}
 use Rattle.rollout_model.specs.declared.shown_target.ShownTarget.{ShownTarget}
 use Rattle.rollout_model.specs.declared.target.Target.{Target}
@@ -14,10 +14,10 @@ use Rattle.desk_records.specs.declared.target_row.ListedTarget.{ListedTarget}
 abbrev pub target_listed : Records → ListedTarget → Target
 target_listed r listed = record { id = listed.id; name = listed.name; tags = tags_of (target_of r listed.id); attributes = attributes_of (target_of r listed.id) }
 
--- as it is shown before any rollout has assigned it an action
-abbrev pub unassigned : Target → ShownTarget
-unassigned t = record { id = t.id; name = t.name; tags = t.tags; attributes = t.attributes; word = Unknown }
+-- as it is shown, with the word that its actions say
+abbrev pub worded : Records → Target → ShownTarget
+worded r t = record { id = t.id; name = t.name; tags = t.tags; attributes = t.attributes; word = target_word r t.id }
 
 -- those of these targets that match, as they are shown
-abbrev pub matching_shown : Tree → List Target → List ShownTarget
-matching_shown f ts = map unassigned (filter (holds f) ts)
+abbrev pub matching_shown : Records → Tree → List Target → List ShownTarget
+matching_shown r f ts = map (worded r) (filter (holds f) ts)

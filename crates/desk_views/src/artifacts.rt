@@ -66,9 +66,22 @@ pub fn show_contents<S: Alter>(
         Some(found) => found,
         None => return Ok(Reply::Refused(Refusal::NotFound)),
     };
-    let bytes = read_pieces(alloc, change, number)?;
-    let contents = whole_contents(bytes, found.size)?;
+    let contents = read_contents(alloc, change, number, found.size)?;
     Ok(Reply::Contents(contents))
+}
+
+/// The contents of an artifact of this size. Where the pieces aren't as many bytes, or more than contents have, the store has failed.
+pub(crate) fn read_contents<S: Alter>(
+    alloc: Global,
+    change: &mut OpenChange<'_, S>,
+    number: ArtifactNo,
+    size: u32,
+) -> Result<Contents, Fault>
+    ensures same_reference { change.new.store.ghost_name ≡ change.old.store.ghost_name }
+    ensures reads { ReadsIn S.Store change.old change.new result (λ now contents. contents ≡ contents_found (item_numbered now.artifacts number)) }
+{
+    let bytes = read_pieces(alloc, change, number)?;
+    whole_contents(bytes, size)
 }
 
 /// The entries of a list that are on a page.

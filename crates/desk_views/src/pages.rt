@@ -1,6 +1,6 @@
 //! Pages of lists.
 
-ghost use Rattle.std.specs.Prelude.{◌≡◌, ◌-◌, ◌&&◌, min, nat_le, nat_lt};
+ghost use Rattle.std.specs.Prelude.{◌≡◌, ◌-◌, ◌&&◌, drop, min, nat_le, nat_lt, take};
 
 use rollout_model::Page;
 
@@ -16,4 +16,12 @@ pub(crate) fn is_on(page: Page, place: u32) -> bool
     ensures { result ≡ (nat_le page.offset place && nat_lt (place - page.offset) page.limit) }
 {
     page.offset <= place && place - page.offset < page.limit
+}
+
+/// The entries of a list that are on the page.
+pub(crate) fn part_on<T>(all: &[T], page: Page) -> &[T]
+    ensures { result.now ≡ take page.limit (drop page.offset all.now) }
+{
+    let after = &all[all.len().min(page.offset as usize)..];
+    &after[..after.len().min(page.limit as usize)]
 }

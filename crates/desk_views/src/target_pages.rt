@@ -10,13 +10,13 @@ ghost use Rattle.rollout_model.specs.declared.shown_target.ShownTarget.{ShownTar
 ghost use Rattle.target_filter.specs.Grammar.{Tree};
 ghost use Rattle.target_filter.specs.Profile.{filter_of};
 ghost use Rattle.desk_store.specs.Changing.{ReadsIn};
-ghost use Rattle.desk_views.specs.Targets.{matching_shown, target_listed, unassigned};
+ghost use Rattle.desk_views.specs.Targets.{matching_shown, target_listed, worded};
 
 use crate::pages::is_on;
-use crate::targets::{read_listed, shown_unassigned};
+use crate::targets::{read_listed, with_word};
 use desk_store::{Fault, ListedTarget, OpenChange};
 use rollout_model::limits::TARGET_LIMIT;
-use rollout_model::{FilterText, Page, PageOf, Refusal, Reply, ShownTarget};
+use rollout_model::{FilterText, Page, PageOf, Refusal, Reply, ShownTarget, Target};
 use sqlite::Alter;
 use std::alloc::Global;
 use target_filter::{Filter, FilterFault, laws};
@@ -64,12 +64,13 @@ fn read_entries<S: Alter>(
 ) -> Result<Vec<ShownTarget>, Fault>
     ensures same_reference { change.new.store.ghost_name ≡ change.old.store.ghost_name }
     ensures reads { ReadsIn S.Store change.old change.new result
-        (λ now content. content.items ≡ map unassigned (map (target_listed now) entries.items)) }
+        (λ now content. content.items ≡ map (worded now) (map (target_listed now) entries.items)) }
 {
     let mut content = Vec::new(alloc);
     for entry in entries {
         let target = read_listed(change, entry)?;
-        match content.push(shown_unassigned(target)) {
+        let shown = with_word(change, target)?;
+        match content.push(shown) {
             Ok(()) => {}
             Err(_) => return Err(Fault::Memory),
         }
@@ -107,7 +108,7 @@ fn read_matching<S: Alter>(
 ) -> Result<PageOf<ShownTarget>, Fault>
     ensures same_reference { change.new.store.ghost_name ≡ change.old.store.ghost_name }
     ensures reads { ReadsIn S.Store change.old change.new result
-        (λ now shown. (f : Tree) → filter_of filter.now ≡ Some f → listed shown ≡ page_of page (matching_shown f (map seen now.targets))) }
+        (λ now shown. (f : Tree) → filter_of filter.now ≡ Some f → listed shown ≡ page_of page (matching_shown now f (map seen now.targets))) }
 {
     let count = change.read_target_count()?;
     let mut shown = PageOf {
@@ -133,8 +134,8 @@ fn add_chunk<S: Alter>(
 ) -> Result<(), Fault>
     ensures same_reference { change.new.store.ghost_name ≡ change.old.store.ghost_name }
     ensures reads { ReadsIn S.Store change.old change.new result
-        (λ now _. (f : Tree) → filter_of filter.now ≡ Some f → listed shown.old ≡ page_of page (matching_shown f (map seen (take offset now.targets)))
-        → listed shown.new ≡ page_of page (matching_shown f (map seen (take (offset + 10000) now.targets)))) }
+        (λ now _. (f : Tree) → filter_of filter.now ≡ Some f → listed shown.old ≡ page_of page (matching_shown now f (map seen (take offset now.targets)))
+        → listed shown.new ≡ page_of page (matching_shown now f (map seen (take (offset + 10000) now.targets)))) }
 {
     let entries = change.read_targets(Page {
         offset,
@@ -155,7 +156,7 @@ fn add_matching<S: Alter>(
     ensures same_reference { change.new.store.ghost_name ≡ change.old.store.ghost_name }
     ensures reads { ReadsIn S.Store change.old change.new result
         (λ now _. (f : Tree) → filter_of filter.now ≡ Some f → (all : List ShownTarget) → listed shown.old ≡ page_of page all
-        → listed shown.new ≡ page_of page (all ++ matching_shown f (map (target_listed now) entries.items))) }
+        → listed shown.new ≡ page_of page (all ++ matching_shown now f (map (target_listed now) entries.items))) }
 {
     for entry in entries {
         add_if_match(change, filter, page, entry, shown)?;
@@ -174,20 +175,27 @@ fn add_if_match<S: Alter>(
     ensures same_reference { change.new.store.ghost_name ≡ change.old.store.ghost_name }
     ensures reads { ReadsIn S.Store change.old change.new result
         (λ now _. (f : Tree) → filter_of filter.now ≡ Some f → (all : List ShownTarget) → listed shown.old ≡ page_of page all
-        → listed shown.new ≡ page_of page (all ++ matching_shown f (target_listed now entry ∷ []))) }
+        → listed shown.new ≡ page_of page (all ++ matching_shown now f (target_listed now entry ∷ []))) }
 {
     let target = read_listed(change, entry)?;
     let matches = filter.matches(&target);
     if !matches {
         return Ok(());
     }
-    add(page, shown, shown_unassigned(target))?;
+    add(change, page, target, shown)?;
     Ok(())
 }
 
-/// Adds the next entry of a list to its page.
-fn add(page: Page, shown: &mut PageOf<ShownTarget>, entry: ShownTarget) -> Result<(), Fault>
-    ensures { IfOk result (λ _. (all : List ShownTarget) → listed shown.old ≡ page_of page all → listed shown.new ≡ page_of page (all ++ entry ∷ [])) }
+/// Adds the next target of a list to its page. Its word is read only where it is on the page.
+fn add<S: Alter>(
+    change: &mut OpenChange<'_, S>,
+    page: Page,
+    target: Target,
+    shown: &mut PageOf<ShownTarget>,
+) -> Result<(), Fault>
+    ensures same_reference { change.new.store.ghost_name ≡ change.old.store.ghost_name }
+    ensures reads { ReadsIn S.Store change.old change.new result
+        (λ now _. (all : List ShownTarget) → listed shown.old ≡ page_of page all → listed shown.new ≡ page_of page (all ++ worded now target ∷ [])) }
 {
     let place = shown.total;
     let Some(total) = place.checked_add(1) else {
@@ -197,7 +205,14 @@ fn add(page: Page, shown: &mut PageOf<ShownTarget>, entry: ShownTarget) -> Resul
     if !is_on(page, place) {
         return Ok(());
     }
-    match shown.content.push(entry) {
+    let entry = with_word(change, target)?;
+    push(&mut shown.content, entry)
+}
+
+fn push(content: &mut Vec<ShownTarget>, entry: ShownTarget) -> Result<(), Fault>
+    ensures { IfOk result (λ _. content.new.items ≡ content.old.items ++ entry ∷ []) }
+{
+    match content.push(entry) {
         Ok(()) => Ok(()),
         Err(_) => Err(Fault::Memory),
     }

@@ -8,8 +8,9 @@ ghost use Rattle.rollout_machine.specs.Requests.{ShowTarget};
 ghost use Rattle.rollout_machine.specs.Verdicts.{target_of};
 ghost use Rattle.rollout_machine.specs.Views.{reply_of, shown_target};
 ghost use Rattle.desk_store.specs.Changing.{ReadsIn};
-ghost use Rattle.desk_views.specs.Targets.{target_listed, unassigned};
+ghost use Rattle.desk_views.specs.Targets.{target_listed, worded};
 
+use crate::target_words::read_target_word;
 use desk_store::{Fault, ListedTarget, OpenChange, StoredTarget};
 use rollout_model::{
     Attributes, ControllerId, Refusal, Reply, ShownTarget, Tags, Target, TargetWord, Word,
@@ -31,7 +32,7 @@ pub fn show_target<S: Alter>(
 }
 
 /// The target of an id as it is shown.
-fn read_shown<S: Alter>(
+pub(crate) fn read_shown<S: Alter>(
     change: &mut OpenChange<'_, S>,
     id: ControllerId,
 ) -> Result<Option<ShownTarget>, Fault>
@@ -45,7 +46,8 @@ fn read_shown<S: Alter>(
     };
     let listed = called(id, stored);
     let target = read_listed(change, listed)?;
-    Ok(Some(shown_unassigned(target)))
+    let shown = with_word(change, target)?;
+    Ok(Some(shown))
 }
 
 /// The id and name of a target that was found.
@@ -57,7 +59,7 @@ fn called(id: ControllerId, stored: StoredTarget) -> ListedTarget
 }
 
 /// A target that was listed, with its tags and its attributes.
-pub(crate) fn read_listed<S: Alter>(
+pub fn read_listed<S: Alter>(
     change: &mut OpenChange<'_, S>,
     listed: ListedTarget,
 ) -> Result<Target, Fault>
@@ -92,9 +94,20 @@ fn tag_list(words: Vec<Word>) -> Result<Tags, Fault>
     }
 }
 
-/// The target as it is shown before any rollout has assigned it an action.
-pub(crate) fn shown_unassigned(target: Target) -> ShownTarget
-    ensures { result ≡ unassigned target }
+/// A target as it is shown, with the word that its actions say.
+pub(crate) fn with_word<S: Alter>(
+    change: &mut OpenChange<'_, S>,
+    target: Target,
+) -> Result<ShownTarget, Fault>
+    ensures same_reference { change.new.store.ghost_name ≡ change.old.store.ghost_name }
+    ensures reads { ReadsIn S.Store change.old change.new result (λ now shown. shown ≡ worded now target) }
+{
+    let word = read_target_word(change, &target.id)?;
+    Ok(shown_as(target, word))
+}
+
+fn shown_as(target: Target, word: TargetWord) -> ShownTarget
+    ensures { result ≡ record { id = target.id; name = target.name; tags = target.tags; attributes = target.attributes; word = word } }
 {
     let Target {
         id,
@@ -107,6 +120,6 @@ pub(crate) fn shown_unassigned(target: Target) -> ShownTarget
         name,
         tags,
         attributes,
-        word: TargetWord::Unknown,
+        word,
     }
 }

@@ -2,9 +2,12 @@
 #![tactic(auto)]
 
 use desk_opening::OpenFault;
-use desk_server::{Order, Setup, carry_out, carry_out_import, carry_out_on, read_order};
+use desk_server::{
+    Order, Setup, carry_out, carry_out_import, carry_out_on, carry_out_report, read_order,
+};
 use http_wire::Watched;
 use rollout_desk::Desk;
+use rollout_model::RolloutNo;
 use sqlite::{FileFrom, FileStore, Unknown};
 use std::alloc::Global;
 use std::fs::File;
@@ -91,6 +94,18 @@ fn import(rt: &HostRuntime, alloc: Global, db: &str, path: &str) -> u8 {
     )
 }
 
+/// Opens the desk and prints the report of a rollout.
+fn report(rt: &HostRuntime, alloc: Global, db: &str, rollout: RolloutNo) -> u8 {
+    let mut desk = Desk::reopen_path(rt, db, Unknown, false);
+    carry_out_report(
+        alloc,
+        &mut desk,
+        rollout,
+        &mut Watched::new(rt.stdout()),
+        &mut Watched::new(rt.stderr()),
+    )
+}
+
 fn carry_out_from(rt: &HostRuntime, alloc: Global, order: &Order<'_>) -> u8 {
     match order {
         Order::Run(setup) => run(rt, alloc, setup),
@@ -100,6 +115,7 @@ fn carry_out_from(rt: &HostRuntime, alloc: Global, order: &Order<'_>) -> u8 {
             connections,
         } => serve(rt, alloc, setup, *port, *connections),
         Order::Import { db, file } => import(rt, alloc, db, file),
+        Order::Report { db, rollout } => report(rt, alloc, db, *rollout),
     }
 }
 

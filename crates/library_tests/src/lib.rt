@@ -2,10 +2,6 @@
 #![tactic(auto)]
 
 #[cfg(test)]
-mod device_messages;
-#[cfg(test)]
-mod device_replies;
-#[cfg(test)]
 mod filters;
 #[cfg(test)]
 mod groups;

@@ -1,6 +1,8 @@
 pub mod Routes
 pub mod Table
+pub mod Turns
 pub mod Calls
+pub mod CancelQueries
 pub mod PageQueries
 pub mod TargetQueries
 pub mod UploadQueries

@@ -8,23 +8,26 @@ use Rattle.rollout_model.specs.declared.refusal.Refusal.TheVariants.{BadRequest,
 use Rattle.rollout_model.specs.declared.request.Request.{Request as RustRequest}
 use Rattle.rollout_model.specs.declared.target_row.TargetRow.{TargetRow}
 use Rattle.rollout_model.specs.Rules.{number_of as item_number_of, word_of}
-use Rattle.rollout_machine.specs.Commands.{Command, AddModule, AddArtifact, AddSet, PutTargets, Tag, Untag}
-use Rattle.rollout_machine.specs.Requests.{Do, Ask, Query, Page, ShowModules, ShowModule, ShowArtifacts, ShowArtifact, ShowContents, ShowSets, ShowSet, ShowTargets, ShowTarget, Asked, Rejected, Asks}
+use Rattle.rollout_machine.specs.Commands.{Command, AddModule, AddArtifact, AddSet, PutTargets, Tag, Untag, CreateRollout, Cancel}
+use Rattle.rollout_machine.specs.Requests.{Do, Ask, Query, Page, ShowModules, ShowModule, ShowArtifacts, ShowArtifact, ShowContents, ShowSets, ShowSet, ShowTargets, ShowTarget, ShowTargetActions, ShowAction, ShowHistory, ShowRollouts, ShowRollout, ShowGroups, ShowGroup, ShowGroupTargets, ShowReport, ShowActionsTable, Asked, Rejected, Asks}
 use Rattle.rollout_machine.specs.Views.{request_of}
 use Rattle.request_target.specs.Numbers.{number_of}
 use Rattle.request_target.specs.Queries.{query_pairs_of}
 use Rattle.request_target.specs.Routes.{segments}
 use Rattle.mgmt_objects.specs.ModuleBodies.{module_body}
+use Rattle.mgmt_objects.specs.RolloutBodies.{rollout_body}
 use Rattle.mgmt_objects.specs.SetBodies.{set_body}
 use Rattle.mgmt_objects.specs.TargetBodies.{targets_body}
 use Rattle.desk_files.specs.Imports.{targets_of}
 use Rattle.mgmt_api.specs.Table.{manage_route}
 use Rattle.mgmt_api.specs.Calls.{call_of}
+use Rattle.mgmt_api.specs.CancelQueries.{force_asked}
 use Rattle.mgmt_api.specs.PageQueries.{page_asked}
 use Rattle.mgmt_api.specs.TargetQueries.{selection_asked}
+use Rattle.mgmt_api.specs.Turns.{turn_command}
 use Rattle.mgmt_api.specs.UploadQueries.{upload_asked}
 use Rattle.mgmt_api.specs.declared.call.ManageCall.{ManageCall}
-use Rattle.mgmt_api.specs.declared.call.ManageCall.TheVariants.{ShowModules as ShowModulesCall, AddModule as AddModuleCall, ShowModule as ShowModuleCall, ShowArtifacts as ShowArtifactsCall, AddArtifact as AddArtifactCall, ShowArtifact as ShowArtifactCall, ShowContents as ShowContentsCall, ShowSets as ShowSetsCall, AddSet as AddSetCall, ShowSet as ShowSetCall, ShowTargets as ShowTargetsCall, PutTargets as PutTargetsCall, ShowTarget as ShowTargetCall, Tag as TagCall, Untag as UntagCall, Import as ImportCall}
+use Rattle.mgmt_api.specs.declared.call.ManageCall.TheVariants.{ShowModules as ShowModulesCall, AddModule as AddModuleCall, ShowModule as ShowModuleCall, ShowArtifacts as ShowArtifactsCall, AddArtifact as AddArtifactCall, ShowArtifact as ShowArtifactCall, ShowContents as ShowContentsCall, ShowSets as ShowSetsCall, AddSet as AddSetCall, ShowSet as ShowSetCall, ShowTargets as ShowTargetsCall, PutTargets as PutTargetsCall, ShowTarget as ShowTargetCall, Tag as TagCall, Untag as UntagCall, ShowTargetActions as ShowTargetActionsCall, ShowAction as ShowActionCall, CancelAction, ShowHistory as ShowHistoryCall, ShowRollouts as ShowRolloutsCall, CreateRollout as CreateRolloutCall, ShowRollout as ShowRolloutCall, TurnRollout, ShowGroups as ShowGroupsCall, ShowGroup as ShowGroupCall, ShowGroupTargets as ShowGroupTargetsCall, ShowReport as ShowReportCall, ShowActionsTable as ShowActionsTableCall, Import as ImportCall}
 
 -- a part of a message that can't be read rejects it
 abbrev pub or_rejected : {A : Type 0} → Refusal → (A → Asked) → Option A → Asked
@@ -75,6 +78,18 @@ of_word place asked m = or_rejected NotFound asked (word_in m place)
 abbrev pub of_tag : (List ℕ → List ℕ → Command) → WireMessage → Asked
 of_tag command m = of_word 4 (λ id. of_word 6 (λ tag. without_query m (Asks (Do (command id tag)))) m) m
 
+-- what is asked of an action of a target
+abbrev pub of_action : (List ℕ → ℕ → Asked) → WireMessage → Asked
+of_action asked m = of_word 4 (λ id. of_item 6 (λ action. asked id action) m) m
+
+-- what is asked of a group of a rollout
+abbrev pub of_group : (ℕ → ℕ → Asked) → WireMessage → Asked
+of_group asked m = of_item 4 (λ number. of_item 6 (λ group. asked number group) m) m
+
+-- the cancel of an action, forced or not
+abbrev pub canceled_by : List ℕ → ℕ → WireMessage → Asked
+canceled_by id action m = or_rejected BadRequest (λ force. Asks (Do (Cancel id action force))) (force_asked (query_of m.target))
+
 -- a page of a list
 abbrev pub listed_by : (Page → Query) → WireMessage → Asked
 listed_by query m = or_rejected BadRequest (λ page. Asks (Ask (query page))) (page_asked (query_of m.target))
@@ -108,6 +123,19 @@ asked_by PutTargetsCall m = added_by (targets_body m.body) PutTargets m
 asked_by ShowTargetCall m = of_word 4 (λ id. without_query m (Asks (Ask (ShowTarget id)))) m
 asked_by TagCall m = of_tag Tag m
 asked_by UntagCall m = of_tag Untag m
+asked_by ShowTargetActionsCall m = of_word 4 (λ id. listed_by (ShowTargetActions id) m) m
+asked_by ShowActionCall m = of_action (λ id action. without_query m (Asks (Ask (ShowAction id action)))) m
+asked_by CancelAction m = of_action (λ id action. canceled_by id action m) m
+asked_by ShowHistoryCall m = of_action (λ id action. listed_by (ShowHistory id action) m) m
+asked_by ShowRolloutsCall m = listed_by ShowRollouts m
+asked_by CreateRolloutCall m = added_by (rollout_body m.body) CreateRollout m
+asked_by ShowRolloutCall m = shown_by ShowRollout m
+asked_by (TurnRollout turn) m = of_item 4 (λ number. without_query m (Asks (Do (turn_command turn number)))) m
+asked_by ShowGroupsCall m = of_item 4 (λ number. listed_by (ShowGroups number) m) m
+asked_by ShowGroupCall m = of_group (λ number group. without_query m (Asks (Ask (ShowGroup number group)))) m
+asked_by ShowGroupTargetsCall m = of_group (λ number group. listed_by (ShowGroupTargets number group) m) m
+asked_by ShowReportCall m = shown_by ShowReport m
+asked_by ShowActionsTableCall m = shown_by ShowActionsTable m
 asked_by ImportCall m = without_query m (imported (targets_of m.body))
 
 -- the first refusal that applies: the route, the method, and then the call's own

@@ -1,9 +1,10 @@
 //! The calls: what a route is asked by a method.
 
 ghost use Rattle.std.specs.Prelude.{◌≡◌};
-ghost use Rattle.mgmt_api.specs.Calls.{call_of, of_list, of_tag, only_by};
+ghost use Rattle.mgmt_api.specs.Calls.{call_of, of_action, of_list, of_tag, only_by};
 
 use crate::routes::ManageRoute;
+use crate::turn::RolloutTurn;
 
 /// A call of the management interface.
 #[derive(Clone, Copy)]
@@ -38,6 +39,32 @@ pub enum ManageCall {
     Tag,
     /// `DELETE /rest/v1/targets/{target}/tags/{tag}`
     Untag,
+    /// `GET /rest/v1/targets/{target}/actions`
+    ShowTargetActions,
+    /// `GET /rest/v1/targets/{target}/actions/{action}`
+    ShowAction,
+    /// `DELETE /rest/v1/targets/{target}/actions/{action}`
+    CancelAction,
+    /// `GET /rest/v1/targets/{target}/actions/{action}/status`
+    ShowHistory,
+    /// `GET /rest/v1/rollouts`
+    ShowRollouts,
+    /// `POST /rest/v1/rollouts`
+    CreateRollout,
+    /// `GET /rest/v1/rollouts/{rollout}`
+    ShowRollout,
+    /// `POST /rest/v1/rollouts/{rollout}/start`, and in the same way each other turn
+    TurnRollout(RolloutTurn),
+    /// `GET /rest/v1/rollouts/{rollout}/deploygroups`
+    ShowGroups,
+    /// `GET /rest/v1/rollouts/{rollout}/deploygroups/{group}`
+    ShowGroup,
+    /// `GET /rest/v1/rollouts/{rollout}/deploygroups/{group}/targets`
+    ShowGroupTargets,
+    /// `GET /desk/v1/rollouts/{rollout}/report`
+    ShowReport,
+    /// `GET /desk/v1/rollouts/{rollout}/actions`
+    ShowActionsTable,
     /// `POST /desk/v1/import`
     Import,
 }
@@ -75,6 +102,17 @@ fn of_tag(method: &[u8]) -> Option<ManageCall>
     }
 }
 
+/// The call of an action's route, which shows the action or cancels it.
+fn of_action(method: &[u8]) -> Option<ManageCall>
+    ensures { result ≡ of_action method.now }
+{
+    if method == b"GET".as_slice() {
+        Some(ManageCall::ShowAction)
+    } else {
+        only_by(b"DELETE", ManageCall::CancelAction, method)
+    }
+}
+
 /// The call of a route by a method, if the route has the method.
 pub fn call_of(route: ManageRoute, method: &[u8]) -> Option<ManageCall>
     ensures { result ≡ call_of route method.now }
@@ -92,6 +130,19 @@ pub fn call_of(route: ManageRoute, method: &[u8]) -> Option<ManageCall>
         ManageRoute::Targets => of_list(ManageCall::ShowTargets, ManageCall::PutTargets, method),
         ManageRoute::Target => only_by(b"GET", ManageCall::ShowTarget, method),
         ManageRoute::TargetTag => of_tag(method),
+        ManageRoute::TargetActions => only_by(b"GET", ManageCall::ShowTargetActions, method),
+        ManageRoute::Action => of_action(method),
+        ManageRoute::History => only_by(b"GET", ManageCall::ShowHistory, method),
+        ManageRoute::Rollouts => {
+            of_list(ManageCall::ShowRollouts, ManageCall::CreateRollout, method)
+        }
+        ManageRoute::Rollout => only_by(b"GET", ManageCall::ShowRollout, method),
+        ManageRoute::Turned(turn) => only_by(b"POST", ManageCall::TurnRollout(turn), method),
+        ManageRoute::Groups => only_by(b"GET", ManageCall::ShowGroups, method),
+        ManageRoute::Group => only_by(b"GET", ManageCall::ShowGroup, method),
+        ManageRoute::GroupTargets => only_by(b"GET", ManageCall::ShowGroupTargets, method),
+        ManageRoute::Report => only_by(b"GET", ManageCall::ShowReport, method),
+        ManageRoute::ActionsTable => only_by(b"GET", ManageCall::ShowActionsTable, method),
         ManageRoute::Import => only_by(b"POST", ManageCall::Import, method),
     }
 }

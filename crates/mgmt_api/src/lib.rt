@@ -5,12 +5,16 @@
 #![tactic(auto)]
 
 mod call;
+mod cancel_query;
 mod laws;
 mod page_query;
+mod path;
 mod reading;
 mod reply;
+mod rollout_reading;
 mod routes;
 mod target_query;
+mod turn;
 mod upload_query;
 
 pub use call::{ManageCall, call_of};
@@ -18,3 +22,4 @@ pub use laws::{manage_routes_are_apart, refused_text, worked_module_added};
 pub use reading::{read_file, read_manage};
 pub use reply::{manage_reply, manage_reply_to};
 pub use routes::{ManageRoute, ManageRoutes};
+pub use turn::RolloutTurn;

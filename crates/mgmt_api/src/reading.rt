@@ -1,97 +1,30 @@
 //! From a message to the request that it asks.
 
-ghost use Rattle.std.specs.Prelude.{◌≡◌, ◌≢◌, ◌⊎◌, IfOk, IfErr, option_and_then, option_map};
+ghost use Rattle.std.specs.Prelude.{◌≡◌, ◌≢◌, ◌⊎◌, IfOk, IfErr};
 ghost use Rattle.desk_files.specs.Imports.{targets_of};
-ghost use Rattle.rollout_model.specs.Rules.{word_of};
 ghost use Rattle.rollout_model.specs.declared.refusal.Refusal.TheVariants.{NoMemory, StoreFailed, Stopped};
 ghost use Rattle.rollout_machine.specs.Requests.{Asks, Rejected};
 ghost use Rattle.rollout_machine.specs.Views.{request_of};
 ghost use Rattle.http_wire.specs.Inbox.{message_of};
-ghost use Rattle.mgmt_api.specs.Reading.{ReadsRequest, TakesNoQuery, asked_by, imported, item_in, manage_reading, path_number, word_in};
+ghost use Rattle.mgmt_api.specs.Reading.{ReadsRequest, asked_by, imported, manage_reading};
 
 use crate::call::{ManageCall, call_of};
 use crate::page_query::read_page;
+use crate::path::{read_item, read_tag, read_target_id, take_no_query};
+use crate::rollout_reading::{
+    read_cancel_action, read_create_rollout, read_show_action, read_show_actions_table,
+    read_show_group, read_show_group_targets, read_show_groups, read_show_history,
+    read_show_report, read_show_rollout, read_show_rollouts, read_show_target_actions,
+    read_turn_rollout,
+};
 use crate::routes::ManageRoutes;
 use crate::target_query::read_selection;
 use crate::upload_query::read_upload;
 use desk_files::read_targets;
 use http_wire::Message;
 use mgmt_objects::{read_module_body, read_set_body, read_targets_body};
-use request_target::{number_at, segment_at, takes_query};
-use rollout_model::{
-    ArtifactNo, Command, ControllerId, ModuleNo, Query, Refusal, Request, SetNo, TargetRows, Word,
-};
+use rollout_model::{Command, Query, Refusal, Request, TargetRows};
 use std::alloc::Global;
-use std::str;
-
-/// A call that takes no query is refused where there is one.
-fn take_no_query(alloc: Global, message: &Message<'_>) -> Result<(), Refusal>
-    ensures { TakesNoQuery (message_of message.now) result }
-{
-    if takes_query(alloc, &[], message.query())? {
-        Ok(())
-    } else {
-        Err(Refusal::BadRequest)
-    }
-}
-
-/// The number that the segment at a place writes, the empty one before the first slash at 0.
-fn read_path_number(message: &Message<'_>, place: usize) -> Option<u32>
-    ensures { result ≡ path_number (message_of message.now) place }
-{
-    number_at(message.path(), place)
-}
-
-/// The module whose number stands in the fifth segment.
-fn read_module_number(message: &Message<'_>) -> Option<ModuleNo>
-    ensures { result ≡ item_in (message_of message.now) 4 }
-{
-    let number = read_path_number(message, 4)?;
-    ModuleNo::new(number)
-}
-
-/// The artifact whose number stands in the seventh segment.
-fn read_artifact_number(message: &Message<'_>) -> Option<ArtifactNo>
-    ensures { result ≡ item_in (message_of message.now) 6 }
-{
-    let number = read_path_number(message, 6)?;
-    ArtifactNo::new(number)
-}
-
-/// The set whose number stands in the fifth segment.
-fn read_set_number(message: &Message<'_>) -> Option<SetNo>
-    ensures { result ≡ item_in (message_of message.now) 4 }
-{
-    let number = read_path_number(message, 4)?;
-    SetNo::new(number)
-}
-
-/// The text of the segment at a place; `None` where there is none, or it is no UTF-8.
-fn text_in<'a>(message: &'a Message<'_>, place: usize) -> Option<&'a str>
-    ensures { option_and_then word_of (option_map (λ s. s.now) result) ≡ word_in (message_of message.now) place }
-{
-    let segment = segment_at(message.path(), place)?;
-    let Ok(text) = str::from_utf8(segment) else {
-        return None;
-    };
-    Some(text)
-}
-
-/// The target whose id stands in the fifth segment.
-fn read_target_id(message: &Message<'_>) -> Option<ControllerId>
-    ensures { result ≡ word_in (message_of message.now) 4 }
-{
-    let text = text_in(message, 4)?;
-    ControllerId::read(text)
-}
-
-/// The tag that stands in the seventh segment.
-fn read_tag(message: &Message<'_>) -> Option<Word>
-    ensures { result ≡ word_in (message_of message.now) 6 }
-{
-    let text = text_in(message, 6)?;
-    Word::read(text)
-}
 
 fn read_show_modules(alloc: Global, message: &Message<'_>) -> Result<Request, Refusal>
     ensures { ReadsRequest (asked_by ManageCall.ShowModules (message_of message.now)) result }
@@ -111,7 +44,7 @@ fn read_add_module(alloc: Global, message: &Message<'_>) -> Result<Request, Refu
 fn read_show_module(alloc: Global, message: &Message<'_>) -> Result<Request, Refusal>
     ensures { ReadsRequest (asked_by ManageCall.ShowModule (message_of message.now)) result }
 {
-    let Some(number) = read_module_number(message) else {
+    let Some(number) = read_item(message, 4) else {
         return Err(Refusal::NotFound);
     };
     take_no_query(alloc, message)?;
@@ -121,7 +54,7 @@ fn read_show_module(alloc: Global, message: &Message<'_>) -> Result<Request, Ref
 fn read_show_artifacts(alloc: Global, message: &Message<'_>) -> Result<Request, Refusal>
     ensures { ReadsRequest (asked_by ManageCall.ShowArtifacts (message_of message.now)) result }
 {
-    let Some(number) = read_module_number(message) else {
+    let Some(number) = read_item(message, 4) else {
         return Err(Refusal::NotFound);
     };
     let page = read_page(alloc, message.query())?;
@@ -131,7 +64,7 @@ fn read_show_artifacts(alloc: Global, message: &Message<'_>) -> Result<Request, 
 fn read_add_artifact(alloc: Global, message: &Message<'_>) -> Result<Request, Refusal>
     ensures { ReadsRequest (asked_by ManageCall.AddArtifact (message_of message.now)) result }
 {
-    let Some(number) = read_module_number(message) else {
+    let Some(number) = read_item(message, 4) else {
         return Err(Refusal::NotFound);
     };
     let upload = read_upload(alloc, number, message.query(), message.body)?;
@@ -141,10 +74,10 @@ fn read_add_artifact(alloc: Global, message: &Message<'_>) -> Result<Request, Re
 fn read_show_artifact(alloc: Global, message: &Message<'_>) -> Result<Request, Refusal>
     ensures { ReadsRequest (asked_by ManageCall.ShowArtifact (message_of message.now)) result }
 {
-    let Some(number) = read_module_number(message) else {
+    let Some(number) = read_item(message, 4) else {
         return Err(Refusal::NotFound);
     };
-    let Some(artifact) = read_artifact_number(message) else {
+    let Some(artifact) = read_item(message, 6) else {
         return Err(Refusal::NotFound);
     };
     take_no_query(alloc, message)?;
@@ -154,10 +87,10 @@ fn read_show_artifact(alloc: Global, message: &Message<'_>) -> Result<Request, R
 fn read_show_contents(alloc: Global, message: &Message<'_>) -> Result<Request, Refusal>
     ensures { ReadsRequest (asked_by ManageCall.ShowContents (message_of message.now)) result }
 {
-    let Some(number) = read_module_number(message) else {
+    let Some(number) = read_item(message, 4) else {
         return Err(Refusal::NotFound);
     };
-    let Some(artifact) = read_artifact_number(message) else {
+    let Some(artifact) = read_item(message, 6) else {
         return Err(Refusal::NotFound);
     };
     take_no_query(alloc, message)?;
@@ -182,7 +115,7 @@ fn read_add_set(alloc: Global, message: &Message<'_>) -> Result<Request, Refusal
 fn read_show_set(alloc: Global, message: &Message<'_>) -> Result<Request, Refusal>
     ensures { ReadsRequest (asked_by ManageCall.ShowSet (message_of message.now)) result }
 {
-    let Some(number) = read_set_number(message) else {
+    let Some(number) = read_item(message, 4) else {
         return Err(Refusal::NotFound);
     };
     take_no_query(alloc, message)?;
@@ -276,6 +209,19 @@ fn read_call(alloc: Global, call: ManageCall, message: &Message<'_>) -> Result<R
         ManageCall::ShowTarget => read_show_target(alloc, message),
         ManageCall::Tag => read_tag_target(alloc, message),
         ManageCall::Untag => read_untag_target(alloc, message),
+        ManageCall::ShowTargetActions => read_show_target_actions(alloc, message),
+        ManageCall::ShowAction => read_show_action(alloc, message),
+        ManageCall::CancelAction => read_cancel_action(alloc, message),
+        ManageCall::ShowHistory => read_show_history(alloc, message),
+        ManageCall::ShowRollouts => read_show_rollouts(alloc, message),
+        ManageCall::CreateRollout => read_create_rollout(alloc, message),
+        ManageCall::ShowRollout => read_show_rollout(alloc, message),
+        ManageCall::TurnRollout(turn) => read_turn_rollout(alloc, turn, message),
+        ManageCall::ShowGroups => read_show_groups(alloc, message),
+        ManageCall::ShowGroup => read_show_group(alloc, message),
+        ManageCall::ShowGroupTargets => read_show_group_targets(alloc, message),
+        ManageCall::ShowReport => read_show_report(alloc, message),
+        ManageCall::ShowActionsTable => read_show_actions_table(alloc, message),
         ManageCall::Import => read_import(alloc, message),
     }
 }

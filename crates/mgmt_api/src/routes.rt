@@ -4,6 +4,7 @@ ghost use Rattle.std.specs.Prelude.{◌≡◌, IfOk, IfErr};
 ghost use Rattle.rollout_model.specs.declared.refusal.Refusal.TheVariants.{NoMemory};
 ghost use Rattle.mgmt_api.specs.Routes.{manage_rows};
 
+use crate::turn::RolloutTurn;
 use matchit::Router;
 use request_target::{route_of, router_of};
 use rollout_model::Refusal;
@@ -33,6 +34,28 @@ pub enum ManageRoute {
     Target,
     /// `/rest/v1/targets/{target}/tags/{tag}`
     TargetTag,
+    /// `/rest/v1/targets/{target}/actions`
+    TargetActions,
+    /// `/rest/v1/targets/{target}/actions/{action}`
+    Action,
+    /// `/rest/v1/targets/{target}/actions/{action}/status`
+    History,
+    /// `/rest/v1/rollouts`
+    Rollouts,
+    /// `/rest/v1/rollouts/{rollout}`
+    Rollout,
+    /// `/rest/v1/rollouts/{rollout}/start`, and in the same way each other turn
+    Turned(RolloutTurn),
+    /// `/rest/v1/rollouts/{rollout}/deploygroups`
+    Groups,
+    /// `/rest/v1/rollouts/{rollout}/deploygroups/{group}`
+    Group,
+    /// `/rest/v1/rollouts/{rollout}/deploygroups/{group}/targets`
+    GroupTargets,
+    /// `/desk/v1/rollouts/{rollout}/report`
+    Report,
+    /// `/desk/v1/rollouts/{rollout}/actions`
+    ActionsTable,
     /// `/desk/v1/import`
     Import,
 }
@@ -70,6 +93,61 @@ fn manage_router(alloc: Global) -> Result<Router<ManageRoute>, AllocError>
         (
             "/rest/v1/targets/{target}/tags/{tag}",
             ManageRoute::TargetTag,
+        ),
+        (
+            "/rest/v1/targets/{target}/actions",
+            ManageRoute::TargetActions,
+        ),
+        (
+            "/rest/v1/targets/{target}/actions/{action}",
+            ManageRoute::Action,
+        ),
+        (
+            "/rest/v1/targets/{target}/actions/{action}/status",
+            ManageRoute::History,
+        ),
+        ("/rest/v1/rollouts", ManageRoute::Rollouts),
+        ("/rest/v1/rollouts/{rollout}", ManageRoute::Rollout),
+        (
+            "/rest/v1/rollouts/{rollout}/approve",
+            ManageRoute::Turned(RolloutTurn::Approve),
+        ),
+        (
+            "/rest/v1/rollouts/{rollout}/deny",
+            ManageRoute::Turned(RolloutTurn::Deny),
+        ),
+        (
+            "/rest/v1/rollouts/{rollout}/start",
+            ManageRoute::Turned(RolloutTurn::Start),
+        ),
+        (
+            "/rest/v1/rollouts/{rollout}/pause",
+            ManageRoute::Turned(RolloutTurn::Pause),
+        ),
+        (
+            "/rest/v1/rollouts/{rollout}/resume",
+            ManageRoute::Turned(RolloutTurn::Resume),
+        ),
+        (
+            "/rest/v1/rollouts/{rollout}/triggerNextGroup",
+            ManageRoute::Turned(RolloutTurn::TriggerNext),
+        ),
+        (
+            "/rest/v1/rollouts/{rollout}/deploygroups",
+            ManageRoute::Groups,
+        ),
+        (
+            "/rest/v1/rollouts/{rollout}/deploygroups/{group}",
+            ManageRoute::Group,
+        ),
+        (
+            "/rest/v1/rollouts/{rollout}/deploygroups/{group}/targets",
+            ManageRoute::GroupTargets,
+        ),
+        ("/desk/v1/rollouts/{rollout}/report", ManageRoute::Report),
+        (
+            "/desk/v1/rollouts/{rollout}/actions",
+            ManageRoute::ActionsTable,
         ),
         ("/desk/v1/import", ManageRoute::Import),
     ];

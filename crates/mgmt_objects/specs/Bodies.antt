@@ -19,9 +19,13 @@ only_item (item d (item e ds)) = None
 abbrev pub only : Data → Option Data
 only d = option_and_then only_item (as_array d)
 
--- a member that is a name, a type or a version; of members with one name the last
+-- a member that is a text; of members with one name the last
+abbrev pub string_member : List ℕ → Data → Option (List ℕ)
+string_member key d = option_and_then as_str (get key d)
+
+-- a member that is a name, a type or a version
 abbrev pub text_member : List ℕ → Data → Option (List ℕ)
-text_member key d = option_and_then text_of (option_and_then as_str (get key d))
+text_member key d = option_and_then text_of (string_member key d)
 
 -- a member that is a whole number from 1 to 2,147,483,647, without fraction or exponent
 abbrev pub number_member : List ℕ → Data → Option ℕ

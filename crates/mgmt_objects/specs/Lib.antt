@@ -10,3 +10,6 @@ pub mod SetObjects
 pub mod ArtifactObjects
 pub mod TargetBodies
 pub mod TargetObjects
+pub mod RolloutBodies
+pub mod RolloutObjects
+pub mod ActionObjects

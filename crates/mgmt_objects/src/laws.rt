@@ -1,12 +1,23 @@
 //! Worked bodies and texts.
 
-ghost use Rattle.std.specs.Prelude.{◌≡◌, Some, codes, false, [], ◌∷◌, replicate};
+ghost use Rattle.std.specs.Prelude.{◌≡◌, Some, None, codes, false, [], ◌∷◌, replicate};
 ghost use Rattle.serde_json.specs.Written.{compact_text};
+ghost use Rattle.rollout_model.specs.declared.action_word.ActionWord.TheVariants as action;
+ghost use Rattle.rollout_model.specs.declared.feedback.CancelWord.TheVariants as cancel;
+ghost use Rattle.rollout_model.specs.declared.feedback.HistoryEntry.TheVariants as entry;
+ghost use Rattle.rollout_model.specs.declared.group_word.GroupWord.TheVariants as group;
 ghost use Rattle.rollout_model.specs.declared.module.Module.{Module};
+ghost use Rattle.rollout_model.specs.declared.rollout.Action.{Action};
+ghost use Rattle.rollout_model.specs.declared.rollout.Group.{Group};
+ghost use Rattle.rollout_model.specs.declared.rollout.Rollout.{Rollout};
+ghost use Rattle.rollout_model.specs.declared.rollout_word.RolloutWord.TheVariants as rollout;
 ghost use Rattle.mgmt_objects.specs.ArtifactObjects.{artifact_data};
 ghost use Rattle.mgmt_objects.specs.ModuleBodies.{module_body, new_label};
 ghost use Rattle.mgmt_objects.specs.ModuleObjects.{module_data, module_letters};
 ghost use Rattle.mgmt_objects.specs.Pages.{single};
+ghost use Rattle.mgmt_objects.specs.ActionObjects.{action_data, action_letters, entry_data};
+ghost use Rattle.mgmt_objects.specs.RolloutBodies.{new_plan, percentage_in, rollout_body};
+ghost use Rattle.mgmt_objects.specs.RolloutObjects.{group_data, group_letters, rollout_data, rollout_letters};
 ghost use Rattle.mgmt_objects.specs.SetBodies.{new_set_label, set_body};
 ghost use Rattle.mgmt_objects.specs.SetObjects.{set_data};
 ghost use Rattle.artifact_pieces.specs.Digests.{digest_of};
@@ -57,4 +68,60 @@ pub fn worked_target_text()
 /// The text of a worked number of accepted rows.
 pub fn worked_accepted_text()
     ensures { compact_text (accepted_data 100) ≡ codes "{\"accepted\":100}" }
+{}
+
+/// A percentage has digits alone, and no leading zero.
+pub fn worked_percentages()
+    ensures least { percentage_in (codes "1") ≡ Some 1 }
+    ensures greatest { percentage_in (codes "100") ≡ Some 100 }
+    ensures zero { percentage_in (codes "0") ≡ None }
+    ensures more { percentage_in (codes "101") ≡ None }
+    ensures leading_zero { percentage_in (codes "050") ≡ None }
+    ensures sign { percentage_in (codes "+5") ≡ None }
+    ensures none { percentage_in [] ≡ None }
+{}
+
+/// A worked body plans the rollout that it spells.
+pub fn worked_rollout_body()
+    ensures { rollout_body (codes "{\"amountGroups\":3,\"distributionSetId\":1,\"errorCondition\":{\"condition\":\"THRESHOLD\",\"expression\":\"100\"},\"name\":\"spring\",\"successAction\":{\"action\":\"NEXTGROUP\"},\"successCondition\":{\"condition\":\"THRESHOLD\",\"expression\":\"50\"},\"targetFilterQuery\":\"name==*\"}") ≡ Some (new_plan (codes "spring") 1 (codes "name==*") 3 50 100) }
+{}
+
+/// A body whose action for an error is `null` plans nothing.
+pub fn worked_null_action()
+    ensures { rollout_body (codes "{\"amountGroups\":3,\"distributionSetId\":1,\"errorAction\":null,\"errorCondition\":{\"condition\":\"THRESHOLD\",\"expression\":\"100\"},\"name\":\"spring\",\"successCondition\":{\"condition\":\"THRESHOLD\",\"expression\":\"50\"},\"targetFilterQuery\":\"name==*\"}") ≡ None }
+{}
+
+/// The text of a rollout is its letters.
+pub fn rollout_text_letters()
+    ensures { (r : Rollout) → compact_text (rollout_data r) ≡ rollout_letters r }
+{}
+
+/// The text of a group is its letters.
+pub fn group_text_letters()
+    ensures { (g : Group) → compact_text (group_data g) ≡ group_letters g }
+{}
+
+/// The text of an action is its letters.
+pub fn action_text_letters()
+    ensures { (a : Action) → compact_text (action_data a) ≡ action_letters a }
+{}
+
+/// The text of a worked rollout.
+pub fn worked_rollout_text()
+    ensures { compact_text (rollout_data (record { number = 1; name = codes "spring"; set_number = 1; filter_text = codes "name==*"; word = rollout.Ready; groups = 3; targets = 10 })) ≡ codes "{\"distributionSetId\":1,\"id\":1,\"name\":\"spring\",\"status\":\"ready\",\"targetFilterQuery\":\"name==*\",\"totalGroups\":3,\"totalTargets\":10}" }
+{}
+
+/// The text of a worked group.
+pub fn worked_group_text()
+    ensures { compact_text (group_data (record { number = 1; size = 3; ok = 2; bad = 0; gone = 0; word = group.Running })) ≡ codes "{\"bad\":0,\"gone\":0,\"id\":1,\"ok\":2,\"size\":3,\"status\":\"running\"}" }
+{}
+
+/// The text of a worked action.
+pub fn worked_action_text()
+    ensures { compact_text (action_data (record { number = 1; rollout = 1; group = 1; target = codes "dev-01"; word = action.Running })) ≡ codes "{\"group\":1,\"id\":1,\"rollout\":1,\"status\":\"running\",\"target\":\"dev-01\"}" }
+{}
+
+/// The text of a worked entry of a history.
+pub fn worked_entry_text()
+    ensures { compact_text (entry_data (record { number = 2; entry = entry.Cancel cancel.Canceled (codes "ok" ∷ []) })) ≡ codes "{\"details\":[\"ok\"],\"execution\":\"canceled\",\"finished\":\"success\",\"id\":2,\"kind\":\"cancel\"}" }
 {}

@@ -4,6 +4,7 @@
 //! writer gives exactly the compact text of its object.
 #![tactic(auto)]
 
+mod action_object;
 mod artifact_object;
 mod body;
 mod laws;
@@ -11,6 +12,8 @@ mod list;
 mod member;
 mod module_body;
 mod module_object;
+mod rollout_body;
+mod rollout_object;
 mod set_body;
 mod set_object;
 mod shown;
@@ -19,12 +22,16 @@ mod target_object;
 
 pub use body::{only_item, read_value};
 pub use laws::{
-    module_text_letters, worked_accepted_text, worked_artifact_text, worked_module_body,
-    worked_module_text, worked_set_body, worked_set_text, worked_target_text, worked_targets_body,
+    action_text_letters, group_text_letters, module_text_letters, rollout_text_letters,
+    worked_accepted_text, worked_action_text, worked_artifact_text, worked_entry_text,
+    worked_group_text, worked_module_body, worked_module_text, worked_null_action,
+    worked_percentages, worked_rollout_body, worked_rollout_text, worked_set_body, worked_set_text,
+    worked_target_text, worked_targets_body,
 };
 pub use list::{Item, read_array, read_list};
 pub use member::{read_number, read_text};
 pub use module_body::read_module_body;
+pub use rollout_body::read_rollout_body;
 pub use set_body::read_set_body;
 pub use shown::{Shown, array_text, object_text, page_text, single_text};
 pub use target_body::read_targets_body;

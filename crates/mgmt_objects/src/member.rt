@@ -5,7 +5,7 @@ ghost use Rattle.serde_json.specs.View.{view};
 ghost use Rattle.mgmt_objects.specs.Bodies.{number_member, text_member};
 ghost use Rattle.mgmt_objects.specs.Readings.{ReadsAs};
 
-use rollout_model::{ModuleNo, Refusal, Text};
+use rollout_model::{Number, Refusal, Text};
 use serde_json::Value;
 use std::alloc::Global;
 
@@ -23,13 +23,13 @@ pub fn read_text(alloc: Global, object: &Value, key: &str) -> Result<Text, Refus
     }
 }
 
-/// A member that is the number of a module: whole, from 1 to 2,147,483,647, written without fraction or exponent.
-pub fn read_number(object: &Value, key: &str) -> Option<ModuleNo>
+/// A member that is the number of a module or a set: whole, from 1 to 2,147,483,647, written without fraction or exponent.
+pub fn read_number<Kind>(object: &Value, key: &str) -> Option<Number<Kind>>
     ensures { result ≡ number_member key.now (view object.now) }
 {
     let number = object.get(key).and_then(Value::as_u64)?;
     match u32::try_from(number) {
-        Ok(number) => ModuleNo::new(number),
+        Ok(number) => Number::new(number),
         Err(_) => None,
     }
 }

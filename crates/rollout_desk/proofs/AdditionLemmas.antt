@@ -58,7 +58,7 @@ lt_suc a b = go (nat_lt a b) refl where
   go false is = sym (let less : nat_lt (suc a) (suc b) ≡ false = grind (arith, nat_tests) in less)
 
 -- numbers from 1 on are there up to the last one
-pub past_is_missing : (ms : List ModuleLabel) (m : ℕ) → 1 ≤ m → is_none (item_numbered ms m) ≡ nat_lt (length ms) m
+pub past_is_missing : {X : Type 0} (ms : List X) (m : ℕ) → 1 ≤ m → is_none (item_numbered ms m) ≡ nat_lt (length ms) m
 past_is_missing ms zero least = absurd (omega (arith, least))
 past_is_missing [] (suc m) least = sym (let less : nat_lt 0 (suc m) ≡ true = grind (arith, nat_tests) in less)
 past_is_missing (x ∷ ms) (suc zero) least = sym (let no : nat_lt (suc (length ms)) (suc zero) ≡ false = grind (arith, nat_tests) in no)

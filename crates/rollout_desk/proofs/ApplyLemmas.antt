@@ -29,8 +29,9 @@ use Rattle.sql_calls.specs.declared.fault.Fault.{Fault}
 use Rattle.sql_calls.specs.declared.fault.Fault.TheVariants.{Memory, Store}
 use Rattle.rollout_machine.specs.StoreFailures.{is_failed_store}
 use Rattle.rollout_machine.proofs.StoreFailures.{failed_true}
-use Rattle.rollout_desk.specs.Steps.{refusal_of_fault, Steps, Shows, Handles, EndsByCommit, EndsByRollback}
+use Rattle.rollout_desk.specs.Steps.{refusal_of_fault, Steps, Handles, EndsByCommit, EndsByRollback}
 use Rattle.rollout_desk.specs.declared.step.Step.TheVariants as step
+use Rattle.desk_views.specs.Showing.{Shows}
 
 -- ---- the reply of a failed store
 
@@ -158,7 +159,7 @@ module _ (Holds : Database → Records → Type 0) where
     pub shown : {E : Type 0} (query : Query) (rust : model.Reply) → Shows Holds {E = E} b c query (Ok rust) → (reply : Reply) → EndsByRollback Holds c d (reply_of rust) reply → Handles Holds a d (Ask query) reply
     shown query rust shows reply ends =
         found (Ask query) (reply_of rust) (λ (r : Records). reply_of rust ≡ query_reply r query) (λ h valid is. ap (λ (x : Reply). record { reply = x; accepted = None }) is ∙ sym (query_answer h query)) shows.wears
-        (λ h kept valid was. let it = shows.shows h kept valid was in (spoils Holds c (records h) kept it.0, it.1)) reply ends
+        (λ h kept valid was. let it = shows.reads (records h) kept was in (spoils Holds c (records h) kept it.0, λ clean. it.1 clean (record { list = h; valid = valid; are = refl }))) reply ends
 
     pub unshown : {E : Type 0} (query : Query) (e : E) → Shows Holds b c query (Err e) → (made : Reply) → IsFailure made → (reply : Reply) → EndsByRollback Holds c d made reply → Handles Holds a d (Ask query) reply
-    unshown query e shows made bad reply ends = lost (Ask query) made bad shows.wears shows.shows reply ends
+    unshown query e shows made bad reply ends = lost (Ask query) made bad shows.wears (λ h kept valid was. shows.reads (records h) kept was) reply ends

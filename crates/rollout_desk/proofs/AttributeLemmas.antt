@@ -228,42 +228,6 @@ few_keys false n m i next few = omega (arith, next, few)
 
 -- ---- the device
 
-pub known_by : (device : Credential) (stored : StoredTarget) (r : Records) → are_sorted r.targets ≡ true → Some stored ≡ option_map stored_target (target_of r device.id) → pointwise nat_eq stored.digest device.digest ≡ is_known r device
-known_by device stored r sorted read = same_pointwise stored.digest device.digest ∙ go r.targets (ids_sorted r.targets sorted) read where
-  some_stored : (s t : StoredTarget) → Some s ≡ Some t → s ≡ t
-  some_stored s t is = cc
-
-  none_known : (ts : List Target) → AllAbove device.id (ids_of ts) → list_any (λ (x : Target). same_bytes x.id device.id && same_bytes x.digest device.digest) ts ≡ false
-  none_known [] above = refl
-  none_known (t ∷ ts) above = λ i. ((same_sym t.id device.id ∙ below_apart device.id t.id above.0) i && same_bytes t.digest device.digest) || none_known ts above.1 i
-
-  go : (ts : List Target) → IsSorted (ids_of ts) → Some stored ≡ option_map stored_target (found device.id ts) → same_bytes stored.digest device.digest ≡ list_any (λ (x : Target). same_bytes x.id device.id && same_bytes x.digest device.digest) ts
-  go [] order is = absurd (cc)
-  go (t ∷ ts) order is = first (same_bytes t.id device.id) refl is (go ts order.1) where
-    or_none : (b : Bool) → b ≡ (b || false)
-    or_none true = refl
-    or_none false = refl
-
-    first : (s : Bool) → same_bytes t.id device.id ≡ s → Some stored ≡ option_map stored_target (cond s (Some t) (found device.id ts))
-        → (Some stored ≡ option_map stored_target (found device.id ts) → same_bytes stored.digest device.digest ≡ list_any (λ (x : Target). same_bytes x.id device.id && same_bytes x.digest device.digest) ts)
-        → same_bytes stored.digest device.digest ≡ ((s && same_bytes t.digest device.digest) || list_any (λ (x : Target). same_bytes x.id device.id && same_bytes x.digest device.digest) ts)
-    first true same here rest =
-        let above : AllAbove device.id (ids_of ts) = subst (λ (k : Bytes). AllAbove k (ids_of ts)) (same_true t.id device.id same) order.0 in
-        ap (λ (s : StoredTarget). same_bytes s.digest device.digest) (some_stored stored (stored_target t) here)
-        ∙ or_none (same_bytes t.digest device.digest)
-        ∙ ap (λ b. same_bytes t.digest device.digest || b) (sym (none_known ts above))
-    first false apart later rest = rest later
-
-pub unknown : (device : Credential) (r : Records) → None ≡ option_map stored_target (target_of r device.id) → false ≡ is_known r device
-unknown device r read = go r.targets read where
-  go : (ts : List Target) → None ≡ option_map stored_target (found device.id ts) → false ≡ list_any (λ (x : Target). same_bytes x.id device.id && same_bytes x.digest device.digest) ts
-  go [] is = refl
-  go (t ∷ ts) is = first (same_bytes t.id device.id) is (go ts) where
-    first : (s : Bool) → None ≡ option_map stored_target (cond s (Some t) (found device.id ts)) → (None ≡ option_map stored_target (found device.id ts) → false ≡ list_any (λ (x : Target). same_bytes x.id device.id && same_bytes x.digest device.digest) ts)
-        → false ≡ ((s && same_bytes t.digest device.digest) || list_any (λ (x : Target). same_bytes x.id device.id && same_bytes x.digest device.digest) ts)
-    first true here rest = absurd (cc)
-    first false later rest = rest later
-
 -- a device that is known has its target
 known_there : (device : Credential) (r : Records) → true ≡ is_known r device → is_some (target_of r device.id) ≡ true
 known_there device r known = go r.targets known where

@@ -4,19 +4,18 @@ use Rattle.sqlite.specs.State.{State, HasCleanDisk}
 use Rattle.sqlite.specs.Effect.{Database}
 use Rattle.sql_calls.specs.Standing.{IsChanging, Reads, Writes}
 use Rattle.sql_calls.proofs.Changes.{spoils}
-use Rattle.rollout_machine.specs.Answers.{command_reply, query_reply}
+use Rattle.rollout_machine.specs.Answers.{command_reply}
 use Rattle.rollout_machine.specs.CommandList.{CommandList}
 use Rattle.rollout_machine.specs.Commands.{Command}
 use Rattle.rollout_machine.specs.Records.{Records, records}
 use Rattle.rollout_machine.specs.RecordSteps.{step_records}
-use Rattle.rollout_machine.specs.Requests.{Query}
 use Rattle.rollout_machine.specs.Validity.{IsValid}
 use Rattle.rollout_machine.specs.Verdicts.{check}
 use Rattle.rollout_machine.specs.Views.{reply_of}
 use Rattle.rollout_model.specs.declared.refusal.Refusal.{Refusal}
 use Rattle.rollout_model.specs.declared.request.Reply.{Reply}
 use Rattle.rollout_desk.specs.Additions.{WritesAll}
-use Rattle.rollout_desk.specs.Steps.{Shows, Steps}
+use Rattle.rollout_desk.specs.Steps.{Steps}
 use Rattle.rollout_desk.specs.declared.step.Step.{Step}
 use Rattle.rollout_desk.specs.declared.step.Step.TheVariants as step
 
@@ -110,10 +109,3 @@ module _ (Holds : Database → Records → Type 0) where
       pub accepted : {G : Type 0} → WritesAll Holds {A = Unit {0}} {E = G} b c (Ok tt) W → (reply : Reply) → ((r : Records) → P r x → (check r command ≡ None) × (reply_of reply ≡ command_reply command (step_records r command)))
           → Steps Holds {E = F} a c command (Ok (step.Accepted reply))
       accepted write reply means = accepted_at a b c x P read W (λ h valid. writes (records h)) write reply (λ h valid. means (records h))
-
-  -- ---- a query
-
-  -- what answers it for all records answers it at a list
-  pub shown : {E : Type 0} (a b : State) (query : Query) (result : Result Reply E) → Reads Holds a b result (λ (r : Records) (reply : Reply). reply_of reply ≡ query_reply r query) → Shows Holds a b query result
-  shown a b query (Ok reply) read = record { wears = read.wears; shows = λ h kept valid was. read.reads (records h) kept was }
-  shown a b query (Err e) read = record { wears = read.wears; shows = λ h kept valid was. read.reads (records h) kept was }

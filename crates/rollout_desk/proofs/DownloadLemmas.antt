@@ -5,16 +5,22 @@ use Rattle.std.specs.declared.alloc.Global.{Global}
 use Rattle.std.specs.Option.{option_map}
 use Rattle.sqlite.specs.Effect.{Database}
 use Rattle.sqlite.specs.State.{State, HasCleanDisk}
+use Rattle.sql_calls.specs.Standing.{Begins as BeginsChange, Changes, Doubts, Keeps, Reads, Rests, Spoils, Wears}
+use Rattle.sql_calls.specs.declared.fault.Fault.{Fault}
+use Rattle.sql_calls.proofs.Changes.{spoils}
 use Rattle.desk_records.specs.Artifacts.{piece_numbered}
+use Rattle.desk_views.specs.Downloads.{downloadable}
+use Rattle.desk_views.proofs.DeviceViews.{answered_by}
 use Rattle.rollout_machine.specs.Answers.{Answer, answer, query_reply, if_found, artifact_if, artifact_of_module, MayAnswer}
 use Rattle.rollout_machine.specs.ByteStrings.{item_numbered}
 use Rattle.rollout_machine.specs.CommandList.{CommandList, followed_by}
-use Rattle.rollout_machine.specs.Commands.{Bytes, Command}
+use Rattle.rollout_machine.specs.Commands.{Bytes, Command, Credential}
 use Rattle.rollout_machine.specs.Objects.{artifact_shown}
 use Rattle.rollout_machine.specs.Records.{ArtifactRecord, Records, added_artifacts, artifacts, records}
 use Rattle.rollout_machine.specs.Replies.{Reply, Refused, ArtifactShown, ContentsShown}
-use Rattle.rollout_machine.specs.Requests.{Ask, Asks, Query, ShowArtifact, ShowContents, one}
+use Rattle.rollout_machine.specs.Requests.{Ask, Asks, Download as DownloadOf, Query, Request, ShowArtifact, ShowContents, one}
 use Rattle.rollout_machine.specs.Standing.{DeskState, StandsFor, Applies, AppliesAt, IsInDoubt}
+use Rattle.rollout_machine.specs.Validity.{IsValid}
 use Rattle.rollout_machine.specs.Views.{reply_of}
 use Rattle.rollout_machine.proofs.Answering.{query_answer}
 use Rattle.rollout_model.specs.Limits.{piece_length}
@@ -25,10 +31,12 @@ use Rattle.rollout_model.specs.declared.request.Reply as model
 use Rattle.rollout_model.specs.declared.request.Reply.TheVariants as reply
 use Rattle.rollout_desk.specs.Desks.{desk_state_at}
 use Rattle.rollout_desk.specs.Downloads.{sent, next_length, artifact_in, Sends, BeginsAt, Begins, HandsPieces, RefusesContents, DownloadsGoOn}
-use Rattle.rollout_desk.specs.Looks.{Looks, bytes_of}
+use Rattle.rollout_desk.specs.Looks.{EndsLook, FindsDownload, Looks, bytes_of}
+use Rattle.rollout_desk.specs.Steps.{Handles, refusal_of_fault}
 use Rattle.rollout_machine.specs.StoreFailures.{is_store}
 use Rattle.rollout_desk.specs.declared.download.Download.{Download}
-use Rattle.rollout_desk.proofs.ApplyLemmas.{stands}
+use Rattle.rollout_desk.proofs.ApplyLemmas.{fault_fails, found as found_inside, lost, stands, unbegun}
+use Rattle.rollout_desk.proofs.DeskLemmas.{answers}
 use Rattle.rollout_desk.proofs.PieceLemmas.{size_is, piece_is, so_far, joins}
 
 -- ---- the next piece
@@ -158,6 +166,71 @@ module _ {File : Type 0} (old new : DeskState File) (m k : ℕ) where
       ] where
         not_refused : (refusal : Refusal) → ArtifactShown shown ≢ Refused refusal
         not_refused refusal is = absurd cc
+
+-- ---- what a device downloads
+
+module _ (Holds : Database → Records → Type 0) (a : State) (device : Credential) (m : ℕ) (filename : Bytes) where
+  abbrev request : Request
+  request = Ask (DownloadOf device m filename)
+
+  finds_none : (b : State) (refusal : Refusal) → Handles Holds a b request (Refused refusal) → FindsDownload Holds a b device m filename (Err refusal)
+  finds_none b refusal h = record { wears = h.wears; finds = h.handles }
+
+  pub not_looked : (b : State) (fault : Fault) (refusal : Refusal) → Keeps Holds a b → refusal ≡ refusal_of_fault fault → FindsDownload Holds a b device m filename (Err refusal)
+  not_looked b fault refusal keeps is = finds_none b refusal (unbegun Holds a b request (Refused refusal) keeps (fault_fails fault (Refused refusal) (ap Refused is)))
+
+  module _ (b : State) (begins : BeginsChange Holds a b) (c d : State) where
+    abbrev Finds : Result Artifact Refusal → Type 0
+    Finds result = FindsDownload Holds a d device m filename result
+
+    abbrev IsFound : Records → Result Artifact Refusal → Type 0
+    IsFound r found = found ≡ downloadable r device m filename
+
+    abbrev IsSpoiledInside : Type 0
+    IsSpoiledInside = (h : CommandList) (kept : Records) → IsValid h → Changes Holds b (records h) kept → Spoils Holds c kept
+
+    -- the change can't be given up
+    not_given_up : (wears : Wears b c) → IsSpoiledInside → (last : Wears c d) → ((kept : Records) → Spoils Holds c kept → Doubts Holds d kept kept) → Finds (Err StoreFailed)
+    not_given_up wears inside last doubts = finds_none d StoreFailed (lost Holds a b begins c d request (Refused StoreFailed) (inr refl) wears inside (Refused StoreFailed) (record { wears = last; ends = inr (refl, doubts) }))
+
+    given_up : {E : Type 0} (found : Result Artifact Refusal) → Reads Holds {E = E} b c (Ok found) IsFound → (last : Wears c d) → ((kept : Records) → Spoils Holds c kept → Rests Holds d kept) → Finds found
+    given_up (Ok s) reads last rests = record {
+      wears = omega (arith, begins.wears, reads.wears, last);
+      finds = λ h clean was.
+          let it = reads.reads (records h) (records h) (begins.begun (records h) (λ known. was.shows)) in
+          (stands Holds d h was.valid (rests (records h) (spoils Holds c (records h) (records h) it.0) clean), it.1 (omega (arith, clean, last)));
+    }
+    given_up (Err refusal) reads last rests = finds_none d refusal (found_inside Holds a b begins c d request (Refused refusal) (λ r. IsFound r (Err refusal))
+        (λ h valid is. (λ i. record { reply = sym (answered_by m filename (records h) device (Err refusal) is) i; accepted = None }) ∙ sym (query_answer h (DownloadOf device m filename)))
+        reads.wears (λ h kept valid was. let it = reads.reads (records h) kept was in (spoils Holds c (records h) kept it.0, it.1)) (Refused refusal) (record { wears = last; ends = inl (refl, rests) }))
+
+    pub looked_for : {E : Type 0} (found result : Result Artifact Refusal) → Reads Holds {E = E} b c (Ok found) IsFound → EndsLook Holds c d found result → Finds result
+    looked_for found result reads ends = elim ends.ends [
+      | inl it ↦ subst Finds (sym it.0) (given_up found reads ends.wears it.1)
+      | inr it ↦ subst Finds (sym it.0) (not_given_up reads.wears (λ h kept valid was. spoils Holds c (records h) kept (reads.reads (records h) kept was).0) ends.wears it.1)
+    ]
+
+    pub looked_in_vain : {E : Type 0} (e : E) (fault : Fault) (refusal : Refusal) (result : Result Artifact Refusal) → Reads Holds b c (Err e) IsFound → refusal ≡ refusal_of_fault fault → EndsLook Holds c d (Err refusal) result → Finds result
+    looked_in_vain e fault refusal result reads is ends = elim ends.ends [
+      | inl it ↦ subst Finds (sym it.0) (finds_none d refusal (lost Holds a b begins c d request (Refused refusal) (fault_fails fault (Refused refusal) (ap Refused is)) reads.wears (λ h kept valid was. reads.reads (records h) kept was) (Refused refusal) (record { wears = ends.wears; ends = inl (refl, it.1) })))
+      | inr it ↦ subst Finds (sym it.0) (not_given_up reads.wears (λ h kept valid was. reads.reads (records h) kept was) ends.wears it.1)
+    ]
+
+  -- of a desk that runs
+  module _ (was : Bool) (runs : was ≡ false) (b : State) where
+    pub offered_begins : (s : Artifact) → FindsDownload Holds a b device m filename (Ok s) → Begins (desk_state_at Holds was a) (desk_state_at Holds was b) (DownloadOf device m filename) (Ok (record { number = s.number; size = s.size; pieces = 0 }))
+    offered_begins s found h clean standing =
+        let it = found.finds h clean (subst (λ (x : Bool). StandsFor (desk_state_at Holds x a) h) runs standing) in
+        let of = answered_by m filename (records h) device (Ok s) it.1 in record {
+          stands = subst (λ (x : Bool). StandsFor (desk_state_at Holds x b) h) (sym runs) it.0;
+          contents = of.0.contents;
+          answer = of.1;
+          sends = record { artifact = ap (option_map (λ (x : ArtifactRecord). x.contents)) of.2; size = of.3 ∙ size_is h s.number of.0 of.2 };
+          start = omega arith;
+        }
+
+    pub offered_refused : (refusal : Refusal) (stopped : Bool) → FindsDownload Holds a b device m filename (Err refusal) → stopped ≡ is_store refusal → Applies (desk_state_at Holds was a) (desk_state_at Holds stopped b) (Asks request) (Refused refusal)
+    offered_refused refusal stopped found is = answers Holds a b was stopped request (Refused refusal) runs (record { wears = found.wears; handles = found.finds }) is
 
 -- ---- later commands
 

@@ -3,8 +3,9 @@ use Rattle.std.proofs.Common.{◌≡◌, true, Result, Ok, Err, IsErr, arith}
 use Rattle.sqlite.specs.State.{State, HasCleanDisk}
 use Rattle.sqlite.specs.Effect.{Database}
 use Rattle.sql_calls.specs.Standing.{Changes, Reads, Wears}
-use Rattle.desk_records.specs.Holds.{HoldsRecords}
+use Rattle.desk_records.specs.Holds.{HoldsLedger, HoldsRecords, Ledger, ledger_of}
 use Rattle.desk_records.specs.Targets.{are_sorted}
+use Rattle.desk_store.proofs.LedgersOfRecords.{changes_made, made_changes, made_spoils}
 use Rattle.rollout_machine.specs.Records.{Records}
 use Rattle.rollout_desk.specs.Additions.{WritesAll}
 
@@ -81,3 +82,16 @@ sorted_now a b clean wears now kept was = (was (omega (arith, clean, wears))).no
 pub in_order : {A E : Type 0} (a b : State) (W : Records → Records → Type 0) (out : Result A E) → WritesAll HoldsRecords a b out (InOrder W) → WritesAll HoldsRecords a b out W
 in_order a b W (Ok x) h = record { wears = h.wears; writes = λ now kept next was change. h.writes now kept next was (λ clean. (sorted_now a b clean h.wears now kept was, change clean)) }
 in_order a b W (Err e) h = record { wears = h.wears; writes = λ now kept next was change. h.writes now kept next was (λ clean. (sorted_now a b clean h.wears now kept was, change clean)) }
+
+-- ---- ledgers
+
+-- what is written of ledgers is written of the records that they are of
+pub all_of_records : {A E : Type 0} (a b : State) (C : Ledger → Ledger → Type 0) (out : Result A E) → WritesAll HoldsLedger a b out C → WritesAll HoldsRecords a b out (λ r next. C (ledger_of r) (ledger_of next))
+all_of_records a b C (Ok x) h = record {
+  wears = h.wears;
+  writes = λ now kept next was change. made_changes HoldsLedger ledger_of b next kept (h.writes (ledger_of now) (ledger_of kept) (ledger_of next) (changes_made HoldsLedger ledger_of a now kept was) change);
+}
+all_of_records a b C (Err e) h = record {
+  wears = h.wears;
+  writes = λ now kept next was change. made_spoils HoldsLedger ledger_of b kept (h.writes (ledger_of now) (ledger_of kept) (ledger_of next) (changes_made HoldsLedger ledger_of a now kept was) change);
+}

@@ -9,7 +9,7 @@ use Rattle.rollout_machine.specs.Commands.{Bytes, Command}
 use Rattle.rollout_machine.specs.Records.{ArtifactRecord, records}
 use Rattle.rollout_machine.specs.Replies as answers
 use Rattle.rollout_machine.specs.Replies.{ContentsShown, Refused}
-use Rattle.rollout_machine.specs.Requests.{Query, Ask, Asks, ShowContents}
+use Rattle.rollout_machine.specs.Requests.{Query, Ask, Asks, ShowContents, Download as DownloadOf}
 use Rattle.rollout_machine.specs.Standing.{DeskState, StandsFor, IsInDoubt, Applies}
 use Rattle.rollout_machine.specs.Views.{reply_of}
 use Rattle.rollout_model.specs.Limits.{piece_length}
@@ -54,6 +54,7 @@ Begins old new query (Err r) = Applies old new (Asks (Ask query)) (reply_of r)
 -- a query of contents that begins no download is refused: its answer never has the contents
 abbrev pub RefusesContents : {File : Type 0} → DeskState File → DeskState File → Query → answers.Reply → Type 0
 RefusesContents old new (ShowContents m k) r = (h : CommandList) → new.is_clean → StandsFor old h → (refusal : Refusal) × (r ≡ Refused refusal)
+RefusesContents old new (DownloadOf device m filename) r = (h : CommandList) → new.is_clean → StandsFor old h → (refusal : Refusal) × (r ≡ Refused refusal)
 RefusesContents old new _ r = Unit {0}
 
 -- the next piece of the contents is handed out; with it, what was handed out so far is a first part of the contents

@@ -9,3 +9,13 @@ pub mod Looks
 pub mod Downloads
 pub mod Imports
 pub mod Attributes
+pub mod GroupStarts
+pub mod Entries
+pub mod SeenActions
+pub mod Offering
+pub mod Endings
+pub mod ActionSteps
+pub mod LedgerEnds
+pub mod Standings
+pub mod Creations
+pub mod Starts

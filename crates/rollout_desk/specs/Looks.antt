@@ -1,14 +1,22 @@
 -- A look at the records in a change of its own, which is given up.
-use Rattle.std.specs.Prelude.{◌≡◌, ◌⊎◌, ℕ, Vec, Option, Result, Ok, Err, vec_items}
+use Rattle.std.specs.Prelude.{◌≡◌, ◌⊎◌, ℕ, false, Vec, Option, Result, Ok, Err, vec_items}
 use Rattle.std.specs.declared.alloc.Global.{Global}
 use Rattle.std.specs.Option.{option_map}
 use Rattle.sqlite.specs.Effect.{Database}
 use Rattle.sqlite.specs.State.{State, HasCleanDisk}
 use Rattle.sql_calls.specs.Standing.{Wears, Spoils, Rests, Doubts}
-use Rattle.rollout_machine.specs.Commands.{Bytes}
-use Rattle.rollout_machine.specs.Records.{Records}
+use Rattle.rollout_machine.specs.CommandList.{CommandList}
+use Rattle.rollout_machine.specs.Commands.{Bytes, Credential}
+use Rattle.rollout_machine.specs.Records.{Records, records}
+use Rattle.rollout_machine.specs.Replies.{Refused}
+use Rattle.rollout_machine.specs.Requests.{Ask, Asks, Download}
+use Rattle.rollout_machine.specs.Standing.{AppliesAt, StandsFor}
+use Rattle.rollout_machine.specs.StoreFailures.{is_store}
+use Rattle.rollout_model.specs.declared.artifact.Artifact.{Artifact}
 use Rattle.rollout_model.specs.declared.refusal.Refusal.{Refusal}
 use Rattle.rollout_model.specs.declared.refusal.Refusal.TheVariants.{NoMemory, StoreFailed}
+use Rattle.desk_views.specs.Downloads.{downloadable}
+use Rattle.rollout_desk.specs.Desks.{desk_state_at}
 
 -- the bytes of what was found
 abbrev pub bytes_of : Option (Vec ℕ Global) → Option Bytes
@@ -31,3 +39,14 @@ module _ (Holds : Database → Records → Type 0) where
     pub wears : Wears old new
     pub ends : ((result ≡ found) × ((kept : Records) → Spoils Holds old kept → Rests Holds new kept))
         ⊎ ((result ≡ Err StoreFailed) × ((kept : Records) → Spoils Holds old kept → Doubts Holds new kept kept))
+
+  -- The artifact that the device may download, at the list that the desk stands for; or the answer to its query is this refusal.
+  abbrev pub FindsTo : State → State → Credential → ℕ → Bytes → Result Artifact Refusal → Type 0
+  FindsTo old new device m filename (Ok a) =
+      (h : CommandList) → HasCleanDisk new → StandsFor (desk_state_at Holds false old) h → StandsFor (desk_state_at Holds false new) h × (Ok a ≡ downloadable (records h) device m filename)
+  FindsTo old new device m filename (Err refusal) =
+      (h : CommandList) → HasCleanDisk new → StandsFor (desk_state_at Holds false old) h → AppliesAt h (desk_state_at Holds (is_store refusal) new) (Asks (Ask (Download device m filename))) (Refused refusal)
+
+  pub record FindsDownload (old new : State) (device : Credential) (m : ℕ) (filename : Bytes) (result : Result Artifact Refusal) : Type 0 where
+    pub wears : Wears old new
+    pub finds : FindsTo old new device m filename result

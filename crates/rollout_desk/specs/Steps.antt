@@ -3,13 +3,13 @@ use Rattle.std.specs.Prelude.{◌≡◌, ◌⊎◌, Bool, true, false, Some, Non
 use Rattle.sqlite.specs.Effect.{Database}
 use Rattle.sqlite.specs.State.{State, HasCleanDisk}
 use Rattle.sql_calls.specs.Standing.{Wears, Changes, Spoils, Rests, Doubts}
-use Rattle.rollout_machine.specs.Answers.{command_reply, query_reply}
+use Rattle.rollout_machine.specs.Answers.{command_reply}
 use Rattle.rollout_machine.specs.CommandList.{CommandList}
 use Rattle.rollout_machine.specs.Commands.{Command}
 use Rattle.rollout_machine.specs.Records.{Records, records}
 use Rattle.rollout_machine.specs.RecordSteps.{step_records}
 use Rattle.rollout_machine.specs.Replies.{Reply, Refused}
-use Rattle.rollout_machine.specs.Requests.{Query, Request, Asks}
+use Rattle.rollout_machine.specs.Requests.{Request, Asks}
 use Rattle.rollout_machine.specs.Standing.{AppliesAt, StandsFor}
 use Rattle.rollout_machine.specs.StoreFailures.{is_failed_store}
 use Rattle.rollout_machine.specs.Validity.{IsValid}
@@ -17,7 +17,6 @@ use Rattle.rollout_machine.specs.Verdicts.{check}
 use Rattle.rollout_machine.specs.Views.{reply_of}
 use Rattle.rollout_model.specs.declared.refusal.Refusal.{Refusal}
 use Rattle.rollout_model.specs.declared.refusal.Refusal.TheVariants.{NoMemory, StoreFailed}
-use Rattle.rollout_model.specs.declared.request.Reply as model
 use Rattle.sql_calls.specs.declared.fault.Fault.{Fault}
 use Rattle.sql_calls.specs.declared.fault.Fault.TheVariants.{Memory, Store}
 use Rattle.rollout_desk.specs.Desks.{desk_state_at}
@@ -42,16 +41,6 @@ module _ (Holds : Database → Records → Type 0) where
   pub record Steps {E : Type 0} (old new : State) (c : Command) (result : Result Step E) : Type 0 where
     pub wears : Wears old new
     pub steps : StepsTo old new c result
-
-  abbrev pub ShowsTo : {E : Type 0} → State → State → Query → Result model.Reply E → Type 0
-  ShowsTo old new q (Ok reply) = (h : CommandList) (kept : Records) → IsValid h → Changes Holds old (records h) kept
-      → Changes Holds new (records h) kept × (HasCleanDisk new → reply_of reply ≡ query_reply (records h) q)
-  ShowsTo old new q (Err e) = (h : CommandList) (kept : Records) → IsValid h → Changes Holds old (records h) kept → Spoils Holds new kept
-
-  -- a query inside a change, at such a list: it is answered, and nothing changes
-  pub record Shows {E : Type 0} (old new : State) (q : Query) (result : Result model.Reply E) : Type 0 where
-    pub wears : Wears old new
-    pub shows : ShowsTo old new q result
 
   -- One request was answered in full, from a connection of one state to one of another. The desk is stopped after the reply of a failed store.
   pub record Handles (old new : State) (request : Request) (reply : Reply) : Type 0 where

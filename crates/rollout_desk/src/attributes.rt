@@ -6,31 +6,15 @@ ghost use Rattle.std.specs.List.{list_any};
 ghost use Rattle.desk_records.specs.Targets.{in_byte_order, keys_of};
 ghost use Rattle.rollout_machine.specs.ByteStrings.{contains_word};
 ghost use Rattle.rollout_machine.specs.Commands.{Attribute, PutAttributes};
-ghost use Rattle.rollout_machine.specs.Verdicts.{is_known};
-ghost use Rattle.desk_store.specs.Changing.{ReadsIn};
 ghost use Rattle.rollout_desk.specs.Changing.{StepsIn, WritesAllIn};
 ghost use Rattle.rollout_desk.specs.Attributes.{GivesAttribute, GivesAttributes, has_attribute, keys_after};
 
 use crate::step::Step;
 use desk_store::{Fault, OpenChange};
+use desk_views::knows_device;
 use rollout_model::limits::ATTRIBUTE_LIMIT;
 use rollout_model::{Attribute, ConfigData, ControllerId, Credential, Refusal, Reply, Word};
 use sqlite::Alter;
-
-/// Whether a target of the device's id is there, with the digest of the token that it showed.
-fn knows_device<S: Alter>(
-    change: &mut OpenChange<'_, S>,
-    device: &Credential,
-) -> Result<bool, Fault>
-    ensures same_reference { change.new.store.ghost_name ≡ change.old.store.ghost_name }
-    ensures reads { ReadsIn S.Store change.old change.new result (λ r known. known ≡ is_known r device.now) }
-{
-    let found = change.read_target(&device.id)?;
-    match &found {
-        Some(stored) => Ok(stored.digest == device.digest),
-        None => Ok(false),
-    }
-}
 
 /// Whether one of the attributes is of this key.
 fn has_key(attributes: &[Attribute], key: &Word) -> bool

@@ -5,21 +5,29 @@ ghost use Rattle.sqlite.specs.Held.{state};
 ghost use Rattle.desk_records.specs.Holds.{HoldsRecords};
 ghost use Rattle.rollout_machine.specs.Requests.{Do, Ask};
 ghost use Rattle.rollout_machine.specs.Views.{command_of, query_of, reply_of};
-ghost use Rattle.rollout_desk.specs.Changing.{ShowsIn, StepsIn};
+ghost use Rattle.desk_views.specs.Showing.{ShowsIn};
+ghost use Rattle.rollout_desk.specs.Changing.{StepsIn};
 ghost use Rattle.rollout_desk.specs.Steps.{Handles, EndsByCommit, EndsByRollback};
 
+use crate::actions::{cancel_action, take_cancel_feedback, take_feedback};
 use crate::artifacts::add_artifact;
 use crate::attributes::put_attributes;
+use crate::creation::create_rollout;
 use crate::modules::add_module;
+use crate::progress::{resume_rollout, trigger_next};
 use crate::refusals::reply_of_fault;
 use crate::sets::add_set;
+use crate::standing::{approve_rollout, deny_rollout, pause_rollout};
+use crate::starting::start_rollout;
 use crate::step::Step;
 use crate::tags::{tag_target, untag_target};
 use crate::targets::put_targets;
 use desk_store::{DeskStore, Fault, OpenChange};
 use desk_views::{
-    show_artifact, show_artifacts, show_contents, show_module, show_modules, show_set, show_sets,
-    show_target, show_targets,
+    show_action, show_actions_table, show_artifact, show_artifacts, show_cancel, show_contents,
+    show_deployment, show_download, show_group, show_group_targets, show_groups, show_history,
+    show_module, show_modules, show_poll, show_report, show_rollout, show_rollouts, show_set,
+    show_sets, show_target, show_target_actions, show_targets,
 };
 use rollout_machine::command_is_well_formed;
 use rollout_model::{Command, Query, Refusal, Reply};
@@ -43,6 +51,16 @@ fn step<S: Alter>(
         Command::Tag(id, tag) => tag_target(change, id, tag),
         Command::Untag(id, tag) => untag_target(change, id, tag),
         Command::PutAttributes(device, given) => put_attributes(change, device, given),
+        Command::CreateRollout(plan) => create_rollout(alloc, change, plan),
+        Command::Approve(number) => approve_rollout(change, *number),
+        Command::Deny(number) => deny_rollout(change, *number),
+        Command::Start(number) => start_rollout(change, *number),
+        Command::Pause(number) => pause_rollout(change, *number),
+        Command::Resume(number) => resume_rollout(change, *number),
+        Command::TriggerNext(number) => trigger_next(change, *number),
+        Command::Cancel(asked) => cancel_action(change, asked),
+        Command::Feedback(report) => take_feedback(alloc, change, report),
+        Command::CancelFeedback(report) => take_cancel_feedback(alloc, change, report),
     }
 }
 
@@ -69,6 +87,24 @@ fn answer<S: Alter>(
         Query::Set(number) => show_set(change, *number),
         Query::Targets(filter, page) => show_targets(alloc, change, filter, *page),
         Query::Target(id) => show_target(change, *id),
+        Query::Poll(device) => show_poll(change, device),
+        Query::Deployment(device, action) => show_deployment(alloc, change, device, *action),
+        Query::CancelOf(device, action) => show_cancel(change, device, *action),
+        Query::Download(device, module_number, filename) => {
+            show_download(alloc, change, device, *module_number, filename)
+        }
+        Query::Actions(id, page) => show_target_actions(alloc, change, *id, *page),
+        Query::Action(id, number) => show_action(change, *id, *number),
+        Query::History(id, number, page) => show_history(alloc, change, *id, *number, *page),
+        Query::Rollouts(page) => show_rollouts(alloc, change, *page),
+        Query::Rollout(number) => show_rollout(change, *number),
+        Query::Groups(number, page) => show_groups(alloc, change, *number, *page),
+        Query::Group(number, group) => show_group(change, *number, *group),
+        Query::GroupTargets(number, group, page) => {
+            show_group_targets(alloc, change, *number, *group, *page)
+        }
+        Query::Report(number) => show_report(alloc, change, *number),
+        Query::ActionsTable(number) => show_actions_table(alloc, change, *number),
     }
 }
 

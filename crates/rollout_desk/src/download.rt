@@ -2,7 +2,7 @@
 
 ghost use Rattle.std.specs.Prelude.{◌≡◌, true, false, Err, IfOk, IfErr};
 ghost use Rattle.rollout_machine.specs.Replies.{Refused};
-ghost use Rattle.rollout_machine.specs.Requests.{ShowContents};
+ghost use Rattle.rollout_machine.specs.Requests.{Download as DownloadOf, ShowContents};
 ghost use Rattle.rollout_machine.specs.Standing.{StaysStopped};
 ghost use Rattle.rollout_machine.specs.Views.{query_of, reply_of};
 ghost use Rattle.rollout_model.specs.declared.refusal.Refusal.TheVariants.{Stopped, StoreFailed};
@@ -10,10 +10,10 @@ ghost use Rattle.rollout_desk.specs.DeskStates.{desk_state};
 ghost use Rattle.rollout_desk.specs.Downloads.{Begins, HandsPieces, IsInterruption, KeepsCount, RefusesContents, DownloadsGoOn, artifact_in, next_length};
 
 use crate::desk::Desk;
-use crate::look::{of_length, read_piece};
+use crate::look::{look_for_download, of_length, read_piece};
 use rollout_machine::is_failed_store;
 use rollout_model::limits::PIECE_LENGTH;
-use rollout_model::{Artifact, ArtifactNo, ModuleNo, Query, Refusal, Reply};
+use rollout_model::{Artifact, ArtifactNo, Credential, Filename, ModuleNo, Query, Refusal, Reply};
 use sqlite::Alter;
 
 /// A download: how far the contents of an artifact were handed out, piece by piece. One that is dropped early changes nothing.
@@ -61,7 +61,7 @@ fn artifact_in(reply: Reply) -> Result<Artifact, Reply>
 }
 
 impl<S: Alter> Desk<S> {
-    /// Begins a download of the contents that a query asks for. Any other query, and one that is refused, is answered as `ask`
+    /// Begins a download of the contents that a query asks for, of the management or of a device. Any other query, and one that is refused, is answered as `ask`
     /// answers it.
     pub fn download(&mut self, query: &Query) -> Result<Download, Reply>
         ensures clean { (desk_state S.Store self.new).is_clean → (desk_state S.Store self.old).is_clean }
@@ -74,6 +74,9 @@ impl<S: Alter> Desk<S> {
     {
         match query {
             Query::Contents(module_number, number) => self.find_artifact(*module_number, *number),
+            Query::Download(device, module_number, filename) => {
+                self.find_offered(device, *module_number, filename)
+            }
             _ => Err(self.ask(query)),
         }
     }
@@ -101,6 +104,37 @@ impl<S: Alter> Desk<S> {
                 pieces: 0,
             }),
             Err(reply) => Err(reply),
+        }
+    }
+
+    /// Finds the artifact whose contents a device asks for, of what it is offered as a deployment.
+    fn find_offered(
+        &mut self,
+        device: &Credential,
+        module_number: ModuleNo,
+        filename: &Filename,
+    ) -> Result<Download, Reply>
+        ensures clean { (desk_state S.Store self.new).is_clean → (desk_state S.Store self.old).is_clean }
+        ensures begins { Begins (desk_state S.Store self.old) (desk_state S.Store self.new) (DownloadOf device.now module_number filename.now) result }
+        ensures refuses { IfErr result (λ reply. RefusesContents (desk_state S.Store self.old) (desk_state S.Store self.new) (DownloadOf device.now module_number filename.now) (reply_of reply)) }
+        ensures runs { IfOk result (λ _. (desk_state S.Store self.old).is_stopped ≡ false) }
+        ensures stops { IfErr result (λ reply. reply_of reply ≡ Refused StoreFailed → (desk_state S.Store self.new).is_stopped ≡ true) }
+        ensures stopped { (desk_state S.Store self.old).is_stopped ≡ true
+            → IfErr result (λ reply. reply_of reply ≡ Refused Stopped) × StaysStopped (desk_state S.Store self.old) (desk_state S.Store self.new) }
+    {
+        if self.stopped {
+            return Err(Reply::Refused(Refusal::Stopped));
+        }
+        match look_for_download(self.alloc, &mut self.store, device, module_number, filename) {
+            Ok(artifact) => Ok(Download {
+                number: artifact.number,
+                size: artifact.size,
+                pieces: 0,
+            }),
+            Err(why) => {
+                self.stopped = is_failed_store(why);
+                Err(Reply::Refused(why))
+            }
         }
     }
 

@@ -1,15 +1,17 @@
-//! A look at a piece of an artifact's contents.
+//! Looks at the records that change nothing: at a piece of an artifact's contents, and at the artifact that a device downloads.
 
 ghost use Rattle.std.specs.Prelude.{◌≡◌, ◌⊎◌, length, Some, Ok, Err, MatchResult};
 ghost use Rattle.sqlite.specs.Held.{state};
 ghost use Rattle.desk_records.specs.Artifacts.{piece_numbered};
 ghost use Rattle.desk_records.specs.Holds.{HoldsRecords};
-ghost use Rattle.rollout_desk.specs.Looks.{Looks, EndsLook, bytes_of};
+ghost use Rattle.rollout_desk.specs.Looks.{Looks, EndsLook, FindsDownload, bytes_of};
 
 use crate::refusals::refusal_of;
 use desk_store::{DeskStore, OpenChange};
-use rollout_model::{ArtifactNo, Refusal};
+use desk_views::find_download;
+use rollout_model::{Artifact, ArtifactNo, Credential, Filename, ModuleNo, Refusal};
 use sqlite::Alter;
+use std::alloc::Global;
 
 /// Gives a change up, and then what was found in it.
 fn give_up<S: Alter>(
@@ -40,6 +42,39 @@ pub(crate) fn read_piece<S: Alter>(
     match change.read_piece(number, place) {
         Ok(found) => give_up(change, Ok(found)),
         Err(fault) => give_up(change, Err(refusal_of(fault))),
+    }
+}
+
+/// Gives a change up, and then the artifact that was found in it.
+fn give_up_found<S: Alter>(
+    change: OpenChange<'_, S>,
+    found: Result<Artifact, Refusal>,
+) -> Result<Artifact, Refusal>
+    ensures { EndsLook HoldsRecords (state S.Store change.entry.store.now.calls.conn) (state S.Store change.exit.0.now.calls.conn) found result }
+{
+    match change.give_up() {
+        Ok(()) => found,
+        Err(_) => Err(Refusal::StoreFailed),
+    }
+}
+
+/// Finds the artifact whose contents a device asks for, or else what the download is refused with, inside a transaction that changes nothing.
+pub(crate) fn look_for_download<S: Alter>(
+    alloc: Global,
+    store: &mut DeskStore<S>,
+    device: &Credential,
+    module_number: ModuleNo,
+    filename: &Filename,
+) -> Result<Artifact, Refusal>
+    ensures { FindsDownload HoldsRecords (state S.Store store.old.calls.conn) (state S.Store store.new.calls.conn) device.now module_number filename.now result }
+{
+    let mut change = match store.begin() {
+        Ok(change) => change,
+        Err(fault) => return Err(refusal_of(fault)),
+    };
+    match find_download(alloc, &mut change, device, module_number, filename) {
+        Ok(found) => give_up_found(change, found),
+        Err(fault) => give_up_found(change, Err(refusal_of(fault))),
     }
 }
 

@@ -14,7 +14,10 @@ use rollout_model::{ControllerId, Refusal, Reply, Word};
 use sqlite::Alter;
 
 /// Whether the target of an id isn't there.
-fn lacks_target<S: Alter>(change: &mut OpenChange<'_, S>, id: &ControllerId) -> Result<bool, Fault>
+pub(crate) fn lacks_target<S: Alter>(
+    change: &mut OpenChange<'_, S>,
+    id: &ControllerId,
+) -> Result<bool, Fault>
     ensures same_reference { change.new.store.ghost_name ≡ change.old.store.ghost_name }
     ensures reads { ReadsIn S.Store change.old change.new result (λ r lacks. lacks ≡ is_none (target_of r id.now)) }
 {

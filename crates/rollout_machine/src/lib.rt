@@ -18,4 +18,4 @@ pub use outcome::Outcome;
 pub use records::{ActionRecord, GroupRecord, RolloutRecord};
 pub use store_failure::{is_failed_store, says_store_failed};
 pub use view::{Effects, GroupView, RolloutView};
-pub use well_formed::{command_is_well_formed, rollout_command_is_well_formed};
+pub use well_formed::command_is_well_formed;

@@ -11,7 +11,9 @@ use rollout_model::{
     Attribute, Command, ConfigData, ControllerId, Credential, ModuleLabel, SetLabel, TargetRow,
     TargetRows, Upload, Word,
 };
-pub use rollouts::rollout_command_is_well_formed;
+use rollouts::{
+    cancel_is_well_formed, number_is_well_formed, plan_is_well_formed, report_is_well_formed,
+};
 
 /// Every command keeps the rules of commands: its parts' types keep theirs.
 pub fn command_is_well_formed(command: &Command)
@@ -25,6 +27,20 @@ pub fn command_is_well_formed(command: &Command)
         Command::Tag(id, tag) => tag_is_well_formed(id, tag),
         Command::Untag(id, tag) => untag_is_well_formed(id, tag),
         Command::PutAttributes(device, given) => config_data_is_well_formed(device, given),
+        Command::CreateRollout(plan) => plan_is_well_formed(plan),
+        Command::Approve(number)
+        | Command::Deny(number)
+        | Command::Start(number)
+        | Command::Pause(number)
+        | Command::Resume(number)
+        | Command::TriggerNext(number) => number_is_well_formed(*number),
+        Command::Cancel(cancel) => cancel_is_well_formed(cancel),
+        Command::Feedback(report) => {
+            report_is_well_formed(&report.credential, report.action, &report.details)
+        }
+        Command::CancelFeedback(report) => {
+            report_is_well_formed(&report.credential, report.action, &report.details)
+        }
     }
 }
 

@@ -1,24 +1,43 @@
 -- What the messages of an interface ask, and the bytes of the replies.
-use Rattle.std.specs.Prelude.{ℕ, List, []}
+use Rattle.std.specs.Prelude.{ℕ, Bool, true, false, if◌then◌else◌, List, [], Option, Some, None}
 use Rattle.http_wire.specs.declared.stream.End.{End}
 use Rattle.http_wire.specs.declared.stream.End.TheVariants.{Input, Cut, Fault}
 use Rattle.http_wire.specs.Faults.{refusal_of}
 use Rattle.http_wire.specs.Messages.{WireMessage}
 use Rattle.http_wire.specs.Replies.{refusal_text}
 use Rattle.rollout_machine.specs.Requests.{Asked}
-use Rattle.rollout_machine.specs.Replies.{Reply}
+use Rattle.rollout_machine.specs.Replies.{Reply, PollShown, DeploymentShown, CancelShown}
+use Rattle.http_wire.specs.Targets.{path_of}
+use Rattle.ddi_api.specs.Reading.{device_reading}
+use Rattle.ddi_api.specs.Replies.{reply_text as device_text}
+use Rattle.ddi_api.specs.Table.{device_call}
+use Rattle.ddi_api.specs.declared.call.DeviceCall.{DeviceCall}
 use Rattle.mgmt_api.specs.Reading.{manage_reading}
 use Rattle.mgmt_api.specs.Replies.{reply_text as manage_text}
 use Rattle.stream_server.specs.declared.interface.Interface.{Interface}
-use Rattle.stream_server.specs.declared.interface.Interface.TheVariants.{Management}
+use Rattle.stream_server.specs.declared.interface.Interface.TheVariants.{Devices, Management, Both}
+
+-- a device's call where the path is one's, and else a call of management
+abbrev pub reading_by : Option DeviceCall → WireMessage → Asked
+reading_by (Some call) message = device_reading message
+reading_by None message = manage_reading message
 
 -- what a message asks, by the routes of the interface
 unfoldable pub reading : Interface → WireMessage → Asked
+reading Devices message = device_reading message
 reading Management message = manage_reading message
+reading Both message = reading_by (device_call (path_of message.target)) message
 
--- the bytes of the reply to a message
+-- what devices alone are shown
+abbrev pub is_for_devices : Reply → Bool
+is_for_devices (PollShown target offer) = true
+is_for_devices (DeploymentShown d) = true
+is_for_devices (CancelShown action) = true
+is_for_devices reply = false
+
+-- the bytes of the reply to a message: what devices alone are shown as their interface has it, and all else as that of management has it
 unfoldable pub reply_text : WireMessage → Reply → List ℕ
-reply_text message reply = manage_text message reply
+reply_text message reply = if is_for_devices reply then device_text reply else manage_text message reply
 
 -- what is written for the end of a stream: the refusal of a fault
 abbrev pub end_text : End → List ℕ

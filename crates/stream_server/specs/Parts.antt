@@ -4,6 +4,7 @@ use Rattle.std.specs.Io.KnownBytes.{Appends}
 use Rattle.http_wire.specs.Messages.{WireMessage, IsUndecided, IsFault}
 use Rattle.http_wire.specs.Streams.{Begins}
 use Rattle.http_wire.specs.declared.fault.WireFault.{WireFault}
+use Rattle.rollout_model.specs.declared.refusal.Refusal.{Refusal}
 use Rattle.rollout_model.specs.declared.refusal.Refusal.TheVariants.{StoreFailed, Stopped}
 use Rattle.rollout_machine.specs.Commands.{Command}
 use Rattle.rollout_machine.specs.CommandList.{CommandList, followed_by}
@@ -107,6 +108,10 @@ Takes old ms new = (fed : List ℕ) (given : List WireMessage) → Begins fed gi
 abbrev pub StopsAt : List ℕ → Option WireFault → Type 0
 StopsAt left None = IsUndecided left
 StopsAt left (Some fault) = IsFault left fault
+
+-- the whole text of the reply to a message, where it is no refusal
+abbrev pub IsToldWhole : WireMessage → Reply → List ℕ → Type 0
+IsToldWhole message reply text = ((refusal : Refusal) → reply ≢ Refused refusal) → text ≡ reply_text message reply
 
 -- a reply of this text, of which a part was written
 abbrev pub SendsPart : Option (List ℕ) → Option (List ℕ) → List ℕ → Reply → Bool → ServeFault → Type 0

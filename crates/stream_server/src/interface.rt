@@ -3,6 +3,10 @@
 /// The routes of a stream.
 #[derive(Clone, Copy)]
 pub enum Interface {
+    /// The devices' calls alone.
+    Devices,
     /// The management calls alone.
     Management,
+    /// The calls of both.
+    Both,
 }

@@ -5,9 +5,12 @@ ghost use Rattle.http_wire.specs.Inbox.{message_of};
 ghost use Rattle.rollout_model.specs.declared.refusal.Refusal.TheVariants.{NoMemory, StoreFailed};
 ghost use Rattle.rollout_machine.specs.Requests.{Rejected, Asks};
 ghost use Rattle.rollout_machine.specs.Views.{request_of};
-ghost use Rattle.stream_server.specs.Interfaces.{reading};
+ghost use Rattle.http_wire.specs.Targets.{path_of};
+ghost use Rattle.ddi_api.specs.Table.{device_call};
+ghost use Rattle.stream_server.specs.Interfaces.{reading, reading_by};
 
 use crate::Interface;
+use ddi_api::{DeviceRoutes, read_device};
 use http_wire::Message;
 use mgmt_api::{ManageRoutes, read_manage};
 use rollout_model::{Refusal, Request};
@@ -17,6 +20,7 @@ use std::alloc::Global;
 #[derive(Drop)]
 pub(crate) struct Routes {
     interface: Interface,
+    devices: DeviceRoutes,
     manage: ManageRoutes,
 }
 
@@ -26,8 +30,25 @@ impl Routes {
         ensures interface { IfOk result (λ routes. routes.interface ≡ interface) }
         ensures memory { IfErr result (λ refusal. refusal ≡ NoMemory) }
     {
+        let devices = DeviceRoutes::make(alloc)?;
         let manage = ManageRoutes::make(alloc)?;
-        Ok(Routes { interface, manage })
+        Ok(Routes {
+            interface,
+            devices,
+            manage,
+        })
+    }
+
+    /// What a message asks where both interfaces are served.
+    fn read_either(&self, message: &Message<'_>) -> Result<Request, Refusal>
+        ensures ok { IfOk result (λ request. reading_by (device_call (path_of (message_of message.now).target)) (message_of message.now) ≡ Asks (request_of request)) }
+        ensures err { IfErr result (λ refusal. (refusal ≡ NoMemory) ⊎ (reading_by (device_call (path_of (message_of message.now).target)) (message_of message.now) ≡ Rejected refusal)) }
+        ensures no_store { IfErr result (λ refusal. refusal ≢ StoreFailed) }
+    {
+        match self.devices.find(message.path()) {
+            Some(_) => read_device(&self.devices, message),
+            None => read_manage(&self.manage, message),
+        }
     }
 
     /// What a message asks, or its refusal.
@@ -38,7 +59,9 @@ impl Routes {
         ensures no_store { IfErr result (λ refusal. refusal ≢ StoreFailed) }
     {
         match self.interface {
+            Interface::Devices => read_device(&self.devices, message),
             Interface::Management => read_manage(&self.manage, message),
+            Interface::Both => self.read_either(message),
         }
     }
 }

@@ -1,9 +1,10 @@
 //! Cancels, and what becomes of single actions.
 
-ghost use Rattle.std.specs.Prelude.{◌≡◌, true, Some, None, IfSome, MatchResult};
+ghost use Rattle.std.specs.Prelude.{◌≡◌, true, Some, None, IfOk, IfSome, MatchResult};
 ghost use Rattle.rollout_machine.specs.Commands.{Cancel as CancelCommand};
-ghost use Rattle.campaign_core.specs.RolloutChecks.{cancel_refusal, change_by, ended_by, outcome_forced, Decides};
+ghost use Rattle.campaign_core.specs.RolloutChecks.{cancel_refusal, change_by, ended_by, outcome_forced, Decides, MakesCancel};
 ghost use Rattle.campaign_core.specs.declared.rollout_checks.RolloutCommandView.TheVariants as seen;
+ghost use Rattle.campaign_core.specs.declared.rollout_checks.RolloutChange.TheVariants as made;
 
 use super::RolloutChange;
 use crate::effects::after_feedback;
@@ -101,8 +102,9 @@ fn after_cancel(view: &Option<CancelView>, force: bool) -> Result<ActionChange, 
 }
 
 /// The verdict on the cancel of an action.
-pub(crate) fn cancel(view: &Option<CancelView>, cancel: &Cancel) -> Result<RolloutChange, Refusal>
-    ensures { Decides (seen.Cancel view.now) (CancelCommand cancel.now.target cancel.now.action cancel.now.force) result }
+pub fn cancel(view: &Option<CancelView>, cancel: &Cancel) -> Result<RolloutChange, Refusal>
+    ensures decides { Decides (seen.Cancel view.now) (CancelCommand cancel.now.target cancel.now.action cancel.now.force) result }
+    ensures makes { IfOk result (λ change. (c : _) × (change ≡ made.Cancel c) × MakesCancel view.now cancel.now.force c) }
 {
     let change = after_cancel(view, cancel.force)?;
     Ok(RolloutChange::Cancel(change))

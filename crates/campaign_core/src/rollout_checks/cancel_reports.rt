@@ -1,11 +1,12 @@
 //! What devices report of cancels.
 
-ghost use Rattle.std.specs.Prelude.{◌≡◌, [], Some, None, MatchResult};
+ghost use Rattle.std.specs.Prelude.{◌≡◌, [], Some, None, IfOk, MatchResult};
 ghost use Rattle.rollout_machine.specs.Actions.{outcome_of_cancel, CancelEntry};
 ghost use Rattle.rollout_machine.specs.Commands.{CancelFeedback};
 ghost use Rattle.rollout_machine.specs.Verdicts.{is_note};
-ghost use Rattle.campaign_core.specs.RolloutChecks.{cancel_feedback_refusal, canceling_after, change_if_open, Decides};
+ghost use Rattle.campaign_core.specs.RolloutChecks.{cancel_feedback_refusal, canceling_after, change_if_open, Decides, MakesReport};
 ghost use Rattle.campaign_core.specs.declared.rollout_checks.RolloutCommandView.TheVariants as seen;
+ghost use Rattle.campaign_core.specs.declared.rollout_checks.RolloutChange.TheVariants as made;
 
 use super::RolloutChange;
 use super::actions::{ActionChange, change};
@@ -69,11 +70,12 @@ fn after_cancel_feedback(
 }
 
 /// The verdict on a report of a cancel.
-pub(crate) fn cancel_feedback(
+pub fn cancel_feedback(
     view: &ReportView,
     report: &Report<CancelWord>,
 ) -> Result<RolloutChange, Refusal>
-    ensures { Decides (seen.CancelFeedback view.now) (CancelFeedback report.now) result }
+    ensures decides { Decides (seen.CancelFeedback view.now) (CancelFeedback report.now) result }
+    ensures makes { IfOk result (λ change. (c : _) × (change ≡ made.CancelFeedback c) × MakesReport view.now (outcome_of_cancel report.now.word) (canceling_after report.now.word) c) }
 {
     let reported = reported_action(view)?;
     let change = after_cancel_feedback(&reported, report.word)?;

@@ -1,10 +1,11 @@
 //! What devices report of deployments.
 
-ghost use Rattle.std.specs.Prelude.{◌≡◌, Some, None, MatchResult};
+ghost use Rattle.std.specs.Prelude.{◌≡◌, Some, None, IfOk, MatchResult};
 ghost use Rattle.rollout_machine.specs.Actions.{outcome_of_deployment};
 ghost use Rattle.rollout_machine.specs.Commands.{Feedback};
-ghost use Rattle.campaign_core.specs.RolloutChecks.{change_if_open, feedback_refusal, Decides};
+ghost use Rattle.campaign_core.specs.RolloutChecks.{change_if_open, feedback_refusal, Decides, MakesReport};
 ghost use Rattle.campaign_core.specs.declared.rollout_checks.RolloutCommandView.TheVariants as seen;
+ghost use Rattle.campaign_core.specs.declared.rollout_checks.RolloutChange.TheVariants as made;
 
 use super::RolloutChange;
 use super::actions::{ActionChange, change};
@@ -45,11 +46,12 @@ fn after_feedback(
 }
 
 /// The verdict on a report of a deployment.
-pub(crate) fn feedback(
+pub fn feedback(
     view: &ReportView,
     report: &Report<DeploymentWord>,
 ) -> Result<RolloutChange, Refusal>
-    ensures { Decides (seen.Feedback view.now) (Feedback report.now) result }
+    ensures decides { Decides (seen.Feedback view.now) (Feedback report.now) result }
+    ensures makes { IfOk result (λ change. (c : _) × (change ≡ made.Feedback c) × MakesReport view.now (outcome_of_deployment report.now.word) (λ canceling. canceling) c) }
 {
     let reported = reported_action(view)?;
     let change = after_feedback(&reported, report.word)?;

@@ -52,8 +52,8 @@ fn first_approval(approval: bool) -> Approval
     }
 }
 
-/// The rollout that is created, or the first refusal that applies.
-fn new_rollout(view: &PlanView, groups: u32) -> Result<NewRollout, Refusal>
+/// The rollout that is created in so many groups, or the first refusal that applies.
+pub fn new_rollout(view: &PlanView, groups: u32) -> Result<NewRollout, Refusal>
     ensures { MatchResult result
         (λ n. (plan_refusal view.now groups ≡ None) × (n ≡ record { number = view.now.count + 1; approval = approval_at view.now.approval }))
         (λ refusal. plan_refusal view.now groups ≡ Some refusal) }
@@ -80,7 +80,7 @@ fn new_rollout(view: &PlanView, groups: u32) -> Result<NewRollout, Refusal>
 }
 
 /// The verdict on the creation of a rollout.
-pub(crate) fn create(view: &PlanView, plan: &RolloutPlan) -> Result<RolloutChange, Refusal>
+pub fn create(view: &PlanView, plan: &RolloutPlan) -> Result<RolloutChange, Refusal>
     ensures { Decides (seen.Create view.now) (CreateRollout plan.now) result }
 {
     let created = new_rollout(view, plan.groups.get())?;

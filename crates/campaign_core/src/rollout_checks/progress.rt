@@ -30,7 +30,7 @@ pub struct TriggerView {
 }
 
 /// The verdict on a resume of a rollout.
-pub(crate) fn resume(view: &Option<ResumeView>) -> Result<RolloutChange, Refusal>
+pub fn resume(view: &Option<ResumeView>) -> Result<RolloutChange, Refusal>
     ensures { (r : ℕ) → Decides (seen.Resume view.now) (Resume r) result }
 {
     let Some(view) = view else {
@@ -41,7 +41,7 @@ pub(crate) fn resume(view: &Option<ResumeView>) -> Result<RolloutChange, Refusal
 }
 
 /// The verdict on a trigger of a rollout's next group.
-pub(crate) fn trigger(view: &Option<TriggerView>) -> Result<RolloutChange, Refusal>
+pub fn trigger(view: &Option<TriggerView>) -> Result<RolloutChange, Refusal>
     ensures { (r : ℕ) → Decides (seen.TriggerNext view.now) (TriggerNext r) result }
 {
     let Some(view) = view else {

@@ -61,7 +61,7 @@ pub(crate) fn must_be_paused(word: Option<RolloutWord>) -> Result<(), Refusal>
 }
 
 /// The verdict on the approval of a rollout.
-pub(crate) fn approve(view: &StandingView) -> Result<RolloutChange, Refusal>
+pub fn approve(view: &StandingView) -> Result<RolloutChange, Refusal>
     ensures { (r : ℕ) → Decides (seen.Approve view.now) (Approve r) result }
 {
     must_wait(view.word)?;
@@ -69,7 +69,7 @@ pub(crate) fn approve(view: &StandingView) -> Result<RolloutChange, Refusal>
 }
 
 /// The verdict on the denial of a rollout.
-pub(crate) fn deny(view: &StandingView) -> Result<RolloutChange, Refusal>
+pub fn deny(view: &StandingView) -> Result<RolloutChange, Refusal>
     ensures { (r : ℕ) → Decides (seen.Deny view.now) (Deny r) result }
 {
     must_wait(view.word)?;
@@ -77,7 +77,7 @@ pub(crate) fn deny(view: &StandingView) -> Result<RolloutChange, Refusal>
 }
 
 /// The verdict on the start of a rollout.
-pub(crate) fn start(view: &StandingView) -> Result<RolloutChange, Refusal>
+pub fn start(view: &StandingView) -> Result<RolloutChange, Refusal>
     ensures { (r : ℕ) → Decides (seen.Start view.now) (Start r) result }
 {
     must_be_ready(view.word)?;
@@ -85,7 +85,7 @@ pub(crate) fn start(view: &StandingView) -> Result<RolloutChange, Refusal>
 }
 
 /// The verdict on a pause of a rollout.
-pub(crate) fn pause(view: &StandingView) -> Result<RolloutChange, Refusal>
+pub fn pause(view: &StandingView) -> Result<RolloutChange, Refusal>
     ensures { (r : ℕ) → Decides (seen.Pause view.now) (Pause r) result }
 {
     must_run(view.word)?;

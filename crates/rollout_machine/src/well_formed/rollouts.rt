@@ -1,37 +1,12 @@
 //! What the types of the parts of a command on rollouts promise.
 
 ghost use Rattle.std.specs.Prelude.{◌≡◌, ◌&&◌, true};
-ghost use Rattle.rollout_machine.specs.CommandRules.{IsWellFormed, is_credential, is_plan};
-ghost use Rattle.rollout_machine.specs.Views.{rollout_command_of};
+ghost use Rattle.rollout_machine.specs.CommandRules.{is_credential, is_plan};
 ghost use Rattle.rollout_model.specs.Rules.{are_details, is_number, is_word};
 
-use rollout_model::{
-    ActionNo, Cancel, Credential, Details, RolloutCommand, RolloutNo, RolloutPlan,
-};
+use rollout_model::{ActionNo, Cancel, Credential, Details, RolloutNo, RolloutPlan};
 
-/// Every command on rollouts keeps the rules of commands: its parts' types keep theirs.
-pub fn rollout_command_is_well_formed(command: &RolloutCommand)
-    ensures { IsWellFormed (rollout_command_of command.now) }
-{
-    match command {
-        RolloutCommand::Create(plan) => plan_is_well_formed(plan),
-        RolloutCommand::Approve(number)
-        | RolloutCommand::Deny(number)
-        | RolloutCommand::Start(number)
-        | RolloutCommand::Pause(number)
-        | RolloutCommand::Resume(number)
-        | RolloutCommand::TriggerNext(number) => number_is_well_formed(*number),
-        RolloutCommand::Cancel(cancel) => cancel_is_well_formed(cancel),
-        RolloutCommand::Feedback(report) => {
-            report_is_well_formed(&report.credential, report.action, &report.details)
-        }
-        RolloutCommand::CancelFeedback(report) => {
-            report_is_well_formed(&report.credential, report.action, &report.details)
-        }
-    }
-}
-
-fn plan_is_well_formed(plan: &RolloutPlan)
+pub(super) fn plan_is_well_formed(plan: &RolloutPlan)
     ensures { is_plan plan.now ≡ true }
 {
     let _name = plan.name.as_str();
@@ -42,20 +17,20 @@ fn plan_is_well_formed(plan: &RolloutPlan)
     let _error = plan.error.get();
 }
 
-fn number_is_well_formed(number: RolloutNo)
+pub(super) fn number_is_well_formed(number: RolloutNo)
     ensures { is_number number ≡ true }
 {
     let _number = number.get();
 }
 
-fn cancel_is_well_formed(cancel: &Cancel)
+pub(super) fn cancel_is_well_formed(cancel: &Cancel)
     ensures { (is_word cancel.now.target && is_number cancel.now.action) ≡ true }
 {
     let _target = cancel.target.as_str();
     let _action = cancel.action.get();
 }
 
-fn report_is_well_formed(credential: &Credential, action: ActionNo, details: &Details)
+pub(super) fn report_is_well_formed(credential: &Credential, action: ActionNo, details: &Details)
     ensures { (is_credential credential.now && (is_number action && are_details details.now)) ≡ true }
 {
     let _id = credential.id.as_str();

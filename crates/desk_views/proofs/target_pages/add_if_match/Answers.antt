@@ -1,5 +1,5 @@
 use Rattle.std.proofs.Common.{ap, ◌∙◌}
-use Rattle.sql_calls.proofs.Composing.{read_but_fails, reads_as}
+use Rattle.sql_calls.proofs.Composing.{both_read, reads_as, second_fails}
 use Rattle.desk_records.specs.Holds.{HoldsRecords}
 use Rattle.rollout_machine.specs.Objects.{page_of}
 use Rattle.desk_views.proofs.TargetPages.{match_added, match_left}
@@ -11,9 +11,9 @@ returns-then-not-matches-clause-reads g c =
     (λ r is f tree all was. was ∙ ap (page_of c.args.page) (match_left r f c.args.filter.now c.in_ok-target.target _ _ c.matches-matches.ensures.computed tree is all c.if-not-matches.true))
 
 pub returns-in_err-add-clause-reads : goal.returns-in_err-add-clause-reads
-returns-in_err-add-clause-reads g c = read_but_fails HoldsRecords _ _ _ _ _ c.in_ok-target.ensures.reads _ c.from_residual-in_err-add.ensures.0
+returns-in_err-add-clause-reads g c = second_fails HoldsRecords _ _ _ _ _ _ _ _ c.in_ok-target.ensures.reads c.in_err-add.ensures.reads _ c.from_residual-in_err-add.ensures.0
 
 pub returns-clause-reads : goal.returns-clause-reads
 returns-clause-reads g c =
-    reads_as HoldsRecords _ _ _ _ _ _ c.in_ok-target.ensures.reads
-    (λ r is f tree all was. rw c.shown_unassigned.ensures at (c.in_ok-add.ensures all was) ∙ ap (page_of c.args.page) (match_added r f c.args.filter.now c.in_ok-target.target _ _ c.matches-matches.ensures.computed tree is all c.if-not-matches.false))
+    reads_as HoldsRecords _ _ _ _ _ _ (both_read HoldsRecords _ _ _ _ _ _ _ c.in_ok-target.ensures.reads c.in_ok-add.ensures.reads)
+    (λ r is f tree all was. is.1 all was ∙ ap (page_of c.args.page) (match_added r f c.args.filter.now c.in_ok-target.target _ _ c.matches-matches.ensures.computed tree is.0 all c.if-not-matches.false))

@@ -20,4 +20,4 @@ pub returns-clause-reads : goal.returns-clause-reads
 returns-clause-reads g c =
     let given = all_given c.into_iter-entry-iterator.result _ c.next.new.self _ _ c.into_iter-entry-iterator.ensures.into_iter_gives.0 c.loop-entry.yielded_by c.in-None.ensures.steps in
     reads_as HoldsRecords _ _ _ _ _ _ c.loop-entry.invariant.reads
-    (λ r is f tree all was. is f tree all was ∙ ap (λ l. page_of c.args.page (all ++ matching_shown f (map (target_listed r) l))) given)
+    (λ r is f tree all was. is f tree all was ∙ ap (λ l. page_of c.args.page (all ++ matching_shown r f (map (target_listed r) l))) given)

@@ -14,5 +14,5 @@ abbrev pub invariant-loop-entry : goal.invariant-loop-entry
 invariant-loop-entry g l = record {
   same_reference : l.change.store.ghost_name ≡ l.fn.change.store.ghost_name;
   reads : ReadsIn g.S.Store {A = Unit {0}} {E = Fault} l.fn.change l.change (Ok tt)
-      (λ r _. (f : Tree) → filter_of l.filter ≡ Some f → (all : List ShownTarget) → listed l.fn.shown ≡ page_of l.page all → listed l.shown ≡ page_of l.page (all ++ matching_shown f (map (target_listed r) l.yielded)));
+      (λ r _. (f : Tree) → filter_of l.filter ≡ Some f → (all : List ShownTarget) → listed l.fn.shown ≡ page_of l.page all → listed l.shown ≡ page_of l.page (all ++ matching_shown r f (map (target_listed r) l.yielded)));
 }

@@ -1,6 +1,6 @@
 use Rattle.std.proofs.Common.{◌≡◌, Ok, map}
 use Rattle.sql_calls.specs.declared.fault.Fault.{Fault}
-use Rattle.desk_views.specs.Targets.{target_listed, unassigned}
+use Rattle.desk_views.specs.Targets.{target_listed, worded}
 use Rattle.desk_store.specs.Changing.{ReadsIn}
 use Rattle.desk_views.proofs.target_pages.read_entries.Given as goal
 
@@ -9,5 +9,5 @@ abbrev pub invariant-loop-entry : goal.invariant-loop-entry
 invariant-loop-entry g l = record {
   same_reference : l.change.store.ghost_name ≡ l.fn.change.store.ghost_name;
   reads : ReadsIn g.S.Store {E = Fault} l.fn.change l.change (Ok l.content.items)
-      (λ r items. items ≡ map unassigned (map (target_listed r) l.yielded));
+      (λ r items. items ≡ map (worded r) (map (target_listed r) l.yielded));
 }

@@ -17,9 +17,9 @@ pub loop-chunk-preserved : goal.loop-chunk-preserved
 loop-chunk-preserved g c = record {
   same_reference = search rules;
   reads = reads_as HoldsRecords _ _ _ _ _ _ (both_read HoldsRecords _ _ _ _ _ _ _ c.loop-chunk.invariant.reads c.in_ok-add_chunk.ensures.reads)
-      (λ r is. (is.0.0, λ f tree. next_chunk c.args.page f r.targets c.loop-chunk.shown c.add_chunk.new.shown c.loop-chunk.chunk c.in-Some.offset (search rules) (is.1 f tree) (is.0.1 f tree)));
+      (λ r is. (is.0.0, λ f tree. next_chunk c.args.page f r c.loop-chunk.shown c.add_chunk.new.shown c.loop-chunk.chunk c.in-Some.offset (search rules) (is.1 f tree) (is.0.1 f tree)));
 }
 
 pub returns-clause-reads : goal.returns-clause-reads
 returns-clause-reads g c =
-    reads_as HoldsRecords _ _ _ _ _ _ c.loop-chunk.invariant.reads (λ r is f tree. last_chunk c.args.page f r.targets c.loop-chunk.shown c.loop-chunk.chunk c.in_ok-count.count (omega (arith, c.div_ceil-chunk-end.ensures)) is.0 (is.1 f tree))
+    reads_as HoldsRecords _ _ _ _ _ _ c.loop-chunk.invariant.reads (λ r is f tree. last_chunk c.args.page f r c.loop-chunk.shown c.loop-chunk.chunk c.in_ok-count.count (omega (arith, c.div_ceil-chunk-end.ensures)) is.0 (is.1 f tree))

@@ -14,5 +14,5 @@ abbrev pub invariant-loop-chunk : goal.invariant-loop-chunk
 invariant-loop-chunk g l = record {
   same_reference : l.change.store.ghost_name ≡ l.fn.change.store.ghost_name;
   reads : ReadsIn g.S.Store {A = Unit {0}} {E = Fault} l.fn.change l.change (Ok tt)
-      (λ r _. (l.count ≡ length r.targets) × ((f : Tree) → filter_of l.filter ≡ Some f → listed l.shown ≡ page_of l.page (matching_shown f (map seen (take (l.chunk * 10000) r.targets)))));
+      (λ r _. (l.count ≡ length r.targets) × ((f : Tree) → filter_of l.filter ≡ Some f → listed l.shown ≡ page_of l.page (matching_shown r f (map seen (take (l.chunk * 10000) r.targets)))));
 }

@@ -13,5 +13,5 @@ returns-in_err-content-clause-reads g c =
 pub returns-clause-reads : goal.returns-clause-reads
 returns-clause-reads g c =
     reads_as HoldsRecords _ _ _ _ _ _
-    (read_held HoldsRecords _ _ _ _ _ (λ db r holds. holds.bare) (read_held HoldsRecords _ _ _ _ _ (λ db r holds. holds.sorted) (both_read HoldsRecords _ _ _ _ _ _ _ (both_read HoldsRecords _ _ _ _ _ _ _ c.in_ok-total.ensures.reads c.in_ok-entries.ensures.reads) c.in_ok-content.ensures.reads)))
-    (λ r is. all_replied r c.args.page c.in_ok-entries.entries.items c.in_ok-content.content c.in_ok-total.total is.0 is.1.0 is.1.1.0.0 is.1.1.0.1 is.1.1.1)
+    (read_held HoldsRecords _ _ _ _ _ (λ db r holds. holds.sorted) (both_read HoldsRecords _ _ _ _ _ _ _ (both_read HoldsRecords _ _ _ _ _ _ _ c.in_ok-total.ensures.reads c.in_ok-entries.ensures.reads) c.in_ok-content.ensures.reads))
+    (λ r is. all_replied r c.args.page c.in_ok-entries.entries.items c.in_ok-content.content c.in_ok-total.total is.0 is.1.0.0 is.1.0.1 is.1.1)

@@ -1,13 +1,16 @@
-use Rattle.std.proofs.Common.{◌∙◌}
+use Rattle.std.proofs.Common.{refl, ◌∙◌}
 use Rattle.std.proofs.lemmas.Result.{err_from_is_err_and}
 use Rattle.campaign_core.proofs.ReportLemmas.{cancel_feedback_changes, cancel_feedback_row, reported}
 use Rattle.campaign_core.proofs.rollout_checks.cancel_reports.cancel_feedback.Goals as goal
 
-pub returns-in_err-change : goal.returns-in_err-change
-returns-in_err-change c =
+pub returns-in_err-change-clause-decides : goal.returns-in_err-change-clause-decides
+returns-in_err-change-clause-decides c =
     let p = err_from_is_err_and c.from_residual-in_err-change.result c.from_residual-in_err-change.ensures.1 in
     rw (p.1, p.2)
     (λ rs sound is. cancel_feedback_row c.in_ok-reported.reported c.args.report.now rs (reported c.args.view.now c.in_ok-reported.reported _ _ rs c.in_ok-reported.ensures.0 c.in_ok-reported.ensures.1 is) ∙ c.in_err-change.ensures)
 
-pub returns : goal.returns
-returns c = cancel_feedback_changes c.args.view.now c.in_ok-reported.reported c.args.report.now c.in_ok-change.change c.in_ok-reported.ensures.0 c.in_ok-reported.ensures.1 c.in_ok-change.ensures.0 c.in_ok-change.ensures.1
+pub returns-clause-decides : goal.returns-clause-decides
+returns-clause-decides c = cancel_feedback_changes c.args.view.now c.in_ok-reported.reported c.args.report.now c.in_ok-change.change c.in_ok-reported.ensures.0 c.in_ok-reported.ensures.1 c.in_ok-change.ensures.0 c.in_ok-change.ensures.1
+
+pub returns-clause-makes : goal.returns-clause-makes
+returns-clause-makes c = (c.in_ok-change.change, refl, (c.in_ok-reported.reported, c.in_ok-reported.ensures.1, c.in_ok-change.ensures.1))

@@ -1,4 +1,6 @@
-use Rattle.std.proofs.Common.{subst, sym}
+use Rattle.std.proofs.Common.{◌≡◌, subst, sym}
+use Rattle.rollout_machine.specs.Replies.{Refused}
+use Rattle.rollout_model.specs.declared.refusal.Refusal.TheVariants.{Stopped}
 use Rattle.rollout_machine.specs.Requests.{Asks, Ask, ShowArtifact, ShowContents}
 use Rattle.rollout_machine.specs.Standing.{Applies}
 use Rattle.rollout_machine.specs.Views.{reply_of}
@@ -29,3 +31,9 @@ returns-in-Err-clause-refuses g c =
     let other = other_reply c.ask-reply.result c.in-Err.reply c.in-Err.ensures in
     subst (λ r. RefusesContents was now (ShowContents c.args.module_number c.args.number) (reply_of r)) other.0
     (refuses was now c.args.module_number c.args.number (reply_of c.ask-reply.result) other.1 c.ask-reply.ensures.applies)
+
+pub returns-in-Err-clause-stopped : goal.returns-in-Err-clause-stopped
+returns-in-Err-clause-stopped g c = λ over.
+    let it = c.ask-reply.ensures.stopped over in
+    let other = other_reply c.ask-reply.result c.in-Err.reply c.in-Err.ensures in
+    (subst (λ r. reply_of r ≡ Refused Stopped) other.0 it.0, it.1)

@@ -1,0 +1,18 @@
+use Rattle.std.proofs.Common.{◌≡◌, [], Result, Ok, Err, refl}
+use Rattle.std.proofs.KnownBytes.{Appends-nil}
+use Rattle.stream_server.specs.declared.served.ServeFault.{ServeFault}
+use Rattle.stream_server.specs.declared.served.ServeFault.TheVariants.{Memory, Write}
+use Rattle.desk_server.proofs.telling.tell_no_memory.Goals as goal
+
+other_fault : Memory ≡ Write → ⊥
+other_fault e = cc
+
+pub returns : goal.returns
+returns g c = λ text out failed. record {
+  outcome = Err Memory;
+  whole = tt;
+  part = ([], text, refl, Appends-nil out);
+  status_is = refl;
+  reports = rw c.fault_line.ensures at c.tell.ensures;
+  write_failed = (λ e. absurd (other_fault e), λ other. refl);
+}

@@ -1,0 +1,251 @@
+-- From typed reads to what a device is shown.
+use Rattle.std.proofs.Common.{◌≡◌, ℕ, zero, suc, ◌+◌, Bool, true, false, cond, not, ◌&&◌, ◌||◌, nat_eq, List, [], ◌∷◌, ◌++◌, map, find, Option, Some, None, Result, Ok, Err, refl, sym, ap, subst, ◌∙◌, arith, append_assoc, append-nil}
+use Rattle.std.proofs.lemmas.Bool.{or_parts, and_parts}
+use Rattle.std.proofs.lemmas.List.{map-append}
+use Rattle.std.specs.Cmp.Lexicographic.{pointwise}
+use Rattle.std.specs.List.{list_any, zip}
+use Rattle.std.specs.Option.{option_map}
+use Rattle.std.specs.Prelude.{IfOk, slice_get}
+use Rattle.sqlite.specs.Effect.{Database}
+use Rattle.sqlite.specs.State.{State}
+use Rattle.sql_calls.specs.Standing.{Reads}
+use Rattle.sql_calls.proofs.Composing.{both_read, read_in_vain, reads_as}
+use Rattle.desk_records.proofs.ByteOrder.{same_sym, sorted_from}
+use Rattle.desk_records.proofs.Targets.{has_id}
+use Rattle.desk_records.specs.Actions.{tally_of}
+use Rattle.desk_records.specs.RolloutRow.{stored_action, stored_rollout}
+use Rattle.desk_records.specs.TargetRow.{stored_target}
+use Rattle.desk_records.specs.Targets.{are_sorted, ids_of, in_byte_order}
+use Rattle.desk_records.specs.declared.rollout_row.StoredAction.{StoredAction}
+use Rattle.desk_records.specs.declared.rollout_row.StoredRollout.{StoredRollout}
+use Rattle.desk_records.specs.declared.target_row.StoredTarget.{StoredTarget}
+use Rattle.rollout_machine.proofs.Imports.{AllAbove, IsSorted, not_above}
+use Rattle.rollout_machine.proofs.TargetTies.{same_true}
+use Rattle.rollout_machine.specs.Answers.{artifact_named, for_device, if_found, is_offer_of, modules_offered, query_reply}
+use Rattle.rollout_machine.specs.ByteStrings.{contains_word, item_numbered, same_bytes}
+use Rattle.rollout_machine.specs.Commands.{Bytes, Credential}
+use Rattle.rollout_machine.specs.Objects.{artifact_shown, artifacts_shown, chunks_of, chunks_of_module, modules_of_action, modules_of_rollout, modules_of_set}
+use Rattle.rollout_machine.specs.Offers.{Offer, offer}
+use Rattle.rollout_machine.specs.Records.{ArtifactRecord, Records}
+use Rattle.rollout_machine.specs.declared.records.ActionRecord.{ActionRecord}
+use Rattle.rollout_machine.specs.declared.records.RolloutRecord.{RolloutRecord}
+use Rattle.rollout_machine.specs.Replies as shown
+use Rattle.rollout_machine.specs.Replies.{Artifact, Chunk, ContentsShown, Refused}
+use Rattle.rollout_machine.specs.Requests.{Download}
+use Rattle.rollout_machine.specs.Targets.{Target}
+use Rattle.rollout_machine.specs.Verdicts.{is_known, target_of}
+use Rattle.rollout_machine.specs.Views.{chunk}
+use Rattle.rollout_model.specs.declared.refusal.Refusal.{Refusal}
+use Rattle.rollout_model.specs.declared.refusal.Refusal.TheVariants.{NotFound, Unauthorized}
+use Rattle.rollout_model.specs.declared.rollout.Chunk.{Chunk as SeenChunk}
+use Rattle.desk_views.specs.Contents.{contents_found}
+use Rattle.desk_views.specs.Downloads.{downloadable, named, or_not_found}
+
+-- ---- a read, and then what answers as it is
+
+module _ {R : Type 0} (Holds : Database → R → Type 0) where
+  pub read_then : {A B E F : Type 0} (a b c : State) (x : A) (out : Result B F) (P : R → A → Type 0) (Q S : R → B → Type 0) → Reads Holds {E = E} a b (Ok x) P → Reads Holds b c out Q → ((r : R) (y : B) → P r x → Q r y → S r y) → Reads Holds a c out S
+  read_then a b c x (Ok y) P Q S first second means = reads_as Holds a c y y (λ r y. P r x × Q r y) S (both_read Holds a b c x y P Q first second) (λ r is. means r y is.0 is.1)
+  read_then a b c x (Err f) P Q S first second means = record { wears = omega (arith, first.wears, second.wears); reads = λ now kept was. second.reads now kept (first.reads now kept was).0 }
+
+  -- what is made of what was read
+  pub read_if : {A B E F : Type 0} (a b : State) (x : A) (out : Result B F) (P : R → A → Type 0) (Q : B → Type 0) {S : R → B → Type 0} → Reads Holds {E = E} a b (Ok x) P → IfOk out Q → ((r : R) (y : B) → P r x → Q y → S r y) → Reads Holds a b out S
+  read_if a b x (Ok y) P Q {S} read is means = reads_as Holds a b x y P S read (λ r it. means r y it is)
+  read_if a b x (Err f) P Q {S} read is means = read_in_vain Holds a b x P S read f
+
+-- ---- the device
+
+-- its id and its token's digest are those of the target
+abbrev is_of : Credential → Target → Bool
+is_of device x = same_bytes x.id device.id && same_bytes x.digest device.digest
+
+pub same_pointwise : (xs ys : Bytes) → pointwise nat_eq xs ys ≡ same_bytes xs ys
+same_pointwise [] [] = refl
+same_pointwise [] (y ∷ ys) = refl
+same_pointwise (x ∷ xs) [] = refl
+same_pointwise (x ∷ xs) (y ∷ ys) = ap (λ b. nat_eq x y && b) (same_pointwise xs ys)
+
+module _ (device : Credential) where
+  none_known : (ts : List Target) → contains_word device.id (ids_of ts) ≡ false → list_any (is_of device) ts ≡ false
+  none_known [] none = refl
+  none_known (t ∷ ts) none =
+      let parts = or_parts (same_bytes device.id t.id) (contains_word device.id (ids_of ts)) none in
+      let other = same_sym t.id device.id ∙ parts.0 in
+      let others = none_known ts parts.1 in
+      λ i. (other i && same_bytes t.digest device.digest) || others i
+
+  pub known_by : (stored : StoredTarget) (r : Records) → are_sorted r.targets ≡ true → Some stored ≡ option_map stored_target (target_of r device.id) → pointwise nat_eq stored.digest device.digest ≡ is_known r device
+  known_by stored r sorted read = same_pointwise stored.digest device.digest ∙ go r.targets (sorted_from (ids_of r.targets) (and_parts (in_byte_order (ids_of r.targets)) _ sorted).0) read where
+    go : (ts : List Target) → IsSorted (ids_of ts) → Some stored ≡ option_map stored_target (find (has_id device.id) ts) → same_bytes stored.digest device.digest ≡ list_any (is_of device) ts
+    go [] order is = absurd cc
+    go (t ∷ ts) order is = first (same_bytes t.id device.id) refl is (go ts order.1) where
+      or_none : (b : Bool) → b ≡ (b || false)
+      or_none true = refl
+      or_none false = refl
+
+      first : (s : Bool) → same_bytes t.id device.id ≡ s → Some stored ≡ option_map stored_target (cond s (Some t) (find (has_id device.id) ts))
+          → (Some stored ≡ option_map stored_target (find (has_id device.id) ts) → same_bytes stored.digest device.digest ≡ list_any (is_of device) ts) → same_bytes stored.digest device.digest ≡ ((s && same_bytes t.digest device.digest) || list_any (is_of device) ts)
+      first true same here rest =
+          let this : stored ≡ stored_target t = cc in
+          let none = none_known ts (ap (λ k. contains_word k (ids_of ts)) (sym (same_true t.id device.id same)) ∙ not_above t.id (ids_of ts) order.0) in
+          ap (λ (s : StoredTarget). same_bytes s.digest device.digest) this ∙ or_none (same_bytes t.digest device.digest) ∙ ap (λ b. same_bytes t.digest device.digest || b) (sym none)
+      first false apart later rest = rest later
+
+  pub unknown : (r : Records) → None ≡ option_map stored_target (target_of r device.id) → false ≡ is_known r device
+  unknown r read = go r.targets read where
+    go : (ts : List Target) → None ≡ option_map stored_target (find (has_id device.id) ts) → false ≡ list_any (is_of device) ts
+    go [] is = refl
+    go (t ∷ ts) is = first (same_bytes t.id device.id) is (go ts) where
+      first : (s : Bool) → None ≡ option_map stored_target (cond s (Some t) (find (has_id device.id) ts)) → (None ≡ option_map stored_target (find (has_id device.id) ts) → false ≡ list_any (is_of device) ts)
+          → false ≡ ((s && same_bytes t.digest device.digest) || list_any (is_of device) ts)
+      first true here rest = absurd cc
+      first false later rest = rest later
+
+  module _ (r : Records) where
+    pub turned_away : false ≡ is_known r device → (reply : shown.Reply) → Refused Unauthorized ≡ for_device r device reply
+    turned_away is reply = ap (λ b. cond b reply (Refused Unauthorized)) is
+
+    module _ (is : true ≡ is_known r device) where
+      pub answered : (reply : shown.Reply) → reply ≡ for_device r device reply
+      answered reply = ap (λ b. cond b reply (Refused Unauthorized)) is
+
+      -- by whether it is this action that is offered
+      module _ (k : ℕ) (canceling : Bool) (same : Bool) (found : Option Offer) (asked : same ≡ is_offer_of k canceling found) (read : found ≡ offer r device.id) (reply : shown.Reply) where
+        by_offer : (b : Bool) → same ≡ b → cond b reply (Refused NotFound) ≡ for_device r device (cond (is_offer_of k canceling (offer r device.id)) reply (Refused NotFound))
+        by_offer b this = ap (λ c. cond c reply (Refused NotFound)) (sym this ∙ asked ∙ ap (is_offer_of k canceling) read) ∙ answered (cond (is_offer_of k canceling (offer r device.id)) reply (Refused NotFound))
+
+        pub offered : same ≡ true → reply ≡ for_device r device (cond (is_offer_of k canceling (offer r device.id)) reply (Refused NotFound))
+        offered = by_offer true
+
+        pub not_offered : same ≡ false → Refused NotFound ≡ for_device r device (cond (is_offer_of k canceling (offer r device.id)) reply (Refused NotFound))
+        not_offered = by_offer false
+
+-- ---- chunks
+
+module _ (r : Records) where
+  chunks_join : (ms ns : List ℕ) → chunks_of r (ms ++ ns) ≡ chunks_of r ms ++ chunks_of r ns
+  chunks_join [] ns = refl
+  chunks_join (m ∷ ms) ns = ap (λ l. chunks_of_module r m (item_numbered r.modules m) ++ l) (chunks_join ms ns) ∙ sym (append_assoc (chunks_of_module r m (item_numbered r.modules m)) (chunks_of r ms) (chunks_of r ns))
+
+  pub chunks_grow : (old new : List SeenChunk) (ms : List ℕ) (m : ℕ) → map chunk old ≡ chunks_of r ms → map chunk new ≡ map chunk old ++ chunks_of_module r m (item_numbered r.modules m) → map chunk new ≡ chunks_of r (ms ++ m ∷ [])
+  chunks_grow old new ms m is one =
+      one ∙ ap (λ l. l ++ chunks_of_module r m (item_numbered r.modules m)) is ∙ ap (λ l. chunks_of r ms ++ l) (sym (append-nil (chunks_of_module r m (item_numbered r.modules m)))) ∙ sym (chunks_join ms (m ∷ []))
+
+  module _ (m : ℕ) (old : List SeenChunk) where
+    pub no_chunk : None ≡ item_numbered r.modules m → map chunk old ≡ map chunk old ++ chunks_of_module r m (item_numbered r.modules m)
+    no_chunk is = sym (append-nil (map chunk old)) ∙ ap (λ x. map chunk old ++ chunks_of_module r m x) is
+
+    pub one_chunk : (new : List SeenChunk) (c : SeenChunk) → Some c.label ≡ item_numbered r.modules m → c.module_number ≡ m → c.artifacts.items ≡ artifacts_shown m 1 r.artifacts → new ≡ old ++ c ∷ []
+        → map chunk new ≡ map chunk old ++ chunks_of_module r m (item_numbered r.modules m)
+    one_chunk new c labelled number artifacts one =
+        ap (map chunk) one ∙ map-append chunk old (c ∷ []) ∙ (λ i. map chunk old ++ (record { module_number = number i; label = c.label; artifacts = artifacts i }) ∷ []) ∙ ap (λ x. map chunk old ++ chunks_of_module r m x) labelled
+
+-- ---- modules of an action
+
+module _ (r : Records) where
+  -- the set of a rollout as it is kept
+  set_named : (k : ℕ) (found : Option StoredRollout) → found ≡ option_map stored_rollout (item_numbered r.rollouts k)
+      → option_map (λ (x : StoredRollout). x.plan.set_number) found ≡ option_map (λ (x : RolloutRecord). x.plan.set_number) (item_numbered r.rollouts k)
+  set_named k found is = ap (option_map (λ (x : StoredRollout). x.plan.set_number)) is ∙ go (item_numbered r.rollouts k) where
+    go : (x : Option RolloutRecord) → option_map (λ (s : StoredRollout). s.plan.set_number) (option_map stored_rollout x) ≡ option_map (λ (y : RolloutRecord). y.plan.set_number) x
+    go None = refl
+    go (Some x) = refl
+
+  module _ (k : ℕ) (found : Option StoredRollout) (is : found ≡ option_map stored_rollout (item_numbered r.rollouts k)) where
+    pub no_rollout_modules : None ≡ option_map (λ (x : StoredRollout). x.plan.set_number) found → [] ≡ modules_of_rollout r (item_numbered r.rollouts k)
+    no_rollout_modules none = go (item_numbered r.rollouts k) (none ∙ set_named k found is) where
+      go : (x : Option RolloutRecord) → None ≡ option_map (λ (y : RolloutRecord). y.plan.set_number) x → [] ≡ modules_of_rollout r x
+      go None is = refl
+      go (Some x) is = absurd cc
+
+    pub rollout_modules : (n : ℕ) (ms : List ℕ) → Some n ≡ option_map (λ (x : StoredRollout). x.plan.set_number) found → ms ≡ modules_of_set (item_numbered r.sets n) → ms ≡ modules_of_rollout r (item_numbered r.rollouts k)
+    rollout_modules n ms some read = read ∙ go (item_numbered r.rollouts k) (some ∙ set_named k found is) where
+      go : (x : Option RolloutRecord) → Some n ≡ option_map (λ (y : RolloutRecord). y.plan.set_number) x → modules_of_set (item_numbered r.sets n) ≡ modules_of_rollout r x
+      go None is = absurd cc
+      go (Some x) is = let same : n ≡ x.plan.set_number = cc in ap (λ k. modules_of_set (item_numbered r.sets k)) same
+
+  -- an action as it is kept, beside its counts
+  kept_at : (actions : List ActionRecord) (k : ℕ) → slice_get (zip actions (map tally_of actions)) k ≡ option_map (λ a. (a, tally_of a)) (slice_get actions k)
+  kept_at [] k = refl
+  kept_at (a ∷ more) zero = refl
+  kept_at (a ∷ more) (suc k) = kept_at more k
+
+  kept_numbered : (k : ℕ) → item_numbered (zip r.actions (map tally_of r.actions)) k ≡ option_map (λ a. (a, tally_of a)) (item_numbered r.actions k)
+  kept_numbered zero = refl
+  kept_numbered (suc k) = kept_at r.actions k
+
+  abbrev pub found_action : ℕ → Option StoredAction
+  found_action k = option_map (stored_action r.rollouts) (item_numbered (zip r.actions (map tally_of r.actions)) k)
+
+  pub no_action_modules : (k : ℕ) → None ≡ found_action k → [] ≡ modules_of_action r (item_numbered r.actions k)
+  no_action_modules k is = go (item_numbered r.actions k) (is ∙ ap (option_map (stored_action r.rollouts)) (kept_numbered k)) where
+    go : (x : Option ActionRecord) → None ≡ option_map (stored_action r.rollouts) (option_map (λ a. (a, tally_of a)) x) → [] ≡ modules_of_action r x
+    go None is = refl
+    go (Some x) is = absurd cc
+
+  pub action_modules : (k : ℕ) (found : StoredAction) (ms : List ℕ) → Some found ≡ found_action k → ms ≡ modules_of_rollout r (item_numbered r.rollouts found.rollout) → ms ≡ modules_of_action r (item_numbered r.actions k)
+  action_modules k found ms is read = read ∙ go (item_numbered r.actions k) (is ∙ ap (option_map (stored_action r.rollouts)) (kept_numbered k)) where
+    go : (x : Option ActionRecord) → Some found ≡ option_map (stored_action r.rollouts) (option_map (λ a. (a, tally_of a)) x) → modules_of_rollout r (item_numbered r.rollouts found.rollout) ≡ modules_of_action r x
+    go None is = absurd cc
+    go (Some a) is = let same : found ≡ stored_action r.rollouts (a, tally_of a) = cc in ap (λ (s : StoredAction). modules_of_rollout r (item_numbered r.rollouts s.rollout)) same
+
+-- ---- downloads
+
+module _ (m : ℕ) (filename : Bytes) where
+  abbrev has_name : Artifact → Bool
+  has_name a = same_bytes a.filename filename
+
+  -- the first of these artifacts that has the name is shown by its number among all
+  abbrev IsShown : List ArtifactRecord → Option Artifact → Option ArtifactRecord → Type 0
+  IsShown all None x = x ≡ None
+  IsShown all (Some s) x = (a : ArtifactRecord) × (x ≡ Some a) × (item_numbered all s.number ≡ Some a) × (s.size ≡ a.size)
+
+  first_shown : (all : List ArtifactRecord) (n : ℕ) (xs : List ArtifactRecord) → ((k : ℕ) → item_numbered all (n + k) ≡ slice_get xs k) → IsShown all (find has_name (artifacts_shown m n xs)) (artifact_named m filename xs)
+  first_shown all n [] at = refl
+  first_shown all n (a ∷ xs) at = go (nat_eq a.module_number m) (first_shown all (suc n) xs (λ k. ap (item_numbered all) (omega arith) ∙ at (suc k))) where
+    go : (b : Bool) → IsShown all (find has_name (artifacts_shown m (suc n) xs)) (artifact_named m filename xs)
+        → IsShown all (find has_name (cond b (artifact_shown n a ∷ artifacts_shown m (suc n) xs) (artifacts_shown m (suc n) xs))) (cond (b && same_bytes a.filename filename) (Some a) (artifact_named m filename xs))
+    go false rest = rest
+    go true rest = this_one (same_bytes a.filename filename) rest where
+      this_one : (c : Bool) → IsShown all (find has_name (artifacts_shown m (suc n) xs)) (artifact_named m filename xs)
+          → IsShown all (cond c (Some (artifact_shown n a)) (find has_name (artifacts_shown m (suc n) xs))) (cond c (Some a) (artifact_named m filename xs))
+      this_one true rest = (a, refl, ap (item_numbered all) (omega arith) ∙ at 0, refl)
+      this_one false rest = rest
+
+  -- the reply to a query for the contents, where this was found
+  abbrev pub IsAnswered : Records → Result Artifact Refusal → shown.Reply → Type 0
+  IsAnswered r (Ok s) reply = (a : ArtifactRecord) × (reply ≡ ContentsShown a.contents) × (item_numbered r.artifacts s.number ≡ Some a) × (s.size ≡ a.size)
+  IsAnswered r (Err refusal) reply = reply ≡ Refused refusal
+
+  module _ (r : Records) (device : Credential) where
+    pub not_known : false ≡ is_known r device → Err Unauthorized ≡ downloadable r device m filename
+    not_known is = ap (λ b. cond b (cond (list_any (λ n. nat_eq n m) (modules_offered r (offer r device.id))) (named filename (artifacts_shown m 1 r.artifacts)) (Err NotFound)) (Err Unauthorized)) is
+
+    -- by whether the module is among those that are offered
+    module _ (is : true ≡ is_known r device) (modules : List ℕ) (offers : modules ≡ modules_offered r (offer r device.id)) (among : Bool) (asked : among ≡ list_any (λ n. nat_eq n m) modules) where
+      by_module : (b : Bool) → among ≡ b → cond b (named filename (artifacts_shown m 1 r.artifacts)) (Err NotFound) ≡ downloadable r device m filename
+      by_module b this =
+          ap (λ c. cond c (named filename (artifacts_shown m 1 r.artifacts)) (Err NotFound)) (sym this ∙ asked ∙ ap (list_any (λ n. nat_eq n m)) offers)
+          ∙ ap (λ c. cond c (cond (list_any (λ n. nat_eq n m) (modules_offered r (offer r device.id))) (named filename (artifacts_shown m 1 r.artifacts)) (Err NotFound)) (Err Unauthorized)) is
+
+      pub is_named : among ≡ true → named filename (artifacts_shown m 1 r.artifacts) ≡ downloadable r device m filename
+      is_named = by_module true
+
+      pub not_among : among ≡ false → Err NotFound ≡ downloadable r device m filename
+      not_among = by_module false
+
+    by_name : (x : Option Artifact) (y : Option ArtifactRecord) → IsShown r.artifacts x y → IsAnswered r (or_not_found x) (if_found (λ (a : ArtifactRecord). ContentsShown a.contents) y)
+    by_name None y is = ap (if_found (λ (a : ArtifactRecord). ContentsShown a.contents)) is
+    by_name (Some s) y is = (is.0, ap (if_found (λ (a : ArtifactRecord). ContentsShown a.contents)) is.1, is.2, is.3)
+
+    pub answered_by : (found : Result Artifact Refusal) → found ≡ downloadable r device m filename → IsAnswered r found (query_reply r (Download device m filename))
+    answered_by found is = subst (λ (x : Result Artifact Refusal). IsAnswered r x (query_reply r (Download device m filename))) (sym is) (go (is_known r device) (list_any (λ n. nat_eq n m) (modules_offered r (offer r device.id)))) where
+      go : (known among : Bool) → IsAnswered r (cond known (cond among (named filename (artifacts_shown m 1 r.artifacts)) (Err NotFound)) (Err Unauthorized))
+          (cond known (cond among (if_found (λ (a : ArtifactRecord). ContentsShown a.contents) (artifact_named m filename r.artifacts)) (Refused NotFound)) (Refused Unauthorized))
+      go true true = by_name (find has_name (artifacts_shown m 1 r.artifacts)) (artifact_named m filename r.artifacts) (first_shown r.artifacts 1 r.artifacts (λ k. ap (item_numbered r.artifacts) {y = suc k} (omega arith)))
+      go true false = refl
+      go false among = refl
+
+    -- with the contents of the artifact that was found
+    pub downloaded : (s : Artifact) (contents : Bytes) → Ok s ≡ downloadable r device m filename → contents ≡ contents_found (item_numbered r.artifacts s.number) → ContentsShown contents ≡ query_reply r (Download device m filename)
+    downloaded s contents is read = let it = answered_by (Ok s) is in ap ContentsShown (read ∙ ap contents_found it.2) ∙ sym it.1

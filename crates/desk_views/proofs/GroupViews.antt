@@ -1,0 +1,56 @@
+-- From groups that were read to what is shown of them.
+use Rattle.std.proofs.Common.{◌≡◌, ℕ, List, [], ◌∷◌, map, length, take, drop, Option, Some, None, refl, sym, ap, ◌∙◌}
+use Rattle.std.proofs.lemmas.List.{drop-map, length-map, take-map}
+use Rattle.rollout_machine.specs.Answers.{group_reply, if_found}
+use Rattle.rollout_machine.specs.Objects.{group_shown, groups_shown, page_of}
+use Rattle.rollout_machine.specs.Replies.{PageOf, Refused, Reply, ShownGroup}
+use Rattle.rollout_machine.specs.Requests.{Page}
+use Rattle.rollout_machine.specs.StateWords.{GroupWord, group_numbered, size_of_group}
+use Rattle.rollout_machine.specs.declared.records.GroupRecord.{GroupRecord}
+use Rattle.rollout_machine.specs.declared.records.RolloutRecord.{RolloutRecord}
+use Rattle.rollout_model.specs.declared.refusal.Refusal.TheVariants.{NotFound}
+use Rattle.rollout_model.specs.declared.rollout_plan.RolloutPlan.{RolloutPlan}
+use Rattle.campaign_core.specs.StatusWords.{group_word_from}
+use Rattle.desk_records.specs.Parts.{parts_of}
+use Rattle.desk_views.specs.Rollouts.{IsSeenOf}
+use Rattle.desk_views.specs.declared.rollouts.SeenRollout.{SeenRollout}
+
+pub group_is : (seen : SeenRollout) (x : RolloutRecord) → IsSeenOf seen x → (g : GroupRecord) (size : ℕ) (word : GroupWord) → size ≡ size_of_group g
+    → word ≡ group_word_from seen.started (record { started = g.started; size = size; ok = g.ok; bad = g.bad; gone = g.gone; error = seen.plan.error })
+    → record { number = g.number; size = size; ok = g.ok; bad = g.bad; gone = g.gone; word = word } ≡ group_shown x g
+group_is seen x of g size word is worded =
+    let error : seen.plan.error ≡ x.plan.error = ap (λ (p : RolloutPlan). p.error) of.plan in
+    let so : word ≡ group_word_from x.started (record { started = g.started; size = size_of_group g; ok = g.ok; bad = g.bad; gone = g.gone; error = x.plan.error }) =
+    worded ∙ (λ i. group_word_from (of.started i) (record { started = g.started; size = is i; ok = g.ok; bad = g.bad; gone = g.gone; error = error i })) in
+    λ i. record { number = g.number; size = is i; ok = g.ok; bad = g.bad; gone = g.gone; word = so i }
+
+pub groups_mapped : (x : RolloutRecord) (gs : List GroupRecord) → groups_shown x gs ≡ map (group_shown x) gs
+groups_mapped x [] = refl
+groups_mapped x (g ∷ gs) = ap (λ (l : List ShownGroup). group_shown x g ∷ l) (groups_mapped x gs)
+
+-- those of a part
+pub part_mapped : {X Y : Type 0} (f : X → Y) (limit offset : ℕ) (all part : List X) → part ≡ take limit (drop offset all) → map f part ≡ take limit (drop offset (map f all))
+part_mapped f limit offset all part is = ap (map f) is ∙ sym (take-map f limit (drop offset all)) ∙ ap (take limit) (sym (drop-map f offset all))
+
+pub page_is : (page : Page) (x : RolloutRecord) (groups part : List GroupRecord) (content : List ShownGroup) (total : ℕ) → groups ≡ x.groups → part ≡ take page.limit (drop page.offset groups) → content ≡ map (group_shown x) part → total ≡ length groups
+    → record { content = content; total = total } ≡ page_of page (map (group_shown x) x.groups)
+page_is page x groups part content total same is shown count =
+    let all : map (group_shown x) groups ≡ map (group_shown x) x.groups = ap (map (group_shown x)) same in
+    let here : content ≡ take page.limit (drop page.offset (map (group_shown x) x.groups)) = shown ∙ part_mapped (group_shown x) page.limit page.offset groups part is ∙ ap (λ l. take page.limit (drop page.offset l)) all in
+    let many : total ≡ length (map (group_shown x) x.groups) = count ∙ sym (length-map groups (group_shown x)) ∙ ap length all in
+    λ i. record { content = here i; total = many i }
+
+pub groups_paged : (page : Page) (x : RolloutRecord) (shown : PageOf ShownGroup) → shown ≡ page_of page (map (group_shown x) x.groups) → shown ≡ page_of page (groups_shown x x.groups)
+groups_paged page x shown is = is ∙ ap (page_of page) (sym (groups_mapped x x.groups))
+
+-- ---- a group of a rollout
+
+module _ (reply : RolloutRecord → GroupRecord → Reply) where
+  pub no_group : (o : Option RolloutRecord) (i : ℕ) → None ≡ group_numbered i (parts_of (λ (x : RolloutRecord). x.groups) o) → Refused NotFound ≡ if_found (λ x. group_reply x i (reply x)) o
+  no_group None i is = refl
+  no_group (Some x) i is = ap (if_found (reply x)) is
+
+  pub one_group : (o : Option RolloutRecord) (i : ℕ) (g : GroupRecord) (made : Reply) → Some g ≡ group_numbered i (parts_of (λ (x : RolloutRecord). x.groups) o) → ((x : RolloutRecord) → o ≡ Some x → Some g ≡ group_numbered i x.groups → made ≡ reply x g)
+      → made ≡ if_found (λ x. group_reply x i (reply x)) o
+  one_group None i g made is so = absurd cc
+  one_group (Some x) i g made is so = so x refl is ∙ ap (if_found (reply x)) is

@@ -1,0 +1,137 @@
+-- The members of a rollout of a list of accepted commands are targets.
+use Rattle.std.proofs.Common.{◌≡◌, ℕ, zero, suc, Bool, true, false, ◌||◌, cond, List, [], ◌∷◌, ◌++◌, map, filter, find, take, drop, Option, Some, None, refl, sym, ap, ◌∙◌}
+use Rattle.std.specs.Prelude.{slice_get}
+use Rattle.std.specs.List.{list_all}
+use Rattle.std.specs.Option.{is_some, unwrap_or}
+use Rattle.std.proofs.lemmas.Bool.{and_parts, false≢true}
+use Rattle.std.proofs.lemmas.List.Folds.{list_all-append}
+use Rattle.target_filter.specs.Profile.{filter_of}
+use Rattle.target_filter.specs.Grammar.{Tree}
+use Rattle.rollout_machine.specs.Answers.{target_if, targets_of}
+use Rattle.rollout_machine.specs.ByteStrings.{contains_word, item_numbered, same_bytes, with_words}
+use Rattle.rollout_machine.specs.CommandList.{CommandList, Make, ◌▸◌}
+use Rattle.rollout_machine.specs.Commands.{Bytes, Command, CreateRollout, TargetRow}
+use Rattle.rollout_machine.specs.Filters.{matches}
+use Rattle.rollout_machine.specs.Objects.{target_shown, targets_shown}
+use Rattle.rollout_machine.specs.Records.{Records, records}
+use Rattle.rollout_machine.specs.Replies.{ShownTarget}
+use Rattle.rollout_machine.specs.Rollouts.{Rollout, chosen, created, rollouts}
+use Rattle.rollout_machine.specs.Targets.{Target, import_rows_of, target_ids, target_in}
+use Rattle.rollout_machine.specs.Verdicts.{target_of}
+use Rattle.rollout_machine.specs.declared.records.RolloutRecord.{RolloutRecord}
+use Rattle.rollout_machine.proofs.Imports.{never_with}
+use Rattle.rollout_machine.proofs.TargetTies.{same_refl}
+use Rattle.desk_records.proofs.ByteOrder.{same_sym}
+use Rattle.desk_views.specs.Showing.{AreOfList}
+use Rattle.desk_views.proofs.ListLemmas.{made}
+
+-- ---- tests of lists
+
+all_so : {X : Type 0} (p q : X → Bool) → ((x : X) → p x ≡ true → q x ≡ true) → (xs : List X) → list_all p xs ≡ true → list_all q xs ≡ true
+all_so p q so [] all = refl
+all_so p q so (x ∷ xs) all = let parts = and_parts _ _ all in rw (so x parts.0, all_so p q so xs parts.1) refl
+
+all_at : {X : Type 0} (p : X → Bool) (xs : List X) (i : ℕ) (x : X) → list_all p xs ≡ true → slice_get xs i ≡ Some x → p x ≡ true
+all_at p [] i x all at = absurd cc
+all_at p (y ∷ ys) zero x all at = let same : y ≡ x = cc in sym (ap p same) ∙ (and_parts _ _ all).0
+all_at p (y ∷ ys) (suc i) x all at = all_at p ys i x (and_parts _ _ all).1 at
+
+all_taken : {X : Type 0} (p : X → Bool) (n : ℕ) (xs : List X) → list_all p xs ≡ true → list_all p (take n xs) ≡ true
+all_taken p zero xs all = refl
+all_taken p (suc n) [] all = refl
+all_taken p (suc n) (x ∷ xs) all = let parts : (p x ≡ true) × (list_all p xs ≡ true) = and_parts (p x) (list_all p xs) all in rw (parts.0, all_taken p n xs parts.1) refl
+
+all_dropped : {X : Type 0} (p : X → Bool) (n : ℕ) (xs : List X) → list_all p xs ≡ true → list_all p (drop n xs) ≡ true
+all_dropped p zero xs all = all
+all_dropped p (suc n) [] all = refl
+all_dropped p (suc n) (x ∷ xs) all = all_dropped p n xs (and_parts _ _ all).1
+
+-- ---- whom a list has chosen
+
+abbrev AllIn : List Bytes → List Bytes → Type 0
+AllIn ids ms = list_all (λ m. contains_word m ids) ms ≡ true
+
+stays_in : (m : Bytes) (ids news : List Bytes) → contains_word m ids ≡ true → contains_word m (with_words news ids) ≡ true
+stays_in m ids news is = go (contains_word m (with_words news ids)) refl where
+  go : (b : Bool) → contains_word m (with_words news ids) ≡ b → contains_word m (with_words news ids) ≡ true
+  go true e = e
+  go false e = absurd (false≢true (sym (never_with m news ids e) ∙ is))
+
+later_in : (u m : Bytes) (ids : List Bytes) → contains_word m ids ≡ true → contains_word m (u ∷ ids) ≡ true
+later_in u m ids is = rw is (either (same_bytes m u)) where
+  either : (b : Bool) → (b || true) ≡ true
+  either true = refl
+  either false = refl
+
+all_are_in : (ids : List Bytes) → AllIn ids ids
+all_are_in [] = refl
+all_are_in (u ∷ ids) = rw (same_refl u) (all_so (λ m. contains_word m ids) (λ m. contains_word m (u ∷ ids)) (λ m. later_in u m ids) ids (all_are_in ids))
+
+chosen_in : (h : CommandList) (ids : List Bytes) (f : Tree) (us : List Bytes) → AllIn ids us → AllIn ids (map (λ (t : Target). t.id) (filter (matches f) (map (target_in h) us)))
+chosen_in h ids f [] all = refl
+chosen_in h ids f (u ∷ us) all = let parts = and_parts _ _ all in go (matches f (target_in h u)) parts.0 (chosen_in h ids f us parts.1) where
+  go : (b : Bool) → contains_word u ids ≡ true → AllIn ids (map (λ (t : Target). t.id) (filter (matches f) (map (target_in h) us)))
+      → AllIn ids (map (λ (t : Target). t.id) (cond b (target_in h u ∷ filter (matches f) (map (target_in h) us)) (filter (matches f) (map (target_in h) us))))
+  go true here rest = rw (here, rest) refl
+  go false here rest = rest
+
+abbrev members_in_list : List Bytes → Rollout → Bool
+members_in_list ids y = list_all (λ m. contains_word m ids) y.members
+
+created_in : (h : CommandList) (c : Command) → list_all (members_in_list (target_ids (h ▸ c))) (created h c) ≡ true
+created_in h (CreateRollout plan) = rw (go (filter_of plan.filter_text)) refl where
+  go : (o : Option Tree) → AllIn (target_ids h) (chosen o (map (target_in h) (target_ids h)))
+  go None = refl
+  go (Some f) = chosen_in h (target_ids h) f (target_ids h) (all_are_in (target_ids h))
+created_in h _ = refl
+
+rollouts_in_list : (h : CommandList) → list_all (members_in_list (target_ids h)) (rollouts h) ≡ true
+rollouts_in_list (Make approval) = refl
+rollouts_in_list (h ▸ c) =
+    let before : list_all (members_in_list (target_ids (h ▸ c))) (rollouts h) ≡ true =
+    all_so (members_in_list (target_ids h)) (members_in_list (target_ids (h ▸ c)))
+    (λ y. all_so (λ m. contains_word m (target_ids h)) (λ m. contains_word m (target_ids (h ▸ c))) (λ m. stays_in m (target_ids h) (map (λ (row : TargetRow). row.id) (import_rows_of c))) y.members) (rollouts h) (rollouts_in_list h) in
+    list_all-append (members_in_list (target_ids (h ▸ c))) (rollouts h) (created h c) ∙ rw (before, created_in h c) refl
+
+-- ---- who is there
+
+found_in : (h : CommandList) (t : Bytes) (ids : List Bytes) → is_some (find (λ (x : Target). same_bytes x.id t) (map (target_in h) ids)) ≡ contains_word t ids
+found_in h t [] = refl
+found_in h t (u ∷ ids) = rw (same_sym u t) (go (same_bytes t u) (found_in h t ids)) where
+  go : (b : Bool) → is_some (find (λ (x : Target). same_bytes x.id t) (map (target_in h) ids)) ≡ contains_word t ids
+      → is_some (cond b (Some (target_in h u)) (find (λ (x : Target). same_bytes x.id t) (map (target_in h) ids))) ≡ (b || contains_word t ids)
+  go true rest = refl
+  go false rest = rest
+
+abbrev pub is_there : Records → Bytes → Bool
+is_there rs m = is_some (target_of rs m)
+
+there_at : (h : CommandList) (m : Bytes) → contains_word m (target_ids h) ≡ true → is_there (records h) m ≡ true
+unfolding records
+there_at h m is = found_in h m (target_ids h) ∙ is
+
+rollout_there : (h : CommandList) (r : ℕ) (y : Rollout) → item_numbered (rollouts h) r ≡ Some y → list_all (is_there (records h)) y.members ≡ true
+rollout_there h zero y at = absurd cc
+rollout_there h (suc i) y at = all_so (λ m. contains_word m (target_ids h)) (is_there (records h)) (there_at h) y.members (all_at (members_in_list (target_ids h)) (rollouts h) i y (rollouts_in_list h) at)
+
+pub members_there : (rs : Records) → AreOfList rs → (r : ℕ) (x : RolloutRecord) → item_numbered rs.rollouts r ≡ Some x → list_all (is_there rs) x.members ≡ true
+members_there rs of r x e =
+    let it = made rs of r x e in
+    ap (λ (q : RolloutRecord). list_all (is_there rs) q.members) it.is ∙ ap (λ (q : Records). list_all (is_there q) it.made.members) of.are ∙ rollout_there of.list r it.made it.there
+
+-- ---- their targets
+
+-- the target of an id that is there
+abbrev pub target_at : Records → Bytes → Target
+target_at rs m = unwrap_or (target_of rs m) (record { id = []; name = []; digest = []; tags = []; attributes = [] })
+
+pub targets_there : (rs : Records) (ms : List Bytes) → list_all (is_there rs) ms ≡ true → targets_shown rs (targets_of rs ms) ≡ map (λ m. target_shown rs (target_at rs m)) ms
+targets_there rs [] all = refl
+targets_there rs (m ∷ ms) all = let parts = and_parts _ _ all in go (target_of rs m) parts.0 (targets_there rs ms parts.1) where
+  go : (o : Option Target) → is_some o ≡ true → targets_shown rs (targets_of rs ms) ≡ map (λ m. target_shown rs (target_at rs m)) ms
+      → targets_shown rs (target_if o ++ targets_of rs ms) ≡ target_shown rs (unwrap_or o (record { id = []; name = []; digest = []; tags = []; attributes = [] })) ∷ map (λ m. target_shown rs (target_at rs m)) ms
+  go None bad rest = absurd (false≢true bad)
+  go (Some t) there rest = ap (λ (l : List ShownTarget). target_shown rs t ∷ l) rest
+
+pub part_there : (rs : Records) (n k : ℕ) (ms : List Bytes) → list_all (is_there rs) ms ≡ true → list_all (is_there rs) (take n (drop k ms)) ≡ true
+part_there rs n k ms all = all_taken (is_there rs) n (drop k ms) (all_dropped (is_there rs) k ms all)

@@ -1,0 +1,82 @@
+-- From typed reads of rollouts to what is seen of them.
+use Rattle.std.proofs.Common.{◌≡◌, ℕ, suc, List, [], ◌∷◌, Vec, length, take, drop, Option, Some, None, refl, sym, ap, ◌∙◌}
+use Rattle.std.specs.declared.alloc.Global.{Global}
+use Rattle.std.specs.Option.{option_map}
+use Rattle.rollout_machine.specs.Answers.{if_found, query_reply}
+use Rattle.rollout_machine.specs.ByteStrings.{item_numbered}
+use Rattle.rollout_machine.specs.Objects.{numbered, rollout_shown, rollouts_shown}
+use Rattle.rollout_machine.specs.Records.{Records}
+use Rattle.rollout_machine.specs.Replies.{Refused, Reply, RolloutsShown, ShownRollout}
+use Rattle.rollout_machine.specs.Requests.{Page, ShowRollouts}
+use Rattle.rollout_machine.specs.declared.records.RolloutRecord.{RolloutRecord}
+use Rattle.rollout_machine.specs.Views.{reply_of}
+use Rattle.rollout_model.specs.declared.refusal.Refusal.TheVariants.{NotFound}
+use Rattle.rollout_model.specs.declared.request.Reply.TheVariants as reply
+use Rattle.campaign_core.specs.RolloutChecks.{BothOrNone}
+use Rattle.desk_records.specs.Parts.{parts_of}
+use Rattle.desk_records.specs.RolloutRow.{stored_rollout}
+use Rattle.desk_records.specs.Rollouts.{groups_of}
+use Rattle.desk_records.specs.declared.rollout_row.StoredRollout.{StoredRollout}
+use Rattle.desk_views.specs.Rollouts.{IsSeenOf}
+use Rattle.desk_views.specs.Showing.{AreOfList}
+use Rattle.desk_views.specs.declared.rollouts.SeenRollout.{SeenRollout}
+use Rattle.desk_views.proofs.PageLemmas.{entry_numbered, numbered_length}
+use Rattle.desk_views.proofs.ListLemmas.{groups_are, last_is_count, numbered_so}
+
+-- ---- what is seen
+
+-- what was read of it is stored, and its groups were read
+pub seen_is : (rs : Records) (of : AreOfList rs) (r : ℕ) (seen : SeenRollout) (stored : StoredRollout) → seen.number ≡ r → seen.plan ≡ stored.plan → seen.approval ≡ stored.approval → seen.started ≡ stored.started → seen.paused ≡ stored.paused
+    → seen.groups.items ≡ groups_of (item_numbered rs.rollouts r) → (x : RolloutRecord) → item_numbered rs.rollouts r ≡ Some x → stored ≡ stored_rollout x → IsSeenOf seen x
+seen_is rs of r seen stored number plan approval started paused groups x there is = record {
+  number = number ∙ sym (numbered_so rs of r x there);
+  plan = plan ∙ ap (λ (s : StoredRollout). s.plan) is;
+  approval = approval ∙ ap (λ (s : StoredRollout). s.approval) is;
+  started = started ∙ ap (λ (s : StoredRollout). s.started) is;
+  paused = paused ∙ ap (λ (s : StoredRollout). s.paused) is;
+  groups = groups ∙ groups_are rs of r ∙ ap (parts_of (λ (y : RolloutRecord). y.groups)) there;
+  members = last_is_count rs of r x there;
+}
+
+pub none_seen : (o : Option RolloutRecord) → None ≡ option_map stored_rollout o → BothOrNone IsSeenOf None o
+none_seen None is = tt
+none_seen (Some x) is = absurd cc
+
+pub one_seen : (seen : SeenRollout) (stored : StoredRollout) (o : Option RolloutRecord) → Some stored ≡ option_map stored_rollout o → ((x : RolloutRecord) → o ≡ Some x → stored ≡ stored_rollout x → IsSeenOf seen x) → BothOrNone IsSeenOf (Some seen) o
+one_seen seen stored None is so = absurd cc
+one_seen seen stored (Some x) is so = so x refl (let same : stored ≡ stored_rollout x = cc in same)
+
+-- ---- what is replied
+
+-- of what isn't there
+pub none_replied : (reply : RolloutRecord → Reply) (o : Option RolloutRecord) → BothOrNone IsSeenOf None o → Refused NotFound ≡ if_found reply o
+none_replied reply None it = refl
+none_replied reply (Some x) it = absurd it
+
+pub one_replied : (reply : RolloutRecord → Reply) (o : Option RolloutRecord) (seen : SeenRollout) (made : Reply) → BothOrNone IsSeenOf (Some seen) o → ((x : RolloutRecord) → IsSeenOf seen x → made ≡ reply x) → made ≡ if_found reply o
+one_replied reply None seen made it so = absurd it
+one_replied reply (Some x) seen made it so = so x it
+
+-- ---- pages of rollouts
+
+as_numbered : (k : ℕ) (xs : List RolloutRecord) → rollouts_shown xs ≡ numbered (λ n x. rollout_shown x) k xs
+as_numbered k [] = refl
+as_numbered k (x ∷ xs) = ap (λ (l : List ShownRollout). rollout_shown x ∷ l) (as_numbered (suc k) xs)
+
+pub entry_is : (xs : List RolloutRecord) (number at : ℕ) (seen : SeenRollout) (entry : ShownRollout) → number ≡ at → BothOrNone IsSeenOf (Some seen) (item_numbered xs number) → ((x : RolloutRecord) → IsSeenOf seen x → entry ≡ rollout_shown x)
+    → item_numbered (rollouts_shown xs) at ≡ Some entry
+entry_is xs number at seen entry same it so =
+    ap (item_numbered (rollouts_shown xs)) (sym same) ∙ ap (λ l. item_numbered l number) (as_numbered 1 xs) ∙ entry_numbered (λ n x. rollout_shown x) xs number ∙ go (item_numbered xs number) it
+  where
+    go : (o : Option RolloutRecord) → BothOrNone IsSeenOf (Some seen) o → option_map rollout_shown o ≡ Some entry
+    go None it = absurd it
+    go (Some x) it = ap (λ (e : ShownRollout). Some e) (sym (so x it))
+
+pub shown_count : (xs : List RolloutRecord) → length (rollouts_shown xs) ≡ length xs
+shown_count xs = ap length (as_numbered 1 xs) ∙ numbered_length (λ n x. rollout_shown x) 1 xs
+
+pub page_replied : (page : Page) (r : Records) (content : Vec ShownRollout Global) (total : ℕ) → total ≡ length r.rollouts → content.items ≡ take page.limit (drop page.offset (rollouts_shown r.rollouts))
+    → reply_of (reply.Rollouts (record { content = content; total = total })) ≡ query_reply r (ShowRollouts page)
+page_replied page r content total count is =
+    let all : total ≡ length (rollouts_shown r.rollouts) = count ∙ sym (shown_count r.rollouts) in
+    λ i. RolloutsShown (record { content = is i; total = all i })

@@ -1,0 +1,10 @@
+use Rattle.std.proofs.Common.{◌≡◌, ◌+◌, length}
+use Rattle.rollout_machine.specs.Objects.{entry_shown, numbered}
+use Rattle.desk_views.proofs.actions.numbered_after.Given as goal
+
+-- those that were gone through
+abbrev pub invariant-loop-entry : goal.invariant-loop-entry
+invariant-loop-entry l = record {
+  last : l.last ≡ l.before + length l.yielded;
+  all : l.all.items ≡ numbered entry_shown (l.before + 1) l.yielded;
+}

@@ -1,0 +1,16 @@
+use Rattle.std.proofs.Common.{◌≡◌, None, Ok, vec_len}
+use Rattle.sql_calls.specs.declared.fault.Fault.{Fault}
+use Rattle.desk_store.specs.Changing.{ReadsIn}
+use Rattle.desk_views.specs.TargetWords.{last_ending}
+use Rattle.desk_views.proofs.target_words.read_last_ending.Given as goal
+
+-- of those that are left the last ending is that of all
+abbrev pub invariant-loop-listed : goal.invariant-loop-listed
+invariant-loop-listed g l = record {
+  same_reference : l.change.store.ghost_name ≡ l.fn.change.store.ghost_name;
+  reads : ReadsIn g.S.Store {E = Fault} l.fn.change l.change (Ok l.left.items)
+      (λ r left. last_ending r None l.fn.actions.items ≡ last_ending r None left);
+}
+
+abbrev pub decreases-loop-listed : goal.decreases-loop-listed
+decreases-loop-listed g l = vec_len l.left

@@ -1,0 +1,230 @@
+//! Actions of targets and of rollouts, and their histories.
+
+ghost use Rattle.std.specs.Prelude.{◌≡◌, ◌<◌, ◌+◌, length, map, take, drop, IfOk};
+ghost use Rattle.std.specs.Option.{option_map};
+ghost use Rattle.rollout_machine.specs.Answers.{action_of_target};
+ghost use Rattle.rollout_machine.specs.ByteStrings.{item_numbered};
+ghost use Rattle.rollout_machine.specs.Objects.{entry_shown, numbered};
+ghost use Rattle.rollout_machine.specs.Requests.{ShowAction, ShowActionsTable, ShowHistory, ShowTargetActions};
+ghost use Rattle.desk_store.specs.Changing.{ReadsIn};
+ghost use Rattle.desk_views.specs.Actions.{history_of, listed_shown, shown_in, stored_in};
+ghost use Rattle.desk_views.specs.Showing.{ReadsAtListsIn, ShowsIn};
+
+use crate::pages::part_on;
+use campaign_core::{ActionStatus, action_word};
+use desk_store::{Fault, ListedAction, OpenChange, StoredAction};
+use rollout_machine::GroupRecord;
+use rollout_model::{
+    Action, ActionNo, ControllerId, HistoryEntry, NumberedEntry, Page, PageOf, Refusal, Reply,
+    RolloutNo,
+};
+use sqlite::Alter;
+use std::alloc::Global;
+
+/// As much as a statement lists.
+const WHOLE: Page = Page {
+    offset: 0,
+    limit: u32::MAX,
+};
+
+/// Shows a page of the actions of a target, in the order of their numbers.
+pub fn show_target_actions<S: Alter>(
+    alloc: Global,
+    change: &mut OpenChange<'_, S>,
+    id: ControllerId,
+    page: Page,
+) -> Result<Reply, Fault>
+    ensures same_reference { change.new.store.ghost_name ≡ change.old.store.ghost_name }
+    ensures shows { ShowsIn S.Store change.old change.new (ShowTargetActions id page) result }
+{
+    if change.read_target(&id)?.is_none() {
+        return Ok(Reply::Refused(Refusal::NotFound));
+    }
+    let all = change.read_target_actions(&id, WHOLE)?;
+    let total = count_of(&all)?;
+    let content = read_all_shown(alloc, change, part_on(&all, page))?;
+    Ok(Reply::Actions(PageOf { content, total }))
+}
+
+/// Shows all actions of a rollout, in the order of their numbers.
+pub fn show_actions_table<S: Alter>(
+    alloc: Global,
+    change: &mut OpenChange<'_, S>,
+    number: RolloutNo,
+) -> Result<Reply, Fault>
+    ensures same_reference { change.new.store.ghost_name ≡ change.old.store.ghost_name }
+    ensures shows { ShowsIn S.Store change.old change.new (ShowActionsTable number) result }
+{
+    if change.read_rollout(number)?.is_none() {
+        return Ok(Reply::Refused(Refusal::NotFound));
+    }
+    let all = change.read_actions(number, WHOLE)?;
+    count_of(&all)?;
+    let actions = read_all_shown(alloc, change, &all)?;
+    Ok(Reply::ActionsTable(actions))
+}
+
+/// Shows an action of a target by its number.
+pub fn show_action<S: Alter>(
+    change: &mut OpenChange<'_, S>,
+    id: ControllerId,
+    number: ActionNo,
+) -> Result<Reply, Fault>
+    ensures same_reference { change.new.store.ghost_name ≡ change.old.store.ghost_name }
+    ensures shows { ShowsIn S.Store change.old change.new (ShowAction id number) result }
+{
+    let action = match read_of_target(change, id, number)? {
+        Some(action) => action,
+        None => return Ok(Reply::Refused(Refusal::NotFound)),
+    };
+    let shown = read_shown(change, &ListedAction { number, action })?;
+    Ok(Reply::Action(shown))
+}
+
+/// Shows a page of what a device reported of an action of a target, in the order of the reports.
+pub fn show_history<S: Alter>(
+    alloc: Global,
+    change: &mut OpenChange<'_, S>,
+    id: ControllerId,
+    number: ActionNo,
+    page: Page,
+) -> Result<Reply, Fault>
+    ensures same_reference { change.new.store.ghost_name ≡ change.old.store.ghost_name }
+    ensures shows { ShowsIn S.Store change.old change.new (ShowHistory id number page) result }
+{
+    let action = match read_of_target(change, id, number)? {
+        Some(action) => action,
+        None => return Ok(Reply::Refused(Refusal::NotFound)),
+    };
+    let entries = read_entries(change, number, page)?;
+    let content = numbered_after(alloc, page.offset, entries)?;
+    let total = action.entries;
+    Ok(Reply::History(PageOf { content, total }))
+}
+
+/// The entries of an action's history that are on a page.
+fn read_entries<S: Alter>(
+    change: &mut OpenChange<'_, S>,
+    number: ActionNo,
+    page: Page,
+) -> Result<Vec<HistoryEntry>, Fault>
+    ensures same_reference { change.new.store.ghost_name ≡ change.old.store.ghost_name }
+    ensures reads { ReadsAtListsIn S.Store change.old change.new result (λ now found. found.items ≡ take page.limit (drop page.offset (history_of (item_numbered now.actions number)))) }
+{
+    let entries = change.read_entries(number, page)?;
+    Ok(entries)
+}
+
+/// Entries with their numbers, of which so many come before them. Where there are more than are counted, the store has failed.
+fn numbered_after(
+    alloc: Global,
+    before: u32,
+    entries: Vec<HistoryEntry>,
+) -> Result<Vec<NumberedEntry>, Fault>
+    ensures { IfOk result (λ all. all.items ≡ numbered entry_shown (before + 1) entries.items) }
+{
+    let mut all = Vec::new(alloc);
+    let mut last = before;
+    for entry in entries {
+        let Some(number) = last.checked_add(1) else {
+            return Err(Fault::Store);
+        };
+        match all.push(NumberedEntry { number, entry }) {
+            Ok(()) => {}
+            Err(_) => return Err(Fault::Memory),
+        }
+        last = number;
+    }
+    Ok(all)
+}
+
+/// How many were listed. Where they are as many as a statement lists there may be more, and the store has failed.
+fn count_of(listed: &[ListedAction]) -> Result<u32, Fault>
+    ensures { IfOk result (λ count. (count ≡ length listed.now) × (count < 4294967295)) }
+{
+    match u32::try_from(listed.len()) {
+        Ok(count) if count < u32::MAX => Ok(count),
+        _ => Err(Fault::Store),
+    }
+}
+
+/// What is kept of the action of a number, where it is one of the target's.
+pub(crate) fn read_of_target<S: Alter>(
+    change: &mut OpenChange<'_, S>,
+    id: ControllerId,
+    number: ActionNo,
+) -> Result<Option<StoredAction>, Fault>
+    ensures same_reference { change.new.store.ghost_name ≡ change.old.store.ghost_name }
+    ensures reads { ReadsIn S.Store change.old change.new result (λ now found. found ≡ option_map (stored_in now) (action_of_target now id number)) }
+{
+    let found = match change.read_action(number)? {
+        Some(found) => found,
+        None => return Ok(None),
+    };
+    if found.target != id {
+        return Ok(None);
+    }
+    Ok(Some(found))
+}
+
+/// Actions that were listed, as they are shown.
+fn read_all_shown<S: Alter>(
+    alloc: Global,
+    change: &mut OpenChange<'_, S>,
+    listed: &[ListedAction],
+) -> Result<Vec<Action>, Fault>
+    ensures same_reference { change.new.store.ghost_name ≡ change.old.store.ghost_name }
+    ensures reads { ReadsAtListsIn S.Store change.old change.new result (λ now all. all.items ≡ map (listed_shown now) listed.now) }
+{
+    let mut all = Vec::new(alloc);
+    for one in listed {
+        let shown = read_shown(change, one)?;
+        match all.push(shown) {
+            Ok(()) => {}
+            Err(_) => return Err(Fault::Memory),
+        }
+    }
+    Ok(all)
+}
+
+/// An action that was listed, as it is shown: its group tells whether it is started.
+fn read_shown<S: Alter>(
+    change: &mut OpenChange<'_, S>,
+    listed: &ListedAction,
+) -> Result<Action, Fault>
+    ensures same_reference { change.new.store.ghost_name ≡ change.old.store.ghost_name }
+    ensures reads { ReadsAtListsIn S.Store change.old change.new result (λ now shown. shown ≡ listed_shown now listed.now) }
+{
+    let group = change.read_holding_group(listed.action.rollout, listed.action.position)?;
+    Ok(shown_in(*listed, group))
+}
+
+fn shown_in(listed: ListedAction, group: Option<GroupRecord>) -> Action
+    ensures { result ≡ shown_in listed group }
+{
+    let (group, started) = match group {
+        Some(found) => (found.number, found.started),
+        None => (0, false),
+    };
+    let StoredAction {
+        rollout,
+        position: _,
+        target,
+        canceling,
+        outcome,
+        notes: _,
+        entries: _,
+    } = listed.action;
+    let word = action_word(&ActionStatus {
+        outcome,
+        started,
+        canceling,
+    });
+    Action {
+        number: listed.number,
+        rollout,
+        group,
+        target,
+        word,
+    }
+}

@@ -1,0 +1,255 @@
+//! What devices are to install: deployments, and the contents of their artifacts.
+
+ghost use Rattle.std.specs.Prelude.{◌≡◌, ◌++◌, ◌∷◌, [], IfOk, Some, map, nat_eq};
+ghost use Rattle.std.specs.List.{find, list_any};
+ghost use Rattle.std.specs.Option.{option_copied, option_map};
+ghost use Rattle.rollout_machine.specs.Answers.{modules_offered, query_reply};
+ghost use Rattle.rollout_machine.specs.ByteStrings.{item_numbered, same_bytes};
+ghost use Rattle.rollout_machine.specs.Objects.{chunks_of, chunks_of_module, modules_of_action, modules_of_rollout};
+ghost use Rattle.rollout_machine.specs.Offers.{offer};
+ghost use Rattle.rollout_machine.specs.Requests.{Download, ShowDeployment};
+ghost use Rattle.rollout_machine.specs.Views.{chunk, reply_of};
+ghost use Rattle.desk_records.specs.declared.rollout_row.StoredRollout.{StoredRollout};
+ghost use Rattle.rollout_model.specs.declared.artifact.Artifact.{Artifact};
+ghost use Rattle.desk_store.specs.Changing.{ReadsIn};
+ghost use Rattle.desk_views.specs.Downloads.{downloadable, named};
+
+use crate::artifacts::read_contents;
+use crate::devices::{is_offer_of, knows_device};
+use desk_store::{Fault, OpenChange, StoredRollout};
+use rollout_model::{
+    ActionNo, Artifact, Chunk, ControllerId, Credential, Deployment, Filename, ModuleNo, Offer,
+    Refusal, Reply, RolloutNo, SetNo,
+};
+use sqlite::Alter;
+use std::alloc::Global;
+
+/// Shows a device the deployment of the action that it is offered.
+pub fn show_deployment<S: Alter>(
+    alloc: Global,
+    change: &mut OpenChange<'_, S>,
+    device: &Credential,
+    number: ActionNo,
+) -> Result<Reply, Fault>
+    ensures same_reference { change.new.store.ghost_name ≡ change.old.store.ghost_name }
+    ensures reads { ReadsIn S.Store change.old change.new result (λ now reply. reply_of reply ≡ query_reply now (ShowDeployment device.now number)) }
+{
+    if !knows_device(change, device)? {
+        return Ok(Reply::Refused(Refusal::Unauthorized));
+    }
+    let offer = change.read_offer(&device.id)?;
+    if !is_offer_of(offer, number, false) {
+        return Ok(Reply::Refused(Refusal::NotFound));
+    }
+    let chunks = read_chunks(alloc, change, number)?;
+    Ok(Reply::Deployment(Deployment {
+        target: device.id,
+        action: number,
+        chunks,
+    }))
+}
+
+/// The modules that an action installs, with their artifacts.
+fn read_chunks<S: Alter>(
+    alloc: Global,
+    change: &mut OpenChange<'_, S>,
+    number: ActionNo,
+) -> Result<Vec<Chunk>, Fault>
+    ensures same_reference { change.new.store.ghost_name ≡ change.old.store.ghost_name }
+    ensures reads { ReadsIn S.Store change.old change.new result
+        (λ now chunks. map chunk chunks.items ≡ chunks_of now (modules_of_action now (item_numbered now.actions number))) }
+{
+    let modules = read_action_modules(alloc, change, number)?;
+    read_module_chunks(alloc, change, modules)
+}
+
+/// These modules, with their artifacts.
+fn read_module_chunks<S: Alter>(
+    alloc: Global,
+    change: &mut OpenChange<'_, S>,
+    modules: Vec<ModuleNo>,
+) -> Result<Vec<Chunk>, Fault>
+    ensures same_reference { change.new.store.ghost_name ≡ change.old.store.ghost_name }
+    ensures reads { ReadsIn S.Store change.old change.new result (λ now chunks. map chunk chunks.items ≡ chunks_of now modules.items) }
+{
+    let mut chunks = Vec::new(alloc);
+    for module_number in modules {
+        add_chunk(change, module_number, &mut chunks)?;
+    }
+    Ok(chunks)
+}
+
+/// Adds a module with its artifacts, where it is there.
+fn add_chunk<S: Alter>(
+    change: &mut OpenChange<'_, S>,
+    module_number: ModuleNo,
+    chunks: &mut Vec<Chunk>,
+) -> Result<(), Fault>
+    ensures same_reference { change.new.store.ghost_name ≡ change.old.store.ghost_name }
+    ensures reads { ReadsIn S.Store change.old change.new result
+        (λ now _. map chunk chunks.new.items ≡ map chunk chunks.old.items ++ chunks_of_module now module_number (item_numbered now.modules module_number)) }
+{
+    let label = match change.read_module(module_number)? {
+        Some(label) => label,
+        None => return Ok(()),
+    };
+    let artifacts = change.read_module_artifacts(module_number)?;
+    let chunk = Chunk {
+        module_number,
+        label,
+        artifacts,
+    };
+    push(chunks, chunk)
+}
+
+fn push(chunks: &mut Vec<Chunk>, chunk: Chunk) -> Result<(), Fault>
+    ensures { IfOk result (λ _. chunks.new.items ≡ chunks.old.items ++ chunk ∷ []) }
+{
+    match chunks.push(chunk) {
+        Ok(()) => Ok(()),
+        Err(_) => Err(Fault::Memory),
+    }
+}
+
+/// The modules that an action installs, in the order of its set.
+fn read_action_modules<S: Alter>(
+    alloc: Global,
+    change: &mut OpenChange<'_, S>,
+    number: ActionNo,
+) -> Result<Vec<ModuleNo>, Fault>
+    ensures same_reference { change.new.store.ghost_name ≡ change.old.store.ghost_name }
+    ensures reads { ReadsIn S.Store change.old change.new result (λ now modules. modules.items ≡ modules_of_action now (item_numbered now.actions number)) }
+{
+    match change.read_action(number)? {
+        Some(action) => read_rollout_modules(alloc, change, action.rollout),
+        None => Ok(Vec::new(alloc)),
+    }
+}
+
+/// The modules that a rollout installs, in the order of its set.
+fn read_rollout_modules<S: Alter>(
+    alloc: Global,
+    change: &mut OpenChange<'_, S>,
+    number: RolloutNo,
+) -> Result<Vec<ModuleNo>, Fault>
+    ensures same_reference { change.new.store.ghost_name ≡ change.old.store.ghost_name }
+    ensures reads { ReadsIn S.Store change.old change.new result (λ now modules. modules.items ≡ modules_of_rollout now (item_numbered now.rollouts number)) }
+{
+    let found = change.read_rollout(number)?;
+    match set_of(&found) {
+        Some(set_number) => change.read_set_modules(set_number),
+        None => Ok(Vec::new(alloc)),
+    }
+}
+
+/// The set of a rollout that was found.
+fn set_of(found: &Option<StoredRollout>) -> Option<SetNo>
+    ensures { result ≡ option_map (λ (rollout : StoredRollout). rollout.plan.set_number) found.now }
+{
+    match found {
+        Some(rollout) => Some(rollout.plan.set_number),
+        None => None,
+    }
+}
+
+/// Shows a device the contents of an artifact of what it is offered as a deployment.
+pub fn show_download<S: Alter>(
+    alloc: Global,
+    change: &mut OpenChange<'_, S>,
+    device: &Credential,
+    module_number: ModuleNo,
+    filename: &Filename,
+) -> Result<Reply, Fault>
+    ensures same_reference { change.new.store.ghost_name ≡ change.old.store.ghost_name }
+    ensures reads { ReadsIn S.Store change.old change.new result (λ now reply. reply_of reply ≡ query_reply now (Download device.now module_number filename.now)) }
+{
+    match find_download(alloc, change, device, module_number, filename)? {
+        Ok(artifact) => {
+            let contents = read_contents(alloc, change, artifact.number, artifact.size)?;
+            Ok(Reply::Contents(contents))
+        }
+        Err(refusal) => Ok(Reply::Refused(refusal)),
+    }
+}
+
+/// Finds the artifact whose contents a device asks for, or else what the download is refused with.
+pub fn find_download<S: Alter>(
+    alloc: Global,
+    change: &mut OpenChange<'_, S>,
+    device: &Credential,
+    module_number: ModuleNo,
+    filename: &Filename,
+) -> Result<Result<Artifact, Refusal>, Fault>
+    ensures same_reference { change.new.store.ghost_name ≡ change.old.store.ghost_name }
+    ensures reads { ReadsIn S.Store change.old change.new result (λ now found. found ≡ downloadable now device.now module_number filename.now) }
+{
+    if !knows_device(change, device)? {
+        return Ok(Err(Refusal::Unauthorized));
+    }
+    let modules = read_offered_modules(alloc, change, &device.id)?;
+    if !is_among(&modules, module_number) {
+        return Ok(Err(Refusal::NotFound));
+    }
+    let artifacts = change.read_module_artifacts(module_number)?;
+    Ok(named(&artifacts, filename))
+}
+
+/// The modules of what a target is offered as a deployment.
+fn read_offered_modules<S: Alter>(
+    alloc: Global,
+    change: &mut OpenChange<'_, S>,
+    id: &ControllerId,
+) -> Result<Vec<ModuleNo>, Fault>
+    ensures same_reference { change.new.store.ghost_name ≡ change.old.store.ghost_name }
+    ensures reads { ReadsIn S.Store change.old change.new result (λ now modules. modules.items ≡ modules_offered now (offer now id.now)) }
+{
+    match change.read_offer(id)? {
+        Some(offer) => read_installed(alloc, change, offer),
+        None => Ok(Vec::new(alloc)),
+    }
+}
+
+/// The modules that an offer installs: none where it is a cancel.
+fn read_installed<S: Alter>(
+    alloc: Global,
+    change: &mut OpenChange<'_, S>,
+    offer: Offer,
+) -> Result<Vec<ModuleNo>, Fault>
+    ensures same_reference { change.new.store.ghost_name ≡ change.old.store.ghost_name }
+    ensures reads { ReadsIn S.Store change.old change.new result (λ now modules. modules.items ≡ modules_offered now (Some offer)) }
+{
+    if offer.canceling {
+        return Ok(Vec::new(alloc));
+    }
+    read_action_modules(alloc, change, offer.action)
+}
+
+fn is_among(numbers: &[ModuleNo], number: ModuleNo) -> bool
+    ensures { result ≡ list_any (λ n. nat_eq n number) numbers.now }
+{
+    numbers.contains(&number)
+}
+
+/// The first of these artifacts that has the name.
+fn named(artifacts: &[Artifact], filename: &Filename) -> Result<Artifact, Refusal>
+    ensures { result ≡ named filename.now artifacts.now }
+{
+    match first_named(artifacts, filename) {
+        Some(artifact) => Ok(*artifact),
+        None => Err(Refusal::NotFound),
+    }
+}
+
+fn first_named<'a>(artifacts: &'a [Artifact], filename: &Filename) -> Option<&'a Artifact>
+    ensures { option_copied result ≡ find (λ (artifact : Artifact). same_bytes artifact.filename filename.now) artifacts.now }
+{
+    artifacts
+        .iter()
+        .find(|artifact| has_name(artifact, filename))
+}
+
+fn has_name(artifact: &Artifact, filename: &Filename) -> bool
+    ensures { result ≡ same_bytes artifact.now.filename filename.now }
+{
+    artifact.filename.as_str() == filename.as_str()
+}

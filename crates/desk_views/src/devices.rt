@@ -1,0 +1,71 @@
+//! What devices ask of their offers.
+
+ghost use Rattle.std.specs.Prelude.{◌≡◌, true, false};
+ghost use Rattle.rollout_machine.specs.Answers.{is_offer_of, query_reply};
+ghost use Rattle.rollout_machine.specs.Requests.{Poll, ShowCancel};
+ghost use Rattle.rollout_machine.specs.Verdicts.{is_known};
+ghost use Rattle.rollout_machine.specs.Views.{reply_of};
+ghost use Rattle.desk_store.specs.Changing.{ReadsIn};
+
+use desk_store::{Fault, OpenChange};
+use rollout_model::{ActionNo, Credential, Offer, Refusal, Reply};
+use sqlite::Alter;
+
+/// Whether a target of the device's id is there, with the digest of the token that it showed.
+pub fn knows_device<S: Alter>(
+    change: &mut OpenChange<'_, S>,
+    device: &Credential,
+) -> Result<bool, Fault>
+    ensures same_reference { change.new.store.ghost_name ≡ change.old.store.ghost_name }
+    ensures reads { ReadsIn S.Store change.old change.new result (λ now known. known ≡ is_known now device.now) }
+{
+    let found = change.read_target(&device.id)?;
+    match &found {
+        Some(stored) => Ok(stored.digest == device.digest),
+        None => Ok(false),
+    }
+}
+
+/// Shows a device what it is offered.
+pub fn show_poll<S: Alter>(
+    change: &mut OpenChange<'_, S>,
+    device: &Credential,
+) -> Result<Reply, Fault>
+    ensures same_reference { change.new.store.ghost_name ≡ change.old.store.ghost_name }
+    ensures reads { ReadsIn S.Store change.old change.new result (λ now reply. reply_of reply ≡ query_reply now (Poll device.now)) }
+{
+    if !knows_device(change, device)? {
+        return Ok(Reply::Refused(Refusal::Unauthorized));
+    }
+    let offer = change.read_offer(&device.id)?;
+    Ok(Reply::Poll(device.id, offer))
+}
+
+/// Shows a device the cancel that it is offered.
+pub fn show_cancel<S: Alter>(
+    change: &mut OpenChange<'_, S>,
+    device: &Credential,
+    number: ActionNo,
+) -> Result<Reply, Fault>
+    ensures same_reference { change.new.store.ghost_name ≡ change.old.store.ghost_name }
+    ensures reads { ReadsIn S.Store change.old change.new result (λ now reply. reply_of reply ≡ query_reply now (ShowCancel device.now number)) }
+{
+    if !knows_device(change, device)? {
+        return Ok(Reply::Refused(Refusal::Unauthorized));
+    }
+    let offer = change.read_offer(&device.id)?;
+    if !is_offer_of(offer, number, true) {
+        return Ok(Reply::Refused(Refusal::NotFound));
+    }
+    Ok(Reply::Cancel(number))
+}
+
+/// Whether it is this action that is offered, as a cancel or as a deployment.
+pub(crate) fn is_offer_of(offer: Option<Offer>, number: ActionNo, canceling: bool) -> bool
+    ensures { result ≡ is_offer_of number canceling offer }
+{
+    match offer {
+        Some(offer) => offer.action == number && offer.canceling == canceling,
+        None => false,
+    }
+}

@@ -1,0 +1,214 @@
+//! Groups of rollouts.
+
+ghost use Rattle.std.specs.Prelude.{◌≡◌, ◌+◌, ◌-◌, ◌<◌, ◌++◌, ◌∷◌, [], IfOk, map, min};
+ghost use Rattle.rollout_machine.specs.Answers.{target_if, targets_of};
+ghost use Rattle.rollout_machine.specs.Objects.{group_shown, page_of, targets_shown};
+ghost use Rattle.rollout_machine.specs.Requests.{ShowGroup, ShowGroupTargets, ShowGroups};
+ghost use Rattle.rollout_machine.specs.StateWords.{size_of_group};
+ghost use Rattle.rollout_machine.specs.Verdicts.{target_of};
+ghost use Rattle.rollout_machine.specs.Views.{listed, shown_target};
+ghost use Rattle.rollout_machine.specs.declared.records.RolloutRecord.{RolloutRecord};
+ghost use Rattle.desk_store.specs.Changing.{ReadsIn};
+ghost use Rattle.desk_views.specs.Rollouts.{IsSeenOf};
+ghost use Rattle.desk_views.specs.Showing.{ShowsIn};
+
+use crate::pages::{count_on, part_on};
+use crate::rollouts::{SeenRollout, read_seen_rollout, size_of};
+use crate::targets::read_shown;
+use campaign_core::{GroupStatus, group_word};
+use desk_store::{Fault, OpenChange};
+use rollout_machine::{Bounds, GroupRecord};
+use rollout_model::{ControllerId, Group, Page, PageOf, Refusal, Reply, RolloutNo, ShownTarget};
+use sqlite::Alter;
+use std::alloc::Global;
+
+/// Shows a page of the groups of a rollout, in their order.
+pub fn show_groups<S: Alter>(
+    alloc: Global,
+    change: &mut OpenChange<'_, S>,
+    number: RolloutNo,
+    page: Page,
+) -> Result<Reply, Fault>
+    ensures same_reference { change.new.store.ghost_name ≡ change.old.store.ghost_name }
+    ensures shows { ShowsIn S.Store change.old change.new (ShowGroups number page) result }
+{
+    let seen = match read_seen_rollout(change, number)? {
+        Some(seen) => seen,
+        None => return Ok(Reply::Refused(Refusal::NotFound)),
+    };
+    let shown = page_shown(alloc, &seen, page)?;
+    Ok(Reply::Groups(shown))
+}
+
+/// Shows a group of a rollout by its number in there.
+pub fn show_group<S: Alter>(
+    change: &mut OpenChange<'_, S>,
+    number: RolloutNo,
+    group: u32,
+) -> Result<Reply, Fault>
+    ensures same_reference { change.new.store.ghost_name ≡ change.old.store.ghost_name }
+    ensures shows { ShowsIn S.Store change.old change.new (ShowGroup number group) result }
+{
+    let seen = match read_seen_rollout(change, number)? {
+        Some(seen) => seen,
+        None => return Ok(Reply::Refused(Refusal::NotFound)),
+    };
+    let found = match change.read_group(number, group)? {
+        Some(found) => found,
+        None => return Ok(Reply::Refused(Refusal::NotFound)),
+    };
+    let shown = shown_in(&seen, &found)?;
+    Ok(Reply::Group(shown))
+}
+
+/// Shows a page of the members of a group of a rollout, in byte order of their ids.
+pub fn show_group_targets<S: Alter>(
+    alloc: Global,
+    change: &mut OpenChange<'_, S>,
+    number: RolloutNo,
+    group: u32,
+    page: Page,
+) -> Result<Reply, Fault>
+    ensures same_reference { change.new.store.ghost_name ≡ change.old.store.ghost_name }
+    ensures shows { ShowsIn S.Store change.old change.new (ShowGroupTargets number group page) result }
+{
+    let found = match change.read_group(number, group)? {
+        Some(found) => found,
+        None => return Ok(Reply::Refused(Refusal::NotFound)),
+    };
+    let total = count_of(&found)?;
+    let members = change.read_members(number, members_on(&found, total, page))?;
+    let content = read_targets(alloc, change, members)?;
+    Ok(Reply::Targets(PageOf { content, total }))
+}
+
+/// The members of a group that are on a page, as a page of all members of its rollout.
+fn members_on(group: &GroupRecord, total: u32, page: Page) -> Page
+    ensures offset { page.offset < total → total ≡ size_of_group group.now → result.offset ≡ group.now.bounds.first - 1 + page.offset }
+    ensures limit { result.limit ≡ min page.limit (total - page.offset) }
+{
+    let Bounds { first, last } = group.bounds;
+    let before = first.saturating_sub(1).saturating_add(page.offset);
+    Page {
+        offset: before.min(last),
+        limit: count_on(page, total),
+    }
+}
+
+/// The targets of these ids, as they are shown.
+fn read_targets<S: Alter>(
+    alloc: Global,
+    change: &mut OpenChange<'_, S>,
+    ids: Vec<ControllerId>,
+) -> Result<Vec<ShownTarget>, Fault>
+    ensures same_reference { change.new.store.ghost_name ≡ change.old.store.ghost_name }
+    ensures reads { ReadsIn S.Store change.old change.new result (λ now content. map shown_target content.items ≡ targets_shown now (targets_of now ids.items)) }
+{
+    let mut content = Vec::new(alloc);
+    for id in ids {
+        add_target(change, id, &mut content)?;
+    }
+    Ok(content)
+}
+
+/// Adds the target of an id, where it is there.
+fn add_target<S: Alter>(
+    change: &mut OpenChange<'_, S>,
+    id: ControllerId,
+    content: &mut Vec<ShownTarget>,
+) -> Result<(), Fault>
+    ensures same_reference { change.new.store.ghost_name ≡ change.old.store.ghost_name }
+    ensures reads { ReadsIn S.Store change.old change.new result
+        (λ now _. map shown_target content.new.items ≡ map shown_target content.old.items ++ targets_shown now (target_if (target_of now id))) }
+{
+    let shown = match read_shown(change, id)? {
+        Some(shown) => shown,
+        None => return Ok(()),
+    };
+    push(content, shown)?;
+    Ok(())
+}
+
+fn push(content: &mut Vec<ShownTarget>, shown: ShownTarget) -> Result<(), Fault>
+    ensures { IfOk result (λ _. content.new.items ≡ content.old.items ++ shown ∷ []) }
+{
+    match content.push(shown) {
+        Ok(()) => Ok(()),
+        Err(_) => Err(Fault::Memory),
+    }
+}
+
+/// How many members a group has. Where they are more than are counted, the store has failed.
+fn count_of(group: &GroupRecord) -> Result<u32, Fault>
+    ensures { IfOk result (λ size. size ≡ size_of_group group.now) }
+{
+    match u32::try_from(size_of(group)) {
+        Ok(size) => Ok(size),
+        Err(_) => Err(Fault::Store),
+    }
+}
+
+/// The groups of a rollout that are on a page, as they are shown.
+fn page_shown(alloc: Global, seen: &SeenRollout, page: Page) -> Result<PageOf<Group>, Fault>
+    ensures { IfOk result (λ shown. (x : RolloutRecord) → IsSeenOf seen.now x → listed shown ≡ page_of page (map (group_shown x) x.groups)) }
+{
+    let Ok(total) = u32::try_from(seen.groups.len()) else {
+        return Err(Fault::Store);
+    };
+    let content = all_shown(alloc, seen, part_on(&seen.groups, page))?;
+    Ok(PageOf { content, total })
+}
+
+/// These groups of a rollout as they are shown.
+pub(crate) fn all_shown(
+    alloc: Global,
+    seen: &SeenRollout,
+    groups: &[GroupRecord],
+) -> Result<Vec<Group>, Fault>
+    ensures { IfOk result (λ shown. (x : RolloutRecord) → IsSeenOf seen.now x → shown.items ≡ map (group_shown x) groups.now) }
+{
+    let mut all = Vec::new(alloc);
+    for group in groups {
+        let shown = shown_in(seen, group)?;
+        match all.push(shown) {
+            Ok(()) => {}
+            Err(_) => return Err(Fault::Memory),
+        }
+    }
+    Ok(all)
+}
+
+/// A group of a rollout as it is shown.
+fn shown_in(seen: &SeenRollout, group: &GroupRecord) -> Result<Group, Fault>
+    ensures { IfOk result (λ shown. (x : RolloutRecord) → IsSeenOf seen.now x → shown ≡ group_shown x group.now) }
+{
+    let size = count_of(group)?;
+    let GroupRecord {
+        number,
+        bounds: _,
+        started,
+        ok,
+        bad,
+        gone,
+    } = *group;
+    let error = seen.plan.error.get();
+    let word = group_word(
+        seen.started,
+        &GroupStatus {
+            started,
+            size,
+            ok,
+            bad,
+            gone,
+            error,
+        },
+    );
+    Ok(Group {
+        number,
+        size,
+        ok,
+        bad,
+        gone,
+        word,
+    })
+}

@@ -1,0 +1,42 @@
+//! Reports of rollouts.
+
+ghost use Rattle.std.specs.Prelude.{◌≡◌, IfOk};
+ghost use Rattle.rollout_machine.specs.Objects.{report_of};
+ghost use Rattle.rollout_machine.specs.Requests.{ShowReport};
+ghost use Rattle.rollout_machine.specs.Views.{report};
+ghost use Rattle.rollout_machine.specs.declared.records.RolloutRecord.{RolloutRecord};
+ghost use Rattle.desk_views.specs.Rollouts.{IsSeenOf};
+ghost use Rattle.desk_views.specs.Showing.{ShowsIn};
+
+use crate::groups::all_shown;
+use crate::rollouts::{SeenRollout, read_seen_rollout, shown};
+use desk_store::{Fault, OpenChange};
+use rollout_model::{Refusal, Reply, RolloutNo, RolloutReport};
+use sqlite::Alter;
+use std::alloc::Global;
+
+/// Shows a rollout with all its groups.
+pub fn show_report<S: Alter>(
+    alloc: Global,
+    change: &mut OpenChange<'_, S>,
+    number: RolloutNo,
+) -> Result<Reply, Fault>
+    ensures same_reference { change.new.store.ghost_name ≡ change.old.store.ghost_name }
+    ensures shows { ShowsIn S.Store change.old change.new (ShowReport number) result }
+{
+    let seen = match read_seen_rollout(change, number)? {
+        Some(seen) => seen,
+        None => return Ok(Reply::Refused(Refusal::NotFound)),
+    };
+    let whole = report_of(alloc, seen)?;
+    Ok(Reply::Report(whole))
+}
+
+/// The report of a rollout.
+fn report_of(alloc: Global, seen: SeenRollout) -> Result<RolloutReport, Fault>
+    ensures { IfOk result (λ whole. (x : RolloutRecord) → IsSeenOf seen x → report whole ≡ report_of x) }
+{
+    let groups = all_shown(alloc, &seen, &seen.groups)?;
+    let rollout = shown(seen);
+    Ok(RolloutReport { rollout, groups })
+}

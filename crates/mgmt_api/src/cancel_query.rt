@@ -1,0 +1,42 @@
+//! Whether a cancel is forced.
+
+ghost use Rattle.std.specs.Prelude.{◌≡◌, map, option_map};
+ghost use Rattle.request_target.specs.Pairs.{seen};
+ghost use Rattle.mgmt_objects.specs.Readings.{ReadsAs};
+ghost use Rattle.mgmt_api.specs.CancelQueries.{force_asked, force_of, truth_or_false};
+
+use request_target::{read_query, value_of};
+use rollout_model::Refusal;
+use std::alloc::Global;
+
+/// `true` or `false`, which it is where there is no text.
+fn truth_or_false(text: Option<&str>) -> Option<bool>
+    ensures { result ≡ truth_or_false (option_map (λ s. s.now) text.entry) }
+{
+    match text {
+        None => Some(false),
+        Some("true") => Some(true),
+        Some("false") => Some(false),
+        Some(_) => None,
+    }
+}
+
+fn force_of(pairs: &[(String, String)]) -> Option<bool>
+    ensures { result ≡ force_of (map seen pairs.now) }
+{
+    truth_or_false(value_of(pairs, "force"))
+}
+
+/// Whether a cancel is forced: by `force`, `true` or `false`; it isn't where that isn't given.
+pub(crate) fn read_force(alloc: Global, query: &[u8]) -> Result<bool, Refusal>
+    ensures { ReadsAs (force_asked query.now) result }
+{
+    let keys = ["force"];
+    let Some(pairs) = read_query(alloc, &keys, query)? else {
+        return Err(Refusal::BadRequest);
+    };
+    match force_of(&pairs) {
+        Some(force) => Ok(force),
+        None => Err(Refusal::BadRequest),
+    }
+}

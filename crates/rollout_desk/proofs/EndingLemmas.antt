@@ -1,0 +1,77 @@
+-- What follows from the outcome of an action, write by write.
+use Rattle.std.proofs.Common.{◌≡◌, ◌+◌, ℕ, Bool, true, false, cond, nat_eq, Some, refl, sym, ap, ◌∙◌, subst}
+use Rattle.rollout_machine.specs.ByteStrings.{item_numbered}
+use Rattle.rollout_machine.specs.Counts.{is_outcome}
+use Rattle.rollout_machine.specs.RecordSteps.{counted}
+use Rattle.rollout_machine.specs.StateWords.{group_numbered}
+use Rattle.rollout_machine.specs.declared.outcome.Outcome.{Outcome}
+use Rattle.rollout_machine.specs.declared.outcome.Outcome.TheVariants.{Good, Bad, Gone}
+use Rattle.rollout_machine.specs.declared.records.GroupRecord.{GroupRecord}
+use Rattle.campaign_core.specs.declared.rollout_checks.actions.Ending.{Ending}
+use Rattle.desk_records.specs.Holds.{Ledger}
+use Rattle.desk_records.specs.LedgerSteps.{SetsGroup, SetsRollout, set_numbered, with_groups, with_rollouts, counted as set_counts}
+use Rattle.desk_records.specs.Rollouts.{groups_of}
+use Rattle.rollout_desk.specs.Endings.{CountsOutcome, FollowsOutcome, PausesIf, StartsNamed, StartsNumbered, paused_if, with_outcome, with_rollout}
+use Rattle.rollout_desk.specs.GroupStarts.{StartsGroup}
+use Rattle.rollout_desk.specs.declared.seen_actions.SeenAction.{SeenAction}
+use Rattle.rollout_desk.proofs.ItemSteps.{set_same, set_twice}
+use Rattle.rollout_desk.proofs.LedgerEnds.{set_is_there}
+use Rattle.rollout_desk.proofs.LedgerWrites.{Then}
+
+-- ---- the counts
+
+-- with one more of this outcome
+abbrev counted_in : Outcome → GroupRecord → GroupRecord
+counted_in o g = record g { ok = g.ok + cond (is_outcome Good (Some o)) 1 0; bad = g.bad + cond (is_outcome Bad (Some o)) 1 0; gone = g.gone + cond (is_outcome Gone (Some o)) 1 0 }
+
+counts_stay : (o : Outcome) (g : GroupRecord) → ((counted o g.number g).number ≡ g.number) × (set_counts (counted o g.number g).started (counted o g.number g).ok (counted o g.number g).bad (counted o g.number g).gone g ≡ counted o g.number g)
+counts_stay o g = go (nat_eq g.number g.number) where
+  go : (b : Bool) → ((cond b (counted_in o g) g).number ≡ g.number) × (set_counts (cond b (counted_in o g) g).started (cond b (counted_in o g) g).ok (cond b (counted_in o g) g).bad (cond b (counted_in o g) g).gone g ≡ cond b (counted_in o g) g)
+  go true = (refl, refl)
+  go false = (refl, refl)
+
+pub outcome_set : (seen : SeenAction) (o : Outcome) (g : GroupRecord) (l next : Ledger) → g ≡ counted o seen.own.number seen.own → CountsOutcome seen o l next → SetsGroup seen.action.rollout g.number g.started g.ok g.bad g.gone l next
+outcome_set seen o g l next is w = subst (λ (x : GroupRecord). SetsGroup seen.action.rollout x.number x.started x.ok x.bad x.gone l next) (sym is) (record {
+  rollout = w.rollout;
+  is_there = w.is_its;
+  was = seen.own;
+  is_its = ap (item_numbered w.rollout.groups) (counts_stay o seen.own).0 ∙ w.own;
+  next_is = w.next_is ∙ (λ i. with_rollout l seen.action.rollout (with_groups w.rollout (set_numbered w.rollout.groups (sym (counts_stay o seen.own).0 i) (sym (counts_stay o seen.own).1 i))));
+})
+
+-- ---- the pause
+
+pub pause_set : (seen : SeenAction) (l next : Ledger) → PausesIf seen true l next → SetsRollout seen.action.rollout seen.approval seen.started true l next
+pause_set seen l next w = record {
+  rollout = w.rollout;
+  is_there = w.is_its;
+  next_is = w.next_is ∙ (λ i. with_rollout l seen.action.rollout (record w.rollout { approval = sym w.approval i; started = sym w.started i; paused = true }));
+}
+
+pub none_paused : (seen : SeenAction) (l next : Ledger) → PausesIf seen false l next → next ≡ l
+none_paused seen l next w = w.next_is ∙ ap (with_rollouts l) (set_same seen.action.rollout l.records.rollouts w.rollout w.is_its)
+
+-- ---- the start
+
+pub starts_its : (r n : ℕ) (group : GroupRecord) (l next : Ledger) → Some group ≡ group_numbered n (groups_of (item_numbered l.records.rollouts r)) → StartsNumbered r n l next → StartsGroup r group l next
+starts_its r n group l next is w = let both : Some w.group ≡ Some group = sym w.numbered ∙ sym is in subst (λ (g : GroupRecord). StartsGroup r g l next) (let same : w.group ≡ group = cc in same) w.starts
+
+-- ---- one after the other
+
+pub ending_parts : (seen : SeenAction) (e : Ending) (l next : Ledger) → FollowsOutcome seen e l next
+    → Then (Then (CountsOutcome seen e.outcome) (PausesIf seen e.effects.pauses)) (StartsNamed seen.action.rollout e.effects.starts) l next
+ending_parts seen e l next w = (
+  with_rollout l seen.action.rollout (paused_if e.effects.pauses (with_outcome seen e.outcome w.rollout)),
+  (
+    with_rollout l seen.action.rollout (with_outcome seen e.outcome w.rollout),
+    record { rollout = w.rollout; is_its = w.is_its; own = w.own; next_is = refl },
+    record {
+      rollout = with_outcome seen e.outcome w.rollout;
+      is_its = set_is_there l.records.rollouts seen.action.rollout w.rollout (with_outcome seen e.outcome w.rollout) w.is_its;
+      approval = w.approval;
+      started = w.started;
+      next_is = ap (with_rollouts l) (sym (set_twice seen.action.rollout l.records.rollouts (with_outcome seen e.outcome w.rollout) (paused_if e.effects.pauses (with_outcome seen e.outcome w.rollout))));
+    },
+  ),
+  w.starts,
+)

@@ -1,8 +1,0 @@
-use Rattle.std.proofs.Common.{◌≡◌, Bool, map, take}
-use Rattle.rollout_machine.specs.Records.{sets}
-use Rattle.rollout_program.specs.Lists.{list_from}
-use Rattle.rollout_program.proofs.listed.sets.Given as goal
-
--- those of the commands so far
-abbrev pub invariant-loop-command : goal.invariant-loop-command
-invariant-loop-command l = (approval : Bool) → map (λ s. s.now) l.sets.items ≡ sets (list_from approval (take l.command-index l.commands))

@@ -1,9 +1,0 @@
-pub mod Lists
-pub mod Refusals
-pub mod Programs
-pub mod Campaigns
-pub mod Fleet
-pub mod Words
-pub mod Steps
-pub mod Turns
-pub mod Shown

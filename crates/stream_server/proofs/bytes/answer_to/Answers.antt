@@ -1,0 +1,51 @@
+use Rattle.std.proofs.Common.{◌≡◌, ◌≢◌, ℕ, List, true, false, Result, Ok, Err, IfOk, refl, sym, ap, ◌∙◌, if◌then◌else◌}
+use Rattle.rollout_model.specs.declared.refusal.Refusal.{Refusal}
+use Rattle.rollout_machine.specs.Replies.{Reply, Refused, PollShown, DeploymentShown, CancelShown}
+use Rattle.rollout_machine.specs.Views.{reply_of}
+use Rattle.http_wire.specs.Inbox.{message_of}
+use Rattle.http_wire.specs.Messages.{WireMessage}
+use Rattle.http_wire.specs.Replies.{answer_text}
+use Rattle.http_wire.specs.declared.reply.Answer.{Answer}
+use Rattle.ddi_api.specs.Replies.{parts_of as device_parts, reply_text as device_text}
+use Rattle.mgmt_api.specs.Replies.{parts_to, reply_text as manage_text}
+use Rattle.stream_server.specs.Interfaces.{is_for_devices, reply_text}
+use Rattle.stream_server.specs.Parts.{IsToldWhole}
+use Rattle.stream_server.proofs.bytes.answer_to.Goals as goal
+
+-- the connection goes on after a reply that is no refusal
+manage_goes_on : (m : WireMessage) (reply : Reply) → ((refusal : Refusal) → reply ≢ Refused refusal) → (parts_to m reply).ends ≡ false
+manage_goes_on m (Refused refusal) success = absurd (success refusal refl)
+manage_goes_on m reply success = refl
+
+-- and after what devices alone are shown
+device_goes_on : (reply : Reply) → is_for_devices reply ≡ true → (device_parts reply).ends ≡ false
+device_goes_on (PollShown target offer) is = refl
+device_goes_on (DeploymentShown d) is = refl
+device_goes_on (CancelShown action) is = refl
+device_goes_on _ is = absurd (cc is)
+
+by_device : (m : WireMessage) (reply : Reply) → is_for_devices reply ≡ true → device_text reply ≡ reply_text m reply
+unfolding reply_text
+by_device m reply is = rw is refl
+
+by_manage : (m : WireMessage) (reply : Reply) → is_for_devices reply ≡ false → manage_text m reply ≡ reply_text m reply
+unfolding reply_text
+by_manage m reply is = rw is refl
+
+told : (m : WireMessage) (reply : Reply) (r : Result Answer Refusal) (text : List ℕ) (P : Type 0) → (((refusal : Refusal) → reply ≢ Refused refusal) → P) → text ≡ reply_text m reply → IfOk r (λ answer. P → answer_text answer ≡ text)
+    → IfOk r (λ answer. IsToldWhole m reply (answer_text answer))
+told m reply (Ok answer) text P goes same is = λ success. is (goes success) ∙ same
+told m reply (Err e) text P goes same is = is
+
+pub returns-then-is_for_devices : goal.returns-then-is_for_devices
+returns-then-is_for_devices c =
+    let reply = reply_of c.args.reply.now in
+    let is : is_for_devices reply ≡ true = sym c.is_for_devices.ensures ∙ c.if-is_for_devices.true in
+    told (message_of c.args.message.now) reply c.device_reply.result (device_text reply) _ (λ success. device_goes_on reply is) (by_device (message_of c.args.message.now) reply is) c.device_reply.ensures.text
+
+pub returns-else-is_for_devices : goal.returns-else-is_for_devices
+returns-else-is_for_devices c =
+    let reply = reply_of c.args.reply.now in
+    let m = message_of c.args.message.now in
+    let is : is_for_devices reply ≡ false = sym c.is_for_devices.ensures ∙ c.if-is_for_devices.false in
+    told m reply c.manage_reply_to.result (manage_text m reply) _ (manage_goes_on m reply) (by_manage m reply is) c.manage_reply_to.ensures.text
