@@ -1,31 +1,20 @@
 -- What the order `import` asks, what it comes to, and what is told of it.
-use Rattle.std.specs.Prelude.{◌≡◌, ℕ, nat_le, if◌then◌else◌, Bool, true, List, [], ◌++◌, length, Option, Some, None, Result, Ok, Err, codes}
-use Rattle.std.specs.Fmt.{decimal}
+use Rattle.std.specs.Prelude.{◌≡◌, ℕ, nat_le, if◌then◌else◌, Bool, true, List, [], length, Option, Some, None, codes}
 use Rattle.std.specs.Io.KnownBytes.{Appends}
 use Rattle.rollout_model.specs.Limits.{file_length_limit}
-use Rattle.rollout_model.specs.declared.refusal.Refusal.{Refusal}
-use Rattle.rollout_model.specs.declared.refusal.Refusal.TheVariants.{TooLarge, StoreFailed}
+use Rattle.rollout_model.specs.declared.refusal.Refusal.TheVariants.{TooLarge}
 use Rattle.rollout_machine.specs.CommandList.{CommandList}
-use Rattle.rollout_machine.specs.Replies.{Reply, Refused, TargetsPut}
+use Rattle.rollout_machine.specs.Replies.{Reply}
 use Rattle.rollout_machine.specs.Requests.{Asked, Rejected}
 use Rattle.rollout_machine.specs.Standing.{DeskState, Applies, StandsFor, StaysStopped}
 use Rattle.desk_files.specs.Imports.{targets_of}
 use Rattle.mgmt_api.specs.Reading.{imported}
 use Rattle.desk_server.specs.Program.{Tells}
-use Rattle.desk_server.specs.Telling.{TellsOutcome}
+use Rattle.desk_server.specs.Telling.{TellsOutcome, outcome_of}
 
 -- a file asks that its targets are put; one over 1,048,576 bytes is too large, whatever it says
 abbrev pub asked_by_file : List ℕ → Asked
 asked_by_file file = if nat_le (length file) file_length_limit then imported (targets_of file) else Rejected TooLarge
-
-abbrev pub imported_line : ℕ → List ℕ
-imported_line accepted = codes "imported " ++ decimal accepted ++ codes "\n"
-
--- the line of how many targets were put, or why none was; no reply of another kind is given to a put
-abbrev pub outcome_of : Reply → Result (List ℕ) Refusal
-outcome_of (TargetsPut accepted) = Ok (imported_line accepted)
-outcome_of (Refused refusal) = Err refusal
-outcome_of reply = Err StoreFailed
 
 -- the line of a file that can't be read
 abbrev pub file_line : List ℕ
@@ -34,24 +23,24 @@ file_line = codes "fault 6 file\n"
 -- ---- the order
 
 -- The desk answered what the file asks, and its answer is told.
-pub record Imports {File : Type 0} (file : List ℕ) (old new : DeskState File) (out out_new told told_new : Option (List ℕ)) (failed_write writing_fails : Bool) (status : ℕ) : Type 0 where
+pub record Imports {File : Type 0} (file : List ℕ) (old new : DeskState File) (out out_new told told_new : Option (List ℕ)) (telling_fails failed_write writing_fails : Bool) (status : ℕ) : Type 0 where
   pub clean : new.is_clean → old.is_clean
   pub reply : Reply
   pub applies : Applies old new (asked_by_file file) reply
   pub stays : old.is_stopped ≡ true → StaysStopped old new
-  pub tells : TellsOutcome (outcome_of reply) out out_new told told_new failed_write writing_fails status
+  pub tells : TellsOutcome (outcome_of reply) out out_new told told_new telling_fails failed_write writing_fails status
 
 -- The file couldn't be read: the desk stays as it was, and that is told.
-pub record LacksFile {File : Type 0} (old new : DeskState File) (out out_new told told_new : Option (List ℕ)) (failed_write writing_fails : Bool) (status : ℕ) : Type 0 where
+pub record LacksFile {File : Type 0} (old new : DeskState File) (out out_new told told_new : Option (List ℕ)) (telling_fails failed_write writing_fails : Bool) (status : ℕ) : Type 0 where
   pub clean : new.is_clean → old.is_clean
   pub stands : (h : CommandList) → StandsFor old h → StandsFor new h
   pub stays : old.is_stopped ≡ true → StaysStopped old new
   pub status_is : status ≡ 1
   pub unwritten : Appends out out_new []
-  pub tells : Tells told told_new file_line
+  pub tells : Tells told told_new telling_fails file_line
   pub unfailed : writing_fails ≡ failed_write
 
 -- the order `import` was carried out over an opened desk
-abbrev pub CarriesOutImport : {File : Type 0} → Option (List ℕ) → DeskState File → DeskState File → Option (List ℕ) → Option (List ℕ) → Option (List ℕ) → Option (List ℕ) → Bool → Bool → ℕ → Type 0
+abbrev pub CarriesOutImport : {File : Type 0} → Option (List ℕ) → DeskState File → DeskState File → Option (List ℕ) → Option (List ℕ) → Option (List ℕ) → Option (List ℕ) → Bool → Bool → Bool → ℕ → Type 0
 CarriesOutImport None old new = LacksFile old new
 CarriesOutImport (Some file) old new = Imports file old new

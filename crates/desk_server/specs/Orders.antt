@@ -1,6 +1,6 @@
 -- The command line: the program's subcommands, and the order that the words name.
-use Rattle.std.specs.Prelude.{◌≡◌, ◌⊎◌, ℕ, Bool, true, false, nat_le, ◌&&◌, if◌then◌else◌, List, Option, Some, None, option_and_then, codes, bytes_eq}
-use Rattle.clap.specs.Words.{App, Rule, Row, Text, new_app, new_rule, with_rule, with_subcommand, first_of, subcommand_of, takes}
+use Rattle.std.specs.Prelude.{◌≡◌, ◌⊎◌, ℕ, Bool, true, false, nat_le, ◌&&◌, if◌then◌else◌, List, [], Option, Some, None, option_and_then, codes, bytes_eq}
+use Rattle.clap.specs.Words.{App, Rule, Row, Text, new_app, new_rule, with_rule, with_subcommand, fault_of, first_of, subcommand_of, takes}
 use Rattle.clap.specs.declared.builder.ArgAction.TheVariants.{Set, SetTrue}
 use Rattle.request_target.specs.Numbers.{number_of}
 use Rattle.stream_server.specs.declared.interface.Interface.{Interface}
@@ -123,9 +123,20 @@ IsOrder found (Serve setup port connections) = IsServe found setup port connecti
 IsOrder found (Import db file) = IsImport found db.now file.now
 IsOrder found (Report db rollout) = IsReport found db.now rollout
 
+-- whether a new desk asks for approval of each rollout: where `run` and `serve` were told so
+abbrev pub asks_approval : Order → Bool
+asks_approval (Run setup) = setup.approval
+asks_approval (Serve setup port connections) = setup.approval
+asks_approval (Import db file) = false
+asks_approval (Report db rollout) = false
+
 -- what the words name is an order
 abbrev pub NamesOrder : Option (Text × List Row) → Type 0
 NamesOrder found = (order : Order) × IsOrder found order
+
+-- `clap` finds no fault in the words
+abbrev pub AreFaultless : List Text → Type 0
+AreFaultless words = fault_of program_app words ≡ []
 
 -- `clap` doesn't take the words, or they name no order
 abbrev pub AreRefused : List Text → Type 0

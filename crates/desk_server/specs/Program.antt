@@ -1,5 +1,5 @@
 -- What the program tells, and its exit status.
-use Rattle.std.specs.Prelude.{◌≡◌, ◌≤◌, ℕ, Bool, true, false, List, [], ◌++◌, Option, Result, Ok, Err, IfOk, codes}
+use Rattle.std.specs.Prelude.{◌≡◌, ◌≤◌, ◌⊎◌, ℕ, Bool, true, false, List, [], ◌++◌, Option, Result, Ok, Err, IfOk, codes}
 use Rattle.std.specs.Io.KnownBytes.{Appends}
 use Rattle.sqlite_trees.specs.declared.store.Store.{Ghosts}
 use Rattle.rollout_machine.specs.CommandList.{CommandList}
@@ -43,25 +43,29 @@ abbrev pub status_of : {A F : Type 0} → Result A F → ℕ
 status_of (Ok done) = 0
 status_of (Err fault) = 1
 
--- the line, or a beginning of it
-abbrev pub Tells : Option (List ℕ) → Option (List ℕ) → List ℕ → Type 0
-Tells old new line = (part : List ℕ) × (left : List ℕ) × (line ≡ part ++ left) × Appends old new part
+-- a beginning of the text was written
+abbrev pub WritesPart : Option (List ℕ) → Option (List ℕ) → List ℕ → Type 0
+WritesPart old new text = (part : List ℕ) × (left : List ℕ) × (text ≡ part ++ left) × Appends old new part
+
+-- the line was told; where telling fails, a beginning of it
+abbrev pub Tells : Option (List ℕ) → Option (List ℕ) → Bool → List ℕ → Type 0
+Tells old new telling_fails line = Appends old new line ⊎ ((telling_fails ≡ true) × WritesPart old new line)
 
 -- nothing where it was done, and else the line of the fault
-abbrev pub Reports : {A : Type 0} → Option (List ℕ) → Option (List ℕ) → Result A ServeFault → Type 0
-Reports old new (Ok done) = Appends old new []
-Reports old new (Err fault) = Tells old new (fault_line fault)
+abbrev pub Reports : {A : Type 0} → Option (List ℕ) → Option (List ℕ) → Bool → Result A ServeFault → Type 0
+Reports old new telling_fails (Ok done) = Appends old new []
+Reports old new telling_fails (Err fault) = Tells old new telling_fails (fault_line fault)
 
 -- The order `run` was carried out over an opened desk: its interface was served with this outcome, which gives the status, the line that is told
 -- and the flags of input and output.
 pub record CarriesOut {S : Type 0} (g : Ghosts S) (setup : Setup) (before after : Desk S)
-    (stream unread out out_new told told_new : Option (List ℕ)) (failed_read reading_fails failed_write writing_fails : Bool) (status : ℕ) : Type 0 where
+    (stream unread out out_new told told_new : Option (List ℕ)) (telling_fails failed_read reading_fails failed_write writing_fails : Bool) (status : ℕ) : Type 0 where
   pub interface : Interface
   pub named : interface ≡ setup.interface
   pub outcome : Result Served ServeFault
   pub serves : ServesStream interface (desk_state g before) (desk_state g after) stream unread out out_new outcome
   pub status_is : status ≡ status_of outcome
-  pub reports : Reports told told_new outcome
+  pub reports : Reports told told_new telling_fails outcome
   pub read_failed : FailsBy outcome Read failed_read reading_fails
   pub write_failed : FailsBy outcome Write failed_write writing_fails
 
@@ -77,13 +81,13 @@ pub record Listens {File : Type 0} (bound : Bool) (connections : ℕ) (old new :
   pub unserved : bound ≡ false → (h : CommandList) → StandsFor old h → StandsFor new h
 
 -- nothing where the connections were served, and else the line of what ended the listening
-abbrev pub ReportsOn : Option (List ℕ) → Option (List ℕ) → Result ℕ ListenFault → Type 0
-ReportsOn old new (Ok served) = Appends old new []
-ReportsOn old new (Err fault) = Tells old new (listen_line fault)
+abbrev pub ReportsOn : Option (List ℕ) → Option (List ℕ) → Bool → Result ℕ ListenFault → Type 0
+ReportsOn old new telling_fails (Ok served) = Appends old new []
+ReportsOn old new telling_fails (Err fault) = Tells old new telling_fails (listen_line fault)
 
 -- The order `serve` was carried out over an opened desk, with this outcome, which gives the status and the line that is told.
-pub record CarriesOutOn {File : Type 0} (bound : Bool) (connections : ℕ) (before after : DeskState File) (told told_new : Option (List ℕ)) (status : ℕ) : Type 0 where
+pub record CarriesOutOn {File : Type 0} (bound : Bool) (connections : ℕ) (before after : DeskState File) (told told_new : Option (List ℕ)) (telling_fails : Bool) (status : ℕ) : Type 0 where
   pub outcome : Result ℕ ListenFault
   pub listens : Listens bound connections before after outcome
   pub status_is : status ≡ status_of outcome
-  pub reports : ReportsOn told told_new outcome
+  pub reports : ReportsOn told told_new telling_fails outcome

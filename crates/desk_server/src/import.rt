@@ -1,6 +1,6 @@
 //! The order `import`.
 
-ghost use Rattle.std.specs.Prelude.{◌≡◌, ◌≢◌, ◌⊎◌, [], IfErr, IfOk, IsOkAnd, string_bytes, true};
+ghost use Rattle.std.specs.Prelude.{◌≡◌, ◌≢◌, ◌⊎◌, [], IfErr, IfOk, IsOkAnd, true};
 ghost use Rattle.std.specs.Io.KnownBytes.{Appends};
 ghost use Rattle.std.specs.Option.{option_map};
 ghost use Rattle.rollout_model.specs.declared.refusal.Refusal.TheVariants.{NoMemory, StoreFailed};
@@ -9,12 +9,11 @@ ghost use Rattle.rollout_machine.specs.Standing.{Applies, StaysStopped};
 ghost use Rattle.rollout_machine.specs.Views.{request_of, reply_of};
 ghost use Rattle.http_wire.specs.Watched.{inner_of, has_failed};
 ghost use Rattle.rollout_desk.specs.DeskStates.{desk_state};
-ghost use Rattle.desk_server.specs.Imports.{CarriesOutImport, Imports, asked_by_file, imported_line, outcome_of};
+ghost use Rattle.desk_server.specs.Imports.{CarriesOutImport, Imports, asked_by_file};
 ghost use Rattle.desk_server.specs.Program.{Tells, open_line};
-ghost use Rattle.desk_server.specs.Telling.{Prints, TellsOutcome};
 
 use crate::program::{FAILED, open_line, tell};
-use crate::telling::{print_or_tell, refuse, tell_no_memory};
+use crate::telling::tell_reply;
 use desk_opening::OpenFault;
 use http_wire::Watched;
 use mgmt_api::read_file;
@@ -22,7 +21,7 @@ use rollout_desk::Desk;
 use rollout_model::limits::FILE_LENGTH_LIMIT;
 use rollout_model::{Refusal, Reply, Request};
 use sqlite::Alter;
-use std::alloc::{AllocError, Global};
+use std::alloc::Global;
 use std::io::Write;
 use stream_server::Handler;
 
@@ -51,50 +50,6 @@ fn ask<D: Handler>(alloc: Global, desk: &mut D, file: &[u8]) -> Reply
     }
 }
 
-fn imported_line(alloc: Global, accepted: u32) -> Result<String, AllocError>
-    ensures { IfOk result (λ line. string_bytes line ≡ imported_line accepted) }
-{
-    let number = format!(in alloc; "{accepted}")?;
-    let mut line = String::new(alloc);
-    line.push_str("imported ")?;
-    line.push_str(number.as_str())?;
-    line.push_str("\n")?;
-    Ok(line)
-}
-
-/// Tells how many targets were put.
-fn tell_count<W: Write, E: Write>(
-    alloc: Global,
-    accepted: u32,
-    output: &mut Watched<W>,
-    errors: &mut Watched<E>,
-) -> u8
-    ensures { Prints (imported_line accepted) (W.contents (inner_of output.old)) (W.contents (inner_of output.new))
-        (E.contents (inner_of errors.old)) (E.contents (inner_of errors.new)) (has_failed output.old) (has_failed output.new) result }
-{
-    match imported_line(alloc, accepted) {
-        Ok(line) => print_or_tell(line.as_str(), output, errors),
-        Err(_) => tell_no_memory(errors),
-    }
-}
-
-/// Tells what an import came to.
-fn tell_outcome<W: Write, E: Write>(
-    alloc: Global,
-    reply: &Reply,
-    output: &mut Watched<W>,
-    errors: &mut Watched<E>,
-) -> u8
-    ensures { TellsOutcome (outcome_of (reply_of reply.now)) (W.contents (inner_of output.old)) (W.contents (inner_of output.new))
-        (E.contents (inner_of errors.old)) (E.contents (inner_of errors.new)) (has_failed output.old) (has_failed output.new) result }
-{
-    match reply {
-        Reply::TargetsPut(accepted) => tell_count(alloc, *accepted, output, errors),
-        Reply::Refused(refusal) => refuse(alloc, *refusal, errors),
-        _ => refuse(alloc, Refusal::StoreFailed, errors),
-    }
-}
-
 /// Puts the targets of a file, and tells what came of it.
 fn import<W: Write, E: Write, D: Handler>(
     alloc: Global,
@@ -104,10 +59,10 @@ fn import<W: Write, E: Write, D: Handler>(
     errors: &mut Watched<E>,
 ) -> u8
     ensures { Imports file.now (D.state desk.old) (D.state desk.new) (W.contents (inner_of output.old)) (W.contents (inner_of output.new))
-        (E.contents (inner_of errors.old)) (E.contents (inner_of errors.new)) (has_failed output.old) (has_failed output.new) result }
+        (E.contents (inner_of errors.old)) (E.contents (inner_of errors.new)) (has_failed errors.new) (has_failed output.old) (has_failed output.new) result }
 {
     let reply = ask(alloc, desk, file);
-    tell_outcome(alloc, &reply, output, errors)
+    tell_reply(alloc, &reply, output, errors)
 }
 
 /// Puts the targets of a file, or tells that it can't be read.
@@ -119,7 +74,7 @@ fn import_given<W: Write, E: Write, D: Handler>(
     errors: &mut Watched<E>,
 ) -> u8
     ensures { CarriesOutImport (option_map (λ s. s.now) file.entry) (D.state desk.old) (D.state desk.new) (W.contents (inner_of output.old)) (W.contents (inner_of output.new))
-        (E.contents (inner_of errors.old)) (E.contents (inner_of errors.new)) (has_failed output.old) (has_failed output.new) result }
+        (E.contents (inner_of errors.old)) (E.contents (inner_of errors.new)) (has_failed errors.new) (has_failed output.old) (has_failed output.new) result }
 {
     match file {
         Some(file) => import(alloc, desk, file, output, errors),
@@ -140,10 +95,10 @@ pub fn carry_out_import<W: Write, E: Write, S: Alter>(
     errors: &mut Watched<E>,
 ) -> u8
     ensures unopened { IfErr desk.old (λ fault. (result ≡ 1) × Appends (W.contents (inner_of output.old)) (W.contents (inner_of output.new)) []
-        × Tells (E.contents (inner_of errors.old)) (E.contents (inner_of errors.new)) (open_line fault)) }
+        × Tells (E.contents (inner_of errors.old)) (E.contents (inner_of errors.new)) (has_failed errors.new) (open_line fault)) }
     ensures carries_out { IfOk desk.old (λ before. IsOkAnd desk.new (λ after. CarriesOutImport (option_map (λ s. s.now) file.entry)
         (desk_state S.Store before) (desk_state S.Store after) (W.contents (inner_of output.old)) (W.contents (inner_of output.new))
-        (E.contents (inner_of errors.old)) (E.contents (inner_of errors.new)) (has_failed output.old) (has_failed output.new) result)) }
+        (E.contents (inner_of errors.old)) (E.contents (inner_of errors.new)) (has_failed errors.new) (has_failed output.old) (has_failed output.new) result)) }
 {
     match desk {
         Err(fault) => {

@@ -2,12 +2,14 @@
 #![tactic(auto)]
 
 mod import;
+mod opening;
 mod order;
 mod program;
 mod report;
 mod telling;
 
 pub use crate::import::carry_out_import;
+pub use crate::opening::open_for;
 pub use crate::order::{Order, Setup, read_order};
 pub use crate::program::{carry_out, carry_out_on};
 pub use crate::report::carry_out_report;

@@ -5,7 +5,7 @@ ghost use Rattle.std.specs.Option.{option_map};
 ghost use Rattle.clap.specs.Words.{rule_of, app_of, rows_of, found_of, first_of, kind_of, subcommand_of, subcommand_rows_of};
 ghost use Rattle.clap.specs.declared.builder.command.Command.TheViews.{out-Command as fields_of};
 ghost use Rattle.desk_server.specs.Orders.{db_rule, interface_rule, approval_rule, port_rule, connections_rule, file_rule, run_app, port_app, serve_app, import_app, rollout_rule, report_app, serving_app, program_app};
-ghost use Rattle.desk_server.specs.Orders.{interface_word, is_given, number_given, IsSetup, NamesSetup, IsOrder, NamesOrder, AreRefused};
+ghost use Rattle.desk_server.specs.Orders.{interface_word, is_given, number_given, IsSetup, NamesSetup, IsOrder, NamesOrder, AreFaultless, AreRefused};
 
 use clap::error::ErrorKind;
 use clap::{Arg, ArgAction, ArgMatches, Command, Error};
@@ -122,7 +122,10 @@ fn run<'a>(alloc: Global) -> Result<Command<'a>, AllocError>
     ensures app { IfOk result (λ c. app_of c ≡ run_app) }
     ensures local { IfOk result (λ c. (fields_of c).has_globals ≡ false) }
 {
-    let with_db = Command::new(alloc, "run").arg(db(alloc))?;
+    let run = Command::new(alloc, "run").about(
+        "Serves the requests of standard input to standard output",
+    );
+    let with_db = run.arg(db(alloc))?;
     let with_interface = with_db.arg(interface(alloc))?;
     with_interface.arg(approval(alloc))
 }
@@ -154,7 +157,10 @@ fn serve_port<'a>(alloc: Global) -> Result<Command<'a>, AllocError>
     ensures app { IfOk result (λ c. app_of c ≡ port_app) }
     ensures local { IfOk result (λ c. (fields_of c).has_globals ≡ false) }
 {
-    let with_port = Command::new(alloc, "serve").arg(port(alloc))?;
+    let serve = Command::new(alloc, "serve").about(
+        "Serves connections to a port of 127.0.0.1, one after the other",
+    );
+    let with_port = serve.arg(port(alloc))?;
     with_port.arg(connections(alloc))
 }
 
@@ -182,7 +188,8 @@ fn import<'a>(alloc: Global) -> Result<Command<'a>, AllocError>
     ensures app { IfOk result (λ c. app_of c ≡ import_app) }
     ensures local { IfOk result (λ c. (fields_of c).has_globals ≡ false) }
 {
-    let with_db = Command::new(alloc, "import").arg(db(alloc))?;
+    let import = Command::new(alloc, "import").about("Puts the targets of a CSV file");
+    let with_db = import.arg(db(alloc))?;
     with_db.arg(file(alloc))
 }
 
@@ -201,7 +208,8 @@ fn report<'a>(alloc: Global) -> Result<Command<'a>, AllocError>
     ensures app { IfOk result (λ c. app_of c ≡ report_app) }
     ensures local { IfOk result (λ c. (fields_of c).has_globals ≡ false) }
 {
-    let with_db = Command::new(alloc, "report").arg(db(alloc))?;
+    let report = Command::new(alloc, "report").about("Prints how far a rollout is");
+    let with_db = report.arg(db(alloc))?;
     with_db.arg(rollout(alloc))
 }
 
@@ -378,6 +386,7 @@ fn order_of<'a>(matches: &ArgMatches<'a>) -> Result<Order<'a>, Misuse>
 /// subcommand, or where a value is none that its option takes.
 pub fn read_order<'a, S: AsStr>(alloc: Global, words: &'a [S]) -> Result<Order<'a>, Error>
     ensures taken { IfOk result (IsOrder (subcommand_of program_app (map S.text words.entry.now))) }
+    ensures faultless { IfOk result (λ _. AreFaultless (map S.text words.entry.now)) }
     ensures refused { IfErr result (λ error. kind_of error ≢ ErrorKind.OutOfMemory → AreRefused (map S.text words.entry.now)) }
 {
     let mut command = program(alloc)?;

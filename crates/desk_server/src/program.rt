@@ -59,7 +59,7 @@ fn listen_line(fault: ListenFault) -> &'static [u8]
 
 /// Writes a line, or a beginning of it where a write fails: there is nobody left to tell.
 pub(crate) fn tell<E: Write>(errors: &mut Watched<E>, line: &[u8])
-    ensures { Tells (E.contents (inner_of errors.old)) (E.contents (inner_of errors.new)) line.now }
+    ensures { Tells (E.contents (inner_of errors.old)) (E.contents (inner_of errors.new)) (has_failed errors.new) line.now }
 {
     let Ok(()) = write_all_counted(errors, line) else {
         return;
@@ -79,7 +79,7 @@ fn run<R: Read, W: Write, E: Write, D: Handler>(
     ensures { (outcome : Result Outcome Fault)
         × ServesStream interface (D.state desk.old) (D.state desk.new) (R.remaining (inner_of input.old)) (R.remaining (inner_of input.new))
         (W.contents (inner_of output.old)) (W.contents (inner_of output.new)) outcome
-        × (result ≡ status_of outcome) × Reports (E.contents (inner_of errors.old)) (E.contents (inner_of errors.new)) outcome
+        × (result ≡ status_of outcome) × Reports (E.contents (inner_of errors.old)) (E.contents (inner_of errors.new)) (has_failed errors.new) outcome
         × FailsBy outcome ServeFault.Read (has_failed input.old) (has_failed input.new)
         × FailsBy outcome ServeFault.Write (has_failed output.old) (has_failed output.new) }
 {
@@ -119,7 +119,7 @@ fn run_on<E: Write, D: Handler>(
     errors: &mut Watched<E>,
 ) -> u8
     ensures { CarriesOutOn (is_some listener.entry) connections (D.state desk.old) (D.state desk.new)
-        (E.contents (inner_of errors.old)) (E.contents (inner_of errors.new)) result }
+        (E.contents (inner_of errors.old)) (E.contents (inner_of errors.new)) (has_failed errors.new) result }
 {
     match listen(alloc, desk, interface, listener, connections) {
         Ok(_) => DONE,
@@ -141,10 +141,10 @@ pub fn carry_out<R: Read, W: Write, E: Write, S: Alter>(
 ) -> u8
     ensures unopened { IfErr desk.old (λ fault. (result ≡ 1) × Consumes (R.remaining (inner_of input.old)) (R.remaining (inner_of input.new)) []
         × Appends (W.contents (inner_of output.old)) (W.contents (inner_of output.new)) []
-        × Tells (E.contents (inner_of errors.old)) (E.contents (inner_of errors.new)) (open_line fault)) }
+        × Tells (E.contents (inner_of errors.old)) (E.contents (inner_of errors.new)) (has_failed errors.new) (open_line fault)) }
     ensures carries_out { IfOk desk.old (λ before. IsOkAnd desk.new (λ after. CarriesOut S.Store setup.now before after
         (R.remaining (inner_of input.old)) (R.remaining (inner_of input.new)) (W.contents (inner_of output.old)) (W.contents (inner_of output.new))
-        (E.contents (inner_of errors.old)) (E.contents (inner_of errors.new))
+        (E.contents (inner_of errors.old)) (E.contents (inner_of errors.new)) (has_failed errors.new)
         (has_failed input.old) (has_failed input.new) (has_failed output.old) (has_failed output.new) result)) }
 {
     match desk {
@@ -167,9 +167,9 @@ pub fn carry_out_on<E: Write, S: Alter>(
     errors: &mut Watched<E>,
 ) -> u8
     ensures unopened { IfErr desk.old (λ fault. (result ≡ 1)
-        × Tells (E.contents (inner_of errors.old)) (E.contents (inner_of errors.new)) (open_line fault)) }
+        × Tells (E.contents (inner_of errors.old)) (E.contents (inner_of errors.new)) (has_failed errors.new) (open_line fault)) }
     ensures carries_out { IfOk desk.old (λ before. IsOkAnd desk.new (λ after. CarriesOutOn (is_some listener.entry) connections
-        (desk_state S.Store before) (desk_state S.Store after) (E.contents (inner_of errors.old)) (E.contents (inner_of errors.new)) result)) }
+        (desk_state S.Store before) (desk_state S.Store after) (E.contents (inner_of errors.old)) (E.contents (inner_of errors.new)) (has_failed errors.new) result)) }
 {
     match desk {
         Err(fault) => {

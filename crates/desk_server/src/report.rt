@@ -6,56 +6,20 @@ ghost use Rattle.rollout_machine.specs.Requests.{Asks, Ask, ShowReport};
 ghost use Rattle.rollout_machine.specs.Standing.{Applies, StaysStopped};
 ghost use Rattle.rollout_machine.specs.Views.{reply_of};
 ghost use Rattle.http_wire.specs.Watched.{inner_of, has_failed};
-ghost use Rattle.desk_files.specs.Reports.{report_text};
 ghost use Rattle.rollout_desk.specs.DeskStates.{desk_state};
 ghost use Rattle.desk_server.specs.Program.{Tells, open_line};
-ghost use Rattle.desk_server.specs.ReportOrders.{ReportsRollout, outcome_of};
-ghost use Rattle.desk_server.specs.Telling.{Prints, TellsOutcome};
+ghost use Rattle.desk_server.specs.ReportOrders.{ReportsRollout};
 
 use crate::program::{FAILED, open_line, tell};
-use crate::telling::{print_or_tell, refuse, tell_no_memory};
-use desk_files::rollout_report;
+use crate::telling::tell_reply;
 use desk_opening::OpenFault;
 use http_wire::Watched;
 use rollout_desk::Desk;
-use rollout_model::{Query, Refusal, Reply, Request, RolloutNo, RolloutReport};
+use rollout_model::{Query, Reply, Request, RolloutNo};
 use sqlite::Alter;
 use std::alloc::Global;
 use std::io::Write;
 use stream_server::Handler;
-
-/// Writes the text of a report out.
-fn tell_report<W: Write, E: Write>(
-    alloc: Global,
-    report: &RolloutReport,
-    output: &mut Watched<W>,
-    errors: &mut Watched<E>,
-) -> u8
-    ensures { Prints (report_text report.now) (W.contents (inner_of output.old)) (W.contents (inner_of output.new))
-        (E.contents (inner_of errors.old)) (E.contents (inner_of errors.new)) (has_failed output.old) (has_failed output.new) result }
-{
-    match rollout_report(alloc, report) {
-        Ok(text) => print_or_tell(text.as_str(), output, errors),
-        Err(_) => tell_no_memory(errors),
-    }
-}
-
-/// Tells what was answered to the query of a report.
-fn tell_outcome<W: Write, E: Write>(
-    alloc: Global,
-    reply: &Reply,
-    output: &mut Watched<W>,
-    errors: &mut Watched<E>,
-) -> u8
-    ensures { TellsOutcome (outcome_of (reply_of reply.now)) (W.contents (inner_of output.old)) (W.contents (inner_of output.new))
-        (E.contents (inner_of errors.old)) (E.contents (inner_of errors.new)) (has_failed output.old) (has_failed output.new) result }
-{
-    match reply {
-        Reply::Report(report) => tell_report(alloc, report, output, errors),
-        Reply::Refused(refusal) => refuse(alloc, *refusal, errors),
-        _ => refuse(alloc, Refusal::StoreFailed, errors),
-    }
-}
 
 /// What the desk answers to the query of a report.
 fn ask<D: Handler>(desk: &mut D, number: RolloutNo) -> Reply
@@ -75,10 +39,10 @@ fn report<W: Write, E: Write, D: Handler>(
     errors: &mut Watched<E>,
 ) -> u8
     ensures { ReportsRollout number (D.state desk.old) (D.state desk.new) (W.contents (inner_of output.old)) (W.contents (inner_of output.new))
-        (E.contents (inner_of errors.old)) (E.contents (inner_of errors.new)) (has_failed output.old) (has_failed output.new) result }
+        (E.contents (inner_of errors.old)) (E.contents (inner_of errors.new)) (has_failed errors.new) (has_failed output.old) (has_failed output.new) result }
 {
     let reply = ask(desk, number);
-    tell_outcome(alloc, &reply, output, errors)
+    tell_reply(alloc, &reply, output, errors)
 }
 
 /// Carries the order `report` out over the desk, or tells why there is none, and answers the exit status.
@@ -90,10 +54,10 @@ pub fn carry_out_report<W: Write, E: Write, S: Alter>(
     errors: &mut Watched<E>,
 ) -> u8
     ensures unopened { IfErr desk.old (λ fault. (result ≡ 1) × Appends (W.contents (inner_of output.old)) (W.contents (inner_of output.new)) []
-        × Tells (E.contents (inner_of errors.old)) (E.contents (inner_of errors.new)) (open_line fault)) }
+        × Tells (E.contents (inner_of errors.old)) (E.contents (inner_of errors.new)) (has_failed errors.new) (open_line fault)) }
     ensures carries_out { IfOk desk.old (λ before. IsOkAnd desk.new (λ after. ReportsRollout number
         (desk_state S.Store before) (desk_state S.Store after) (W.contents (inner_of output.old)) (W.contents (inner_of output.new))
-        (E.contents (inner_of errors.old)) (E.contents (inner_of errors.new)) (has_failed output.old) (has_failed output.new) result)) }
+        (E.contents (inner_of errors.old)) (E.contents (inner_of errors.new)) (has_failed errors.new) (has_failed output.old) (has_failed output.new) result)) }
 {
     match desk {
         Err(fault) => {

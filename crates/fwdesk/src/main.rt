@@ -3,11 +3,10 @@
 
 use desk_opening::OpenFault;
 use desk_server::{
-    Order, Setup, carry_out, carry_out_import, carry_out_on, carry_out_report, read_order,
+    Order, Setup, carry_out, carry_out_import, carry_out_on, carry_out_report, open_for, read_order,
 };
 use http_wire::Watched;
 use rollout_desk::Desk;
-use rollout_model::RolloutNo;
 use sqlite::{FileFrom, FileStore, Unknown};
 use std::alloc::Global;
 use std::fs::File;
@@ -28,12 +27,8 @@ fn words(rt: &HostRuntime, alloc: Global) -> Option<Vec<String>> {
     Some(words)
 }
 
-/// A desk in a file of the host.
-type FileDesk = Desk<FileStore<FileFrom<Unknown>>>;
-
-fn opened(rt: &HostRuntime, setup: &Setup<'_>) -> Result<FileDesk, OpenFault> {
-    Desk::reopen_path(rt, setup.db, Unknown, setup.approval)
-}
+/// What the opening of a desk in a file of the host came to.
+type Opened = Result<Desk<FileStore<FileFrom<Unknown>>>, OpenFault>;
 
 /// How many bytes of an import's file are read: one more than it may have.
 const READ_LIMIT: u64 = 1_048_577;
@@ -47,23 +42,16 @@ fn first_bytes(rt: &HostRuntime, alloc: Global, path: &str) -> io::Result<Vec<u8
     Ok(bytes)
 }
 
-/// Opens the desk and serves standard input to standard output.
-fn run(rt: &HostRuntime, alloc: Global, setup: &Setup<'_>) -> u8 {
-    let mut desk = opened(rt, setup);
-    carry_out(
-        alloc,
-        setup,
-        &mut desk,
-        &mut Watched::new(rt.stdin()),
-        &mut Watched::new(rt.stdout()),
-        &mut Watched::new(rt.stderr()),
-    )
-}
-
-/// Opens the desk, takes the port and serves its connections.
-fn serve(rt: &HostRuntime, alloc: Global, setup: &Setup<'_>, port: u16, connections: u32) -> u8 {
-    let mut desk = opened(rt, setup);
-    let listener = match &desk {
+/// Takes the port and serves its connections.
+fn serve(
+    rt: &HostRuntime,
+    alloc: Global,
+    setup: &Setup<'_>,
+    port: u16,
+    connections: u32,
+    desk: &mut Opened,
+) -> u8 {
+    let listener = match desk {
         Ok(_) => TcpListener::bind(rt, (Ipv4Addr::LOCALHOST, port)).ok(),
         Err(_) => None,
     };
@@ -71,52 +59,59 @@ fn serve(rt: &HostRuntime, alloc: Global, setup: &Setup<'_>, port: u16, connecti
     carry_out_on(
         alloc,
         setup,
-        &mut desk,
+        desk,
         listener.as_ref(),
         connections,
         &mut errors,
     )
 }
 
-/// Opens the desk, reads the file and puts its targets.
-fn import(rt: &HostRuntime, alloc: Global, db: &str, path: &str) -> u8 {
-    let mut desk = Desk::reopen_path(rt, db, Unknown, false);
-    let file = match &desk {
+/// Reads the file and puts its targets.
+fn import(rt: &HostRuntime, alloc: Global, path: &str, desk: &mut Opened) -> u8 {
+    let file = match desk {
         Ok(_) => first_bytes(rt, alloc, path).ok(),
         Err(_) => None,
     };
     carry_out_import(
         alloc,
-        &mut desk,
+        desk,
         file.as_deref(),
         &mut Watched::new(rt.stdout()),
         &mut Watched::new(rt.stderr()),
     )
 }
 
-/// Opens the desk and prints the report of a rollout.
-fn report(rt: &HostRuntime, alloc: Global, db: &str, rollout: RolloutNo) -> u8 {
-    let mut desk = Desk::reopen_path(rt, db, Unknown, false);
-    carry_out_report(
-        alloc,
-        &mut desk,
-        rollout,
-        &mut Watched::new(rt.stdout()),
-        &mut Watched::new(rt.stderr()),
-    )
-}
-
-fn carry_out_from(rt: &HostRuntime, alloc: Global, order: &Order<'_>) -> u8 {
+/// Carries an order out over the desk that was opened for it.
+fn carry_out_over(rt: &HostRuntime, alloc: Global, order: &Order<'_>, desk: &mut Opened) -> u8 {
     match order {
-        Order::Run(setup) => run(rt, alloc, setup),
+        Order::Run(setup) => carry_out(
+            alloc,
+            setup,
+            desk,
+            &mut Watched::new(rt.stdin()),
+            &mut Watched::new(rt.stdout()),
+            &mut Watched::new(rt.stderr()),
+        ),
         Order::Serve {
             setup,
             port,
             connections,
-        } => serve(rt, alloc, setup, *port, *connections),
-        Order::Import { db, file } => import(rt, alloc, db, file),
-        Order::Report { db, rollout } => report(rt, alloc, db, *rollout),
+        } => serve(rt, alloc, setup, *port, *connections, desk),
+        Order::Import { file, .. } => import(rt, alloc, file, desk),
+        Order::Report { rollout, .. } => carry_out_report(
+            alloc,
+            desk,
+            *rollout,
+            &mut Watched::new(rt.stdout()),
+            &mut Watched::new(rt.stderr()),
+        ),
     }
+}
+
+/// Opens the desk of an order, and carries the order out.
+fn carry_out_from(rt: &HostRuntime, alloc: Global, order: &Order<'_>) -> u8 {
+    let mut desk = open_for(rt, order, Unknown);
+    carry_out_over(rt, alloc, order, &mut desk)
 }
 
 fn main(rt: HostRuntime) -> ExitCode {

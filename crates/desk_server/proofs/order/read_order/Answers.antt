@@ -1,5 +1,5 @@
-use Rattle.std.proofs.Common.{map, ap, ◌∙◌}
-use Rattle.clap.specs.Words.{takes}
+use Rattle.std.proofs.Common.{map, refl, sym, ap, ◌∙◌}
+use Rattle.clap.specs.Words.{fault_of, is_simple_and_free, takes}
 use Rattle.desk_server.proofs.OrderLemmas.{where_clap_refuses, where_no_memory}
 use Rattle.desk_server.proofs.order.read_order.Goals as goal
 
@@ -11,3 +11,8 @@ returns-in_err-matches-clause-refused g c =
 
 pub returns-in_err-error-in-Err-clause-refused : goal.returns-in_err-error-in-Err-clause-refused
 returns-in_err-error-in-Err-clause-refused g c = where_no_memory (map g.S.AsStr.text c.args.words.now) _ c.from_residual-in_err-error-in-Err.ensures.1
+
+pub returns-in-Ok-clause-faultless : goal.returns-in-Ok-clause-faultless
+returns-in-Ok-clause-faultless g c =
+    let app = c.in_ok-command.ensures.app in
+    ap (λ a. fault_of a (map g.S.AsStr.text c.args.words.now)) (sym app) ∙ c.in_ok-matches.ensures.kinds (ap is_simple_and_free app ∙ refl)

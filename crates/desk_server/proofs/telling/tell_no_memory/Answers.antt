@@ -1,6 +1,5 @@
-use Rattle.std.proofs.Common.{◌≡◌, [], Result, Ok, Err, refl}
+use Rattle.std.proofs.Common.{◌≡◌, [], Err, refl}
 use Rattle.std.proofs.KnownBytes.{Appends-nil}
-use Rattle.stream_server.specs.declared.served.ServeFault.{ServeFault}
 use Rattle.stream_server.specs.declared.served.ServeFault.TheVariants.{Memory, Write}
 use Rattle.desk_server.proofs.telling.tell_no_memory.Goals as goal
 
