@@ -4,6 +4,7 @@ pub mod ComposeLemmas
 pub mod AdditionLemmas
 pub mod DeskLemmas
 pub mod OpeningLemmas
+pub mod CrashLemmas
 pub mod RunLemmas
 pub mod ArtifactLemmas
 pub mod ByteOrderLemmas

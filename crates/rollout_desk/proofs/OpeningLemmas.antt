@@ -1,5 +1,5 @@
 -- From a connection that was opened to a desk over it.
-use Rattle.std.proofs.Common.{◌≡◌, ℕ, zero, suc, Bool, false, List, [], Option, Some, None, Ok, Err, Result, IfOk, IfErr, IsTrue, refl, sym, ap, ◌∙◌, subst}
+use Rattle.std.proofs.Common.{◌≡◌, ℕ, zero, suc, Bool, false, List, [], Some, None, Ok, Err, Result, IfOk, IfErr, refl, sym, ap, ◌∙◌, subst}
 use Rattle.std.specs.Prelude.{slice_get}
 use Rattle.sqlite_disk.specs.declared.Disk as disk
 use Rattle.sqlite_disk.specs.declared.Files.{Files}
@@ -10,6 +10,8 @@ use Rattle.sqlite.specs.Files.{IsClosed, file_state}
 use Rattle.sqlite.specs.FileStore.{recovers}
 use Rattle.sqlite.specs.Held.{Held}
 use Rattle.sqlite_store.specs.declared.store.FileStore.{FileStore}
+use Rattle.sqlite_store.specs.Laws.{stays_at}
+use Rattle.sqlite_wal.proofs.LogLemmas.{SeenMayStay}
 use Rattle.sqlite.specs.Steps.{IsEmpty}
 use Rattle.sql_front.specs.Free.{LeavesFree}
 use Rattle.sql_calls.specs.Standing.{HoldIn, IsAtRest}
@@ -31,7 +33,7 @@ use Rattle.rollout_machine.specs.CommandList.{CommandList, Make}
 use Rattle.rollout_machine.specs.Records.{records}
 use Rattle.rollout_machine.specs.Standing.{StandsFor}
 use Rattle.rollout_machine.specs.Validity.{IsValid}
-use Rattle.rollout_desk.specs.Desks.{desk_state_at, HoldsList as HoldsTrees}
+use Rattle.rollout_desk.specs.Desks.{desk_state_at}
 use Rattle.rollout_desk.specs.Openings.{ReopensDesk, GivesBack}
 
 stands : (s : State) (h : CommandList) → IsValid h → Rests HoldsRecords s (records h) → HasCleanDisk s → StandsFor (desk_state_at HoldsRecords false s) h
@@ -46,18 +48,13 @@ reopened_desk image approval s h = record {
 
 -- ---- the files that a desk gives back
 
-kept_list : (s : State) (stopped : Bool) → IsTrue s.is_open → (h : CommandList) → StandsFor (desk_state_at HoldsRecords stopped s) h → HoldsTrees HoldsRecords s.committed.trees h
-kept_list s stopped is_open h st = (st.valid, (s.committed.schema, st.shows.kept_holds is_open))
-
 module _ {D : Type 0} {g : disk.Ghosts D} (given old : Held (FileStore D g)) (same : given ≡ old) (stopped : Bool) where
-  pub gives_back : {E : Type 0} (out : Result (Files D) E) → IfOk out (λ files. AreClean g files.log files.db → IsCopied given files)
+  pub gives_back : {E : Type 0} → SeenMayStay g → (out : Result (Files D) E) → IfOk out (λ files. AreClean g files.log files.db → IsCopied given files)
       → IfOk out (λ files. AreClean g files.log files.db → GivesBack g (desk_state_at HoldsRecords stopped (file_state old)) files)
-  gives_back (Err e) h = tt
-  gives_back (Ok files) h = λ clean.
+  gives_back stays (Err e) h = tt
+  gives_back stays (Ok files) h = λ clean.
       let it = subst (λ c. IsCopied c files) same (h clean) in
-      let s = file_state old in
-      let held = kept_list s stopped it.was_open in
-      record { seen = λ list st. (s.committed.trees, it.seen, held list st); left = λ list st image out. (s.committed.trees, it.left image out, held list st) }
+      record { file = (file_state old).committed.trees; kept = stays_at old.store stays it.was_open; seen = it.seen; left = it.left }
 
   pub gives_store : {A E : Type 0} (out : Result A (E × FileStore D g)) (Other : E × FileStore D g → Type 0) → IfErr out (λ e. IsClosed given e.1 × Other e)
       → IfErr out (λ e. (db : Trees) → recovers e.1 db → (file_state old).may_leave db)

@@ -29,4 +29,5 @@ mod targets;
 
 pub use crate::desk::Desk;
 pub use crate::download::{Download, downloads_go_on};
+pub use crate::opening::goes_on_after_crash;
 pub use desk_opening::OpenFault;

@@ -11,12 +11,12 @@ ghost use Rattle.rollout_machine.specs.Standing.{StandsFor};
 ghost use Rattle.desk_opening.specs.Opening.{IsFailure};
 ghost use Rattle.desk_opening.specs.Reopening.{IsSpared, IsRefused};
 ghost use Rattle.rollout_desk.specs.DeskStates.{desk_state};
-ghost use Rattle.rollout_desk.specs.Openings.{ReopensDesk, GivesBack};
+ghost use Rattle.rollout_desk.specs.Openings.{ReopensDesk, GivesBack, GoesOnAfterCrash, GoesOnOver};
 
 use crate::desk::Desk;
 use desk_opening::{OpenFault, open_desk, reopen_files, reopen_path};
 use desk_store::DeskStore;
-use sqlite::{Connection, Error, FileFrom, FileStore, Files, MemStore, Options, Start};
+use sqlite::{Alter, Connection, Error, FileFrom, FileStore, Files, MemStore, Options, Start};
 use sqlite_disk::Disk;
 use std::alloc::Global;
 
@@ -52,6 +52,19 @@ impl<D: Disk + Drop> Desk<FileStore<D>> {
         let Desk { store, .. } = self;
         store.into_connection().close_files()
     }
+}
+
+/// A law: whatever a crash leaves of a desk's files, a desk that is reopened over it with success stands for the list that a file which the crash may leave holds. The old
+/// desk is given up for it, since `sqlite` tells only of a store that is given up how it numbers its tables; its files come back as they are, and commit nothing.
+pub fn goes_on_after_crash<D: Disk + Drop, S: Alter>(
+    old: Desk<FileStore<D>>,
+    new: &Desk<S>,
+) -> Files<D>
+    ensures before { AreClean D.Disk result.log result.db → GoesOnAfterCrash old (desk_state S.Store new.now) }
+    ensures after { AreClean D.Disk result.log result.db → GoesOnOver (outcomes D.Disk result.log result.db) (desk_state over_files old) (desk_state S.Store new.now) }
+{
+    let Desk { store, .. } = old;
+    store.into_connection().into_store().close()
 }
 
 impl<S: Start> Desk<FileStore<FileFrom<S>>> {
