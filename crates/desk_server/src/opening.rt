@@ -13,6 +13,7 @@ use crate::order::Order;
 use desk_opening::OpenFault;
 use rollout_desk::Desk;
 use sqlite::{FileFrom, FileStore, Start};
+use sqlite_disk::Disk;
 
 impl<'a> Order<'a> {
     /// The path of the database.
