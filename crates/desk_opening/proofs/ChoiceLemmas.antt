@@ -11,7 +11,7 @@ use Rattle.sql_calls.specs.Standing.{Rests}
 use Rattle.rollout_machine.specs.Records.{Records}
 use Rattle.desk_records.specs.Schema.{Desk, desk_names}
 use Rattle.desk_records.specs.Holds.{HoldsRecords}
-use Rattle.desk_opening.specs.Making.{HoldsStage, Free, Makes}
+use Rattle.desk_opening.specs.Making.{HoldsStage, Free, Makes, told}
 use Rattle.desk_opening.specs.declared.opening.OpenFault.{OpenFault}
 use Rattle.desk_opening.specs.declared.opening.OpenFault.TheVariants.{NotDesk, NewerVersion, Memory, Store}
 use Rattle.desk_opening.specs.Opening.{Adopts, HasDeskTables, HasRow, LacksDesk, IsFailure, Tells, FindsTo, OpensDesk, OpensTo, IsKnownOpen}
@@ -54,19 +54,19 @@ module _ {A : Type 0} (old new : State) (approval : Bool) where
   makes_new (Ok x) fails h free = record { wears = h.wears; finds = λ _. inr free; keeps = λ is_open r was clean. absurd (held_is_used old r is_open was (omega (arith, h.wears)) free); makes = λ is_open. h.makes }
   makes_new (Err e) fails h free = record { wears = h.wears; finds = λ _. finds_failure A old.now e fails; keeps = λ is_open r was clean db left. absurd (held_is_used old r is_open was (omega (arith, h.wears)) free); makes = λ is_open. h.makes }
 
--- the error is told as another
-pub made_not : {A E F : Type 0} (old new : State) (approval : Bool) (e : E) (f : F) → Makes {A = A} old new approval (Err e) → Makes {A = A} old new approval (Err f)
-made_not old new approval e f h = record { wears = h.wears; makes = h.makes }
+-- the result is told as another
+pub makes_ok : {A B E F : Type 0} (old new : State) (approval : Bool) (a : A) (b : B) → Makes {E = E} old new approval (Ok a) → Makes {E = F} old new approval (Ok b)
+makes_ok old new approval a b h = record { wears = h.wears; makes = h.makes }
+
+pub makes_err : {A B E F : Type 0} (old new : State) (approval : Bool) (e : E) (f : F) → Makes {A = A} old new approval (Err e) → Makes {A = B} old new approval (Err f)
+makes_err old new approval e f h = record { wears = h.wears; makes = h.makes }
 
 module _ {X : Type 0} (view : X → State) (old : State) (approval : Bool) where
-  pub adopts_ok : (out : Result X OpenFault) → IfOk out (λ x. Adopts old (view x) out) → IfOk out (λ _. HasDeskTables old.now.schema) → ¬ LeavesFree old.now.schema desk_names
-      → IfOk out (λ x. OpensDesk old (view x) approval out)
+  pub adopts_ok : (out : Result X (OpenFault × X)) → IfOk out (λ x. Adopts old (view x) (told out)) → IfOk out (λ _. HasDeskTables old.now.schema) → ¬ LeavesFree old.now.schema desk_names
+      → IfOk out (λ x. OpensDesk old (view x) approval (told out))
   adopts_ok (Ok x) h tables used = adopts old (view x) approval (Ok x) h tables used
   adopts_ok (Err e) h tables used = tt
 
-  pub adopts_err : (out : Result X OpenFault) → IfErr out (λ _. (x : X) × Adopts old (view x) out) → (¬ LeavesFree old.now.schema desk_names) → IfErr out (λ _. (x : X) × OpensDesk old (view x) approval out)
+  pub adopts_err : (out : Result X (OpenFault × X)) → IfErr out (λ e. Adopts old (view e.1) (told out)) → (¬ LeavesFree old.now.schema desk_names) → IfErr out (λ e. OpensDesk old (view e.1) approval (told out))
   adopts_err (Ok x) h used = tt
-  adopts_err (Err e) h used = (h.0, adopts old (view h.0) approval (Err e) h.1 tt used)
-
-pub made_ok : {A E F : Type 0} (old new : State) (approval : Bool) (a : A) → Makes {E = E} old new approval (Ok a) → Makes {E = F} old new approval (Ok a)
-made_ok old new approval a h = record { wears = h.wears; makes = h.makes }
+  adopts_err (Err e) h used = adopts old (view e.1) approval (Err e.0) h tt used

@@ -1,5 +1,5 @@
 -- A new desk, from BEGIN to COMMIT.
-use Rattle.std.proofs.Common.{◌≡◌, ◌⊎◌, inl, ℕ, zero, suc, ◌+◌, Bool, List, [], ◌∷◌, ◌++◌, ◌<◌, length, take, drop, get_or, pos, Ok, Err, Result, IsErr, IfErr, if◌then◌else◌, None, refl, sym, subst, arith}
+use Rattle.std.proofs.Common.{◌≡◌, ◌⊎◌, inl, ℕ, zero, suc, ◌+◌, Bool, List, [], ◌∷◌, ◌++◌, ◌<◌, length, take, drop, get_or, pos, Ok, Err, Result, IsErr, if◌then◌else◌, None, refl, sym, subst, arith}
 use Rattle.std.specs.List.{AllByRecursion}
 use Rattle.sqlite_value.specs.declared.value.Value.TheVariants.{Int}
 use Rattle.sqlite.specs.Tree.{Trees}
@@ -135,9 +135,3 @@ module _ (approval : Bool) {F : Type 0} (out : Result (Unit {0}) F) where
             wears = omega (arith, first.survives.clean, second.wears, third.survives.clean, h.survives.clean);
             makes = λ was. same_rest z (first_records approval) (change.committed HoldsStage COMMIT.now d z (commit_is d.now.schema) (Whole (first_records approval)) Free (filled was) h settled);
           }
-
--- ---- the connection goes with the result
-
-pub make_refused : {X A B F G : Type 0} (view : X → State) (old : State) (approval : Bool) (last : X) (e : G) → Makes {A = B} old (view last) approval (Err e) → (out : Result A F) → IfErr out (λ _. (x : X) × Makes old (view x) approval out)
-make_refused view old approval last e h (Ok a) = tt
-make_refused view old approval last e h (Err f) = (last, record { wears = h.wears; makes = h.makes })

@@ -1,5 +1,5 @@
 -- The row of `desk` is read in a change that is given up.
-use Rattle.std.proofs.Common.{◌≡◌, inl, inr, [], codes, Option, Ok, Err, Result, IsErr, IfErr, sym, subst, arith}
+use Rattle.std.proofs.Common.{◌≡◌, inl, inr, [], codes, Option, Ok, Err, Result, IsErr, sym, subst, arith}
 use Rattle.sqlite.specs.Order.{Row}
 use Rattle.sqlite.specs.Tree.{Trees}
 use Rattle.sqlite.specs.Command.TheVariants.{Select}
@@ -70,41 +70,43 @@ pub keeps_either : {A B E F : Type 0} (a z : State) (x : A) → Keeps {E = E} a 
 keeps_either a z x h (Ok y) = record { wears = h.wears; keeps = h.keeps }
 keeps_either a z x h (Err f) = record { wears = h.wears; keeps = leaves_still a z x h }
 
--- ---- the connection goes with the result
+-- ---- the connection is given back
 
 -- nothing was asked of it
-pub adopts_none : {X A : Type 0} (view : X → State) (conn : X) (e : OpenFault) → Tells {A = A} (HasRow (view conn).now) (LacksDesk (view conn).now) (Err e) → (out : Result A OpenFault) → out ≡ Err e → IfErr out (λ _. (x : X) × Adopts (view conn) (view x) out)
-adopts_none view conn e tells (Ok a) is = tt
-adopts_none view conn e tells (Err f) is =
-    (conn, record { keeps = record { wears = omega arith; keeps = λ r was clean db left. (was clean).crash db left }; tells = λ _. subst (λ r. Tells (HasRow (view conn).now) (LacksDesk (view conn).now) r) (sym is) tells })
+pub adopts_none : (A : Type 0) (s : State) (e : OpenFault) → Tells {A = A} (HasRow s.now) (LacksDesk s.now) (Err e) → Adopts {A = A} s s (Err e)
+adopts_none A s e tells = record { keeps = record { wears = omega arith; keeps = λ r was clean db left. (was clean).crash db left }; tells = λ _. tells }
 
-pub adopts_failed : {X A : Type 0} (view : X → State) (conn : X) (e : OpenFault) → IsFailure e → (out : Result A OpenFault) → out ≡ Err e → IfErr out (λ _. (x : X) × Adopts (view conn) (view x) out)
-adopts_failed {A = A} view conn e fails out is = adopts_none view conn e (tells_failure A (HasRow (view conn).now) (LacksDesk (view conn).now) e fails) out is
+pub adopts_failed : (A : Type 0) (s : State) (e : OpenFault) → IsFailure e → Adopts {A = A} s s (Err e)
+adopts_failed A s e fails = adopts_none A s e (tells_failure A (HasRow s.now) (LacksDesk s.now) e fails)
 
 -- a connection that was wrapped is the same
-module _ {X B : Type 0} (view : X → State) (old first last : X) (same : first ≡ old) (table : StandsSomewhere (view old).now.schema (desk_table 0)) where
-  pub adopts_wrapped : {A : Type 0} (e : OpenFault) → Keeps {A = B} (view first) (view last) (Err e)
-      → (HasCleanDisk (view last) → StandsSomewhere (view first).now.schema (desk_table 0) → Tells {A = B} (HasRow (view first).now) (HasNoRow (view first).now) (Err e)) → (out : Result A OpenFault) → out ≡ Err e
-      → IfErr out (λ _. (x : X) × Adopts (view old) (view x) out)
-  adopts_wrapped e h tells (Ok a) is = tt
-  adopts_wrapped {A} e h tells (Err f) is =
-      let k = subst (λ x. Keeps {A = B} {E = OpenFault} (view x) (view last) (Err e)) same h in
-      let t = subst (λ x. HasCleanDisk (view last) → StandsSomewhere (view x).now.schema (desk_table 0) → Tells {A = B} (HasRow (view x).now) (HasNoRow (view x).now) (Err e)) same tells in
-      (last, record { keeps = record { wears = k.wears; keeps = k.keeps }; tells = λ clean. subst (λ r. Tells (HasRow (view old).now) (LacksDesk (view old).now) r) (sym is) (tells_on B A (HasRow (view old).now) (HasNoRow (view old).now) (LacksDesk (view old).now) (λ none. inr (inl none)) e (t clean table)) })
+module _ {X B : Type 0} (view : X → State) (old first last given : X) (same : first ≡ old) (is : given ≡ last) (table : StandsSomewhere (view old).now.schema (desk_table 0)) (out : Result B OpenFault)
+    (h : Keeps (view first) (view last) out) (tells : HasCleanDisk (view last) → StandsSomewhere (view first).now.schema (desk_table 0) → Tells (HasRow (view first).now) (HasNoRow (view first).now) out) where
+  kept : Keeps (view old) (view given) out
+  kept = subst (λ x. Keeps (view old) (view x) out) (sym is) (subst (λ x. Keeps (view x) (view last) out) same h)
 
-  pub adopts_whole : (b : B) (given : X) → given ≡ last → Keeps {A = B} {E = OpenFault} (view first) (view last) (Ok b)
-      → (HasCleanDisk (view last) → StandsSomewhere (view first).now.schema (desk_table 0) → Tells {A = B} (HasRow (view first).now) (HasNoRow (view first).now) (Ok b)) → Adopts (view old) (view given) (Ok given)
-  adopts_whole b given is h tells =
-      let k = subst (λ x. Keeps {A = B} {E = OpenFault} (view x) (view last) (Ok b)) same h in
-      let t = subst (λ x. HasCleanDisk (view last) → StandsSomewhere (view x).now.schema (desk_table 0) → Tells {A = B} (HasRow (view x).now) (HasNoRow (view x).now) (Ok b)) same tells in
-      subst (λ x. Adopts (view old) (view x) (Ok given)) (sym is) (record { keeps = record { wears = k.wears; keeps = k.keeps }; tells = λ clean. t clean table })
+  told : HasCleanDisk (view given) → Tells (HasRow (view old).now) (HasNoRow (view old).now) out
+  told clean = subst (λ x. HasCleanDisk (view last) → StandsSomewhere (view x).now.schema (desk_table 0) → Tells (HasRow (view x).now) (HasNoRow (view x).now) out) same tells (subst (λ x. HasCleanDisk (view x)) is clean) table
 
-  -- the row is of this version, and another table is not there
-  pub adopts_lacking : {A : Type 0} (b : B) → Keeps {A = B} {E = OpenFault} (view first) (view last) (Ok b)
-      → (HasCleanDisk (view last) → StandsSomewhere (view first).now.schema (desk_table 0) → Tells {A = B} (HasRow (view first).now) (HasNoRow (view first).now) (Ok b))
-      → (¬ HasDeskTables (view old).now.schema) → (out : Result A OpenFault) → out ≡ Err NotDesk → IfErr out (λ _. (x : X) × Adopts (view old) (view x) out)
-  adopts_lacking b h tells lacks (Ok a) is = tt
-  adopts_lacking b h tells lacks (Err f) is =
-      let k = subst (λ x. Keeps {A = B} {E = OpenFault} (view x) (view last) (Ok b)) same h in
-      let t = subst (λ x. HasCleanDisk (view last) → StandsSomewhere (view x).now.schema (desk_table 0) → Tells {A = B} (HasRow (view x).now) (HasNoRow (view x).now) (Ok b)) same tells in
-      (last, record { keeps = keeps_either (view old) (view last) b k (Err f); tells = λ clean. subst (λ r. Tells (HasRow (view old).now) (LacksDesk (view old).now) r) (sym is) (inr (inr (inr (record { row = t clean table; lacks = lacks })))) })
+module _ {X B : Type 0} (view : X → State) (old first last given : X) (same : first ≡ old) (is : given ≡ last) (table : StandsSomewhere (view old).now.schema (desk_table 0)) where
+  pub adopts_wrapped : (A : Type 0) (e : OpenFault) → Keeps {A = B} (view first) (view last) (Err e)
+      → (HasCleanDisk (view last) → StandsSomewhere (view first).now.schema (desk_table 0) → Tells {A = B} (HasRow (view first).now) (HasNoRow (view first).now) (Err e)) → Adopts {A = A} (view old) (view given) (Err e)
+  adopts_wrapped A e h tells =
+      let k = kept view old first last given same is table (Err e) h tells in
+      let t = told view old first last given same is table (Err e) h tells in
+      record { keeps = record { wears = k.wears; keeps = k.keeps }; tells = λ clean. tells_on B A (HasRow (view old).now) (HasNoRow (view old).now) (LacksDesk (view old).now) (λ none. inr (inl none)) e (t clean) }
+
+  module _ (b : B) (h : Keeps {A = B} {E = OpenFault} (view first) (view last) (Ok b))
+      (tells : HasCleanDisk (view last) → StandsSomewhere (view first).now.schema (desk_table 0) → Tells {A = B} (HasRow (view first).now) (HasNoRow (view first).now) (Ok b)) where
+    pub adopts_whole : (A : Type 0) (x : A) → Adopts (view old) (view given) (Ok x)
+    adopts_whole A x =
+        let k = kept view old first last given same is table (Ok b) h tells in
+        let t = told view old first last given same is table (Ok b) h tells in
+        record { keeps = record { wears = k.wears; keeps = k.keeps }; tells = t }
+
+    -- the row is of this version, and another table is not there
+    pub adopts_lacking : (A : Type 0) → (¬ HasDeskTables (view old).now.schema) → Adopts {A = A} (view old) (view given) (Err NotDesk)
+    adopts_lacking A lacks =
+        let k = kept view old first last given same is table (Ok b) h tells in
+        let t = told view old first last given same is table (Ok b) h tells in
+        record { keeps = keeps_either (view old) (view given) b k (Err NotDesk); tells = λ clean. inr (inr (inr (record { row = t clean; lacks = lacks }))) }

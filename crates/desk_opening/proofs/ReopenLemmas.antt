@@ -11,7 +11,15 @@ use Rattle.sqlite.specs.Tree.{Trees}
 use Rattle.sqlite.specs.Schema.{Schema}
 use Rattle.sqlite.specs.Table.{Table}
 use Rattle.sqlite.specs.Recovery.{Image}
-use Rattle.sqlite.specs.Files.{HoldsDatabase, AreFoundIn, IsNothing}
+use Rattle.sqlite.specs.Files.{HoldsDatabase, AreFoundIn, IsNothing, IsBlankAs, IsCleanLeft, file_state}
+use Rattle.sqlite.specs.Start.{FindsIn}
+use Rattle.sqlite.specs.Held.{Held}
+use Rattle.sqlite.specs.declared.file.Leftover.{Leftover}
+use Rattle.sqlite.specs.declared.file.Leftover.TheVariants as left
+use Rattle.sqlite_disk.specs.declared.Disk as disk
+use Rattle.sqlite_store.specs.declared.store.FileStore.{FileStore}
+use Rattle.sqlite_store.specs.FileStore as store
+use Rattle.sqlite_trees.proofs.Doubt.{no_doubt}
 use Rattle.sqlite.specs.State.{State, HasCleanDisk, Opens, IsLive}
 use Rattle.sqlite_catalog.specs.Listing.{IsSound, IsTableRow}
 use Rattle.sqlite_catalog.specs.Change.{is_used}
@@ -21,10 +29,10 @@ use Rattle.sql_front.specs.Free.{LeavesFree}
 use Rattle.rollout_machine.specs.Records.{Records}
 use Rattle.desk_records.specs.Schema.{desk_names}
 use Rattle.desk_records.specs.Holds.{HoldsRecords}
-use Rattle.desk_opening.specs.Making.{HoldsStage, Free}
+use Rattle.desk_opening.specs.Making.{HoldsStage, Free, told}
 use Rattle.desk_opening.specs.declared.opening.OpenFault.{OpenFault}
 use Rattle.desk_opening.specs.Opening.{OpensDesk, HasDesk, HasNoDesk, HasRow, IsFailure, IsNewerRow, FindsTo, IsSettled}
-use Rattle.desk_opening.specs.Reopening.{Reopens, Refuses, HoldsDesk, HoldsNone, HoldsNoDesk, HasNewer, IsOpenable, UsesNoName}
+use Rattle.desk_opening.specs.Reopening.{Reopens, Refuses, RefusesStore, LeavesUnharmed, IsLeftOf, BeginsPlain, HoldsDesk, HoldsNone, HoldsNoDesk, HasNewer, IsOpenable, UsesNoName}
 use Rattle.desk_opening.proofs.BlankLemmas.{nothing_is_unused}
 use Rattle.desk_opening.proofs.HeldLemmas.{held_fails, free_fails}
 
@@ -121,7 +129,7 @@ module _ (image : Image) (old : State) (opened : HasCleanDisk old → Opens old 
   only_fails A e clean finds (inl has) = held_fails old.now has.0 ((rests has.0 has.1 clean).now_holds (opened clean).0.is_open) A e finds
   only_fails A e clean finds (inr nothing) = free_fails A old.now ((rests_free nothing clean).now_holds (opened clean).0.is_open).1 e finds
 
-  pub reopens : {X : Type 0} (view : X → State) (approval : Bool) (out : Result X OpenFault) → IfOk out (λ x. OpensDesk old (view x) approval out) → IfOk out (λ x. Reopens image (view x) approval)
+  pub reopens : {X Y : Type 0} (view : X → State) (approval : Bool) (out : Result X (OpenFault × Y)) → IfOk out (λ x. OpensDesk old (view x) approval (told out)) → IfOk out (λ x. Reopens image (view x) approval)
   reopens view approval (Err e) h = tt
   reopens view approval (Ok x) h =
       let is_open = λ (clean : HasCleanDisk old). (opened clean).0.is_open in
@@ -131,27 +139,37 @@ module _ (image : Image) (old : State) (opened : HasCleanDisk old → Opens old 
         makes = λ none. h.makes is_open (rests_free none);
       }
 
-  pub refuses : {X : Type 0} (view : X → State) (approval : Bool) (out : Result X OpenFault) → IfErr out (λ e. (last : X) × OpensDesk old (view last) approval out)
-      → IfErr out (λ e. (last : X) × (HasCleanDisk (view last) → Refuses image (view last) approval e))
-  refuses view approval (Ok x) h = tt
-  refuses {X = X} view approval (Err e) h =
-      let is_open = λ (clean : HasCleanDisk old). (opened clean).0.is_open in (
-        h.0,
-        λ clean. record {
-          newer = λ is. newer (omega (arith, clean, h.1.wears)) (subst (λ f. FindsTo {A = X} old.now (Err f)) is (h.1.finds clean));
-          none = λ is. none (omega (arith, clean, h.1.wears)) (subst (λ f. FindsTo {A = X} old.now (Err f)) is (h.1.finds clean));
-          fails = only_fails X e (omega (arith, clean, h.1.wears)) (h.1.finds clean);
-          holds = λ r has. h.1.keeps is_open r (rests r has) clean;
-          makes = λ none. h.1.makes is_open (rests_free none) clean;
-        },
-      )
+  pub refuses : (X : Type 0) (new : State) (approval : Bool) (e : OpenFault) → OpensDesk {A = X} old new approval (Err e) → HasCleanDisk new → Refuses image new.may_leave approval e
+  refuses X new approval e h clean =
+      let is_open = λ (clean : HasCleanDisk old). (opened clean).0.is_open in
+      record {
+        newer = λ is. newer (omega (arith, clean, h.wears)) (subst (λ f. FindsTo {A = X} old.now (Err f)) is (h.finds clean));
+        none = λ is. none (omega (arith, clean, h.wears)) (subst (λ f. FindsTo {A = X} old.now (Err f)) is (h.finds clean));
+        fails = only_fails X e (omega (arith, clean, h.wears)) (h.finds clean);
+        holds = λ r has. h.keeps is_open r (rests r has) clean;
+        makes = λ none. h.makes is_open (rests_free none) clean;
+      }
 
-  pub refused_after : {X : Type 0} (view : X → State) (approval : Bool) (Other : OpenFault → Type 0) (out : Result X OpenFault) → IfErr out (λ e. (last : X) × OpensDesk old (view last) approval out)
-      → IfErr out (λ e. Other e ⊎ ((last : X) × (HasCleanDisk (view last) → Refuses image (view last) approval e)))
-  refused_after view approval Other (Ok x) h = tt
-  refused_after view approval Other (Err e) h = inr (refuses view approval (Err e) h)
+  -- the store that is left of a connection, which was rolled back, leaves no more than the connection
+  module _ {D : Type 0} {g : disk.Ghosts D} (approval : Bool) where
+    leaves_store : (X : Type 0) (last : Held (FileStore D g)) (e : OpenFault) (rest : Leftover D g) → OpensDesk {A = X} old (file_state last) approval (Err e) → IsLeftOf last rest → IsCleanLeft rest → RefusesStore image approval e rest
+    leaves_store X last e (left.Files now) h gone clean = gone
+    leaves_store X last e (left.Unopened now) h gone clean = gone
+    leaves_store X last e (left.Store now) h quiet clean =
+        let sure = no_doubt (store.view now).is_clean clean in
+        let it = refuses X (file_state last) approval e h (omega (arith, quiet.clean, sure)) in
+        record { newer = it.newer; none = it.none; fails = it.fails; holds = λ r has db may. it.holds r has db (quiet.outcomes db may); makes = λ none db may. it.makes none db (quiet.outcomes db may) }
 
-  pub refused_at_path : {X : Type 0} (view : X → State) (approval : Bool) (First Other : OpenFault → Type 0) (out : Result X OpenFault) → IfErr out (λ e. (last : X) × OpensDesk old (view last) approval out)
-      → IfErr out (λ e. First e ⊎ (Other e ⊎ ((last : X) × (HasCleanDisk (view last) → Refuses image (view last) approval e))))
-  refused_at_path view approval First Other (Ok x) h = tt
-  refused_at_path view approval First Other (Err e) h = inr (inr (refuses view approval (Err e) h))
+    pub left_unharmed : {X : Type 0} (before : Image → Type 0) (out : Result X (OpenFault × Leftover D g))
+        → IfErr out (λ e. (last : Held (FileStore D g)) × OpensDesk old (file_state last) approval (told out) × IsLeftOf last e.1) → IfErr out (λ e. LeavesUnharmed before image approval e.0 e.1)
+    left_unharmed before (Ok x) h = tt
+    left_unharmed {X} before (Err e) h = inr (leaves_store X h.0 e.0 e.1 h.1 h.2)
+
+-- ---- what the connection began as
+
+pub begins_plain : {D : Type 0} {g : disk.Ghosts D} (image : Image) (approval : Bool) (first : Held (FileStore D g)) → (HasCleanDisk (file_state first) → FindsIn image (file_state first))
+    → (HasCleanDisk (file_state first) → IsBlankAs false image → (store.view first.store).has_sums ≡ false) → {E : Type 0} (out : Result (Held (FileStore D g)) (OpenFault × E))
+    → IfOk out (λ x. OpensDesk (file_state first) (file_state x) approval (told out)) → IfOk out (BeginsPlain image approval)
+begins_plain image approval first found plain (Err e) h = tt
+begins_plain image approval first found plain (Ok x) h =
+    record { first = first; opens = record { wears = h.wears; finds = h.finds; keeps = h.keeps; makes = h.makes }; found = found; plain = plain }

@@ -1,5 +1,5 @@
 -- What files keep that were not opened.
-use Rattle.std.proofs.Common.{◌≡◌, ◌≢◌, ◌⊎◌, ◌==◌, ◌%◌, ◌≤◌, inl, inr, ℕ, Bool, true, false, List, [], ◌∷◌, if◌then◌else◌, cond, Option, Some, None, IfSome, refl, sym, ap, ap₂, subst, ◌∙◌, IsTrue, arith}
+use Rattle.std.proofs.Common.{◌≡◌, ◌≢◌, ◌⊎◌, ◌==◌, ◌%◌, ◌≤◌, inl, inr, ℕ, Bool, true, false, List, [], ◌∷◌, if◌then◌else◌, cond, Option, Some, None, IfSome, MatchOption, refl, sym, ap, ap₂, subst, ◌∙◌, IsTrue, arith}
 use Rattle.std.proofs.lemmas.Bool.{cases_eq, cases_Bool}
 use Rattle.std.proofs.Math.Logic.{∥∥₁_map, ∥∥₁_elim}
 use Rattle.sqlite_disk.specs.declared.Disk as disk
@@ -32,7 +32,7 @@ use Rattle.desk_records.specs.Holds.{HoldsRecords}
 use Rattle.desk_opening.specs.declared.opening.OpenFault.{OpenFault}
 use Rattle.desk_opening.specs.declared.opening.OpenFault.TheVariants.{NotDesk, NewerVersion, Memory, Store}
 use Rattle.desk_opening.specs.Opening.{IsFailure}
-use Rattle.desk_opening.specs.Reopening.{HoldsPlain, HoldsNone, HoldsDesk, UsesNoName, EachAfter, IsForeign, Spares, IsSpared}
+use Rattle.desk_opening.specs.Reopening.{HoldsPlain, HoldsNone, HoldsDesk, UsesNoName, EachAfter, IsForeign, Spares, LeavesUnharmed}
 use Rattle.desk_opening.proofs.BlankLemmas.{nothing_is_unused, empty_is_unused}
 use Rattle.desk_opening.proofs.ReopenLemmas.{found_records, found_none}
 
@@ -177,12 +177,12 @@ is_failure error e opened (inr (inr is)) = opened (λ no. let x = sym is ∙ no 
 
 module _ {D : Type 0} (g : disk.Ghosts D) (stays : (file : D) → g.may_leave file (g.seen file)) (at : Image) (IsFreshLog IsFreshDb : D → Type 0)
     (logs : (f : D) → IsFreshLog f → (c : List ℕ) → g.may_leave f c → c ≡ at.log) (dbs : (f : D) → IsFreshDb f → (c : List ℕ) → g.may_leave f c → c ≡ at.db) where
-  pub path_refused : (error : Error) (rest : Option (Leftover D g)) (e : OpenFault) (Other : Type 0) → (error ≢ SqliteFailure code.NotADatabase → IsFailure e) → e ≢ NewerVersion
+  pub path_refused : (error : Error) (rest : Option (Leftover D g)) (e : OpenFault) (approval : Bool) → (error ≢ SqliteFailure code.NotADatabase → IsFailure e) → e ≢ NewerVersion
       → (rest ≡ None → (error ≡ SqliteFailure code.CannotOpen) ⊎ ((error ≡ SqliteFailure code.OutOfMemory) ⊎ (error ≡ SqliteFailure code.DatabaseBusy)))
       → IfSome rest (λ left. (files : Files D) × IsFreshLog files.log × IsFreshDb files.db × (IsCleanLeft left → FailsToOpenFiles files left error × LeavesFiles files left))
-      → IsFailure e ⊎ (IsSpared g (λ left. left ≡ at) e ⊎ Other)
-  path_refused error None e Other opened named unopened cause = inl (is_failure error e opened (unopened refl))
-  path_refused error (Some rest) e Other opened named unopened cause =
+      → MatchOption rest (IsFailure e) (LeavesUnharmed (λ left. left ≡ at) at approval e)
+  path_refused error None e approval opened named unopened cause = is_failure error e opened (unopened refl)
+  path_refused error (Some rest) e approval opened named unopened cause =
       let files = cause.0 in
       let all = λ (image : Image) (out : outcomes g files.log files.db image). ap₂ (λ (a b : List ℕ). let i : Image = record { log = a; db = b } in i) (logs files.log cause.1 image.log out.0) (dbs files.db cause.2 image.db out.1) in
-      inr (inl (rest, λ clean. spares_at g stays files (λ left. left ≡ at) all rest e (spares g stays files error rest e opened named (cause.3 clean))))
+      inl (λ clean. spares_at g stays files (λ left. left ≡ at) all rest e (spares g stays files error rest e opened named (cause.3 clean)))

@@ -58,6 +58,11 @@ abbrev pub MakesTablesTo : {A E : Type 0} → State → State → Result A E →
 MakesTablesTo old new (Ok _) = Changes HoldsStage old Free Free → Changes HoldsStage new (Partly places []) Free
 MakesTablesTo old new (Err e) = Changes HoldsStage old Free Free → HasCleanDisk new → (db : Trees) → new.may_leave db → LeavesNoDesk db
 
+-- the fault alone, of a call that gives back with it what was left
+abbrev pub told : {A E X : Type 0} → Result A (E × X) → Result A E
+told (Ok a) = Ok a
+told (Err e) = Err e.0
+
 -- all tables, within a change
 pub record MakesTables {A E : Type 0} (old new : State) (result : Result A E) : Type 0 where
   pub wears : Wears old new

@@ -1,5 +1,5 @@
 -- A desk over files that were opened.
-use Rattle.std.specs.Prelude.{◌≡◌, ◌≢◌, ◌⊎◌, Bool, false, ℕ}
+use Rattle.std.specs.Prelude.{◌≡◌, ◌≢◌, ◌⊎◌, Bool, false, ℕ, Ok}
 use Rattle.sqlite_disk.specs.declared.Disk as disk
 use Rattle.sqlite.specs.Recovery.{Image}
 use Rattle.sqlite.specs.Tree.{Trees}
@@ -9,13 +9,15 @@ use Rattle.sqlite_wal.specs.PageSize.{IsPageSize}
 use Rattle.sqlite_wal.specs.Files.{outcomes}
 use Rattle.sqlite_pool.specs.Stored.{is_summed, stored_size}
 use Rattle.sqlite_store.specs.Unopened.{state_of}
-use Rattle.sqlite_store.specs.FileStore.{recovers}
+use Rattle.sqlite_store.specs.FileStore.{recovers, view, faults, is_shielded}
+use Rattle.sqlite_trees.specs.View.{IsQuiet}
+use Rattle.sqlite.specs.Start.{FindsIn}
 use Rattle.sqlite.specs.declared.file.Leftover.{Leftover}
 use Rattle.sqlite.specs.declared.file.Leftover.TheVariants as left
 use Rattle.sqlite_store.specs.declared.store.FileStore.{FileStore}
 use Rattle.sqlite.specs.Held.{Held}
 use Rattle.sqlite.specs.Opening.{HoldsIn}
-use Rattle.sqlite.specs.Files.{HoldsDatabase, IsNothing, AreFoundIn, IsCleanLeft, file_state}
+use Rattle.sqlite.specs.Files.{HoldsDatabase, IsNothing, IsBlankAs, AreFoundIn, IsCleanLeft, file_state}
 use Rattle.sqlite.specs.State.{State, HasCleanDisk}
 use Rattle.sql_front.specs.Free.{LeavesFree}
 use Rattle.sql_calls.specs.Standing.{HoldIn, Rests}
@@ -25,7 +27,7 @@ use Rattle.desk_records.specs.Holds.{HoldsRecords}
 use Rattle.desk_opening.specs.declared.opening.OpenFault.{OpenFault}
 use Rattle.desk_opening.specs.declared.opening.OpenFault.TheVariants.{NotDesk, NewerVersion}
 use Rattle.desk_opening.specs.Making.{LeavesNoDesk, LeavesDesk, first_records}
-use Rattle.desk_opening.specs.Opening.{HasDesk, HasNoDesk, HasRow, IsFailure, IsNewerRow}
+use Rattle.desk_opening.specs.Opening.{HasDesk, HasNoDesk, HasRow, IsFailure, IsNewerRow, OpensDesk}
 
 -- whichever schema the trees list, it leaves the names of a desk free
 abbrev pub UsesNoName : Trees → Type 0
@@ -70,14 +72,14 @@ HasNewer db = (schema : Schema) × IsSound schema db × HasRow (record { schema 
 abbrev pub HoldsNoDesk : Trees → Type 0
 HoldsNoDesk db = (schema : Schema) × IsSound schema db × HasNoDesk (record { schema = schema; trees = db })
 
--- The database was opened, and this is what the connection leaves. The records of a desk stay. Where there was none there is none, or the new one is whole.
+-- The database was opened, and this is what a crash leaves of its store. The records of a desk stay. Where there was none there is none, or the new one is whole.
 -- Either is refused for a failure alone, and never as no desk or a later version.
-pub record Refuses (image : Image) (s : State) (approval : Bool) (e : OpenFault) : Type 0 where
+pub record Refuses (image : Image) (may_leave : Trees → Type 0) (approval : Bool) (e : OpenFault) : Type 0 where
   pub newer : e ≡ NewerVersion → (db : Trees) × AreFoundIn image db × HasNewer db
   pub none : e ≡ NotDesk → (db : Trees) × AreFoundIn image db × HoldsNoDesk db
   pub fails : ((r : Records) × HoldsDesk HoldsDatabase image r) ⊎ HoldsNone HoldsDatabase image → IsFailure e
-  pub holds : (r : Records) → HoldsDesk HoldsDatabase image r → (db : Trees) → s.may_leave db → HoldIn HoldsRecords db r
-  pub makes : HoldsNone HoldsDatabase image → (db : Trees) → s.may_leave db → LeavesNoDesk db ⊎ LeavesDesk db (first_records approval)
+  pub holds : (r : Records) → HoldsDesk HoldsDatabase image r → (db : Trees) → may_leave db → HoldIn HoldsRecords db r
+  pub makes : HoldsNone HoldsDatabase image → (db : Trees) → may_leave db → LeavesNoDesk db ⊎ LeavesDesk db (first_records approval)
 
 -- the files are not empty, and hold no database
 abbrev pub IsForeign : Image → Type 0
@@ -97,8 +99,28 @@ module _ {D : Type 0} (g : disk.Ghosts D) where
     pub holds : (r : Records) → ((image : Image) → before image → HoldsDesk HoldsPlain image r) → EachAfter (λ image. HoldsDesk HoldsPlain image r) (λ db. HoldIn HoldsRecords db r) rest
     pub makes : ((image : Image) → before image → HoldsNone HoldsPlain image) → EachAfter (HoldsNone HoldsDatabase) UsesNoName rest
 
-  abbrev pub IsSpared : (Image → Type 0) → OpenFault → Type 0
-  IsSpared before e = (rest : Leftover D g) × (IsCleanLeft rest → Spares before rest e)
+module _ {D : Type 0} {g : disk.Ghosts D} where
+  -- the database was opened, and its store is left
+  abbrev pub RefusesStore : Image → Bool → OpenFault → Leftover D g → Type 0
+  RefusesStore image approval e (left.Files now) = ⊥
+  RefusesStore image approval e (left.Unopened now) = ⊥
+  RefusesStore image approval e (left.Store now) = Refuses image (recovers now) approval e
 
-  abbrev pub IsRefused : Image → Bool → OpenFault → Type 0
-  IsRefused image approval e = (last : Held (FileStore D g)) × (HasCleanDisk (file_state last) → Refuses image (file_state last) approval e)
+  -- What a refused opening leaves of files, by what a crash might have left of them before and by what they read as.
+  abbrev pub LeavesUnharmed : (Image → Type 0) → Image → Bool → OpenFault → Leftover D g → Type 0
+  LeavesUnharmed before image approval e rest = (IsCleanLeft rest → Spares g before rest e) ⊎ (IsCleanLeft rest → RefusesStore image approval e rest)
+
+  -- the store of a connection, which was rolled back
+  abbrev pub IsLeftOf : Held (FileStore D g) → Leftover D g → Type 0
+  IsLeftOf last (left.Files now) = ⊥
+  IsLeftOf last (left.Unopened now) = ⊥
+  IsLeftOf last (left.Store now) = IsQuiet view faults recovers is_shielded last.store now
+
+  -- ---- the pages of a new file
+
+  -- The connection began as one that found these files. Where they held nothing, its pages end in no sum, which a plain sqlite3 would spoil.
+  pub record BeginsPlain (image : Image) (approval : Bool) (opened : Held (FileStore D g)) : Type 0 where
+    pub first : Held (FileStore D g)
+    pub opens : OpensDesk {A = Unit {0}} (file_state first) (file_state opened) approval (Ok tt)
+    pub found : HasCleanDisk (file_state first) → FindsIn image (file_state first)
+    pub plain : HasCleanDisk (file_state first) → IsBlankAs false image → (view first.store).has_sums ≡ false

@@ -2,7 +2,7 @@
 
 ghost use Rattle.std.specs.Prelude.{IfOk, IfErr};
 ghost use Rattle.sqlite.specs.Held.{state};
-ghost use Rattle.desk_opening.specs.Making.{Makes, MakesTables};
+ghost use Rattle.desk_opening.specs.Making.{Makes, MakesTables, told};
 
 use crate::desk_table::TABLES;
 use crate::running::run;
@@ -35,14 +35,16 @@ pub fn fill<S: Alter>(conn: &mut Connection<S>, approval: bool) -> Result<(), Fa
     Ok(())
 }
 
-/// Makes a new desk in the connection's database, which uses none of its names.
+/// Makes a new desk in the connection's database, which uses none of its names. After an error it gives the connection back.
 pub fn make<S: Alter + Drop>(
     mut conn: Connection<S>,
     approval: bool,
-) -> Result<Connection<S>, Fault>
-    ensures made { IfOk result (λ made. Makes (state S.Store conn) (state S.Store made) approval result) }
-    ensures refused { IfErr result (λ e. (last : _) × Makes (state S.Store conn) (state S.Store last) approval result) }
+) -> Result<Connection<S>, (Fault, Connection<S>)>
+    ensures made { IfOk result (λ made. Makes (state S.Store conn) (state S.Store made) approval (told result)) }
+    ensures refused { IfErr result (λ e. Makes (state S.Store conn) (state S.Store e.1) approval (told result)) }
 {
-    fill(&mut conn, approval)?;
-    Ok(conn)
+    match fill(&mut conn, approval) {
+        Ok(()) => Ok(conn),
+        Err(fault) => Err((fault, conn)),
+    }
 }

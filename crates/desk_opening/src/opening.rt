@@ -13,6 +13,7 @@ ghost use Rattle.sqlite.specs.Compile.{table_defined_by};
 ghost use Rattle.sqlite.specs.Held.{state};
 ghost use Rattle.sqlite.specs.State.{HasCleanDisk};
 ghost use Rattle.desk_opening.specs.Faults.{fault_row};
+ghost use Rattle.desk_opening.specs.Making.{told};
 ghost use Rattle.desk_opening.specs.Opening.{Adopts, HasDeskTables, HasNoRow, HasRow, IsFailure, IsSettled, Keeps, OpensDesk, ReadsRow, Tells};
 
 use crate::desk_table::{DeskTable, TABLES};
@@ -171,23 +172,32 @@ fn check_row<S: Alter>(calls: &mut Calls<S>) -> Result<(), OpenFault>
     }
 }
 
-/// Takes a database as the desk that it holds. The row of `desk` is judged before the other tables are: a later version may have others.
+/// Takes a database as the desk that it holds. The row of `desk` is judged before the other tables are: a later version may have others. A connection that is refused is given back.
 pub fn adopt<S: Alter + Drop>(
     alloc: Global,
     conn: Connection<S>,
-) -> Result<Connection<S>, OpenFault>
-    ensures adopted { IfOk result (λ adopted. Adopts (state S.Store conn) (state S.Store adopted) result) }
+) -> Result<Connection<S>, (OpenFault, Connection<S>)>
+    ensures adopted { IfOk result (λ adopted. Adopts (state S.Store conn) (state S.Store adopted) (told result)) }
     ensures whole { IfOk result (λ adopted. HasDeskTables (state S.Store conn).now.schema) }
-    ensures refused { IfErr result (λ e. (last : _) × Adopts (state S.Store conn) (state S.Store last) result) }
+    ensures refused { IfErr result (λ e. Adopts (state S.Store conn) (state S.Store e.1) (told result)) }
 {
-    if !has_table(alloc, conn.schema(), DeskTable::Desk)? {
-        return Err(OpenFault::NotDesk);
+    let has_desk = match has_table(alloc, conn.schema(), DeskTable::Desk) {
+        Ok(has_desk) => has_desk,
+        Err(fault) => return Err((fault, conn)),
+    };
+    if !has_desk {
+        return Err((OpenFault::NotDesk, conn));
     }
-    let is_whole = has_desk_tables(alloc, conn.schema())?;
+    let is_whole = match has_desk_tables(alloc, conn.schema()) {
+        Ok(is_whole) => is_whole,
+        Err(fault) => return Err((fault, conn)),
+    };
     let mut calls = Calls::new(conn);
-    check_row(&mut calls)?;
+    if let Err(fault) = check_row(&mut calls) {
+        return Err((fault, calls.into_connection()));
+    }
     if !is_whole {
-        return Err(OpenFault::NotDesk);
+        return Err((OpenFault::NotDesk, calls.into_connection()));
     }
     Ok(calls.into_connection())
 }
@@ -207,14 +217,14 @@ fn uses_name_of(schema: &Schema, tables: &[DeskTable]) -> bool
     tables.iter().any(|table| uses_name(schema, table.name()))
 }
 
-/// Opens the desk in a connection's database: the one that is there, or a new one where no name of a desk is used.
+/// Opens the desk in a connection's database: the one that is there, or a new one where no name of a desk is used. A connection that is refused is given back.
 pub fn open_desk<S: Alter + Drop>(
     alloc: Global,
     conn: Connection<S>,
     approval_if_new: bool,
-) -> Result<Connection<S>, OpenFault>
-    ensures opened { IfOk result (λ opened. OpensDesk (state S.Store conn) (state S.Store opened) approval_if_new result) }
-    ensures refused { IfErr result (λ e. (last : _) × OpensDesk (state S.Store conn) (state S.Store last) approval_if_new result) }
+) -> Result<Connection<S>, (OpenFault, Connection<S>)>
+    ensures opened { IfOk result (λ opened. OpensDesk (state S.Store conn) (state S.Store opened) approval_if_new (told result)) }
+    ensures refused { IfErr result (λ e. OpensDesk (state S.Store conn) (state S.Store e.1) approval_if_new (told result)) }
     ensures settled { IsSettled (state S.Store conn) }
 {
     if uses_desk_name(conn.schema()) {
@@ -222,6 +232,6 @@ pub fn open_desk<S: Alter + Drop>(
     }
     match make(conn, approval_if_new) {
         Ok(made) => Ok(made),
-        Err(fault) => Err(open_fault(fault)),
+        Err((fault, conn)) => Err((open_fault(fault), conn)),
     }
 }

@@ -1,5 +1,5 @@
 -- From a connection that was opened to a desk over it.
-use Rattle.std.proofs.Common.{◌≡◌, ℕ, zero, suc, Bool, false, List, [], Some, None, Ok, Err, Result, IfOk, IfErr, refl, sym, ap, ◌∙◌, subst}
+use Rattle.std.proofs.Common.{◌≡◌, ◌⊎◌, inl, inr, ℕ, zero, suc, Bool, false, List, [], Option, Some, None, MatchOption, Ok, Err, Result, IfOk, IfErr, refl, sym, ap, ◌∙◌, subst}
 use Rattle.std.specs.Prelude.{slice_get}
 use Rattle.sqlite_disk.specs.declared.Disk as disk
 use Rattle.sqlite_disk.specs.declared.Files.{Files}
@@ -28,13 +28,17 @@ use Rattle.sqlite.specs.Recovery.{Image}
 use Rattle.sqlite.specs.State.{State, HasCleanDisk}
 use Rattle.sql_calls.specs.Standing.{Rests}
 use Rattle.desk_records.specs.Holds.{HoldsRecords}
-use Rattle.desk_opening.specs.Reopening.{Reopens}
+use Rattle.desk_opening.specs.Reopening.{Reopens, LeavesUnharmed}
+use Rattle.sqlite.specs.declared.file.Leftover.{Leftover}
 use Rattle.rollout_machine.specs.CommandList.{CommandList, Make}
 use Rattle.rollout_machine.specs.Records.{records}
 use Rattle.rollout_machine.specs.Standing.{StandsFor}
 use Rattle.rollout_machine.specs.Validity.{IsValid}
 use Rattle.rollout_desk.specs.Desks.{desk_state_at}
-use Rattle.rollout_desk.specs.Openings.{ReopensDesk, GivesBack}
+use Rattle.rollout_desk.specs.declared.desk.Desk.{Desk}
+use Rattle.desk_store.specs.declared.store.DeskStore.{DeskStore}
+use Rattle.std.specs.declared.alloc.Global.{Global}
+use Rattle.rollout_desk.specs.Openings.{ReopensDesk, LeftUnharmed, GivesBack}
 
 stands : (s : State) (h : CommandList) → IsValid h → Rests HoldsRecords s (records h) → HasCleanDisk s → StandsFor (desk_state_at HoldsRecords false s) h
 stands s h valid rests clean = record { runs = refl; valid = valid; shows = rests clean; crash = λ db left. (valid, (rests clean).crash db left) }
@@ -45,6 +49,17 @@ reopened_desk image approval s h = record {
   holds = λ db list held it clean. stands s list it.0 (h.holds (records list) (db, held, it.1)) clean;
   makes = λ none clean. stands s (Make approval) tt (h.makes none) clean;
 }
+
+-- the desk is over the connection
+module _ {S : Type 0} (alloc : Global) (store : DeskStore S) (conn : Held S) (same : store.calls.conn ≡ conn) (desk : Desk S) (is : desk ≡ record { store = store; stopped = false; alloc = alloc }) where
+  over_conn : desk.store.calls.conn ≡ conn
+  over_conn = ap (λ (d : Desk S). d.store.calls.conn) is ∙ same
+
+  runs : desk.stopped ≡ false
+  runs = ap (λ (d : Desk S). d.stopped) is
+
+  pub over_it : (P : Bool → Held S → Type 0) → P false conn → P desk.stopped desk.store.calls.conn
+  over_it P holds = subst (λ b. P b desk.store.calls.conn) (sym runs) (subst (P false) (sym over_conn) holds)
 
 -- ---- the files that a desk gives back
 
@@ -60,6 +75,13 @@ module _ {D : Type 0} {g : disk.Ghosts D} (given old : Held (FileStore D g)) (sa
       → IfErr out (λ e. (db : Trees) → recovers e.1 db → (file_state old).may_leave db)
   gives_store (Ok files) Other h = tt
   gives_store (Err e) Other h = λ db left. (subst (λ c. IsClosed c e.1) same h.0).quiet.outcomes db left
+
+-- ---- what is left of a refused opening is let go
+
+pub lets_go : {D : Type 0} {g : disk.Ghosts D} (before : Image → Type 0) (image : Image) (approval : Bool) (e : OpenFault) (rest : Option (Leftover D g))
+    → MatchOption rest (IsFailure e) (LeavesUnharmed before image approval e) → IsFailure e ⊎ LeftUnharmed g before image approval e
+lets_go before image approval e None fails = inl fails
+lets_go before image approval e (Some rest) left = inr (rest, left)
 
 -- ---- in memory
 

@@ -11,7 +11,9 @@ use Rattle.sqlite.specs.FileStore.{files as files_in}
 use Rattle.sqlite_store.specs.declared.store.FileStore.{FileStore}
 use Rattle.rollout_machine.specs.CommandList.{CommandList, Make}
 use Rattle.rollout_machine.specs.Standing.{DeskState, StandsFor}
-use Rattle.desk_opening.specs.Reopening.{HoldsNone, IsOpenable}
+use Rattle.sqlite.specs.declared.file.Leftover.{Leftover}
+use Rattle.desk_opening.specs.declared.opening.OpenFault.{OpenFault}
+use Rattle.desk_opening.specs.Reopening.{HoldsNone, IsOpenable, LeavesUnharmed}
 use Rattle.rollout_desk.specs.DeskStates.{desk_state}
 use Rattle.rollout_desk.specs.declared.desk.Desk.{Desk}
 
@@ -21,6 +23,10 @@ pub record ReopensDesk (image : Image) (desk : DeskState Trees) (approval : Bool
   pub finds : desk.is_clean → (db : Trees) × AreFoundIn image db × IsOpenable db
   pub holds : (db : Trees) (h : CommandList) → ∥ HoldsDatabase image db ∥₁ → desk.holds db h → desk.is_clean → StandsFor desk h
   pub makes : HoldsNone HoldsDatabase image → desk.is_clean → StandsFor desk (Make approval)
+
+-- Of a call that lets go of what a refused opening left: what was left then was unharmed.
+abbrev pub LeftUnharmed : {D : Type 0} (g : disk.Ghosts D) → (Image → Type 0) → Image → Bool → OpenFault → Type 0
+LeftUnharmed {D = D} g before image approval e = (rest : Leftover D g) × LeavesUnharmed before image approval e rest
 
 -- ---- given back
 

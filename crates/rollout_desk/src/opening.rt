@@ -1,6 +1,6 @@
 //! A desk over files.
 
-ghost use Rattle.std.specs.Prelude.{◌≡◌, ◌⊎◌, IsTrue, IfOk, IfErr};
+ghost use Rattle.std.specs.Prelude.{◌≡◌, ◌⊎◌, IsTrue, IfOk, IfErr, MatchOption};
 ghost use Rattle.sqlite.specs.Files.{image_of, over_files};
 ghost use Rattle.sqlite.specs.FileStore.{recovers};
 ghost use Rattle.sqlite.specs.Steps.{over_memory};
@@ -9,37 +9,37 @@ ghost use Rattle.sqlite.specs.WalFiles.{image_at, outcomes};
 ghost use Rattle.rollout_machine.specs.CommandList.{Make};
 ghost use Rattle.rollout_machine.specs.Standing.{StandsFor};
 ghost use Rattle.desk_opening.specs.Opening.{IsFailure};
-ghost use Rattle.desk_opening.specs.Reopening.{IsSpared, IsRefused};
+ghost use Rattle.desk_opening.specs.Reopening.{BeginsPlain, LeavesUnharmed};
 ghost use Rattle.rollout_desk.specs.DeskStates.{desk_state};
-ghost use Rattle.rollout_desk.specs.Openings.{ReopensDesk, GivesBack, GoesOnAfterCrash, GoesOnOver};
+ghost use Rattle.rollout_desk.specs.Openings.{ReopensDesk, LeftUnharmed, GivesBack, GoesOnAfterCrash, GoesOnOver};
 
 use crate::desk::Desk;
 use desk_opening::{OpenFault, open_desk, reopen_files, reopen_path};
 use desk_store::DeskStore;
-use sqlite::{Alter, Connection, Error, FileFrom, FileStore, Files, MemStore, Options, Start};
+use sqlite::{
+    Alter, Connection, Error, FileFrom, FileStore, Files, Leftover, MemStore, Options, Start,
+};
 use sqlite_disk::Disk;
 use std::alloc::Global;
 
 impl<D: Disk + Drop> Desk<FileStore<D>> {
-    /// Opens the desk that the files hold, or makes a new one where they hold no database, or one that uses no name of a desk.
+    /// Opens the desk that the files hold, or makes a new one where they hold no database, or one that uses no name of a desk. A fault comes with what is left of the files.
     pub fn reopen(
         alloc: Global,
         files: Files<D>,
         options: Options,
         approval_if_new: bool,
-    ) -> Result<Desk<FileStore<D>>, OpenFault>
+    ) -> Result<Desk<FileStore<D>>, (OpenFault, Leftover<D>)>
         requires log { IsTrue (D.Disk.is_usable files.log) }
         requires db { IsTrue (D.Disk.is_usable files.db) }
         ensures reopened { IfOk result (λ desk. ReopensDesk (image_of D.Disk files) (desk_state over_files desk) approval_if_new) }
-        ensures refused { IfErr result (λ e. IsSpared D.Disk (outcomes D.Disk files.log files.db) e ⊎ IsRefused D.Disk (image_of D.Disk files) approval_if_new e) }
+        ensures plain { IfOk result (λ desk. BeginsPlain (image_of D.Disk files) approval_if_new desk.store.calls.conn) }
+        ensures refused { IfErr result (λ e. LeavesUnharmed (outcomes D.Disk files.log files.db) (image_of D.Disk files) approval_if_new e.0 e.1) }
     {
-        let conn = reopen_files(alloc, files, options, approval_if_new)?;
-        let store = DeskStore::new(alloc, conn);
-        Ok(Desk {
-            store,
-            stopped: false,
-            alloc,
-        })
+        match reopen_files(alloc, files, options, approval_if_new) {
+            Ok(conn) => Ok(Desk::over(alloc, DeskStore::new(alloc, conn))),
+            Err(refused) => Err(refused),
+        }
     }
 
     /// Gives the files back, with all that was committed in the database file. Commits nothing. Where that fails it gives the
@@ -68,7 +68,27 @@ pub fn goes_on_after_crash<D: Disk + Drop, S: Alter>(
 }
 
 impl<S: Start> Desk<FileStore<FileFrom<S>>> {
-    /// The same for the file at a path, with its log beside it. A file that another process holds is refused as `Store`.
+    /// The same for the file at a path, with its log beside it. A file that another process holds is refused as `Store`. Nothing is left where no file was opened.
+    pub fn reopen_at(
+        rt: &HostRuntime,
+        path: &str,
+        start: S,
+        approval_if_new: bool,
+    ) -> Result<Desk<FileStore<FileFrom<S>>>, (OpenFault, Option<Leftover<FileFrom<S>>>)>
+        ensures reopened { IfOk result (λ desk. ReopensDesk (image_at S.Start) (desk_state over_files desk) approval_if_new) }
+        ensures plain { IfOk result (λ desk. BeginsPlain (image_at S.Start) approval_if_new desk.store.calls.conn) }
+        ensures refused { IfErr result (λ e. MatchOption e.1 (IsFailure e.0) (LeavesUnharmed (λ left. left ≡ image_at S.Start) (image_at S.Start) approval_if_new e.0)) }
+    {
+        match reopen_path(rt, path, start, approval_if_new) {
+            Ok(conn) => {
+                let alloc = rt.alloc();
+                Ok(Desk::over(alloc, DeskStore::new(alloc, conn)))
+            }
+            Err(refused) => Err(refused),
+        }
+    }
+
+    /// The same, and lets go of what is left after a fault.
     pub fn reopen_path(
         rt: &HostRuntime,
         path: &str,
@@ -76,17 +96,13 @@ impl<S: Start> Desk<FileStore<FileFrom<S>>> {
         approval_if_new: bool,
     ) -> Result<Desk<FileStore<FileFrom<S>>>, OpenFault>
         ensures reopened { IfOk result (λ desk. ReopensDesk (image_at S.Start) (desk_state over_files desk) approval_if_new) }
-        ensures refused { IfErr result (λ e. IsFailure e ⊎ (IsSpared ⟦<FileFrom<S> as Disk>⟧ (λ left. left ≡ image_at S.Start) e
-            ⊎ IsRefused ⟦<FileFrom<S> as Disk>⟧ (image_at S.Start) approval_if_new e)) }
+        ensures plain { IfOk result (λ desk. BeginsPlain (image_at S.Start) approval_if_new desk.store.calls.conn) }
+        ensures refused { IfErr result (λ e. IsFailure e ⊎ LeftUnharmed ⟦<FileFrom<S> as Disk>⟧ (λ left. left ≡ image_at S.Start) (image_at S.Start) approval_if_new e) }
     {
-        let alloc = rt.alloc();
-        let conn = reopen_path(rt, path, start, approval_if_new)?;
-        let store = DeskStore::new(alloc, conn);
-        Ok(Desk {
-            store,
-            stopped: false,
-            alloc,
-        })
+        match Desk::reopen_at(rt, path, start, approval_if_new) {
+            Ok(desk) => Ok(desk),
+            Err((fault, _)) => Err(fault),
+        }
     }
 }
 
@@ -99,12 +115,9 @@ impl Desk<MemStore> {
         let Ok(conn) = Connection::open_in_memory(alloc) else {
             return Err(OpenFault::Memory);
         };
-        let conn = open_desk(alloc, conn, approval)?;
-        let store = DeskStore::new(alloc, conn);
-        Ok(Desk {
-            store,
-            stopped: false,
-            alloc,
-        })
+        match open_desk(alloc, conn, approval) {
+            Ok(conn) => Ok(Desk::over(alloc, DeskStore::new(alloc, conn))),
+            Err((fault, _)) => Err(fault),
+        }
     }
 }

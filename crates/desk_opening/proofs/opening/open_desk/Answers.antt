@@ -2,7 +2,7 @@ use Rattle.std.proofs.Common.{Ok, Err, subst}
 use Rattle.sqlite.specs.Held.{state}
 use Rattle.sql_front.specs.Free.{LeavesFree}
 use Rattle.desk_records.specs.Schema.{desk_names}
-use Rattle.desk_opening.proofs.ChoiceLemmas.{adopts_ok, adopts_err, makes_new, made_ok, made_not}
+use Rattle.desk_opening.proofs.ChoiceLemmas.{adopts_ok, adopts_err, makes_new, makes_ok, makes_err}
 use Rattle.desk_opening.proofs.opening.open_desk.Goals as goal
 
 pub returns-then-uses_desk_name-clause-opened : goal.returns-then-uses_desk_name-clause-opened
@@ -18,13 +18,12 @@ returns-then-uses_desk_name-clause-refused g c =
 pub returns-in-Ok-clause-opened : goal.returns-in-Ok-clause-opened
 returns-in-Ok-clause-opened g c =
     let free = subst (λ s. LeavesFree s desk_names) c.schema.ensures.value (c.uses_desk_name.ensures.free c.if-uses_desk_name.false) in
-    makes_new (state g.S.Store c.args.conn) (state g.S.Store c.in-Ok.made) c.args.approval_if_new (Ok c.in-Ok.made) tt (made_ok (state g.S.Store c.args.conn) (state g.S.Store c.in-Ok.made) c.args.approval_if_new c.in-Ok.made c.in-Ok.ensures.made) free
+    makes_new (state g.S.Store c.args.conn) (state g.S.Store c.in-Ok.made) c.args.approval_if_new (Ok c.in-Ok.made) tt (makes_ok _ _ c.args.approval_if_new c.in-Ok.made c.in-Ok.made c.in-Ok.ensures.made) free
 
 pub returns-in-Err-clause-refused : goal.returns-in-Err-clause-refused
 returns-in-Err-clause-refused g c =
     let free = subst (λ s. LeavesFree s desk_names) c.schema.ensures.value (c.uses_desk_name.ensures.free c.if-uses_desk_name.false) in
-    let last = c.in-Err.ensures.refused in
-    (last.0, makes_new (state g.S.Store c.args.conn) (state g.S.Store last.0) c.args.approval_if_new (Err c.open_fault.result) c.open_fault.ensures (made_not (state g.S.Store c.args.conn) (state g.S.Store last.0) c.args.approval_if_new c.in-Err.fault c.open_fault.result last.1) free)
+    makes_new (state g.S.Store c.args.conn) (state g.S.Store c.in-Err.conn) c.args.approval_if_new (Err c.open_fault.result) c.open_fault.ensures (makes_err _ _ c.args.approval_if_new c.in-Err.fault c.open_fault.result c.in-Err.ensures.refused) free
 
 pub returns-then-uses_desk_name-clause-settled : goal.returns-then-uses_desk_name-clause-settled
 returns-then-uses_desk_name-clause-settled g c = g.met.S.Store.settled c.args.conn.store

@@ -1,20 +1,23 @@
-use Rattle.std.proofs.Common.{true, false, inl, refl}
+use Rattle.std.proofs.Common.{◌≡◌, true, false, inl, refl, Ok, Err}
 use Rattle.sqlite_std_file.specs.File.{IsFresh}
 use Rattle.sqlite.specs.Files.{file_state}
 use Rattle.sqlite.specs.WalFiles.{image_at}
-use Rattle.desk_opening.proofs.ReopenLemmas.{reopens, refused_at_path}
+use Rattle.desk_opening.proofs.ReopenLemmas.{begins_plain, left_unharmed, reopens}
 use Rattle.desk_opening.proofs.SparingLemmas.{path_refused, left_alone}
 use Rattle.desk_opening.proofs.reopening.reopen_path.Goals as goal
 
-pub returns-in-Ok-clause-reopened : goal.returns-in-Ok-clause-reopened
-returns-in-Ok-clause-reopened g c = reopens (image_at g.S.Start) (file_state c.in-Ok.conn) c.in-Ok.ensures.opened (λ clean. (c.in-Ok.ensures.found clean).holds) (λ clean. (c.in-Ok.ensures.found clean).reads) c.open_desk.ensures.settled file_state c.args.approval_if_new c.open_desk.result c.open_desk.ensures.opened
+pub returns-in-Ok-open_desk_in-clause-reopened : goal.returns-in-Ok-open_desk_in-clause-reopened
+returns-in-Ok-open_desk_in-clause-reopened g c = reopens (image_at g.S.Start) (file_state c.in-Ok.conn) c.in-Ok.ensures.opened (λ clean. (c.in-Ok.ensures.found clean).holds) (λ clean. (c.in-Ok.ensures.found clean).reads) c.open_desk_in.ensures.settled {Y = Unit {0}} file_state c.args.approval_if_new (Ok c.in-Ok-open_desk_in.opened) c.in-Ok-open_desk_in.ensures.opened
 
-pub returns-in-Ok-clause-refused : goal.returns-in-Ok-clause-refused
-returns-in-Ok-clause-refused g c =
-    refused_at_path (image_at g.S.Start) (file_state c.in-Ok.conn) c.in-Ok.ensures.opened (λ clean. (c.in-Ok.ensures.found clean).holds) (λ clean. (c.in-Ok.ensures.found clean).reads) c.open_desk.ensures.settled file_state c.args.approval_if_new
-    _ _ c.open_desk.result c.open_desk.ensures.refused
+pub returns-in-Ok-open_desk_in-clause-plain : goal.returns-in-Ok-open_desk_in-clause-plain
+returns-in-Ok-open_desk_in-clause-plain g c = begins_plain (image_at g.S.Start) c.args.approval_if_new c.in-Ok.conn c.in-Ok.ensures.found c.in-Ok.ensures.sums {E = Unit {0}} (Ok c.in-Ok-open_desk_in.opened) c.in-Ok-open_desk_in.ensures.opened
 
-pub returns-clause-refused : goal.returns-clause-refused
-returns-clause-refused g c =
+pub returns-in-Err-open_desk_in-clause-refused : goal.returns-in-Err-open_desk_in-clause-refused
+returns-in-Err-open_desk_in-clause-refused g c =
+    left_unharmed (image_at g.S.Start) (file_state c.in-Ok.conn) c.in-Ok.ensures.opened (λ clean. (c.in-Ok.ensures.found clean).holds) (λ clean. (c.in-Ok.ensures.found clean).reads) c.open_desk_in.ensures.settled c.args.approval_if_new
+    (λ left. left ≡ image_at g.S.Start) (Err (c.in-Err-open_desk_in.fault, c.in-Err-open_desk_in.left)) c.in-Err-open_desk_in.ensures.refused
+
+pub returns-in-Err-clause-refused : goal.returns-in-Err-clause-refused
+returns-in-Err-clause-refused g c =
     path_refused _ (λ f. inl refl) (image_at g.S.Start) (IsFresh true) (IsFresh false) (λ f fresh. left_alone f true f.key fresh.0 fresh.1) (λ f fresh. left_alone f false f.key fresh.0 fresh.1)
-    c.in-Err.error c.in-Err.field-0-1 c.refused_open.result _ c.refused_open.ensures.opened c.refused_open.ensures.named c.in-Err.ensures.unopened c.in-Err.ensures.cause
+    c.in-Err.error c.in-Err.left c.refused_open.result c.args.approval_if_new c.refused_open.ensures.opened c.refused_open.ensures.named c.in-Err.ensures.unopened c.in-Err.ensures.cause
