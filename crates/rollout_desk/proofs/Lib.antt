@@ -6,6 +6,7 @@ pub mod DeskLemmas
 pub mod OpeningLemmas
 pub mod CrashLemmas
 pub mod RunLemmas
+pub mod OnceLemmas
 pub mod ArtifactLemmas
 pub mod ByteOrderLemmas
 pub mod TargetLemmas

@@ -18,7 +18,7 @@ use Rattle.rollout_desk.specs.Runs.{Exchange, accepted_in, IsRun, GoesOn, RunsTh
 use Rattle.rollout_machine.specs.StoreFailures.{is_failed_store}
 use Rattle.rollout_machine.proofs.StoreFailures.{failed_true}
 
-followed_append : (h : CommandList) (cs ds : List Command) → followed_by h (cs ++ ds) ≡ followed_by (followed_by h cs) ds
+pub followed_append : (h : CommandList) (cs ds : List Command) → followed_by h (cs ++ ds) ≡ followed_by (followed_by h cs) ds
 followed_append h [] ds = refl
 followed_append h (c ∷ cs) ds = followed_append (h ▸ c) cs ds
 
@@ -78,6 +78,7 @@ module _ {File : Type 0} (old middle new : DeskState File) (requests : List Requ
         replies_are = map-append (λ (y : Exchange). y.reply) r.run (x ∷ []) ∙ ap (λ (l : List Reply). l ++ reply ∷ []) r.replies_are;
         is_run = run_more h r.run x r.is_run a.answers;
         goes_on = r.goes_on;
+        valid = r.stands.valid;
         failed = failed;
         in_doubt = a.becomes.in_doubt failed;
       }

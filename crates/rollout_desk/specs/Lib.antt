@@ -5,6 +5,7 @@ pub mod Additions
 pub mod Changing
 pub mod Openings
 pub mod Runs
+pub mod Once
 pub mod Looks
 pub mod Downloads
 pub mod Imports

@@ -8,6 +8,7 @@ use Rattle.rollout_machine.specs.CommandList.{CommandList, followed_by}
 use Rattle.rollout_machine.specs.Replies.{Reply, Refused}
 use Rattle.rollout_machine.specs.Requests.{Request, Asks, one}
 use Rattle.rollout_machine.specs.Standing.{DeskState, StandsFor, IsInDoubt}
+use Rattle.rollout_machine.specs.Validity.{IsValid}
 
 -- a request, its reply, and the command that was accepted for it
 pub record Exchange : Type 0 where
@@ -51,6 +52,7 @@ pub record BreaksOff {File : Type 0} (h : CommandList) (s : DeskState File) (req
   pub replies_are : replies_of (before ++ last ∷ []) ≡ replies
   pub is_run : IsRun h (before ++ last ∷ [])
   pub goes_on : GoesOn before
+  pub valid : IsValid (followed_by h (accepted_in before))
   pub failed : last.reply ≡ Refused StoreFailed
   pub in_doubt : IsInDoubt s (followed_by h (accepted_in before)) last.accepted
 

@@ -1,10 +1,11 @@
 //! Requests one after the other.
 
-ghost use Rattle.std.specs.Prelude.{◌≡◌, true, Err, map, MatchResult};
+ghost use Rattle.std.specs.Prelude.{◌≡◌, true, Err, map, IfOk, MatchResult};
 ghost use Rattle.rollout_machine.specs.CommandList.{CommandList};
 ghost use Rattle.rollout_machine.specs.Standing.{StandsFor, StaysStopped};
 ghost use Rattle.rollout_machine.specs.Views.{request_of, reply_of};
 ghost use Rattle.rollout_desk.specs.DeskStates.{desk_state};
+ghost use Rattle.rollout_desk.specs.Once.{EndsOnce};
 ghost use Rattle.rollout_desk.specs.Runs.{EndsRun};
 
 use crate::desk::Desk;
@@ -14,12 +15,15 @@ use sqlite::Alter;
 
 impl<S: Alter> Desk<S> {
     /// Answers requests one after the other. After a failed store it answers no more, so that reply is the last one. The memory of
-    /// all replies is taken first: `NoMemory` says that nothing was done.
+    /// all replies is taken first: `NoMemory` says that nothing was done. A final report that is sent again, and an import that comes
+    /// twice, leave no trace in what is kept and in any other reply.
     pub fn run(&mut self, requests: &[Request]) -> Result<Vec<Reply>, Refusal>
         ensures clean { (desk_state S.Store self.new).is_clean → (desk_state S.Store self.old).is_clean }
         ensures ran { (h : CommandList) → (desk_state S.Store self.new).is_clean → StandsFor (desk_state S.Store self.old) h
             → MatchResult result (λ replies. EndsRun h (desk_state S.Store self.new) (map request_of requests.now) (map reply_of replies.items))
             (λ refusal. (refusal ≡ Refusal.NoMemory) × StandsFor (desk_state S.Store self.new) h) }
+        ensures once { (h : CommandList) → (desk_state S.Store self.new).is_clean → StandsFor (desk_state S.Store self.old) h
+            → IfOk result (λ replies. EndsOnce h (desk_state S.Store self.new) (map request_of requests.now) (map reply_of replies.items)) }
         ensures stopped { (desk_state S.Store self.old).is_stopped ≡ true
             → (result ≡ Err Refusal.Stopped) × StaysStopped (desk_state S.Store self.old) (desk_state S.Store self.new) }
     {

@@ -1,6 +1,13 @@
-use Rattle.std.proofs.Common.{inl, inr, sym, ◌∙◌, rules}
+use Rattle.std.proofs.Common.{inl, inr, sym, map, ◌∙◌, rules}
 use Rattle.std.proofs.lemmas.Bool.{false≢true}
+use Rattle.sqlite.specs.Held.{state}
+use Rattle.desk_records.specs.Holds.{HoldsRecords}
+use Rattle.rollout_machine.specs.CommandList.{CommandList}
+use Rattle.rollout_machine.specs.Standing.{StandsFor}
+use Rattle.rollout_machine.specs.Views.{request_of, reply_of}
 use Rattle.rollout_desk.specs.DeskStates.{desk_state}
+use Rattle.rollout_desk.specs.Runs.{EndsRun}
+use Rattle.rollout_desk.proofs.OnceLemmas.{ends_once}
 use Rattle.rollout_desk.proofs.RunLemmas.{nothing_ran, goes_on, ends, all_ran}
 use Rattle.rollout_desk.proofs.desk.Desk.run.Goals as goal
 
@@ -30,17 +37,25 @@ returns-then-failed g c =
     let so_far = c.loop-request.invariant in
     let was = desk_state g.S.Store c.args.self.now in
     let before = desk_state g.S.Store c.loop-request.self in
-    let now = desk_state g.S.Store c.answer-reply.new.self in record {
+    let now = desk_state g.S.Store c.answer-reply.new.self in
+    let ended : (h : CommandList) → now.is_clean → StandsFor was h → EndsRun h now (map request_of c.args.requests.now) (map reply_of c.push_reserved.new.self.items)
+    = λ h clean stands. inr (ends was before now c.args.requests.now c.loop-request.request-index c.request-item.result c.loop-request-test.true c.request-item.is
+    c.loop-request.replies.items c.push_reserved.new.self.items c.answer-reply.result c.push_reserved.ensures.items so_far.ran c.answer-reply.ensures.clean c.answer-reply.ensures.applies c.if-failed.ensures.is h clean stands) in record {
       clean = λ clean. so_far.clean (c.answer-reply.ensures.clean clean);
-      ran = λ h clean stands. inr (ends was before now c.args.requests.now c.loop-request.request-index c.request-item.result c.loop-request-test.true c.request-item.is
-          c.loop-request.replies.items c.push_reserved.new.self.items c.answer-reply.result c.push_reserved.ensures.items so_far.ran c.answer-reply.ensures.clean c.answer-reply.ensures.applies c.if-failed.ensures.is h clean stands);
+      ran = ended;
+      once = λ h clean stands. ends_once HoldsRecords c.answer-reply.new.self.stopped (state g.S.Store c.answer-reply.new.self.store.calls.conn) h _ _ (ended h clean stands);
       stopped = λ stopped. absurd (false≢true (sym c.if-self.false ∙ stopped));
     }
 
 pub returns : goal.returns
 returns g c =
-    let so_far = c.loop-request.invariant in record {
+    let so_far = c.loop-request.invariant in
+    let was = desk_state g.S.Store c.args.self.now in
+    let now = desk_state g.S.Store c.loop-request.self in
+    let ended : (h : CommandList) → now.is_clean → StandsFor was h → EndsRun h now (map request_of c.args.requests.now) (map reply_of c.loop-request.replies.items)
+    = λ h clean stands. inl (all_ran was now c.args.requests.now c.loop-request.request-index _ c.loop-request-test.false so_far.ran h clean stands) in record {
       clean = so_far.clean;
-      ran = λ h clean stands. inl (all_ran (desk_state g.S.Store c.args.self.now) (desk_state g.S.Store c.loop-request.self) c.args.requests.now c.loop-request.request-index _ c.loop-request-test.false so_far.ran h clean stands);
+      ran = ended;
+      once = λ h clean stands. ends_once HoldsRecords c.loop-request.self.stopped (state g.S.Store c.loop-request.self.store.calls.conn) h _ _ (ended h clean stands);
       stopped = λ stopped. absurd (false≢true (sym c.if-self.false ∙ stopped));
     }

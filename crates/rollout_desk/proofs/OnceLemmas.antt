@@ -1,0 +1,88 @@
+-- What comes again in a run leaves no trace.
+use Rattle.std.proofs.Common.{◌≡◌, inl, inr, Bool, List, [], ◌∷◌, ◌++◌, Option, Some, None, sym, subst, ap, ◌∙◌}
+use Rattle.sqlite.specs.Effect.{Database}
+use Rattle.sqlite.specs.State.{State}
+use Rattle.sqlite.specs.Tree.{Trees}
+use Rattle.sql_calls.specs.Standing.{HoldIn, IsAtRest}
+use Rattle.rollout_machine.specs.Answers.{Answer, answer, MayAnswer}
+use Rattle.rollout_machine.specs.CommandList.{CommandList, ◌▸◌, followed_by}
+use Rattle.rollout_machine.specs.Commands.{Command}
+use Rattle.rollout_machine.specs.RecordSteps.{step_records}
+use Rattle.rollout_machine.specs.Records.{Records}
+use Rattle.rollout_machine.specs.Repeats.{calm, IsTraceless}
+use Rattle.rollout_machine.specs.Replies.{Reply}
+use Rattle.rollout_machine.specs.Requests.{Asked, Asks, Request, one}
+use Rattle.rollout_machine.specs.Standing.{StandsFor, IsInDoubt}
+use Rattle.rollout_machine.specs.Validity.{IsValid}
+use Rattle.rollout_machine.proofs.Main.{records_step}
+use Rattle.rollout_machine.proofs.Once.{repeats_leave_no_trace}
+use Rattle.rollout_desk.specs.Desks.{HoldsList, desk_state_at}
+use Rattle.rollout_desk.specs.Once.{AnswersOnce, EndsOnce}
+use Rattle.rollout_desk.specs.Runs.{EndsRun, Exchange, IsRun, accepted_in}
+use Rattle.rollout_desk.proofs.RunLemmas.{followed_append}
+
+-- ---- answers
+
+-- what may be answered at a list may be at the list without its repeats
+may_answer : (h : CommandList) (asked : Asked) (reply : Reply) (accepted : Option Command) → IsValid h → MayAnswer h asked reply accepted → MayAnswer (calm h) asked reply accepted
+may_answer h asked reply accepted valid may =
+    let same : answer h asked ≡ answer (calm h) asked = (repeats_leave_no_trace h valid).answers asked in
+    elim may [
+      | inl none ↦ inl none
+      | inr other ↦ elim other [
+        | inl failed ↦ inr (inl (failed.0, failed.1 ∙ ap (λ (x : Answer). x.accepted) same))
+        | inr found ↦ inr (inr (found.0, found.1 ∙ same))
+      ]
+    ]
+
+-- a list of accepted commands begins with one
+valid_before : (h : CommandList) (cs : List Command) → IsValid (followed_by h cs) → IsValid h
+valid_before h [] valid = valid
+valid_before h (c ∷ cs) valid = (valid_before (h ▸ c) cs valid).0
+
+-- the list after the first exchange of a run
+after_first : (h : CommandList) (x : Exchange) (xs : List Exchange) → IsValid (followed_by h (accepted_in (x ∷ xs))) → IsValid (followed_by (followed_by h (one x.accepted)) (accepted_in xs))
+after_first h x xs valid = subst IsValid (followed_append h (one x.accepted) (accepted_in xs)) valid
+
+all_once : (h : CommandList) (run : List Exchange) → IsRun h run → IsValid (followed_by h (accepted_in run)) → AnswersOnce h run
+all_once h [] is valid = tt
+all_once h (x ∷ xs) is valid =
+    (may_answer h (Asks x.request) x.reply x.accepted (valid_before h (accepted_in (x ∷ xs)) valid) is.0, all_once (followed_by h (one x.accepted)) xs is.1 (after_first h x xs valid))
+
+-- up to an exchange whose command may not be kept
+last_once : (h : CommandList) (before : List Exchange) (last : Exchange) → IsRun h (before ++ last ∷ []) → IsValid (followed_by h (accepted_in before)) → AnswersOnce h (before ++ last ∷ [])
+last_once h [] last is valid = (may_answer h (Asks last.request) last.reply last.accepted valid is.0, tt)
+last_once h (x ∷ xs) last is valid =
+    (may_answer h (Asks x.request) x.reply x.accepted (valid_before h (accepted_in (x ∷ xs)) valid) is.0, last_once (followed_by h (one x.accepted)) xs last is.1 (after_first h x xs valid))
+
+-- ---- what the desk stands for
+
+module _ (Holds : Database → Records → Type 0) (stopped : Bool) (s : State) where
+  holds_calm : (file : Trees) (h : CommandList) → HoldsList Holds file h → HoldsList Holds file (calm h)
+  holds_calm file h holds = let it : IsTraceless h = repeats_leave_no_trace h holds.0 in (it.valid, subst (HoldIn Holds file) it.same holds.1)
+
+  -- with one more command after it
+  holds_more : (file : Trees) (h : CommandList) (accepted : Option Command) → HoldsList Holds file (followed_by h (one accepted)) → HoldsList Holds file (followed_by (calm h) (one accepted))
+  holds_more file h None holds = holds_calm file h holds
+  holds_more file h (Some c) holds =
+      let valid = holds.0 in
+      let it : IsTraceless h = repeats_leave_no_trace h valid.0 in
+      let here = sym (it.verdicts c) ∙ valid.2 in (
+        (it.valid, valid.1, here),
+        subst (HoldIn Holds file) (records_step h c valid.0 valid.2 ∙ ap (λ (rs : Records). step_records rs c) it.same ∙ sym (records_step (calm h) c it.valid here)) holds.1,
+      )
+
+  stands_calm : (h : CommandList) → StandsFor (desk_state_at Holds stopped s) h → StandsFor (desk_state_at Holds stopped s) (calm h)
+  stands_calm h standing =
+      let it : IsTraceless h = repeats_leave_no_trace h standing.valid in
+      record { runs = standing.runs; valid = it.valid; shows = subst (IsAtRest Holds s) it.same standing.shows; crash = λ file left. holds_calm file h (standing.crash file left) }
+
+  doubt_calm : (h : CommandList) (accepted : Option Command) → IsInDoubt (desk_state_at Holds stopped s) h accepted → IsInDoubt (desk_state_at Holds stopped s) (calm h) accepted
+  doubt_calm h accepted doubt = record {
+    stopped = doubt.stopped;
+    crash = λ file left. elim (doubt.crash file left) [ inl it ↦ inl (holds_calm file h it) | inr it ↦ inr (holds_more file h accepted it) ];
+  }
+
+  pub ends_once : (h : CommandList) (requests : List Request) (replies : List Reply) → EndsRun h (desk_state_at Holds stopped s) requests replies → EndsOnce h (desk_state_at Holds stopped s) requests replies
+  ends_once h requests replies (inl it) = inl (record { through = it; answers = all_once h it.run it.is_run it.stands.valid; stands = stands_calm _ it.stands })
+  ends_once h requests replies (inr it) = inr (record { broken = it; answers = last_once h it.before it.last it.is_run it.valid; in_doubt = doubt_calm _ it.last.accepted it.in_doubt })
