@@ -18,6 +18,7 @@ pub mod TagStepLemmas
 pub mod AttributeLemmas
 pub mod LookLemmas
 pub mod PieceLemmas
+pub mod PromiseLemmas
 pub mod DownloadLemmas
 pub mod OfferLemmas
 pub mod GroupLemmas

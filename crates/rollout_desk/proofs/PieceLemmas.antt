@@ -1,5 +1,5 @@
 -- From pieces in the records to pieces that are handed out.
-use Rattle.std.proofs.Common.{◌≡◌, ◌≤◌, ◌<◌, ◌+◌, ◌-◌, ◌*◌, ◌++◌, ℕ, zero, suc, List, [], ◌∷◌, take, drop, length, map, min, Option, Some, None, All, refl, sym, subst, ap, ◌∙◌, arith, add-one}
+use Rattle.std.proofs.Common.{◌≡◌, ◌<◌, ◌+◌, ◌-◌, ◌*◌, ◌++◌, ℕ, zero, suc, List, [], take, drop, length, map, min, Option, Some, None, All, refl, sym, subst, ap, ◌∙◌, arith, add-one}
 use Rattle.std.specs.Prelude.{slice_get}
 use Rattle.std.specs.List.{range_with_len}
 use Rattle.std.specs.Option.{option_map}
@@ -13,29 +13,36 @@ use Rattle.desk_records.specs.Artifacts.{pieces_in, pieces_of_artifact, piece_nu
 use Rattle.rollout_machine.specs.ByteStrings.{item_numbered}
 use Rattle.rollout_machine.specs.CommandList.{CommandList, Make, ◌▸◌}
 use Rattle.rollout_machine.specs.Commands.{Bytes, Command, AddArtifact}
+use Rattle.rollout_machine.specs.Digests.{digest_of}
 use Rattle.rollout_machine.specs.Records.{ArtifactRecord, Records, added_artifacts, artifacts, records}
 use Rattle.rollout_model.specs.Limits.{piece_length}
 
--- ---- an artifact's size is the length of its contents
+-- ---- an artifact's size and digest are those of its contents
 
-abbrev IsSized : ArtifactRecord → Type 0
-IsSized a = a.size ≡ length a.contents
+abbrev pub IsWhole : ArtifactRecord → Type 0
+IsWhole a = (a.size ≡ length a.contents) × (a.digest ≡ digest_of a.contents)
 
-added_are_sized : (c : Command) → All IsSized (added_artifacts c)
-added_are_sized (AddArtifact upload) = All-cons IsSized _ [] refl (All-nil IsSized)
-added_are_sized _ = All-nil IsSized
+added_are_whole : (c : Command) → All IsWhole (added_artifacts c)
+added_are_whole (AddArtifact upload) = All-cons IsWhole _ [] (refl, refl) (All-nil IsWhole)
+added_are_whole _ = All-nil IsWhole
 
-are_sized : (h : CommandList) → All IsSized (artifacts h)
-are_sized (Make approval) = All-nil IsSized
-are_sized (h ▸ c) = All-append IsSized (artifacts h) (added_artifacts c) (are_sized h) (added_are_sized c)
+are_whole : (h : CommandList) → All IsWhole (artifacts h)
+are_whole (Make approval) = All-nil IsWhole
+are_whole (h ▸ c) = All-append IsWhole (artifacts h) (added_artifacts c) (are_whole h) (added_are_whole c)
 
 one_of : {X : Type 0} (P : X → Type 0) (xs : List X) (k : ℕ) (x : X) → All P xs → slice_get xs k ≡ Some x → P x
 one_of P xs k x all is = subst P (get_or_from_slice_get xs k x x is) (All-get_or P xs k x (slice_get_within xs k x is) all)
 
-pub size_is : (h : CommandList) (number : ℕ) (a : ArtifactRecord) → item_numbered (records h).artifacts number ≡ Some a → a.size ≡ length a.contents
+pub all_whole : (h : CommandList) → All IsWhole (records h).artifacts
 unfolding records
-size_is h zero a is = absurd cc
-size_is h (suc k) a is = one_of IsSized (artifacts h) k a (are_sized h) is
+all_whole h = are_whole h
+
+pub is_whole : (h : CommandList) (number : ℕ) (a : ArtifactRecord) → item_numbered (records h).artifacts number ≡ Some a → IsWhole a
+is_whole h zero a is = absurd cc
+is_whole h (suc k) a is = one_of IsWhole (records h).artifacts k a (all_whole h) is
+
+pub size_is : (h : CommandList) (number : ℕ) (a : ArtifactRecord) → item_numbered (records h).artifacts number ≡ Some a → a.size ≡ length a.contents
+size_is h number a is = (is_whole h number a is).0
 
 -- ---- the piece at a place
 

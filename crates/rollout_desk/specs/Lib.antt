@@ -6,6 +6,7 @@ pub mod Changing
 pub mod Openings
 pub mod Runs
 pub mod Once
+pub mod Promises
 pub mod Looks
 pub mod Downloads
 pub mod Imports

@@ -7,6 +7,7 @@ ghost use Rattle.rollout_machine.specs.Requests.{Asks, Do, Ask};
 ghost use Rattle.rollout_machine.specs.Standing.{Applies, StaysStopped};
 ghost use Rattle.rollout_machine.specs.Views.{command_of, query_of, request_of, reply_of};
 ghost use Rattle.rollout_desk.specs.DeskStates.{desk_state};
+ghost use Rattle.rollout_desk.specs.Promises.{IsPromised, KeepsToOffers, ShowsWhole};
 
 use crate::change::{run_command, run_query};
 use desk_store::DeskStore;
@@ -52,10 +53,12 @@ impl<S: Alter> Desk<S> {
         reply
     }
 
-    /// Answers a query, and changes nothing.
+    /// Answers a query, and changes nothing. A device is told of its own offer alone, and gets no contents but of what it is offered.
     pub fn ask(&mut self, query: &Query) -> Reply
         ensures clean { (desk_state S.Store self.new).is_clean → (desk_state S.Store self.old).is_clean }
         ensures applies { Applies (desk_state S.Store self.old) (desk_state S.Store self.new) (Asks (Ask (query_of query.now))) (reply_of result) }
+        ensures offered { IsPromised (desk_state S.Store self.old) (desk_state S.Store self.new) (λ h. KeepsToOffers h (query_of query.now) (reply_of result)) }
+        ensures whole { IsPromised (desk_state S.Store self.old) (desk_state S.Store self.new) (λ h. ShowsWhole h (query_of query.now) (reply_of result)) }
         ensures stops { reply_of result ≡ Refused StoreFailed → (desk_state S.Store self.new).is_stopped ≡ true }
         ensures stopped { (desk_state S.Store self.old).is_stopped ≡ true → (reply_of result ≡ Refused Stopped) × StaysStopped (desk_state S.Store self.old) (desk_state S.Store self.new) }
     {

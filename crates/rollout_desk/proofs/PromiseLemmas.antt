@@ -1,0 +1,234 @@
+-- What is promised of an answer follows from the answer itself.
+use Rattle.rollout_machine.specs.Answers.{Answer, answer, query_reply, if_found, for_device, download, targets_reply, targets_matching, is_offer_of, modules_offered, artifact_named, action_of_target, artifact_if, artifact_of_module}
+use Rattle.rollout_machine.specs.ByteStrings.{contains_word, item_numbered, same_bytes}
+use Rattle.rollout_machine.specs.CommandList.{CommandList}
+use Rattle.rollout_machine.specs.Commands.{Bytes, Credential, TargetRow}
+use Rattle.rollout_machine.specs.Objects.{deployment_shown}
+use Rattle.rollout_machine.specs.Offers.{Offer, offer}
+use Rattle.rollout_machine.specs.Records.{ArtifactRecord, Records, records}
+use Rattle.rollout_machine.specs.Replies.{Reply, Refused, PollShown, DeploymentShown, CancelShown, ContentsShown}
+use Rattle.rollout_machine.specs.Requests.{Page, Query, Ask, Asks, Poll, ShowDeployment, ShowCancel, Download, ShowTargets, ShowTarget, ShowTargetActions, ShowAction, ShowHistory, ShowModules, ShowModule, ShowArtifacts, ShowArtifact, ShowContents, ShowSets, ShowSet, ShowRollouts, ShowRollout, ShowGroups, ShowGroup, ShowGroupTargets, ShowReport, ShowActionsTable}
+use Rattle.rollout_machine.specs.Standing.{Applies, DeskState}
+use Rattle.rollout_machine.specs.StateWords.{group_numbered}
+use Rattle.rollout_machine.specs.Targets.{Target, last_row_of, target_ids, target_in}
+use Rattle.rollout_machine.specs.Validity.{IsValid}
+use Rattle.rollout_machine.specs.Verdicts.{is_known, target_of}
+use Rattle.rollout_machine.proofs.Answering.{query_answer}
+use Rattle.rollout_machine.proofs.Offering.{downloads_are_offered}
+use Rattle.rollout_machine.proofs.Offers.{offer_is_least}
+use Rattle.rollout_machine.proofs.TargetMeanings.{targets_are_named}
+use Rattle.rollout_machine.proofs.TargetTies.{same_true, same_refl}
+use Rattle.rollout_model.specs.declared.refusal.Refusal.{Refusal}
+use Rattle.rollout_model.specs.declared.refusal.Refusal.TheVariants.{NoMemory, NotFound, StoreFailed, Unauthorized}
+use Rattle.target_filter.specs.Grammar.{Tree}
+use Rattle.target_filter.specs.Profile.{filter_of}
+use Rattle.std.proofs.Common.{◌≡◌, inl, inr, ℕ, All, Bool, true, false, cond, not, ◌&&◌, ◌||◌, List, [], ◌∷◌, map, Option, Some, None, refl, sym, subst, ap, ◌∙◌}
+use Rattle.std.specs.Prelude.{is_some, nat_eq}
+use Rattle.std.specs.Option.{unwrap_or}
+use Rattle.std.specs.List.{list_any}
+use Rattle.std.proofs.lemmas.Bool.{and_parts, eqb-true, false≢true}
+use Rattle.sqlite_keyed.proofs.SliceLemmas.{All-find}
+use Rattle.rollout_desk.proofs.PieceLemmas.{IsWhole, all_whole, is_whole}
+use Rattle.rollout_desk.specs.Promises.{Describes, DownloadsItsOffer, IsPromised, IsTarget, KeepsToOffers, NamesItsOffer, ShowsWhole, asker, offer_named}
+
+-- ---- the device is a target
+
+abbrev is_device : Credential → Target → Bool
+is_device device x = same_bytes x.id device.id && same_bytes x.digest device.digest
+
+-- a target that passes the test of a device is the one of its id
+abbrev Passes : CommandList → Credential → List Bytes → Type 0
+Passes h device ids = (contains_word device.id ids ≡ true) × ((target_in h device.id).digest ≡ device.digest)
+
+either_way : (a b : Bool) → b ≡ true → (a || b) ≡ true
+either_way true b e = refl
+either_way false b e = e
+
+passes : (h : CommandList) (device : Credential) (ids : List Bytes) → list_any (is_device device) (map (target_in h) ids) ≡ true → Passes h device ids
+passes h device [] e = absurd (false≢true e)
+passes h device (t ∷ ts) e = go (is_device device (target_in h t)) refl e (passes h device ts) where
+  go : (b : Bool) → is_device device (target_in h t) ≡ b → (b || list_any (is_device device) (map (target_in h) ts)) ≡ true → (list_any (is_device device) (map (target_in h) ts) ≡ true → Passes h device ts) → Passes h device (t ∷ ts)
+  go true d f rest =
+      let both : (same_bytes t device.id ≡ true) × (same_bytes (target_in h t).digest device.digest ≡ true) = and_parts _ _ d in
+      let same : t ≡ device.id = same_true _ _ both.0 in (
+        ap (λ (b : Bool). b || contains_word device.id ts) (subst (λ (x : Bytes). same_bytes device.id x ≡ true) (sym same) (same_refl device.id)),
+        subst (λ (x : Bytes). (target_in h x).digest ≡ device.digest) same (same_true _ _ both.1),
+      )
+  go false d f rest = let found = rest f in (either_way (same_bytes device.id t) _ found.0, found.1)
+
+is_target : (h : CommandList) (device : Credential) → is_known (records h) device ≡ true → IsTarget h device
+unfolding records
+is_target h device e = go (last_row_of device.id h) refl (sym (targets_are_named device.id h) ∙ found.0) where
+  found : Passes h device (target_ids h)
+  found = passes h device (target_ids h) e
+
+  go : (o : Option TargetRow) → last_row_of device.id h ≡ o → is_some o ≡ true → IsTarget h device
+  go None d f = absurd (false≢true f)
+  go (Some row) d f = record { row = row; is_last = d; token = sym (ap digest_by d) ∙ found.1 } where
+    digest_by : Option TargetRow → Bytes
+    digest_by o = unwrap_or (elim o [ None ↦ None | Some row ↦ Some row.digest ]) []
+
+-- ---- replies that name no offer
+
+names_none : {X : Type 0} (reply : X → Reply) (o : Option X) → ((x : X) → offer_named (reply x) ≡ None) → offer_named (if_found reply o) ≡ None
+names_none reply None none = refl
+names_none reply (Some x) none = none x
+
+either_none : (b : Bool) (x y : Reply) → offer_named x ≡ None → offer_named y ≡ None → offer_named (cond b x y) ≡ None
+either_none true x y ex ey = ex
+either_none false x y ex ey = ey
+
+targets_none : (rs : Records) (page : Page) (o : Option Bytes) → offer_named (targets_reply rs page o) ≡ None
+targets_none rs page None = refl
+targets_none rs page (Some text) = go (filter_of text) where
+  go : (o : Option Tree) → offer_named (targets_matching rs page o) ≡ None
+  go None = refl
+  go (Some f) = refl
+
+never : {o : Offer} {x : Option Offer} → x ≡ None → x ≡ Some o → ⊥
+never none some = cc
+
+-- ---- what a device is told
+
+-- a reply to a device that isn't refused comes to one that is known
+if_known : (rs : Records) (device : Credential) (reply : Reply) (o : Offer) → offer_named (for_device rs device reply) ≡ Some o → (is_known rs device ≡ true) × (offer_named reply ≡ Some o)
+if_known rs device reply o e = go (is_known rs device) refl e where
+  go : (b : Bool) → is_known rs device ≡ b → offer_named (cond b reply (Refused Unauthorized)) ≡ Some o → (is_known rs device ≡ true) × (offer_named reply ≡ Some o)
+  go true d f = (d, f)
+  go false d f = cc
+
+-- an answer that names an action of a kind comes only where it is offered so
+where_offered : (rs : Records) (t : Bytes) (kind : Bool) (n : ℕ) (o : Offer) (reply : Reply) → offer_named reply ≡ Some (record { action = n; canceling = kind })
+    → offer_named (cond (is_offer_of n kind (offer rs t)) reply (Refused NotFound)) ≡ Some o → offer rs t ≡ Some o
+where_offered rs t kind n o reply names e = go (offer rs t) refl e where
+  same_kind : (x : Offer) (k : Bool) → cond k x.canceling (not x.canceling) ≡ true → x.canceling ≡ k
+  same_kind x true d = d
+  same_kind x false d = negated x.canceling d where
+    negated : (b : Bool) → not b ≡ true → b ≡ false
+    negated true f = absurd (false≢true f)
+    negated false f = refl
+
+  by : (x : Offer) (b : Bool) → offer rs t ≡ Some x → (nat_eq x.action n && cond kind x.canceling (not x.canceling)) ≡ b → offer_named (cond b reply (Refused NotFound)) ≡ Some o → offer rs t ≡ Some o
+  by x true d f g =
+      let both = and_parts _ _ f in
+      let number : x.action ≡ n = eqb-true _ _ both.0 in
+      let same : x ≡ record { action = n; canceling = kind } = λ i. record { action = number i; canceling = same_kind x kind both.1 i } in
+      d ∙ ap Some same ∙ sym names ∙ g
+  by x false d f g = cc
+
+  go : (x : Option Offer) → offer rs t ≡ x → offer_named (cond (is_offer_of n kind x) reply (Refused NotFound)) ≡ Some o → offer rs t ≡ Some o
+  go None d f = cc
+  go (Some x) d f = by x _ d refl f
+
+offered_to : (h : CommandList) (query : Query) (device : Credential) (o : Offer) → IsValid h → asker query ≡ Some device → is_known (records h) device ≡ true → offer (records h) device.id ≡ Some o → NamesItsOffer h query o
+offered_to h query device o v asks known e = record { device = device; asks = asks; known = is_target h device known; least = (offer_is_least h device.id v).0 o e }
+
+names : (h : CommandList) (query : Query) (o : Offer) → IsValid h → offer_named (query_reply (records h) query) ≡ Some o → NamesItsOffer h query o
+names h (Poll device) o v e = let it = if_known (records h) device (PollShown device.id (offer (records h) device.id)) o e in offered_to h (Poll device) device o v refl it.0 it.1
+names h (ShowDeployment device n) o v e =
+    let it = if_known (records h) device _ o e in
+    offered_to h (ShowDeployment device n) device o v refl it.0 (where_offered (records h) device.id false n o (DeploymentShown (deployment_shown (records h) device.id n)) refl it.1)
+names h (ShowCancel device n) o v e = let it = if_known (records h) device _ o e in offered_to h (ShowCancel device n) device o v refl it.0 (where_offered (records h) device.id true n o (CancelShown n) refl it.1)
+names h (Download device m filename) o v e =
+    let none : offer_named (download (records h) device.id m filename) ≡ None = either_none (list_any (λ n. nat_eq n m) (modules_offered (records h) (offer (records h) device.id))) (if_found (λ (a : ArtifactRecord). ContentsShown a.contents) (artifact_named m filename (records h).artifacts)) (Refused NotFound) (names_none _ (artifact_named m filename (records h).artifacts) (λ a. refl)) refl in
+    absurd (never none (if_known (records h) device (download (records h) device.id m filename) o e).1)
+names h (ShowTargets filter_text page) o v e = absurd (never (targets_none (records h) page filter_text) e)
+names h (ShowTarget t) o v e = absurd (never (names_none _ (target_of (records h) t) (λ x. refl)) e)
+names h (ShowTargetActions t page) o v e = absurd (never (names_none _ (target_of (records h) t) (λ x. refl)) e)
+names h (ShowAction t n) o v e = absurd (never (names_none _ (action_of_target (records h) t n) (λ a. refl)) e)
+names h (ShowHistory t n page) o v e = absurd (never (names_none _ (action_of_target (records h) t n) (λ a. refl)) e)
+names h (ShowModules page) o v e = cc
+names h (ShowModule n) o v e = absurd (never (names_none _ (item_numbered (records h).modules n) (λ label. refl)) e)
+names h (ShowArtifacts m page) o v e = absurd (never (names_none _ (item_numbered (records h).modules m) (λ label. refl)) e)
+names h (ShowArtifact m n) o v e = absurd (never (names_none _ (artifact_of_module (records h) m n) (λ a. refl)) e)
+names h (ShowContents m n) o v e = absurd (never (names_none _ (artifact_of_module (records h) m n) (λ a. refl)) e)
+names h (ShowSets page) o v e = cc
+names h (ShowSet n) o v e = absurd (never (names_none _ (item_numbered (records h).sets n) (λ label. refl)) e)
+names h (ShowRollouts page) o v e = cc
+names h (ShowRollout r) o v e = absurd (never (names_none _ (item_numbered (records h).rollouts r) (λ x. refl)) e)
+names h (ShowGroups r page) o v e = absurd (never (names_none _ (item_numbered (records h).rollouts r) (λ x. refl)) e)
+names h (ShowGroup r i) o v e = absurd (never (names_none _ (item_numbered (records h).rollouts r) (λ x. names_none _ (group_numbered i x.groups) (λ g. refl))) e)
+names h (ShowGroupTargets r i page) o v e = absurd (never (names_none _ (item_numbered (records h).rollouts r) (λ x. names_none _ (group_numbered i x.groups) (λ g. refl))) e)
+names h (ShowReport r) o v e = absurd (never (names_none _ (item_numbered (records h).rollouts r) (λ x. refl)) e)
+names h (ShowActionsTable r) o v e = absurd (never (names_none _ (item_numbered (records h).rollouts r) (λ x. refl)) e)
+
+-- a device that polls and is told of nothing is offered nothing
+polled_none : (h : CommandList) (device : Credential) → query_reply (records h) (Poll device) ≡ PollShown device.id None → offer (records h) device.id ≡ None
+polled_none h device e = go (is_known (records h) device) e where
+  go : (b : Bool) → cond b (PollShown device.id (offer (records h) device.id)) (Refused Unauthorized) ≡ PollShown device.id None → offer (records h) device.id ≡ None
+  go true f = cc
+  go false f = cc
+
+-- ---- what a device gets
+
+pub downloaded : (h : CommandList) (device : Credential) (m : ℕ) (filename contents : Bytes) → query_reply (records h) (Download device m filename) ≡ ContentsShown contents → DownloadsItsOffer h device m filename contents
+downloaded h device m filename contents e = record {
+  known = is_target h device (go (is_known (records h) device) refl e);
+  downloadable = downloads_are_offered h device m filename contents (ap (λ (x : Answer). x.reply) (query_answer h (Download device m filename)) ∙ e);
+} where
+  go : (b : Bool) → is_known (records h) device ≡ b → cond b (download (records h) device.id m filename) (Refused Unauthorized) ≡ ContentsShown contents → is_known (records h) device ≡ true
+  go true d f = d
+  go false d f = cc
+
+keeps_to_offers : (h : CommandList) (query : Query) → IsValid h → KeepsToOffers h query (query_reply (records h) query)
+keeps_to_offers h query v = record {
+  names = λ o e. names h query o v e;
+  withholds_none = λ device is e. (offer_is_least h device.id v).1 (polled_none h device (ap (query_reply (records h)) (sym is) ∙ e));
+  hands_out = λ device m filename contents is e. downloaded h device m filename contents (ap (query_reply (records h)) (sym is) ∙ e);
+}
+
+refusals_keep : (h : CommandList) (query : Query) (refusal : Refusal) → KeepsToOffers h query (Refused refusal)
+refusals_keep h query refusal = record {
+  names = λ o e. absurd cc;
+  withholds_none = λ device is e. absurd cc;
+  hands_out = λ device m filename contents is e. absurd cc;
+}
+
+-- ---- contents
+
+describes : (a : ArtifactRecord) → IsWhole a → Describes a a.contents
+describes a whole = record { contents_are = refl; size = whole.0; digest = whole.1 }
+
+shows_whole : (h : CommandList) (query : Query) → ShowsWhole h query (query_reply (records h) query)
+shows_whole h (ShowContents m k) = go (item_numbered (records h).artifacts k) refl where
+  own : (a : ArtifactRecord) → item_numbered (records h).artifacts k ≡ Some a → (b : Bool) → artifact_of_module (records h) m k ≡ cond b (Some a) None → ShowsWhole h (ShowContents m k) (if_found (λ (x : ArtifactRecord). ContentsShown x.contents) (cond b (Some a) None))
+  own a at false is = tt
+  own a at true is = (a, is, describes a (is_whole h k a at))
+
+  go : (x : Option ArtifactRecord) → item_numbered (records h).artifacts k ≡ x → ShowsWhole h (ShowContents m k) (if_found (λ (y : ArtifactRecord). ContentsShown y.contents) (artifact_if m x))
+  go None at = tt
+  go (Some a) at = own a at (nat_eq a.module_number m) (ap (artifact_if m) at)
+shows_whole h (Download device m filename) = go (is_known (records h) device) (list_any (λ n. nat_eq n m) (modules_offered (records h) (offer (records h) device.id))) (artifact_named m filename (records h).artifacts) refl where
+  go : (known among : Bool) (x : Option ArtifactRecord) → artifact_named m filename (records h).artifacts ≡ x
+      → ShowsWhole h (Download device m filename) (cond known (cond among (if_found (λ (a : ArtifactRecord). ContentsShown a.contents) x) (Refused NotFound)) (Refused Unauthorized))
+  go true true (Some a) at = (a, at, describes a (All-find IsWhole _ (records h).artifacts a (all_whole h) at))
+  go true true None at = tt
+  go true false x at = tt
+  go false among x at = tt
+shows_whole h query = tt
+
+refusals_show_none : (h : CommandList) (query : Query) (refusal : Refusal) → ShowsWhole h query (Refused refusal)
+refusals_show_none h (ShowContents m k) refusal = tt
+refusals_show_none h (Download device m filename) refusal = tt
+refusals_show_none h query refusal = tt
+
+-- ---- from the answer of a desk
+
+module _ {File : Type 0} (old new : DeskState File) (query : Query) (reply : Reply) where
+  -- what holds of the answer at each list, and of refusals, holds of a reply
+  promised : (Holds : CommandList → Reply → Type 0) → ((h : CommandList) (refusal : Refusal) → Holds h (Refused refusal)) → ((h : CommandList) → IsValid h → Holds h (query_reply (records h) query))
+      → Applies old new (Asks (Ask query)) reply → IsPromised old new (λ h. Holds h reply)
+  promised Holds refusals answers applies h clean standing =
+      elim (applies h clean standing).answers [
+        | inl none ↦ subst (Holds h) (sym none.0) (refusals h NoMemory)
+        | inr other ↦ elim other [
+          | inl failed ↦ subst (Holds h) (sym failed.0) (refusals h StoreFailed)
+          | inr found ↦ subst (Holds h) (sym (ap (λ (x : Answer). x.reply) (found.1 ∙ query_answer h query))) (answers h standing.valid)
+        ]
+      ]
+
+  pub offers_kept : Applies old new (Asks (Ask query)) reply → IsPromised old new (λ h. KeepsToOffers h query reply)
+  offers_kept applies = promised (λ h r. KeepsToOffers h query r) (λ h refusal. refusals_keep h query refusal) (λ h v. keeps_to_offers h query v) applies
+
+  pub contents_whole : Applies old new (Asks (Ask query)) reply → IsPromised old new (λ h. ShowsWhole h query reply)
+  contents_whole applies = promised (λ h r. ShowsWhole h query r) (λ h refusal. refusals_show_none h query refusal) (λ h v. shows_whole h query) applies
