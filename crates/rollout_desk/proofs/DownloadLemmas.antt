@@ -1,17 +1,16 @@
 -- From looks at the records, and from answers, to downloads.
-use Rattle.std.proofs.Common.{◌≡◌, ◌≢◌, ◌≤◌, ◌<◌, ◌⊎◌, inl, inr, ◌+◌, ◌*◌, ◌++◌, ℕ, zero, suc, List, [], ◌∷◌, Bool, true, false, cond, nat_eq, min, take, drop, length, Vec, Option, Some, None, Result, Ok, Err, refl, sym, subst, ap, ◌∙◌, arith, vec_items}
-use Rattle.std.proofs.lemmas.Bool.{false≢true}
+use Rattle.std.proofs.Common.{◌≡◌, ◌≢◌, ◌≤◌, ◌<◌, inl, inr, ◌+◌, ◌*◌, ◌++◌, ℕ, zero, suc, List, [], ◌∷◌, Bool, true, false, cond, nat_eq, take, drop, Vec, Option, Some, None, Result, Ok, Err, IfOk, refl, sym, subst, ap, ◌∙◌, arith}
 use Rattle.std.specs.declared.alloc.Global.{Global}
 use Rattle.std.specs.Option.{option_map}
 use Rattle.sqlite.specs.Effect.{Database}
-use Rattle.sqlite.specs.State.{State, HasCleanDisk}
+use Rattle.sqlite.specs.State.{State}
 use Rattle.sql_calls.specs.Standing.{Begins as BeginsChange, Changes, Doubts, Keeps, Reads, Rests, Spoils, Wears}
 use Rattle.sql_calls.specs.declared.fault.Fault.{Fault}
 use Rattle.sql_calls.proofs.Changes.{spoils}
-use Rattle.desk_records.specs.Artifacts.{piece_numbered}
+use Rattle.desk_records.specs.Artifacts.{piece_numbered, pieces_of_artifact}
 use Rattle.desk_views.specs.Downloads.{downloadable}
 use Rattle.desk_views.proofs.DeviceViews.{answered_by}
-use Rattle.rollout_machine.specs.Answers.{Answer, answer, query_reply, if_found, artifact_if, artifact_of_module, MayAnswer}
+use Rattle.rollout_machine.specs.Answers.{Answer, answer, query_reply, if_found, artifact_if, artifact_of_module}
 use Rattle.rollout_machine.specs.ByteStrings.{item_numbered}
 use Rattle.rollout_machine.specs.CommandList.{CommandList, followed_by}
 use Rattle.rollout_machine.specs.Commands.{Bytes, Command, Credential}
@@ -19,7 +18,7 @@ use Rattle.rollout_machine.specs.Objects.{artifact_shown}
 use Rattle.rollout_machine.specs.Records.{ArtifactRecord, Records, added_artifacts, artifacts, records}
 use Rattle.rollout_machine.specs.Replies.{Reply, Refused, ArtifactShown, ContentsShown}
 use Rattle.rollout_machine.specs.Requests.{Ask, Asks, Download as DownloadOf, Query, Request, ShowArtifact, ShowContents, one}
-use Rattle.rollout_machine.specs.Standing.{DeskState, StandsFor, Applies, AppliesAt, IsInDoubt}
+use Rattle.rollout_machine.specs.Standing.{DeskState, StandsFor, Applies}
 use Rattle.rollout_machine.specs.Validity.{IsValid}
 use Rattle.rollout_machine.specs.Views.{reply_of}
 use Rattle.rollout_machine.proofs.Answering.{query_answer}
@@ -30,13 +29,15 @@ use Rattle.rollout_model.specs.declared.refusal.Refusal.TheVariants.{NoMemory, N
 use Rattle.rollout_model.specs.declared.request.Reply as model
 use Rattle.rollout_model.specs.declared.request.Reply.TheVariants as reply
 use Rattle.rollout_desk.specs.Desks.{desk_state_at}
-use Rattle.rollout_desk.specs.Downloads.{sent, next_length, artifact_in, Sends, BeginsAt, Begins, HandsPieces, RefusesContents, DownloadsGoOn}
+use Rattle.rollout_desk.specs.Downloads.{sent, next_length, artifact_in, BeginsAt, Begins, BeginsOffered, HandsItsArtifact, HandsPieces, IsNextOf, RefusesContents, DownloadsGoOn}
 use Rattle.rollout_desk.specs.Looks.{EndsLook, FindsDownload, Looks, bytes_of}
 use Rattle.rollout_desk.specs.Steps.{Handles, refusal_of_fault}
 use Rattle.rollout_machine.specs.StoreFailures.{is_store}
 use Rattle.rollout_desk.specs.declared.download.Download.{Download}
 use Rattle.rollout_desk.proofs.ApplyLemmas.{fault_fails, found as found_inside, lost, stands, unbegun}
 use Rattle.rollout_desk.proofs.DeskLemmas.{answers}
+use Rattle.rollout_desk.specs.Promises.{IsPromised}
+use Rattle.rollout_desk.proofs.PromiseLemmas.{downloaded}
 use Rattle.rollout_desk.proofs.PieceLemmas.{size_is, piece_is, so_far, joins}
 
 -- ---- the next piece
@@ -66,6 +67,29 @@ module _ (Holds : Database → Records → Type 0) (was : Bool) (a b : State) (p
           joined = joins contents p.size p.pieces sends.size before ∙ ap (λ l. take (sent p) contents ++ l) (sym next);
         },
       )
+
+-- ---- whatever the download is of
+
+none_numbered : (n : ℕ) → item_numbered {X = Bytes} [] n ≡ None
+none_numbered zero = refl
+none_numbered (suc k) = refl
+
+next_of : (h : CommandList) (p : Download) (piece : Bytes) → Some piece ≡ piece_numbered (records h).artifacts p.number (p.pieces + 1) → IsNextOf h p piece
+next_of h p piece is = go (item_numbered (records h).artifacts p.number) refl where
+  go : (x : Option ArtifactRecord) → item_numbered (records h).artifacts p.number ≡ x → IsNextOf h p piece
+  go None at =
+      let no : Some piece ≡ None = is ∙ ap (λ x. item_numbered (pieces_of_artifact x) (p.pieces + 1)) at ∙ none_numbered (p.pieces + 1) in
+      absurd cc
+  go (Some a) at =
+      let has : option_map (λ (x : ArtifactRecord). x.contents) (item_numbered (records h).artifacts p.number) ≡ Some a.contents = ap (option_map (λ (x : ArtifactRecord). x.contents)) at in
+      record { contents = a.contents; artifact = has; next = piece_is (records h) p.number p.pieces a.contents piece has is }
+
+module _ (Holds : Database → Records → Type 0) (was : Bool) (a b : State) (p : Download) where
+  pub own_piece : (found : Found) (piece : Vec ℕ Global) → Looks Holds a b found (IsNextPiece p) → found ≡ Ok (Some piece) → was ≡ false → HandsItsArtifact (desk_state_at Holds was a) (desk_state_at Holds was b) p (Ok (Some piece))
+  own_piece found piece look is runs h clean standing =
+      let looked : Looks Holds a b (Ok (Some piece)) (IsNextPiece p) = subst (λ x. Looks Holds a b x (IsNextPiece p)) is look in
+      let it = looked.looks (records h) (λ _. standing.shows) in
+      (subst (λ (x : Bool). StandsFor (desk_state_at Holds x b) h) (sym runs) (stands Holds b h standing.valid (it.0 clean)), next_of h p piece.items (it.1 clean))
 
 -- ---- the first answer
 
@@ -231,6 +255,12 @@ module _ (Holds : Database → Records → Type 0) (a : State) (device : Credent
 
     pub offered_refused : (refusal : Refusal) (stopped : Bool) → FindsDownload Holds a b device m filename (Err refusal) → stopped ≡ is_store refusal → Applies (desk_state_at Holds was a) (desk_state_at Holds stopped b) (Asks request) (Refused refusal)
     offered_refused refusal stopped found is = answers Holds a b was stopped request (Refused refusal) runs (record { wears = found.wears; handles = found.finds }) is
+
+-- what begins is of what the device is offered
+pub begun_offered : {File : Type 0} (old new : DeskState File) (query : Query) (result : Result Download model.Reply) → Begins old new query result → IfOk result (λ p. IsPromised old new (λ h. BeginsOffered h query p))
+begun_offered old new query (Err r) begins = tt
+begun_offered old new (DownloadOf device m filename) (Ok p) begins = λ h clean standing. let it = begins h clean standing in (it.contents, it.sends, downloaded h device m filename it.contents it.answer)
+begun_offered old new query (Ok p) begins = λ h clean standing. tt
 
 -- ---- later commands
 

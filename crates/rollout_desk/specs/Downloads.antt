@@ -18,6 +18,7 @@ use Rattle.rollout_model.specs.declared.refusal.Refusal.{Refusal}
 use Rattle.rollout_model.specs.declared.refusal.Refusal.TheVariants.{NoMemory, StoreFailed, Stopped}
 use Rattle.rollout_model.specs.declared.request.Reply.{Reply}
 use Rattle.rollout_model.specs.declared.request.Reply.TheVariants as reply
+use Rattle.rollout_desk.specs.Promises.{DownloadsItsOffer}
 use Rattle.rollout_desk.specs.declared.download.Download.{Download}
 
 -- the artifact that a reply shows, or else the reply
@@ -46,6 +47,11 @@ pub record BeginsAt {File : Type 0} (h : CommandList) (new : DeskState File) (qu
   pub sends : Sends h p contents
   pub start : sent p ≡ 0
 
+-- a device's download that begins is of what the device is offered as a deployment
+abbrev pub BeginsOffered : CommandList → Query → Download → Type 0
+BeginsOffered h (DownloadOf device m filename) p = (contents : Bytes) × Sends h p contents × DownloadsItsOffer h device m filename contents
+BeginsOffered h _ p = Unit {0}
+
 -- a download begins, or the query is answered as ever
 abbrev pub Begins : {File : Type 0} → DeskState File → DeskState File → Query → Result Download Reply → Type 0
 Begins old new query (Ok p) = (h : CommandList) → new.is_clean → StandsFor old h → BeginsAt h new query p
@@ -71,6 +77,23 @@ HandsAt h contents new p q (Err refusal) = (q ≡ p) × (((refusal ≡ NoMemory)
 -- on a desk that stands for any list, of any contents that are sent
 abbrev pub HandsPieces : {File : Type 0} → DeskState File → DeskState File → Download → Download → Result (Option (Vec ℕ Global)) Refusal → Type 0
 HandsPieces old new p q result = (h : CommandList) (contents : Bytes) → new.is_clean → StandsFor old h → Sends h p contents → HandsAt h contents new p q result
+
+-- these bytes are the next piece of the artifact that has the download's number at the list h
+pub record IsNextOf (h : CommandList) (p : Download) (piece : Bytes) : Type 0 where
+  pub contents : Bytes
+  pub artifact : option_map (λ (a : ArtifactRecord). a.contents) (item_numbered (records h).artifacts p.number) ≡ Some contents
+  pub next : piece ≡ take piece_length (drop (p.pieces * piece_length) contents)
+
+-- at the list h, for which the desk stands as before
+abbrev pub StaysAt : {File : Type 0} → CommandList → DeskState File → Download → Result (Option (Vec ℕ Global)) Refusal → Type 0
+StaysAt h new p (Ok (Some piece)) = StandsFor new h × IsNextOf h p piece.items
+StaysAt h new p (Ok None) = StandsFor new h
+StaysAt h new p (Err refusal) = ((refusal ≡ NoMemory) × StandsFor new h) ⊎ ((refusal ≡ StoreFailed) × IsInDoubt new h None)
+
+-- Whatever the download is of, be it of another desk: what is handed out is of this desk's artifact of its number, and the desk stands for the list as before.
+-- Or memory was wanted, and it does; or the store failed, and a crash leaves the list.
+abbrev pub HandsItsArtifact : {File : Type 0} → DeskState File → DeskState File → Download → Result (Option (Vec ℕ Global)) Refusal → Type 0
+HandsItsArtifact old new p result = (h : CommandList) → new.is_clean → StandsFor old h → StaysAt h new p result
 
 -- memory was wanted, the store failed, or the desk is stopped
 abbrev pub IsInterruption : Refusal → Type 0

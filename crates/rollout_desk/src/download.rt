@@ -7,7 +7,8 @@ ghost use Rattle.rollout_machine.specs.Standing.{StaysStopped};
 ghost use Rattle.rollout_machine.specs.Views.{query_of, reply_of};
 ghost use Rattle.rollout_model.specs.declared.refusal.Refusal.TheVariants.{Stopped, StoreFailed};
 ghost use Rattle.rollout_desk.specs.DeskStates.{desk_state};
-ghost use Rattle.rollout_desk.specs.Downloads.{Begins, HandsPieces, IsInterruption, KeepsCount, RefusesContents, DownloadsGoOn, artifact_in, next_length};
+ghost use Rattle.rollout_desk.specs.Downloads.{Begins, BeginsOffered, HandsItsArtifact, HandsPieces, IsInterruption, KeepsCount, RefusesContents, DownloadsGoOn, artifact_in, next_length};
+ghost use Rattle.rollout_desk.specs.Promises.{IsPromised};
 
 use crate::desk::Desk;
 use crate::look::{look_for_download, of_length, read_piece};
@@ -66,6 +67,7 @@ impl<S: Alter> Desk<S> {
     pub fn download(&mut self, query: &Query) -> Result<Download, Reply>
         ensures clean { (desk_state S.Store self.new).is_clean → (desk_state S.Store self.old).is_clean }
         ensures begins { Begins (desk_state S.Store self.old) (desk_state S.Store self.new) (query_of query.now) result }
+        ensures offered { IfOk result (λ p. IsPromised (desk_state S.Store self.old) (desk_state S.Store self.new) (λ h. BeginsOffered h (query_of query.now) p)) }
         ensures refuses { IfErr result (λ reply. RefusesContents (desk_state S.Store self.old) (desk_state S.Store self.new) (query_of query.now) (reply_of reply)) }
         ensures runs { IfOk result (λ _. (desk_state S.Store self.old).is_stopped ≡ false) }
         ensures stops { IfErr result (λ reply. reply_of reply ≡ Refused StoreFailed → (desk_state S.Store self.new).is_stopped ≡ true) }
@@ -140,10 +142,11 @@ impl<S: Alter> Desk<S> {
 
     /// The next piece of a download: 65,536 bytes, the last one perhaps fewer. `None` once all were handed out. After `NoMemory`
     /// the same piece is next. After `StoreFailed` the desk is stopped, and this is `Stopped`; pieces that aren't as many bytes as
-    /// the artifact's size are a failed store too.
+    /// the artifact's size are a failed store too. A download of another desk gets pieces of this one's artifact of its number, or none.
     pub fn next_piece(&mut self, download: &mut Download) -> Result<Option<Vec<u8>>, Refusal>
         ensures clean { (desk_state S.Store self.new).is_clean → (desk_state S.Store self.old).is_clean }
         ensures hands { HandsPieces (desk_state S.Store self.old) (desk_state S.Store self.new) download.old download.new result }
+        ensures own { HandsItsArtifact (desk_state S.Store self.old) (desk_state S.Store self.new) download.old result }
         ensures counts { KeepsCount download.old download.new result }
         ensures interrupted { IfErr result IsInterruption }
         ensures stops { result ≡ Err Refusal.StoreFailed → (desk_state S.Store self.new).is_stopped ≡ true }
