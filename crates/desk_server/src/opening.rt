@@ -4,9 +4,8 @@ ghost use Rattle.std.specs.Prelude.{◌≡◌, ◌⊎◌, IfOk, IfErr};
 ghost use Rattle.sqlite.specs.Files.{over_files};
 ghost use Rattle.sqlite.specs.WalFiles.{image_at};
 ghost use Rattle.desk_opening.specs.Opening.{IsFailure};
-ghost use Rattle.desk_opening.specs.Reopening.{IsSpared, IsRefused};
 ghost use Rattle.rollout_desk.specs.DeskStates.{desk_state};
-ghost use Rattle.rollout_desk.specs.Openings.{ReopensDesk};
+ghost use Rattle.rollout_desk.specs.Openings.{ReopensDesk, LeftUnharmed};
 ghost use Rattle.desk_server.specs.Orders.{asks_approval};
 
 use crate::order::Order;
@@ -47,8 +46,7 @@ pub fn open_for<S: Start>(
     start: S,
 ) -> Result<Desk<FileStore<FileFrom<S>>>, OpenFault>
     ensures opened { IfOk result (λ desk. ReopensDesk (image_at S.Start) (desk_state over_files desk) (asks_approval order.now)) }
-    ensures refused { IfErr result (λ e. IsFailure e ⊎ (IsSpared ⟦<FileFrom<S> as Disk>⟧ (λ left. left ≡ image_at S.Start) e
-        ⊎ IsRefused ⟦<FileFrom<S> as Disk>⟧ (image_at S.Start) (asks_approval order.now) e)) }
+    ensures refused { IfErr result (λ e. IsFailure e ⊎ LeftUnharmed ⟦<FileFrom<S> as Disk>⟧ (λ left. left ≡ image_at S.Start) (image_at S.Start) (asks_approval order.now) e) }
 {
     Desk::reopen_path(rt, order.db(), start, order.approval())
 }
