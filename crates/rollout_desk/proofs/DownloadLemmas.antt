@@ -29,11 +29,12 @@ use Rattle.rollout_model.specs.declared.refusal.Refusal.TheVariants.{NoMemory, N
 use Rattle.rollout_model.specs.declared.request.Reply as model
 use Rattle.rollout_model.specs.declared.request.Reply.TheVariants as reply
 use Rattle.rollout_desk.specs.Desks.{desk_state_at}
-use Rattle.rollout_desk.specs.Downloads.{sent, next_length, artifact_in, BeginsAt, Begins, BeginsOffered, HandsItsArtifact, HandsPieces, IsNextOf, RefusesContents, DownloadsGoOn}
+use Rattle.contents_handler.specs.Downloads.{sent, next_length, Sends, BeginsAt, Begins, HandsPieces}
+use Rattle.contents_handler.specs.declared.download.Download.{Download}
+use Rattle.rollout_desk.specs.Downloads.{artifact_in, BeginsOffered, HandsItsArtifact, IsNextOf, RefusesContents, DownloadsGoOn}
 use Rattle.rollout_desk.specs.Looks.{EndsLook, FindsDownload, Looks, bytes_of}
 use Rattle.rollout_desk.specs.Steps.{Handles, refusal_of_fault}
 use Rattle.rollout_machine.specs.StoreFailures.{is_store}
-use Rattle.rollout_desk.specs.declared.download.Download.{Download}
 use Rattle.rollout_desk.proofs.ApplyLemmas.{fault_fails, found as found_inside, lost, stands, unbegun}
 use Rattle.rollout_desk.proofs.DeskLemmas.{answers}
 use Rattle.rollout_desk.specs.Promises.{IsPromised}
@@ -92,6 +93,10 @@ module _ (Holds : Database → Records → Type 0) (was : Bool) (a b : State) (p
       (subst (λ (x : Bool). StandsFor (desk_state_at Holds x b) h) (sym runs) (stands Holds b h standing.valid (it.0 clean)), next_of h p piece.items (it.1 clean))
 
 -- ---- the first answer
+
+-- what answers a query
+abbrev answered : Reply → Answer
+answered r = record { reply = r; accepted = None }
 
 -- a reply that shows no artifact
 pub other_reply : (r o : model.Reply) → Err o ≡ artifact_in r → (r ≡ o) × ((shown : Artifact) → reply_of r ≢ ArtifactShown shown)
@@ -154,7 +159,7 @@ module _ {File : Type 0} (old new : DeskState File) (m k : ℕ) where
 
   module _ (shown : Artifact) (h : CommandList) (standing : StandsFor new h) where
     abbrev Begun : Type 0
-    Begun = BeginsAt h new (ShowContents m k) (record { number = k; size = shown.size; pieces = 0 })
+    Begun = BeginsAt h new (Asks (Ask (ShowContents m k))) (record { number = k; size = shown.size; pieces = 0 })
 
     begun_own : (a : ArtifactRecord) → item_numbered (records h).artifacts k ≡ Some a → (b : Bool) → nat_eq a.module_number m ≡ b → ArtifactShown shown ≡ for_artifact (cond b (Some a) None) → Begun
     begun_own a at false own is = absurd cc
@@ -162,7 +167,8 @@ module _ {File : Type 0} (old new : DeskState File) (m k : ℕ) where
         let same : shown ≡ artifact_shown k a = cc in record {
           stands = standing;
           contents = a.contents;
-          answer = ap (λ x. for_contents (artifact_if m x)) at ∙ ap (λ b. for_contents (cond b (Some a) None)) own;
+          answer = query_answer h (ShowContents m k)
+              ∙ ap answered (ap (λ x. for_contents (artifact_if m x)) at ∙ ap (λ b. for_contents (cond b (Some a) None)) own);
           sends = record {
             artifact = ap (option_map (λ (x : ArtifactRecord). x.contents)) at;
             size = ap (λ (x : Artifact). x.size) same ∙ size_is h k a at;
@@ -175,7 +181,7 @@ module _ {File : Type 0} (old new : DeskState File) (m k : ℕ) where
     begun_at (Some a) at is = begun_own a at (nat_eq a.module_number m) refl is
 
   -- the artifact is shown, so its contents can be sent
-  pub begun : (shown : Artifact) → Applies old new (Asks (Ask (ShowArtifact m k))) (ArtifactShown shown) → Begins old new (ShowContents m k) (Ok (record { number = k; size = shown.size; pieces = 0 }))
+  pub begun : (shown : Artifact) → Applies old new (Asks (Ask (ShowArtifact m k))) (ArtifactShown shown) → Begins old new (Asks (Ask (ShowContents m k))) (Ok (record { number = k; size = shown.size; pieces = 0 }))
   begun shown applies h clean standing =
       let it = applies h clean standing in
       elim it.answers [
@@ -242,13 +248,13 @@ module _ (Holds : Database → Records → Type 0) (a : State) (device : Credent
 
   -- of a desk that runs
   module _ (was : Bool) (runs : was ≡ false) (b : State) where
-    pub offered_begins : (s : Artifact) → FindsDownload Holds a b device m filename (Ok s) → Begins (desk_state_at Holds was a) (desk_state_at Holds was b) (DownloadOf device m filename) (Ok (record { number = s.number; size = s.size; pieces = 0 }))
+    pub offered_begins : (s : Artifact) → FindsDownload Holds a b device m filename (Ok s) → Begins (desk_state_at Holds was a) (desk_state_at Holds was b) (Asks request) (Ok (record { number = s.number; size = s.size; pieces = 0 }))
     offered_begins s found h clean standing =
         let it = found.finds h clean (subst (λ (x : Bool). StandsFor (desk_state_at Holds x a) h) runs standing) in
         let of = answered_by m filename (records h) device (Ok s) it.1 in record {
           stands = subst (λ (x : Bool). StandsFor (desk_state_at Holds x b) h) (sym runs) it.0;
           contents = of.0.contents;
-          answer = of.1;
+          answer = query_answer h (DownloadOf device m filename) ∙ ap answered of.1;
           sends = record { artifact = ap (option_map (λ (x : ArtifactRecord). x.contents)) of.2; size = of.3 ∙ size_is h s.number of.0 of.2 };
           start = omega arith;
         }
@@ -257,9 +263,9 @@ module _ (Holds : Database → Records → Type 0) (a : State) (device : Credent
     offered_refused refusal stopped found is = answers Holds a b was stopped request (Refused refusal) runs (record { wears = found.wears; handles = found.finds }) is
 
 -- what begins is of what the device is offered
-pub begun_offered : {File : Type 0} (old new : DeskState File) (query : Query) (result : Result Download model.Reply) → Begins old new query result → IfOk result (λ p. IsPromised old new (λ h. BeginsOffered h query p))
+pub begun_offered : {File : Type 0} (old new : DeskState File) (query : Query) (result : Result Download model.Reply) → Begins old new (Asks (Ask query)) result → IfOk result (λ p. IsPromised old new (λ h. BeginsOffered h query p))
 begun_offered old new query (Err r) begins = tt
-begun_offered old new (DownloadOf device m filename) (Ok p) begins = λ h clean standing. let it = begins h clean standing in (it.contents, it.sends, downloaded h device m filename it.contents it.answer)
+begun_offered old new (DownloadOf device m filename) (Ok p) begins = λ h clean standing. let it = begins h clean standing in (it.contents, it.sends, downloaded h device m filename it.contents (ap (λ (a : Answer). a.reply) it.answer))
 begun_offered old new query (Ok p) begins = λ h clean standing. tt
 
 -- ---- later commands

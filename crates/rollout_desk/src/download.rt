@@ -2,49 +2,21 @@
 
 ghost use Rattle.std.specs.Prelude.{◌≡◌, true, false, Err, IfOk, IfErr};
 ghost use Rattle.rollout_machine.specs.Replies.{Refused};
-ghost use Rattle.rollout_machine.specs.Requests.{Download as DownloadOf, ShowContents};
+ghost use Rattle.rollout_machine.specs.Requests.{Ask, Asks, Download as DownloadOf, ShowContents};
 ghost use Rattle.rollout_machine.specs.Standing.{StaysStopped};
 ghost use Rattle.rollout_machine.specs.Views.{query_of, reply_of};
 ghost use Rattle.rollout_model.specs.declared.refusal.Refusal.TheVariants.{Stopped, StoreFailed};
 ghost use Rattle.rollout_desk.specs.DeskStates.{desk_state};
-ghost use Rattle.rollout_desk.specs.Downloads.{Begins, BeginsOffered, HandsItsArtifact, HandsPieces, IsInterruption, KeepsCount, RefusesContents, DownloadsGoOn, artifact_in, next_length};
+ghost use Rattle.contents_handler.specs.Downloads.{Begins, HandsPieces, KeepsCount};
+ghost use Rattle.rollout_desk.specs.Downloads.{BeginsOffered, HandsItsArtifact, IsInterruption, RefusesContents, DownloadsGoOn, artifact_in};
 ghost use Rattle.rollout_desk.specs.Promises.{IsPromised};
 
 use crate::desk::Desk;
 use crate::look::{look_for_download, of_length, read_piece};
+use contents_handler::Download;
 use rollout_machine::is_failed_store;
-use rollout_model::limits::PIECE_LENGTH;
 use rollout_model::{Artifact, ArtifactNo, Credential, Filename, ModuleNo, Query, Refusal, Reply};
 use sqlite::Alter;
-
-/// A download: how far the contents of an artifact were handed out, piece by piece. One that is dropped early changes nothing.
-#[derive(Clone, Copy)]
-pub struct Download {
-    pub(crate) number: ArtifactNo,
-    /// In bytes.
-    pub(crate) size: u32,
-    /// How many pieces were handed out.
-    pub(crate) pieces: u32,
-}
-
-impl Download {
-    /// How many bytes the contents have.
-    pub fn size(&self) -> u32
-        ensures { result ≡ self.now.size }
-    {
-        self.size
-    }
-
-    /// How many bytes the next piece has: 0 where all were handed out.
-    fn next_length(&self) -> u64
-        ensures { result ≡ next_length self.now }
-    {
-        let sent = self.pieces as u64 * PIECE_LENGTH as u64;
-        (self.size as u64)
-            .saturating_sub(sent)
-            .min(PIECE_LENGTH as u64)
-    }
-}
 
 /// What an artifact's contents are, they stay, so a download goes on whatever commands come between its pieces.
 pub fn downloads_go_on()
@@ -66,7 +38,7 @@ impl<S: Alter> Desk<S> {
     /// answers it.
     pub fn download(&mut self, query: &Query) -> Result<Download, Reply>
         ensures clean { (desk_state S.Store self.new).is_clean → (desk_state S.Store self.old).is_clean }
-        ensures begins { Begins (desk_state S.Store self.old) (desk_state S.Store self.new) (query_of query.now) result }
+        ensures begins { Begins (desk_state S.Store self.old) (desk_state S.Store self.new) (Asks (Ask (query_of query.now))) result }
         ensures offered { IfOk result (λ p. IsPromised (desk_state S.Store self.old) (desk_state S.Store self.new) (λ h. BeginsOffered h (query_of query.now) p)) }
         ensures refuses { IfErr result (λ reply. RefusesContents (desk_state S.Store self.old) (desk_state S.Store self.new) (query_of query.now) (reply_of reply)) }
         ensures runs { IfOk result (λ _. (desk_state S.Store self.old).is_stopped ≡ false) }
@@ -91,7 +63,7 @@ impl<S: Alter> Desk<S> {
         number: ArtifactNo,
     ) -> Result<Download, Reply>
         ensures clean { (desk_state S.Store self.new).is_clean → (desk_state S.Store self.old).is_clean }
-        ensures begins { Begins (desk_state S.Store self.old) (desk_state S.Store self.new) (ShowContents module_number number) result }
+        ensures begins { Begins (desk_state S.Store self.old) (desk_state S.Store self.new) (Asks (Ask (ShowContents module_number number))) result }
         ensures refuses { IfErr result (λ reply. RefusesContents (desk_state S.Store self.old) (desk_state S.Store self.new) (ShowContents module_number number) (reply_of reply)) }
         ensures runs { IfOk result (λ _. (desk_state S.Store self.old).is_stopped ≡ false) }
         ensures stops { IfErr result (λ reply. reply_of reply ≡ Refused StoreFailed → (desk_state S.Store self.new).is_stopped ≡ true) }
@@ -117,7 +89,7 @@ impl<S: Alter> Desk<S> {
         filename: &Filename,
     ) -> Result<Download, Reply>
         ensures clean { (desk_state S.Store self.new).is_clean → (desk_state S.Store self.old).is_clean }
-        ensures begins { Begins (desk_state S.Store self.old) (desk_state S.Store self.new) (DownloadOf device.now module_number filename.now) result }
+        ensures begins { Begins (desk_state S.Store self.old) (desk_state S.Store self.new) (Asks (Ask (DownloadOf device.now module_number filename.now))) result }
         ensures refuses { IfErr result (λ reply. RefusesContents (desk_state S.Store self.old) (desk_state S.Store self.new) (DownloadOf device.now module_number filename.now) (reply_of reply)) }
         ensures runs { IfOk result (λ _. (desk_state S.Store self.old).is_stopped ≡ false) }
         ensures stops { IfErr result (λ reply. reply_of reply ≡ Refused StoreFailed → (desk_state S.Store self.new).is_stopped ≡ true) }

@@ -5,6 +5,7 @@ mod actions;
 mod artifacts;
 mod attributes;
 mod change;
+mod contents;
 mod creation;
 mod desk;
 mod download;
@@ -28,6 +29,7 @@ mod tags;
 mod targets;
 
 pub use crate::desk::Desk;
-pub use crate::download::{Download, downloads_go_on};
+pub use crate::download::downloads_go_on;
 pub use crate::opening::goes_on_after_crash;
+pub use contents_handler::Download;
 pub use desk_opening::OpenFault;

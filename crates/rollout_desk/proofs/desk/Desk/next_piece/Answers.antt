@@ -1,7 +1,7 @@
 use Rattle.std.proofs.Common.{◌≤◌, rules}
 use Rattle.sqlite.specs.Held.{state}
 use Rattle.desk_records.specs.Holds.{HoldsRecords}
-use Rattle.rollout_desk.specs.Downloads.{next_length}
+use Rattle.contents_handler.specs.Downloads.{next_length}
 use Rattle.rollout_desk.proofs.DownloadLemmas.{handed, own_piece}
 use Rattle.rollout_desk.proofs.desk.Desk.next_piece.Goals as goal
 
