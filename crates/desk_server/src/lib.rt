@@ -14,5 +14,5 @@ pub use crate::order::{Order, Setup, read_order};
 pub use crate::program::{carry_out, carry_out_on};
 pub use crate::report::carry_out_report;
 pub use stream_server::{
-    End, Handler, Interface, ListenFault, ServeFault, Served, serve, serve_on,
+    ContentsHandler, End, Handler, Interface, ListenFault, ServeFault, Served, serve, serve_on,
 };

@@ -18,7 +18,7 @@ use sqlite::Alter;
 use std::alloc::Global;
 use std::io::{Read, Write};
 use std::net::TcpListener;
-use stream_server::{Handler, Interface, ListenFault, ServeFault, serve, serve_on};
+use stream_server::{ContentsHandler, Interface, ListenFault, ServeFault, serve, serve_on};
 
 /// The exit status of what was done.
 pub(crate) const DONE: u8 = 0;
@@ -68,7 +68,7 @@ pub(crate) fn tell<E: Write>(errors: &mut Watched<E>, line: &[u8])
 }
 
 /// Serves the input to the output, and tells of a fault.
-fn run<R: Read, W: Write, E: Write, D: Handler>(
+fn run<R: Read, W: Write, E: Write, D: ContentsHandler>(
     alloc: Global,
     desk: &mut D,
     interface: Interface,
@@ -94,7 +94,7 @@ fn run<R: Read, W: Write, E: Write, D: Handler>(
 
 /// Serves the connections to a port, or answers at once where the port wasn't taken.
 #[tactic(auto, using(stream_server::proofs::ListenLemmas::keeps_what_stands, stream_server::proofs::PartLemmas::stays))]
-fn listen<D: Handler>(
+fn listen<D: ContentsHandler>(
     alloc: Global,
     desk: &mut D,
     interface: Interface,
@@ -110,7 +110,7 @@ fn listen<D: Handler>(
 }
 
 /// Serves the connections, and tells of a fault.
-fn run_on<E: Write, D: Handler>(
+fn run_on<E: Write, D: ContentsHandler>(
     alloc: Global,
     desk: &mut D,
     interface: Interface,

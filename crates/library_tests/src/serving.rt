@@ -1,8 +1,9 @@
 //! Streams served from a desk of which no contract says anything.
 
+use contents_handler::{ContentsHandler, Download};
 use http_wire::Watched;
 use rollout_machine::Handler;
-use rollout_model::{Command, Module, ModuleLabel, ModuleNo, Refusal, Reply, Request};
+use rollout_model::{Command, Module, ModuleLabel, ModuleNo, Query, Refusal, Reply, Request};
 use std::alloc::Global;
 use std::io;
 use std::io::Write;
@@ -52,6 +53,16 @@ impl Handler for Shelf {
 
     fn is_stopped(&self) -> bool {
         false
+    }
+}
+
+impl ContentsHandler for Shelf {
+    fn begin_download(&mut self, _query: &Query) -> Result<Download, Reply> {
+        Err(Reply::Refused(Refusal::NotFound))
+    }
+
+    fn next_piece(&mut self, _download: &mut Download) -> Result<Option<Vec<u8>>, Refusal> {
+        Err(Refusal::NotFound)
     }
 }
 

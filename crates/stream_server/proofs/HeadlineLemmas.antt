@@ -1,5 +1,5 @@
 -- The headline from the parts.
-use Rattle.std.proofs.Common.{All, ◌≡◌, ◌≢◌, ℕ, ◌⊎◌, Bool, true, false, List, [], ◌∷◌, ◌++◌, Option, Result, Ok, Err, inl, inr, refl, sym, ap, ◌∙◌, subst, append_assoc, append-nil}
+use Rattle.std.proofs.Common.{All, ◌≡◌, ◌≢◌, ℕ, ◌⊎◌, Bool, true, false, List, [], ◌∷◌, ◌++◌, Option, None, Result, Ok, Err, inl, inr, refl, sym, ap, ◌∙◌, subst, append_assoc, append-nil}
 use Rattle.rollout_model.specs.declared.refusal.Refusal.TheVariants.{StoreFailed}
 use Rattle.rollout_machine.specs.Commands.{Command}
 use Rattle.rollout_machine.specs.CommandList.{CommandList, followed_by, Make}
@@ -11,8 +11,8 @@ use Rattle.stream_server.specs.declared.served.ServeFault.{ServeFault}
 use Rattle.stream_server.specs.declared.served.ServeFault.TheVariants as serve_fault
 use Rattle.stream_server.specs.declared.served.Served.{Served}
 use Rattle.stream_server.specs.Run.{Exchange, accepted_in, texts_of, IsRun}
-use Rattle.stream_server.specs.Headline.{AnswersEnd, Exits, HoldsFirstPart, Stops, Transcript, Headline, IsRefusedAsStopped}
-use Rattle.stream_server.specs.Parts.{Conduct, Whole, Broken, CutsReply, running, stopped, ByStopped, Answers, Serves, ServesStream}
+use Rattle.stream_server.specs.Headline.{AnswersEnd, CutsDownload, Exits, HoldsFirstPart, Stops, Transcript, Headline, IsRefusedAsStopped}
+use Rattle.stream_server.specs.Parts.{BeginsDownload, Conduct, Whole, Broken, CutsReply, running, stopped, ByStopped, Answers, Serves, ServesStream}
 use Rattle.http_wire.specs.Messages.{WireMessage}
 use Rattle.http_wire.specs.Streams.{Begins}
 use Rattle.http_wire.specs.declared.stream.End.{End}
@@ -98,7 +98,7 @@ all_refused : (h : CommandList) (run : List Exchange) → IsRun ByStopped h run 
 all_refused h [] is = All-nil IsRefusedAsStopped
 all_refused h (x ∷ xs) is = All-cons IsRefusedAsStopped x xs is.0 (all_refused (followed_by h (one x.accepted)) xs is.2)
 
--- where the desk is, seen from the run: it goes on, or its last command is in doubt
+-- where the desk is, seen from the run: it goes on, or it is stopped and its last command, if there is one, is in doubt
 pub record GoesOnAfter {File : Type 0} (C : Conduct File) (h : CommandList) (s : DeskState File) (run : List Exchange) (result : Result Served ServeFault) : Type 0 where
   pub stands : C.stands s (followed_by h (accepted_in run))
   pub not_store : result ≢ Err serve_fault.Store
@@ -107,7 +107,7 @@ pub record IsInDoubtAfter {File : Type 0} (h : CommandList) (s : DeskState File)
   pub before : List Exchange
   pub last : Exchange
   pub place : run ≡ before ++ last ∷ []
-  pub reply : last.reply ≡ Refused StoreFailed
+  pub lacks : (last.reply ≡ Refused StoreFailed) ⊎ (last.accepted ≡ None)
   pub doubt : IsInDoubt s (followed_by h (accepted_in before)) last.accepted
   pub stopped_by : (result ≡ Err serve_fault.Store) ⊎ (result ≡ Err serve_fault.Write)
 
@@ -126,10 +126,17 @@ stops_in_doubt : (is_stopped : Bool) (result : Result Served ServeFault) → is_
 stops_in_doubt is_stopped result over (inl store) = subst (λ (r : Result Served ServeFault). Stops is_stopped r) (sym store) over
 stops_in_doubt is_stopped result over (inr write) = subst (λ (r : Result Served ServeFault). Stops is_stopped r) (sym write) tt
 
-kept_in_doubt : {File : Type 0} (s : DeskState File) (h : CommandList) (before : List Exchange) (last : Exchange) (written : List ℕ) → last.reply ≡ Refused StoreFailed
+-- nothing was accepted last
+none_last : (h : CommandList) (before : List Exchange) (last : Exchange) → last.accepted ≡ None → followed_by h (accepted_in before) ≡ followed_by h (accepted_in (before ++ last ∷ []))
+none_last h before last none = ap (λ (a : Option Command). followed_by (followed_by h (accepted_in before)) (one a)) (sym none) ∙ after_last h before last
+
+kept_in_doubt : {File : Type 0} (s : DeskState File) (h : CommandList) (before : List Exchange) (last : Exchange) (written : List ℕ) → (last.reply ≡ Refused StoreFailed) ⊎ (last.accepted ≡ None)
     → IsInDoubt s (followed_by h (accepted_in before)) last.accepted → (file : File) → s.may_leave file → HoldsFirstPart s h (before ++ last ∷ []) written file
-kept_in_doubt s h before last written store doubt file leaves = elim (doubt.crash file leaves) [
-  | inl old ↦ one_lost _ s h before last written file store old
+kept_in_doubt s h before last written lacks doubt file leaves = elim (doubt.crash file leaves) [
+  | inl old ↦ elim lacks [
+    | inl store ↦ one_lost _ s h before last written file store old
+    | inr none ↦ all_kept _ s h (before ++ last ∷ []) written file (subst (λ (k : CommandList). s.holds file k) (none_last h before last none) old)
+  ]
   | inr new ↦ all_kept _ s h (before ++ last ∷ []) written file (subst (λ (k : CommandList). s.holds file k) (after_last h before last) new)
 ]
 
@@ -147,7 +154,7 @@ headline_of interface h s stream unread out out_new result at =
         transcript = t;
         desk = inl last.doubt.stopped;
         stops = stops_in_doubt s.is_stopped result last.doubt.stopped last.stopped_by;
-        crash = λ file leaves. subst (λ (run : List Exchange). HoldsFirstPart s h run t.written file) (sym last.place) (kept_in_doubt s h last.before last.last t.written last.reply last.doubt file leaves);
+        crash = λ file leaves. subst (λ (run : List Exchange). HoldsFirstPart s h run t.written file) (sym last.place) (kept_in_doubt s h last.before last.last t.written last.lacks last.doubt file leaves);
       }
     ]
 
@@ -198,31 +205,55 @@ module _ (File : Type 0) (C : Conduct File) (h : CommandList) (s : DeskState Fil
   broken_after : (ms : List WireMessage) (sent : List ℕ) (fault : ServeFault) (b : Broken C h s ms sent fault)
       → GoesOnAfter C h s (b.before ++ b.last ∷ []) (Err fault) ⊎ IsInDoubtAfter h s (b.before ++ b.last ∷ []) (Err fault)
   broken_after ms sent fault b =
-      let goes : b.last.reply ≢ Refused StoreFailed → C.stands s (followed_by h (accepted_in (b.before ++ b.last ∷ []))) =
-      λ other. subst (λ (k : CommandList). C.stands s k) (after_last h b.before b.last) (b.goes_to.stands other) in
-      elim fault as (λ f. CutsReply f b.last.reply b.part b.left → GoesOnAfter C h s (b.before ++ b.last ∷ []) (Err f) ⊎ IsInDoubtAfter h s (b.before ++ b.last ∷ []) (Err f)) [
+      let goes : C.stands s (followed_by (followed_by h (accepted_in b.before)) (one b.last.accepted)) → C.stands s (followed_by h (accepted_in (b.before ++ b.last ∷ []))) =
+      λ stands. subst (λ (k : CommandList). C.stands s k) (after_last h b.before b.last) stands in
+      elim fault as (λ f. CutsReply C s (followed_by h (accepted_in b.before)) f b.last.reply b.last.accepted b.part b.left
+      → GoesOnAfter C h s (b.before ++ b.last ∷ []) (Err f) ⊎ IsInDoubtAfter h s (b.before ++ b.last ∷ []) (Err f)) [
         | serve_fault.Read ↦ λ cut. absurd cut
         | serve_fault.Write ↦ λ cut. elim (is_store_failed b.last.reply) [
-          | inl store ↦ inr (record { before = b.before; last = b.last; place = refl; reply = store; doubt = b.goes_to.in_doubt store; stopped_by = inr refl })
-          | inr other ↦ inl (record { stands = goes other; not_store = λ e. cc })
+          | inl store ↦ inr (record { before = b.before; last = b.last; place = refl; lacks = inl store; doubt = cut.in_doubt store; stopped_by = inr refl })
+          | inr other ↦ inl (record { stands = goes (cut.stands other); not_store = λ e. cc })
         ]
-        | serve_fault.Store ↦ λ cut. inr (record { before = b.before; last = b.last; place = refl; reply = cut.0; doubt = b.goes_to.in_doubt cut.0; stopped_by = inl refl })
+        | serve_fault.Store ↦ λ cut.
+            let lacks : (b.last.reply ≡ Refused StoreFailed) ⊎ (b.last.accepted ≡ None) = elim cut.1 [ inl whole ↦ inl whole.0 | inr begun ↦ inr begun.none ] in
+            inr (record { before = b.before; last = b.last; place = refl; lacks = lacks; doubt = cut.0; stopped_by = inl refl })
         | serve_fault.Memory ↦ λ cut. inl (record { stands = goes cut.0; not_store = λ e. cc })
       ] b.cut
+
+  cuts : (ms : List WireMessage) (sent : List ℕ) (fault : ServeFault) (b : Broken C h s ms sent fault) → BeginsDownload b.last.reply b.last.accepted b.part → CutsDownload (b.before ++ b.last ∷ []) sent
+  cuts ms sent fault b begun = record {
+    before = b.before;
+    last = b.last;
+    place = refl;
+    contents = begun.contents;
+    reply = begun.shows;
+    part = b.part;
+    left = b.left;
+    begins = b.whole;
+    begun = begun.begun;
+    all_written = b.texts;
+  }
 
   broken_says : (rest : List ℕ) (ms : List WireMessage) (sent : List ℕ) (fault : ServeFault) (b : Broken C h s ms sent fault) → Exits stream unread (b.before ++ b.last ∷ []) sent rest (Err fault)
   broken_says rest ms sent serve_fault.Read b = absurd b.cut
   broken_says rest ms sent serve_fault.Write b = tt
   broken_says rest ms sent serve_fault.Store b =
-      let all : reply_text b.last.message b.last.reply ≡ b.part = b.whole ∙ ap (λ (t : List ℕ). b.part ++ t) b.cut.1 ∙ append-nil b.part in record {
-        all_written = b.texts ∙ ap (λ (t : List ℕ). texts_of b.before ++ t) (sym (append-nil (reply_text b.last.message b.last.reply) ∙ all)) ∙ sym (texts_append b.before (b.last ∷ []));
-        before = b.before;
-        last = b.last;
-        place = refl;
-        reply = b.cut.0;
-      }
+      elim b.cut.1 [
+        | inl store ↦
+            let all : reply_text b.last.message b.last.reply ≡ b.part = b.whole ∙ ap (λ (t : List ℕ). b.part ++ t) store.1 ∙ append-nil b.part in inl (record {
+              all_written = b.texts ∙ ap (λ (t : List ℕ). texts_of b.before ++ t) (sym (append-nil (reply_text b.last.message b.last.reply) ∙ all)) ∙ sym (texts_append b.before (b.last ∷ []));
+              before = b.before;
+              last = b.last;
+              place = refl;
+              reply = store.0;
+            })
+        | inr begun ↦ inr (cuts ms sent serve_fault.Store b begun)
+      ]
   broken_says rest ms sent serve_fault.Memory b =
-      inr (record { before = b.before; last = b.last; place = refl; all_written = b.texts ∙ ap (λ (t : List ℕ). texts_of b.before ++ t) b.cut.1 ∙ append-nil (texts_of b.before) })
+      elim b.cut.1 [
+        | inl none ↦ inr (inl (record { before = b.before; last = b.last; place = refl; all_written = b.texts ∙ ap (λ (t : List ℕ). texts_of b.before ++ t) none ∙ append-nil (texts_of b.before) }))
+        | inr begun ↦ inr (inr (cuts ms sent serve_fault.Memory b begun))
+      ]
 
   -- it stopped within an exchange
   pub broken_exit : (given rest : List ℕ) (ms : List WireMessage) (sent : List ℕ) (fault : ServeFault) → Broken C h s ms sent fault → Consumes stream unread given → Begins given ms rest → Appends out out_new sent

@@ -5,3 +5,4 @@ pub mod MessageLemmas
 pub mod HeadlineLemmas
 pub mod ExitLemmas
 pub mod ListenLemmas
+pub mod ContentsLemmas

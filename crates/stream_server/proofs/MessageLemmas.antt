@@ -1,5 +1,5 @@
 -- One message, from what the desk answered and from how much of the reply was written.
-use Rattle.std.proofs.Common.{◌≡◌, ◌≢◌, ℕ, Bool, true, List, [], ◌∷◌, Option, Some, None, refl, sym, append-nil}
+use Rattle.std.proofs.Common.{◌≡◌, ◌≢◌, ℕ, Bool, true, inl, List, [], ◌∷◌, Option, Some, None, refl, sym, append-nil}
 use Rattle.std.specs.Io.KnownBytes.{Appends}
 use Rattle.http_wire.specs.Messages.{WireMessage}
 use Rattle.http_wire.specs.Replies.{refusal_text}
@@ -26,15 +26,17 @@ module _ (File : Type 0) (C : Conduct File) (old new : DeskState File) (m : Wire
 
   answers_in_doubt : (a b : Option (List ℕ)) → Appends a b (reply_text m reply) → reply ≡ Refused StoreFailed → Answers C old new a b (m ∷ []) (Some serve_fault.Store)
   answers_in_doubt a b sent store h premise stands =
-      (reply_text m reply, sent, broken_one File C h new m reply (reply_text m reply) [] serve_fault.Store (answered h premise stands) (sym (append-nil (reply_text m reply))) (store, refl))
+      let a = answered h premise stands in
+      (reply_text m reply, sent, broken_one File C h new m reply a.accepted (reply_text m reply) [] serve_fault.Store a.answers (sym (append-nil (reply_text m reply))) (a.goes_to.in_doubt store, inl (store, refl)))
 
   answers_part : (a b : Option (List ℕ)) (failed : Bool) (fault : ServeFault) → SendsPart a b (reply_text m reply) reply failed fault → Answers C old new a b (m ∷ []) (Some fault)
   answers_part a b failed serve_fault.Read part h premise stands = absurd part
   answers_part a b failed serve_fault.Store part h premise stands = absurd part
   answers_part a b failed serve_fault.Write part h premise stands =
-      (part.1, part.4, broken_one File C h new m reply part.1 part.2 serve_fault.Write (answered h premise stands) part.3 tt)
+      let a = answered h premise stands in (part.1, part.4, broken_one File C h new m reply a.accepted part.1 part.2 serve_fault.Write a.answers part.3 a.goes_to)
   answers_part a b failed serve_fault.Memory part h premise stands =
-      ([], part.1, broken_one File C h new m reply [] (reply_text m reply) serve_fault.Memory (answered h premise stands) refl (part.0, refl))
+      let a = answered h premise stands in
+      ([], part.1, broken_one File C h new m reply a.accepted [] (reply_text m reply) serve_fault.Memory a.answers refl (a.goes_to.stands part.0, inl refl))
 
 -- what is known of a desk that answered a message
 pub record HasAnswered {File : Type 0} (interface : Interface) (old new : DeskState File) (m : WireMessage) (reply : Reply) : Type 0 where

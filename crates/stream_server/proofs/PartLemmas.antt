@@ -13,7 +13,7 @@ use Rattle.stream_server.specs.declared.interface.Interface.{Interface}
 use Rattle.stream_server.specs.declared.served.ServeFault.{ServeFault}
 use Rattle.stream_server.specs.Interfaces.{reply_text}
 use Rattle.stream_server.specs.Run.{Exchange, messages_of, accepted_in, texts_of, IsRun}
-use Rattle.stream_server.specs.Parts.{Conduct, running, stopped, GoesTo, AnswersOne, Whole, Broken, CutsReply, Comes, Answers, Serves, Takes}
+use Rattle.stream_server.specs.Parts.{Conduct, running, stopped, AnswersOne, Whole, Broken, CutsReply, Comes, Answers, Serves, Takes}
 use Rattle.stream_server.proofs.RunLemmas.{messages_append, texts_append, run_append, goes_append, led}
 
 module _ (File : Type 0) (C : Conduct File) where
@@ -30,19 +30,18 @@ module _ (File : Type 0) (C : Conduct File) where
     stands = subst (λ (cs : List Command). C.stands s (followed_by h cs)) (sym (append-nil (one one_answer.accepted))) (one_answer.goes_to.stands goes);
   }
 
-  pub broken_one : (h : CommandList) (s : DeskState File) (m : WireMessage) (reply : Reply) (part left : List ℕ) (fault : ServeFault) → AnswersOne C h s m reply → reply_text m reply ≡ part ++ left
-      → CutsReply fault reply part left → Broken C h s (m ∷ []) part fault
-  broken_one h s m reply part left fault one_answer whole cut = record {
+  pub broken_one : (h : CommandList) (s : DeskState File) (m : WireMessage) (reply : Reply) (accepted : Option Command) (part left : List ℕ) (fault : ServeFault) → C.answers h m reply accepted
+      → reply_text m reply ≡ part ++ left → CutsReply C s h fault reply accepted part left → Broken C h s (m ∷ []) part fault
+  broken_one h s m reply accepted part left fault answers whole cut = record {
     before = [];
-    last = record { message = m; reply = reply; accepted = one_answer.accepted };
+    last = record { message = m; reply = reply; accepted = accepted };
     messages = refl;
-    is_run = (one_answer.answers, λ _. refl, tt);
+    is_run = (answers, λ _. refl, tt);
     goes_on = tt;
     part = part;
     left = left;
     whole = whole;
     texts = refl;
-    goes_to = one_answer.goes_to;
     cut = cut;
   }
 
@@ -70,8 +69,7 @@ module _ (File : Type 0) (C : Conduct File) where
         left = b.left;
         whole = b.whole;
         texts = (λ i. a.texts i ++ b.texts i) ∙ sym (append_assoc (texts_of a.run) (texts_of b.before) b.part) ∙ ap (λ (t : List ℕ). t ++ b.part) (sym (texts_append a.run b.before));
-        goes_to = subst (λ (k : CommandList). GoesTo C t k b.last.reply b.last.accepted) (led h a.run b.before) b.goes_to;
-        cut = b.cut;
+        cut = subst (λ (k : CommandList). CutsReply C t k fault b.last.reply b.last.accepted b.part b.left) (led h a.run b.before) b.cut;
       }
 
   comes_append : (h : CommandList) (s t : DeskState File) (ms ns : List WireMessage) (sent more : List ℕ) (fault : Option ServeFault) (a : Whole C h s ms sent)

@@ -1,5 +1,5 @@
 -- What `serve` promises at every exit.
-use Rattle.std.specs.Prelude.{All, ◌≡◌, ◌≢◌, ℕ, ◌-◌, ◌^◌, ◌<◌, ◌⊎◌, min, Bool, true, false, List, [], ◌∷◌, ◌++◌, length, Option, Some, None, Result, Ok, Err}
+use Rattle.std.specs.Prelude.{All, ◌≡◌, ◌≢◌, ℕ, ◌-◌, ◌^◌, ◌<◌, ◌≤◌, ◌⊎◌, min, Bool, true, false, List, [], ◌∷◌, ◌++◌, length, Option, Some, None, Result, Ok, Err}
 use Rattle.std.specs.Io.KnownBytes.{Appends, Consumes, IsAtEnd}
 use Rattle.http_wire.specs.declared.stream.End.{End}
 use Rattle.http_wire.specs.declared.stream.End.TheVariants.{Input, Cut, Fault}
@@ -7,16 +7,16 @@ use Rattle.http_wire.specs.Messages.{IsUndecided, IsFault}
 use Rattle.http_wire.specs.Streams.{Begins, EndsAs}
 use Rattle.rollout_model.specs.declared.refusal.Refusal.{Refusal}
 use Rattle.rollout_model.specs.declared.refusal.Refusal.TheVariants.{StoreFailed, Stopped}
-use Rattle.rollout_machine.specs.Commands.{Command}
+use Rattle.rollout_machine.specs.Commands.{Bytes, Command}
 use Rattle.rollout_machine.specs.CommandList.{CommandList, followed_by}
-use Rattle.rollout_machine.specs.Replies.{Refused}
+use Rattle.rollout_machine.specs.Replies.{Refused, ContentsShown}
 use Rattle.rollout_machine.specs.Requests.{one}
 use Rattle.rollout_machine.specs.Standing.{DeskState, StandsFor, StaysStopped}
 use Rattle.stream_server.specs.declared.interface.Interface.{Interface}
 use Rattle.stream_server.specs.declared.served.ServeFault.{ServeFault}
 use Rattle.stream_server.specs.declared.served.ServeFault.TheVariants as serve_fault
 use Rattle.stream_server.specs.declared.served.Served.{Served}
-use Rattle.stream_server.specs.Interfaces.{end_text}
+use Rattle.stream_server.specs.Interfaces.{end_text, reply_text}
 use Rattle.stream_server.specs.Run.{Exchange, messages_of, accepted_in, texts_of, IsRun, ByMachine, GoesOn}
 
 -- ---- what was read and written
@@ -54,14 +54,27 @@ pub record LacksLast (run : List Exchange) (written : List ℕ) : Type 0 where
   pub place : run ≡ before ++ last ∷ []
   pub all_written : written ≡ texts_of before
 
+-- all replies but the last were written whole, and a beginning of the last, which is a download's, of at least one byte
+pub record CutsDownload (run : List Exchange) (written : List ℕ) : Type 0 where
+  pub before : List Exchange
+  pub last : Exchange
+  pub place : run ≡ before ++ last ∷ []
+  pub contents : Bytes
+  pub reply : last.reply ≡ ContentsShown contents
+  pub part : List ℕ
+  pub left : List ℕ
+  pub begins : reply_text last.message last.reply ≡ part ++ left
+  pub begun : 1 ≤ length part
+  pub all_written : written ≡ texts_of before ++ part
+
 -- what each exit says of the replies and of the stream
 abbrev pub Exits : Option (List ℕ) → Option (List ℕ) → List Exchange → List ℕ → List ℕ → Result Served ServeFault → Type 0
 Exits stream unread run written rest (Ok served) = ExitsServed stream unread run written rest served
 -- all messages that were given are answered
 Exits stream unread run written rest (Err serve_fault.Read) = GoesOn run × (written ≡ texts_of run) × IsUndecided rest
 Exits stream unread run written rest (Err serve_fault.Write) = Unit {0}
-Exits stream unread run written rest (Err serve_fault.Store) = ExitsInDoubt run written
-Exits stream unread run written rest (Err serve_fault.Memory) = (GoesOn run × (written ≡ texts_of run)) ⊎ LacksLast run written
+Exits stream unread run written rest (Err serve_fault.Store) = ExitsInDoubt run written ⊎ CutsDownload run written
+Exits stream unread run written rest (Err serve_fault.Memory) = (GoesOn run × (written ≡ texts_of run)) ⊎ (LacksLast run written ⊎ CutsDownload run written)
 
 -- an end that was answered is the stream's, and no store failed before it
 abbrev pub AnswersEnd : List Exchange → List ℕ → End → Type 0

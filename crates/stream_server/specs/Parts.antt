@@ -1,14 +1,14 @@
 -- What the parts of `serve` do: a part of a run, from any list that the desk stands for. Of the functions in this crate alone.
-use Rattle.std.specs.Prelude.{◌≡◌, ◌≢◌, ℕ, Bool, true, List, [], ◌∷◌, ◌++◌, Option, Some, None, Result, Ok, Err}
+use Rattle.std.specs.Prelude.{◌≡◌, ◌≢◌, ◌≤◌, ◌⊎◌, ℕ, length, Bool, true, List, [], ◌∷◌, ◌++◌, Option, Some, None, Result, Ok, Err}
 use Rattle.std.specs.Io.KnownBytes.{Appends}
 use Rattle.http_wire.specs.Messages.{WireMessage, IsUndecided, IsFault}
 use Rattle.http_wire.specs.Streams.{Begins}
 use Rattle.http_wire.specs.declared.fault.WireFault.{WireFault}
 use Rattle.rollout_model.specs.declared.refusal.Refusal.{Refusal}
 use Rattle.rollout_model.specs.declared.refusal.Refusal.TheVariants.{StoreFailed, Stopped}
-use Rattle.rollout_machine.specs.Commands.{Command}
+use Rattle.rollout_machine.specs.Commands.{Bytes, Command}
 use Rattle.rollout_machine.specs.CommandList.{CommandList, followed_by}
-use Rattle.rollout_machine.specs.Replies.{Reply, Refused}
+use Rattle.rollout_machine.specs.Replies.{Reply, Refused, ContentsShown}
 use Rattle.rollout_machine.specs.Requests.{one}
 use Rattle.rollout_machine.specs.Standing.{DeskState, StandsFor, IsInDoubt, StaysStopped}
 use Rattle.stream_server.specs.declared.interface.Interface.{Interface}
@@ -57,12 +57,21 @@ pub record Whole {File : Type 0} (C : Conduct File) (h : CommandList) (s : DeskS
   pub texts : sent ≡ texts_of run
   pub stands : C.stands s (followed_by h (accepted_in run))
 
--- how much of the last reply was written
-abbrev pub CutsReply : ServeFault → Reply → List ℕ → List ℕ → Type 0
-CutsReply serve_fault.Read reply part left = ⊥
-CutsReply serve_fault.Write reply part left = Unit {0}
-CutsReply serve_fault.Store reply part left = (reply ≡ Refused StoreFailed) × (left ≡ [])
-CutsReply serve_fault.Memory reply part left = (reply ≢ Refused StoreFailed) × (part ≡ [])
+-- at least one byte was written of the reply of a download
+pub record BeginsDownload (reply : Reply) (accepted : Option Command) (part : List ℕ) : Type 0 where
+  pub contents : Bytes
+  pub shows : reply ≡ ContentsShown contents
+  pub none : accepted ≡ None
+  pub begun : 1 ≤ length part
+
+-- how much of the last reply was written, and what the desk is then
+abbrev pub CutsReply : {File : Type 0} → Conduct File → DeskState File → CommandList → ServeFault → Reply → Option Command → List ℕ → List ℕ → Type 0
+CutsReply C s h serve_fault.Read reply accepted part left = ⊥
+CutsReply C s h serve_fault.Write reply accepted part left = GoesTo C s h reply accepted
+CutsReply C s h serve_fault.Store reply accepted part left =
+    IsInDoubt s h accepted × (((reply ≡ Refused StoreFailed) × (left ≡ [])) ⊎ BeginsDownload reply accepted part)
+CutsReply C s h serve_fault.Memory reply accepted part left =
+    C.stands s (followed_by h (one accepted)) × ((part ≡ []) ⊎ BeginsDownload reply accepted part)
 
 -- it stopped within the exchange for the last message
 pub record Broken {File : Type 0} (C : Conduct File) (h : CommandList) (s : DeskState File) (ms : List WireMessage) (sent : List ℕ) (fault : ServeFault) : Type 0 where
@@ -75,8 +84,7 @@ pub record Broken {File : Type 0} (C : Conduct File) (h : CommandList) (s : Desk
   pub left : List ℕ
   pub whole : reply_text last.message last.reply ≡ part ++ left
   pub texts : sent ≡ texts_of before ++ part
-  pub goes_to : GoesTo C s (followed_by h (accepted_in before)) last.reply last.accepted
-  pub cut : CutsReply fault last.reply part left
+  pub cut : CutsReply C s (followed_by h (accepted_in before)) fault last.reply last.accepted part left
 
 -- how answering ended: every message was answered, or it stopped within the last one's exchange
 abbrev pub Comes : {File : Type 0} → Conduct File → CommandList → DeskState File → List WireMessage → List ℕ → Option ServeFault → Type 0

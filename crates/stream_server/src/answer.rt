@@ -1,43 +1,67 @@
 //! Answers to messages.
 
-ghost use Rattle.std.specs.Prelude.{◌≡◌, ◌≢◌, ℕ, ◌+◌, ◌<◌, ◌^◌, ◌-◌, ◌∷◌, [], List, length, min, true, IfOk, IfErr};
+ghost use Rattle.std.specs.Prelude.{◌≡◌, ◌≢◌, ℕ, ◌+◌, ◌<◌, ◌^◌, ◌-◌, ◌∷◌, [], List, length, min, true, false, IfOk, IfErr};
+ghost use Rattle.contents_handler.specs.Downloads.{Begins};
 ghost use Rattle.http_wire.specs.Messages.{WireMessage};
 ghost use Rattle.http_wire.specs.Inbox.{message_of};
 ghost use Rattle.http_wire.specs.Watched.{inner_of, has_failed};
 ghost use Rattle.rollout_model.specs.declared.refusal.Refusal.TheVariants.{Stopped};
 ghost use Rattle.rollout_machine.specs.Replies.{Refused};
-ghost use Rattle.rollout_machine.specs.Views.{reply_of};
-ghost use Rattle.rollout_machine.specs.Standing.{Applies, StaysStopped};
+ghost use Rattle.rollout_machine.specs.Requests.{Asks};
+ghost use Rattle.rollout_machine.specs.Views.{reply_of, request_of};
+ghost use Rattle.rollout_machine.specs.Standing.{StaysStopped};
 ghost use Rattle.stream_server.specs.Interfaces.{reading};
 ghost use Rattle.stream_server.specs.Headline.{FailsBy};
 ghost use Rattle.stream_server.specs.Parts.{Serves, fault_of, Takes, StopsAt};
 
 use crate::ServeFault;
+use crate::download::send_contents;
 use crate::reply::write_reply;
 use crate::routes::Routes;
+use contents_handler::{ContentsHandler, Download};
 use http_wire::{Inbox, Message, Watched, WireFault};
-use rollout_machine::{Handler, says_store_failed};
-use rollout_model::{Refusal, Reply};
+use rollout_machine::says_store_failed;
+use rollout_model::{Refusal, Reply, Request};
 use std::alloc::Global;
 use std::io::Write;
 
-/// What the desk answers to a message.
-fn ask<D: Handler>(desk: &mut D, routes: &Routes, message: &Message<'_>) -> Reply
+/// What the desk answers to a request: a download that begins, or a reply.
+fn ask_request<D: ContentsHandler>(desk: &mut D, request: &Request) -> Result<Download, Reply>
     ensures clean { (D.state desk.new).is_clean → (D.state desk.old).is_clean }
-    ensures applies { Applies (D.state desk.old) (D.state desk.new) (reading routes.now.interface (message_of message.now)) (reply_of result) }
-    ensures stopped { (D.state desk.old).is_stopped ≡ true → (reply_of result ≡ Refused Stopped) × StaysStopped (D.state desk.old) (D.state desk.new) }
+    ensures begins { Begins (D.state desk.old) (D.state desk.new) (Asks (request_of request.now)) result }
+    ensures runs { IfOk result (λ _. (D.state desk.old).is_stopped ≡ false) }
+    ensures stopped { (D.state desk.old).is_stopped ≡ true
+        → IfErr result (λ reply. reply_of reply ≡ Refused Stopped) × StaysStopped (D.state desk.old) (D.state desk.new) }
+{
+    match request {
+        Request::Ask(query) => desk.begin_download(query),
+        Request::Do(_) => Err(desk.handle(request)),
+    }
+}
+
+/// What the desk answers to a message.
+fn ask<D: ContentsHandler>(
+    desk: &mut D,
+    routes: &Routes,
+    message: &Message<'_>,
+) -> Result<Download, Reply>
+    ensures clean { (D.state desk.new).is_clean → (D.state desk.old).is_clean }
+    ensures begins { Begins (D.state desk.old) (D.state desk.new) (reading routes.now.interface (message_of message.now)) result }
+    ensures runs { IfOk result (λ _. (D.state desk.old).is_stopped ≡ false) }
+    ensures stopped { (D.state desk.old).is_stopped ≡ true
+        → IfErr result (λ reply. reply_of reply ≡ Refused Stopped) × StaysStopped (D.state desk.old) (D.state desk.new) }
 {
     if desk.is_stopped() {
-        return Reply::Refused(Refusal::Stopped);
+        return Err(Reply::Refused(Refusal::Stopped));
     }
     match routes.read(message) {
-        Ok(request) => desk.handle(&request),
-        Err(refusal) => Reply::Refused(refusal),
+        Ok(request) => ask_request(desk, &request),
+        Err(refusal) => Err(Reply::Refused(refusal)),
     }
 }
 
 /// Answers one message.
-fn answer_one<W: Write, D: Handler>(
+fn answer_one<W: Write, D: ContentsHandler>(
     alloc: Global,
     desk: &mut D,
     routes: &Routes,
@@ -49,12 +73,16 @@ fn answer_one<W: Write, D: Handler>(
     ensures write_failed { FailsBy result ServeFault.Write (has_failed writer.old) (has_failed writer.new) }
     ensures reads_nothing { IfErr result (λ fault. fault ≢ ServeFault.Read) }
 {
-    let reply = ask(desk, routes, message);
-    write_reply(alloc, writer, message, &reply)?;
-    if says_store_failed(&reply) {
-        return Err(ServeFault::Store);
+    match ask(desk, routes, message) {
+        Ok(download) => send_contents(alloc, desk, writer, download),
+        Err(reply) => {
+            write_reply(alloc, writer, message, &reply)?;
+            if says_store_failed(&reply) {
+                return Err(ServeFault::Store);
+            }
+            Ok(())
+        }
     }
-    Ok(())
 }
 
 /// Where the answering stopped: how many messages are answered, and the fault that is next.
@@ -65,7 +93,7 @@ pub(crate) struct Stop {
 }
 
 /// Answers each whole message in the inbox, and counts on.
-pub(crate) fn answer_all<W: Write, D: Handler>(
+pub(crate) fn answer_all<W: Write, D: ContentsHandler>(
     alloc: Global,
     desk: &mut D,
     routes: &Routes,

@@ -3,6 +3,7 @@
 
 mod answer;
 mod bytes;
+mod download;
 mod interface;
 mod listening;
 mod reply;
@@ -16,5 +17,6 @@ pub use crate::listening::{ListenFault, serve_on};
 pub use crate::reply::send;
 pub use crate::served::{ServeFault, Served};
 pub use crate::serving::serve;
+pub use contents_handler::ContentsHandler;
 pub use http_wire::End;
 pub use rollout_machine::Handler;

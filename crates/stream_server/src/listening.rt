@@ -7,8 +7,8 @@ ghost use Rattle.stream_server.specs.Listening.{Keeps, KeepsOn, StopsAtStore};
 
 use crate::serving::serve;
 use crate::{Interface, ServeFault};
+use contents_handler::ContentsHandler;
 use http_wire::Watched;
-use rollout_machine::Handler;
 use std::alloc::Global;
 use std::io::Read;
 use std::net::{Shutdown, TcpListener, TcpStream};
@@ -41,7 +41,7 @@ fn let_go(mut stream: &TcpStream) {
 }
 
 /// Serves a connection, and says whether it was served to its end.
-fn serve_connection<D: Handler>(
+fn serve_connection<D: ContentsHandler>(
     alloc: Global,
     desk: &mut D,
     stream: &TcpStream,
@@ -59,7 +59,7 @@ fn serve_connection<D: Handler>(
 }
 
 /// Serves the next connection, and says whether it was served to its end.
-fn serve_next<D: Handler>(
+fn serve_next<D: ContentsHandler>(
     alloc: Global,
     desk: &mut D,
     listener: &TcpListener,
@@ -77,7 +77,7 @@ fn serve_next<D: Handler>(
 
 /// Serves so many connections one after the other, and counts those that were served to their end. A fault of reading, writing or memory
 /// ends its connection alone.
-pub fn serve_on<D: Handler>(
+pub fn serve_on<D: ContentsHandler>(
     alloc: Global,
     desk: &mut D,
     listener: &TcpListener,

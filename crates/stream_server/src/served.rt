@@ -17,8 +17,8 @@ pub enum ServeFault {
     Read,
     /// A write or a flush failed.
     Write,
-    /// The store failed. The last reply says so.
+    /// The store failed. The last reply says so, or is a download's, of which a beginning was written.
     Store,
-    /// No memory was left for the routes, for the next bytes of the stream or for a reply.
+    /// No memory was left for the routes, for the next bytes of the stream, for a reply or for a piece of a download.
     Memory,
 }

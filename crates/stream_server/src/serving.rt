@@ -10,13 +10,13 @@ ghost use Rattle.stream_server.specs.Parts.{ServesStream};
 use crate::routes::Routes;
 use crate::stream::serve_stream;
 use crate::{Interface, ServeFault, Served};
+use contents_handler::ContentsHandler;
 use http_wire::Watched;
-use rollout_machine::Handler;
 use std::alloc::Global;
 use std::io::{Read, Write};
 
 /// Makes the routes and serves the stream.
-fn serve_interface<R: Read, W: Write, D: Handler>(
+fn serve_interface<R: Read, W: Write, D: ContentsHandler>(
     alloc: Global,
     desk: &mut D,
     reader: &mut Watched<R>,
@@ -36,7 +36,7 @@ fn serve_interface<R: Read, W: Write, D: Handler>(
 
 /// Answers the messages of a stream from a desk, each as soon as it is whole: its reply is written and flushed before the next read,
 /// and a command's reply only after its commit. A stopped desk refuses each message.
-pub fn serve<R: Read, W: Write, D: Handler>(
+pub fn serve<R: Read, W: Write, D: ContentsHandler>(
     alloc: Global,
     desk: &mut D,
     reader: &mut Watched<R>,

@@ -10,8 +10,8 @@ use crate::answer::answer_all;
 use crate::reply::write_refusal;
 use crate::routes::Routes;
 use crate::{ServeFault, Served};
+use contents_handler::ContentsHandler;
 use http_wire::{End, Inbox, Watched};
-use rollout_machine::Handler;
 use std::alloc::Global;
 use std::io::{Read, Write};
 
@@ -37,7 +37,7 @@ fn read_on<R: Read>(reader: &mut Watched<R>, inbox: &mut Inbox) -> Result<bool, 
 }
 
 /// Answers the messages of a stream as they come, until it ends or a fault stands in a message's place.
-pub(crate) fn serve_stream<R: Read, W: Write, D: Handler>(
+pub(crate) fn serve_stream<R: Read, W: Write, D: ContentsHandler>(
     alloc: Global,
     desk: &mut D,
     routes: &Routes,
