@@ -1,4 +1,4 @@
-"""What `run` and `crash` share: requests, replies, and where the programs are."""
+"""What the scripts share: requests, replies, and where the programs are. A program may be named with a word behind it, as `twin --at-once`."""
 import hashlib
 import json
 import os
@@ -10,9 +10,14 @@ PROGRAM = os.path.join(HERE, "..", "crates", "fwdesk", "out", "fwdesk")
 TWIN = os.path.join(HERE, "out", "twin")
 
 
-def words(program, path):
+def words(program, path, interface="mgmt"):
     """The command line that serves standard input."""
-    return [program, "run", "--db", path, "--interface", "mgmt"]
+    return [*program.split(), "run", "--db", path, "--interface", interface]
+
+
+def port_words(program, path, port):
+    """The command line that serves one connection to a port."""
+    return [*program.split(), "serve", "--db", path, "--port", str(port), "--connections", "1", "--interface", "both"]
 
 
 def label(number):
@@ -38,9 +43,9 @@ def module(number):
     return f'{{"id":{number},"locked":false,"name":"{name}","type":"{kind}","version":"{version}"}}'
 
 
-def reply(status, body):
+def reply(status, body, kind="application/json"):
     """The bytes of a reply."""
-    return f"HTTP/1.1 {status}\r\nContent-Type: application/json\r\nContent-Length: {len(body)}\r\n\r\n{body}".encode()
+    return f"HTTP/1.1 {status}\r\nContent-Type: {kind}\r\nContent-Length: {len(body)}\r\n\r\n{body}".encode()
 
 
 def added(number):
@@ -120,15 +125,15 @@ def imported(count):
     return reply("200 OK", f'{{"accepted":{count}}}')
 
 
-def target_object(number):
+def target_object(number, word="unknown"):
     """The object of the target."""
     id, name, _token, tags = target(number)
-    return {"attributes": {}, "controllerId": id, "name": name, "tags": sorted(tags), "updateStatus": "unknown"}
+    return {"attributes": {}, "controllerId": id, "name": name, "tags": sorted(tags), "updateStatus": word}
 
 
-def page_of(numbers, total):
-    """The reply that shows these targets."""
-    content = list(map(target_object, numbers))
+def page_of(numbers, total, word="unknown"):
+    """The reply that shows these targets, of which each has the word."""
+    content = [target_object(number, word) for number in numbers]
     return reply("200 OK", json.dumps({"content": content, "size": len(content), "total": total}, separators=(",", ":")))
 
 
@@ -162,10 +167,9 @@ NOT_FOUND = reply("404 Not Found", '{"error":"not_found","number":3}')
 def build_twin():
     """Compiles the C program over the system's SQLite."""
     os.makedirs(os.path.dirname(TWIN), exist_ok=True)
-    sources = [os.path.join(HERE, name) for name in ("twin.c", "twin_targets.c", "twin_import.c")]
-    subprocess.run(
-        ["cc", "-O2", "-Wall", "-D_GNU_SOURCE", "-o", TWIN, *sources, "-lsqlite3"], check=True
-    )
+    names = ("twin.c", "twin_targets.c", "twin_import.c", "twin_rollouts.c", "twin_devices.c")
+    sources = [os.path.join(HERE, name) for name in names]
+    subprocess.run(["cc", "-O2", "-Wall", "-Wextra", "-D_GNU_SOURCE", "-o", TWIN, *sources, "-lsqlite3"], check=True)
 
 
 def remove(path):

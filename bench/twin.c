@@ -1,9 +1,11 @@
 // The same server over the system's SQLite, for comparison: WAL, synchronous FULL, one transaction a command.
-// It takes the command line and the requests of `fwdesk run --db PATH --interface mgmt`, and gives the same replies.
+// It takes the command lines of `fwdesk run` and `fwdesk serve` and their requests, and gives the same replies.
 #include "twin.h"
 
+#include <arpa/inet.h>
 #include <stdlib.h>
 #include <string.h>
+#include <sys/socket.h>
 #include <unistd.h>
 
 enum { HEAD_LIMIT = 8192, MODULE_LIMIT = 1000 };
@@ -11,8 +13,10 @@ enum { MODULE_ARTIFACT_LIMIT = 8, ARTIFACT_LIMIT = 256, PIECE_LENGTH = 65536 };
 
 typedef struct { Text name, type, version; } Label;
 
+int at_once;
 sqlite3_stmt *begin, *commit, *rollback;
 static sqlite3 *db;
+static int input = 0, output = 1;
 static sqlite3_stmt *find_label, *last_number, *put_module, *get_module;
 static sqlite3_stmt *find_artifact, *count_artifacts, *last_artifact, *put_artifact, *put_piece, *get_artifact, *get_piece;
 
@@ -66,6 +70,8 @@ static void open_store(const char *path) {
     get_artifact = prepared("SELECT size FROM artifact WHERE number = ?1 AND module = ?2");
     get_piece = prepared("SELECT bytes FROM piece WHERE artifact = ?1 AND sequence = ?2");
     prepare_targets();
+    prepare_rollouts();
+    prepare_devices();
 }
 
 int row_of(sqlite3_stmt *statement) {
@@ -77,6 +83,21 @@ int row_of(sqlite3_stmt *statement) {
 void done(sqlite3_stmt *statement) {
     if (sqlite3_step(statement) != SQLITE_DONE) die("step");
     sqlite3_reset(statement);
+}
+
+void bind_numbers(sqlite3_stmt *statement, int count, const int64_t numbers[]) {
+    for (int i = 0; i < count; i++) sqlite3_bind_int64(statement, i + 1, numbers[i]);
+}
+
+void bind_text(sqlite3_stmt *statement, int place, const Text *text) {
+    sqlite3_bind_text(statement, place, text->bytes, (int)text->len, SQLITE_STATIC);
+}
+
+void read_column(sqlite3_stmt *statement, int column, Text *text) {
+    const unsigned char *bytes = sqlite3_column_text(statement, column);
+    text->len = (size_t)sqlite3_column_bytes(statement, column);
+    if (text->len > TEXT_LIMIT) die("text");
+    memcpy(text->bytes, bytes, text->len);
 }
 
 static void bind_label(sqlite3_stmt *statement, int first, const Label *label) {
@@ -243,6 +264,14 @@ const char *read_text(const char *at, const char *end, Text *text) {
     return at && at < end ? at + 1 : NULL;
 }
 
+const char *read_number(const char *at, const char *end, int64_t *number) {
+    const char *first = at = at ? skip_space(at, end) : end;
+    for (*number = 0; at < end && *at >= '0' && *at <= '9' && *number < 1LL << 31; at++) *number = 10 * *number + (*at - '0');
+    return at > first ? at : NULL;
+}
+
+int is_key(const Text *key, const char *name) { return key->len == strlen(name) && !memcmp(key->bytes, name, key->len); }
+
 static Text *member_of(Label *label, const Text *key) {
     if (key->len == 4 && !memcmp(key->bytes, "name", 4)) return &label->name;
     if (key->len == 4 && !memcmp(key->bytes, "type", 4)) return &label->type;
@@ -293,19 +322,21 @@ static size_t put_module_object(char *to, int64_t number, const char *texts[3], 
 
 static void send_all(const char *bytes, size_t len) {
     while (len) {
-        ssize_t count = write(1, bytes, len);
+        ssize_t count = write(output, bytes, len);
         if (count <= 0) die("write");
         bytes += count;
         len -= (size_t)count;
     }
 }
 
-void reply(const char *status, const char *body, size_t len) {
+void reply_as(const char *type, const char *status, const char *body, size_t len) {
     static char text[BODY_LIMIT];
-    size_t size = (size_t)sprintf(text, "HTTP/1.1 %s\r\nContent-Type: application/json\r\nContent-Length: %zu\r\n\r\n", status, len);
+    size_t size = (size_t)sprintf(text, "HTTP/1.1 %s\r\nContent-Type: %s\r\nContent-Length: %zu\r\n\r\n", status, type, len);
     memcpy(text + size, body, len);
     send_all(text, size + len);
 }
+
+void reply(const char *status, const char *body, size_t len) { reply_as("application/json", status, body, len); }
 
 void refuse(const char *status, const char *name, int number) {
     char body[128];
@@ -381,24 +412,58 @@ static void answer_download(int64_t module, int64_t number) {
     send_all(contents, size);
 }
 
-static void answer(const char *head, const char *body, size_t len) {
+static int begins(const char *head, const char *start) { return !strncmp(head, start, strlen(start)); }
+
+// Answers a device, whose path begins behind the interface's.
+static void answer_device(const char *path, const char *head, const char *body, size_t len) {
+    const char *feedback = "/deploymentBase/";
+    Text id;
+    id.len = strcspn(path, "/ ");
+    if (id.len > 64) return refuse("404 Not Found", "not_found", 3);
+    memcpy(id.bytes, path, id.len);
+    path += id.len;
+    if (begins(head, "GET ") && *path == ' ') return answer_poll(&id, head);
+    if (begins(head, "POST ") && begins(path, feedback)) return answer_feedback(&id, atoll(path + strlen(feedback)), head, body, len);
+    refuse("404 Not Found", "not_found", 3);
+}
+
+static void answer_rollout(const char *head) {
+    long long number, group;
+    int at = 0;
+    if (sscanf(head, "POST /rest/v1/rollouts/%lld/start HTTP/1.1%n", &number, &at) == 1 && at) return answer_start(number);
+    if (sscanf(head, "GET /rest/v1/rollouts/%lld/deploygroups/%lld/targets?%n", &number, &group, &at) == 2 && at)
+        return answer_group_targets(number, group, head + at);
+    if (sscanf(head, "GET /desk/v1/rollouts/%lld/report%n", &number, &at) == 1 && at) return answer_report(number);
+    if (sscanf(head, "GET /desk/v1/rollouts/%lld/actions%n", &number, &at) == 1 && at) return answer_actions(number);
+    refuse("404 Not Found", "not_found", 3);
+}
+
+static void answer_module(const char *head, const char *body, size_t len) {
+    const char *get = "GET /rest/v1/softwaremodules/";
     long long module, number;
     int at = 0;
     if (sscanf(head, "POST /rest/v1/softwaremodules/%lld/artifacts?filename=%n", &module, &at) == 1 && at)
         return answer_upload(module, head + at, body, len);
     if (sscanf(head, "GET /rest/v1/softwaremodules/%lld/artifacts/%lld/download HTTP/1.1%n", &module, &number, &at) == 2 && at)
         return answer_download(module, number);
-    const char *post = "POST /rest/v1/softwaremodules HTTP/1.1\r\n", *get = "GET /rest/v1/softwaremodules/";
-    const char *put = "POST /rest/v1/targets HTTP/1.1\r\n", *page = "GET /rest/v1/targets?", *import = "POST /desk/v1/import HTTP/1.1\r\n";
-    if (!strncmp(head, put, strlen(put))) return answer_put(body, len);
-    if (!strncmp(head, import, strlen(import))) return answer_import(body, len);
-    if (!strncmp(head, page, strlen(page))) return answer_page(head + strlen(page));
-    if (!strncmp(head, post, strlen(post))) return answer_post(body, len);
-    if (!strncmp(head, get, strlen(get))) return answer_get(atoll(head + strlen(get)));
+    if (begins(head, get)) return answer_get(atoll(head + strlen(get)));
     refuse("404 Not Found", "not_found", 3);
 }
 
-// The number of bytes that the first message takes, or 0 where it isn't whole.
+static void answer(const char *head, const char *body, size_t len) {
+    const char *device = "/DEFAULT/controller/v1/", *page = "GET /rest/v1/targets?";
+    const char *path = head + strcspn(head, " ") + 1;
+    if (begins(path, device)) return answer_device(path + strlen(device), head, body, len);
+    if (begins(head, "POST /rest/v1/rollouts HTTP/1.1\r\n")) return answer_create(body, len);
+    if (begins(path, "/rest/v1/rollouts/") || begins(path, "/desk/v1/rollouts/")) return answer_rollout(head);
+    if (begins(head, "POST /rest/v1/targets HTTP/1.1\r\n")) return answer_put(body, len);
+    if (begins(head, "POST /desk/v1/import HTTP/1.1\r\n")) return answer_import(body, len);
+    if (begins(head, page)) return answer_page(head + strlen(page));
+    if (begins(head, "POST /rest/v1/softwaremodules HTTP/1.1\r\n")) return answer_post(body, len);
+    answer_module(head, body, len);
+}
+
+// The number of bytes that the first message takes, or 0 where it isn't whole. While it is answered its head ends in a zero.
 static size_t answer_first(char *bytes, size_t len) {
     char *end = memmem(bytes, len < HEAD_LIMIT ? len : HEAD_LIMIT, "\r\n\r\n", 4);
     if (!end) return 0;
@@ -407,32 +472,52 @@ static size_t answer_first(char *bytes, size_t len) {
     end[2] = 0;
     char *field = strcasestr(bytes, "\r\nContent-Length:");
     if (field) body = strtoul(field + 17, NULL, 10);
+    int is_whole = body <= BODY_LIMIT && len - head >= body;
+    if (is_whole) answer(bytes, bytes + head, body);
     end[2] = kept;
-    if (body > BODY_LIMIT || len - head < body) return 0;
-    answer(bytes, bytes + head, body);
-    return head + body;
+    return is_whole ? head + body : 0;
 }
 
-int main(int count, char **words) {
-    const char *path = NULL;
-    for (int i = 1; i + 1 < count; i++)
-        if (!strcmp(words[i], "--db")) path = words[i + 1];
-    if (!path) die("run --db PATH --interface mgmt");
-    make_constants();
-    open_store(path);
+// Answers the messages of the input until it ends.
+static void serve(void) {
     static char bytes[HEAD_LIMIT + BODY_LIMIT + 65536];
     size_t len = 0;
     for (;;) {
-        ssize_t got = read(0, bytes + len, 65536);
+        ssize_t got = read(input, bytes + len, 65536);
         if (got <= 0) break;
         len += (size_t)got;
         size_t at = 0, taken;
         while ((taken = answer_first(bytes + at, len - at))) at += taken;
         memmove(bytes, bytes + at, len -= at);
     }
-    sqlite3_stmt *all[] = {begin,         commit,          rollback,      find_label,   last_number, put_module,   get_module,
-                           find_artifact, count_artifacts, last_artifact, put_artifact, put_piece,   get_artifact, get_piece};
-    for (size_t i = 0; i < sizeof all / sizeof *all; i++) sqlite3_finalize(all[i]);
-    finalize_targets();
+}
+
+// Serves so many connections to a port of 127.0.0.1, one after the other.
+static void serve_port(int port, int connections) {
+    struct sockaddr_in address = {.sin_family = AF_INET, .sin_port = htons((uint16_t)port), .sin_addr.s_addr = htonl(INADDR_LOOPBACK)};
+    int listener = socket(AF_INET, SOCK_STREAM, 0), yes = 1;
+    setsockopt(listener, SOL_SOCKET, SO_REUSEADDR, &yes, sizeof yes);
+    if (bind(listener, (struct sockaddr *)&address, sizeof address) || listen(listener, 16)) die("listen");
+    for (int i = 0; i < connections; i++) {
+        input = output = accept(listener, NULL, NULL);
+        serve();
+        close(input);
+    }
+}
+
+int main(int count, char **words) {
+    const char *path = NULL, *port = NULL, *connections = "1";
+    for (int i = 1; i < count; i++) {
+        if (!strcmp(words[i], "--at-once")) at_once = 1;
+        if (!strcmp(words[i], "--db") && i + 1 < count) path = words[i + 1];
+        if (!strcmp(words[i], "--port") && i + 1 < count) port = words[i + 1];
+        if (!strcmp(words[i], "--connections") && i + 1 < count) connections = words[i + 1];
+    }
+    if (!path) die("run --db PATH --interface mgmt");
+    make_constants();
+    open_store(path);
+    if (port) serve_port(atoi(port), atoi(connections));
+    else serve();
+    for (sqlite3_stmt *statement; (statement = sqlite3_next_stmt(db, NULL));) sqlite3_finalize(statement);
     return sqlite3_close(db) != SQLITE_OK;
 }

@@ -4,11 +4,7 @@
 #include <stdlib.h>
 #include <string.h>
 
-enum { ROW_LIMIT = 100, ATTRIBUTE_LIMIT = 32 };
-
-typedef struct { Text key, value; } Attribute;
-typedef struct { Text id, name, tags[TAG_LIMIT]; Attribute attributes[ATTRIBUTE_LIMIT]; int tag_count, attribute_count; } Target;
-typedef struct { long offset, limit; Text tag; } Page;
+enum { ROW_LIMIT = 100 };
 
 static sqlite3_stmt *get_target, *count_targets, *put_target, *set_target, *list_tags, *put_tag, *drop_tag, *list_attributes, *page_targets, *list_targets;
 static Row rows[ROW_LIMIT];
@@ -24,23 +20,6 @@ void prepare_targets(void) {
     list_attributes = prepared("SELECT key, value FROM target_attribute WHERE controller = ?1 ORDER BY key");
     page_targets = prepared("SELECT controller, name FROM target ORDER BY controller LIMIT ?1 OFFSET ?2");
     list_targets = prepared("SELECT controller, name FROM target ORDER BY controller");
-}
-
-void finalize_targets(void) {
-    sqlite3_stmt *all[] = {get_target, count_targets, put_target,   set_target,      list_tags,
-                           put_tag,    drop_tag,      page_targets, list_attributes, list_targets};
-    for (size_t i = 0; i < sizeof all / sizeof *all; i++) sqlite3_finalize(all[i]);
-}
-
-static void bind_text(sqlite3_stmt *statement, int place, const Text *text) {
-    sqlite3_bind_text(statement, place, text->bytes, (int)text->len, SQLITE_STATIC);
-}
-
-static void read_column(sqlite3_stmt *statement, int column, Text *text) {
-    const unsigned char *bytes = sqlite3_column_text(statement, column);
-    text->len = (size_t)sqlite3_column_bytes(statement, column);
-    if (text->len > TEXT_LIMIT) die("text");
-    memcpy(text->bytes, bytes, text->len);
 }
 
 // Reads the tags of a target, and answers how many they are.
@@ -60,8 +39,6 @@ static int same(const Text *text, sqlite3_stmt *statement, int column) {
 }
 
 // ---- putting
-
-static int is_key(const Text *key, const char *name) { return key->len == strlen(name) && !memcmp(key->bytes, name, key->len); }
 
 static const char *read_tags(const char *at, const char *end, Row *row) {
     at = after(at, end, '[');
@@ -107,11 +84,21 @@ static int read_rows(const char *body, size_t len) {
     return at && skip_space(at, end) == end ? count : 0;
 }
 
-static int has_target(const Row *row) {
-    bind_text(get_target, 1, &row->id);
+int find_target(const Text *id, Text *name, unsigned char digest[32]) {
+    bind_text(get_target, 1, id);
     int is_there = row_of(get_target);
+    if (is_there) {
+        read_column(get_target, 0, name);
+        memcpy(digest, sqlite3_column_blob(get_target, 1), 32);
+    }
     sqlite3_reset(get_target);
     return is_there;
+}
+
+static int has_target(const Row *row) {
+    Text name;
+    unsigned char digest[32];
+    return find_target(&row->id, &name, digest);
 }
 
 static int is_among(const Text *word, const Text *words, int count) {
@@ -192,17 +179,31 @@ static int attributes_of(const Text *id, Attribute attributes[ATTRIBUTE_LIMIT]) 
     return count;
 }
 
-// Reads the target in the row that stands with its tags and its attributes: a filter may ask for either, and its object shows both.
-static void read_target(sqlite3_stmt *statement, Target *target) {
-    read_column(statement, 0, &target->id);
-    read_column(statement, 1, &target->name);
+// Reads the tags and the attributes of a target: a filter may ask for either, and its object shows both.
+void fill_target(Target *target) {
     target->tag_count = tags_of(&target->id, target->tags);
     target->attribute_count = attributes_of(&target->id, target->attributes);
 }
 
+static void read_target(sqlite3_stmt *statement, Target *target) {
+    read_column(statement, 0, &target->id);
+    read_column(statement, 1, &target->name);
+    fill_target(target);
+}
+
+// Visits all targets in byte order of their ids.
+void each_target(void (*visit)(const Target *target)) {
+    static Target target;
+    while (row_of(list_targets)) {
+        read_target(list_targets, &target);
+        visit(&target);
+    }
+    sqlite3_reset(list_targets);
+}
+
 static size_t put(char *to, const Text *text) { return put_text(to, text->bytes, text->len); }
 
-static size_t put_target_object(char *to, const Target *target) {
+size_t put_target_object(char *to, const Target *target) {
     size_t size = (size_t)sprintf(to, "{\"attributes\":{");
     for (int i = 0; i < target->attribute_count; i++) {
         if (i) to[size++] = ',';
@@ -219,10 +220,10 @@ static size_t put_target_object(char *to, const Target *target) {
         if (i) to[size++] = ',';
         size += put(to + size, &target->tags[i]);
     }
-    return size + (size_t)sprintf(to + size, "],\"updateStatus\":\"unknown\"}");
+    return size + (size_t)sprintf(to + size, "],\"updateStatus\":\"%s\"}", word_of(&target->id));
 }
 
-static Page read_page(const char *query) {
+Page read_page(const char *query) {
     Page page = {0, 50, {{0}, 0}};
     for (const char *at = query; at && *at != ' '; at = strpbrk(at, "& "), at += at && *at == '&') {
         if (!strncmp(at, "offset=", 7)) page.offset = atol(at + 7);
