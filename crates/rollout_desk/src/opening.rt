@@ -24,7 +24,7 @@ use std::alloc::Global;
 
 impl<D: Disk + Drop> Desk<FileStore<D>> {
     /// Opens the desk that the files hold, or makes a new one where they hold no database, or one that uses no name of a desk. A fault comes with what is left of the files.
-    pub fn reopen(
+    pub fn reopen_over(
         alloc: Global,
         files: Files<D>,
         options: Options,
@@ -39,6 +39,25 @@ impl<D: Disk + Drop> Desk<FileStore<D>> {
         match reopen_files(alloc, files, options, approval_if_new) {
             Ok(conn) => Ok(Desk::over(alloc, DeskStore::new(alloc, conn))),
             Err(refused) => Err(refused),
+        }
+    }
+
+    /// The same, and lets go of what is left after a fault.
+    pub fn reopen(
+        alloc: Global,
+        files: Files<D>,
+        options: Options,
+        approval_if_new: bool,
+    ) -> Result<Desk<FileStore<D>>, OpenFault>
+        requires log { IsTrue (D.Disk.is_usable files.log) }
+        requires db { IsTrue (D.Disk.is_usable files.db) }
+        ensures reopened { IfOk result (λ desk. ReopensDesk (image_of D.Disk files) (desk_state over_files desk) approval_if_new) }
+        ensures plain { IfOk result (λ desk. BeginsPlain (image_of D.Disk files) approval_if_new desk.store.calls.conn) }
+        ensures refused { IfErr result (LeftUnharmed D.Disk (outcomes D.Disk files.log files.db) (image_of D.Disk files) approval_if_new) }
+    {
+        match Desk::reopen_over(alloc, files, options, approval_if_new) {
+            Ok(desk) => Ok(desk),
+            Err((fault, _)) => Err(fault),
         }
     }
 
