@@ -265,7 +265,7 @@ module _ (Holds : Database → Records → Type 0) (a : State) (device : Credent
 -- what begins is of what the device is offered
 pub begun_offered : {File : Type 0} (old new : DeskState File) (query : Query) (result : Result Download model.Reply) → Begins old new (Asks (Ask query)) result → IfOk result (λ p. IsPromised old new (λ h. BeginsOffered h query p))
 begun_offered old new query (Err r) begins = tt
-begun_offered old new (DownloadOf device m filename) (Ok p) begins = λ h clean standing. let it = begins h clean standing in (it.contents, it.sends, downloaded h device m filename it.contents (ap (λ (a : Answer). a.reply) it.answer))
+begun_offered old new (DownloadOf device m filename) (Ok p) begins = λ h clean standing. let it = begins h clean standing in (it.contents, it.sends, downloaded h device m filename it.contents (ap (λ (a : Answer). a.reply) (sym (query_answer h (DownloadOf device m filename)) ∙ it.answer)))
 begun_offered old new query (Ok p) begins = λ h clean standing. tt
 
 -- ---- later commands
