@@ -6,7 +6,7 @@ use rollout_model::{Query, Refusal, Reply};
 
 /// A desk that hands out the contents which a query asks for in pieces, seen as a `Handler` is.
 pub trait ContentsHandler: Handler {
-    ghost use Rattle.std.specs.Prelude.{◌≡◌, true, false, IfOk, IfErr};
+    ghost use Rattle.std.specs.Prelude.{◌≡◌, true, false, Err, IfOk, IfErr};
     ghost use Rattle.rollout_model.specs.declared.refusal.Refusal.TheVariants as refusal;
     ghost use Rattle.rollout_machine.specs.Replies.{Refused};
     ghost use Rattle.rollout_machine.specs.Requests.{Ask, Asks};
@@ -19,6 +19,7 @@ pub trait ContentsHandler: Handler {
         ensures clean { (Self.state self.new).is_clean → (Self.state self.old).is_clean }
         ensures begins { Begins (Self.state self.old) (Self.state self.new) (Asks (Ask (query_of query.now))) result }
         ensures runs { IfOk result (λ _. (Self.state self.old).is_stopped ≡ false) }
+        ensures stops { IfErr result (λ reply. reply_of reply ≡ Refused refusal.StoreFailed → (Self.state self.new).is_stopped ≡ true) }
         ensures stopped { (Self.state self.old).is_stopped ≡ true
             → IfErr result (λ reply. reply_of reply ≡ Refused refusal.Stopped) × StaysStopped (Self.state self.old) (Self.state self.new) };
 
@@ -28,5 +29,6 @@ pub trait ContentsHandler: Handler {
     fn next_piece(&mut self, download: &mut Download) -> Result<Option<Vec<u8>>, Refusal>
         ensures clean { (Self.state self.new).is_clean → (Self.state self.old).is_clean }
         ensures hands { HandsPieces (Self.state self.old) (Self.state self.new) download.old download.new result }
-        ensures counts { KeepsCount download.old download.new result };
+        ensures counts { KeepsCount download.old download.new result }
+        ensures stops { result ≡ Err refusal.StoreFailed → (Self.state self.new).is_stopped ≡ true };
 }

@@ -1,5 +1,8 @@
 //! Streams served from a desk of which no contract says anything.
 
+ghost use Rattle.std.specs.Prelude.{◌≢◌, IfErr};
+ghost use Rattle.rollout_model.specs.declared.refusal.Refusal.TheVariants.{StoreFailed};
+
 use contents_handler::{ContentsHandler, Download};
 use http_wire::Watched;
 use rollout_machine::Handler;
@@ -17,18 +20,20 @@ struct Shelf {
 }
 
 impl Shelf {
-    fn add(&mut self, label: &ModuleLabel) -> Result<Reply, Refusal> {
+    fn add(&mut self, label: &ModuleLabel) -> Result<Module, Refusal>
+        ensures { IfErr result (λ refusal. refusal ≢ StoreFailed) }
+    {
         if self.is_full {
             return Err(Refusal::Exists);
         }
         let label = label.copy(self.alloc)?;
         let number = ModuleNo::new(1).ok_or(Refusal::Quota)?;
         self.is_full = true;
-        Ok(Reply::ModuleAdded(Module {
+        Ok(Module {
             number,
             locked: false,
             label,
-        }))
+        })
     }
 }
 
@@ -46,7 +51,7 @@ impl Handler for Shelf {
             _ => Err(Refusal::NotFound),
         };
         match added {
-            Ok(reply) => reply,
+            Ok(module) => Reply::ModuleAdded(module),
             Err(refusal) => Reply::Refused(refusal),
         }
     }

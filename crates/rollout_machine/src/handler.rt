@@ -20,6 +20,7 @@ pub trait Handler {
     fn handle(&mut self, request: &Request) -> Reply
         ensures clean { (state self.new).is_clean → (state self.old).is_clean }
         ensures applies { Applies (state self.old) (state self.new) (Asks (request_of request.now)) (reply_of result) }
+        ensures stops { reply_of result ≡ Refused refusal.StoreFailed → (state self.new).is_stopped ≡ true }
         ensures stopped { (state self.old).is_stopped ≡ true → (reply_of result ≡ Refused refusal.Stopped) × StaysStopped (state self.old) (state self.new) };
 
     /// Whether the desk refuses everything until it is reopened.

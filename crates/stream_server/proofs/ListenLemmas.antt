@@ -7,7 +7,7 @@ use Rattle.stream_server.specs.declared.interface.Interface.{Interface}
 use Rattle.stream_server.specs.declared.listening.ListenFault.{ListenFault}
 use Rattle.stream_server.specs.declared.served.Served.{Served}
 use Rattle.stream_server.specs.declared.served.ServeFault.{ServeFault}
-use Rattle.stream_server.specs.Headline.{Headline, Stops, StoppedThroughout}
+use Rattle.stream_server.specs.Headline.{Headline, StoppedThroughout}
 use Rattle.stream_server.specs.Listening.{Keeps, KeepsOn, StopsAtStore}
 use Rattle.stream_server.specs.Run.{accepted_in}
 use Rattle.stream_server.proofs.RunLemmas.{followed_append}
@@ -40,29 +40,28 @@ pub keeps_on : {A : Type 0} {File : Type 0} (interface : Interface) (old new : D
     → (new.is_clean → old.is_clean)
     → ((h : CommandList) → new.is_clean → StandsFor old h → Headline interface h new stream unread out out_new outcome)
     → (old.is_stopped ≡ true → StoppedThroughout old new stream unread out out_new outcome)
-    → (Stops new.is_stopped outcome → StopsAtStore new told) → (new.is_stopped ≡ true → StopsAtStore new told)
+    → StopsAtStore new told
     → KeepsOn old new told
-keeps_on interface old new stream unread out out_new outcome told clean headline stopped tells tells_stopped = record {
+keeps_on interface old new stream unread out out_new outcome told clean headline stopped store = record {
   clean = clean;
   keeps = λ h is_clean keeps. elim keeps.desk [
-    | inl stop ↦
-        let stays = (stopped stop).stays in (keeps_stopped old new h stays keeps, tells_stopped stays.stopped)
-    | inr stands ↦
-        let served = headline (followed_by h stands.0) is_clean stands.1 in (keeps_by_headline interface new h stands.0 stream unread out out_new outcome served, tells served.stops)
+    | inl stop ↦ keeps_stopped old new h (stopped stop).stays keeps
+    | inr stands ↦ keeps_by_headline interface new h stands.0 stream unread out out_new outcome (headline (followed_by h stands.0) is_clean stands.1)
   ];
+  store = store;
   stays = λ stop. (stopped stop).stays;
 }
 
 -- none yet
 pub on_nil : {A : Type 0} {File : Type 0} (s : DeskState File) (count : A) → KeepsOn s s (Ok count)
-on_nil s count = record { clean = λ clean. clean; keeps = λ h clean keeps. (keeps, tt); stays = stays s }
+on_nil s count = record { clean = λ clean. clean; keeps = λ h clean keeps. keeps; store = tt; stays = stays s }
 
 -- some and then one more, of which this is told
 pub on_append : {A B C : Type 0} {File : Type 0} (s t u : DeskState File) (count : A) (next : Result B ListenFault) (told : Result C ListenFault)
     → KeepsOn s t (Ok count) → KeepsOn t u next → (StopsAtStore u next → StopsAtStore u told) → KeepsOn s u told
 on_append s t u count next told first second tells = record {
   clean = λ clean. first.clean (second.clean clean);
-  keeps = λ h clean keeps.
-      let after = second.keeps h clean (first.keeps h (second.clean clean) keeps).0 in (after.0, tells after.1);
+  keeps = λ h clean keeps. second.keeps h clean (first.keeps h (second.clean clean) keeps);
+  store = tells second.store;
   stays = stays_on s t u first.stays second.stays;
 }

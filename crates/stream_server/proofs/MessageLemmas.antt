@@ -12,7 +12,7 @@ use Rattle.stream_server.specs.declared.interface.Interface.{Interface}
 use Rattle.stream_server.specs.declared.served.ServeFault.{ServeFault}
 use Rattle.stream_server.specs.declared.served.ServeFault.TheVariants as serve_fault
 use Rattle.stream_server.specs.Interfaces.{reading, reply_text}
-use Rattle.stream_server.specs.Parts.{Conduct, running, stopped, AnswersOne, Answers, Serves, SendsPart}
+use Rattle.stream_server.specs.Parts.{Conduct, running, stopped, AnswersOne, Answers, GivesReply, Serves, SendsPart}
 use Rattle.stream_server.proofs.PartLemmas.{whole_one, broken_one}
 
 -- whatever was asked
@@ -55,7 +55,7 @@ module _ (File : Type 0) (interface : Interface) (old new : DeskState File) (m :
       let at = has.stopped over in
       record { accepted = None; answers = (at.0, refl); goes_to = record { in_doubt = λ e. let no : Refused Stopped ≡ Refused StoreFailed = cc (at.0, e) in cc; stands = λ goes. at.1.stopped } }
 
-  pub serves_whole : (a b : Option (List ℕ)) → Appends a b (reply_text m reply) → reply ≢ Refused StoreFailed → Serves interface old new a b (m ∷ []) None
+  serves_whole : (a b : Option (List ℕ)) → Appends a b (reply_text m reply) → reply ≢ Refused StoreFailed → Serves interface old new a b (m ∷ []) None
   serves_whole a b sent goes = record {
     clean = has.clean;
     by_machine = answers_whole File (running File interface) old new m reply of_machine a b sent goes;
@@ -63,7 +63,7 @@ module _ (File : Type 0) (interface : Interface) (old new : DeskState File) (m :
     stays = λ over. (has.stopped over).1;
   }
 
-  pub serves_in_doubt : (a b : Option (List ℕ)) → Appends a b (reply_text m reply) → reply ≡ Refused StoreFailed → Serves interface old new a b (m ∷ []) (Some serve_fault.Store)
+  serves_in_doubt : (a b : Option (List ℕ)) → Appends a b (reply_text m reply) → reply ≡ Refused StoreFailed → Serves interface old new a b (m ∷ []) (Some serve_fault.Store)
   serves_in_doubt a b sent store = record {
     clean = has.clean;
     by_machine = answers_in_doubt File (running File interface) old new m reply of_machine a b sent store;
@@ -71,10 +71,17 @@ module _ (File : Type 0) (interface : Interface) (old new : DeskState File) (m :
     stays = λ over. (has.stopped over).1;
   }
 
-  pub serves_part : (a b : Option (List ℕ)) (failed : Bool) (fault : ServeFault) → SendsPart a b (reply_text m reply) reply failed fault → Serves interface old new a b (m ∷ []) (Some fault)
+  serves_part : (a b : Option (List ℕ)) (failed : Bool) (fault : ServeFault) → SendsPart a b (reply_text m reply) reply failed fault → Serves interface old new a b (m ∷ []) (Some fault)
   serves_part a b failed fault part = record {
     clean = has.clean;
     by_machine = answers_part File (running File interface) old new m reply of_machine a b failed fault part;
     by_stopped = answers_part File (stopped File) old new m reply of_stopped a b failed fault part;
     stays = λ over. (has.stopped over).1;
   }
+
+  pub serves_reply : (a b : Option (List ℕ)) (failed : Bool) (fault : Option ServeFault) → GivesReply a b (reply_text m reply) reply failed fault → Serves interface old new a b (m ∷ []) fault
+  serves_reply a b failed None given = serves_whole a b given.0 given.1
+  serves_reply a b failed (Some serve_fault.Store) given = serves_in_doubt a b given.0 given.1
+  serves_reply a b failed (Some serve_fault.Read) given = serves_part a b failed serve_fault.Read given
+  serves_reply a b failed (Some serve_fault.Write) given = serves_part a b failed serve_fault.Write given
+  serves_reply a b failed (Some serve_fault.Memory) given = serves_part a b failed serve_fault.Memory given

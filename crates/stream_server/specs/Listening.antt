@@ -20,5 +20,6 @@ StopsAtStore s (Ok a) = Unit {0}
 -- from one connection to the next: every list that was kept is kept
 pub record KeepsOn {A : Type 0} {File : Type 0} (old new : DeskState File) (result : Result A ListenFault) : Type 0 where
   pub clean : new.is_clean → old.is_clean
-  pub keeps : (h : CommandList) → new.is_clean → Keeps old h → Keeps new h × StopsAtStore new result
+  pub keeps : (h : CommandList) → new.is_clean → Keeps old h → Keeps new h
+  pub store : StopsAtStore new result
   pub stays : old.is_stopped ≡ true → StaysStopped old new

@@ -128,7 +128,13 @@ SendsPart old new text reply failed serve_fault.Store = ⊥
 SendsPart old new text reply failed serve_fault.Write = (failed ≡ true) × (part : List ℕ) × (left : List ℕ) × (text ≡ part ++ left) × Appends old new part
 SendsPart old new text reply failed serve_fault.Memory = (reply ≢ Refused StoreFailed) × Appends old new []
 
--- what `serve` promises, as one record
+-- what became of the reply that the desk gave: it was written whole, and after it the store's fault is told where it says so; or a part of it was written
+abbrev pub GivesReply : Option (List ℕ) → Option (List ℕ) → List ℕ → Reply → Bool → Option ServeFault → Type 0
+GivesReply old new text reply failed None = Appends old new text × (reply ≢ Refused StoreFailed)
+GivesReply old new text reply failed (Some serve_fault.Store) = Appends old new text × (reply ≡ Refused StoreFailed)
+GivesReply old new text reply failed (Some fault) = SendsPart old new text reply failed fault
+
+-- what `serve` promises of a desk that stands for a list, and of a stopped one, as one record
 pub record ServesStream {File : Type 0} (interface : Interface) (old new : DeskState File) (stream unread out out_new : Option (List ℕ)) (result : Result Served ServeFault) : Type 0 where
   pub clean : new.is_clean → old.is_clean
   pub headline : (h : CommandList) → new.is_clean → StandsFor old h → Headline interface h new stream unread out out_new result

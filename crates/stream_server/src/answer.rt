@@ -5,14 +5,14 @@ ghost use Rattle.contents_handler.specs.Downloads.{Begins};
 ghost use Rattle.http_wire.specs.Messages.{WireMessage};
 ghost use Rattle.http_wire.specs.Inbox.{message_of};
 ghost use Rattle.http_wire.specs.Watched.{inner_of, has_failed};
-ghost use Rattle.rollout_model.specs.declared.refusal.Refusal.TheVariants.{Stopped};
+ghost use Rattle.rollout_model.specs.declared.refusal.Refusal.TheVariants.{Stopped, StoreFailed};
 ghost use Rattle.rollout_machine.specs.Replies.{Refused};
 ghost use Rattle.rollout_machine.specs.Requests.{Asks};
 ghost use Rattle.rollout_machine.specs.Views.{reply_of, request_of};
 ghost use Rattle.rollout_machine.specs.Standing.{StaysStopped};
-ghost use Rattle.stream_server.specs.Interfaces.{reading};
+ghost use Rattle.stream_server.specs.Interfaces.{reading, reply_text};
 ghost use Rattle.stream_server.specs.Headline.{FailsBy};
-ghost use Rattle.stream_server.specs.Parts.{Serves, fault_of, Takes, StopsAt};
+ghost use Rattle.stream_server.specs.Parts.{Serves, fault_of, GivesReply, Takes, StopsAt};
 
 use crate::ServeFault;
 use crate::download::send_contents;
@@ -30,6 +30,7 @@ fn ask_request<D: ContentsHandler>(desk: &mut D, request: &Request) -> Result<Do
     ensures clean { (D.state desk.new).is_clean → (D.state desk.old).is_clean }
     ensures begins { Begins (D.state desk.old) (D.state desk.new) (Asks (request_of request.now)) result }
     ensures runs { IfOk result (λ _. (D.state desk.old).is_stopped ≡ false) }
+    ensures stops { IfErr result (λ reply. reply_of reply ≡ Refused StoreFailed → (D.state desk.new).is_stopped ≡ true) }
     ensures stopped { (D.state desk.old).is_stopped ≡ true
         → IfErr result (λ reply. reply_of reply ≡ Refused Stopped) × StaysStopped (D.state desk.old) (D.state desk.new) }
 {
@@ -48,6 +49,7 @@ fn ask<D: ContentsHandler>(
     ensures clean { (D.state desk.new).is_clean → (D.state desk.old).is_clean }
     ensures begins { Begins (D.state desk.old) (D.state desk.new) (reading routes.now.interface (message_of message.now)) result }
     ensures runs { IfOk result (λ _. (D.state desk.old).is_stopped ≡ false) }
+    ensures stops { IfErr result (λ reply. reply_of reply ≡ Refused StoreFailed → (D.state desk.new).is_stopped ≡ true) }
     ensures stopped { (D.state desk.old).is_stopped ≡ true
         → IfErr result (λ reply. reply_of reply ≡ Refused Stopped) × StaysStopped (D.state desk.old) (D.state desk.new) }
 {
@@ -58,6 +60,25 @@ fn ask<D: ContentsHandler>(
         Ok(request) => ask_request(desk, &request),
         Err(refusal) => Err(Reply::Refused(refusal)),
     }
+}
+
+/// Writes the reply that the desk gave to a message. The fault `Store` says that this reply tells of a failed store, and was written whole.
+fn give_reply<W: Write>(
+    alloc: Global,
+    writer: &mut Watched<W>,
+    message: &Message<'_>,
+    reply: &Reply,
+) -> Result<(), ServeFault>
+    ensures gives { GivesReply (W.contents (inner_of writer.old)) (W.contents (inner_of writer.new)) (reply_text (message_of message.now) (reply_of reply.now)) (reply_of reply.now) (has_failed writer.new) (fault_of result) }
+    ensures write_failed { FailsBy result ServeFault.Write (has_failed writer.old) (has_failed writer.new) }
+    ensures reads_nothing { IfErr result (λ fault. fault ≢ ServeFault.Read) }
+    ensures store { IfErr result (λ fault. fault ≡ ServeFault.Store → reply_of reply.now ≡ Refused StoreFailed) }
+{
+    write_reply(alloc, writer, message, reply)?;
+    if says_store_failed(reply) {
+        return Err(ServeFault::Store);
+    }
+    Ok(())
 }
 
 /// Answers one message.
@@ -72,16 +93,11 @@ fn answer_one<W: Write, D: ContentsHandler>(
         (message_of message.now ∷ []) (fault_of result) }
     ensures write_failed { FailsBy result ServeFault.Write (has_failed writer.old) (has_failed writer.new) }
     ensures reads_nothing { IfErr result (λ fault. fault ≢ ServeFault.Read) }
+    ensures stops { IfErr result (λ fault. fault ≡ ServeFault.Store → (D.state desk.new).is_stopped ≡ true) }
 {
     match ask(desk, routes, message) {
         Ok(download) => send_contents(alloc, desk, writer, download),
-        Err(reply) => {
-            write_reply(alloc, writer, message, &reply)?;
-            if says_store_failed(&reply) {
-                return Err(ServeFault::Store);
-            }
-            Ok(())
-        }
+        Err(reply) => give_reply(alloc, writer, message, &reply),
     }
 }
 
@@ -107,6 +123,7 @@ pub(crate) fn answer_all<W: Write, D: ContentsHandler>(
     ensures end { IfOk result (λ stop. StopsAt inbox.new stop.fault) }
     ensures write_failed { FailsBy result ServeFault.Write (has_failed writer.old) (has_failed writer.new) }
     ensures reads_nothing { IfErr result (λ fault. fault ≢ ServeFault.Read) }
+    ensures stops { IfErr result (λ fault. fault ≡ ServeFault.Store → (D.state desk.new).is_stopped ≡ true) }
 {
     let mut answered = before;
     loop {

@@ -1,7 +1,8 @@
 //! Replies with contents, piece by piece.
 
-ghost use Rattle.std.specs.Prelude.{◌≡◌, ◌≢◌, IfOk, IfErr};
+ghost use Rattle.std.specs.Prelude.{◌≡◌, ◌≢◌, true, IfOk, IfErr};
 ghost use Rattle.http_wire.specs.Watched.{inner_of, has_failed};
+ghost use Rattle.rollout_model.specs.declared.refusal.Refusal.TheVariants.{StoreFailed};
 ghost use Rattle.stream_server.specs.Contents.{SendsContents, contents_head, fault_at};
 ghost use Rattle.stream_server.specs.Headline.{FailsBy};
 ghost use Rattle.stream_server.specs.Parts.{fault_of};
@@ -33,7 +34,8 @@ fn contents_head(alloc: Global, size: u32) -> Result<Vec<u8>, AllocError>
 
 /// Why a download is interrupted.
 fn fault_at(refusal: Refusal) -> ServeFault
-    ensures { result ≡ fault_at refusal }
+    ensures is { result ≡ fault_at refusal }
+    ensures only { result ≡ ServeFault.Store → refusal ≡ StoreFailed }
 {
     if is_failed_store(refusal) {
         ServeFault::Store
@@ -53,6 +55,7 @@ pub(crate) fn send_contents<W: Write, D: ContentsHandler>(
     ensures sends { SendsContents (D.state desk.old) (D.state desk.new) (W.contents (inner_of writer.old)) (W.contents (inner_of writer.new)) download (fault_of result) }
     ensures write_failed { FailsBy result ServeFault.Write (has_failed writer.old) (has_failed writer.new) }
     ensures reads_nothing { IfErr result (λ fault. fault ≢ ServeFault.Read) }
+    ensures stops { IfErr result (λ fault. fault ≡ ServeFault.Store → (D.state desk.new).is_stopped ≡ true) }
 {
     let Ok(head) = contents_head(alloc, download.size()) else {
         return Err(ServeFault::Memory);

@@ -86,7 +86,7 @@ pub fn serve_on<D: ContentsHandler>(
 ) -> Result<u32, ListenFault>
     ensures clean { (D.state desk.new).is_clean → (D.state desk.old).is_clean }
     ensures keeps { (h : CommandList) → (D.state desk.new).is_clean → StandsFor (D.state desk.old) h → Keeps (D.state desk.new) h }
-    ensures store { (h : CommandList) → (D.state desk.new).is_clean → StandsFor (D.state desk.old) h → StopsAtStore (D.state desk.new) result }
+    ensures store { StopsAtStore (D.state desk.new) result }
     ensures stopped { (D.state desk.old).is_stopped ≡ true → StaysStopped (D.state desk.old) (D.state desk.new) }
     ensures counts { IfOk result (λ served. served ≤ connections) }
 {

@@ -1,6 +1,6 @@
 //! Serving one stream of an interface.
 
-ghost use Rattle.std.specs.Prelude.{◌≡◌, true};
+ghost use Rattle.std.specs.Prelude.{◌≡◌, true, IfErr};
 ghost use Rattle.http_wire.specs.Watched.{inner_of, has_failed};
 ghost use Rattle.rollout_machine.specs.CommandList.{CommandList};
 ghost use Rattle.rollout_machine.specs.Standing.{StandsFor};
@@ -27,6 +27,7 @@ fn serve_interface<R: Read, W: Write, D: ContentsHandler>(
         (W.contents (inner_of writer.old)) (W.contents (inner_of writer.new)) result }
     ensures read_failed { FailsBy result ServeFault.Read (has_failed reader.old) (has_failed reader.new) }
     ensures write_failed { FailsBy result ServeFault.Write (has_failed writer.old) (has_failed writer.new) }
+    ensures stops { IfErr result (λ fault. fault ≡ ServeFault.Store → (D.state desk.new).is_stopped ≡ true) }
 {
     let Ok(routes) = Routes::make(alloc, interface) else {
         return Err(ServeFault::Memory);
@@ -52,6 +53,7 @@ pub fn serve<R: Read, W: Write, D: ContentsHandler>(
         (W.contents (inner_of writer.old)) (W.contents (inner_of writer.new)) result }
     ensures read_failed { FailsBy result ServeFault.Read (has_failed reader.old) (has_failed reader.new) }
     ensures write_failed { FailsBy result ServeFault.Write (has_failed writer.old) (has_failed writer.new) }
+    ensures stops { IfErr result (λ fault. fault ≡ ServeFault.Store → (D.state desk.new).is_stopped ≡ true) }
 {
     serve_interface(alloc, desk, reader, writer, interface)
 }

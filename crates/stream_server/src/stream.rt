@@ -1,6 +1,6 @@
 //! Serving one stream.
 
-ghost use Rattle.std.specs.Prelude.{◌≡◌, ℕ, ◌+◌, ◌++◌, ◌<◌, ◌≤◌, ◌-◌, ◌^◌, List, length, true};
+ghost use Rattle.std.specs.Prelude.{◌≡◌, ◌≢◌, ℕ, ◌+◌, ◌++◌, ◌<◌, ◌≤◌, ◌-◌, ◌^◌, List, length, true, IfErr};
 ghost use Rattle.http_wire.specs.Watched.{inner_of, has_failed};
 ghost use Rattle.stream_server.specs.Headline.{FailsBy};
 ghost use Rattle.stream_server.specs.Parts.{ServesStream};
@@ -22,6 +22,7 @@ const PIECE: usize = 4096;
 fn read_on<R: Read>(reader: &mut Watched<R>, inbox: &mut Inbox) -> Result<bool, ServeFault>
     ensures failed { FailsBy result ServeFault.Read (has_failed reader.old) (has_failed reader.new) }
     ensures read { ReadsOn (R.remaining (inner_of reader.old)) (R.remaining (inner_of reader.new)) inbox.old inbox.new (has_failed reader.new) result }
+    ensures no_store { IfErr result (λ fault. fault ≢ ServeFault.Store) }
 {
     let mut buffer = [0; PIECE];
     let Ok(count) = reader.read(&mut buffer) else {
@@ -48,6 +49,7 @@ pub(crate) fn serve_stream<R: Read, W: Write, D: ContentsHandler>(
         (W.contents (inner_of writer.old)) (W.contents (inner_of writer.new)) result }
     ensures read_failed { FailsBy result ServeFault.Read (has_failed reader.old) (has_failed reader.new) }
     ensures write_failed { FailsBy result ServeFault.Write (has_failed writer.old) (has_failed writer.new) }
+    ensures stops { IfErr result (λ fault. fault ≡ ServeFault.Store → (D.state desk.new).is_stopped ≡ true) }
 {
     let mut inbox = Inbox::new(alloc);
     let mut answered = 0;

@@ -37,4 +37,4 @@ returns-in-Ok-None-clause-sends g c =
 
 pub returns-in-Err-clause-sends : goal.returns-in-Err-clause-sends
 returns-in-Err-clause-sends g c =
-    rw c.fault_at.ensures (interrupted _ _ _ _ _ _ _ _ c.loop-piece.invariant.0 c.next_piece.ensures.clean c.in-Err.refusal c.in-Err.ensures.hands)
+    rw c.fault_at.ensures.is (interrupted _ _ _ _ _ _ _ _ c.loop-piece.invariant.0 c.next_piece.ensures.clean c.in-Err.refusal c.in-Err.ensures.hands)

@@ -5,11 +5,10 @@ use Rattle.stream_server.proofs.listening.serve_on.Goals.{in-Ok-true, in-Ok-fals
 
 pub returns-in-Err-clause-keeps : goal.returns-in-Err-clause-keeps
 returns-in-Err-clause-keeps g c h clean stands =
-    ((on_append {C = ℕ} _ _ _ _ _ (Err c.in-Err.fault) c.loop.invariant.0 c.in-Err.ensures (λ stops. stops)).keeps h clean (keeps_what_stands _ h stands)).0
+    (on_append {C = ℕ} _ _ _ _ _ (Err c.in-Err.fault) c.loop.invariant.0 c.in-Err.ensures (λ stops. stops)).keeps h clean (keeps_what_stands _ h stands)
 
 pub returns-in-Err-clause-store : goal.returns-in-Err-clause-store
-returns-in-Err-clause-store g c h clean stands =
-    ((on_append {C = ℕ} _ _ _ _ _ (Err c.in-Err.fault) c.loop.invariant.0 c.in-Err.ensures (λ stops. stops)).keeps h clean (keeps_what_stands _ h stands)).1
+returns-in-Err-clause-store g c = (on_append {C = ℕ} _ _ _ _ _ (Err c.in-Err.fault) c.loop.invariant.0 c.in-Err.ensures (λ stops. stops)).store
 
 pub loop-preserved : goal.loop-preserved
 loop-preserved g c =
@@ -19,4 +18,4 @@ loop-preserved g c =
     )
 
 pub returns-clause-keeps : goal.returns-clause-keeps
-returns-clause-keeps g c h clean stands = (c.loop.invariant.0.keeps h clean (keeps_what_stands _ h stands)).0
+returns-clause-keeps g c h clean stands = c.loop.invariant.0.keeps h clean (keeps_what_stands _ h stands)
