@@ -17,5 +17,8 @@ pub mod KeyedTables
 pub mod KeyedOrder
 pub mod KeyedExamples
 pub mod NumberedTables
+pub mod NumberedWithin
 pub mod Counts
 pub mod Schemas
+pub mod UpsertsFrom
+pub mod KeyConflicts

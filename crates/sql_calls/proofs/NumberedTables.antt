@@ -32,7 +32,7 @@ use Rattle.sql_calls.proofs.Selects.{simple, by, passes, shown_of, shown_in, sim
 use Rattle.sql_calls.proofs.Updates.{Updated}
 use Rattle.sql_calls.proofs.KeyedTables.{written, one_written}
 
-less : (m n : ℕ) → m < n → value_cmp (Int (pos m)) (Int (pos n)) ≡ Less
+pub less : (m n : ℕ) → m < n → value_cmp (Int (pos m)) (Int (pos n)) ≡ Less
 less m n h = value_cmp-Int (pos m) (pos n) ∙ grind (arith, ints, nat_tests)
 
 same : (m : ℕ) → value_cmp (Int (pos m)) (Int (pos m)) ≡ Equal
@@ -188,6 +188,22 @@ module _ {X : Type 0} (f : ℕ → X → Row) (ids : (n : ℕ) (x : X) → rowid
 
 -- ---- many rows at the end, and the rows in order
 
+-- what is shown of the rows that pass rises as their numbers do
+module _ {X : Type 0} (f : ℕ → X → Row) (cmp : Output → Output → Ordering) (show : Row → Output) (p : Row → Bool) (below : (m n : ℕ) (x y : X) → m < n → cmp (show (f m x)) (show (f n y)) ≡ Less) where
+  all_below : (m n : ℕ) (x : X) (ys : List X) → m < n → AllByRecursion (λ o. cmp (show (f m x)) o ≡ Less) (map show (filter p (rows_from f n ys)))
+  all_below m n x [] h = tt
+  all_below m n x (y ∷ ys) h =
+      let later = all_below m (n + 1) x ys (omega (arith, h)) in
+      elim (p (f n y)) as (λ b. AllByRecursion (λ o. cmp (show (f m x)) o ≡ Less) (map show (cond b (f n y ∷ filter p (rows_from f (n + 1) ys)) (filter p (rows_from f (n + 1) ys)))))
+      [ true ↦ (below m n x y h, later) | false ↦ later ]
+
+  pub rises : (n : ℕ) (xs : List X) → IsAscending (λ a b. cmp a b ≡ Less) (map show (filter p (rows_from f n xs)))
+  rises n [] = tt
+  rises n (x ∷ xs) =
+      let later = rises (n + 1) xs in
+      elim (p (f n x)) as (λ b. IsAscending (λ a b. cmp a b ≡ Less) (map show (cond b (f n x ∷ filter p (rows_from f (n + 1) xs)) (filter p (rows_from f (n + 1) xs)))))
+      [ true ↦ (all_below n (n + 1) x xs (omega arith), later) | false ↦ later ]
+
 module _ {X : Type 0} (f : ℕ → X → Row) (ids : (n : ℕ) (x : X) → rowid (f n x) ≡ Int (pos n)) where
   -- INSERT .. SELECT .. ORDER BY, where the rows come in the order of their numbers
   pub put_more : (n : ℕ) (xs ys : List X) → put_all (rows_from f n xs) (rows_from f (n + length xs) ys) ≡ rows_from f n (xs ++ ys)
@@ -206,25 +222,11 @@ module _ {X : Type 0} (f : ℕ → X → Row) (ids : (n : ℕ) (x : X) → rowid
     below : (m n : ℕ) (x y : X) → m < n → output_cmp q (shown_in q params (f m x)) (shown_in q params (f n y)) ≡ Less
     below m n x y h = rw (ids m x, ids n y, less m n h) refl
 
-    all_below : (m n : ℕ) (x : X) (ys : List X) → m < n → AllByRecursion (λ o. output_cmp q (shown_in q params (f m x)) o ≡ Less) (map (shown_in q params) (filter (passes test params) (rows_from f n ys)))
-    all_below m n x [] h = tt
-    all_below m n x (y ∷ ys) h =
-        let later = all_below m (n + 1) x ys (omega (arith, h)) in
-        elim (passes test params (f n y)) as (λ b. AllByRecursion (λ o. output_cmp q (shown_in q params (f m x)) o ≡ Less) (map (shown_in q params) (cond b (f n y ∷ filter (passes test params) (rows_from f (n + 1) ys)) (filter (passes test params) (rows_from f (n + 1) ys)))))
-        [ true ↦ (below m n x y h, later) | false ↦ later ]
-
-    rises : (n : ℕ) (xs : List X) → IsAscending (λ a b. output_cmp q a b ≡ Less) (map (shown_in q params) (filter (passes test params) (rows_from f n xs)))
-    rises n [] = tt
-    rises n (x ∷ xs) =
-        let later = rises (n + 1) xs in
-        elim (passes test params (f n x)) as (λ b. IsAscending (λ a b. output_cmp q a b ≡ Less) (map (shown_in q params) (cond b (f n x ∷ filter (passes test params) (rows_from f (n + 1) xs)) (filter (passes test params) (rows_from f (n + 1) xs)))))
-        [ true ↦ (all_below n (n + 1) x xs (omega arith), later) | false ↦ later ]
-
     -- SELECT .. WHERE .. ORDER BY number LIMIT .. OFFSET .., over whatever index
     pub numbered_in_order : (db : Trees) (xs : List X) → db tree ≡ rows_from f 1 xs → (rows : List Row) → IsAnswer q (overlay db []) params rows
         → rows ≡ page q params (map (shown_of shows params) (filter (passes test params) (rows_from f 1 xs)))
     numbered_in_order db xs was rows answer =
         let it = ordered_rows tree test shows ((col 1 0, record { descending = false; collation = Binary }) ∷ []) limit offset params db rows answer in
         let same = subst (λ l. IsPermutation (map (shown_in q params) (filter (passes test params) l)) it.ordered) was it.same in
-        it.is ∙ ap (λ l. page q params (map (λ (o : Output). o.1) l)) (sorted_unique (output_cmp q) (output_cmp_total q) _ it.ordered (rises 1 xs) same it.sorted)
+        it.is ∙ ap (λ l. page q params (map (λ (o : Output). o.1) l)) (sorted_unique (output_cmp q) (output_cmp_total q) _ it.ordered (rises f (output_cmp q) (shown_in q params) (passes test params) below 1 xs) same it.sorted)
         ∙ ap (page q params) (map-map (λ (o : Output). o.1) (shown_in q params) _)

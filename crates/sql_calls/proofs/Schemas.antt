@@ -70,14 +70,24 @@ one_index tables named row i j h k =
     let trees : i.tree ≡ j.tree = omega arith in
     one_defined h.table i j (column row 4) names trees h.defined (subst (λ t. IsDefined t j (column row 4)) table k.defined)
 
+-- ---- schemas
+
+pub same_tables : (s z : Schema) (db : Trees) → IsSound s db → IsSound z db → s.tables ≡ z.tables
+same_tables s z db h k = zip_same IsTableRow one_table _ s.tables z.tables h.lists.listed.tables k.lists.listed.tables
+
+pub same_indexes : (s z : Schema) (db : Trees) → IsSound s db → IsSound z db → s.indexes ≡ z.indexes
+same_indexes s z db h k =
+    let mine = k.lists.listed in
+    let found = subst (λ ts. AllZip (IsIndexRow ts) (filter is_index_row (db catalog_tree)) s.indexes) (same_tables s z db h k) h.lists.listed.indexes in
+    zip_same (IsIndexRow z.tables) (one_index z.tables mine.named) _ s.indexes z.indexes found mine.indexes
+
 -- Trees list one schema alone, with whatever indexes, where there is no view.
 pub one_schema : (schema s : Schema) (db : Trees) → schema.views ≡ [] → IsSound schema db → IsSound s db → s ≡ schema
 one_schema schema s db no_view own other =
     let mine = own.lists.listed in
     let found = other.lists.listed in
-    let tables : s.tables ≡ schema.tables = zip_same IsTableRow one_table _ s.tables schema.tables found.tables mine.tables in
-    let here = subst (λ ts. AllZip (IsIndexRow ts) (filter is_index_row (db catalog_tree)) s.indexes) tables found.indexes in
-    let indexes : s.indexes ≡ schema.indexes = zip_same (IsIndexRow schema.tables) (one_index schema.tables mine.named) _ s.indexes schema.indexes here mine.indexes in
+    let tables = same_tables s schema db other own in
+    let indexes = same_indexes s schema db other own in
     let views : s.views ≡ [] = zip_none _ _ _ s.views (subst (AllZip IsViewRow (filter is_view_row (db catalog_tree))) no_view mine.views) found.views in
     ap (λ ts. let it : Schema = record s { tables = ts } in it) tables ∙ ap (λ is. let it : Schema = record { tables = schema.tables; indexes = is; views = s.views } in it) indexes
     ∙ ap (λ vs. let it : Schema = record { tables = schema.tables; indexes = schema.indexes; views = vs } in it) (views ∙ sym no_view)

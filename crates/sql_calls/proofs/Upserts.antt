@@ -85,7 +85,7 @@ module _ (limit : Option ℕ) (schema : Schema) (bare : Table) (params : Row) (t
   judged new w None h = met new w h.0 h.1 h.2
   judged new w (Some why) h = absurd (let e = h in cc)
 
-  tried : (new : Row) (w : Written) → rows.Tries task Abort (clause ∷ []) new db (Ok w) → Puts schema table params target update new db w.trees
+  pub tried : (new : Row) (w : Written) → rows.Tries task Abort (clause ∷ []) new db (Ok w) → Puts schema table params target update new db w.trees
   tried new w (inl none) = absurd (let e = none.1 in cc)
   tried new w (inr it) = judged new w it.0 it.2
 

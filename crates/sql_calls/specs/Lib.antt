@@ -4,3 +4,4 @@ pub mod Keyed
 pub mod Faults
 pub mod Calls
 pub mod Standing
+pub mod KeyIndexes

@@ -47,7 +47,7 @@ module _ (a b : Context) (same : Same a b) (table : Table) where
   unfolding picked
   picked_same project test h = λ i. tests_same a b same [] test h i >>= (λ filter. take_steps >>= (λ steps. pure (simple (Inner table.tree ∷ steps) filter project)))
 
-  updated_same : (all : List (Name × Expr)) (test : Option Expr) → ArePlainSets all → IsPlainTest test → updated_in a table all test ≡ updated_in b table all test
+  pub updated_same : (all : List (Name × Expr)) (test : Option Expr) → ArePlainSets all → IsPlainTest test → updated_in a table all test ≡ updated_in b table all test
   unfolding updated_in
   updated_same all test h k =
       λ i. and_then (assigned_same all h i (fresh 2 max_budget)) (λ r. and_then (row table None r.0.0 (col 1 0 ∷ []) r.0.1) (λ project. value_of (picked_same project test k i r.1)))

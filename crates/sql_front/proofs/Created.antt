@@ -24,7 +24,7 @@ position_front test i at (x ∷ xs) ys h = go (test x) h (position_front test (i
     go true h more = h
     go false h more = more h
 
-slice_front : {X : Type 0} (xs ys : List X) (k : ℕ) (x : X) → slice_get xs k ≡ Some x → slice_get (xs ++ ys) k ≡ Some x
+pub slice_front : {X : Type 0} (xs ys : List X) (k : ℕ) (x : X) → slice_get xs k ≡ Some x → slice_get (xs ++ ys) k ≡ Some x
 slice_front [] ys k x h = absurd cc
 slice_front (y ∷ xs) ys zero x h = h
 slice_front (y ∷ xs) ys (suc k) x h = slice_front xs ys k x h

@@ -39,7 +39,7 @@ desk_table tree = record {
   is_counted = false;
 }
 
-abbrev module_table : ℕ → Table
+abbrev pub module_table : ℕ → Table
 module_table tree = record (desk_table tree) {
   name = codes "module";
   columns = strict (codes "number") Integer false ∷ strict (codes "name") Text true ∷ strict (codes "type") Text true ∷ strict (codes "version") Text true ∷ [];

@@ -1,5 +1,5 @@
 -- What CREATE TABLE makes of a database, where it also makes the list of AUTOINCREMENT's numbers and where it doesn't.
-use Rattle.std.proofs.Common.{◌≡◌, ◌⊎◌, inl, inr, refl, sym, ap, subst, ◌∙◌, ℕ, false, List, [], ◌∷◌, ◌++◌, append_assoc, codes, None, Ok, Err, Result}
+use Rattle.std.proofs.Common.{◌≡◌, ◌⊎◌, inl, inr, refl, sym, ap, subst, ◌∙◌, ℕ, false, List, [], ◌∷◌, ◌++◌, append-nil, append_assoc, codes, None, Ok, Err, Result, ◌+◌, slice_index_or}
 use Rattle.std.proofs.lemmas.Bool.{cases_Bool}
 use Rattle.sqlite.specs.Order.{Row}
 use Rattle.sqlite.specs.Tree.{Trees}
@@ -8,10 +8,14 @@ use Rattle.sqlite.specs.Effect.{Database}
 use Rattle.sqlite.specs.State.{State, Writes}
 use Rattle.sqlite.specs.Command.TheVariants.{CreateTable}
 use Rattle.sqlite_tied.specs.Compute.{everything}
+use Rattle.sqlite_value.specs.Keys.{plain}
+use Rattle.sqlite_schema.specs.declared.schema.Index.{Index}
 use Rattle.sqlite_schema.specs.declared.schema.Table.{Table}
+use Rattle.sqlite_rules.specs.Lists.{Has}
+use Rattle.sqlite_rules.proofs.ListLemmas.{has_either}
 use Rattle.sqlite_schema.specs.declared.schema.Schema.{Schema}
 use Rattle.sqlite_schema.specs.Names.{same_name}
-use Rattle.sqlite_catalog.specs.Change.{next_tree, is_used, created, KeepsRows}
+use Rattle.sqlite_catalog.specs.Change.{next_tree, is_used, created, automatics, KeepsRows}
 use Rattle.sqlite_resolve.specs.Compile.{table_defined_by, first, table_in}
 use Rattle.sqlite_resolve.specs.Scope.{Name}
 use Rattle.sqlite_resolve.specs.declared.error.CompileError.{CompileError}
@@ -25,6 +29,12 @@ went (inr on) = on
 same_value : {B E : Type 0} {a b : B} → ◌≡◌ {A = Result B E} (Ok a) (Ok b) → a ≡ b
 same_value e = cc
 
+-- one of the indexes that SQLite makes for a table in this tree
+pub record IsIndexOf (table : Table) (tree : ℕ) (index : Index) : Type 0 where
+  pub its : index.table ≡ tree
+  pub place : ℕ
+  pub order : index.order ≡ slice_index_or table.orders place plain
+
 -- the table is there with no row, those before it have their rows, and the names that it didn't take are free
 pub record Grown (s : Schema) (table : Table) (old new : Database) : Type 0 where
   pub more : List Table
@@ -32,6 +42,7 @@ pub record Grown (s : Schema) (table : Table) (old new : Database) : Type 0 wher
   pub bare : AreKeyless more
   pub empty : new.trees (next_tree s) ≡ []
   pub others : KeepsRows s.tables old.trees new.trees
+  pub indexes : (index : Index) → Has new.schema.indexes index → Has s.indexes index ⊎ IsIndexOf table (next_tree s) index
   pub free : (name : Name) → is_used s name ≡ false → same_name table.name name ≡ false → SparesIndexes table name → same_name (codes "sqlite_sequence") name ≡ false → is_used new.schema name ≡ false
 
 keeps_both : (front ours : List Table) (a b c : Trees) → KeepsRows front a b → KeepsRows (front ++ ours) b c → KeepsRows front a c
@@ -41,6 +52,22 @@ keeps_both (t ∷ front) ours a b c h k = (k.0 ∙ h.0, keeps_both front ours a 
 keeps_last : (front : List Table) (t : Table) (b c : Trees) → KeepsRows (front ++ t ∷ []) b c → c t.tree ≡ b t.tree
 keeps_last [] t b c k = k.0
 keeps_last (u ∷ front) t b c k = keeps_last front t b c k.1
+
+automatic_is : (table : Table) (tree at next : ℕ) (keys : List (List ℕ)) (index : Index) → Has (automatics (record table { tree = tree }) at next keys) index → IsIndexOf table tree index
+automatic_is table tree at next [] index h = absurd h
+automatic_is table tree at next (key ∷ keys) index (inl is) = record { its = ap (λ (i : Index). i.table) is; place = at; order = ap (λ (i : Index). i.order) is }
+automatic_is table tree at next (key ∷ keys) index (inr more) = automatic_is table tree (at + 1) (next + 1) keys index more
+
+created_indexes : (s : Schema) (table : Table) (index : Index) → Has (created s table).indexes index → Has s.indexes index ⊎ IsIndexOf table (next_tree s) index
+created_indexes s table index h = elim (has_either s.indexes _ index h) [
+  | inl was ↦ inl was
+  | inr new ↦ inr (automatic_is table (next_tree s) 0 (next_tree s + 1) table.uniques index new)
+]
+
+no_index : (s : Schema) (table : Table) (index : Index) → table.uniques ≡ [] → Has (created s table).indexes index → Has s.indexes index
+no_index s table index none h =
+    let all : (created s table).indexes ≡ s.indexes = ap (λ keys. s.indexes ++ automatics (record table { tree = next_tree s }) 0 (next_tree s + 1) keys) none ∙ append-nil s.indexes in
+    subst (λ l. Has l index) all h
 
 abbrev name_in : Result Table CompileError → Name
 name_in (Ok t) = t.name
@@ -68,6 +95,7 @@ finish s table old mid final is empty others h = elim (cases_Bool (lacks_sequenc
     tables = ap (λ (x : Schema). x.tables) is;
     empty = empty;
     others = others;
+    indexes = λ index h. created_indexes s table index (subst (λ (x : Schema). Has x.indexes index) is h);
     free = λ name unused other spares apart. rw is (still_free s table name unused other spares);
   })
 ]
@@ -84,6 +112,7 @@ finish s table old mid final is empty others h = elim (cases_Bool (lacks_sequenc
           tables = ap (λ (x : Schema). x.tables) made.is ∙ ap (λ ts. ts ++ record made.table { tree = next_tree mid.schema } ∷ []) tables ∙ append_assoc s.tables (new ∷ []) _;
           empty = keeps_last s.tables new mid.trees final.trees rows ∙ empty;
           others = keeps_both s.tables (new ∷ []) old.trees mid.trees final.trees others rows;
+          indexes = λ index h. created_indexes s table index (subst (λ (x : Schema). Has x.indexes index) is (no_index mid.schema made.table index known.1 (subst (λ (x : Schema). Has x.indexes index) made.is h)));
           free = λ name unused other spares apart. rw (made.is) (still_free mid.schema made.table name (rw is (still_free s table name unused other spares)) (rw (known.0) apart) (λ tree next i. rw (known.1) refl));
         }
 

@@ -7,12 +7,14 @@ use Rattle.sqlite_sql.specs.declared.ops.BinaryOp.TheVariants as by
 use Rattle.sqlite_value.specs.declared.keys.Collation.{Collation}
 use Rattle.sqlite_ast.specs.declared.Expr.{Expr, out-Expr}
 use Rattle.sqlite_ast.specs.declared.Binary.{Binary}
+use Rattle.sqlite_ast.specs.declared.Select.{Select}
 use Rattle.sqlite_ast.specs.Layer.{Layer}
 use Rattle.sqlite_ast.specs.declared.Expr.TheOpen.{Expr-F}
 use Rattle.sqlite_sql.specs.declared.aggregate.AggregateOp.TheVariants as folding
 use Rattle.sqlite_resolve.specs.declared.function.Function.{Function}
 use Rattle.sqlite_resolve.specs.declared.function.Function.TheVariants as function
-use Rattle.sqlite_resolve.specs.Expr.{operator, applied, both, operation, node_at, between, bounded, is_identity, tests_truth, tests_alias, wanted_truth, count_rows, function_named, star, star_by}
+use Rattle.sqlite_resolve.specs.declared.subquery.Purpose.TheVariants.{Exists}
+use Rattle.sqlite_resolve.specs.Expr.{operator, applied, both, operation, node_at, between, bounded, is_identity, tests_truth, tests_alias, wanted_truth, count_rows, function_named, star, star_by, counted}
 use Rattle.sqlite_resolve.specs.Lowering.{again}
 use Rattle.sqlite_sql.specs.declared.ops.CompareOp.{CompareOp}
 use Rattle.sqlite_sql.specs.declared.ops.CompareOp.TheVariants as compare
@@ -31,21 +33,26 @@ pub record Same (a b : Context) : Type 0 where
 abbrev pub IsSimple : Binary → Type 0
 IsSimple op = (is_identity op ≡ false) × ((cx : Context) (how : Collation) (x y : Term) → combine cx op how x y ≡ applied cx (operator how op) x y)
 
--- literals, parameters, columns, count(*), simple operators and BETWEEN
-abbrev pub PlainLayer : (Expr → Type 0) → Layer → Type 0
-PlainLayer P Expr-F.Null = ⊤
-PlainLayer P (Expr-F.Integer text) = ⊤
-PlainLayer P (Expr-F.Text text) = ⊤
-PlainLayer P (Expr-F.Parameter k) = ⊤
-PlainLayer P (Expr-F.Column table name) = ⊤
-PlainLayer P (Expr-F.CallStar name) = ⊤
-PlainLayer P (Expr-F.Binary op x y) = IsSimple op × P x × P y
-PlainLayer P (Expr-F.Between x low high) = P x × P low × P high
-PlainLayer P _ = ⊥
+-- literals, parameters, columns, count(*), simple operators, BETWEEN, and EXISTS of some queries
+abbrev pub PlainLayer : (Select → Type 0) → (Expr → Type 0) → Layer → Type 0
+PlainLayer Q P Expr-F.Null = ⊤
+PlainLayer Q P (Expr-F.Integer text) = ⊤
+PlainLayer Q P (Expr-F.Text text) = ⊤
+PlainLayer Q P (Expr-F.Parameter k) = ⊤
+PlainLayer Q P (Expr-F.Column table name) = ⊤
+PlainLayer Q P (Expr-F.CallStar name) = ⊤
+PlainLayer Q P (Expr-F.Binary op x y) = IsSimple op × P x × P y
+PlainLayer Q P (Expr-F.Between x low high) = P x × P low × P high
+PlainLayer Q P (Expr-F.Exists query) = Q query
+PlainLayer Q P _ = ⊥
+
+-- where EXISTS holds these queries alone, each at a depth
+abbrev pub IsPlainBut : (ℕ → Select → Type 0) → ℕ → Expr → Type 0
+IsPlainBut nested zero e = ⊤
+IsPlainBut nested (suc n) e = PlainLayer (nested n) (IsPlainBut nested n) (out-Expr e)
 
 abbrev pub IsPlain : ℕ → Expr → Type 0
-IsPlain zero e = ⊤
-IsPlain (suc n) e = PlainLayer (IsPlain n) (out-Expr e)
+IsPlain = IsPlainBut (λ n query. ⊥)
 
 module _ (a b : Context) (same : Same a b) where
   affinity_same : (t : Term) → affinity_of a t ≡ affinity_of b t
@@ -81,26 +88,31 @@ module _ (a b : Context) (same : Same a b) where
   star_same (function.Aggregate folding.Count) = λ i. count_rows (same.aggregates i)
   star_same _ = refl
 
-  layer_same : (low : Context → Expr → Lowering Term) (P : Expr → Type 0) → ((e : Expr) → P e → low a e ≡ low b e) → (l : Layer) → PlainLayer P l → node_at low a l ≡ node_at low b l
+  layer_same : (low : Context → Expr → Lowering Term) (Q : Select → Type 0) (P : Expr → Type 0) → ((query : Select) → Q query → counted low a Exists query ≡ counted low b Exists query) → ((e : Expr) → P e → low a e ≡ low b e)
+      → (l : Layer) → PlainLayer Q P l → node_at low a l ≡ node_at low b l
   unfolding between star
-  layer_same low P below Expr-F.Null h = refl
-  layer_same low P below (Expr-F.Integer text) h = refl
-  layer_same low P below (Expr-F.Text text) h = refl
-  layer_same low P below (Expr-F.Parameter k) h = refl
-  layer_same low P below (Expr-F.Column table name) h = same.columns table name
-  layer_same low P below (Expr-F.CallStar name) h = star_same (function_named name)
-  layer_same low P below (Expr-F.Binary op x y) h =
+  layer_same low Q P nested below Expr-F.Null h = refl
+  layer_same low Q P nested below (Expr-F.Integer text) h = refl
+  layer_same low Q P nested below (Expr-F.Text text) h = refl
+  layer_same low Q P nested below (Expr-F.Parameter k) h = refl
+  layer_same low Q P nested below (Expr-F.Column table name) h = same.columns table name
+  layer_same low Q P nested below (Expr-F.CallStar name) h = star_same (function_named name)
+  layer_same low Q P nested below (Expr-F.Binary op x y) h =
       is_two_sides low a op x y h.0
       ∙ (λ i. below x h.1 i >>= (λ t. last >>= (λ p. below y h.2 i >>= (λ u. last >>= (λ q. applied_same (operator (chosen p q) op) t u i)))))
       ∙ sym (is_two_sides low b op x y h.0)
-  layer_same low P below (Expr-F.Between x lo hi) h =
+  layer_same low Q P nested below (Expr-F.Between x lo hi) h =
       λ i. below x h.0 i >>= (λ t. last >>= (λ p. again t >>= (λ t'. bounded_same low compare.Ge t' p lo (below lo h.1) i >>= (λ above. bounded_same low compare.Le t p hi (below hi h.2) i >>= (λ under. pure (op2 by.And above under))))))
-  layer_same low P below _ h = absurd h
+  layer_same low Q P nested below (Expr-F.Exists query) h = nested query h
+  layer_same low Q P nested below _ h = absurd h
 
   -- whatever the schemas are, and wherever the tables stand in them
-  pub lower_same : (n : ℕ) (e : Expr) → IsPlain n e → lower_to n a e ≡ lower_to n b e
+  pub lower_same_but : (E : ℕ → Select → Type 0) → ((n : ℕ) (query : Select) → E n query → counted (lower_to n) a Exists query ≡ counted (lower_to n) b Exists query) → (n : ℕ) (e : Expr) → IsPlainBut E n e → lower_to n a e ≡ lower_to n b e
   unfolding lower_to node opened
-  lower_same zero e h = refl
-  lower_same (suc n) e h =
-      let inner = layer_same (lower_to n) (IsPlain n) (lower_same n) (out-Expr e) h in
+  lower_same_but E nested zero e h = refl
+  lower_same_but E nested (suc n) e h =
+      let inner = layer_same (lower_to n) (E n) (IsPlainBut E n) (nested n) (lower_same_but E nested n) (out-Expr e) h in
       λ i. spend 1 >> (begin >>= (λ outer. inner i >>= (λ t. finish outer (passes e) >> pure t)))
+
+  pub lower_same : (n : ℕ) (e : Expr) → IsPlain n e → lower_to n a e ≡ lower_to n b e
+  lower_same = lower_same_but (λ n query. ⊥) (λ n query h. absurd h)

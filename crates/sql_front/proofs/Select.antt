@@ -1,16 +1,17 @@
 -- A SELECT over one table is the same query wherever the table stands in the schema.
-use Rattle.std.proofs.Common.{◌≡◌, refl, ℕ, ◌==◌, Bool, true, false, not, Ok, Err, List, [], ◌∷◌, ◌++◌, length, Option, Some, None, slice_get}
+use Rattle.std.proofs.Common.{◌≡◌, refl, ℕ, ◌+◌, ◌==◌, nat_lt, Bool, true, false, not, Ok, Err, List, [], ◌∷◌, ◌++◌, length, Option, Some, None, slice_get}
 use Rattle.std.specs.Bool.{⊤, if◌then◌else◌}
 use Rattle.std.specs.Option.{unwrap_or, is_some}
 use Rattle.sqlite_value.specs.declared.keys.Key.{Key}
 use Rattle.sqlite_sql.specs.Term.{Term, reads_below}
-use Rattle.sqlite_resolve.specs.declared.error.CompileError.TheVariants.{Unsupported}
+use Rattle.sqlite_resolve.specs.declared.error.CompileError.TheVariants.{TooBig, Unsupported}
 use Rattle.sqlite_ast.specs.declared.Expr.{Expr}
 use Rattle.sqlite_ast.specs.declared.Expr.TheOpen.{Shown-F}
 use Rattle.sqlite_ast.specs.declared.Shown.{Shown, out-Shown}
 use Rattle.sqlite_ast.specs.declared.Source.{Source, out-Source}
 use Rattle.sqlite_ast.specs.declared.Origin.TheVariants as origin
 use Rattle.sqlite_ast.specs.declared.Core.{Core, out-Core}
+use Rattle.sqlite_ast.specs.declared.Select.{Select}
 use Rattle.sqlite_ast.specs.declared.Sort.{Sort, out-Sort}
 use Rattle.sqlite_ast.specs.Layer.{ShownLayer}
 use Rattle.sqlite_draft.specs.declared.join.Step.TheVariants.{Inner}
@@ -20,15 +21,16 @@ use Rattle.sqlite_schema.specs.Names.{table_named}
 use Rattle.sqlite_resolve.specs.declared.scope.Bound.{Bound}
 use Rattle.sqlite_resolve.specs.declared.scope.Output.{Output}
 use Rattle.sqlite_resolve.specs.declared.state.State.{State}
-use Rattle.sqlite_resolve.specs.Lowering.{Checked, ◌>>=◌, fail, pure, lift, last, fresh, max_budget, take_slot}
+use Rattle.sqlite_resolve.specs.Lowering.{Checked, Lowering, ◌>>=◌, fail, pure, lift, last, fresh, max_budget, take_slot}
 use Rattle.sqlite_resolve.specs.Scope.{Name, Context, shown_again}
 use Rattle.sqlite_resolve.specs.Terms.{conjuncts}
-use Rattle.sqlite_resolve.specs.Expr.{lower}
+use Rattle.sqlite_resolve.specs.Expr.{lower, lower_to, counted}
+use Rattle.sqlite_resolve.specs.declared.subquery.Purpose.TheVariants.{Exists}
 use Rattle.sqlite_resolve.specs.Body.{bounds, bound, table_in, is_column, shown, shown_at, outputs, outputs_from, tests, joins, join, inner_join, shared, result, matching, body}
 use Rattle.sqlite_resolve.specs.Order.{keys, key, sort, sorts, sorts_from, peeled, alias_in, aliased_or, is_numeral, place_in, collation_of, placed}
 use Rattle.sqlite_resolve.specs.Select.{having, parts, assembled, named}
-use Rattle.sql_front.proofs.Lower.{Same, IsPlain, lower_same}
-use Rattle.sql_front.proofs.OneTable.{over_one, same_columns, heading_same}
+use Rattle.sql_front.proofs.Lower.{Same, IsPlain, IsPlainBut, lower_same, lower_same_but}
+use Rattle.sql_front.proofs.OneTable.{one_bound, over_one, same_columns, heading_same}
 
 -- an expression with or without an alias, and not `*`
 abbrev pub IsPlainShown : ShownLayer → Type 0
@@ -39,16 +41,29 @@ abbrev pub ArePlainShown : List Shown → Type 0
 ArePlainShown [] = ⊤
 ArePlainShown (s ∷ more) = IsPlainShown (out-Shown s) × ArePlainShown more
 
+abbrev pub IsTestBut : (ℕ → Select → Type 0) → ℕ → Option Expr → Type 0
+IsTestBut nested n None = ⊤
+IsTestBut nested n (Some e) = IsPlainBut nested n e
+
 abbrev pub IsPlainTest : Option Expr → Type 0
-IsPlainTest None = ⊤
-IsPlainTest (Some e) = IsPlain 700 e
+IsPlainTest = IsTestBut (λ n query. ⊥) 700
 
 abbrev pub ArePlainSorts : List Sort → Type 0
 ArePlainSorts [] = ⊤
 ArePlainSorts (s ∷ more) = IsPlain 700 (peeled (out-Sort s).key) × ArePlainSorts more
 
--- FROM names one table, and nothing is grouped
-pub record IsOneTable (name : Name) (core : Core) (order : List Sort) : Type 0 where
+-- FROM names one table
+pub record IsFrom (name : Name) (from : List Source) : Type 0 where
+  pub source : Source
+  pub is : from ≡ source ∷ []
+  pub table : (out-Source source).origin ≡ origin.Table name
+  pub alias : (out-Source source).alias ≡ None
+  pub on : (out-Source source).on ≡ None
+  pub using : (out-Source source).using ≡ []
+  pub is_inner : (out-Source source).is_left ≡ false
+
+-- FROM names one table, WHERE is such a test, and nothing is grouped
+pub record IsOneTableBut (tested : Option Expr → Type 0) (name : Name) (core : Core) (order : List Sort) : Type 0 where
   pub source : Source
   pub from : (out-Core core).from ≡ source ∷ []
   pub table : (out-Source source).origin ≡ origin.Table name
@@ -59,17 +74,27 @@ pub record IsOneTable (name : Name) (core : Core) (order : List Sort) : Type 0 w
   pub group : (out-Core core).group ≡ []
   pub having : (out-Core core).having ≡ None
   pub shown : ArePlainShown (out-Core core).shown
-  pub filter : IsPlainTest (out-Core core).filter
+  pub filter : tested (out-Core core).filter
   pub sorts : ArePlainSorts order
 
+abbrev pub IsOneTable : Name → Core → List Sort → Type 0
+IsOneTable = IsOneTableBut IsPlainTest
+
+is_from : (tested : Option Expr → Type 0) (name : Name) (core : Core) (order : List Sort) → IsOneTableBut tested name core order → IsFrom name (out-Core core).from
+is_from tested name core order one = record { source = one.source; is = one.from; table = one.table; alias = one.alias; on = one.on; using = one.using; is_inner = one.is_inner }
+
 abbrev pub bound_at : Name → ℕ → Bound
-bound_at name at = record { name = name; table = at; slot = 1; shared = [] }
+bound_at name = one_bound name 1 []
 
 module _ (a b : Context) (same : Same a b) where
-  pub tests_same : (done : List Term) (e : Option Expr) → IsPlainTest e → tests lower a done e ≡ tests lower b done e
+  pub tests_same_but : (E : ℕ → Select → Type 0) → ((n : ℕ) (query : Select) → E n query → counted (lower_to n) a Exists query ≡ counted (lower_to n) b Exists query) → (n : ℕ) (done : List Term) (e : Option Expr) → IsTestBut E n e
+      → tests (lower_to n) a done e ≡ tests (lower_to n) b done e
   unfolding tests
-  tests_same done None h = refl
-  tests_same done (Some e) h = λ i. lower_same a b same 700 e h i >>= (λ t. pure (done ++ conjuncts t))
+  tests_same_but E nested n done None h = refl
+  tests_same_but E nested n done (Some e) h = λ i. lower_same_but a b same E nested n e h i >>= (λ t. pure (done ++ conjuncts t))
+
+  pub tests_same : (done : List Term) (e : Option Expr) → IsPlainTest e → tests lower a done e ≡ tests lower b done e
+  tests_same = tests_same_but (λ n query. ⊥) (λ n query h. absurd h) 700
 
   aliased_same : a.may_aggregate ≡ b.may_aggregate → (outs : List Output) (e : Expr) → IsPlain 700 e → (o : Option ℕ) → aliased_or lower a outs e o ≡ aliased_or lower b outs e o
   unfolding key
@@ -87,10 +112,10 @@ module _ (a b : Context) (same : Same a b) where
   sorts_same agg outs done (s ∷ more) h = λ i. sort_same agg outs done s h.0 i >>= (λ longer. sorts_same agg outs longer more h.1 i)
 
 module _ (s z : Schema) (at there : ℕ) (table : Table) (got : slice_get s.tables at ≡ Some table) (own : slice_get z.tables there ≡ Some table) (name : Name) where
-  abbrev over : Schema → ℕ → List Output → Bool → Context
+  abbrev pub over : Schema → ℕ → List Output → Bool → Context
   over schema k outs may_aggregate = over_one s z at there table got own name 1 [] outs may_aggregate true schema k
 
-  same_over : (outs : List Output) (agg : Bool) → Same (over s at outs agg) (over z there outs agg)
+  pub same_over : (outs : List Output) (agg : Bool) → Same (over s at outs agg) (over z there outs agg)
   same_over outs agg = same_columns s z at there table got own name 1 [] outs agg true
 
   one_same : (done : List Output) (l : ShownLayer) → IsPlainShown l → shown_at lower (over s at [] true) (bound_at name at ∷ []) done l ≡ shown_at lower (over z there [] true) (bound_at name there ∷ []) done l
@@ -106,20 +131,23 @@ module _ (s z : Schema) (at there : ℕ) (table : Table) (got : slice_get s.tabl
   outputs_same done [] h = refl
   outputs_same done (one ∷ more) h = λ i. one_same done (out-Shown one) h.0 i >>= (λ longer. outputs_same longer more h.1 i)
 
-module _ (name : Name) (s : Schema) (at : ℕ) (table : Table) (named_at : table_named s name ≡ Some at) (got : slice_get s.tables at ≡ Some table) (core : Core) (order : List Sort) (one : IsOneTable name core order) where
-  started : State
-  started = record (fresh 1 max_budget) { next = 2 }
-
-  bounds_known : bounds s (out-Core core).from (fresh 1 max_budget) ≡ Ok (bound_at name at ∷ [], record (fresh 1 max_budget) { next = 2 })
+module _ (name : Name) (s : Schema) (at : ℕ) (table : Table) (from : List Source) (one : IsFrom name from) where
+  pub bounds_known : table_named s name ≡ Some at → (st : State) → nat_lt st.next 250 ≡ true → bounds s from st ≡ Ok (one_bound name st.next [] at ∷ [], record st { next = st.next + 1 })
   unfolding bounds bound table_in take_slot
-  bounds_known = rw (one.from) (rw (one.table, one.alias, one.using) (rw named_at))
+  bounds_known named_at st low = rw (one.is) (rw (low, one.table, one.alias, one.using) (rw named_at))
 
-  joins_known : (cx : Context) (st : State) → cx.schema ≡ s → joins lower cx (bound_at name at ∷ []) (out-Core core).from st ≡ Ok (record { steps = Inner table.tree ∷ []; filter = [] }, st)
+  pub no_bounds : (st : State) → nat_lt st.next 250 ≡ false → bounds s from st ≡ Err TooBig
+  unfolding bounds bound take_slot
+  no_bounds st high = rw (one.is) (rw high)
+
+  pub joins_known : slice_get s.tables at ≡ Some table → (low : Context → Expr → Lowering Term) (slot : ℕ) (cx : Context) (st : State) → cx.schema ≡ s
+      → joins low cx (one_bound name slot [] at ∷ []) from st ≡ Ok (record { steps = Inner table.tree ∷ []; filter = [] }, st)
   unfolding joins join shared inner_join tests
-  joins_known cx st is = rw (one.from) (rw (one.on, one.using, one.is_inner) (rw (is, got)))
+  joins_known got low slot cx st is = rw (one.is) (rw (one.on, one.using, one.is_inner) (rw (is, got)))
 
 module _ (s z : Schema) (at there : ℕ) (table : Table) (name : Name) (named_at : table_named s name ≡ Some at) (got : slice_get s.tables at ≡ Some table) (named_there : table_named z name ≡ Some there) (own : slice_get z.tables there ≡ Some table)
-    (core : Core) (order : List Sort) (one : IsOneTable name core order) (page : Term × Term) where
+    (core : Core) (order : List Sort) (tested : Option Expr → Type 0) (one : IsOneTableBut tested name core order)
+    (alike : (outs : List Output) (e : Option Expr) → tested e → tests lower (over s z at there table got own name s at outs false) [] e ≡ tests lower (over s z at there table got own name z there outs false) [] e) (page : Term × Term) where
   abbrev in_s : List Output → Bool → Context
   in_s outs agg = over s z at there table got own name s at outs agg
 
@@ -142,22 +170,22 @@ module _ (s z : Schema) (at there : ℕ) (table : Table) (name : Name) (named_at
   shows_at = λ i. outputs_same s z at there table got own name [] (out-Core core).shown one.shown i start
 
   tests_at : (outs : List Output) (st : State) → tests lower (in_s outs false) [] (out-Core core).filter st ≡ tests_z outs st
-  tests_at outs st = λ i. tests_same (in_s outs false) (in_z outs false) (same_over s z at there table got own name outs false) [] (out-Core core).filter one.filter i st
+  tests_at outs st = λ i. alike outs (out-Core core).filter one.filter i st
 
   sorts_at : (outs : List Output) (st : State) → sorts_from lower (in_s outs (not (length st.aggregates == 0))) outs [] order st ≡ sorts_z outs st
   sorts_at outs st = λ i. sorts_same (in_s outs (not (length st.aggregates == 0))) (in_z outs (not (length st.aggregates == 0))) (same_over s z at there table got own name outs (not (length st.aggregates == 0))) refl outs [] order one.sorts i st
 
   bounds_s : bounds s (out-Core core).from (fresh 1 max_budget) ≡ Ok (bound_at name at ∷ [], start)
-  bounds_s = bounds_known name s at table named_at got core order one
+  bounds_s = bounds_known name s at table (out-Core core).from (is_from tested name core order one) named_at (fresh 1 max_budget) refl
 
   bounds_z : bounds z (out-Core core).from (fresh 1 max_budget) ≡ Ok (bound_at name there ∷ [], start)
-  bounds_z = bounds_known name z there table named_there own core order one
+  bounds_z = bounds_known name z there table (out-Core core).from (is_from tested name core order one) named_there (fresh 1 max_budget) refl
 
   joins_s : (outs : List Output) (st : State) → joins lower (in_s outs false) (bound_at name at ∷ []) (out-Core core).from st ≡ Ok (record { steps = Inner table.tree ∷ []; filter = [] }, st)
-  joins_s outs st = joins_known name s at table named_at got core order one (in_s outs false) st refl
+  joins_s outs st = joins_known name s at table (out-Core core).from (is_from tested name core order one) got lower 1 (in_s outs false) st refl
 
   joins_z : (outs : List Output) (st : State) → joins lower (in_z outs false) (bound_at name there ∷ []) (out-Core core).from st ≡ Ok (record { steps = Inner table.tree ∷ []; filter = [] }, st)
-  joins_z outs st = joins_known name z there table named_there own core order one (in_z outs false) st refl
+  joins_z outs st = joins_known name z there table (out-Core core).from (is_from tested name core order one) own lower 1 (in_z outs false) st refl
 
   by_sorts : (r : List Output × State) (q : List Term × State) (x : Checked (List (Term × Key) × State)) → shows_z ≡ Ok r → tests_z r.0 r.1 ≡ Ok q → sorts_z r.0 q.1 ≡ x → named s core order page ≡ named z core order page
   unfolding named parts body result outputs matching keys having tests sorts assembled
@@ -174,5 +202,11 @@ module _ (s z : Schema) (at there : ℕ) (table : Table) (name : Name) (named_at
   by_shows (Err e) h = rw (bounds_s, bounds_z) (rw (shows_at, h))
   by_shows (Ok r) h = by_tests r (tests_z r.0 r.1) h refl
 
-  pub same_named : named s core order page ≡ named z core order page
-  same_named = by_shows shows_z refl
+  pub same_named_but : named s core order page ≡ named z core order page
+  same_named_but = by_shows shows_z refl
+
+module _ (s z : Schema) (at there : ℕ) (table : Table) (name : Name) (named_at : table_named s name ≡ Some at) (got : slice_get s.tables at ≡ Some table) (named_there : table_named z name ≡ Some there) (own : slice_get z.tables there ≡ Some table) where
+  pub same_named : (core : Core) (order : List Sort) → IsOneTable name core order → (page : Term × Term) → named s core order page ≡ named z core order page
+  same_named core order one =
+      same_named_but s z at there table name named_at got named_there own core order IsPlainTest one
+      (λ outs e h. tests_same (over s z at there table got own name s at outs false) (over s z at there table got own name z there outs false) (same_over s z at there table got own name outs false) [] e h)

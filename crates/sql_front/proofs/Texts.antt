@@ -16,7 +16,7 @@ use Rattle.sqlite_resolve.specs.Program.{Shown}
 use Rattle.sqlite_resolve.specs.declared.compiled.Compiled.{Compiled}
 use Rattle.sqlite_resolve.specs.Compile.{compiled, first}
 use Rattle.sql_front.specs.Stands.{Stands}
-use Rattle.sql_front.proofs.Select.{IsOneTable, same_named}
+use Rattle.sql_front.proofs.Select.{IsOneTable, IsPlainTest, same_named}
 use Rattle.sql_front.proofs.Query.{Selects, accepted, select_known}
 
 abbrev pub alone : Table → Schema
@@ -48,5 +48,5 @@ module _ (text : List ℕ) (name : Name) (table : Table) (body : Query) (columns
       let same = same_named s (alone table) at 0 table name stands.named stands.got r.named_alone refl _ _ r.one r.page in
       let fits = accepted s body table r.over stands.stored stands.found r.fits in
       let known : compiled s text ≡ Ok (with_query r.parsed (query_of r.shown.0) r.shown.1) =
-      select_known s text name r.parsed r.select r.page r.shown r.read r.selects r.one (r.paged s) (same ∙ r.known) (subst (λ b. accepts_program s [] b [] ≡ true) (sym r.is_body) fits) in
+      select_known s IsPlainTest text name r.parsed r.select r.page r.shown r.read r.selects r.one (r.paged s) (same ∙ r.known) (subst (λ b. accepts_program s [] b [] ≡ true) (sym r.is_body) fits) in
       rw (r.is_body, r.are_columns) at known

@@ -1,0 +1,94 @@
+-- What a SELECT over a table whose k-th row has number k shows, where WHERE asks whether a second table has a row.
+use Rattle.std.proofs.Common.{◌≡◌, ◌<◌, ℕ, suc, ◌+◌, min, pos, List, [], ◌∷◌, ◌++◌, length, map, filter, flat_map, Bool, true, false, cond, ◌||◌, refl, sym, ap, ap₂, subst, ◌∙◌, arith, Less, IsPermutation}
+use Rattle.std.specs.List.{list_all, list_any}
+use Rattle.std.proofs.lemmas.List.Sorted.{list_any-IsPermutation}
+use Rattle.sqlite_value.specs.declared.value.Value.TheVariants.{Int}
+use Rattle.sqlite_value.specs.Order.{Row}
+use Rattle.sqlite_trees.specs.Tree.{rowid}
+use Rattle.sqlite.specs.Tree.{Trees}
+use Rattle.sqlite.specs.Term.{Term, Env, eval_all, holds}
+use Rattle.sqlite.specs.Query.{Query, Output, inner, counted, end, output, output_cmp, page, IsAnswer}
+use Rattle.sqlite.specs.Program.{overlay}
+use Rattle.sqlite_sql.specs.Ops.{is_true}
+use Rattle.sqlite_sql.proofs.QueryLemmas.{output_cmp_total}
+use Rattle.sqlite_keyed.proofs.SortLemmas.{sorted_unique}
+use Rattle.sqlite_keyed.proofs.ListLemmas.{map-map}
+use Rattle.sql_calls.specs.Keyed.{AreIn, IsHeldBy, rows_from}
+use Rattle.sql_calls.proofs.KeyedRows.{IsBlind, on_content}
+use Rattle.sql_calls.proofs.NumberedTables.{less, number_query, rises}
+use Rattle.sql_calls.proofs.Selects.{no_overlay}
+
+-- ---- a row of the second table
+
+-- the rows of these beside a row, each an environment of the parameters and the two
+abbrev pub beside : List Term → Row → Row → List Row → List Env
+beside inside params r rows = flat_map (λ g. cond (list_all (holds (params ∷ r ∷ g ∷ [])) inside) ((params ∷ r ∷ g ∷ []) ∷ []) []) rows
+
+abbrev pub is_beside : List Term → Row → Row → Row → Bool
+is_beside inside params r g = list_all (holds (params ∷ r ∷ g ∷ [])) inside
+
+-- the count of them, as far as one, tells whether there is any
+pub counts_any : (inside : List Term) (params r : Row) (rows : List Row) → is_true (Int (pos (min 1 (length (beside inside params r rows))))) ≡ list_any (is_beside inside params r) rows
+counts_any inside params r [] = refl
+counts_any inside params r (g ∷ rows) = go (is_beside inside params r g) (counts_any inside params r rows)
+  where
+    go : (b : Bool) → is_true (Int (pos (min 1 (length (beside inside params r rows))))) ≡ list_any (is_beside inside params r) rows
+        → is_true (Int (pos (min 1 (length (cond b ((params ∷ r ∷ g ∷ []) ∷ []) [] ++ beside inside params r rows))))) ≡ (b || list_any (is_beside inside params r) rows)
+    go true h = let one : min 1 (suc (length (beside inside params r rows))) ≡ 1 = omega arith in ap (λ m. is_true (Int (pos m))) one
+    go false h = h
+
+-- of a test that doesn't see the rowid
+module _ (p : Row → Bool) (blind : IsBlind p) where
+  any_in : (k : ℕ) (rows xs : List Row) → AreIn k rows xs → list_any p rows ≡ list_any (on_content p) xs
+  any_in k [] [] h = refl
+  any_in k [] (x ∷ xs) h = absurd h
+  any_in k (r ∷ rows) [] h = absurd h
+  any_in k (r ∷ rows) (x ∷ xs) h = ap₂ ◌||◌ (ap p h.2 ∙ blind _ x) (any_in (h.0 + 1) rows xs h.3)
+
+  -- whether a row passes doesn't depend on the order in which the rows are held
+  pub held_any : (rows wanted : List Row) → IsHeldBy rows wanted → list_any p rows ≡ list_any (on_content p) wanted
+  held_any rows wanted h = any_in 1 rows h.order h.rising ∙ sym (list_any-IsPermutation (on_content p) wanted h.order h.same)
+
+-- ---- the query
+
+-- SELECT .. FROM the table WHERE .. AND EXISTS (SELECT 1 FROM the other WHERE ..) ORDER BY number LIMIT .. OFFSET ..
+module _ {X : Type 0} (f : ℕ → X → Row) (ids : (n : ℕ) (x : X) → rowid (f n x) ≡ Int (pos n)) (tree other : ℕ) (inside test shows : List Term) (limit offset : Term) where
+  abbrev pub within_query : Query
+  within_query = record (number_query f ids tree test shows limit offset) { from = inner tree (counted 1 (inner other end) inside end) }
+
+  module _ (params : Row) (rows : List Row) where
+    -- a row, and whether there is any beside it
+    abbrev pub seen : Row → Env
+    seen r = params ∷ r ∷ (Int (pos (min 1 (length (beside inside params r rows)))) ∷ []) ∷ []
+
+    abbrev pub passes_within : Row → Bool
+    passes_within r = list_all (holds (seen r)) test
+
+    abbrev show : Row → Output
+    show r = output within_query (seen r)
+
+    abbrev staged : Row → List Env
+    staged r = cond (passes_within r) (seen r ∷ []) []
+
+    outputs : (xs : List Row) → map (output within_query) (flat_map staged xs) ≡ map show (filter passes_within xs)
+    outputs [] = refl
+    outputs (r ∷ xs) = go (passes_within r) (outputs xs)
+      where
+        go : (b : Bool) → map (output within_query) (flat_map staged xs) ≡ map show (filter passes_within xs)
+            → map (output within_query) (cond b (seen r ∷ []) [] ++ flat_map staged xs) ≡ map show (cond b (r ∷ filter passes_within xs) (filter passes_within xs))
+        go true h = ap (λ l. show r ∷ l) h
+        go false h = h
+
+    below : (m n : ℕ) (x y : X) → m < n → output_cmp within_query (show (f m x)) (show (f n y)) ≡ Less
+    below m n x y h = rw (ids m x, ids n y, less m n h) refl
+
+  pub within_in_order : (params : Row) (db : Trees) (xs : List X) → db tree ≡ rows_from f 1 xs → (rows : List Row) → IsAnswer within_query (overlay db []) params rows
+      → rows ≡ page within_query params (map (λ r. eval_all shows (seen params (db other) r)) (filter (passes_within params (db other)) (rows_from f 1 xs)))
+  within_in_order params db xs was rows a =
+      let there = db other in
+      let on : a.staged ≡ flat_map (staged params there) (rows_from f 1 xs) = a.grouped ∙ rw (no_overlay db tree, no_overlay db other) (ap (flat_map (staged params there)) was) in
+      let kept : a.kept ≡ map (show params there) (filter (passes_within params there) (rows_from f 1 xs)) = a.distinct ∙ ap (map (output within_query)) on ∙ outputs params there (rows_from f 1 xs) in
+      let same = subst (λ l. IsPermutation l a.ordered) kept a.same in
+      a.shown ∙ ap (λ l. page within_query params (map (λ (o : Output). o.1) l))
+      (sorted_unique (output_cmp within_query) (output_cmp_total within_query) _ a.ordered (rises f (output_cmp within_query) (show params there) (passes_within params there) (below params there) 1 xs) same a.sorted)
+      ∙ ap (page within_query params) (map-map (λ (o : Output). o.1) (show params there) _)

@@ -1,0 +1,174 @@
+-- INSERT .. SELECT .. ON CONFLICT means the same wherever its two tables stand in the schema.
+use Rattle.std.proofs.Common.{◌≡◌, inl, inr, refl, sym, ap, subst, ◌∙◌, ℕ, ◌+◌, ◌==◌, true, false, ◌&&◌, Ok, List, [], ◌∷◌, ◌++◌, length, find, Some, None, slice_get, codes, Bool, cond, ◌||◌, arith}
+use Rattle.std.proofs.lemmas.Bool.{eqb-true, eq-eqb}
+use Rattle.sqlite_value.specs.declared.keys.Collation.{Collation}
+use Rattle.sqlite_sql.specs.Query.{Query, inner, end}
+use Rattle.sqlite_sql.specs.Term.{Term}
+use Rattle.sqlite_ast.specs.declared.Rows.TheVariants as rows
+use Rattle.sqlite_ast.specs.declared.Select as written_select
+use Rattle.sqlite_ast.specs.declared.Upsert as written_clause
+use Rattle.sqlite_ast.specs.declared.Conflict.TheVariants as conflict
+use Rattle.sqlite_ast.specs.declared.Statement.TheVariants as written
+use Rattle.sqlite_syntax.specs.declared.statement.Parsed.{Parsed}
+use Rattle.sqlite_draft.specs.declared.query.Draft.{Draft}
+use Rattle.sqlite_draft.specs.Query.{query_of}
+use Rattle.sqlite_schema.specs.declared.schema.Schema.{Schema}
+use Rattle.sqlite_schema.specs.declared.schema.Table.{Table}
+use Rattle.sqlite_schema.specs.declared.schema.Index.{Index}
+use Rattle.sqlite_rules.specs.Lists.{Has}
+use Rattle.sqlite_schema.specs.declared.command.Source.TheVariants as source
+use Rattle.sqlite_schema.specs.declared.command.Upsert.{Upsert}
+use Rattle.sqlite_schema.specs.declared.command.Conflict.TheVariants as how
+use Rattle.sqlite_schema.specs.declared.command.Command.TheVariants.{InsertOr}
+use Rattle.sqlite_schema.specs.Names.{table_named}
+use Rattle.sqlite_typing.specs.Types.{accepts_program, accepts_after, is_count, row_classes}
+use Rattle.sqlite_resolve.specs.declared.compiled.Compiled.{Compiled}
+use Rattle.sqlite_resolve.specs.Scope.{Name, Context}
+use Rattle.sqlite_resolve.specs.Select.{named, paging}
+use Rattle.sqlite_resolve.specs.Write.{places, as_row, inserted, selected, updated_in}
+use Rattle.sqlite_resolve.specs.Program.{Shown, program}
+use Rattle.sqlite_resolve.specs.Given.{given, with_given, at_rowid, key_at, is_key_at, are_among, key_meant, do_update, update, upsert, upserts}
+use Rattle.sqlite_resolve.specs.Compile.{compiled, first, planned, meaning, timed, returning, command, shows, insert_or_abort, insert_or, new_rows, source_of, queried, small}
+use Rattle.sql_front.specs.Stands.{Stands}
+use Rattle.sql_front.proofs.Past.{slice_past}
+use Rattle.sql_front.proofs.Created.{slice_front}
+use Rattle.sql_front.proofs.Select.{IsOneTable, IsPlainTest, same_named}
+use Rattle.sql_front.proofs.Query.{accepted, query_known}
+use Rattle.sql_front.proofs.Texts.{alone}
+use Rattle.sql_front.proofs.Change.{ArePlainSets, updated_same}
+use Rattle.sql_front.proofs.Write.{unstamped}
+use Rattle.sql_front.proofs.TwoTables.{Holding, seeing, same_two}
+
+abbrev pub excluded : Name
+excluded = codes "excluded"
+
+-- ---- the table, and the row that was to be added to it
+
+module _ (table : Table) (base : ℕ) where
+  abbrev pub with_excluded : (s : Schema) (at : ℕ) → slice_get s.tables at ≡ Some table → Holding (with_given s table base) table (given table base)
+  with_excluded s at got = record {
+    at = at;
+    got = slice_front s.tables (given table base ∷ []) at table got;
+    beside = length s.tables;
+    got_beside = let none_more : length s.tables + 0 ≡ length s.tables = omega arith in ap (slice_get (s.tables ++ given table base ∷ [])) (sym none_more) ∙ slice_past s.tables (given table base ∷ []) 0;
+  }
+
+  -- what the clause reads
+  abbrev pub on_conflict : (s : Schema) (at : ℕ) → slice_get s.tables at ≡ Some table → Context
+  on_conflict s at got = seeing table (given table base) table.name excluded 1 0 (with_given s table base) (with_excluded s at got)
+
+-- what computes of a text that puts what a query over one table shows into another table, over those two alone
+pub record Upserts (text : List ℕ) (name : Name) (table : Table) (from : Name) (read : Table) (body : Query) (key : List ℕ) (setter : Query) : Type 0 where
+  pub parsed : Parsed
+  pub columns : List Name
+  pub select : written_select.Select
+  pub clause : written_clause.Upsert
+  pub is_read : first text ≡ Ok parsed
+  pub statement : parsed.statement ≡ written.Insert conflict.Abort name columns (rows.Select select) (clause ∷ []) []
+  pub formats : parsed.formats ≡ []
+  -- the query
+  pub page : Term × Term
+  pub shown : Shown
+  pub with : (written_select.out-Select select).with ≡ []
+  pub others : (written_select.out-Select select).others ≡ []
+  pub one : IsOneTable from (written_select.out-Select select).first (written_select.out-Select select).order
+  pub paged : (s : Schema) → paging s select ≡ Ok page
+  pub named_alone : table_named (alone read) from ≡ Some 0
+  pub known : named (alone read) (written_select.out-Select select).first (written_select.out-Select select).order page ≡ Ok shown
+  -- its rows, as the table has them
+  pub at : List ℕ
+  pub terms : List Term
+  pub by : List Collation
+  pub placed : places (unstamped table) columns ≡ Ok at
+  pub laid_out : as_row (unstamped table) (small parsed.names + small []) at shown.0 ≡ Ok (terms, by)
+  pub is_body : query_of (record shown.0 { project = terms; collations = by }) ≡ body
+  pub over : body.from ≡ inner read.tree end
+  pub fits : (accepts_after [] body (Some (row_classes read ∷ [])) && (is_count [] body.limit && is_count [] body.offset)) ≡ true
+  -- the clause
+  pub aimed : (length clause.target == 0) ≡ false
+  pub key_is : places (unstamped table) clause.target ≡ Ok key
+  pub sets : (length clause.sets == 0) ≡ false
+  pub values : ArePlainSets clause.sets
+  pub filter : IsPlainTest clause.filter
+  pub draft : Draft
+  pub updated : updated_in (on_conflict (unstamped table) (small parsed.names + small []) (alone (unstamped table)) 0 refl) (unstamped table) clause.sets clause.filter ≡ Ok draft
+  pub is_setter : query_of (at_rowid (small parsed.names + small []) draft) ≡ setter
+  pub setter_over : setter.from ≡ inner table.tree end
+  pub setter_fits : (accepts_after [] setter (Some (row_classes (unstamped table) ∷ [])) && (is_count [] setter.limit && is_count [] setter.offset)) ≡ true
+
+abbrev pub upsert_of : List ℕ → Query → Upsert
+upsert_of key setter = record { target = Some key; update = Some (record { lets = []; body = setter }) }
+
+abbrev pub with_upsert : Parsed → ℕ → Query → Upsert → Compiled
+with_upsert p at body clause = record { command = InsertOr at how.Abort (source.Query (record { lets = []; body = body })) (clause ∷ []); returning = None; names = p.names; formats = []; start = p.start; end = p.end; tail = p.tail }
+
+module _ (text : List ℕ) (name : Name) (table : Table) (from : Name) (read : Table) (body : Query) (key : List ℕ) (setter : Query) (u : Upserts text name table from read body key setter) (s : Schema) (at there : ℕ)
+    (stands : Stands s name at (unstamped table)) (stands_there : Stands s from there read) (keyed : key_at s (unstamped table) key ≡ Ok key) where
+  abbrev base : ℕ
+  base = small u.parsed.names + small []
+
+  rows_known : new_rows s (unstamped table) base u.columns (rows.Select u.select) ≡ Ok (source.Query (record { lets = []; body = body }))
+  unfolding new_rows inserted selected source_of queried program
+  rows_known =
+      let same = same_named s (alone read) there 0 read from stands_there.named stands_there.got u.named_alone refl _ _ u.one u.page in
+      let query = query_known s IsPlainTest from u.select u.page u.shown u.with u.others u.one (u.paged s) (same ∙ u.known) in
+      let laid : Draft = record u.shown.0 { project = u.terms; collations = u.by } in
+      let fits : accepts_program s [] (query_of laid) [] ≡ true = subst (λ q. accepts_program s [] q [] ≡ true) (sym u.is_body) (accepted s body read u.over stands_there.stored stands_there.found u.fits) in
+      let is : new_rows s (unstamped table) base u.columns (rows.Select u.select) ≡ Ok (source.Query (record { lets = []; body = query_of laid })) = rw (u.placed) (rw (query) (rw (u.laid_out) (rw (fits)))) in
+      is ∙ ap (λ (q : Query). Ok (source.Query (record { lets = []; body = q }))) u.is_body
+
+  clause_known : upserts s at (unstamped table) base (u.clause ∷ []) ≡ Ok (upsert_of key setter ∷ [])
+  unfolding upserts upsert key_meant update do_update program
+  clause_known =
+      let contexts = same_two (unstamped table) (given (unstamped table) base) table.name excluded 1 0 (with_given s (unstamped table) base) (with_given (alone (unstamped table)) (unstamped table) base)
+      (with_excluded (unstamped table) base s at stands.got) (with_excluded (unstamped table) base (alone (unstamped table)) 0 refl) in
+      let draft = updated_same _ _ contexts (unstamped table) u.clause.sets u.clause.filter u.values u.filter ∙ u.updated in
+      let set_by = query_of (at_rowid base u.draft) in
+      let fits : accepts_program s [] set_by [] ≡ true = subst (λ q. accepts_program s [] q [] ≡ true) (sym u.is_setter) (accepted s setter (unstamped table) u.setter_over stands.stored stands.found u.setter_fits) in
+      let is : upserts s at (unstamped table) base (u.clause ∷ []) ≡ Ok (upsert_of key set_by ∷ []) = rw (u.aimed) (rw (u.key_is) (rw (keyed) (rw (u.sets) (rw (draft) (rw (fits)))))) in
+      is ∙ ap (λ (q : Query). Ok (upsert_of key q ∷ [])) u.is_setter
+
+  pub upserts_known : compiled s text ≡ Ok (with_upsert u.parsed at body (upsert_of key setter))
+  unfolding compiled planned meaning timed returning command shows insert_or_abort insert_or
+  upserts_known = rw (u.is_read) (rw (u.statement) (rw (u.formats) (rw (stands.named) (rw (stands.got) (rw (rows_known) (rw (clause_known)))))))
+
+-- ---- the key
+
+is_first : (a b : ℕ) → ((a == b || false) && true) ≡ true → a ≡ b
+is_first a b h = eqb-true a b (both (a == b) h)
+  where
+    both : (x : Bool) → ((x || false) && true) ≡ true → x ≡ true
+    both true e = refl
+    both false e = absurd cc
+
+is_one : (c : ℕ) (columns : List ℕ) → (length columns == 1) ≡ true → are_among (c ∷ []) columns ≡ true → columns ≡ c ∷ []
+is_one c [] long h = absurd cc
+is_one c (x ∷ []) long h = ap (λ y. y ∷ []) (sym (is_first c x h))
+is_one c (x ∷ y ∷ more) long h = absurd (let e : length (x ∷ y ∷ more) ≡ 1 = eqb-true _ 1 long in omega arith)
+
+in_all : (a b c d e : Bool) → (a && b && c && d && e) ≡ true → (c ≡ true) × (d ≡ true)
+in_all true true true true e h = (refl, refl)
+in_all true true true false e h = absurd cc
+in_all true true false d e h = absurd cc
+in_all true false c d e h = absurd cc
+in_all false b c d e h = absurd cc
+
+found_one : {X : Type 0} (test : X → Bool) (xs : List X) (x : X) → Has xs x → test x ≡ true → (y : X) × (find test xs ≡ Some y) × (test y ≡ true)
+found_one test [] x there is = absurd there
+found_one {X} test (y ∷ xs) x there is = go (test y) refl (λ more. found_one test xs x more is) there
+  where
+    go : (b : Bool) → test y ≡ b → (Has xs x → (z : X) × (find test xs ≡ Some z) × (test z ≡ true)) → Has (y ∷ xs) x → (z : X) × (cond b (Some y) (find test xs) ≡ Some z) × (test z ≡ true)
+    go true here further at = (y, refl, here)
+    go false here further (inl same) = absurd (let e : test y ≡ true = ap test (sym same) ∙ is in cc)
+    go false here further (inr more) = further more
+
+-- A column that a unique index stands on alone is a key.
+pub key_found : (s : Schema) (table : Table) (c : ℕ) → (c == 0) ≡ false → (index : Index) → Has s.indexes index → index.is_unique ≡ true → index.table ≡ table.tree → index.columns ≡ c ∷ [] → key_at s table (c ∷ []) ≡ Ok (c ∷ [])
+unfolding key_at is_key_at
+key_found s table c other index there unique its columns =
+    let same : (table.tree == table.tree) ≡ true = eq-eqb table.tree table.tree refl in
+    let self : (c == c) ≡ true = eq-eqb c c refl in
+    let is : is_key_at table (c ∷ []) index ≡ true = rw (unique, its, columns) (rw (same, self)) in
+    let it = found_one (is_key_at table (c ∷ [])) s.indexes index there is in
+    let parts = in_all it.0.is_unique (it.0.table == table.tree) (length it.0.columns == 1) (are_among (c ∷ []) it.0.columns) (are_among it.0.columns (c ∷ [])) it.2 in
+    rw (other) (rw (it.1) (ap (λ (l : List ℕ). Ok l) (is_one c it.0.columns parts.0 parts.1)))
