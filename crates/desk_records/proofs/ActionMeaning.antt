@@ -6,7 +6,7 @@ use Rattle.sqlite.specs.Collation.TheVariants.{Binary}
 use Rattle.sqlite.specs.Schema.{Schema}
 use Rattle.sqlite.specs.Command.TheVariants.{Select, Insert, Update, Delete}
 use Rattle.sqlite.specs.Source.TheVariants.{Values}
-use Rattle.sqlite.specs.Query.{Query}
+use Rattle.sqlite.specs.Query.{Query, inner, counted, end}
 use Rattle.sqlite.specs.Term.{Term, lit, col}
 use Rattle.sqlite_tied.specs.Compute.{everything}
 use Rattle.sqlite_resolve.specs.Compile.{first, new_rows, is_reserved}
@@ -15,13 +15,14 @@ use Rattle.sqlite_resolve.specs.Select.{named, paging}
 use Rattle.sqlite_resolve.specs.Write.{updated, deleted}
 use Rattle.sql_front.specs.Stands.{Stands}
 use Rattle.sql_front.proofs.Texts.{Queries, queries_known}
+use Rattle.sql_front.proofs.TextsWithin.{QueriesWithin, queries_known_within}
 use Rattle.sql_front.proofs.Write.{Adds, Makes, adds_known}
 use Rattle.sql_front.proofs.Change.{Updates, Removes, updates_known, removes_known}
 use Rattle.sql_calls.proofs.Means.{Means}
 use Rattle.sql_calls.proofs.Selects.{simple, by}
-use Rattle.desk_records.specs.declared.action_texts.TheConstants.{CREATE_ACTION, CREATE_FEEDBACK, CREATE_OFFER, LAST_ACTION, GET_ACTION, LIST_ACTIONS, LIST_TARGET_ACTIONS, PUT_ACTION, SET_ACTION, PUT_FEEDBACK, LIST_ENTRIES, GET_OFFER, PUT_OFFER, SET_OFFER, DROP_OFFER}
-use Rattle.desk_records.specs.Schema.{action_table, feedback_table, offer_table}
-use Rattle.desk_records.proofs.MeaningWords.{means_of, at_key}
+use Rattle.desk_records.specs.declared.action_texts.TheConstants.{CREATE_ACTION, CREATE_FEEDBACK, CREATE_OFFER, LAST_ACTION, GET_ACTION, LIST_ACTIONS, LIST_TARGET_ACTIONS, PUT_ACTION, SET_ACTION, PUT_FEEDBACK, LIST_ENTRIES, GET_OFFER, SET_OFFER, DROP_OFFER, NEXT_OFFER}
+use Rattle.desk_records.specs.Schema.{action_table, feedback_table, offer_table, group_table}
+use Rattle.desk_records.proofs.MeaningWords.{means_of, is_equal, is_least, is_most, at_key}
 
 pub create_action_makes : Makes CREATE_ACTION.now (codes "action") (action_table 0)
 unfolding first is_reserved everything
@@ -259,16 +260,6 @@ get_offer_queries tree = record {
 pub get_offer_is : (s : Schema) (at tree : ℕ) → Stands s (codes "offer") at (offer_table tree) → Means s GET_OFFER.now (Select (record { lets = []; body = simple tree of_controller offer_columns }) (codes "action" ∷ codes "kind" ∷ []))
 get_offer_is s at tree stands = means_of s GET_OFFER.now _ (queries_known _ _ _ _ _ (get_offer_queries tree) s at stands) refl refl
 
-abbrev pub offer_terms : List Term
-offer_terms = lit Null ∷ col 0 0 ∷ col 0 1 ∷ col 0 2 ∷ []
-
-put_offer_adds : (tree : ℕ) → Adds PUT_OFFER.now (codes "offer") (offer_table tree) (Values offer_terms 4)
-unfolding first new_rows everything
-put_offer_adds tree = record { parsed = _; columns = _; rows = _; read = refl; statement = refl; formats = refl; fits = λ s. refl }
-
-pub put_offer_is : (s : Schema) (at tree : ℕ) → Stands s (codes "offer") at (offer_table tree) → Means s PUT_OFFER.now (Insert at (Values offer_terms 4))
-put_offer_is s at tree stands = means_of s PUT_OFFER.now _ (adds_known _ _ (offer_table tree) _ (put_offer_adds tree) s at stands) refl refl
-
 abbrev pub offer_values : List Term
 offer_values = col 1 1 ∷ col 0 1 ∷ col 0 2 ∷ []
 
@@ -317,3 +308,65 @@ drop_offer_removes tree = record {
 
 pub drop_offer_is : (s : Schema) (at tree : ℕ) → Stands s (codes "offer") at (offer_table tree) → Means s DROP_OFFER.now (Delete at (record { lets = []; body = drop_offer_query tree }))
 drop_offer_is s at tree stands = means_of s DROP_OFFER.now _ (removes_known _ _ _ _ (drop_offer_removes tree) s at stands) refl refl
+
+abbrev pub next_group : List Term
+next_group = is_equal (col 2 1) (col 1 2) ∷ is_most (col 2 3) (col 1 3) ∷ is_least (col 2 4) (col 1 3) ∷ is_equal (col 2 5) (lit (Int (pos 1))) ∷ []
+
+abbrev pub next_action : List Term
+next_action = at_key 4 0 ∷ is_equal (col 1 6) (lit (Int (pos 0))) ∷ col 2 0 ∷ []
+
+abbrev pub next_columns : List Term
+next_columns = col 1 0 ∷ col 1 5 ∷ []
+
+abbrev pub next_offer_query : ℕ → ℕ → Query
+next_offer_query tree other = record (by (simple tree next_action next_columns) ((col 1 0, record { descending = false; collation = Binary }) ∷ []) (lit (Int (pos 1))) (lit (Int (pos 0)))) { from = inner tree (counted 1 (inner other end) next_group end) }
+
+next_offer_queries : (tree other : ℕ) → QueriesWithin NEXT_OFFER.now (codes "action") (action_table tree) (codes "rollout_group") (group_table other) (next_offer_query tree other) (codes "number" ∷ codes "canceling" ∷ [])
+unfolding first combine named paging everything
+next_offer_queries tree other = record {
+  parsed = _;
+  select = _;
+  page = _;
+  shown = _;
+  read = refl;
+  selects = record { statement = refl; formats = refl; with = refl; others = refl };
+  one = record {
+    source = _;
+    from = refl;
+    table = refl;
+    alias = refl;
+    on = refl;
+    using = refl;
+    is_inner = refl;
+    group = refl;
+    having = refl;
+    shown = (tt, (tt, tt));
+    filter = (
+      (refl, λ cx how x y. refl),
+      ((refl, λ cx how x y. refl), ((refl, λ cx how x y. refl), tt, tt), ((refl, λ cx how x y. refl), tt, tt)),
+      record {
+        from = record { source = _; is = refl; table = refl; alias = refl; on = refl; using = refl; is_inner = refl };
+        show = _;
+        shows = refl;
+        number = (tt, tt);
+        filter = ((refl, λ cx how x y. refl), ((refl, λ cx how x y. refl), ((refl, λ cx how x y. refl), ((refl, λ cx how x y. refl), tt, tt), ((refl, λ cx how x y. refl), tt, tt)), ((refl, λ cx how x y. refl), tt, tt)), ((refl, λ cx how x y. refl), tt, tt));
+      },
+    );
+    sorts = (tt, tt);
+  };
+  paged = λ s. refl;
+  named_first = refl;
+  named_second = refl;
+  known = refl;
+  is_body = refl;
+  are_columns = refl;
+  cap = _;
+  test = _;
+  over = refl;
+  tests_fit = refl;
+  fits = refl;
+}
+
+pub next_offer_is : (s : Schema) (at tree nest other : ℕ) → Stands s (codes "action") at (action_table tree) → Stands s (codes "rollout_group") nest (group_table other)
+    → Means s NEXT_OFFER.now (Select (record { lets = []; body = next_offer_query tree other }) (codes "number" ∷ codes "canceling" ∷ []))
+next_offer_is s at tree nest other stands stands' = means_of s NEXT_OFFER.now _ (queries_known_within _ _ _ _ _ _ _ (next_offer_queries tree other) s at nest stands stands') refl refl

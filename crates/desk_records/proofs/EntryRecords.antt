@@ -107,7 +107,7 @@ module _ (db : Database) (l : Ledger) (holds : HoldsLedger db l) (names : List (
   lists_entries number limit offset least rows shows =
       let params = Int (pos number) ∷ Int (pos limit) ∷ Int (pos offset) ∷ [] in
       let all = history_of (item_numbered l.records.actions number) in
-      reads_parts told_entry (λ (a : ActionRecord). a.history) (holds.spot (OfRollouts Feedbacks)).tree of_action entry_columns (col 0 1) (col 0 2) params number least (λ id x. refl) (λ id x. refl) (λ n place e apart. and_true _ ∙ numbers_equal n number ∙ apart)
+      reads_parts told_entry (λ (a : ActionRecord). a.history) (holds.spot (OfRollouts Feedbacks)).tree of_action entry_columns (col 0 1) (col 0 2) params false number least (λ id x. refl) (λ id x. refl) (λ n place e apart. and_true _ ∙ numbers_equal n number ∙ apart)
       db.trees l.records.actions (holds.rows (OfRollouts Feedbacks)) rows (shows.answer Null)
       ∙ ap (λ more. take limit (drop offset more)) (all_shown told_entry told_entry number of_action entry_columns params (λ place e. and_true _ ∙ numbers_equal number number ∙ same number) entry_shown 1 all)
       ∙ ap (take limit) (drop-map told_entry offset all) ∙ take-map told_entry limit (drop offset all)

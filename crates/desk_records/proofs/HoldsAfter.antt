@@ -13,7 +13,8 @@ use Rattle.rollout_machine.specs.Records.{Records}
 use Rattle.rollout_machine.specs.declared.records.ActionRecord.{ActionRecord}
 use Rattle.sql_front.specs.Stands.{Stands}
 use Rattle.sql_calls.specs.Apart.{HasNoForeignKey}
-use Rattle.desk_records.specs.Schema.{Place, Desk, Modules, Sets, SetModules, Artifacts, Pieces, Targets, TargetTags, TargetAttributes, OfRollouts, RolloutPlace, Rollouts, Members, Groups, Actions, Feedbacks, Offers, table_at, name_of}
+use Rattle.sql_calls.specs.KeyIndexes.{ComparesBytes}
+use Rattle.desk_records.specs.Schema.{Place, Desk, Modules, Sets, SetModules, Artifacts, Pieces, Targets, TargetTags, TargetAttributes, OfRollouts, RolloutPlace, Rollouts, Members, Groups, Actions, Feedbacks, Offers, offer_table, table_at, name_of}
 use Rattle.desk_records.specs.Targets.{are_sorted}
 use Rattle.desk_records.specs.Holds.{HoldsLedger, HoldsRecords, IsHeld, IsHeldOfRollouts, Ledger, IsBeside, ledger_of}
 use Rattle.desk_records.proofs.Places.{place_named, is_named}
@@ -37,6 +38,7 @@ module _ (now next : Ledger) (old new : Database) (was : HoldsLedger old now) wh
     stands = λ t. subst (λ s. Stands s (name_of t) (was.spot t).at (table_at t (was.spot t).tree)) (sym schema) (was.stands t);
     rows = rows;
     sorted = sorted;
+    keyed = subst (λ s. ComparesBytes s (offer_table (was.spot (OfRollouts Offers)).tree) 1) (sym schema) was.keyed;
   }
     where
       kept : (t : Place) → (was.spot t).tree ≢ (was.spot k).tree → new.trees (was.spot t).tree ≡ old.trees (was.spot t).tree

@@ -31,3 +31,7 @@ pub mod OfferWrites
 pub mod PartWrites
 pub mod DeskRecords
 pub mod EntryRecords
+pub mod NextOfferRecords
+pub mod GroupOffersMeaning
+mod OfferPuts
+pub mod GroupOfferWrites

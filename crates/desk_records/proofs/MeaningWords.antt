@@ -17,14 +17,20 @@ means_of s sql c is none timeless = record { is = rw is; plain = rw is (none, ti
 abbrev pub is_equal : Term → Term → Term
 is_equal = op2 (Compare Eq Binary)
 
+abbrev pub is_least : Term → Term → Term
+is_least = op2 (Compare Ge Binary)
+
+abbrev pub is_most : Term → Term → Term
+is_most = op2 (Compare Le Binary)
+
 -- a column is the parameter at a place
 abbrev pub at_key : ℕ → ℕ → Term
 at_key place param = is_equal (col 1 place) (col 0 param)
 
 -- a column is the parameter at a place or more
 abbrev pub at_least : ℕ → ℕ → Term
-at_least place param = op2 (Compare Ge Binary) (col 1 place) (col 0 param)
+at_least place param = is_least (col 1 place) (col 0 param)
 
 -- .. or less
 abbrev pub at_most : ℕ → ℕ → Term
-at_most place param = op2 (Compare Le Binary) (col 1 place) (col 0 param)
+at_most place param = is_most (col 1 place) (col 0 param)

@@ -21,11 +21,11 @@ use Rattle.rollout_machine.specs.Kinds.{TargetOffer, offer_to}
 use Rattle.rollout_machine.proofs.TargetTies.{same_true}
 use Rattle.rollout_model.specs.declared.rollout.Offer.{Offer}
 use Rattle.desk_records.specs.Holds.{HoldsLedger, IsHeldOfRollouts, Ledger}
-use Rattle.desk_records.specs.LedgerSteps.{AddsOffer, SetsOffer, with_offer}
+use Rattle.desk_records.specs.LedgerSteps.{SetsOffer, with_offer}
 use Rattle.desk_records.specs.Offers.{HoldsOffers, is_to, offer_row}
 use Rattle.desk_records.specs.Rollouts.{flag}
 use Rattle.desk_records.specs.Schema.{OfRollouts, RolloutPlace, Rollouts, Members, Groups, Actions, Feedbacks, Offers, offer_table}
-use Rattle.desk_records.proofs.ActionMeaning.{drop_offer_query, of_controller, offer_terms, offer_values, set_offer_query}
+use Rattle.desk_records.proofs.ActionMeaning.{drop_offer_query, of_controller, offer_values, set_offer_query}
 use Rattle.desk_records.proofs.ActionRecords.{names_offer, offer_keyed}
 use Rattle.desk_records.proofs.HoldsAfter.{Leaves, ledger_after}
 
@@ -40,10 +40,10 @@ same_turned (x ∷ xs) (y ∷ ys) = ap₂ ◌&&◌ (turned x y) (same_turned xs 
     turned : (x y : ℕ) → nat_eq x y ≡ nat_eq y x
     turned x y = grind (arith, nat_tests)
 
-abbrev new_offer : Bytes → Offer → TargetOffer
+abbrev pub new_offer : Bytes → Offer → TargetOffer
 new_offer id o = record { target = id; offer = o }
 
-its_more : (id t : Bytes) (o : Offer) (offers : Bytes → Option Offer) (listed : List TargetOffer) → offers id ≡ None → filter (is_to t) listed ≡ offer_to t (offers t) → filter (is_to t) (new_offer id o ∷ listed) ≡ offer_to t (cond (same_bytes id t) (Some o) (offers t))
+pub its_more : (id t : Bytes) (o : Offer) (offers : Bytes → Option Offer) (listed : List TargetOffer) → offers id ≡ None → filter (is_to t) listed ≡ offer_to t (offers t) → filter (is_to t) (new_offer id o ∷ listed) ≡ offer_to t (cond (same_bytes id t) (Some o) (offers t))
 its_more id t o offers listed none its = go (same_bytes id t) refl
   where
     go : (b : Bool) → same_bytes id t ≡ b → cond b (new_offer id o ∷ filter (is_to t) listed) (filter (is_to t) listed) ≡ offer_to t (cond b (Some o) (offers t))
@@ -52,10 +52,10 @@ its_more id t o offers listed none its = go (same_bytes id t) refl
         ap₂ (λ i l. new_offer i o ∷ l) is (its ∙ ap (λ i. offer_to t (offers i)) (sym is) ∙ ap (offer_to t) none)
     go false e = its
 
-abbrev other_offer : Bytes → Offer → TargetOffer → TargetOffer
+abbrev pub other_offer : Bytes → Offer → TargetOffer → TargetOffer
 other_offer id o it = cond (is_to id it) (record it { offer = o }) it
 
-its_set : (id t : Bytes) (o : Offer) (listed : List TargetOffer) → filter (is_to t) (map (other_offer id o) listed) ≡ map (other_offer id o) (filter (is_to t) listed)
+pub its_set : (id t : Bytes) (o : Offer) (listed : List TargetOffer) → filter (is_to t) (map (other_offer id o) listed) ≡ map (other_offer id o) (filter (is_to t) listed)
 its_set id t o [] = refl
 its_set id t o (it ∷ listed) = rw (target (same_bytes it.target id)) (go (same_bytes it.target t) (its_set id t o listed))
   where
@@ -68,7 +68,7 @@ its_set id t o (it ∷ listed) = rw (target (same_bytes it.target id)) (go (same
     go true rest = ap (λ l. other_offer id o it ∷ l) rest
     go false rest = rest
 
-offers_set : (id t : Bytes) (o was : Offer) (offers : Bytes → Option Offer) → offers id ≡ Some was → map (other_offer id o) (offer_to t (offers t)) ≡ offer_to t (cond (same_bytes id t) (Some o) (offers t))
+pub offers_set : (id t : Bytes) (o was : Offer) (offers : Bytes → Option Offer) → offers id ≡ Some was → map (other_offer id o) (offer_to t (offers t)) ≡ offer_to t (cond (same_bytes id t) (Some o) (offers t))
 offers_set id t o was offers there = go (same_bytes id t) refl
   where
     each : (b : Bool) → same_bytes t id ≡ b → (found : Option Offer) → map (other_offer id o) (offer_to t found) ≡ cond b (map (λ (it : TargetOffer). record it { offer = o }) (offer_to t found)) (offer_to t found)
@@ -114,7 +114,7 @@ rows_left id p is (o ∷ listed) = rw (is o) (go (same_bytes o.target id) (rows_
     go true ih = ih
     go false ih = ap (λ l. offer_row o ∷ l) ih
 
-rows_set : (id : Bytes) (o : Offer) (p : Row → Bool) (g : Row → Row) → ((it : TargetOffer) → p (offer_row it) ≡ is_to id it) → ((it : TargetOffer) → g (offer_row it) ≡ offer_row (record it { offer = o })) → (listed : List TargetOffer)
+pub rows_set : (id : Bytes) (o : Offer) (p : Row → Bool) (g : Row → Row) → ((it : TargetOffer) → p (offer_row it) ≡ is_to id it) → ((it : TargetOffer) → g (offer_row it) ≡ offer_row (record it { offer = o })) → (listed : List TargetOffer)
     → changed p g (map offer_row listed) ≡ map offer_row (map (other_offer id o) listed)
 rows_set id o p g is becomes [] = refl
 rows_set id o p g is becomes (it ∷ listed) = ap₂ ◌∷◌ (rw (is it) (go (same_bytes it.target id))) (rows_set id o p g is becomes listed)
@@ -126,11 +126,11 @@ rows_set id o p g is becomes (it ∷ listed) = ap₂ ◌∷◌ (rw (is it) (go (
 -- ---- the statements
 
 -- the rows of offers change, and nothing else
-offers_after : (l : Ledger) (id : Bytes) (o : Option Offer) (old new : Database) (holds : HoldsLedger old l) → Leaves old new (holds.spot (OfRollouts Offers)).tree → HoldsOffers (new.trees (holds.spot (OfRollouts Offers)).tree) (with_offer l id o).offers
-    → HoldsLedger new (with_offer l id o)
-offers_after l id o old new holds left held = ledger_after Offers l (with_offer l id o) old new holds left held (record { approval = refl; modules = refl; artifacts = refl; sets = refl; targets = refl }) same
+pub offers_after : (l : Ledger) (offers : Bytes → Option Offer) (old new : Database) (holds : HoldsLedger old l) → Leaves old new (holds.spot (OfRollouts Offers)).tree → HoldsOffers (new.trees (holds.spot (OfRollouts Offers)).tree) offers
+    → HoldsLedger new (record l { offers = offers })
+offers_after l offers old new holds left held = ledger_after Offers l (record l { offers = offers }) old new holds left held (record { approval = refl; modules = refl; artifacts = refl; sets = refl; targets = refl }) same
   where
-    same : (t : RolloutPlace) → t ≢ Offers → (rows : List Row) → IsHeldOfRollouts l t rows → IsHeldOfRollouts (with_offer l id o) t rows
+    same : (t : RolloutPlace) → t ≢ Offers → (rows : List Row) → IsHeldOfRollouts l t rows → IsHeldOfRollouts (record l { offers = offers }) t rows
     same Rollouts apart rows held = held
     same Members apart rows held = held
     same Groups apart rows held = held
@@ -140,21 +140,6 @@ offers_after l id o old new holds left held = ledger_after Offers l (with_offer 
 
 abbrev pub offered_params : Bytes → Offer → Row
 offered_params id o = Text id ∷ Int (pos o.action) ∷ Int (pos (flag o.canceling)) ∷ []
-
-pub adds_offer : (id : Bytes) (o : Offer) (old new : State) (text : List ℕ) (count : ℕ) (l next : Ledger) (holds : HoldsLedger old.now l) → AddsOffer id o l next
-    → (w : Writes old new None (Insert (holds.spot (OfRollouts Offers)).at (Values offer_terms 4)) text (offered_params id o) count) → HoldsLedger new.now next
-adds_offer id o old new text count l next holds change w =
-    let spot = holds.spot (OfRollouts Offers) in
-    let had = holds.rows (OfRollouts Offers) in
-    let table = offer_table spot.tree in
-    let made = inserts old.now.schema spot.at table offer_terms 4 (holds.stands (OfRollouts Offers)).got old new refl text (offered_params id o) count w in
-    let more = adds_row old.now.schema table (1 ∷ []) (offered_params id o) offer_terms 4 (offered_params id o) refl old.now new.now (map offer_row had.listed) had.held made in
-    let cast : cast_all table.columns (offered_params id o) ≡ offered_params id o = rw (cast_int o.action, cast_int (flag o.canceling)) refl in
-    subst (HoldsLedger new.now) (sym change.next_is) (offers_after l id (Some o) old.now new.now holds (record { schema = made.schema_is; sound = w.sound; others = made.applies.tables }) (record {
-      listed = new_offer id o ∷ had.listed;
-      held = subst (λ r. IsHeldBy (new.now.trees spot.tree) (r ∷ map offer_row had.listed)) cast more;
-      its = λ t. its_more id t o l.offers had.listed change.is_new (had.its t);
-    }))
 
 pub sets_offer : (id : Bytes) (o : Offer) (old new : State) (text : List ℕ) (count : ℕ) (l next : Ledger) (holds : HoldsLedger old.now l) → SetsOffer id o l next
     → (w : Writes old new None (Update (holds.spot (OfRollouts Offers)).at (record { lets = []; body = set_offer_query (holds.spot (OfRollouts Offers)).tree })) text (offered_params id o) count) → HoldsLedger new.now next
@@ -168,7 +153,7 @@ sets_offer id o old new text count l next holds change w =
     (keys_apart old.now.schema old.now.trees spot.at table 0 (1 ∷ []) holds.sound (holds.stands (OfRollouts Offers)).got refl refl) had.held made in
     let is = rows_set id o (on_content (passes of_controller params)) (λ x. cast_all table.columns (on_content (shown_of offer_values params) x)) (names_offer id (Int (pos o.action) ∷ Int (pos (flag o.canceling)) ∷ []))
     (λ it. rw (cast_int o.action, cast_int (flag o.canceling)) refl) had.listed in
-    subst (HoldsLedger new.now) (sym change.next_is) (offers_after l id (Some o) old.now new.now holds (record { schema = made.schema_is; sound = w.sound; others = made.applies.tables }) (record {
+    subst (HoldsLedger new.now) (sym change.next_is) (offers_after l (with_offer l id (Some o)).offers old.now new.now holds (record { schema = made.schema_is; sound = w.sound; others = made.applies.tables }) (record {
       listed = map (other_offer id o) had.listed;
       held = subst (IsHeldBy (new.now.trees spot.tree)) is set;
       its = λ t. its_set id t o had.listed ∙ ap (map (other_offer id o)) (had.its t) ∙ offers_set id t o change.was l.offers change.is_there;
@@ -182,7 +167,7 @@ drops_offer id old new text count l holds w =
     let table = offer_table spot.tree in
     let made = deletes old.now.schema spot.at table (record { lets = []; body = drop_offer_query spot.tree }) (holds.stands (OfRollouts Offers)).got (holds.stands (OfRollouts Offers)).keyless old new refl text (Text id ∷ []) count w in
     let left = drops old.now.schema table (1 ∷ []) of_controller (Text id ∷ []) (λ i x. refl) old.now new.now (map offer_row had.listed) had.held made in
-    offers_after l id None old.now new.now holds (record { schema = made.schema_is; sound = w.sound; others = made.applies.tables }) (record {
+    offers_after l (with_offer l id None).offers old.now new.now holds (record { schema = made.schema_is; sound = w.sound; others = made.applies.tables }) (record {
       listed = filter (not_to id) had.listed;
       held = subst (IsHeldBy (new.now.trees spot.tree)) (rows_left id (λ x. passes of_controller (Text id ∷ []) (Null ∷ x)) (names_offer id []) had.listed) left;
       its = λ t. its_left id t had.listed ∙ ends t (same_bytes id t) (had.its t);

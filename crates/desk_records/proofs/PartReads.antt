@@ -1,9 +1,11 @@
 -- What is read of the parts of one numbered record, in the order of their places.
-use Rattle.std.proofs.Common.{◌≡◌, ◌<◌, ◌≤◌, ℕ, zero, suc, ◌+◌, pos, List, [], ◌∷◌, map, filter, slice_get, Bool, true, false, cond, refl, ap, subst, ◌∙◌, arith, Less, IsPermutation, nat_eq}
+use Rattle.std.proofs.Common.{◌≡◌, ◌<◌, ◌≤◌, ℕ, zero, suc, ◌+◌, pos, List, [], ◌∷◌, ◌++◌, map, filter, slice_get, Bool, true, false, cond, reverse, refl, sym, ap, subst, ◌∙◌, arith, Less, IsPermutation, nat_eq}
 use Rattle.std.specs.List.{AllByRecursion}
 use Rattle.std.proofs.lemmas.Int.{ints}
 use Rattle.std.proofs.lemmas.Bool.Decides.{nat_tests}
-use Rattle.std.proofs.lemmas.List.Sorted.{IsPermutation-trans}
+use Rattle.std.proofs.lemmas.Grind.{reverse_onto}
+use Rattle.std.proofs.lemmas.List.{map-append}
+use Rattle.std.proofs.lemmas.List.Sorted.{IsPermutation-reverse, IsPermutation-sym, IsPermutation-trans}
 use Rattle.sqlite_value.specs.declared.value.Value.TheVariants.{Int}
 use Rattle.sqlite_value.specs.Order.{Row, value_cmp}
 use Rattle.sqlite_value.proofs.OrderLemmas.{value_cmp-Int}
@@ -14,6 +16,7 @@ use Rattle.sqlite.specs.Tree.{Trees}
 use Rattle.sqlite.specs.Query.{Query, Output, output_cmp, page, IsAnswer}
 use Rattle.sqlite.specs.Program.{overlay}
 use Rattle.sqlite_sql.proofs.QueryLemmas.{output_cmp_total}
+use Rattle.sqlite_exec.proofs.ScanLemmas.{ascending-reverse}
 use Rattle.sqlite_keyed.proofs.SortLemmas.{sorted_unique}
 use Rattle.sqlite_keyed.proofs.ListLemmas.{map-map}
 use Rattle.sql_calls.specs.Keyed.{rows_from, IsHeldBy}
@@ -23,16 +26,44 @@ use Rattle.rollout_machine.specs.ByteStrings.{item_numbered}
 use Rattle.desk_records.specs.Parts.{part_row, parts_from, parts_of}
 use Rattle.desk_records.proofs.Parts.{its_parts}
 
+-- ---- either direction
+
+-- a list, or where it falls its reverse
+abbrev pub turned : {Z : Type 0} → Bool → List Z → List Z
+turned falling xs = cond falling (reverse xs) xs
+
+pub map_reverse : {A B : Type 0} (f : A → B) (xs : List A) → map f (reverse xs) ≡ reverse (map f xs)
+map_reverse f [] = refl
+map_reverse f (x ∷ xs) = ap (map f) (reverse_onto xs x []) ∙ map-append f (reverse xs) (x ∷ []) ∙ ap (λ l. l ++ f x ∷ []) (map_reverse f xs) ∙ sym (reverse_onto (map f xs) (f x) [])
+
+map_turned : {A B : Type 0} (f : A → B) (falling : Bool) (xs : List A) → map f (turned falling xs) ≡ turned falling (map f xs)
+map_turned f false xs = refl
+map_turned f true xs = map_reverse f xs
+
+turned_same : {A : Type 0} (falling : Bool) (xs ys : List A) → IsPermutation xs ys → IsPermutation (turned falling xs) ys
+turned_same false xs ys same = same
+turned_same true xs ys same = IsPermutation-trans _ _ _ (IsPermutation-sym xs _ (IsPermutation-reverse xs)) same
+
+-- ---- in the order of the places
+
 module _ {X Y : Type 0} (rest : Y → Row) (parts : X → List Y) (tree : ℕ) (test shows : List Term) (limit offset : Term) (params : Row) where
-  -- SELECT .. ORDER BY the place
-  abbrev pub place_query : Query
-  place_query = by (simple tree test shows) ((col 1 2, record { descending = false; collation = Binary }) ∷ []) limit offset
+  -- SELECT .. ORDER BY the place, or the place DESC
+  abbrev pub place_query : Bool → Query
+  place_query falling = by (simple tree test shows) ((col 1 2, record { descending = falling; collation = Binary }) ∷ []) limit offset
+
+  -- the first is listed before the second, or after it where the places fall
+  abbrev ahead : Bool → Output → Output → Type 0
+  ahead falling a b = cond falling (output_cmp (place_query falling) b a) (output_cmp (place_query falling) a b) ≡ Less
+
+  turned_ascends : (falling : Bool) (os : List Output) → IsAscending (ahead falling) os → IsAscending (λ a b. output_cmp (place_query falling) a b ≡ Less) (turned falling os)
+  turned_ascends false os rise = rise
+  turned_ascends true os rise = ascending-reverse (ahead true) os rise
 
   abbrev passing : Row → Bool
   passing = on_content (passes test params)
 
-  abbrev shown : Row → Output
-  shown = on_content (shown_in place_query params)
+  abbrev shown : Bool → Row → Output
+  shown falling = on_content (shown_in (place_query falling) params)
 
   lower : (low high : ℕ) → low < high → value_cmp (Int (pos low)) (Int (pos high)) ≡ Less
   lower low high h = value_cmp-Int (pos low) (pos high) ∙ grind (arith, ints, nat_tests)
@@ -41,36 +72,39 @@ module _ {X Y : Type 0} (rest : Y → Row) (parts : X → List Y) (tree : ℕ) (
     abbrev row : ℕ → Y → Row
     row = part_row rest number
 
-    earlier : (low high : ℕ) (y z : Y) → low < high → output_cmp place_query (shown (row low y)) (shown (row high z)) ≡ Less
-    earlier low high y z h = rw (lower low high h) refl
+    earlier : (falling : Bool) (low high : ℕ) (y z : Y) → low < high → ahead falling (shown falling (row low y)) (shown falling (row high z))
+    earlier false low high y z h = rw (lower low high h) refl
+    earlier true low high y z h = rw (lower low high h) refl
 
-    all_earlier : (low high : ℕ) (y : Y) (ys : List Y) → low < high → AllByRecursion (λ o. output_cmp place_query (shown (row low y)) o ≡ Less) (map shown (filter passing (rows_from row high ys)))
-    all_earlier low high y [] h = tt
-    all_earlier low high y (z ∷ ys) h =
-        let later = all_earlier low (high + 1) y ys (omega (arith, h)) in
-        elim (passing (row high z)) as (λ b. AllByRecursion (λ o. output_cmp place_query (shown (row low y)) o ≡ Less) (map shown (cond b (row high z ∷ filter passing (rows_from row (high + 1) ys)) (filter passing (rows_from row (high + 1) ys)))))
-        [ true ↦ (earlier low high y z h, later) | false ↦ later ]
+    all_earlier : (falling : Bool) (low high : ℕ) (y : Y) (ys : List Y) → low < high → AllByRecursion (ahead falling (shown falling (row low y))) (map (shown falling) (filter passing (rows_from row high ys)))
+    all_earlier falling low high y [] h = tt
+    all_earlier falling low high y (z ∷ ys) h =
+        let later = all_earlier falling low (high + 1) y ys (omega (arith, h)) in
+        elim (passing (row high z)) as (λ b. AllByRecursion (ahead falling (shown falling (row low y))) (map (shown falling) (cond b (row high z ∷ filter passing (rows_from row (high + 1) ys)) (filter passing (rows_from row (high + 1) ys)))))
+        [ true ↦ (earlier falling low high y z h, later) | false ↦ later ]
 
-    in_order : (place : ℕ) (ys : List Y) → IsAscending (λ a b. output_cmp place_query a b ≡ Less) (map shown (filter passing (rows_from row place ys)))
-    in_order place [] = tt
-    in_order place (y ∷ ys) =
-        let later = in_order (place + 1) ys in
-        elim (passing (row place y)) as (λ b. IsAscending (λ a c. output_cmp place_query a c ≡ Less) (map shown (cond b (row place y ∷ filter passing (rows_from row (place + 1) ys)) (filter passing (rows_from row (place + 1) ys)))))
-        [ true ↦ (all_earlier place (place + 1) y ys (omega arith), later) | false ↦ later ]
+    in_order : (falling : Bool) (place : ℕ) (ys : List Y) → IsAscending (ahead falling) (map (shown falling) (filter passing (rows_from row place ys)))
+    in_order falling place [] = tt
+    in_order falling place (y ∷ ys) =
+        let later = in_order falling (place + 1) ys in
+        elim (passing (row place y)) as (λ b. IsAscending (ahead falling) (map (shown falling) (cond b (row place y ∷ filter passing (rows_from row (place + 1) ys)) (filter passing (rows_from row (place + 1) ys)))))
+        [ true ↦ (all_earlier falling place (place + 1) y ys (omega arith), later) | false ↦ later ]
 
   -- of a test that only the parts of the record of this number pass
-  pub reads_parts : (number : ℕ) → 1 ≤ number → IsBlind (passes test params) → IsBlind (shown_in place_query params) → ((n place : ℕ) (y : Y) → nat_eq n number ≡ false → passing (part_row rest n place y) ≡ false)
-      → (db : Trees) (xs : List X) → IsHeldBy (db tree) (parts_from (part_row rest) parts 1 xs) → (rows : List Row) → IsAnswer place_query (overlay db []) params rows
-      → rows ≡ page place_query params (map (on_content (shown_of shows params)) (filter passing (rows_from (part_row rest number) 1 (parts_of parts (item_numbered xs number)))))
-  reads_parts zero least blind fair others db xs held rows answer = absurd (omega (arith, least))
-  reads_parts (suc k) least blind fair others db xs held rows answer =
+  pub reads_parts : (falling : Bool) (number : ℕ) → 1 ≤ number → IsBlind (passes test params) → IsBlind (shown_in (place_query falling) params) → ((n place : ℕ) (y : Y) → nat_eq n number ≡ false → passing (part_row rest n place y) ≡ false)
+      → (db : Trees) (xs : List X) → IsHeldBy (db tree) (parts_from (part_row rest) parts 1 xs) → (rows : List Row) → IsAnswer (place_query falling) (overlay db []) params rows
+      → rows ≡ page (place_query falling) params (turned falling (map (on_content (shown_of shows params)) (filter passing (rows_from (part_row rest number) 1 (parts_of parts (item_numbered xs number))))))
+  reads_parts falling zero least blind fair others db xs held rows answer = absurd (omega (arith, least))
+  reads_parts falling (suc k) least blind fair others db xs held rows answer =
+      let q = place_query falling in
       let kept = filter passing (rows_from (part_row rest (suc k)) 1 (parts_of parts (slice_get xs k))) in
-      let it = ordered_rows tree test shows place_query.order limit offset params db rows answer in
-      let seen = held_seen (passes test params) blind (shown_in place_query params) fair (db tree) (parts_from (part_row rest) parts 1 xs) held in
+      let it = ordered_rows tree test shows q.order limit offset params db rows answer in
+      let seen = held_seen (passes test params) blind (shown_in q params) fair (db tree) (parts_from (part_row rest) parts 1 xs) held in
       let its : filter passing (parts_from (part_row rest) parts 1 xs) ≡ kept = its_parts (part_row rest) parts passing (suc k) others (parts_of parts) refl (λ x. refl) 1 k (omega arith) xs in
-      let all : IsPermutation (map shown kept) it.ordered = subst (λ l. IsPermutation (map shown l) it.ordered) its (IsPermutation-trans _ _ _ seen it.same) in
-      it.is ∙ ap (λ l. page place_query params (map (λ (o : Output). o.1) l)) (sorted_unique (output_cmp place_query) (output_cmp_total place_query) _ it.ordered (in_order (suc k) 1 (parts_of parts (slice_get xs k))) all it.sorted)
-      ∙ ap (page place_query params) (map-map (λ (o : Output). o.1) shown kept)
+      let all : IsPermutation (map (shown falling) kept) it.ordered = subst (λ l. IsPermutation (map (shown falling) l) it.ordered) its (IsPermutation-trans _ _ _ seen it.same) in
+      let rise = turned_ascends falling _ (in_order (suc k) falling 1 (parts_of parts (slice_get xs k))) in
+      it.is ∙ ap (λ l. page q params (map (λ (o : Output). o.1) l)) (sorted_unique (output_cmp q) (output_cmp_total q) _ it.ordered rise (turned_same falling _ it.ordered all) it.sorted)
+      ∙ ap (page q params) (map_turned (λ (o : Output). o.1) falling (map (shown falling) kept) ∙ ap (turned falling) (map-map (λ (o : Output). o.1) (shown falling) kept))
 
 -- of all parts of the record, by a test that each of them passes
 pub all_shown : {Y : Type 0} (rest told : Y → Row) (number : ℕ) (test shows : List Term) (params : Row) → ((place : ℕ) (y : Y) → on_content (passes test params) (part_row rest number place y) ≡ true)

@@ -19,9 +19,9 @@ use Rattle.sql_front.proofs.Write.{Adds, Makes, adds_known}
 use Rattle.sql_front.proofs.Change.{Updates, updates_known}
 use Rattle.sql_calls.proofs.Means.{Means}
 use Rattle.sql_calls.proofs.Selects.{simple, by}
-use Rattle.desk_records.specs.declared.rollout_texts.TheConstants.{CREATE_ROLLOUT, CREATE_MEMBER, CREATE_ROLLOUT_GROUP, FIND_ROLLOUT, LAST_ROLLOUT, GET_ROLLOUT, LIST_ROLLOUTS, LIST_MEMBERS, LIST_GROUPS, GET_GROUP, HOLDING_GROUP, PUT_ROLLOUT, SET_ROLLOUT, PUT_MEMBER, PUT_GROUP, SET_GROUP}
+use Rattle.desk_records.specs.declared.rollout_texts.TheConstants.{CREATE_ROLLOUT, CREATE_MEMBER, CREATE_ROLLOUT_GROUP, FIND_ROLLOUT, LAST_ROLLOUT, GET_ROLLOUT, LIST_ROLLOUTS, LIST_MEMBERS, LIST_GROUPS, GET_GROUP, HOLDING_GROUP, LAST_STARTED, PUT_ROLLOUT, SET_ROLLOUT, PUT_MEMBER, PUT_GROUP, SET_GROUP}
 use Rattle.desk_records.specs.Schema.{rollout_table, member_table, group_table}
-use Rattle.desk_records.proofs.MeaningWords.{means_of, at_key, at_least, at_most}
+use Rattle.desk_records.proofs.MeaningWords.{means_of, is_equal, at_key, at_least, at_most}
 
 pub create_rollout_makes : Makes CREATE_ROLLOUT.now (codes "rollout") (rollout_table 0)
 unfolding first is_reserved everything
@@ -255,6 +255,34 @@ holding_group_queries tree = record {
 
 pub holding_group_is : (s : Schema) (at tree : ℕ) → Stands s (codes "rollout_group") at (group_table tree) → Means s HOLDING_GROUP.now (Select (record { lets = []; body = holding_group_query tree }) group_names)
 holding_group_is s at tree stands = means_of s HOLDING_GROUP.now _ (queries_known _ _ _ _ _ (holding_group_queries tree) s at stands) refl refl
+
+abbrev pub started_in : List Term
+started_in = at_key 1 0 ∷ is_equal (col 1 5) (lit (Int (pos 1))) ∷ []
+
+abbrev pub last_started_query : ℕ → Query
+last_started_query tree = by (simple tree started_in group_columns) ((col 1 2, record { descending = true; collation = Binary }) ∷ []) (lit (Int (pos 1))) (lit (Int (pos 0)))
+
+last_started_queries : (tree : ℕ) → Queries LAST_STARTED.now (codes "rollout_group") (group_table tree) (last_started_query tree) group_names
+unfolding first combine named paging everything
+last_started_queries tree = record {
+  parsed = _;
+  select = _;
+  page = _;
+  shown = _;
+  read = refl;
+  selects = record { statement = refl; formats = refl; with = refl; others = refl };
+  one = record { source = _; from = refl; table = refl; alias = refl; on = refl; using = refl; is_inner = refl; group = refl; having = refl; shown = (tt, (tt, (tt, (tt, (tt, (tt, (tt, tt))))))); filter = ((refl, λ cx how x y. refl), ((refl, λ cx how x y. refl), tt, tt), ((refl, λ cx how x y. refl), tt, tt)); sorts = (tt, tt) };
+  paged = λ s. refl;
+  named_alone = refl;
+  known = refl;
+  is_body = refl;
+  are_columns = refl;
+  over = refl;
+  fits = refl;
+}
+
+pub last_started_is : (s : Schema) (at tree : ℕ) → Stands s (codes "rollout_group") at (group_table tree) → Means s LAST_STARTED.now (Select (record { lets = []; body = last_started_query tree }) group_names)
+last_started_is s at tree stands = means_of s LAST_STARTED.now _ (queries_known _ _ _ _ _ (last_started_queries tree) s at stands) refl refl
 
 abbrev pub rollout_terms : List Term
 rollout_terms = col 0 0 ∷ lit Null ∷ col 0 1 ∷ col 0 2 ∷ col 0 3 ∷ col 0 4 ∷ col 0 5 ∷ col 0 6 ∷ col 0 7 ∷ lit (Int (pos 0)) ∷ lit (Int (pos 0)) ∷ []

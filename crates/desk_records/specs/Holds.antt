@@ -6,12 +6,13 @@ use Rattle.sqlite_value.specs.Order.{Row}
 use Rattle.sqlite.specs.Effect.{Database, IsDatabase}
 use Rattle.sql_front.specs.Stands.{Stands}
 use Rattle.sql_calls.specs.Keyed.{rows_from, IsHeldBy}
+use Rattle.sql_calls.specs.KeyIndexes.{ComparesBytes}
 use Rattle.rollout_model.specs.declared.rollout.Offer.{Offer}
 use Rattle.rollout_machine.specs.Commands.{Bytes, ModuleLabel}
 use Rattle.rollout_machine.specs.Offers.{offer}
 use Rattle.rollout_machine.specs.Records.{Records}
 use Rattle.rollout_machine.specs.declared.records.ActionRecord.{ActionRecord}
-use Rattle.desk_records.specs.Schema.{Place, Desk, Modules, Sets, SetModules, Artifacts, Pieces, Targets, TargetTags, TargetAttributes, OfRollouts, RolloutPlace, Rollouts, Members, Groups, Actions, Feedbacks, Offers, table_at, name_of}
+use Rattle.desk_records.specs.Schema.{Place, Desk, Modules, Sets, SetModules, Artifacts, Pieces, Targets, TargetTags, TargetAttributes, OfRollouts, RolloutPlace, Rollouts, Members, Groups, Actions, Feedbacks, Offers, offer_table, table_at, name_of}
 use Rattle.desk_records.specs.Actions.{Tally, tally_of, action_row, entry_row}
 use Rattle.desk_records.specs.Artifacts.{artifact_row, pieces_from}
 use Rattle.desk_records.specs.Offers.{HoldsOffers}
@@ -71,13 +72,14 @@ pub record Spot : Type 0 where
   pub at : ℕ
   pub tree : ℕ
 
--- the tables of the schema stand somewhere among those of others, and hold the ledger
+-- The tables of the schema stand somewhere among those of others, and hold the ledger. A unique index of others on the key of offers, if there is one, compares bytes as that of the desk does.
 pub record HoldsLedger (db : Database) (l : Ledger) : Type 0 where
   pub sound : IsDatabase db
   pub spot : Place → Spot
   pub stands : (t : Place) → Stands db.schema (name_of t) (spot t).at (table_at t (spot t).tree)
   pub rows : (t : Place) → IsHeld l t (db.trees (spot t).tree)
   pub sorted : are_sorted l.records.targets ≡ true
+  pub keyed : ComparesBytes db.schema (offer_table (spot (OfRollouts Offers)).tree) 1
 
 -- the tables hold the records, and all that follows from them
 abbrev pub HoldsRecords : Database → Records → Type 0

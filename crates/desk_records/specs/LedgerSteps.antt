@@ -12,6 +12,7 @@ use Rattle.rollout_machine.specs.declared.records.ActionRecord.{ActionRecord}
 use Rattle.rollout_machine.specs.declared.records.RolloutRecord.{RolloutRecord}
 use Rattle.rollout_model.specs.declared.approval.Approval.{Approval}
 use Rattle.rollout_model.specs.declared.rollout.Offer.{Offer}
+use Rattle.offer_laws.specs.GroupOffers.{group_offers, put_offers}
 use Rattle.desk_records.specs.Actions.{Tally, actor_of, told_entry}
 use Rattle.desk_records.specs.Holds.{Ledger}
 
@@ -128,13 +129,13 @@ pub record AddsEntry (number sequence kind word : ℕ) (details : Bytes) (l next
 abbrev pub with_offer : Ledger → Bytes → Option Offer → Ledger
 with_offer l id o = record l { offers = λ (t : Bytes). cond (same_bytes id t) o (l.offers t) }
 
--- the target has none
-pub record AddsOffer (id : Bytes) (o : Offer) (l next : Ledger) : Type 0 where
-  pub is_new : l.offers id ≡ None
-  pub next_is : next ≡ with_offer l id (Some o)
-
 -- the target has one
 pub record SetsOffer (id : Bytes) (o : Offer) (l next : Ledger) : Type 0 where
   pub was : Offer
   pub is_there : l.offers id ≡ Some was
   pub next_is : next ≡ with_offer l id (Some o)
+
+-- each action of the rollout between the bounds is offered to its target, unless that is offered one of no greater number
+pub record OffersGroup (number : ℕ) (bounds : Bounds) (l next : Ledger) : Type 0 where
+  pub tallied : length l.tallies ≡ length l.records.actions
+  pub next_is : next ≡ record l { offers = put_offers l.offers (group_offers l.records number bounds) }

@@ -16,3 +16,4 @@ pub mod Codes
 pub mod RolloutRow
 pub mod LedgerSteps
 pub mod EntryRow
+pub mod NextOffers

@@ -18,8 +18,8 @@ mod texts;
 
 pub use crate::action_texts::{
     CREATE_ACTION, CREATE_FEEDBACK, CREATE_OFFER, DROP_OFFER, GET_ACTION, GET_OFFER, LAST_ACTION,
-    LIST_ACTIONS, LIST_ENTRIES, LIST_TARGET_ACTIONS, PUT_ACTION, PUT_FEEDBACK, PUT_OFFER,
-    SET_ACTION, SET_OFFER,
+    LIST_ACTIONS, LIST_ENTRIES, LIST_TARGET_ACTIONS, NEXT_OFFER, PUT_ACTION, PUT_FEEDBACK,
+    PUT_GROUP_OFFERS, SET_ACTION, SET_OFFER,
 };
 pub use crate::artifact_row::{StoredArtifact, read_artifact, read_piece, read_stored_artifact};
 pub use crate::artifact_texts::{
@@ -35,8 +35,8 @@ pub use crate::rollout_row::{
 };
 pub use crate::rollout_texts::{
     CREATE_MEMBER, CREATE_ROLLOUT, CREATE_ROLLOUT_GROUP, FIND_ROLLOUT, GET_GROUP, GET_ROLLOUT,
-    HOLDING_GROUP, LAST_ROLLOUT, LIST_GROUPS, LIST_MEMBERS, LIST_ROLLOUTS, PUT_GROUP, PUT_MEMBER,
-    PUT_ROLLOUT, SET_GROUP, SET_ROLLOUT,
+    HOLDING_GROUP, LAST_ROLLOUT, LAST_STARTED, LIST_GROUPS, LIST_MEMBERS, LIST_ROLLOUTS, PUT_GROUP,
+    PUT_MEMBER, PUT_ROLLOUT, SET_GROUP, SET_ROLLOUT,
 };
 pub use crate::set_row::{SetName, read_set_module, read_set_name};
 pub use crate::set_texts::{

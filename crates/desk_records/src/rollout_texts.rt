@@ -41,6 +41,10 @@ pub const GET_GROUP: &str =
 pub const HOLDING_GROUP: &str =
     "SELECT number, first_place, last_place, started, ok, bad, gone FROM rollout_group WHERE rollout = ?1 AND first_place <= ?2 AND last_place >= ?2 ORDER BY number";
 
+/// The last group of a rollout that is started.
+pub const LAST_STARTED: &str =
+    "SELECT number, first_place, last_place, started, ok, bad, gone FROM rollout_group WHERE rollout = ?1 AND started = 1 ORDER BY number DESC LIMIT 1";
+
 /// A rollout that is neither started nor paused.
 pub const PUT_ROLLOUT: &str =
     "INSERT INTO rollout (number, name, dset, filter_text, groups, success, error, approval, started, paused) VALUES (?1, ?2, ?3, ?4, ?5, ?6, ?7, ?8, 0, 0)";

@@ -1,0 +1,102 @@
+-- The statement that offers the actions of a group, in ledgers.
+use Rattle.std.proofs.Common.{◌≡◌, ℕ, suc, ◌+◌, pos, Bool, true, false, cond, ◌&&◌, nat_le, nat_eq, List, [], ◌∷◌, map, filter, length, None, Some, refl, sym, ap, subst, ◌∙◌, arith, Ok}
+use Rattle.std.specs.List.{zip}
+use Rattle.sqlite_value.specs.declared.value.Value.TheVariants.{Null, Int}
+use Rattle.sqlite_value.specs.Order.{Row}
+use Rattle.sqlite.specs.Term.{lit}
+use Rattle.sqlite.specs.Source.TheVariants.{Query as Queried}
+use Rattle.sqlite.specs.Effect.{Database}
+use Rattle.sqlite.specs.State.{State, Writes}
+use Rattle.sqlite_rules.proofs.ListLemmas.{all_from}
+use Rattle.sqlite_resolve.specs.Given.{key_at}
+use Rattle.sql_front.proofs.Upsert.{key_found}
+use Rattle.sql_calls.specs.Keyed.{rows_from}
+use Rattle.sql_calls.proofs.KeyConflicts.{HasKeyIndex, key_index, key_only}
+use Rattle.sql_calls.proofs.NumberedTables.{numbered_in_order}
+use Rattle.sql_calls.proofs.Selects.{passes, shown_of}
+use Rattle.sql_calls.proofs.UpsertsFrom.{PutsEach, each_keeps, uncollated, upserts_from}
+use Rattle.rollout_machine.specs.Groups.{holds_position}
+use Rattle.rollout_machine.specs.Kinds.{TargetOffer}
+use Rattle.rollout_machine.specs.Records.{Records}
+use Rattle.rollout_machine.specs.declared.bounds.Bounds.{Bounds}
+use Rattle.rollout_machine.specs.declared.records.ActionRecord.{ActionRecord}
+use Rattle.offer_laws.specs.GroupOffers.{group_offers, member_of, offers_from, put_offers}
+use Rattle.desk_records.specs.Actions.{Tally, action_row}
+use Rattle.desk_records.specs.Holds.{HoldsLedger, Ledger}
+use Rattle.desk_records.specs.LedgerSteps.{OffersGroup}
+use Rattle.desk_records.specs.Schema.{OfRollouts, Actions, Offers, offer_table}
+use Rattle.desk_records.proofs.Comparisons.{numbers_at_least, numbers_at_most, numbers_equal}
+use Rattle.desk_records.proofs.GroupOffersMeaning.{in_group, group_columns, group_query, taking_query, put_group_offers_command}
+use Rattle.desk_records.proofs.OfferPuts.{puts_all, source_of}
+use Rattle.desk_records.proofs.OfferWrites.{offers_after}
+
+-- ---- the key
+
+key_of : (db : Database) (l : Ledger) (holds : HoldsLedger db l) → HasKeyIndex db.schema (offer_table (holds.spot (OfRollouts Offers)).tree) 1
+key_of db l holds = key_index db.schema db.trees (holds.spot (OfRollouts Offers)).at (offer_table (holds.spot (OfRollouts Offers)).tree) 0 1 holds.sound (holds.stands (OfRollouts Offers)).got refl
+
+-- the statement's target is the key
+pub offers_keyed : (db : Database) (l : Ledger) (holds : HoldsLedger db l) → key_at db.schema (offer_table (holds.spot (OfRollouts Offers)).tree) (1 ∷ []) ≡ Ok (1 ∷ [])
+offers_keyed db l holds = let key = key_of db l holds in key_found db.schema (offer_table (holds.spot (OfRollouts Offers)).tree) 1 refl key.index key.listed key.unique key.its key.columns
+
+-- ---- the rows of the source
+
+abbrev pub group_params : ℕ → Bounds → Row
+group_params number bounds = Int (pos number) ∷ Int (pos bounds.first) ∷ Int (pos bounds.last) ∷ []
+
+module _ (rs : Records) (number : ℕ) (bounds : Bounds) where
+  abbrev row : ℕ → ActionRecord × Tally → Row
+  row = action_row rs.rollouts
+
+  abbrev chosen : List Row → List Row
+  chosen = filter (passes in_group (group_params number bounds))
+
+  abbrev shown : List Row → List Row
+  shown = map (shown_of group_columns (group_params number bounds))
+
+  abbrev offered : ℕ → ActionRecord → TargetOffer
+  offered n a = record { target = member_of rs a; offer = record { action = n; canceling = false } }
+
+  selected : (n : ℕ) (it : ActionRecord × Tally) → passes in_group (group_params number bounds) (row n it) ≡ (nat_eq it.0.rollout number && holds_position it.0.position bounds)
+  selected n it = rw (numbers_equal it.0.rollout number, numbers_at_least it.0.position bounds.first, numbers_at_most it.0.position bounds.last) (grouped (nat_eq it.0.rollout number) (nat_le bounds.first it.0.position) (nat_le it.0.position bounds.last))
+    where
+      grouped : (x y z : Bool) → (x && (y && (z && true))) ≡ (x && (y && z))
+      grouped true true true = refl
+      grouped true true false = refl
+      grouped true false z = refl
+      grouped false y z = refl
+
+  shows_offers : (n : ℕ) (actions : List ActionRecord) (tallies : List Tally) → length tallies ≡ length actions
+      → shown (chosen (rows_from row n (zip actions tallies))) ≡ map source_of (offers_from rs number bounds n actions)
+  shows_offers n [] tallies long = refl
+  shows_offers n (a ∷ actions) [] long = absurd (omega (arith, long))
+  shows_offers n (a ∷ actions) (t ∷ tallies) long =
+      let next : n + 1 ≡ suc n = omega arith in
+      rw (selected n (a, t)) (go (nat_eq a.rollout number && holds_position a.position bounds) (ap (λ m. shown (chosen (rows_from row m (zip actions tallies)))) next ∙ shows_offers (suc n) actions tallies (omega (arith, long))))
+    where
+      go : (x : Bool) → shown (chosen (rows_from row (n + 1) (zip actions tallies))) ≡ map source_of (offers_from rs number bounds (suc n) actions)
+          → shown (cond x (row n (a, t) ∷ chosen (rows_from row (n + 1) (zip actions tallies))) (chosen (rows_from row (n + 1) (zip actions tallies)))) ≡ map source_of (cond x (offered n a ∷ offers_from rs number bounds (suc n) actions) (offers_from rs number bounds (suc n) actions))
+      go true h = ap (λ more. source_of (offered n a) ∷ more) h
+      go false h = h
+
+-- ---- the statement
+
+pub offers_group : (number : ℕ) (bounds : Bounds) (old new : State) (text : List ℕ) (count : ℕ) (l next : Ledger) (holds : HoldsLedger old.now l) → OffersGroup number bounds l next
+    → (w : Writes old new None (put_group_offers_command (holds.spot (OfRollouts Offers)).at (holds.spot (OfRollouts Offers)).tree (holds.spot (OfRollouts Actions)).tree) text (group_params number bounds) count) → HoldsLedger new.now next
+offers_group number bounds old new text count l next holds change w =
+    let spot = holds.spot (OfRollouts Offers) in
+    let stands = holds.stands (OfRollouts Offers) in
+    let from = (holds.spot (OfRollouts Actions)).tree in
+    let table = offer_table spot.tree in
+    let params = group_params number bounds in
+    let zs = zip l.records.actions l.tallies in
+    let key = key_only old.now.schema table 1 refl (key_of old.now l holds) holds.keyed in
+    let made = upserts_from old.now.schema spot.at table (Queried (record { lets = []; body = group_query from })) (Some (1 ∷ [])) (Some (record { lets = []; body = taking_query spot.tree })) stands.got stands.keyless old new refl text params count w in
+    let answer = uncollated from in_group group_columns _ (lit (Int _)) (lit (Int (pos 0))) _ _ params made.sources (made.is_source.answer Null) in
+    let sources : made.sources ≡ map source_of (group_offers l.records number bounds) =
+    numbered_in_order (action_row l.records.rollouts) (λ n x. refl) from in_group group_columns (lit (Int _)) (lit (Int (pos 0))) params old.now.trees zs (holds.rows (OfRollouts Actions)) made.sources answer
+    ∙ shows_offers l.records number bounds 1 l.records.actions l.tallies change.tallied in
+    let held = puts_all old.now.schema spot.tree key _ _ _ (group_offers l.records number bounds) l.offers old.now.trees new.now.trees (holds.rows (OfRollouts Offers))
+    (subst (λ rs. PutsEach old.now.schema table params (Some (1 ∷ [])) (Some (record { lets = []; body = taking_query spot.tree })) rs old.now.trees new.now.trees) sources made.puts) in
+    let others = all_from _ old.now.schema.tables (λ s listed free apart. each_keeps old.now.schema table params (Some (1 ∷ [])) (Some (record { lets = []; body = taking_query spot.tree })) made.sources old.now.trees new.now.trees made.puts s listed free apart) in
+    subst (HoldsLedger new.now) (sym change.next_is) (offers_after l (put_offers l.offers (group_offers l.records number bounds)) old.now new.now holds (record { schema = made.schema_is; sound = w.sound; others = others }) held)

@@ -1,0 +1,277 @@
+-- Offers that go in one after the other, as rows: each where its target has none, or else in place of one of a greater action.
+use Rattle.std.proofs.Common.{◌≡◌, ◌⊎◌, inl, inr, ◌≤◌, ℕ, pos, Bool, true, false, cond, ◌&&◌, nat_lt, List, [], ◌∷◌, ◌++◌, map, filter, drop, length, Option, Some, None, refl, sym, ap, ap₂, ◌∙◌, subst, arith, IsPermutation}
+use Rattle.std.specs.Ordering.{is_eq}
+use Rattle.std.proofs.lemmas.Bool.{cases_Bool}
+use Rattle.std.proofs.lemmas.List.Sorted.{length_permutation}
+use Rattle.sqlite_value.specs.declared.value.Value.{Value}
+use Rattle.sqlite_value.specs.declared.value.Value.TheVariants.{Int, Null, Text}
+use Rattle.sqlite_value.specs.Order.{Row, value_cmp, column}
+use Rattle.sqlite.specs.Tree.{Trees}
+use Rattle.sqlite_trees.specs.Tree.{rowid, put_row, without_rowid}
+use Rattle.sqlite.specs.Table.{Table}
+use Rattle.sqlite.specs.Schema.{Schema}
+use Rattle.sqlite_schema.specs.declared.program.Program.{Program}
+use Rattle.sqlite_schema.specs.declared.schema.Keys.TheVariants.{Enforced}
+use Rattle.sqlite_rules.specs.Keys.{conflicts, AreConflicts}
+use Rattle.sqlite_rules.specs.Lists.{Has}
+use Rattle.sqlite_rules.specs.Cast.{cast, cast_all, cast_row}
+use Rattle.sqlite_rules.specs.Edit.{next_rowid, edit_of, with_rowid, Applies}
+use Rattle.sqlite.specs.Rowids.TheVariants.{Chosen, Given}
+use Rattle.sqlite.specs.Term.{col}
+use Rattle.sqlite.specs.Rows.{shown}
+use Rattle.sqlite.proofs.Callers.{one_permutation}
+use Rattle.sqlite.specs.Kind.TheVariants.{Integer}
+use Rattle.sqlite_sql.specs.Ops.{binary, is_true}
+use Rattle.sqlite_sql.specs.declared.ops.BinaryOp.TheVariants.{Compare}
+use Rattle.sqlite_sql.specs.declared.ops.CompareOp.TheVariants.{Eq, Lt}
+use Rattle.sqlite.specs.Collation.TheVariants.{Binary}
+use Rattle.sql_calls.specs.Keyed.{IsHeldBy}
+use Rattle.sql_calls.proofs.KeyConflicts.{IsKeyOnly}
+use Rattle.sql_calls.proofs.KeyedRows.{IsBlind, on_content, held_added, held_seen, held_changed, next_is, found_id}
+use Rattle.sql_calls.proofs.KeyedTables.{one_written, written}
+use Rattle.sql_calls.proofs.NumberedRows.{cast_int, cast_null}
+use Rattle.sql_calls.proofs.Selects.{passes, shown_of, simple_rows}
+use Rattle.sql_calls.proofs.Upserts.{Puts, Resolved}
+use Rattle.sql_calls.proofs.UpsertsFrom.{PutsEach}
+use Rattle.rollout_machine.specs.ByteStrings.{same_bytes}
+use Rattle.rollout_machine.specs.Commands.{Bytes}
+use Rattle.rollout_machine.specs.Kinds.{TargetOffer, offer_to}
+use Rattle.rollout_machine.proofs.TargetTies.{same_true}
+use Rattle.rollout_model.specs.declared.rollout.Offer.{Offer}
+use Rattle.offer_laws.specs.GroupOffers.{OffersById, lesser, put_offer, put_offers}
+use Rattle.desk_records.specs.Rollouts.{flag}
+use Rattle.desk_records.specs.Schema.{offer_table}
+use Rattle.desk_records.specs.Offers.{HoldsOffers, offer_row}
+use Rattle.desk_records.proofs.ActionMeaning.{of_controller}
+use Rattle.desk_records.proofs.ActionRecords.{its_offers, names_offer}
+use Rattle.desk_records.proofs.Comparisons.{and_true, judged, numbers_below}
+use Rattle.desk_records.proofs.GroupOffersMeaning.{takes_lesser, taken_columns, taking_query}
+use Rattle.desk_records.proofs.OfferWrites.{its_more, its_set, offers_set, other_offer, rows_set}
+
+-- ---- lists of rows
+
+few : {X : Type 0} (xs ys : List X) → IsPermutation xs ys → length xs ≤ 1 → ys ≡ xs
+few [] [] same low = refl
+few [] (y ∷ ys) same low = absurd (omega (arith, length_permutation _ _ same))
+few (x ∷ []) ys same low = one_permutation x ys same
+few (x ∷ y ∷ xs) ys same low = absurd (omega (arith, low))
+
+none_passes : (p : Row → Bool) (rows : List Row) → ((r : Row) → Has rows r → p r ≡ true → ⊥) → filter p rows ≡ []
+none_passes p [] h = refl
+none_passes p (r ∷ rows) h = go (p r) refl (none_passes p rows (λ s there. h s (inr there)))
+  where
+    go : (b : Bool) → p r ≡ b → filter p rows ≡ [] → cond b (r ∷ filter p rows) (filter p rows) ≡ []
+    go true e more = absurd (h r (inl refl) e)
+    go false e more = more
+
+is_among : (p : Row → Bool) (rows : List Row) (r : Row) → Has rows r → p r ≡ true → Has (filter p rows) r
+is_among p [] r there passes_it = absurd there
+is_among p (s ∷ rows) r (inl same) passes_it = let e : p s ≡ true = ap p (sym same) ∙ passes_it in rw e (inl same)
+is_among p (s ∷ rows) r (inr there) passes_it =
+    let more = is_among p rows r there passes_it in elim (p s) as (λ b. Has (cond b (s ∷ filter p rows) (filter p rows)) r) [ true ↦ inr more | false ↦ more ]
+
+only_one : (found r : Row) → Has (found ∷ []) r → r ≡ found
+only_one found r (inl same) = same
+only_one found r (inr none) = absurd none
+
+map_none : (f : Row → Row) (rows : List Row) → map f rows ≡ [] → rows ≡ []
+map_none f [] e = refl
+map_none f (r ∷ rows) e = cc
+
+map_one : (f : Row → Row) (rows : List Row) (x : Row) → map f rows ≡ x ∷ [] → (r : Row) × (rows ≡ r ∷ []) × (f r ≡ x)
+map_one f [] x e = absurd cc
+map_one f (r ∷ rows) x e =
+    let rest : map f rows ≡ [] = ap (drop 1) e in
+    let first : f r ≡ x = cc in
+    (r, ap (λ l. r ∷ l) (map_none f rows rest), first)
+
+filter_both : (a b : Row → Bool) (rows : List Row) → filter (λ r. a r && (b r && true)) rows ≡ filter a (filter b rows)
+filter_both a b [] = refl
+filter_both a b (r ∷ rows) = go (a r) (b r) refl (filter_both a b rows)
+  where
+    go : (x y : Bool) → a r ≡ x → filter (λ s. a s && (b s && true)) rows ≡ filter a (filter b rows)
+        → cond (x && (y && true)) (r ∷ filter (λ s. a s && (b s && true)) rows) (filter (λ s. a s && (b s && true)) rows) ≡ filter a (cond y (r ∷ filter b rows) (filter b rows))
+    go true true e ih = rw e (ap (λ l. r ∷ l) ih)
+    go true false e ih = ih
+    go false true e ih = rw e ih
+    go false false e ih = ih
+
+-- ---- the rows of an id
+
+module _ (id : Bytes) where
+  abbrev p : Row → Bool
+  p = passes of_controller (Text id ∷ [])
+
+  blind : IsBlind p
+  blind i x = refl
+
+  -- no row has the id, or one has, which is that of its offer
+  abbrev Finds : List Row → OffersById → Type 0
+  Finds rows offers = ((filter p rows ≡ []) × (offers id ≡ None)) ⊎ ((found : Row) × (y : Offer) × (filter p rows ≡ found ∷ []) × (offers id ≡ Some y) × (drop 1 found ≡ offer_row (record { target = id; offer = y })))
+
+  finds : (rows : List Row) (offers : OffersById) (h : HoldsOffers rows offers) → Finds rows offers
+  finds rows offers h = go (offers id) refl
+    where
+      seen : IsPermutation (map (on_content (drop 1)) (filter (on_content p) (map offer_row h.listed))) (map (drop 1) (filter p rows))
+      seen = held_seen p blind (drop 1) (λ i x. refl) rows (map offer_row h.listed) h.held
+
+      its : filter (on_content p) (map offer_row h.listed) ≡ map offer_row (offer_to id (offers id))
+      its = its_offers (on_content p) id (names_offer id []) h.listed ∙ ap (map offer_row) (h.its id)
+
+      go : (o : Option Offer) → offers id ≡ o → Finds rows offers
+      go None e =
+          let none : filter (on_content p) (map offer_row h.listed) ≡ [] = its ∙ ap (λ o. map offer_row (offer_to id o)) e in
+          inl (map_none (drop 1) _ (few [] _ (subst (λ l. IsPermutation (map (on_content (drop 1)) l) (map (drop 1) (filter p rows))) none seen) (omega arith)), e)
+      go (Some y) e =
+          let c : Row = offer_row (record { target = id; offer = y }) in
+          let one : filter (on_content p) (map offer_row h.listed) ≡ c ∷ [] = its ∙ ap (λ o. map offer_row (offer_to id o)) e in
+          let it : (r : Row) × (filter p rows ≡ r ∷ []) × (drop 1 r ≡ c) = map_one (drop 1) _ c (few (c ∷ []) _ (subst (λ l. IsPermutation (map (on_content (drop 1)) l) (map (drop 1) (filter p rows))) one seen) (omega arith)) in
+          inr (it.0, y, it.1, e, it.2)
+
+-- ---- the offer of an id
+
+-- it goes in
+put_is : (new : TargetOffer) (offers : OffersById) (o : Option Offer) → offers new.target ≡ o → lesser o (Some new.offer) ≡ Some new.offer → (t : Bytes) → cond (same_bytes new.target t) (Some new.offer) (offers t) ≡ put_offer offers new t
+put_is new offers o there less t = go (same_bytes new.target t) refl
+  where
+    go : (b : Bool) → same_bytes new.target t ≡ b → cond b (Some new.offer) (offers t) ≡ cond b (lesser (offers t) (Some new.offer)) (offers t)
+    go false e = refl
+    go true e = sym (ap (λ x. lesser x (Some new.offer)) (ap offers (sym (same_true new.target t e)) ∙ there) ∙ less)
+
+-- it doesn't
+kept_is : (new : TargetOffer) (offers : OffersById) (y : Offer) → offers new.target ≡ Some y → nat_lt new.offer.action y.action ≡ false → (t : Bytes) → put_offer offers new t ≡ offers t
+kept_is new offers y there greater t = go (same_bytes new.target t) refl
+  where
+    go : (b : Bool) → same_bytes new.target t ≡ b → cond b (lesser (offers t) (Some new.offer)) (offers t) ≡ offers t
+    go false e = refl
+    go true e =
+        let its : offers t ≡ Some y = ap offers (sym (same_true new.target t e)) ∙ there in
+        ap (λ o. lesser o (Some new.offer)) its ∙ ap (λ b. Some (cond b new.offer y)) greater ∙ sym its
+
+-- ---- one row
+
+settled : (tree : ℕ) (o : TargetOffer) → cast_all (offer_table tree).columns (offer_row o) ≡ offer_row o
+settled tree o = rw (cast_int o.offer.action, cast_int (flag o.offer.canceling)) refl
+
+names_it : (n i : ℕ) → is_true (binary (Compare Eq Binary) (Int (pos i)) (Int (pos n))) ≡ is_eq (value_cmp (Int (pos i)) (Int (pos n)))
+unfolding binary
+names_it n i = judged _
+
+module _ (schema : Schema) (tree : ℕ) (key : IsKeyOnly schema (offer_table tree) 1) (a b c : Value) (new : TargetOffer) (offers : OffersById) (db : Trees) (h : HoldsOffers (db tree) offers) where
+  abbrev table : Table
+  table = offer_table tree
+
+  abbrev params : Row
+  params = a ∷ b ∷ c ∷ []
+
+  abbrev rows : List Row
+  rows = db tree
+
+  abbrev wanted : List Row
+  wanted = map offer_row h.listed
+
+  abbrev row : Row
+  row = Int (next_rowid rows) ∷ offer_row new
+
+  abbrev its : Row → Bool
+  its = p new.target
+
+  abbrev target : Option (List ℕ)
+  target = Some (1 ∷ [])
+
+  abbrev update : Option Program
+  update = Some (record { lets = []; body = taking_query tree })
+
+  row_is : with_rowid Chosen rows (cast_row table (Null ∷ offer_row new)) ≡ row
+  row_is = rw (cast_null, cast_int new.offer.action, cast_int (flag new.offer.canceling)) refl
+
+  meets : (r : Row) → conflicts target schema.indexes table row r ≡ its r
+  meets r = key row r ∙ sym (and_true _)
+
+  -- it goes in
+  added : (next : Trees) → AreConflicts target schema.indexes table rows row [] → Applies schema Enforced db (edit_of db table [] Given 0 (row ∷ [])) next → HoldsOffers (next tree) (put_offer offers new)
+  added next met applies =
+      let none : filter its rows ≡ [] = none_passes its rows (λ r there e. met.complete r there (meets r ∙ e)) in
+      let id = next_is rows wanted h.held in
+      let whole : cast Integer (Int (next_rowid rows)) ≡ Int (next_rowid rows) = ap (λ z. cast Integer (Int z)) id.1 ∙ cast_int id.0 ∙ ap Int (sym id.1) in
+      let put : next tree ≡ put_row row rows = applies.rows ∙ ap₂ (λ x y. put_row (x ∷ y) rows) whole (settled tree new) in
+      let unoffered : offers new.target ≡ None = nothing none (finds new.target rows offers h) in
+      record {
+        listed = new ∷ h.listed;
+        held = subst (λ l. IsHeldBy l (offer_row new ∷ wanted)) (sym put) (held_added rows wanted h.held (offer_row new));
+        its = λ t. its_more new.target t new.offer offers h.listed unoffered (h.its t) ∙ ap (offer_to t) (put_is new offers None unoffered refl t);
+      }
+    where
+      nothing : filter its rows ≡ [] → Finds new.target rows offers → offers new.target ≡ None
+      nothing none (inl it) = it.1
+      nothing none (inr it) = absurd (let both : it.0 ∷ [] ≡ [] = sym it.2 ∙ none in cc)
+
+  abbrev values_for : Row → Row
+  values_for x = column x 0 ∷ Int (pos new.offer.action) ∷ Int (pos (flag new.offer.canceling)) ∷ []
+
+  abbrev f : Row → Row
+  f x = cast_all table.columns (values_for x)
+
+  -- it meets the row of its id, which becomes another where the new action is less
+  became : (next : Trees) (found : Row) (y : Offer) → filter its rows ≡ found ∷ [] → offers new.target ≡ Some y → drop 1 found ≡ offer_row (record { target = new.target; offer = y })
+      → (there : Row) → there ≡ rowid found ∷ [] → Resolved schema table params update there row db next → HoldsOffers (next tree) (put_offer offers new)
+  became next found y one some content there at res =
+      let id = found_id its 1 rows h.held.order h.held.rising found one in
+      let is = subst (λ (t : Row). Resolved schema table params update t row db next) (at ∙ ap (λ r. rowid r ∷ []) id.3) res in
+      let given = params ++ Int (pos id.0) ∷ shown table row in
+      let less = λ (r : Row). is_true (binary (Compare Lt Binary) (Int (pos new.offer.action)) (column r 2)) in
+      let named = λ (r : Row). is_true (binary (Compare Eq Binary) (column r 0) (Int (pos id.0))) in
+      let alone : filter named rows ≡ found ∷ [] = id.4 named (λ i x. names_it id.0 i) in
+      let tested : filter (passes takes_lesser given) rows ≡ cond (less found) (found ∷ []) [] = filter_both less named rows ∙ ap (filter less) alone in
+      let its_content : id.2 ≡ offer_row (record { target = new.target; offer = y }) = sym (ap (drop 1) id.3) ∙ content in
+      let lower : less found ≡ nat_lt new.offer.action y.action = ap less id.3 ∙ ap (λ x. less (Int (pos id.0) ∷ x)) its_content ∙ numbers_below new.offer.action y.action in
+      let shows = shown_of (col 1 0 ∷ col 1 0 ∷ taken_columns) given in
+      let answer = simple_rows tree takes_lesser (col 1 0 ∷ col 1 0 ∷ taken_columns) given db is.0 (is.1.answer Null) in
+      elim (cases_Bool (nat_lt new.offer.action y.action)) [
+        | inl lt ↦
+            let rows_are : is.0 ≡ shows found ∷ [] = few (shows found ∷ []) is.0 (subst (λ l. IsPermutation (map shows l) is.0) (tested ∙ ap (λ b. cond b (found ∷ []) []) (lower ∙ lt)) answer) (omega arith) in
+            let made = held_changed its (blind new.target) f rows wanted h.held found one in
+            let shown_found : shows found ≡ Int (pos made.0) ∷ Int (pos made.0) ∷ values_for made.1 = ap shows made.2 in
+            let all : next tree ≡ put_row (Int (pos made.0) ∷ f made.1) (without_rowid (pos made.0) rows) =
+            is.2.rows ∙ ap (written table rows f) (rows_are ∙ ap (λ l. l ∷ []) shown_found) ∙ one_written table rows f made.0 (values_for made.1) in
+            let set = rows_set new.target new.offer (on_content its) f (names_offer new.target []) (λ o. settled tree (record o { offer = new.offer })) h.listed in
+            let less_is : lesser (Some y) (Some new.offer) ≡ Some new.offer = ap (λ b. Some (cond b new.offer y)) lt in
+            record {
+              listed = map (other_offer new.target new.offer) h.listed;
+              held = subst (λ l. IsHeldBy l (map offer_row (map (other_offer new.target new.offer) h.listed))) (sym all) (subst (IsHeldBy (put_row (Int (pos made.0) ∷ f made.1) (without_rowid (pos made.0) rows))) set made.3);
+              its = λ t. its_set new.target t new.offer h.listed ∙ ap (map (other_offer new.target new.offer)) (h.its t) ∙ offers_set new.target t new.offer y offers some ∙ ap (offer_to t) (put_is new offers (Some y) some less_is t);
+            }
+        | inr ge ↦
+            let rows_are : is.0 ≡ [] = few [] is.0 (subst (λ l. IsPermutation (map shows l) is.0) (tested ∙ ap (λ b. cond b (found ∷ []) []) (lower ∙ ge)) answer) (omega arith) in
+            let all : next tree ≡ rows = is.2.rows ∙ ap (written table rows f) rows_are in
+            record { listed = h.listed; held = subst (λ l. IsHeldBy l wanted) (sym all) h.held; its = λ t. h.its t ∙ ap (offer_to t) (sym (kept_is new offers y some ge t)) }
+      ]
+
+  resolved : (next : Trees) (there : Row) (more : List Row) → AreConflicts target schema.indexes table rows row (there ∷ more) → Resolved schema table params update there row db next → HoldsOffers (next tree) (put_offer offers new)
+  resolved next there more met res =
+      let it = met.sound there (inl refl) in
+      by it.0 (is_among its rows it.0 it.1 (sym (meets it.0) ∙ it.2)) it.3 (finds new.target rows offers h)
+    where
+      by : (r : Row) → Has (filter its rows) r → there ≡ rowid r ∷ [] → Finds new.target rows offers → HoldsOffers (next tree) (put_offer offers new)
+      by r here is (inl none) = absurd (subst (λ l. Has l r) none.0 here)
+      by r here is (inr one) =
+          let same : r ≡ one.0 = only_one one.0 r (subst (λ l. Has l r) one.2 here) in
+          became next one.0 one.1 one.2 one.3 one.4 there (is ∙ ap (λ (x : Row). rowid x ∷ []) same) res
+
+  puts_one : (next : Trees) → Puts schema table params target update (with_rowid Chosen rows (cast_row table (Null ∷ offer_row new))) db next → HoldsOffers (next tree) (put_offer offers new)
+  puts_one next puts = elim (subst (λ (r : Row). Puts schema table params target update r db next) row_is puts) [
+    | inl it ↦ added next it.0 it.1
+    | inr it ↦ resolved next it.0 it.1 it.2 it.3
+  ]
+
+-- ---- all rows
+
+-- as the source has it
+abbrev pub source_of : TargetOffer → Row
+source_of o = Null ∷ offer_row o
+
+pub puts_all : (schema : Schema) (tree : ℕ) → IsKeyOnly schema (offer_table tree) 1 → (a b c : Value) (os : List TargetOffer) (offers : OffersById) (db next : Trees) → HoldsOffers (db tree) offers
+    → PutsEach schema (offer_table tree) (a ∷ b ∷ c ∷ []) (Some (1 ∷ [])) (Some (record { lets = []; body = taking_query tree })) (map source_of os) db next → HoldsOffers (next tree) (put_offers offers os)
+puts_all schema tree key a b c [] offers db next h each = subst (λ (d : Trees). HoldsOffers (d tree) offers) (sym each) h
+puts_all schema tree key a b c (o ∷ os) offers db next h each =
+    puts_all schema tree key a b c os (put_offer offers o) each.0 next (puts_one schema tree key a b c o offers db h each.0 each.1) each.2
