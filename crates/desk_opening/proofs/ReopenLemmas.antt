@@ -1,12 +1,9 @@
 -- From files that were opened to what the connection stands for.
-use Rattle.std.proofs.Common.{◌≡◌, ◌⊎◌, inl, inr, ℕ, ◌+◌, pos, Bool, false, List, [], ◌∷◌, Ok, Err, Result, IfOk, IfErr, refl, sym, ap, subst, ◌∙◌, arith}
-use Rattle.std.specs.List.{AllZip}
+use Rattle.std.proofs.Common.{◌≡◌, ◌⊎◌, inl, inr, ℕ, Bool, false, List, Ok, Err, Result, IfOk, IfErr, sym, subst, arith}
 use Rattle.std.proofs.Math.Logic.{∥∥₁_elim}
 use Rattle.std.proofs.Math.Bool.{Bool-set}
 use mathlib.Core.HLevel.{Π_prop}
 use Rattle.sqlite_trees.specs.Props.{Trees-set, AllByRecursion-prop}
-use Rattle.sqlite_value.specs.declared.value.Value.TheVariants.{Int, Text}
-use Rattle.sqlite.specs.Order.{Row}
 use Rattle.sqlite.specs.Tree.{Trees}
 use Rattle.sqlite.specs.Schema.{Schema}
 use Rattle.sqlite.specs.Table.{Table}
@@ -21,10 +18,12 @@ use Rattle.sqlite_store.specs.declared.store.FileStore.{FileStore}
 use Rattle.sqlite_store.specs.FileStore as store
 use Rattle.sqlite_trees.proofs.Doubt.{no_doubt}
 use Rattle.sqlite.specs.State.{State, HasCleanDisk, Opens, IsLive}
-use Rattle.sqlite_catalog.specs.Listing.{IsSound, IsTableRow}
+use Rattle.sqlite_catalog.specs.Listing.{IsSound}
 use Rattle.sqlite_catalog.specs.Change.{is_used}
 use Rattle.sql_front.specs.Stands.{Stands}
+use Rattle.sqlite_rules.specs.Lists.{Has}
 use Rattle.sql_calls.specs.Standing.{HoldIn, IsAtRest, Rests}
+use Rattle.sql_calls.proofs.Schemas.{same_indexes, same_tables}
 use Rattle.sql_front.specs.Free.{LeavesFree}
 use Rattle.rollout_machine.specs.Records.{Records}
 use Rattle.desk_records.specs.Schema.{desk_names}
@@ -36,39 +35,24 @@ use Rattle.desk_opening.specs.Reopening.{Reopens, Refuses, RefusesStore, LeavesU
 use Rattle.desk_opening.proofs.BlankLemmas.{nothing_is_unused}
 use Rattle.desk_opening.proofs.HeldLemmas.{held_fails, free_fails}
 
--- ---- trees list one list of tables alone
-
-zip_same : {A B : Type 0} (R : A → B → Type 0) → ((a : A) (x y : B) → R a x → R a y → x ≡ y) → (rs : List A) (xs ys : List B) → AllZip R rs xs → AllZip R rs ys → xs ≡ ys
-zip_same R one [] [] [] h k = refl
-zip_same R one [] [] (y ∷ ys) h k = absurd k
-zip_same R one [] (x ∷ xs) ys h k = absurd h
-zip_same R one (a ∷ rs) [] ys h k = absurd h
-zip_same R one (a ∷ rs) (x ∷ xs) [] h k = absurd k
-zip_same R one (a ∷ rs) (x ∷ xs) (y ∷ ys) h k = let same = one a x y h.0 k.0 in let more = zip_same R one rs xs ys h.1 k.1 in cc
-
-one_table : (row : Row) (s t : Table) → IsTableRow row s → IsTableRow row t → s ≡ t
-one_table row s t h k =
-    let texts : Text h.sql ≡ Text k.sql = sym h.sql_is ∙ k.sql_is in
-    let sql : h.sql ≡ k.sql = cc in
-    let ids : Int (pos (s.tree + 1)) ≡ Int (pos (t.tree + 1)) = sym h.described.id ∙ k.described.id in
-    let up : s.tree + 1 ≡ t.tree + 1 = cc in
-    let tree : s.tree ≡ t.tree = omega arith in
-    let made : Ok h.defined.0 ≡ Ok k.defined.0 = sym h.defined.1 ∙ ap (λ x. Rattle.sqlite_resolve.specs.Compile.table_defined_by x) sql ∙ k.defined.1 in
-    let same : h.defined.0 ≡ k.defined.0 = cc in
-    h.defined.2 ∙ ap (λ (m : Table). record m { tree = s.tree }) same ∙ ap (λ n. let it : Table = record k.defined.0 { tree = n } in it) tree ∙ sym k.defined.2
-
-same_tables : (s z : Schema) (db : Trees) → IsSound s db → IsSound z db → s.tables ≡ z.tables
-same_tables s z db h k = zip_same IsTableRow one_table _ s.tables z.tables h.lists.listed.tables k.lists.listed.tables
+-- ---- whichever schema an open finds
 
 stands_over : (s z : Schema) (name : List ℕ) (at : ℕ) (table : Table) → z.tables ≡ s.tables → Stands s name at table → Stands z name at table
 stands_over s z name at table same stands = record { named = rw same stands.named; got = rw same stands.got; found = rw same stands.found; keyless = rw same stands.keyless; stored = stands.stored }
 
--- whichever schema an open finds, it finds the records
+-- it finds the records
 holds_over : (z : Schema) (trees : Trees) (r : Records) → IsSound z trees → HoldIn HoldsRecords trees r → HoldsRecords (record { schema = z; trees = trees }) r
 holds_over z trees r sound held =
     let h = held.1 in
     let same = same_tables z held.0 trees sound h.sound in
-    record { sound = sound; spot = h.spot; stands = λ t. stands_over held.0 z _ _ _ same (h.stands t); rows = h.rows; sorted = h.sorted }
+    record {
+      sound = sound;
+      spot = h.spot;
+      stands = λ t. stands_over held.0 z _ _ _ same (h.stands t);
+      rows = h.rows;
+      sorted = h.sorted;
+      keyed = λ index there. h.keyed index (subst (λ indexes. Has indexes index) (same_indexes z held.0 trees sound h.sound) there);
+    }
 
 -- ---- a connection that was just opened
 

@@ -1,8 +1,13 @@
 -- What each text of the making does.
-use Rattle.std.proofs.Common.{◌≡◌, ◌≢◌, inl, inr, ℕ, ◌+◌, ◌<◌, ◌^◌, ◌==◌, Bool, true, false, List, [], ◌∷◌, ◌++◌, length, codes, pos, map, drop, Some, None, Ok, find, if◌then◌else◌, refl, sym, ap, subst, ◌∙◌, arith}
+use Rattle.std.proofs.Common.{◌≡◌, ◌≢◌, inl, inr, ℕ, zero, suc, slice_index_or, ◌+◌, ◌<◌, ◌^◌, ◌==◌, Bool, true, false, List, [], ◌∷◌, ◌++◌, length, codes, pos, map, drop, Some, None, Ok, find, if◌then◌else◌, refl, sym, ap, subst, ◌∙◌, arith}
 use Rattle.std.specs.List.{AllZip, AllByRecursion, position_from}
-use Rattle.std.proofs.lemmas.Bool.{true≢false}
-use Rattle.sqlite_value.specs.declared.value.Value.TheVariants.{Int}
+use Rattle.std.proofs.lemmas.Bool.{true≢false, and_parts, eqb-true}
+use Rattle.sqlite_value.specs.declared.value.Value.{Value}
+use Rattle.sqlite_value.specs.declared.value.Value.TheVariants.{Null, Int, Real, Text, Blob}
+use Rattle.sqlite_value.specs.declared.keys.Order.{Order}
+use Rattle.sqlite_value.specs.declared.keys.Collation.TheVariants.{Binary}
+use Rattle.sqlite_value.specs.Keys.{plain, first_key}
+use Rattle.sqlite_value.specs.Order.{column}
 use Rattle.sqlite.specs.Order.{Row}
 use Rattle.sqlite.specs.Schema.{Schema}
 use Rattle.sqlite.specs.Table.{Table}
@@ -14,8 +19,10 @@ use Rattle.sqlite_rules.specs.Lists.{Has}
 use Rattle.sqlite_schema.specs.Names.{same_name}
 use Rattle.sqlite_schema.specs.declared.schema.Index.{Index}
 use Rattle.sqlite_catalog.specs.Change.{next_tree, is_used, automatics}
-use Rattle.sqlite_catalog.specs.Listing.{IsTableRow}
-use Rattle.sqlite_catalog.proofs.StepLemmas.{same_itself}
+use Rattle.sqlite_catalog.specs.Listing.{IsTableRow, IsIndexRow, IsDefined}
+use Rattle.sqlite_catalog.proofs.LayoutLemmas.{zipped_left}
+use Rattle.sqlite_catalog.proofs.StepLemmas.{same_itself, table_below}
+use Rattle.sqlite_rules.proofs.ListLemmas.{has_got}
 use Rattle.sqlite_keyed.proofs.ListLemmas.{all-slice_get, IsPermutation-same}
 use Rattle.sqlite_resolve.specs.Compile.{table_defined_by}
 use Rattle.sql_front.specs.Stands.{Stands}
@@ -26,11 +33,12 @@ use Rattle.sqlite_rules.specs.Edit.{put_all, numbered}
 use Rattle.sqlite_rules.specs.Cast.{cast_row}
 use Rattle.sqlite.specs.Rowids.TheVariants.{Chosen}
 use Rattle.sql_calls.specs.Apart.{HasNoForeignKey}
+use Rattle.sql_calls.specs.KeyIndexes.{ComparesBytes}
 use Rattle.sql_calls.proofs.Inserts.{Inserted, inserts, uncounted, given_rows}
 use Rattle.sql_calls.proofs.NumberedRows.{cast_int, cast_null}
 use Rattle.rollout_machine.specs.RecordSteps.{no_records}
 use Rattle.rollout_machine.proofs.Answering.{made_records}
-use Rattle.desk_records.specs.Schema.{Place, Desk, Modules, Sets, SetModules, Artifacts, Pieces, Targets, TargetTags, TargetAttributes, OfRollouts, Rollouts, Members, Groups, Actions, Feedbacks, Offers, places, table_at, name_of, desk_table}
+use Rattle.desk_records.specs.Schema.{Place, Desk, Modules, Sets, SetModules, Artifacts, Pieces, Targets, TargetTags, TargetAttributes, OfRollouts, Rollouts, Members, Groups, Actions, Feedbacks, Offers, places, table_at, name_of, desk_table, offer_table}
 use Rattle.sql_calls.specs.Keyed.{IsHeldBy}
 use Rattle.desk_records.specs.Holds.{Spot, IsHeld, desk_row, ledger_of}
 use Rattle.desk_records.proofs.Meaning.{desk_terms}
@@ -54,6 +62,37 @@ has_middle (x ∷ front) more t = inr (has_middle front more t)
 
 low_tree : (db : Database) (front more : List Table) (t : Table) → IsDatabase db → db.schema.tables ≡ front ++ t ∷ more → t.tree < 2 ^ 31
 low_tree db front more t sound grown = let low = zip_low _ db.schema.tables sound.lists.listed.tables t (rw grown (has_middle front more t)) in omega (arith, low)
+
+-- ---- the indexes of a table
+
+its_tree : (table : Table) (index : Index) (sql : Value) → IsDefined table index sql → index.table ≡ table.tree
+its_tree table index Null is = ap (λ (i : Index). i.table) is.3
+its_tree table index (Int n) is = absurd is
+its_tree table index (Real x) is = absurd is
+its_tree table index (Text sql) is = ap (λ (i : Index). i.table) is.2
+its_tree table index (Blob b) is = absurd is
+
+-- in a sound database an index is that of a table, and so its tree is below the next
+index_owned : (db : Database) → IsDatabase db → (index : Index) → Has db.schema.indexes index → index.table < next_tree db.schema
+index_owned db sound index there =
+    let it = zipped_left (IsIndexRow db.schema.tables) _ db.schema.indexes index sound.lists.listed.indexes there in
+    let is = its_tree it.2.table index (column it.0 4) it.2.defined in
+    omega (arith, is, table_below db.schema it.2.table it.2.listed)
+
+abbrev pub AreInPlainOrder : List Order → Type 0
+AreInPlainOrder = AllByRecursion (λ order. order ≡ plain)
+
+plain_at : (orders : List Order) (k : ℕ) → AreInPlainOrder orders → slice_index_or orders k plain ≡ plain
+plain_at [] k h = refl
+plain_at (o ∷ orders) zero h = h.0
+plain_at (o ∷ orders) (suc k) h = plain_at orders k h.1
+
+plain_orders : (t : Place) → AreInPlainOrder (table_at t 0).orders
+plain_orders = each_place (λ t. AreInPlainOrder (table_at t 0).orders) (tt, ((refl, tt), ((refl, tt), ((refl, (refl, tt)), ((refl, tt), ((refl, tt), ((refl, tt), ((refl, tt), ((refl, tt), ((refl, tt), ((refl, tt), ((refl, (refl, (refl, tt))), ((refl, (refl, tt)), ((refl, tt), ((refl, tt), tt)))))))))))))))
+
+first_plain : (first_key plain).collation ≡ Binary
+unfolding first_key
+first_plain = refl
 
 -- ---- the tables
 
@@ -97,7 +136,22 @@ module _ (t : Place) (made left : List Place) (apart : AllByRecursion (HaveNames
   still_empty : (u : Place) → IsEmptyTable old.now u → IsEmptyTable new.now u
   still_empty u e =
       let kept : new.now.trees e.tree ≡ old.now.trees e.tree = all-slice_get (λ (x : Table). new.now.trees x.tree ≡ old.now.trees x.tree) s.tables e.at (table_at u e.tree) e.stands.got g.others in
-      record { at = e.at; tree = e.tree; stands = stands_kept s new.now.schema (name_of u) e.at (table_at u e.tree) (new_table ∷ g.more) g.tables ((is_place t).bare.references, g.bare) e.stands; empty = kept ∙ e.empty }
+      record { at = e.at; tree = e.tree; stands = stands_kept s new.now.schema (name_of u) e.at (table_at u e.tree) (new_table ∷ g.more) g.tables ((is_place t).bare.references, g.bare) e.stands; empty = kept ∙ e.empty; plainly = plainly }
+    where
+      low_one : (tree : ℕ) → tree < next_tree s → tree ≢ next_tree s
+      low_one tree low same = absurd (omega (arith, same, low))
+
+      plainly : (index : Index) → Has new.now.schema.indexes index → index.table ≡ e.tree → index.order ≡ plain
+      plainly index h on = elim (g.indexes index h) [
+        | inl there ↦ e.plainly index there on
+        | inr own ↦ absurd (low_one e.tree (table_below s (table_at u e.tree) (has_got s.tables e.at (table_at u e.tree) e.stands.got)) (sym on ∙ own.its))
+      ]
+
+  own_order : (index : Index) → Has new.now.schema.indexes index → index.table ≡ next_tree s → index.order ≡ plain
+  own_order index h on = elim (g.indexes index h) [
+    | inl there ↦ absurd (let low = index_owned old.now was.0 index there in omega (arith, low, on))
+    | inr own ↦ own.order ∙ plain_at (table_at t 0).orders own.place (plain_orders t)
+  ]
 
   spared : (u : Place) → same_name (table_at t 0).name (name_of u) ≡ false → is_used s (name_of u) ≡ false → is_used new.now.schema (name_of u) ≡ false
   spared u other unused = g.free (name_of u) unused other (λ tree next i. unindexed (name_of u) (is_place u).unindexed (record (table_at t 0) { tree = tree }) 0 next i (table_at t 0).uniques) (is_place u).unsequenced
@@ -109,7 +163,7 @@ module _ (t : Place) (made left : List Place) (apart : AllByRecursion (HaveNames
   pub table_made : HoldsTables new.now (made ++ t ∷ []) left
   table_made = (
     w.sound,
-    all_last (IsEmptyTable new.now) made t (all_kept (IsEmptyTable old.now) (IsEmptyTable new.now) still_empty made was.1) (record { at = length s.tables; tree = next_tree s; stands = made_last; empty = g.empty }),
+    all_last (IsEmptyTable new.now) made t (all_kept (IsEmptyTable old.now) (IsEmptyTable new.now) still_empty made was.1) (record { at = length s.tables; tree = next_tree s; stands = made_last; empty = g.empty; plainly = own_order }),
     still_free left apart was.2.1,
   )
 
@@ -175,6 +229,12 @@ module _ (approval : Bool) (old new : State) (text : List ℕ) (count : ℕ) (wa
   rows (OfRollouts Feedbacks) = no_parts (OfRollouts Feedbacks) refl
   rows (OfRollouts Offers) = record { listed = []; held = no_parts (OfRollouts Offers) refl; its = λ id. refl }
 
+  keyed : ComparesBytes new.now.schema (offer_table (spot_of (OfRollouts Offers)).tree) 1
+  keyed index there guarding on =
+      let e = at_place (OfRollouts Offers) in
+      let was_there : Has here.indexes index = subst (λ (x : Schema). Has x.indexes index) made.schema_is there in
+      ap (λ (o : Order). (first_key o).collation) (e.plainly index was_there (eqb-true index.table e.tree (and_parts _ _ guarding).1)) ∙ first_plain
+
   filled_with : HoldsStage new.now (Whole (no_records approval))
   filled_with = record {
     sound = w.sound;
@@ -182,6 +242,7 @@ module _ (approval : Bool) (old new : State) (text : List ℕ) (count : ℕ) (wa
     stands = λ t. subst (λ x. Stands x (name_of t) (at_place t).at (table_at t (at_place t).tree)) (sym made.schema_is) (at_place t).stands;
     rows = rows;
     sorted = refl;
+    keyed = keyed;
   }
 
   pub desk_filled : HoldsStage new.now (Whole (first_records approval))

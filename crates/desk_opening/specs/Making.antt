@@ -1,9 +1,12 @@
 -- The making of a new desk in a database that uses none of its names.
 use Rattle.std.specs.Prelude.{◌≡◌, ◌⊎◌, ℕ, Bool, List, [], map, Result, Ok, Err}
 use Rattle.std.specs.List.{AllByRecursion}
+use Rattle.sqlite_value.specs.Keys.{plain}
 use Rattle.sqlite.specs.Tree.{Trees}
 use Rattle.sqlite.specs.Effect.{Database, IsDatabase}
 use Rattle.sqlite.specs.State.{State, HasCleanDisk}
+use Rattle.sqlite_schema.specs.declared.schema.Index.{Index}
+use Rattle.sqlite_rules.specs.Lists.{Has}
 use Rattle.sql_front.specs.Stands.{Stands}
 use Rattle.sql_front.specs.Free.{LeavesFree}
 use Rattle.sql_calls.specs.Standing.{Wears, HoldIn, Rests, Changes}
@@ -21,12 +24,13 @@ pub data Stage : Type 0 where
   -- the tables hold these records
   Whole : Records → Stage
 
--- a table that stands, with no row
+-- a table that stands, with no row, and with indexes in plain order alone
 pub record IsEmptyTable (db : Database) (t : Place) : Type 0 where
   pub at : ℕ
   pub tree : ℕ
   pub stands : Stands db.schema (name_of t) at (table_at t tree)
   pub empty : db.trees tree ≡ []
+  pub plainly : (index : Index) → Has db.schema.indexes index → index.table ≡ tree → index.order ≡ plain
 
 abbrev pub HoldsStage : Database → Stage → Type 0
 HoldsStage db Free = IsDatabase db × LeavesFree db.schema desk_names
