@@ -11,3 +11,6 @@ pub mod RolloutCalls
 pub mod ActionCalls
 pub mod WriteCalls
 pub mod LedgersOfRecords
+pub mod CountingLemmas
+mod NextOfferCalls
+pub mod GroupOfferCalls

@@ -22,7 +22,7 @@ read_more is rows found at row one within same so_far has =
 
 module _ {A B : Type 0} (is : Row → A → Type 0) (row_of : B → Row) where
   -- what is read of one row tells of what the row was made of, and so does what is read of none
-  one_read : (Tells : Option A → Option B → Type 0) → Tells None None → ((a : A) (b : B) → is (row_of b) a → Tells (Some a) (Some b))
+  pub one_read : (Tells : Option A → Option B → Type 0) → Tells None None → ((a : A) (b : B) → is (row_of b) a → Tells (Some a) (Some b))
       → (found : Option A) (wanted : Option B) (row : Option Row) → IsReadAs is found row → row ≡ option_map row_of wanted → Tells found wanted
   one_read Tells none some found None None h same = subst (λ f. Tells f None) (sym h) none
   one_read Tells none some found (Some b) None h same = absurd cc

@@ -23,19 +23,19 @@ use Rattle.rollout_machine.specs.declared.records.GroupRecord.{GroupRecord}
 use Rattle.rollout_model.specs.declared.word.TargetKind.{TargetKind}
 use Rattle.rollout_model.specs.declared.word.Word.{Word}
 use Rattle.desk_records.specs.declared.texts.TheConstants.{GET_DESK}
-use Rattle.desk_records.specs.declared.rollout_texts.TheConstants.{FIND_ROLLOUT, LAST_ROLLOUT, GET_ROLLOUT, LIST_ROLLOUTS, LIST_MEMBERS, LIST_GROUPS, GET_GROUP, HOLDING_GROUP}
+use Rattle.desk_records.specs.declared.rollout_texts.TheConstants.{FIND_ROLLOUT, LAST_ROLLOUT, GET_ROLLOUT, LIST_ROLLOUTS, LIST_MEMBERS, LIST_GROUPS, GET_GROUP, HOLDING_GROUP, LAST_STARTED}
 use Rattle.desk_records.specs.declared.rollout_row.StoredRollout.{StoredRollout}
 use Rattle.desk_records.specs.Holds.{HoldsLedger, Ledger}
 use Rattle.desk_records.specs.Modules.{IsLastRow}
 use Rattle.desk_records.specs.RolloutRow.{IsRolloutRow, IsGroupRow, stored_rollout}
-use Rattle.desk_records.specs.Rollouts.{is_called, groups_of, members_of}
+use Rattle.desk_records.specs.Rollouts.{is_called, groups_of, last_started_group, members_of}
 use Rattle.desk_records.specs.Schema.{Desk, OfRollouts, Rollouts, Groups, Members}
 use Rattle.desk_records.specs.Codes.{flag_in}
 use Rattle.desk_records.proofs.DeskRecords.{gets_desk, told_desk}
 use Rattle.desk_records.proofs.Meaning.{desk_query, get_desk_is}
 use Rattle.desk_records.proofs.MeaningWords.{at_key}
-use Rattle.desk_records.proofs.RolloutMeaning.{same_name, last_rollout_query, rollout_columns, rollout_names, list_rollouts_query, group_names, list_groups_query, get_group_query, holding_group_query, find_rollout_is, last_rollout_is, get_rollout_is, list_rollouts_is, list_members_query, list_members_is, list_groups_is, get_group_is, holding_group_is}
-use Rattle.desk_records.proofs.RolloutRecords.{finds_rollout, lasts_rollout, gets_rollout, lists_rollouts, lists_members, shown_group, lists_groups, gets_group, holds_group}
+use Rattle.desk_records.proofs.RolloutMeaning.{same_name, last_rollout_query, rollout_columns, rollout_names, list_rollouts_query, group_names, list_groups_query, get_group_query, holding_group_query, last_started_query, find_rollout_is, last_rollout_is, get_rollout_is, list_rollouts_is, list_members_query, list_members_is, list_groups_is, get_group_is, holding_group_is, last_started_is}
+use Rattle.desk_records.proofs.RolloutRecords.{finds_rollout, lasts_rollout, gets_rollout, lists_rollouts, lists_members, shown_group, lists_groups, gets_group, holds_group, lasts_started}
 use Rattle.desk_store.specs.Rows.{AreReadAs, IsApproval, IsReadAs}
 use Rattle.desk_store.proofs.LedgerReads.{ledger_knows, both_mapped, kept_flag, shown_rollout, one_rollout, one_group}
 use Rattle.desk_store.proofs.ModuleCalls.{one_last}
@@ -63,6 +63,9 @@ getting_group = ledger_knows (OfRollouts Groups) GET_GROUP.now (λ at tree. Sele
 
 abbrev pub holding_group : Knows HoldsLedger HOLDING_GROUP.now
 holding_group = ledger_knows (OfRollouts Groups) HOLDING_GROUP.now (λ at tree. Select (record { lets = []; body = holding_group_query tree }) group_names) holding_group_is
+
+abbrev pub last_started : Knows HoldsLedger LAST_STARTED.now
+last_started = ledger_knows (OfRollouts Groups) LAST_STARTED.now (λ at tree. Select (record { lets = []; body = last_started_query tree }) group_names) last_started_is
 
 abbrev pub listing_members : Knows HoldsLedger LIST_MEMBERS.now
 listing_members = ledger_knows (OfRollouts Members) LIST_MEMBERS.now (λ at tree. Select (record { lets = []; body = list_members_query tree }) (codes "controller" ∷ [])) list_members_is
@@ -141,3 +144,9 @@ pub holding_read : (number place : ℕ) → 1 ≤ number → (old new : State) (
 holding_read number place least old new row =
     takes_one IsGroupRow shown_group HOLDING_GROUP.now (Int (pos number) ∷ Int (pos place) ∷ []) old new holding_group (λ l. group_holding place (groups_of (item_numbered l.records.rollouts number))) ◌≡◌ refl (λ a b h. ap Some (one_group a b h)) (λ db l holds at given. tt) row
     (λ db l holds shown. holds_group db l holds group_names number place least row shown)
+
+pub last_started_read : (number : ℕ) → 1 ≤ number → (old new : State) (row : Option Row) → TakesFirst old new LAST_STARTED.now (Int (pos number) ∷ []) (Ok row) → (out : Result (Option GroupRecord) Fault) → IfOk out (λ found. IsReadAs IsGroupRow found row)
+    → Reads HoldsLedger old new out (λ l found. found ≡ last_started_group (groups_of (item_numbered l.records.rollouts number)))
+last_started_read number least old new row =
+    takes_one IsGroupRow shown_group LAST_STARTED.now (Int (pos number) ∷ []) old new last_started (λ l. last_started_group (groups_of (item_numbered l.records.rollouts number))) ◌≡◌ refl (λ a b h. ap Some (one_group a b h)) (λ db l holds at given. tt) row
+    (λ db l holds shown. lasts_started db l holds group_names number least row shown)

@@ -14,16 +14,16 @@ use Rattle.rollout_machine.specs.declared.bounds.Bounds.{Bounds}
 use Rattle.rollout_machine.specs.declared.outcome.Outcome.{Outcome}
 use Rattle.rollout_model.specs.declared.approval.Approval.{Approval}
 use Rattle.rollout_model.specs.declared.rollout.Offer.{Offer}
-use Rattle.desk_records.specs.declared.action_texts.TheConstants.{PUT_ACTION, SET_ACTION, PUT_FEEDBACK, PUT_OFFER, SET_OFFER, DROP_OFFER}
+use Rattle.desk_records.specs.declared.action_texts.TheConstants.{PUT_ACTION, SET_ACTION, PUT_FEEDBACK, SET_OFFER, DROP_OFFER}
 use Rattle.desk_records.specs.declared.rollout_texts.TheConstants.{PUT_ROLLOUT, SET_ROLLOUT, PUT_MEMBER, PUT_GROUP, SET_GROUP}
 use Rattle.desk_records.specs.Actions.{Tally}
 use Rattle.desk_records.specs.Holds.{HoldsLedger}
-use Rattle.desk_records.specs.LedgerSteps.{AddsRollout, SetsRollout, AddsMember, AddsGroup, SetsGroup, AddsAction, SetsAction, AddsEntry, AddsOffer, SetsOffer, with_offer}
+use Rattle.desk_records.specs.LedgerSteps.{AddsRollout, SetsRollout, AddsMember, AddsGroup, SetsGroup, AddsAction, SetsAction, AddsEntry, SetsOffer, with_offer}
 use Rattle.desk_records.specs.Rollouts.{member_row}
 use Rattle.desk_records.specs.Schema.{OfRollouts, Rollouts, Members, Groups, Actions, Feedbacks, Offers}
-use Rattle.desk_records.proofs.ActionMeaning.{feedback_terms, put_feedback_is, action_terms, set_action_query, offer_terms, set_offer_query, drop_offer_query, put_action_is, set_action_is, put_offer_is, set_offer_is, drop_offer_is}
+use Rattle.desk_records.proofs.ActionMeaning.{feedback_terms, put_feedback_is, action_terms, set_action_query, set_offer_query, drop_offer_query, put_action_is, set_action_is, set_offer_is, drop_offer_is}
 use Rattle.desk_records.proofs.LedgerWrites.{created_params, turned_params, scheduled_params, acted_params, adds_rollout, sets_rollout, adds_action, sets_action}
-use Rattle.desk_records.proofs.OfferWrites.{offered_params, adds_offer, sets_offer, drops_offer}
+use Rattle.desk_records.proofs.OfferWrites.{offered_params, sets_offer, drops_offer}
 use Rattle.desk_records.proofs.PartWrites.{entry_params, adds_entry, cut_params, counted_params, adds_member, adds_group, sets_group}
 use Rattle.desk_records.proofs.RolloutMeaning.{rollout_terms, set_rollout_query, member_terms, group_terms, set_group_query, put_rollout_is, set_rollout_is, put_member_is, put_group_is, set_group_is}
 use Rattle.desk_store.proofs.LedgerReads.{ledger_knows}
@@ -69,12 +69,6 @@ knows_set_action = ledger_knows (OfRollouts Actions) SET_ACTION.now (λ at tree.
 
 pub action_changed : (number : ℕ) (canceling : Bool) (outcome : Option Outcome) (tally : Tally) (old new : State) (out : Result (Unit {0}) Fault) → RunsText old new SET_ACTION.now (acted_params number canceling outcome tally) out → Writes HoldsLedger old new out (SetsAction number canceling outcome tally)
 action_changed number canceling outcome tally old new out h = writes HoldsLedger SET_ACTION.now (acted_params number canceling outcome tally) old new (SetsAction number canceling outcome tally) knows_set_action (λ db l holds. refl) out h (λ now next change holds count w. (w, sets_action number canceling outcome tally old new _ count now next holds change w))
-
-abbrev knows_put_offer : Knows HoldsLedger PUT_OFFER.now
-knows_put_offer = ledger_knows (OfRollouts Offers) PUT_OFFER.now (λ at tree. Insert at (Values offer_terms 4)) put_offer_is
-
-pub offer_written : (id : Bytes) (o : Offer) (old new : State) (out : Result (Unit {0}) Fault) → RunsText old new PUT_OFFER.now (offered_params id o) out → Writes HoldsLedger old new out (AddsOffer id o)
-offer_written id o old new out h = writes HoldsLedger PUT_OFFER.now (offered_params id o) old new (AddsOffer id o) knows_put_offer (λ db l holds. refl) out h (λ now next change holds count w. (w, adds_offer id o old new _ count now next holds change w))
 
 abbrev knows_set_offer : Knows HoldsLedger SET_OFFER.now
 knows_set_offer = ledger_knows (OfRollouts Offers) SET_OFFER.now (λ at tree. Update at (record { lets = []; body = set_offer_query tree })) set_offer_is

@@ -1,8 +1,13 @@
 -- How much work a call adds.
 use Rattle.std.specs.Prelude.{◌≤◌, ℕ, ◌+◌}
 use Rattle.sql_calls.specs.declared.calls.Work.{Work}
+use Rattle.desk_store.specs.declared.change.OpenChange.{OpenChange}
 
--- at most one statement, and at most so many rows
-pub record AddsAtMost (rows : ℕ) (old new : Work) : Type 0 where
-  pub statements : new.statements ≤ old.statements + 1
+-- at most so many statements, and at most so many rows
+pub record Adds (statements rows : ℕ) (old new : Work) : Type 0 where
+  pub run : new.statements ≤ old.statements + statements
   pub taken : new.rows ≤ old.rows + rows
+
+-- the same, of a change that is under way
+abbrev pub AddsIn : {S : Type 0} → ℕ → ℕ → OpenChange S → OpenChange S → Type 0
+AddsIn statements rows old new = Adds statements rows old.store.now.calls.work new.store.now.calls.work

@@ -1,5 +1,5 @@
 -- What a store ends as where no change begins.
-use Rattle.std.specs.Prelude.{Result}
+use Rattle.std.specs.Prelude.{◌≡◌, Result}
 use Rattle.std.specs.Borrow.{Fml, RattleType, MutBor, RestsIfErr}
 use Rattle.sqlite.specs.Store as store
 use Rattle.sqlite.specs.Held.{state}
@@ -11,6 +11,6 @@ use Rattle.desk_store.specs.declared.change.OpenChange.{OpenChange}
 use Rattle.desk_store.specs.contracts.store.DeskStore as desk
 
 module _ (S : RattleType) (g : store.Ghosts S.Denot) where
-  -- the records stand as before
+  -- the records stand as before, and nothing more is counted
   abbrev pub store_rests : MutBor (DeskStore S.Denot) → Result (OpenChange S.Denot) Fault → Fml
-  store_rests c r = RestsIfErr (desk.the_row S g) c (λ it. it.store.ghost_name) r (λ last. Keeps HoldsRecords (state g c.now.calls.conn) (state g last.calls.conn))
+  store_rests c r = RestsIfErr (desk.the_row S g) c (λ it. it.store.ghost_name) r (λ last. Keeps HoldsRecords (state g c.now.calls.conn) (state g last.calls.conn) × (last.calls.work ≡ c.now.calls.work))

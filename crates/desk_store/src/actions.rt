@@ -6,9 +6,10 @@ ghost use Rattle.std.specs.Option.{option_map};
 ghost use Rattle.rollout_machine.specs.ByteStrings.{item_numbered};
 ghost use Rattle.desk_records.specs.Actions.{history_of};
 ghost use Rattle.desk_records.specs.EntryRow.{IsEntryRow, keeps_details};
-ghost use Rattle.desk_records.specs.LedgerSteps.{AddsAction, AddsEntry, AddsOffer, SetsAction, SetsOffer, with_offer};
+ghost use Rattle.desk_records.specs.LedgerSteps.{AddsAction, AddsEntry, SetsAction, SetsOffer, with_offer};
+ghost use Rattle.desk_records.specs.NextOffers.{next_offer};
 ghost use Rattle.desk_records.specs.RolloutRow.{IsActionRow, IsListedActionRow, IsOfferRow, actions_for, actions_of, stored_action};
-ghost use Rattle.desk_store.specs.Counting.{AddsAtMost};
+ghost use Rattle.desk_store.specs.Counting.{AddsIn};
 ghost use Rattle.desk_store.specs.Ledgers.{ReadsLedger, WritesLedger};
 
 use crate::change::OpenChange;
@@ -17,7 +18,7 @@ use crate::from_row::FromRow;
 use crate::reading::{last_number, read_all, read_optional};
 use desk_records::{
     DROP_OFFER, GET_ACTION, GET_OFFER, LAST_ACTION, LIST_ACTIONS, LIST_ENTRIES,
-    LIST_TARGET_ACTIONS, ListedAction, PUT_ACTION, PUT_FEEDBACK, PUT_OFFER, RowFault, SET_ACTION,
+    LIST_TARGET_ACTIONS, ListedAction, NEXT_OFFER, PUT_ACTION, PUT_FEEDBACK, RowFault, SET_ACTION,
     SET_OFFER, StoredAction, read_entry, read_listed_action, read_offer, read_stored_action,
 };
 use rollout_machine::Outcome;
@@ -67,7 +68,7 @@ impl<'a, S: Alter> OpenChange<'a, S> {
     pub fn read_last_action(&mut self) -> Result<u32, Fault>
         ensures same_reference { self.new.store.ghost_name ≡ self.old.store.ghost_name }
         ensures reads { ReadsLedger S.Store self.old self.new result (λ l last. last ≡ length (zip l.records.actions l.tallies)) }
-        ensures work { AddsAtMost 1 self.old.store.now.calls.work self.new.store.now.calls.work }
+        ensures work { AddsIn 1 1 self.old self.new }
     {
         let row = self.store.calls.first(LAST_ACTION, &[])?;
         last_number(row)
@@ -77,7 +78,7 @@ impl<'a, S: Alter> OpenChange<'a, S> {
     pub fn read_action(&mut self, number: ActionNo) -> Result<Option<StoredAction>, Fault>
         ensures same_reference { self.new.store.ghost_name ≡ self.old.store.ghost_name }
         ensures reads { ReadsLedger S.Store self.old self.new result (λ l found. found ≡ option_map (stored_action l.records.rollouts) (item_numbered (zip l.records.actions l.tallies) number)) }
-        ensures work { AddsAtMost 1 self.old.store.now.calls.work self.new.store.now.calls.work }
+        ensures work { AddsIn 1 1 self.old self.new }
     {
         let alloc = self.store.alloc;
         let row = self.store.calls.first(GET_ACTION, params![number.get()])?;
@@ -139,10 +140,22 @@ impl<'a, S: Alter> OpenChange<'a, S> {
     pub fn read_offer(&mut self, id: &ControllerId) -> Result<Option<Offer>, Fault>
         ensures same_reference { self.new.store.ghost_name ≡ self.old.store.ghost_name }
         ensures reads { ReadsLedger S.Store self.old self.new result (λ l found. found ≡ l.offers id.now) }
-        ensures work { AddsAtMost 1 self.old.store.now.calls.work self.new.store.now.calls.work }
+        ensures work { AddsIn 1 1 self.old self.new }
     {
         let alloc = self.store.alloc;
         let row = self.store.calls.first(GET_OFFER, params![id.as_str()])?;
+        read_optional(alloc, row)
+    }
+
+    /// What the target of an id is to be offered: the first of its actions that is open and whose place a started group of its rollout
+    /// holds. A row that breaks a column's rule is a failed store.
+    pub fn read_next_offer(&mut self, id: &ControllerId) -> Result<Option<Offer>, Fault>
+        ensures same_reference { self.new.store.ghost_name ≡ self.old.store.ghost_name }
+        ensures reads { ReadsLedger S.Store self.old self.new result (λ l found. length l.tallies ≡ length l.records.actions → found ≡ next_offer l.records id.now) }
+        ensures work { AddsIn 1 1 self.old self.new }
+    {
+        let alloc = self.store.alloc;
+        let row = self.store.calls.first(NEXT_OFFER, params![id.as_str()])?;
         read_optional(alloc, row)
     }
 
@@ -156,7 +169,7 @@ impl<'a, S: Alter> OpenChange<'a, S> {
     ) -> Result<(), Fault>
         ensures same_reference { self.new.store.ghost_name ≡ self.old.store.ghost_name }
         ensures writes { WritesLedger S.Store self.old self.new result (AddsAction number rollout place id.now) }
-        ensures work { AddsAtMost 0 self.old.store.now.calls.work self.new.store.now.calls.work }
+        ensures work { AddsIn 1 0 self.old self.new }
     {
         self.store.calls.run(
             PUT_ACTION,
@@ -175,7 +188,7 @@ impl<'a, S: Alter> OpenChange<'a, S> {
     ) -> Result<(), Fault>
         ensures same_reference { self.new.store.ghost_name ≡ self.old.store.ghost_name }
         ensures writes { WritesLedger S.Store self.old self.new result (SetsAction number canceling outcome (record { notes = notes; entries = entries })) }
-        ensures work { AddsAtMost 0 self.old.store.now.calls.work self.new.store.now.calls.work }
+        ensures work { AddsIn 1 0 self.old self.new }
     {
         let canceling_code = flag_code(canceling);
         let outcome_code = code_of_outcome(outcome);
@@ -197,7 +210,7 @@ impl<'a, S: Alter> OpenChange<'a, S> {
     ) -> Result<(), Fault>
         ensures same_reference { self.new.store.ghost_name ≡ self.old.store.ghost_name }
         ensures writes { WritesLedger S.Store self.old self.new result (AddsEntry number sequence kind word details.now) }
-        ensures work { AddsAtMost 0 self.old.store.now.calls.work self.new.store.now.calls.work }
+        ensures work { AddsIn 1 0 self.old self.new }
     {
         self.store.calls.run(
             PUT_FEEDBACK,
@@ -205,24 +218,11 @@ impl<'a, S: Alter> OpenChange<'a, S> {
         )
     }
 
-    /// Offers something to a target that is offered nothing.
-    pub fn write_offer(&mut self, id: &ControllerId, offer: Offer) -> Result<(), Fault>
-        ensures same_reference { self.new.store.ghost_name ≡ self.old.store.ghost_name }
-        ensures writes { WritesLedger S.Store self.old self.new result (AddsOffer id.now offer) }
-        ensures work { AddsAtMost 0 self.old.store.now.calls.work self.new.store.now.calls.work }
-    {
-        let canceling = flag_code(offer.canceling);
-        self.store.calls.run(
-            PUT_OFFER,
-            params![id.as_str(), offer.action.get(), canceling],
-        )
-    }
-
     /// Offers a target something in place of what it is offered.
     pub fn change_offer(&mut self, id: &ControllerId, offer: Offer) -> Result<(), Fault>
         ensures same_reference { self.new.store.ghost_name ≡ self.old.store.ghost_name }
         ensures writes { WritesLedger S.Store self.old self.new result (SetsOffer id.now offer) }
-        ensures work { AddsAtMost 0 self.old.store.now.calls.work self.new.store.now.calls.work }
+        ensures work { AddsIn 1 0 self.old self.new }
     {
         let canceling = flag_code(offer.canceling);
         self.store.calls.run(
@@ -235,7 +235,7 @@ impl<'a, S: Alter> OpenChange<'a, S> {
     pub fn drop_offer(&mut self, id: &ControllerId) -> Result<(), Fault>
         ensures same_reference { self.new.store.ghost_name ≡ self.old.store.ghost_name }
         ensures writes { WritesLedger S.Store self.old self.new result (λ l next. next ≡ with_offer l id.now None) }
-        ensures work { AddsAtMost 0 self.old.store.now.calls.work self.new.store.now.calls.work }
+        ensures work { AddsIn 1 0 self.old self.new }
     {
         self.store.calls.run(DROP_OFFER, params![id.as_str()])
     }

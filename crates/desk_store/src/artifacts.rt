@@ -8,7 +8,7 @@ ghost use Rattle.rollout_machine.specs.Objects.{artifacts_shown};
 ghost use Rattle.desk_records.specs.ArtifactRow.{stored};
 ghost use Rattle.desk_records.specs.Artifacts.{is_same_artifact, piece_numbered, with_artifact, AddsPiece};
 ghost use Rattle.desk_store.specs.Changing.{ReadsIn, WritesIn};
-ghost use Rattle.desk_store.specs.Counting.{AddsAtMost};
+ghost use Rattle.desk_store.specs.Counting.{AddsIn};
 
 use crate::change::OpenChange;
 use crate::reading::{last_number, read_all, read_optional};
@@ -30,7 +30,7 @@ impl<'a, S: Alter> OpenChange<'a, S> {
         ensures same_reference { self.new.store.ghost_name ≡ self.old.store.ghost_name }
         ensures reads { ReadsIn S.Store self.old self.new result
             (λ r found. found ≡ list_any (is_same_artifact module_number filename.now) r.artifacts) }
-        ensures work { AddsAtMost 1 self.old.store.now.calls.work self.new.store.now.calls.work }
+        ensures work { AddsIn 1 1 self.old self.new }
     {
         let row = self.store.calls.first(
             FIND_ARTIFACT,
@@ -43,7 +43,7 @@ impl<'a, S: Alter> OpenChange<'a, S> {
     pub fn read_last_artifact(&mut self) -> Result<u32, Fault>
         ensures same_reference { self.new.store.ghost_name ≡ self.old.store.ghost_name }
         ensures reads { ReadsIn S.Store self.old self.new result (λ r last. last ≡ length r.artifacts) }
-        ensures work { AddsAtMost 1 self.old.store.now.calls.work self.new.store.now.calls.work }
+        ensures work { AddsIn 1 1 self.old self.new }
     {
         let row = self.store.calls.first(LAST_ARTIFACT, &[])?;
         last_number(row)
@@ -53,7 +53,7 @@ impl<'a, S: Alter> OpenChange<'a, S> {
     pub fn read_artifact(&mut self, number: ArtifactNo) -> Result<Option<StoredArtifact>, Fault>
         ensures same_reference { self.new.store.ghost_name ≡ self.old.store.ghost_name }
         ensures reads { ReadsIn S.Store self.old self.new result (λ r found. found ≡ option_map stored (item_numbered r.artifacts number)) }
-        ensures work { AddsAtMost 1 self.old.store.now.calls.work self.new.store.now.calls.work }
+        ensures work { AddsIn 1 1 self.old self.new }
     {
         let alloc = self.store.alloc;
         let row = self.store.calls.first(GET_ARTIFACT, params![number.get()])?;
@@ -84,7 +84,7 @@ impl<'a, S: Alter> OpenChange<'a, S> {
         ensures same_reference { self.new.store.ghost_name ≡ self.old.store.ghost_name }
         ensures reads { ReadsIn S.Store self.old self.new result
             (λ r found. option_map vec_items found ≡ piece_numbered r.artifacts number sequence) }
-        ensures work { AddsAtMost 1 self.old.store.now.calls.work self.new.store.now.calls.work }
+        ensures work { AddsIn 1 1 self.old self.new }
     {
         let alloc = self.store.alloc;
         let row = self
@@ -106,7 +106,7 @@ impl<'a, S: Alter> OpenChange<'a, S> {
         ensures same_reference { self.new.store.ghost_name ≡ self.old.store.ghost_name }
         ensures writes { WritesIn S.Store self.old self.new result
             (λ r next. (number ≡ length r.artifacts + 1) × (next ≡ with_artifact r module_number filename.now size digest.now)) }
-        ensures work { AddsAtMost 0 self.old.store.now.calls.work self.new.store.now.calls.work }
+        ensures work { AddsIn 1 0 self.old self.new }
     {
         self.store.calls.run(
             PUT_ARTIFACT,
@@ -130,7 +130,7 @@ impl<'a, S: Alter> OpenChange<'a, S> {
         ensures same_reference { self.new.store.ghost_name ≡ self.old.store.ghost_name }
         ensures writes { WritesIn S.Store self.old self.new result
             (AddsPiece number sequence bytes.now) }
-        ensures work { AddsAtMost 0 self.old.store.now.calls.work self.new.store.now.calls.work }
+        ensures work { AddsIn 1 0 self.old self.new }
     {
         self.store
             .calls

@@ -4,7 +4,7 @@ ghost use Rattle.std.specs.Prelude.{◌≡◌, ◌≤◌, ◌+◌};
 ghost use Rattle.rollout_machine.specs.Verdicts.{target_of};
 ghost use Rattle.desk_records.specs.Targets.{AddsAttribute, SetsAttribute, attributes_of};
 ghost use Rattle.desk_store.specs.Changing.{ReadsIn, WritesIn};
-ghost use Rattle.desk_store.specs.Counting.{AddsAtMost};
+ghost use Rattle.desk_store.specs.Counting.{AddsIn};
 
 use crate::change::OpenChange;
 use crate::reading::read_attributes;
@@ -38,7 +38,7 @@ impl<'a, S: Alter> OpenChange<'a, S> {
         ensures same_reference { self.new.store.ghost_name ≡ self.old.store.ghost_name }
         ensures writes { WritesIn S.Store self.old self.new result
             (AddsAttribute id.now attribute.now) }
-        ensures work { AddsAtMost 0 self.old.store.now.calls.work self.new.store.now.calls.work }
+        ensures work { AddsIn 1 0 self.old self.new }
     {
         self.store.calls.run(
             PUT_TARGET_ATTRIBUTE,
@@ -59,7 +59,7 @@ impl<'a, S: Alter> OpenChange<'a, S> {
         ensures same_reference { self.new.store.ghost_name ≡ self.old.store.ghost_name }
         ensures writes { WritesIn S.Store self.old self.new result
             (SetsAttribute id.now attribute.now) }
-        ensures work { AddsAtMost 0 self.old.store.now.calls.work self.new.store.now.calls.work }
+        ensures work { AddsIn 1 0 self.old self.new }
     {
         self.store.calls.run(
             SET_TARGET_ATTRIBUTE,

@@ -8,7 +8,7 @@ ghost use Rattle.rollout_machine.specs.ByteStrings.{item_numbered};
 ghost use Rattle.desk_records.specs.Holds.{HoldsRecords};
 ghost use Rattle.desk_records.specs.Modules.{is_same, with_module};
 ghost use Rattle.desk_store.specs.Changing.{ReadsIn, WritesIn};
-ghost use Rattle.desk_store.specs.Counting.{AddsAtMost};
+ghost use Rattle.desk_store.specs.Counting.{AddsIn};
 
 use crate::reading::{finished, last_number, read_optional};
 use crate::store::DeskStore;
@@ -27,7 +27,7 @@ impl<'a, S: Alter> OpenChange<'a, S> {
     pub fn read_same_module(&mut self, label: &ModuleLabel) -> Result<bool, Fault>
         ensures same_reference { self.new.store.ghost_name ≡ self.old.store.ghost_name }
         ensures reads { ReadsIn S.Store self.old self.new result (λ r found. found ≡ list_any (is_same label.now) r.modules) }
-        ensures work { AddsAtMost 1 self.old.store.now.calls.work self.new.store.now.calls.work }
+        ensures work { AddsIn 1 1 self.old self.new }
     {
         let row = self.store.calls.first(
             FIND_MODULE,
@@ -44,7 +44,7 @@ impl<'a, S: Alter> OpenChange<'a, S> {
     pub fn read_last_module(&mut self) -> Result<u32, Fault>
         ensures same_reference { self.new.store.ghost_name ≡ self.old.store.ghost_name }
         ensures reads { ReadsIn S.Store self.old self.new result (λ r last. last ≡ length r.modules) }
-        ensures work { AddsAtMost 1 self.old.store.now.calls.work self.new.store.now.calls.work }
+        ensures work { AddsIn 1 1 self.old self.new }
     {
         let row = self.store.calls.first(LAST_MODULE, &[])?;
         last_number(row)
@@ -54,7 +54,7 @@ impl<'a, S: Alter> OpenChange<'a, S> {
     pub fn read_module(&mut self, number: ModuleNo) -> Result<Option<ModuleLabel>, Fault>
         ensures same_reference { self.new.store.ghost_name ≡ self.old.store.ghost_name }
         ensures reads { ReadsIn S.Store self.old self.new result (λ r found. found ≡ item_numbered r.modules number) }
-        ensures work { AddsAtMost 1 self.old.store.now.calls.work self.new.store.now.calls.work }
+        ensures work { AddsIn 1 1 self.old self.new }
     {
         let alloc = self.store.alloc;
         let row = self.store.calls.first(GET_MODULE, params![number.get()])?;
@@ -65,7 +65,7 @@ impl<'a, S: Alter> OpenChange<'a, S> {
     pub fn write_module(&mut self, number: ModuleNo, label: &ModuleLabel) -> Result<(), Fault>
         ensures same_reference { self.new.store.ghost_name ≡ self.old.store.ghost_name }
         ensures writes { WritesIn S.Store self.old self.new result (λ r next. (number ≡ length r.modules + 1) × (next ≡ with_module r label.now)) }
-        ensures work { AddsAtMost 0 self.old.store.now.calls.work self.new.store.now.calls.work }
+        ensures work { AddsIn 1 0 self.old self.new }
     {
         self.store.calls.run(
             PUT_MODULE,
@@ -81,6 +81,7 @@ impl<'a, S: Alter> OpenChange<'a, S> {
     /// Commits the change. At `Ok` every crash leaves it, and at `Err`, which is `Store`, it or the records before it.
     pub fn commit(self) -> Result<(), Fault>
         ensures commits { Commits HoldsRecords (state S.Store self.entry.store.now.calls.conn) (state S.Store self.exit.0.now.calls.conn) result }
+        ensures work { self.exit.0.now.calls.work ≡ self.entry.store.now.calls.work }
         ensures store { IfErr result (λ e. e ≡ Fault.Store) }
     {
         let OpenChange { store } = self;
@@ -90,6 +91,7 @@ impl<'a, S: Alter> OpenChange<'a, S> {
     /// Gives the change up. At `Ok` the records stand as before it. An `Err` is `Store`.
     pub fn give_up(self) -> Result<(), Fault>
         ensures gives_up { GivesUp HoldsRecords (state S.Store self.entry.store.now.calls.conn) (state S.Store self.exit.0.now.calls.conn) result }
+        ensures work { self.exit.0.now.calls.work ≡ self.entry.store.now.calls.work }
         ensures store { IfErr result (λ e. e ≡ Fault.Store) }
     {
         let OpenChange { store } = self;

@@ -7,6 +7,7 @@ mod attributes;
 mod change;
 mod codes;
 mod from_row;
+mod group_offers;
 mod reading;
 mod rollouts;
 mod sets;

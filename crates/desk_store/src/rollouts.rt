@@ -9,8 +9,8 @@ ghost use Rattle.rollout_machine.specs.StateWords.{group_holding, group_numbered
 ghost use Rattle.desk_records.specs.LedgerSteps.{AddsGroup, AddsMember, AddsRollout, SetsGroup, SetsRollout};
 ghost use Rattle.desk_records.specs.ModuleRow.{StoredText};
 ghost use Rattle.desk_records.specs.RolloutRow.{IsGroupRow, IsRolloutRow, stored_rollout};
-ghost use Rattle.desk_records.specs.Rollouts.{groups_of, is_called, members_of};
-ghost use Rattle.desk_store.specs.Counting.{AddsAtMost};
+ghost use Rattle.desk_records.specs.Rollouts.{groups_of, is_called, last_started_group, members_of};
+ghost use Rattle.desk_store.specs.Counting.{AddsIn};
 ghost use Rattle.desk_store.specs.Ledgers.{ReadsLedger, WritesLedger};
 
 use crate::change::OpenChange;
@@ -18,9 +18,9 @@ use crate::codes::{code_of_approval, flag_code};
 use crate::from_row::FromRow;
 use crate::reading::{approval_in, last_number, read_all, read_optional};
 use desk_records::{
-    FIND_ROLLOUT, GET_DESK, GET_GROUP, GET_ROLLOUT, HOLDING_GROUP, LAST_ROLLOUT, LIST_GROUPS,
-    LIST_MEMBERS, LIST_ROLLOUTS, PUT_GROUP, PUT_MEMBER, PUT_ROLLOUT, RowFault, SET_GROUP,
-    SET_ROLLOUT, StoredRollout, read_group, read_member, read_stored_rollout,
+    FIND_ROLLOUT, GET_DESK, GET_GROUP, GET_ROLLOUT, HOLDING_GROUP, LAST_ROLLOUT, LAST_STARTED,
+    LIST_GROUPS, LIST_MEMBERS, LIST_ROLLOUTS, PUT_GROUP, PUT_MEMBER, PUT_ROLLOUT, RowFault,
+    SET_GROUP, SET_ROLLOUT, StoredRollout, read_group, read_member, read_stored_rollout,
 };
 use rollout_machine::{Bounds, GroupRecord};
 use rollout_model::{Approval, ControllerId, Page, RolloutNo, RolloutPlan, Text};
@@ -60,7 +60,7 @@ impl<'a, S: Alter> OpenChange<'a, S> {
     pub fn read_approval(&mut self) -> Result<bool, Fault>
         ensures same_reference { self.new.store.ghost_name ≡ self.old.store.ghost_name }
         ensures reads { ReadsLedger S.Store self.old self.new result (λ l approval. approval ≡ l.records.approval) }
-        ensures work { AddsAtMost 1 self.old.store.now.calls.work self.new.store.now.calls.work }
+        ensures work { AddsIn 1 1 self.old self.new }
     {
         let row = self.store.calls.first(GET_DESK, &[])?;
         approval_in(row)
@@ -70,7 +70,7 @@ impl<'a, S: Alter> OpenChange<'a, S> {
     pub fn read_same_rollout(&mut self, name: &Text) -> Result<bool, Fault>
         ensures same_reference { self.new.store.ghost_name ≡ self.old.store.ghost_name }
         ensures reads { ReadsLedger S.Store self.old self.new result (λ l found. found ≡ list_any (is_called name.now) l.records.rollouts) }
-        ensures work { AddsAtMost 1 self.old.store.now.calls.work self.new.store.now.calls.work }
+        ensures work { AddsIn 1 1 self.old self.new }
     {
         let row = self
             .store
@@ -83,7 +83,7 @@ impl<'a, S: Alter> OpenChange<'a, S> {
     pub fn read_last_rollout(&mut self) -> Result<u32, Fault>
         ensures same_reference { self.new.store.ghost_name ≡ self.old.store.ghost_name }
         ensures reads { ReadsLedger S.Store self.old self.new result (λ l last. last ≡ length l.records.rollouts) }
-        ensures work { AddsAtMost 1 self.old.store.now.calls.work self.new.store.now.calls.work }
+        ensures work { AddsIn 1 1 self.old self.new }
     {
         let row = self.store.calls.first(LAST_ROLLOUT, &[])?;
         last_number(row)
@@ -93,7 +93,7 @@ impl<'a, S: Alter> OpenChange<'a, S> {
     pub fn read_rollout(&mut self, number: RolloutNo) -> Result<Option<StoredRollout>, Fault>
         ensures same_reference { self.new.store.ghost_name ≡ self.old.store.ghost_name }
         ensures reads { ReadsLedger S.Store self.old self.new result (λ l found. found ≡ option_map stored_rollout (item_numbered l.records.rollouts number)) }
-        ensures work { AddsAtMost 1 self.old.store.now.calls.work self.new.store.now.calls.work }
+        ensures work { AddsIn 1 1 self.old self.new }
     {
         let alloc = self.store.alloc;
         let row = self.store.calls.first(GET_ROLLOUT, params![number.get()])?;
@@ -151,7 +151,7 @@ impl<'a, S: Alter> OpenChange<'a, S> {
     ) -> Result<Option<GroupRecord>, Fault>
         ensures same_reference { self.new.store.ghost_name ≡ self.old.store.ghost_name }
         ensures reads { ReadsLedger S.Store self.old self.new result (λ l found. found ≡ group_numbered group (groups_of (item_numbered l.records.rollouts number))) }
-        ensures work { AddsAtMost 1 self.old.store.now.calls.work self.new.store.now.calls.work }
+        ensures work { AddsIn 1 1 self.old self.new }
     {
         let alloc = self.store.alloc;
         let row = self
@@ -169,13 +169,24 @@ impl<'a, S: Alter> OpenChange<'a, S> {
     ) -> Result<Option<GroupRecord>, Fault>
         ensures same_reference { self.new.store.ghost_name ≡ self.old.store.ghost_name }
         ensures reads { ReadsLedger S.Store self.old self.new result (λ l found. found ≡ group_holding place (groups_of (item_numbered l.records.rollouts number))) }
-        ensures work { AddsAtMost 1 self.old.store.now.calls.work self.new.store.now.calls.work }
+        ensures work { AddsIn 1 1 self.old self.new }
     {
         let alloc = self.store.alloc;
         let row = self
             .store
             .calls
             .first(HOLDING_GROUP, params![number.get(), place])?;
+        read_optional(alloc, row)
+    }
+
+    /// The last group of a rollout that is started. A row that breaks a column's rule is a failed store.
+    pub fn read_last_started(&mut self, number: RolloutNo) -> Result<Option<GroupRecord>, Fault>
+        ensures same_reference { self.new.store.ghost_name ≡ self.old.store.ghost_name }
+        ensures reads { ReadsLedger S.Store self.old self.new result (λ l found. found ≡ last_started_group (groups_of (item_numbered l.records.rollouts number))) }
+        ensures work { AddsIn 1 1 self.old self.new }
+    {
+        let alloc = self.store.alloc;
+        let row = self.store.calls.first(LAST_STARTED, params![number.get()])?;
         read_optional(alloc, row)
     }
 
@@ -188,7 +199,7 @@ impl<'a, S: Alter> OpenChange<'a, S> {
     ) -> Result<(), Fault>
         ensures same_reference { self.new.store.ghost_name ≡ self.old.store.ghost_name }
         ensures writes { WritesLedger S.Store self.old self.new result (AddsRollout number plan.now approval) }
-        ensures work { AddsAtMost 0 self.old.store.now.calls.work self.new.store.now.calls.work }
+        ensures work { AddsIn 1 0 self.old self.new }
     {
         let success = u32::from(plan.success.get());
         let error = u32::from(plan.error.get());
@@ -218,7 +229,7 @@ impl<'a, S: Alter> OpenChange<'a, S> {
     ) -> Result<(), Fault>
         ensures same_reference { self.new.store.ghost_name ≡ self.old.store.ghost_name }
         ensures writes { WritesLedger S.Store self.old self.new result (SetsRollout number approval started paused) }
-        ensures work { AddsAtMost 0 self.old.store.now.calls.work self.new.store.now.calls.work }
+        ensures work { AddsIn 1 0 self.old self.new }
     {
         let approval_code = code_of_approval(approval);
         let started_code = flag_code(started);
@@ -238,7 +249,7 @@ impl<'a, S: Alter> OpenChange<'a, S> {
     ) -> Result<(), Fault>
         ensures same_reference { self.new.store.ghost_name ≡ self.old.store.ghost_name }
         ensures writes { WritesLedger S.Store self.old self.new result (AddsMember number place id.now) }
-        ensures work { AddsAtMost 0 self.old.store.now.calls.work self.new.store.now.calls.work }
+        ensures work { AddsIn 1 0 self.old self.new }
     {
         self.store
             .calls
@@ -254,7 +265,7 @@ impl<'a, S: Alter> OpenChange<'a, S> {
     ) -> Result<(), Fault>
         ensures same_reference { self.new.store.ghost_name ≡ self.old.store.ghost_name }
         ensures writes { WritesLedger S.Store self.old self.new result (AddsGroup number group bounds) }
-        ensures work { AddsAtMost 0 self.old.store.now.calls.work self.new.store.now.calls.work }
+        ensures work { AddsIn 1 0 self.old self.new }
     {
         self.store.calls.run(
             PUT_GROUP,
@@ -274,7 +285,7 @@ impl<'a, S: Alter> OpenChange<'a, S> {
     ) -> Result<(), Fault>
         ensures same_reference { self.new.store.ghost_name ≡ self.old.store.ghost_name }
         ensures writes { WritesLedger S.Store self.old self.new result (SetsGroup number group started ok bad gone) }
-        ensures work { AddsAtMost 0 self.old.store.now.calls.work self.new.store.now.calls.work }
+        ensures work { AddsIn 1 0 self.old self.new }
     {
         let started_code = flag_code(started);
         self.store.calls.run(

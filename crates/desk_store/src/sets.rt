@@ -9,7 +9,7 @@ ghost use Rattle.rollout_machine.specs.Verdicts.{is_named_by_set};
 ghost use Rattle.desk_records.specs.Sets.{is_same_set, with_set, AddsSetModule};
 ghost use Rattle.desk_records.specs.SetRow.{called};
 ghost use Rattle.desk_store.specs.Changing.{ReadsIn, WritesIn};
-ghost use Rattle.desk_store.specs.Counting.{AddsAtMost};
+ghost use Rattle.desk_store.specs.Counting.{AddsIn};
 
 use crate::change::OpenChange;
 use crate::reading::{last_number, read_all, read_optional};
@@ -25,7 +25,7 @@ impl<'a, S: Alter> OpenChange<'a, S> {
     pub fn read_same_set(&mut self, name: &Text, version: &Text) -> Result<bool, Fault>
         ensures same_reference { self.new.store.ghost_name ≡ self.old.store.ghost_name }
         ensures reads { ReadsIn S.Store self.old self.new result (λ r found. found ≡ list_any (is_same_set name.now version.now) r.sets) }
-        ensures work { AddsAtMost 1 self.old.store.now.calls.work self.new.store.now.calls.work }
+        ensures work { AddsIn 1 1 self.old self.new }
     {
         let row = self
             .store
@@ -38,7 +38,7 @@ impl<'a, S: Alter> OpenChange<'a, S> {
     pub fn read_last_set(&mut self) -> Result<u32, Fault>
         ensures same_reference { self.new.store.ghost_name ≡ self.old.store.ghost_name }
         ensures reads { ReadsIn S.Store self.old self.new result (λ r last. last ≡ length r.sets) }
-        ensures work { AddsAtMost 1 self.old.store.now.calls.work self.new.store.now.calls.work }
+        ensures work { AddsIn 1 1 self.old self.new }
     {
         let row = self.store.calls.first(LAST_SET, &[])?;
         last_number(row)
@@ -48,7 +48,7 @@ impl<'a, S: Alter> OpenChange<'a, S> {
     pub fn read_set(&mut self, number: SetNo) -> Result<Option<SetName>, Fault>
         ensures same_reference { self.new.store.ghost_name ≡ self.old.store.ghost_name }
         ensures reads { ReadsIn S.Store self.old self.new result (λ r found. found ≡ option_map called (item_numbered r.sets number)) }
-        ensures work { AddsAtMost 1 self.old.store.now.calls.work self.new.store.now.calls.work }
+        ensures work { AddsIn 1 1 self.old self.new }
     {
         let alloc = self.store.alloc;
         let row = self.store.calls.first(GET_SET, params![number.get()])?;
@@ -73,7 +73,7 @@ impl<'a, S: Alter> OpenChange<'a, S> {
     pub fn read_module_is_locked(&mut self, number: ModuleNo) -> Result<bool, Fault>
         ensures same_reference { self.new.store.ghost_name ≡ self.old.store.ghost_name }
         ensures reads { ReadsIn S.Store self.old self.new result (λ r locked. locked ≡ is_named_by_set r.sets number) }
-        ensures work { AddsAtMost 1 self.old.store.now.calls.work self.new.store.now.calls.work }
+        ensures work { AddsIn 1 1 self.old self.new }
     {
         let row = self
             .store
@@ -87,7 +87,7 @@ impl<'a, S: Alter> OpenChange<'a, S> {
         ensures same_reference { self.new.store.ghost_name ≡ self.old.store.ghost_name }
         ensures writes { WritesIn S.Store self.old self.new result
             (λ r next. (number ≡ length r.sets + 1) × (next ≡ with_set r name.now version.now)) }
-        ensures work { AddsAtMost 0 self.old.store.now.calls.work self.new.store.now.calls.work }
+        ensures work { AddsIn 1 0 self.old self.new }
     {
         self.store.calls.run(
             PUT_SET,
@@ -105,7 +105,7 @@ impl<'a, S: Alter> OpenChange<'a, S> {
         ensures same_reference { self.new.store.ghost_name ≡ self.old.store.ghost_name }
         ensures writes { WritesIn S.Store self.old self.new result
             (AddsSetModule number place added) }
-        ensures work { AddsAtMost 0 self.old.store.now.calls.work self.new.store.now.calls.work }
+        ensures work { AddsIn 1 0 self.old self.new }
     {
         self.store
             .calls

@@ -56,6 +56,7 @@ impl<S: Alter> DeskStore<S> {
 
     fn start(&mut self) -> Result<(), Fault>
         ensures runs { RunsText (state S.Store self.old.calls.conn) (state S.Store self.new.calls.conn) begin_text [] result }
+        ensures work { self.new.calls.work ≡ self.old.calls.work }
     {
         self.calls.begin()
     }
@@ -65,11 +66,12 @@ impl<S: Alter> DeskStore<S> {
     ghost use Rattle.std.specs.Borrow.{sem};
     ghost use Rattle.desk_store.specs.Lending.{store_rests};
 
-    /// Begins a change. Where that is refused, the records stand as before.
+    /// Begins a change. Where that is refused, the records stand as before. Counts nothing.
     pub fn begin(&mut self) -> Result<OpenChange<'_, S>, Fault>
         ensures* refused { sem 𝓛 (store_rests S.row S.Store self.entry result) }
         ensures same_reference { IfOk result (λ c. c.store.ghost_name ≡ self.entry.ghost_name) }
         ensures begun { IfOk result (λ c. Begins HoldsRecords (state S.Store self.old.calls.conn) (state S.Store c.store.now.calls.conn)) }
+        ensures work { IfOk result (λ c. c.store.now.calls.work ≡ self.old.calls.work) }
     {
         match self.start() {
             Ok(()) => Ok(OpenChange { store: self }),

@@ -6,7 +6,7 @@ ghost use Rattle.rollout_machine.specs.Verdicts.{tags_of, target_of};
 ghost use Rattle.desk_records.specs.TargetRow.{listed_target, stored_target};
 ghost use Rattle.desk_records.specs.Targets.{AddsTag, AddsTarget, renamed, untagged, with_changed};
 ghost use Rattle.desk_store.specs.Changing.{ReadsIn, WritesIn};
-ghost use Rattle.desk_store.specs.Counting.{AddsAtMost};
+ghost use Rattle.desk_store.specs.Counting.{AddsIn};
 
 use crate::change::OpenChange;
 use crate::reading::{counted_in, read_all, read_optional};
@@ -23,7 +23,7 @@ impl<'a, S: Alter> OpenChange<'a, S> {
     pub fn read_target(&mut self, id: &ControllerId) -> Result<Option<StoredTarget>, Fault>
         ensures same_reference { self.new.store.ghost_name ≡ self.old.store.ghost_name }
         ensures reads { ReadsIn S.Store self.old self.new result (λ r found. found ≡ option_map stored_target (target_of r id.now)) }
-        ensures work { AddsAtMost 1 self.old.store.now.calls.work self.new.store.now.calls.work }
+        ensures work { AddsIn 1 1 self.old self.new }
     {
         let alloc = self.store.alloc;
         let row = self.store.calls.first(GET_TARGET, params![id.as_str()])?;
@@ -64,7 +64,7 @@ impl<'a, S: Alter> OpenChange<'a, S> {
     pub fn read_target_count(&mut self) -> Result<u32, Fault>
         ensures same_reference { self.new.store.ghost_name ≡ self.old.store.ghost_name }
         ensures reads { ReadsIn S.Store self.old self.new result (λ r count. count ≡ length r.targets) }
-        ensures work { AddsAtMost 1 self.old.store.now.calls.work self.new.store.now.calls.work }
+        ensures work { AddsIn 1 1 self.old self.new }
     {
         let row = self.store.calls.first(COUNT_TARGETS, &[])?;
         counted_in(row)
@@ -80,7 +80,7 @@ impl<'a, S: Alter> OpenChange<'a, S> {
         ensures same_reference { self.new.store.ghost_name ≡ self.old.store.ghost_name }
         ensures writes { WritesIn S.Store self.old self.new result
             (AddsTarget id.now name.now digest.now) }
-        ensures work { AddsAtMost 0 self.old.store.now.calls.work self.new.store.now.calls.work }
+        ensures work { AddsIn 1 0 self.old self.new }
     {
         self.store.calls.run(
             PUT_TARGET,
@@ -97,7 +97,7 @@ impl<'a, S: Alter> OpenChange<'a, S> {
     ) -> Result<(), Fault>
         ensures same_reference { self.new.store.ghost_name ≡ self.old.store.ghost_name }
         ensures writes { WritesIn S.Store self.old self.new result (λ r next. next ≡ with_changed r id.now (renamed name.now digest.now)) }
-        ensures work { AddsAtMost 0 self.old.store.now.calls.work self.new.store.now.calls.work }
+        ensures work { AddsIn 1 0 self.old self.new }
     {
         self.store.calls.run(
             SET_TARGET,
@@ -110,7 +110,7 @@ impl<'a, S: Alter> OpenChange<'a, S> {
         ensures same_reference { self.new.store.ghost_name ≡ self.old.store.ghost_name }
         ensures writes { WritesIn S.Store self.old self.new result
             (AddsTag id.now tag.now) }
-        ensures work { AddsAtMost 0 self.old.store.now.calls.work self.new.store.now.calls.work }
+        ensures work { AddsIn 1 0 self.old self.new }
     {
         self.store
             .calls
@@ -121,7 +121,7 @@ impl<'a, S: Alter> OpenChange<'a, S> {
     pub fn drop_target_tag(&mut self, id: &ControllerId, tag: &Word) -> Result<(), Fault>
         ensures same_reference { self.new.store.ghost_name ≡ self.old.store.ghost_name }
         ensures writes { WritesIn S.Store self.old self.new result (λ r next. next ≡ with_changed r id.now (untagged tag.now)) }
-        ensures work { AddsAtMost 0 self.old.store.now.calls.work self.new.store.now.calls.work }
+        ensures work { AddsIn 1 0 self.old self.new }
     {
         self.store
             .calls

@@ -6,6 +6,7 @@ ghost use Rattle.rollout_machine.specs.Requests.{Poll, ShowCancel};
 ghost use Rattle.rollout_machine.specs.Verdicts.{is_known};
 ghost use Rattle.rollout_machine.specs.Views.{reply_of};
 ghost use Rattle.desk_store.specs.Changing.{ReadsIn};
+ghost use Rattle.desk_store.specs.Counting.{AddsIn};
 
 use desk_store::{Fault, OpenChange};
 use rollout_model::{ActionNo, Credential, Offer, Refusal, Reply};
@@ -18,6 +19,7 @@ pub fn knows_device<S: Alter>(
 ) -> Result<bool, Fault>
     ensures same_reference { change.new.store.ghost_name ≡ change.old.store.ghost_name }
     ensures reads { ReadsIn S.Store change.old change.new result (λ now known. known ≡ is_known now device.now) }
+    ensures work { AddsIn 1 1 change.old change.new }
 {
     let found = change.read_target(&device.id)?;
     match &found {

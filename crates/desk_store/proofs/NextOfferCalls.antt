@@ -1,0 +1,49 @@
+-- The call on the next offer, whose text names two tables.
+use Rattle.std.proofs.Common.{◌≡◌, ℕ, List, [], ◌∷◌, length, Option, Some, Ok, Err, Result, IfOk, refl, ap, codes}
+use Rattle.sqlite_value.specs.declared.value.Value.TheVariants.{Text}
+use Rattle.sqlite_value.specs.Order.{Row}
+use Rattle.sqlite.specs.Command.{Command}
+use Rattle.sqlite.specs.Command.TheVariants.{Select}
+use Rattle.sqlite.specs.Effect.{Database}
+use Rattle.sqlite.specs.Schema.{Schema}
+use Rattle.sqlite.specs.State.{State}
+use Rattle.sql_front.specs.Stands.{Stands}
+use Rattle.sql_calls.specs.declared.fault.Fault.{Fault}
+use Rattle.sql_calls.specs.Calls.{TakesFirst}
+use Rattle.sql_calls.specs.Standing.{Reads}
+use Rattle.sql_calls.proofs.Changes.{Knows, ShowsFirst}
+use Rattle.sql_calls.proofs.Means.{Means}
+use Rattle.sql_calls.proofs.TypedCalls.{takes_ok}
+use Rattle.rollout_machine.specs.Commands.{Bytes}
+use Rattle.rollout_model.specs.declared.rollout.Offer.{Offer}
+use Rattle.desk_records.specs.declared.action_texts.TheConstants.{NEXT_OFFER}
+use Rattle.desk_records.specs.Holds.{HoldsLedger, Ledger}
+use Rattle.desk_records.specs.NextOffers.{next_offer}
+use Rattle.desk_records.specs.RolloutRow.{IsOfferRow}
+use Rattle.desk_records.specs.Schema.{Place, OfRollouts, Actions, Groups, name_of, table_at}
+use Rattle.desk_records.proofs.ActionMeaning.{next_offer_query, next_offer_is}
+use Rattle.desk_records.proofs.ActionRecords.{told_offer}
+use Rattle.desk_records.proofs.NextOfferRecords.{gets_next_offer}
+use Rattle.desk_store.specs.Rows.{IsReadAs}
+use Rattle.desk_store.proofs.LedgerReads.{one_offer}
+use Rattle.desk_store.proofs.ReadLemmas.{one_read}
+
+-- what a text means wherever its two tables stand
+abbrev pub ledger_knows_two : (t u : Place) (sql : List ℕ) (command : ℕ → ℕ → Command) → ((s : Schema) (at tree nest other : ℕ) → Stands s (name_of t) at (table_at t tree) → Stands s (name_of u) nest (table_at u other) → Means s sql (command tree other)) → Knows HoldsLedger sql
+ledger_knows_two t u sql command means db l holds =
+    record { command = command (holds.spot t).tree (holds.spot u).tree; means = means db.schema (holds.spot t).at (holds.spot t).tree (holds.spot u).at (holds.spot u).tree (holds.stands t) (holds.stands u) }
+
+abbrev pub next : Knows HoldsLedger NEXT_OFFER.now
+next = ledger_knows_two (OfRollouts Actions) (OfRollouts Groups) NEXT_OFFER.now (λ tree other. Select (record { lets = []; body = next_offer_query tree other }) (codes "number" ∷ codes "canceling" ∷ [])) next_offer_is
+
+pub next_offer_read : (id : Bytes) (old new : State) (row : Option Row) → TakesFirst old new NEXT_OFFER.now (Text id ∷ []) (Ok row) → (out : Result (Option Offer) Fault) → IfOk out (λ found. IsReadAs IsOfferRow found row)
+    → Reads HoldsLedger old new out (λ l found. length l.tallies ≡ length l.records.actions → found ≡ next_offer l.records id)
+next_offer_read id old new row h out is_read =
+    takes_ok HoldsLedger NEXT_OFFER.now (Text id ∷ []) old new (λ l found. length l.tallies ≡ length l.records.actions → found ≡ next_offer l.records id) next (λ db l holds at given. tt) row h out (answers out is_read)
+  where
+    answers : (out : Result (Option Offer) Fault) → IfOk out (λ found. IsReadAs IsOfferRow found row)
+        → IfOk out (λ found. (db : Database) (l : Ledger) (holds : HoldsLedger db l) → ShowsFirst (next db l holds).command db (Text id ∷ []) row → length l.tallies ≡ length l.records.actions → found ≡ next_offer l.records id)
+    answers (Ok found) is = λ db l holds shown tallied.
+        one_read IsOfferRow told_offer ◌≡◌ refl (λ a b read. ap Some (one_offer a b read)) found (next_offer l.records id) row is
+        (gets_next_offer db l holds (codes "number" ∷ codes "canceling" ∷ []) id tallied row shown)
+    answers (Err e) is = tt
