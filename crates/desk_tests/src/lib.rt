@@ -15,3 +15,5 @@ mod puts;
 mod runs;
 #[cfg(test)]
 mod store;
+#[cfg(test)]
+mod work;

@@ -71,19 +71,19 @@ started_too (Some t) s is = go t.own.started refl is
 -- ---- what is made of it
 
 module _ (h : CommandList) (c : Command) (valid : IsValid h) (formed : IsWellFormed c) (accepted : check (records h) c ≡ None) (k : ℕ) (told : Option Told) (entries : List HistoryEntry) (tells : TellsEntries entries told) where
-  acts_on : (s : SeenAction) → IsSeen (ledger_of (records h)) k s → actor c ≡ Some s.action.target → s.own.started ≡ true → (gives : Option Outcome) (canceling : Bool)
+  acts_on : (s : SeenAction) → IsSeen (ledger_of (records h)) k s → actor c ≡ Some s.action.target → is_none s.action.outcome ≡ true → s.own.started ≡ true → (gives : Option Outcome) (canceling : Bool)
       → ChangesAction (change_by (action_view_seen s) gives canceling) entries k (records h) (step_records (records h) c) → Acts s (change_by (action_view_seen s) gives canceling) told (ledger_of (records h)) (ledger_of (step_records (records h) c))
-  acts_on s sees by begun gives canceling leads = go (known h k s sees)
+  acts_on s sees by unended begun gives canceling leads = go (known h k s sees)
     where
       go : IsKnown (records h) k s → Acts s (change_by (action_view_seen s) gives canceling) told (ledger_of (records h)) (ledger_of (step_records (records h) c))
-      go w = at s w.is by begun leads
+      go w = at s w.is by unended begun leads
         where
-          at : (t : SeenAction) → t ≡ seen_at (records h) k w.placed → actor c ≡ Some t.action.target → t.own.started ≡ true → ChangesAction (change_by (action_view_seen t) gives canceling) entries k (records h) (step_records (records h) c)
+          at : (t : SeenAction) → t ≡ seen_at (records h) k w.placed → actor c ≡ Some t.action.target → is_none t.action.outcome ≡ true → t.own.started ≡ true → ChangesAction (change_by (action_view_seen t) gives canceling) entries k (records h) (step_records (records h) c)
               → Acts t (change_by (action_view_seen t) gives canceling) told (ledger_of (records h)) (ledger_of (step_records (records h) c))
           at t is = subst
-              (λ (u : SeenAction). actor c ≡ Some u.action.target → u.own.started ≡ true → ChangesAction (change_by (action_view_seen u) gives canceling) entries k (records h) (step_records (records h) c)
+              (λ (u : SeenAction). actor c ≡ Some u.action.target → is_none u.action.outcome ≡ true → u.own.started ≡ true → ChangesAction (change_by (action_view_seen u) gives canceling) entries k (records h) (step_records (records h) c)
               → Acts u (change_by (action_view_seen u) gives canceling) told (ledger_of (records h)) (ledger_of (step_records (records h) c)))
-              (sym is) (λ by begun leads. acts h c valid formed accepted k w.placed told entries tells by gives canceling begun leads)
+              (sym is) (λ by unended begun leads. acts h c valid formed accepted k w.placed told entries tells by unended begun gives canceling leads)
 
   -- by a report
   may_act : (id : Bytes) (found seen : Option SeenAction) → MaySee k (ledger_of (records h)) found → seen ≡ only_started (only_of id found) → actor c ≡ Some id → (gives : Option Outcome) (canceling : Bool → Bool) (a : ReportedAction) (after : Option ActionChange)
@@ -102,7 +102,7 @@ module _ (h : CommandList) (c : Command) (valid : IsValid h) (formed : IsWellFor
           let is : after ≡ Some (change_by (action_view_seen s) gives (canceling s.action.canceling)) = made ∙ ap (λ b. cond b (Some (change_by (action_view_seen s) gives (canceling s.action.canceling))) None) unended in
           let leads2 : ChangesAction (change_by (action_view_seen s) gives (canceling s.action.canceling)) entries k (records h) (step_records (records h) c) = subst (λ o. MayChangeAction o entries k (records h) (step_records (records h) c)) is leads in
           subst (λ o. MayAct (Some s) o told (ledger_of (records h)) (ledger_of (step_records (records h) c))) (sym is)
-          (acts_on s (subst (λ o. MaySee k (ledger_of (records h)) o) its.is_found sees) (by ∙ ap (λ t. Some t) (sym its.target)) begun gives (canceling s.action.canceling) leads2)
+          (acts_on s (subst (λ o. MaySee k (ledger_of (records h)) o) its.is_found sees) (by ∙ ap (λ t. Some t) (sym its.target)) unended begun gives (canceling s.action.canceling) leads2)
       go false unended its begun made =
           let is : after ≡ None = made ∙ ap (λ b. cond b (Some (change_by (action_view_seen s) gives (canceling s.action.canceling))) None) unended in
           let leads2 : step_records (records h) c ≡ records h = subst (λ o. MayChangeAction o entries k (records h) (step_records (records h) c)) is leads in
@@ -154,6 +154,13 @@ begun_of v force none = go (is_some v.action.outcome) v.started (v.action.cancel
     go false true standing is = refl
     go false false standing is = cc
 
+open_of : (v : CancelView) (force : Bool) → cancel_refusal (Some v) force ≡ None → is_none v.action.outcome ≡ true
+open_of v force none = go v.action.outcome none
+  where
+    go : (o : Option Outcome) → first_of (is_some o) v.started (v.action.canceling && not force) ≡ None → is_none o ≡ true
+    go None is = refl
+    go (Some o) is = cc
+
 module _ (id : Bytes) (k : ℕ) (force : Bool) (seen : Option SeenAction) (accepted : RolloutChange) (formed : IsWellFormed (Cancel id k force)) (decides : Decides (view.Cancel (option_map cancel_view_seen seen)) (Cancel id k force) (Ok accepted))
     (makes : (o : ActionChange) × (accepted ≡ change.Cancel o) × MakesCancel (option_map cancel_view_seen seen) force o) where
   pub cancel_accepted : (h : CommandList) → IsValid h → SeesTarget id k (records h) seen → check (records h) (Cancel id k force) ≡ None
@@ -162,25 +169,26 @@ module _ (id : Bytes) (k : ℕ) (force : Bool) (seen : Option SeenAction) (accep
   pub cancel_acts : (h : CommandList) → IsValid h → SeesTarget id k (records h) seen → ActsBy seen accepted None (ledger_of (records h)) (ledger_of (step_records (records h) (Cancel id k force)))
   cancel_acts h valid w =
       let it = decides (records h) (records_are_sound h valid) (cancel_viewed h k id seen w) in
+      let unrefused : cancel_refusal (Some makes.2.0) force ≡ None = subst (λ v. cancel_refusal v force ≡ None) makes.2.1 makes.2.2 in
       let leads : ChangesAction makes.0 [] k (records h) (step_records (records h) (Cancel id k force)) = subst (λ o. LeadsTo o (Cancel id k force) (records h) (step_records (records h) (Cancel id k force))) makes.1 it.1 in
       record {
         after = Some makes.0;
         is_its = ap action_change_of makes.1;
-        acts = go seen w.action makes.2.0 makes.2.1 (begun_of makes.2.0 force (subst (λ v. cancel_refusal v force ≡ None) makes.2.1 makes.2.2)) makes.2.3 it.0 leads;
+        acts = go seen w.action makes.2.0 makes.2.1 (open_of makes.2.0 force unrefused) (begun_of makes.2.0 force unrefused) makes.2.3 it.0 leads;
       }
     where
       there : (gone : Bool) (s : SeenAction) → Some s ≡ cond gone None (only_of id w.found) → only_of id w.found ≡ Some s
       there true s is = cc
       there false s is = sym is
 
-      go : (o : Option SeenAction) → o ≡ cond (is_none (target_of (records h) id)) None (only_of id w.found) → (v : CancelView) → option_map cancel_view_seen o ≡ Some v → v.started ≡ true
+      go : (o : Option SeenAction) → o ≡ cond (is_none (target_of (records h) id)) None (only_of id w.found) → (v : CancelView) → option_map cancel_view_seen o ≡ Some v → is_none v.action.outcome ≡ true → v.started ≡ true
           → makes.0 ≡ change_by v.action (outcome_forced v.action.canceling force) true → check (records h) (Cancel id k force) ≡ None → ChangesAction makes.0 [] k (records h) (step_records (records h) (Cancel id k force))
           → MayAct o (Some makes.0) None (ledger_of (records h)) (ledger_of (step_records (records h) (Cancel id k force)))
-      go None is v viewed begun made none leads = cc
-      go (Some s) is v viewed begun made none leads =
+      go None is v viewed unended begun made none leads = cc
+      go (Some s) is v viewed unended begun made none leads =
           let view : cancel_view_seen s ≡ v = cc in
           let its = of_target id w.found s (there (is_none (target_of (records h) id)) s is) in
           let made_so : makes.0 ≡ change_by (action_view_seen s) (outcome_forced s.action.canceling force) true = made ∙ ap (λ (u : CancelView). change_by u.action (outcome_forced u.action.canceling force) true) (sym view) in
           subst (λ o. Acts s o None (ledger_of (records h)) (ledger_of (step_records (records h) (Cancel id k force)))) (sym made_so)
-          (acts_on h (Cancel id k force) valid formed none k None [] tt s (subst (λ o. MaySee k (ledger_of (records h)) o) its.is_found w.sees) (ap (λ t. Some t) (sym its.target)) (ap (λ (u : CancelView). u.started) view ∙ begun)
+          (acts_on h (Cancel id k force) valid formed none k None [] tt s (subst (λ o. MaySee k (ledger_of (records h)) o) its.is_found w.sees) (ap (λ t. Some t) (sym its.target)) (ap (λ (u : CancelView). is_none u.action.outcome) view ∙ unended) (ap (λ (u : CancelView). u.started) view ∙ begun)
           (outcome_forced s.action.canceling force) true (subst (λ o. ChangesAction o [] k (records h) (step_records (records h) (Cancel id k force))) made_so leads))

@@ -20,10 +20,7 @@ pub mod LookLemmas
 pub mod PieceLemmas
 pub mod PromiseLemmas
 pub mod DownloadLemmas
-pub mod OfferLemmas
-pub mod GroupLemmas
 pub mod SeenLemmas
-pub mod PlaceLemmas
 pub mod LedgerEnds
 pub mod StandingLemmas
 pub mod ProgressLemmas

@@ -8,6 +8,7 @@ use Rattle.sqlite.specs.WalReads.{AreClean}
 use Rattle.sqlite.specs.Closing.{IsCopied}
 use Rattle.sqlite.specs.Files.{IsClosed, file_state}
 use Rattle.sqlite.specs.FileStore.{recovers}
+use Rattle.sql_calls.specs.Calls.{no_work}
 use Rattle.sqlite.specs.Held.{Held}
 use Rattle.sqlite_store.specs.declared.store.FileStore.{FileStore}
 use Rattle.sqlite_store.specs.Laws.{stays_at}
@@ -51,7 +52,7 @@ reopened_desk image approval s h = record {
 }
 
 -- the desk is over the connection
-module _ {S : Type 0} (alloc : Global) (store : DeskStore S) (conn : Held S) (same : store.calls.conn ≡ conn) (desk : Desk S) (is : desk ≡ record { store = store; stopped = false; alloc = alloc }) where
+module _ {S : Type 0} (alloc : Global) (store : DeskStore S) (conn : Held S) (same : store.calls.conn ≡ conn) (desk : Desk S) (is : desk ≡ record { store = store; stopped = false; work = no_work; alloc = alloc }) where
   over_conn : desk.store.calls.conn ≡ conn
   over_conn = ap (λ (d : Desk S). d.store.calls.conn) is ∙ same
 

@@ -1,9 +1,9 @@
 -- Runs grow at their end by one request.
-use Rattle.std.proofs.Common.{◌≡◌, ◌≢◌, ◌≤◌, ◌<◌, ◌+◌, ℕ, true, false, zero, suc, length, take, drop, get_or, List, [], ◌∷◌, ◌++◌, map, refl, sym, ap, ◌∙◌, subst, append-nil, arith}
+use Rattle.std.proofs.Common.{Contains, inl, inr, ◌≡◌, ◌≢◌, ◌≤◌, ◌<◌, ◌+◌, ℕ, true, false, zero, suc, length, take, drop, get_or, List, [], ◌∷◌, ◌++◌, map, refl, sym, ap, ◌∙◌, subst, append-nil, arith}
 use Rattle.std.proofs.lemmas.Bool.{false≢true}
 use Rattle.std.proofs.lemmas.List.{map-append, take_all, take_more, take-append-drop}
 use Rattle.std.proofs.lemmas.List.Concat.{flat_map-append}
-use Rattle.std.proofs.lemmas.List.Elements.{All-append}
+use Rattle.std.proofs.lemmas.List.Elements.{All-append, Contains-push_cases}
 use Rattle.rollout_model.specs.declared.refusal.Refusal.TheVariants.{StoreFailed}
 use Rattle.rollout_model.specs.declared.request.Reply as model
 use Rattle.rollout_model.specs.declared.request.Request as asked
@@ -110,6 +110,20 @@ module _ {File : Type 0} (old middle new : DeskState File) (xs : List asked.Requ
       subst (λ (l : List Request). BreaksOff h new l (map reply_of after)) (asked_all xs i x few is)
       (subst (λ (l : List Reply). BreaksOff h new (map request_of (take i xs) ++ request_of x ∷ [] ++ map request_of (drop (i + 1) xs)) l) (replied_more before after reply pushed)
       (broke_off old middle new _ _ (request_of x) (reply_of reply) so_far worn applies (failed_true (reply_of reply) (sym failed)) (map request_of (drop (i + 1) xs)) h clean stands))
+
+-- no reply tells of a failed store
+abbrev pub NoneFailed : List model.Reply → Type 0
+NoneFailed replies = Contains (map reply_of replies) (Refused StoreFailed) → ⊥
+
+pub none_failed_yet : NoneFailed []
+none_failed_yet has = let few = has.1 in absurd (omega (arith, few))
+
+pub none_failed_more : (before after : List model.Reply) (reply : model.Reply) → after ≡ before ++ reply ∷ [] → false ≡ is_failed_store (reply_of reply) → NoneFailed before → NoneFailed after
+none_failed_more before after reply pushed other so_far has =
+    elim (Contains-push_cases (map reply_of before) (reply_of reply) (Refused StoreFailed) (subst (λ (l : List Reply). Contains l (Refused StoreFailed)) (sym (replied_more before after reply pushed)) has)) [
+      | inl earlier ↦ so_far earlier
+      | inr same ↦ absurd (false≢true (other ∙ ap is_failed_store same))
+    ]
 
 -- every request was answered
 pub all_ran : {File : Type 0} (old new : DeskState File) (xs : List asked.Request) (i : ℕ) (replies : List Reply) → length xs ≤ i → Ran old new (map request_of (take i xs)) replies → Ran old new (map request_of xs) replies

@@ -21,3 +21,4 @@ pub mod LedgerEnds
 pub mod Standings
 pub mod Creations
 pub mod Starts
+pub mod Working

@@ -7,6 +7,7 @@ ghost use Rattle.rollout_machine.specs.Commands.{Cancel as CancelCommand, Cancel
 ghost use Rattle.rollout_desk.specs.ActionSteps.{Acts, ActsBy, Follows, MayAct, TellsAction, WritesTold, action_change_of, canceling_by, entries_by, notes_by, outcome_by, stays_offered};
 ghost use Rattle.rollout_desk.specs.Offering.{MayReoffer};
 ghost use Rattle.rollout_desk.specs.Changing.{StepsIn, WritesAllLedger};
+ghost use Rattle.desk_store.specs.Counting.{AddsIn};
 
 use crate::endings::follow_ending;
 use crate::entries::{Told, more_if, one_more, tell_cancel, tell_deployment};
@@ -71,6 +72,7 @@ fn write_told<S: Alter>(
 ) -> Result<(), Fault>
     ensures same_reference { change.new.store.ghost_name ≡ change.old.store.ghost_name }
     ensures writes { WritesAllLedger S.Store change.old change.new result (WritesTold seen.now.number place told.now) }
+    ensures work { AddsIn 1 0 change.old change.new }
 {
     match told {
         Some(told) => change.write_entry(
@@ -93,6 +95,7 @@ fn tell_action<S: Alter>(
 ) -> Result<(), Fault>
     ensures same_reference { change.new.store.ghost_name ≡ change.old.store.ghost_name }
     ensures writes { WritesAllLedger S.Store change.old change.new result (TellsAction seen.now after.now told.now) }
+    ensures work { AddsIn 2 0 change.old change.new }
 {
     let notes = notes_with(seen.action.notes, told)?;
     let entries = entries_with(seen.action.entries, told)?;
@@ -125,6 +128,7 @@ fn offer_next<S: Alter>(
 ) -> Result<(), Fault>
     ensures same_reference { change.new.store.ghost_name ≡ change.old.store.ghost_name }
     ensures writes { WritesAllLedger S.Store change.old change.new result (MayReoffer (stays_offered seen.now.action.canceling after.now) seen.now.action.target) }
+    ensures work { AddsIn 2 1 change.old change.new }
 {
     if stays_offered(seen, after) {
         return Ok(());
@@ -140,6 +144,7 @@ fn follow<S: Alter>(
 ) -> Result<(), Fault>
     ensures same_reference { change.new.store.ghost_name ≡ change.old.store.ghost_name }
     ensures writes { WritesAllLedger S.Store change.old change.new result (Follows seen.now after.now) }
+    ensures work { AddsIn 5 1 change.old change.new }
 {
     match after {
         ActionChange::StaysOpen { .. } => Ok(()),
@@ -157,6 +162,7 @@ fn act<S: Alter>(
 ) -> Result<(), Fault>
     ensures same_reference { change.new.store.ghost_name ≡ change.old.store.ghost_name }
     ensures writes { WritesAllLedger S.Store change.old change.new result (Acts seen.now after.now told.now) }
+    ensures work { AddsIn 9 2 change.old change.new }
 {
     tell_action(change, seen, after, told)?;
     offer_next(change, seen, after)?;
@@ -172,6 +178,7 @@ fn may_act<S: Alter>(
 ) -> Result<(), Fault>
     ensures same_reference { change.new.store.ghost_name ≡ change.old.store.ghost_name }
     ensures writes { WritesAllLedger S.Store change.old change.new result (MayAct seen.now after.now told.now) }
+    ensures work { AddsIn 9 2 change.old change.new }
 {
     let Some(after) = after else {
         return Ok(());
@@ -203,6 +210,7 @@ fn act_by<S: Alter>(
 ) -> Result<(), Fault>
     ensures same_reference { change.new.store.ghost_name ≡ change.old.store.ghost_name }
     ensures writes { WritesAllLedger S.Store change.old change.new result (ActsBy seen.now accepted.now told.now) }
+    ensures work { AddsIn 9 2 change.old change.new }
 {
     let after = action_change(accepted)?;
     may_act(change, seen, &after, told)
@@ -234,6 +242,7 @@ pub(crate) fn take_feedback<S: Alter>(
 ) -> Result<Step, Fault>
     ensures same_reference { change.new.store.ghost_name ≡ change.old.store.ghost_name }
     ensures steps { StepsIn S.Store change.old change.new (Feedback report.now) result }
+    ensures work { AddsIn 14 24 change.old change.new }
 {
     report_is_well_formed(&report.credential, report.action, &report.details);
     let seen = see_report(change, &report.credential, report.action)?;
@@ -254,6 +263,7 @@ pub(crate) fn take_cancel_feedback<S: Alter>(
 ) -> Result<Step, Fault>
     ensures same_reference { change.new.store.ghost_name ≡ change.old.store.ghost_name }
     ensures steps { StepsIn S.Store change.old change.new (CancelFeedback report.now) result }
+    ensures work { AddsIn 14 24 change.old change.new }
 {
     report_is_well_formed(&report.credential, report.action, &report.details);
     let seen = see_report(change, &report.credential, report.action)?;

@@ -1,13 +1,15 @@
 //! One request as one change of the store.
 
-ghost use Rattle.std.specs.Prelude.{◌≡◌};
+ghost use Rattle.std.specs.Prelude.{◌≡◌, true};
 ghost use Rattle.sqlite.specs.Held.{state};
 ghost use Rattle.desk_records.specs.Holds.{HoldsRecords};
 ghost use Rattle.rollout_machine.specs.Requests.{Do, Ask};
 ghost use Rattle.rollout_machine.specs.Views.{command_of, query_of, reply_of};
 ghost use Rattle.desk_views.specs.Showing.{ShowsIn};
 ghost use Rattle.rollout_desk.specs.Changing.{StepsIn};
+ghost use Rattle.rollout_desk.specs.Working.{is_report};
 ghost use Rattle.rollout_desk.specs.Steps.{Handles, EndsByCommit, EndsByRollback};
+ghost use Rattle.desk_store.specs.Counting.{Adds, AddsIn};
 
 use crate::actions::{cancel_action, take_cancel_feedback, take_feedback};
 use crate::artifacts::add_artifact;
@@ -42,6 +44,7 @@ fn step<S: Alter>(
 ) -> Result<Step, Fault>
     ensures same_reference { change.new.store.ghost_name ≡ change.old.store.ghost_name }
     ensures steps { StepsIn S.Store change.old change.new (command_of command.now) result }
+    ensures work { is_report (command_of command.now) ≡ true → AddsIn 14 24 change.old change.new }
 {
     match command {
         Command::AddModule(label) => add_module(alloc, change, label),
@@ -110,7 +113,8 @@ fn answer<S: Alter>(
 
 /// Commits a change, and then gives the reply that was made.
 fn commit<S: Alter>(change: OpenChange<'_, S>, reply: Reply) -> Reply
-    ensures { EndsByCommit HoldsRecords (state S.Store change.entry.store.now.calls.conn) (state S.Store change.exit.0.now.calls.conn) (reply_of reply) (reply_of result) }
+    ensures ends { EndsByCommit HoldsRecords (state S.Store change.entry.store.now.calls.conn) (state S.Store change.exit.0.now.calls.conn) (reply_of reply) (reply_of result) }
+    ensures work { change.exit.0.now.calls.work ≡ change.entry.store.now.calls.work }
 {
     match change.commit() {
         Ok(()) => reply,
@@ -120,7 +124,8 @@ fn commit<S: Alter>(change: OpenChange<'_, S>, reply: Reply) -> Reply
 
 /// Gives a change up, and then the reply that was made.
 fn give_up<S: Alter>(change: OpenChange<'_, S>, reply: Reply) -> Reply
-    ensures { EndsByRollback HoldsRecords (state S.Store change.entry.store.now.calls.conn) (state S.Store change.exit.0.now.calls.conn) (reply_of reply) (reply_of result) }
+    ensures ends { EndsByRollback HoldsRecords (state S.Store change.entry.store.now.calls.conn) (state S.Store change.exit.0.now.calls.conn) (reply_of reply) (reply_of result) }
+    ensures work { change.exit.0.now.calls.work ≡ change.entry.store.now.calls.work }
 {
     match change.give_up() {
         Ok(()) => reply,
@@ -134,7 +139,8 @@ pub(crate) fn run_command<S: Alter>(
     store: &mut DeskStore<S>,
     command: &Command,
 ) -> Reply
-    ensures { Handles HoldsRecords (state S.Store store.old.calls.conn) (state S.Store store.new.calls.conn) (Do (command_of command.now)) (reply_of result) }
+    ensures handles { Handles HoldsRecords (state S.Store store.old.calls.conn) (state S.Store store.new.calls.conn) (Do (command_of command.now)) (reply_of result) }
+    ensures work { is_report (command_of command.now) ≡ true → Adds 14 24 store.old.calls.work store.new.calls.work }
 {
     command_is_well_formed(command);
     let mut change = match store.begin() {

@@ -5,6 +5,7 @@ ghost use Rattle.sql_calls.specs.declared.fault.Fault.TheVariants.{Store};
 ghost use Rattle.rollout_machine.specs.RecordSteps.{counted};
 ghost use Rattle.rollout_desk.specs.Changing.{WritesAllLedger};
 ghost use Rattle.rollout_desk.specs.Endings.{CountsOutcome, FollowsOutcome, PausesIf, StartsNamed, StartsNumbered};
+ghost use Rattle.desk_store.specs.Counting.{AddsIn};
 
 use crate::entries::one_more;
 use crate::groups::start_group;
@@ -43,6 +44,7 @@ fn count_outcome<S: Alter>(
 ) -> Result<(), Fault>
     ensures same_reference { change.new.store.ghost_name ≡ change.old.store.ghost_name }
     ensures writes { WritesAllLedger S.Store change.old change.new result (CountsOutcome seen.now outcome) }
+    ensures work { AddsIn 1 0 change.old change.new }
 {
     let group = counted(seen.own, outcome)?;
     change.change_group(
@@ -63,6 +65,7 @@ fn pause_if<S: Alter>(
 ) -> Result<(), Fault>
     ensures same_reference { change.new.store.ghost_name ≡ change.old.store.ghost_name }
     ensures writes { WritesAllLedger S.Store change.old change.new result (PausesIf seen.now pauses) }
+    ensures work { AddsIn 1 0 change.old change.new }
 {
     if pauses {
         change.change_rollout(seen.action.rollout, seen.approval, seen.started, true)
@@ -79,6 +82,7 @@ fn start_numbered<S: Alter>(
 ) -> Result<(), Fault>
     ensures same_reference { change.new.store.ghost_name ≡ change.old.store.ghost_name }
     ensures writes { WritesAllLedger S.Store change.old change.new result (StartsNumbered rollout number) }
+    ensures work { AddsIn 3 1 change.old change.new }
 {
     let found = change.read_group(rollout, number)?;
     match &found {
@@ -95,6 +99,7 @@ pub(crate) fn start_named<S: Alter>(
 ) -> Result<(), Fault>
     ensures same_reference { change.new.store.ghost_name ≡ change.old.store.ghost_name }
     ensures writes { WritesAllLedger S.Store change.old change.new result (StartsNamed rollout starts) }
+    ensures work { AddsIn 3 1 change.old change.new }
 {
     match starts {
         Some(number) => start_numbered(change, rollout, number),
@@ -110,6 +115,7 @@ pub(crate) fn follow_ending<S: Alter>(
 ) -> Result<(), Fault>
     ensures same_reference { change.new.store.ghost_name ≡ change.old.store.ghost_name }
     ensures writes { WritesAllLedger S.Store change.old change.new result (FollowsOutcome seen.now ending.now) }
+    ensures work { AddsIn 5 1 change.old change.new }
 {
     count_outcome(change, seen, ending.outcome)?;
     pause_if(change, seen, ending.effects.pauses)?;

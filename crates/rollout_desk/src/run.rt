@@ -1,7 +1,9 @@
 //! Requests one after the other.
 
-ghost use Rattle.std.specs.Prelude.{◌≡◌, true, Err, map, IfOk, MatchResult};
+ghost use Rattle.std.specs.Prelude.{◌≡◌, ◌≢◌, true, Err, map, Contains, IfOk, MatchResult};
+ghost use Rattle.rollout_model.specs.declared.refusal.Refusal.TheVariants.{StoreFailed};
 ghost use Rattle.rollout_machine.specs.CommandList.{CommandList};
+ghost use Rattle.rollout_machine.specs.Replies.{Refused};
 ghost use Rattle.rollout_machine.specs.Standing.{StandsFor, StaysStopped};
 ghost use Rattle.rollout_machine.specs.Views.{request_of, reply_of};
 ghost use Rattle.rollout_desk.specs.DeskStates.{desk_state};
@@ -14,7 +16,7 @@ use rollout_model::{Refusal, Reply, Request};
 use sqlite::Alter;
 
 impl<S: Alter> Desk<S> {
-    /// Answers requests one after the other. After a failed store it answers no more, so that reply is the last one. The memory of
+    /// Answers requests one after the other. After a failed store it answers no more, so that reply is the last one, and it is stopped. The memory of
     /// all replies is taken first: `NoMemory` says that nothing was done. A final report that is sent again, and an import that comes
     /// twice, leave no trace in what is kept and in any other reply.
     pub fn run(&mut self, requests: &[Request]) -> Result<Vec<Reply>, Refusal>
@@ -24,6 +26,8 @@ impl<S: Alter> Desk<S> {
             (λ refusal. (refusal ≡ Refusal.NoMemory) × StandsFor (desk_state S.Store self.new) h) }
         ensures once { (h : CommandList) → (desk_state S.Store self.new).is_clean → StandsFor (desk_state S.Store self.old) h
             → IfOk result (λ replies. EndsOnce h (desk_state S.Store self.new) (map request_of requests.now) (map reply_of replies.items)) }
+        ensures stops { MatchResult result (λ replies. Contains (map reply_of replies.items) (Refused StoreFailed) → (desk_state S.Store self.new).is_stopped ≡ true)
+            (λ refusal. refusal ≢ StoreFailed) }
         ensures stopped { (desk_state S.Store self.old).is_stopped ≡ true
             → (result ≡ Err Refusal.Stopped) × StaysStopped (desk_state S.Store self.old) (desk_state S.Store self.new) }
     {

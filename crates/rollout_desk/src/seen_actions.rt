@@ -1,12 +1,14 @@
 //! An action as commands on it find it: with its group and its rollout.
 
-ghost use Rattle.std.specs.Prelude.{◌≡◌, ◌+◌, ◌-◌, ℕ, map, option_map, IfOk, MatchResult, Some};
+ghost use Rattle.std.specs.Prelude.{◌≡◌, List, option_map, MatchResult};
 ghost use Rattle.sql_calls.specs.declared.fault.Fault.TheVariants.{Store};
-ghost use Rattle.rollout_machine.specs.RecordSteps.{last_started, view_from_group};
-ghost use Rattle.rollout_machine.specs.StateWords.{group_numbered, size_of_group};
+ghost use Rattle.rollout_machine.specs.RecordSteps.{view_from_group};
+ghost use Rattle.rollout_machine.specs.StateWords.{number_of_group, size_of_group};
+ghost use Rattle.desk_records.specs.Rollouts.{last_started_group};
 ghost use Rattle.desk_store.specs.Changing.{ReadsIn};
+ghost use Rattle.desk_store.specs.Counting.{AddsIn};
 ghost use Rattle.desk_store.specs.Ledgers.{ReadsLedger};
-ghost use Rattle.rollout_desk.specs.SeenActions.{MaySee, SeesIn, SeesReport, SeesTarget, action_view_seen, cancel_view_seen, later, only_of, only_started, report_view_seen, rollout_seen};
+ghost use Rattle.rollout_desk.specs.SeenActions.{MaySee, SeesIn, SeesReport, SeesTarget, action_view_seen, cancel_view_seen, only_of, only_started, report_view_seen, rollout_seen};
 
 use crate::entries::one_more;
 use crate::tags::lacks_target;
@@ -41,38 +43,14 @@ pub(crate) struct SeenReport {
     pub(crate) action: Option<SeenAction>,
 }
 
-/// The number of the group where it is started, and otherwise the one before.
-fn later(group: &GroupRecord, last: u32) -> u32
-    ensures { result ≡ later group.now last }
+/// The number of the group, or 0.
+fn number_of(group: Option<GroupRecord>) -> u32
+    ensures { result ≡ number_of_group group }
 {
-    if group.started && group.number != 0 {
-        group.number
-    } else {
-        last
+    match group {
+        Some(group) => group.number,
+        None => 0,
     }
-}
-
-/// The number of the last started group, or 0.
-fn last_started(groups: &[GroupRecord]) -> u32
-    ensures { result ≡ last_started groups.now }
-{
-    let mut last = 0;
-    for group in groups {
-        last = later(group, last);
-    }
-    last
-}
-
-/// The group of this number.
-fn group_numbered(groups: &[GroupRecord], number: u32) -> Option<GroupRecord>
-    ensures { result ≡ group_numbered number groups.now }
-{
-    for group in groups {
-        if group.number == number {
-            return Some(*group);
-        }
-    }
-    None
 }
 
 /// How many members the group has. One that reaches beyond all numbers is a failed store.
@@ -116,17 +94,16 @@ fn group_view(
     }
 }
 
-/// The rollout, seen from this one of its groups.
+/// The rollout, seen from this one of its groups, where `last` is the last started one.
 fn rollout_view(
     rollout: &StoredRollout,
     own: &GroupRecord,
-    groups: &[GroupRecord],
+    last: Option<GroupRecord>,
 ) -> Result<RolloutView, Fault>
-    ensures { MatchResult result (λ view. view ≡ rollout_seen rollout.now own.now groups.now) (λ e. e ≡ Store) }
+    ensures { MatchResult result (λ view. (gs : List GroupRecord) → last ≡ last_started_group gs → view ≡ rollout_seen rollout.now own.now gs) (λ e. e ≡ Store) }
 {
     let own = group_view(&rollout.plan, own.number, Some(*own))?;
-    let last = last_started(groups);
-    let last = group_view(&rollout.plan, last, group_numbered(groups, last))?;
+    let last = group_view(&rollout.plan, number_of(last), last)?;
     Ok(RolloutView {
         paused: rollout.paused,
         groups: rollout.plan.groups.get(),
@@ -143,13 +120,14 @@ fn see_in<S: Alter>(
 ) -> Result<SeenAction, Fault>
     ensures same_reference { change.new.store.ghost_name ≡ change.old.store.ghost_name }
     ensures reads { ReadsLedger S.Store change.old change.new result (λ l seen. SeesIn l number action.now seen) }
+    ensures work { AddsIn 3 3 change.old change.new }
 {
     let rollout = change.read_rollout(action.rollout)?.ok_or(Fault::Store)?;
     let own = change
         .read_holding_group(action.rollout, action.position)?
         .ok_or(Fault::Store)?;
-    let groups = change.read_groups(action.rollout)?;
-    let view = rollout_view(&rollout, &own, &groups)?;
+    let last = change.read_last_started(action.rollout)?;
+    let view = rollout_view(&rollout, &own, last)?;
     Ok(SeenAction {
         number,
         action: *action,
@@ -167,6 +145,7 @@ fn see_action<S: Alter>(
 ) -> Result<Option<SeenAction>, Fault>
     ensures same_reference { change.new.store.ghost_name ≡ change.old.store.ghost_name }
     ensures reads { ReadsLedger S.Store change.old change.new result (MaySee number) }
+    ensures work { AddsIn 4 4 change.old change.new }
 {
     let found = change.read_action(number)?;
     match &found {
@@ -212,6 +191,7 @@ pub(crate) fn see_report<S: Alter>(
 ) -> Result<SeenReport, Fault>
     ensures same_reference { change.new.store.ghost_name ≡ change.old.store.ghost_name }
     ensures reads { ReadsIn S.Store change.old change.new result (SeesReport device.now number) }
+    ensures work { AddsIn 5 5 change.old change.new }
 {
     let knows = knows_device(change, device)?;
     let seen = see_action(change, number)?;
@@ -229,6 +209,7 @@ pub(crate) fn see_target<S: Alter>(
 ) -> Result<Option<SeenAction>, Fault>
     ensures same_reference { change.new.store.ghost_name ≡ change.old.store.ghost_name }
     ensures reads { ReadsIn S.Store change.old change.new result (SeesTarget id.now number) }
+    ensures work { AddsIn 5 5 change.old change.new }
 {
     let lacks = lacks_target(change, id)?;
     let seen = see_action(change, number)?;

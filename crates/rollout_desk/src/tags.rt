@@ -5,6 +5,7 @@ ghost use Rattle.std.specs.Option.{option_map};
 ghost use Rattle.rollout_machine.specs.Commands.{Tag, Untag};
 ghost use Rattle.rollout_machine.specs.Verdicts.{target_of};
 ghost use Rattle.desk_store.specs.Changing.{ReadsIn};
+ghost use Rattle.desk_store.specs.Counting.{AddsIn};
 ghost use Rattle.rollout_desk.specs.Changing.{StepsIn};
 
 use crate::step::Step;
@@ -20,6 +21,7 @@ pub(crate) fn lacks_target<S: Alter>(
 ) -> Result<bool, Fault>
     ensures same_reference { change.new.store.ghost_name ≡ change.old.store.ghost_name }
     ensures reads { ReadsIn S.Store change.old change.new result (λ r lacks. lacks ≡ is_none (target_of r id.now)) }
+    ensures work { AddsIn 1 1 change.old change.new }
 {
     let found = change.read_target(id)?;
     Ok(found.is_none())

@@ -17,10 +17,10 @@ pub returns-in-Ok-answer : goal.returns-in-Ok-answer
 returns-in-Ok-answer g c =
     let same : c.give_up.new.change.0 ≡ c.store-in-Ok-answer-1.given.0 = search rules in
     subst (λ h. Handles HoldsRecords (state g.S.Store c.args.store.now.calls.conn) (state g.S.Store h.calls.conn) (Ask (query_of c.args.query.now)) (reply_of c.give_up.result)) same
-    (shown HoldsRecords _ _ c.in-Ok.ensures.begun _ _ _ c.in-Ok-answer.reply c.in-Ok-answer.ensures.shows _ c.give_up.ensures)
+    (shown HoldsRecords _ _ c.in-Ok.ensures.begun _ _ _ c.in-Ok-answer.reply c.in-Ok-answer.ensures.shows _ c.give_up.ensures.ends)
 
 pub returns-in-Err-answer : goal.returns-in-Err-answer
 returns-in-Err-answer g c =
     let same : c.give_up-in-Err-answer.new.change.0 ≡ c.store-in-Err-answer-1.given.0 = search rules in
     subst (λ h. Handles HoldsRecords (state g.S.Store c.args.store.now.calls.conn) (state g.S.Store h.calls.conn) (Ask (query_of c.args.query.now)) (reply_of c.give_up-in-Err-answer.result)) same
-    (unshown HoldsRecords _ _ c.in-Ok.ensures.begun _ _ _ c.in-Err-answer.fault c.in-Err-answer.ensures.shows _ (fault_fails _ _ c.reply_of_fault-in-Err-answer.ensures) _ c.give_up-in-Err-answer.ensures)
+    (unshown HoldsRecords _ _ c.in-Ok.ensures.begun _ _ _ c.in-Err-answer.fault c.in-Err-answer.ensures.shows _ (fault_fails _ _ c.reply_of_fault-in-Err-answer.ensures) _ c.give_up-in-Err-answer.ensures.ends)

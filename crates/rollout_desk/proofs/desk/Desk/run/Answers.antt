@@ -1,4 +1,4 @@
-use Rattle.std.proofs.Common.{inl, inr, sym, map, ◌∙◌, rules}
+use Rattle.std.proofs.Common.{inl, inr, refl, sym, map, ◌∙◌, rules}
 use Rattle.std.proofs.lemmas.Bool.{false≢true}
 use Rattle.sqlite.specs.Held.{state}
 use Rattle.desk_records.specs.Holds.{HoldsRecords}
@@ -8,7 +8,7 @@ use Rattle.rollout_machine.specs.Views.{request_of, reply_of}
 use Rattle.rollout_desk.specs.DeskStates.{desk_state}
 use Rattle.rollout_desk.specs.Runs.{EndsRun}
 use Rattle.rollout_desk.proofs.OnceLemmas.{ends_once}
-use Rattle.rollout_desk.proofs.RunLemmas.{nothing_ran, goes_on, ends, all_ran}
+use Rattle.rollout_desk.proofs.RunLemmas.{nothing_ran, none_failed_yet, none_failed_more, goes_on, ends, all_ran}
 use Rattle.rollout_desk.proofs.desk.Desk.run.Goals as goal
 
 pub loop-request-init : goal.loop-request-init
@@ -17,6 +17,7 @@ loop-request-init g c = record {
   count = search rules;
   clean = λ clean. clean;
   ran = rw c.in-Ok.ensures.items (nothing_ran (desk_state g.S.Store c.args.self.now));
+  none = rw c.in-Ok.ensures.items none_failed_yet;
 }
 
 pub loop-request-preserved : goal.loop-request-preserved
@@ -30,6 +31,7 @@ loop-request-preserved g c =
       clean = λ clean. so_far.clean (c.answer-reply.ensures.clean clean);
       ran = goes_on was before now c.args.requests.now c.loop-request.request-index c.request-item.result c.loop-request-test.true c.request-item.is
           c.loop-request.replies.items c.push_reserved.new.self.items c.answer-reply.result c.push_reserved.ensures.items so_far.ran c.answer-reply.ensures.clean c.answer-reply.ensures.applies c.if-failed.ensures.is;
+      none = none_failed_more c.loop-request.replies.items c.push_reserved.new.self.items c.answer-reply.result c.push_reserved.ensures.items c.if-failed.ensures.is so_far.none;
     }
 
 pub returns-then-failed : goal.returns-then-failed
@@ -44,6 +46,7 @@ returns-then-failed g c =
       clean = λ clean. so_far.clean (c.answer-reply.ensures.clean clean);
       ran = ended;
       once = λ h clean stands. ends_once HoldsRecords c.answer-reply.new.self.stopped (state g.S.Store c.answer-reply.new.self.store.calls.conn) h _ _ (ended h clean stands);
+      stops = λ _. c.answer-reply.ensures.stops (c.if-failed.ensures.only.0 refl);
       stopped = λ stopped. absurd (false≢true (sym c.if-self.false ∙ stopped));
     }
 
@@ -57,5 +60,6 @@ returns g c =
       clean = so_far.clean;
       ran = ended;
       once = λ h clean stands. ends_once HoldsRecords c.loop-request.self.stopped (state g.S.Store c.loop-request.self.store.calls.conn) h _ _ (ended h clean stands);
+      stops = λ has. absurd (so_far.none has);
       stopped = λ stopped. absurd (false≢true (sym c.if-self.false ∙ stopped));
     }

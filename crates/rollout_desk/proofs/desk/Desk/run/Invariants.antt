@@ -1,7 +1,7 @@
 use Rattle.std.proofs.Common.{◌≡◌, ◌≤◌, length, map, take, vec_len, vec_capacity}
 use Rattle.rollout_machine.specs.Views.{request_of, reply_of}
 use Rattle.rollout_desk.specs.DeskStates.{desk_state}
-use Rattle.rollout_desk.proofs.RunLemmas.{Ran}
+use Rattle.rollout_desk.proofs.RunLemmas.{NoneFailed, Ran}
 use Rattle.rollout_desk.proofs.desk.Desk.run.Given as goal
 
 -- the requests before this index were answered, and there is room for the replies to all
@@ -11,4 +11,5 @@ invariant-loop-request g l = record {
   count : vec_len l.replies ≡ l.request-index;
   clean : (desk_state g.S.Store l.self).is_clean → (desk_state g.S.Store l.initial.self).is_clean;
   ran : Ran (desk_state g.S.Store l.initial.self) (desk_state g.S.Store l.self) (map request_of (take l.request-index l.requests)) (map reply_of l.replies.items);
+  none : NoneFailed l.replies.items;
 }
