@@ -3,3 +3,4 @@ pub mod Program
 pub mod Imports
 pub mod Telling
 pub mod ReportOrders
+pub mod AfterCrash

@@ -1,5 +1,5 @@
 -- What the program tells, and its exit status.
-use Rattle.std.specs.Prelude.{◌≡◌, ◌≤◌, ◌⊎◌, ℕ, Bool, true, false, List, [], ◌++◌, Option, Result, Ok, Err, IfOk, codes}
+use Rattle.std.specs.Prelude.{◌≡◌, ◌≤◌, ◌⊎◌, ℕ, Bool, true, false, List, [], ◌++◌, Option, Result, Ok, Err, IfOk, IfErr, codes}
 use Rattle.std.specs.Io.KnownBytes.{Appends}
 use Rattle.sqlite_trees.specs.declared.store.Store.{Ghosts}
 use Rattle.rollout_machine.specs.CommandList.{CommandList}
@@ -57,13 +57,14 @@ Reports old new telling_fails (Ok done) = Appends old new []
 Reports old new telling_fails (Err fault) = Tells old new telling_fails (fault_line fault)
 
 -- The order `run` was carried out over an opened desk: its interface was served with this outcome, which gives the status, the line that is told
--- and the flags of input and output.
+-- and the flags of input and output. After a failed store the desk is stopped, whatever it stood for.
 pub record CarriesOut {S : Type 0} (g : Ghosts S) (setup : Setup) (before after : Desk S)
     (stream unread out out_new told told_new : Option (List ℕ)) (telling_fails failed_read reading_fails failed_write writing_fails : Bool) (status : ℕ) : Type 0 where
   pub interface : Interface
   pub named : interface ≡ setup.interface
   pub outcome : Result Served ServeFault
   pub serves : ServesStream interface (desk_state g before) (desk_state g after) stream unread out out_new outcome
+  pub stops : IfErr outcome (λ fault. fault ≡ Store → (desk_state g after).is_stopped ≡ true)
   pub status_is : status ≡ status_of outcome
   pub reports : Reports told told_new telling_fails outcome
   pub read_failed : FailsBy outcome Read failed_read reading_fails
@@ -74,7 +75,7 @@ pub record CarriesOut {S : Type 0} (g : Ghosts S) (setup : Setup) (before after 
 pub record Listens {File : Type 0} (bound : Bool) (connections : ℕ) (old new : DeskState File) (outcome : Result ℕ ListenFault) : Type 0 where
   pub clean : new.is_clean → old.is_clean
   pub keeps : (h : CommandList) → new.is_clean → StandsFor old h → Keeps new h
-  pub store : (h : CommandList) → new.is_clean → StandsFor old h → StopsAtStore new outcome
+  pub store : StopsAtStore new outcome
   pub stopped : old.is_stopped ≡ true → StaysStopped old new
   pub counts : IfOk outcome (λ served. served ≤ connections)
   pub unbound : bound ≡ false → outcome ≡ Err listen_fault.Net

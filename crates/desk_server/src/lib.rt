@@ -1,6 +1,7 @@
 //! The program's orders: the command line, and what is done over a desk.
 #![tactic(auto)]
 
+mod after_crash;
 mod import;
 mod opening;
 mod order;
@@ -8,6 +9,7 @@ mod program;
 mod report;
 mod telling;
 
+pub use crate::after_crash::headline_after_crash;
 pub use crate::import::carry_out_import;
 pub use crate::opening::open_for;
 pub use crate::order::{Order, Setup, read_order};

@@ -1,6 +1,6 @@
 //! What the program does with an order.
 
-ghost use Rattle.std.specs.Prelude.{◌≡◌, ◌++◌, ℕ, List, [], Result, is_some, IfErr, IfOk, IsOkAnd};
+ghost use Rattle.std.specs.Prelude.{◌≡◌, ◌++◌, ℕ, List, [], true, Result, is_some, IfErr, IfOk, IsOkAnd};
 ghost use Rattle.std.specs.Io.KnownBytes.{Appends, Consumes};
 ghost use Rattle.http_wire.specs.Watched.{inner_of, has_failed};
 ghost use Rattle.stream_server.specs.declared.served.Served.{Served as Outcome};
@@ -79,6 +79,7 @@ fn run<R: Read, W: Write, E: Write, D: ContentsHandler>(
     ensures { (outcome : Result Outcome Fault)
         × ServesStream interface (D.state desk.old) (D.state desk.new) (R.remaining (inner_of input.old)) (R.remaining (inner_of input.new))
         (W.contents (inner_of output.old)) (W.contents (inner_of output.new)) outcome
+        × IfErr outcome (λ fault. fault ≡ ServeFault.Store → (D.state desk.new).is_stopped ≡ true)
         × (result ≡ status_of outcome) × Reports (E.contents (inner_of errors.old)) (E.contents (inner_of errors.new)) (has_failed errors.new) outcome
         × FailsBy outcome ServeFault.Read (has_failed input.old) (has_failed input.new)
         × FailsBy outcome ServeFault.Write (has_failed output.old) (has_failed output.new) }
