@@ -66,6 +66,8 @@ void answer_group_targets(int64_t rollout, int64_t group, const char *query);
 void answer_report(int64_t rollout);
 void answer_actions(int64_t rollout);
 int read_rollout(int64_t number, Rollout *rollout);
+// The last started group, of number 0 where none is.
+void last_started(int64_t rollout, Group *group);
 int read_groups(int64_t rollout, Group groups[GROUP_LIMIT]);
 int read_group(int64_t rollout, int64_t number, Group *group);
 int holding_group(int64_t rollout, int64_t place, Group *group);
@@ -79,6 +81,4 @@ void prepare_devices(void);
 void answer_poll(const Text *id, const char *head);
 void answer_feedback(const Text *id, int64_t action, const char *head, const char *body, size_t len);
 int64_t offered_action(const Text *id, int64_t *kind);
-void put_offer(const Text *id, int64_t action, int64_t kind);
-void set_offer(const Text *id, int64_t action, int64_t kind);
 const char *word_of(const Text *id);

@@ -9,11 +9,10 @@ enum { ACTIONS_OF_TARGET = 1001, NOTE_LIMIT = 100, GOOD = 1, BAD = 2, SUCCEEDED 
 typedef struct { int64_t number, rollout, place, canceling, outcome, notes, entries; Text id; } Action;
 typedef struct { Text execution, finished; char details[8 * 257]; size_t details_len; } Report;
 
-static sqlite3_stmt *get_offer, *add_offer, *change_offer, *drop_offer, *get_action, *set_action, *put_feedback, *list_target_actions, *next_offer, *last_final;
+static sqlite3_stmt *get_offer, *change_offer, *drop_offer, *get_action, *set_action, *put_feedback, *list_target_actions, *next_offer, *last_final;
 
 void prepare_devices(void) {
     get_offer = prepared("SELECT action, kind FROM offer WHERE controller = ?1");
-    add_offer = prepared("INSERT INTO offer (controller, action, kind) VALUES (?1, ?2, ?3)");
     change_offer = prepared("UPDATE offer SET action = ?2, kind = ?3 WHERE controller = ?1");
     drop_offer = prepared("DELETE FROM offer WHERE controller = ?1");
     get_action = prepared("SELECT rollout, place, controller, canceling, outcome, notes, entries FROM action WHERE number = ?1");
@@ -64,9 +63,7 @@ static void write_offer(sqlite3_stmt *statement, const Text *id, int64_t action,
     done(statement);
 }
 
-void put_offer(const Text *id, int64_t action, int64_t kind) { write_offer(add_offer, id, action, kind); }
-
-void set_offer(const Text *id, int64_t action, int64_t kind) { write_offer(change_offer, id, action, kind); }
+static void set_offer(const Text *id, int64_t action, int64_t kind) { write_offer(change_offer, id, action, kind); }
 
 static void bind_actions_of(const Text *id) {
     bind_text(list_target_actions, 1, id);
@@ -74,23 +71,8 @@ static void bind_actions_of(const Text *id) {
     sqlite3_bind_int64(list_target_actions, 3, 0);
 }
 
-// The target's first open action whose group is started, or 0, by its actions one after the other.
+// The target's first open action whose group is started, or 0.
 static int64_t first_offered(const Text *id, int64_t *kind) {
-    int64_t found = 0;
-    Action action;
-    Group group;
-    bind_actions_of(id);
-    while (!found && row_of(list_target_actions)) {
-        read_action_row(list_target_actions, &action);
-        if (action.outcome || !holding_group(action.rollout, action.place, &group) || !group.started) continue;
-        found = sqlite3_column_int64(list_target_actions, 7);
-        *kind = action.canceling;
-    }
-    sqlite3_reset(list_target_actions);
-    return found;
-}
-
-static int64_t first_offered_at_once(const Text *id, int64_t *kind) {
     bind_text(next_offer, 1, id);
     int64_t found = row_of(next_offer) ? sqlite3_column_int64(next_offer, 0) : 0;
     *kind = found ? sqlite3_column_int64(next_offer, 1) : 0;
@@ -98,18 +80,12 @@ static int64_t first_offered_at_once(const Text *id, int64_t *kind) {
     return found;
 }
 
-// Looks up again what a target is offered.
+// Looks up again what a target is offered that is offered something.
 static void offer_anew(const Text *id) {
-    int64_t kind = 0, had_kind;
-    int64_t next = at_once ? first_offered_at_once(id, &kind) : first_offered(id, &kind);
-    if (!next) {
-        bind_text(drop_offer, 1, id);
-        done(drop_offer);
-    } else if (at_once || offered_action(id, &had_kind)) {
-        set_offer(id, next, kind);
-    } else {
-        put_offer(id, next, kind);
-    }
+    int64_t kind, next = first_offered(id, &kind);
+    if (next) return set_offer(id, next, kind);
+    bind_text(drop_offer, 1, id);
+    done(drop_offer);
 }
 
 // ---- words
@@ -236,13 +212,6 @@ static void write_action(const Action *action) {
     done(set_action);
 }
 
-// The last started group of these, or NULL.
-static const Group *last_started(const Group *groups, int count) {
-    while (count--)
-        if (groups[count].started) return &groups[count];
-    return NULL;
-}
-
 // Counts an outcome in its group; then the rollout may pause, or its next group start.
 static void follow(Rollout *rollout, Group *own, const Group *last, int64_t outcome) {
     int was_error = reaches(own->bad, own, rollout->error);
@@ -276,32 +245,31 @@ static void give_up(const char *status, const char *name, int number) {
 }
 
 // Finds the action that is reported of, where it is the device's and its group is started.
-static int find_action(const Text *id, int64_t number, Action *action, Rollout *rollout, Group *own, Group *groups, int *count) {
+static int find_action(const Text *id, int64_t number, Action *action, Rollout *rollout, Group *own, Group *last) {
     if (!read_action(number, action)) return 0;
     if (!read_rollout(action->rollout, rollout) || !holding_group(action->rollout, action->place, own)) die("action");
-    *count = read_groups(action->rollout, groups);
+    last_started(action->rollout, last);
     return action->id.len == id->len && !memcmp(action->id.bytes, id->bytes, id->len) && own->started;
 }
 
 void answer_feedback(const Text *id, int64_t number, const char *head, const char *body, size_t len) {
     static Report report;
-    static Group groups[GROUP_LIMIT];
     Action action;
     Rollout rollout;
-    Group own;
-    int count, code = read_report(body, len, &report) ? code_of(&report) : -1;
+    Group own, last;
+    int code = read_report(body, len, &report) ? code_of(&report) : -1;
     int64_t outcome = code == SUCCEEDED ? GOOD : code == FAILED ? BAD : 0;
     if (code < 0) return refuse("400 Bad Request", "bad_request", 1);
     done(begin);
     if (!is_known(id, head)) return give_up("401 Unauthorized", "unauthorized", 2);
-    if (!find_action(id, number, &action, &rollout, &own, groups, &count)) return give_up("404 Not Found", "not_found", 3);
+    if (!find_action(id, number, &action, &rollout, &own, &last)) return give_up("404 Not Found", "not_found", 3);
     if (action.outcome && action.outcome != outcome) return give_up("410 Gone", "closed_action", 8);
     if (!outcome && action.notes == NOTE_LIMIT) return give_up("403 Forbidden", "quota", 10);
     if (!action.outcome) {
         action.notes += !outcome;
         action.entries++;
         write_entry(&action, code, &report);
-        if (outcome) end_action(&action, outcome, &rollout, &own, last_started(groups, count));
+        if (outcome) end_action(&action, outcome, &rollout, &own, &last);
         else write_action(&action);
     }
     done(commit);

@@ -9,7 +9,7 @@ enum { ROLLOUT_LIMIT = 1000 };
 typedef struct { Text name, filter; int64_t set, groups, success, error; } Plan;
 
 static sqlite3_stmt *find_rollout, *last_rollout, *get_rollout, *add_rollout, *change_rollout, *last_set, *get_desk;
-static sqlite3_stmt *put_member, *list_members, *put_group, *get_group, *list_groups, *find_group, *change_group;
+static sqlite3_stmt *put_member, *list_members, *put_group, *get_group, *list_groups, *find_group, *last_group, *change_group;
 static sqlite3_stmt *last_action, *put_action, *list_actions, *put_actions, *list_places, *put_group_offers, *list_member_places;
 static Text members[TARGET_LIMIT];
 static int member_count;
@@ -30,6 +30,7 @@ void prepare_rollouts(void) {
     list_groups = prepared("SELECT number, first_place, last_place, started, ok, bad, gone FROM rollout_group WHERE rollout = ?1 ORDER BY number");
     find_group = prepared(
         "SELECT number, first_place, last_place, started, ok, bad, gone FROM rollout_group WHERE rollout = ?1 AND first_place <= ?2 AND last_place >= ?2 ORDER BY number");
+    last_group = prepared("SELECT number, first_place, last_place, started, ok, bad, gone FROM rollout_group WHERE rollout = ?1 AND started = 1 ORDER BY number DESC LIMIT 1");
     change_group = prepared("UPDATE rollout_group SET started = ?3, ok = ?4, bad = ?5, gone = ?6 WHERE rollout = ?1 AND number = ?2");
     last_action = prepared("SELECT number FROM action ORDER BY number DESC LIMIT 1");
     put_action = prepared("INSERT INTO action (number, rollout, place, controller, canceling, outcome, notes, entries) VALUES (?1, ?2, ?3, ?4, 0, 0, 0, 0)");
@@ -41,7 +42,7 @@ void prepare_rollouts(void) {
     list_places = prepared("SELECT place, controller, canceling, outcome, number FROM action WHERE rollout = ?1 AND place BETWEEN ?2 AND ?3 ORDER BY place");
     list_member_places = prepared("SELECT controller FROM member WHERE rollout = ?1 AND place BETWEEN ?2 AND ?3 ORDER BY place");
     put_group_offers = prepared(
-        "INSERT INTO offer (controller, action, kind) SELECT controller, number, 0 FROM action WHERE rollout = ?1 AND place BETWEEN ?2 AND ?3 ORDER BY place ON CONFLICT (controller) DO UPDATE SET action = excluded.action, kind = excluded.kind WHERE excluded.action < offer.action");
+        "INSERT INTO offer (controller, action, kind) SELECT controller, number, 0 FROM action WHERE rollout = ?1 AND place BETWEEN ?2 AND ?3 ORDER BY number ON CONFLICT (controller) DO UPDATE SET action = excluded.action, kind = excluded.kind WHERE excluded.action < offer.action");
 }
 
 // ---- rows
@@ -67,6 +68,13 @@ static int one_group(sqlite3_stmt *statement, int64_t rollout, int64_t number, G
 int read_group(int64_t rollout, int64_t number, Group *group) { return one_group(get_group, rollout, number, group); }
 
 int holding_group(int64_t rollout, int64_t place, Group *group) { return one_group(find_group, rollout, place, group); }
+
+void last_started(int64_t rollout, Group *group) {
+    sqlite3_bind_int64(last_group, 1, rollout);
+    group->number = 0;
+    if (row_of(last_group)) read_group_row(last_group, group);
+    sqlite3_reset(last_group);
+}
 
 int read_groups(int64_t rollout, Group groups[GROUP_LIMIT]) {
     int count = 0;
@@ -112,27 +120,9 @@ int reaches(int64_t count, const Group *group, int64_t percent) { return percent
 
 // ---- starting a group
 
-// Offers its target an action, unless it is offered a lesser one.
-static void offer_action(const Text *id, int64_t action) {
-    int64_t kind, had = offered_action(id, &kind);
-    if (!had) put_offer(id, action, 0);
-    else if (action < had) set_offer(id, action, 0);
-}
-
-static void offer_actions(int64_t rollout, const Group *group) {
-    Text id;
-    bind_numbers(list_actions, 3, (int64_t[]){rollout, size_of(group), group->first - 1});
-    while (row_of(list_actions)) {
-        read_column(list_actions, 2, &id);
-        offer_action(&id, sqlite3_column_int64(list_actions, 7));
-    }
-    sqlite3_reset(list_actions);
-}
-
 void start_group(int64_t rollout, Group *group) {
     group->started = 1;
     set_group(rollout, group);
-    if (!at_once) return offer_actions(rollout, group);
     bind_numbers(put_group_offers, 3, (int64_t[]){rollout, group->first, group->last});
     done(put_group_offers);
 }
