@@ -1,19 +1,28 @@
 //! The objects that devices are shown.
 
-ghost use Rattle.std.specs.Prelude.{◌≡◌, decimal, map, Some, IfOk, string_bytes};
-ghost use Rattle.serde_json.specs.Data.{object};
+ghost use Rattle.std.specs.Prelude.{◌≡◌, ◌++◌, decimal, map, Some, IfOk, string_bytes};
+ghost use Rattle.json.specs.Print.{quoted};
 ghost use Rattle.serde_json.specs.View.{view};
 ghost use Rattle.serde_json.specs.Written.{compact_text};
 ghost use Rattle.mgmt_objects.specs.ArtifactObjects.{hashes_data};
 ghost use Rattle.rollout_machine.specs.Views.{chunk, deployment};
-ghost use Rattle.ddi_api.specs.Objects.{action_path, artifact_data, cancel_data, chunk_data, chunks_data, deployment_data, deployment_object, download_data, download_path, link_data, offer_kind, offer_links, poll_data, shown_chunk};
+ghost use Rattle.ddi_api.specs.Letters.{offer_letters};
+ghost use Rattle.ddi_api.specs.Objects.{action_path, artifact_data, cancel_data, chunk_data, chunks_data, deployment_data, deployment_object, download_data, download_path, link_data, offer_kind, poll_data, shown_chunk};
 
 use artifact_pieces::digest_text;
+use itoa::Buffer;
+use json::Writer;
 use rollout_model::{
     ActionNo, Artifact, Chunk, ControllerId, Deployment, Filename, ModuleNo, Offer,
 };
 use serde_json::{Value, json};
 use std::alloc::{AllocError, Global};
+
+/// Room for the path of any action.
+const PATH_CAPACITY: usize = 128;
+
+/// Room for the text of any poll.
+const POLL_CAPACITY: usize = 256;
 
 fn number_text(alloc: Global, number: u32) -> Result<String, AllocError>
     ensures { IfOk result (λ s. string_bytes s ≡ decimal number) }
@@ -30,14 +39,14 @@ fn action_path(
 ) -> Result<String, AllocError>
     ensures { IfOk result (λ s. string_bytes s ≡ action_path id.now kind.now action) }
 {
-    let number = number_text(alloc, action.get())?;
-    let mut path = String::new(alloc);
+    let mut number = Buffer::new();
+    let mut path = String::with_capacity(alloc, PATH_CAPACITY)?;
     path.push_str("/DEFAULT/controller/v1/")?;
     path.push_str(id.as_str())?;
     path.push_str("/")?;
     path.push_str(kind)?;
     path.push_str("/")?;
-    path.push_str(number.as_str())?;
+    path.push_str(number.format(action.get()))?;
     Ok(path)
 }
 
@@ -78,11 +87,11 @@ fn cancel_value(alloc: Global, action: ActionNo) -> Result<Value, AllocError>
 }
 
 /// The text of the action that is to be canceled.
-pub(crate) fn cancel_text(alloc: Global, action: ActionNo) -> Result<String, AllocError>
-    ensures { IfOk result (λ s. string_bytes s ≡ compact_text (cancel_data action)) }
+pub(crate) fn cancel_text(alloc: Global, action: ActionNo) -> Result<Vec<u8>, AllocError>
+    ensures { IfOk result (λ text. text.items ≡ compact_text (cancel_data action)) }
 {
     let value = cancel_value(alloc, action)?;
-    value.to_string(alloc)
+    value.to_vec(alloc)
 }
 
 fn offer_kind(canceling: bool) -> &'static str
@@ -95,53 +104,62 @@ fn offer_kind(canceling: bool) -> &'static str
     }
 }
 
-fn offer_link(alloc: Global, id: &ControllerId, offer: Offer) -> Result<Value, AllocError>
-    ensures { IfOk result (λ v. view v ≡ link_data (action_path id.now (offer_kind offer.canceling) offer.action)) }
+/// A text and behind it a string, as JSON quotes it.
+fn with_string(text: Vec<u8>, string: &str) -> Result<Vec<u8>, AllocError>
+    ensures { IfOk result (λ longer. longer.items ≡ text.items ++ quoted string.now) }
 {
-    let path = action_path(alloc, id, offer_kind(offer.canceling), offer.action)?;
-    link_value(alloc, path.as_str())
+    let mut writer = Writer::new(text);
+    writer.string(string)?;
+    Ok(writer.into_inner())
 }
 
-fn offered_value(alloc: Global, id: &ControllerId, offer: Offer) -> Result<Value, AllocError>
-    ensures { IfOk result (λ v. view v ≡ object (offer_links id.now (Some offer))) }
+/// A text and behind it the link to what is offered.
+fn with_offer(
+    alloc: Global,
+    mut text: Vec<u8>,
+    id: &ControllerId,
+    offer: Offer,
+) -> Result<Vec<u8>, AllocError>
+    ensures { IfOk result (λ longer. longer.items ≡ text.items ++ offer_letters id.now (Some offer)) }
 {
-    let link = offer_link(alloc, id, offer)?;
-    if offer.canceling {
-        json!(in alloc; { "cancelAction": link })
-    } else {
-        json!(in alloc; { "deploymentBase": link })
-    }
+    let kind = offer_kind(offer.canceling);
+    let path = action_path(alloc, id, kind, offer.action)?;
+    text.extend_from_slice(b"\"")?;
+    text.extend_from_slice(kind.as_bytes())?;
+    text.extend_from_slice(b"\":{\"href\":")?;
+    let mut text = with_string(text, path.as_str())?;
+    text.extend_from_slice(b"}")?;
+    Ok(text)
 }
 
-fn links_value(alloc: Global, id: &ControllerId, offer: Option<Offer>) -> Result<Value, AllocError>
-    ensures { IfOk result (λ v. view v ≡ object (offer_links id.now offer)) }
+/// A text and behind it the links to what is offered, if anything is.
+fn with_links(
+    alloc: Global,
+    text: Vec<u8>,
+    id: &ControllerId,
+    offer: Option<Offer>,
+) -> Result<Vec<u8>, AllocError>
+    ensures { IfOk result (λ longer. longer.items ≡ text.items ++ offer_letters id.now offer) }
 {
     match offer {
-        Some(offer) => offered_value(alloc, id, offer),
-        None => json!(in alloc; {}),
+        Some(offer) => with_offer(alloc, text, id, offer),
+        None => Ok(text),
     }
 }
 
-fn poll_value(alloc: Global, id: &ControllerId, offer: Option<Offer>) -> Result<Value, AllocError>
-    ensures { IfOk result (λ v. view v ≡ poll_data id.now offer) }
-{
-    let links = links_value(alloc, id, offer)?;
-    json!(in alloc; {
-        "_links": links,
-        "config": { "polling": { "sleep": "00:05:00" } },
-    })
-}
-
-/// The text of what the device of this id polls.
+/// The text of what the device of this id polls. It is asked for most of all, and so written without a value in between.
 pub(crate) fn poll_text(
     alloc: Global,
     id: &ControllerId,
     offer: Option<Offer>,
-) -> Result<String, AllocError>
-    ensures { IfOk result (λ s. string_bytes s ≡ compact_text (poll_data id.now offer)) }
+) -> Result<Vec<u8>, AllocError>
+    ensures { IfOk result (λ text. text.items ≡ compact_text (poll_data id.now offer)) }
 {
-    let value = poll_value(alloc, id, offer)?;
-    value.to_string(alloc)
+    let mut text = Vec::with_capacity(alloc, POLL_CAPACITY)?;
+    text.extend_from_slice(b"{\"_links\":{")?;
+    let mut text = with_links(alloc, text, id, offer)?;
+    text.extend_from_slice(b"},\"config\":{\"polling\":{\"sleep\":\"00:05:00\"}}}")?;
+    Ok(text)
 }
 
 fn download_link(
@@ -258,9 +276,9 @@ fn deployment_value(alloc: Global, plan: &Deployment) -> Result<Value, AllocErro
 }
 
 /// The text of what a device is to install.
-pub(crate) fn deployment_text(alloc: Global, plan: &Deployment) -> Result<String, AllocError>
-    ensures { IfOk result (λ s. string_bytes s ≡ compact_text (deployment_data (deployment plan.now))) }
+pub(crate) fn deployment_text(alloc: Global, plan: &Deployment) -> Result<Vec<u8>, AllocError>
+    ensures { IfOk result (λ text. text.items ≡ compact_text (deployment_data (deployment plan.now))) }
 {
     let value = deployment_value(alloc, plan)?;
-    value.to_string(alloc)
+    value.to_vec(alloc)
 }

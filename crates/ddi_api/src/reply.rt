@@ -1,6 +1,6 @@
 //! From a reply to its status, its content type and its body.
 
-ghost use Rattle.std.specs.Prelude.{◌≡◌, [], false, IfOk, IfErr, string_bytes};
+ghost use Rattle.std.specs.Prelude.{◌≡◌, [], false, IfOk, IfErr};
 ghost use Rattle.rollout_model.specs.declared.refusal.Refusal.TheVariants.{NoMemory};
 ghost use Rattle.rollout_machine.specs.Replies.{Done, Refused};
 ghost use Rattle.rollout_machine.specs.Views.{reply_of};
@@ -15,13 +15,13 @@ use mgmt_api::manage_reply;
 use rollout_model::{Contents, Refusal, Reply};
 use std::alloc::{AllocError, Global};
 
-fn json_answer(body: String) -> Answer
-    ensures { Has (json_reply 200 (string_bytes body)) result }
+fn json_answer(body: Vec<u8>) -> Answer
+    ensures { Has (json_reply 200 body.items) result }
 {
     Answer {
         status: StatusCode::OK,
         content_type: ContentType::Json,
-        body: body.into_bytes(),
+        body,
     }
 }
 
@@ -29,7 +29,7 @@ fn json_answer(body: String) -> Answer
 fn empty_answer(alloc: Global) -> Answer
     ensures { Has (json_reply 200 []) result }
 {
-    json_answer(String::new(alloc))
+    json_answer(Vec::new(alloc))
 }
 
 fn octets_answer(alloc: Global, contents: &Contents) -> Result<Answer, AllocError>

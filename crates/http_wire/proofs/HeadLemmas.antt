@@ -1,6 +1,6 @@
 -- The strict heads are those of httparse's grammar in which each LF follows a CR, apart empty line comes
 -- first, the version is 1.1 and the target is in origin form.
-use Rattle.std.proofs.Common.{◌≡◌, ◌≢◌, ℕ, ◌+◌, ◌<◌, ◌≤◌, true, cond, eqb, ◌&&◌, List, [], ◌∷◌, ◌++◌, map, length, get_or, take, drop, refl, sym, ap, ◌∙◌, subst, arith, append_assoc, inl, inr}
+use Rattle.std.proofs.Common.{◌≡◌, ◌≢◌, ℕ, ◌+◌, ◌<◌, ◌≤◌, true, cond, eqb, List, [], ◌∷◌, ◌++◌, map, length, get_or, take, drop, refl, sym, ap, ◌∙◌, subst, arith, append_assoc, inl, inr}
 use Rattle.std.specs.List.{flat_map}
 use Rattle.std.specs.Prelude.{IsAscii, All}
 use Rattle.std.proofs.lemmas.Bool.{and_parts, and_from, eqb-true, cases_lt, not_from_false, ne_eqb, false≢true}
@@ -252,15 +252,14 @@ strict_from region r reads first pairs version =
 
 -- what `parse_head` hands out
 pub head_at : (region : List ℕ) (headers : List HeaderSpan) (r : RequestSpans) → Spans.IsRequestWithin region headers r → Spans.IsRequestOf region headers r
-    → HasFewFields region → (is_no_line_break (get_or region 0 0) && lf_follows_cr 0 region) ≡ true → IsStrict region r
+    → HasFewFields region → is_no_line_break (get_or region 0 0) ≡ true → lf_follows_cr 0 region ≡ true → IsStrict region r
     → IsHeadAt region (record { method = r.method; target = r.path; fields = headers; field_count = r.headers })
-head_at region headers r within of room tests strict =
+head_at region headers r within of room first pairs strict =
     let h = of.0 in
     let at = of.1 in
-    let both = and_parts (is_no_line_break (get_or region 0 0)) (lf_follows_cr 0 region) tests in
     let none : drop r.len region ≡ [] = drop_all r.len region (omega (arith, strict.len)) in
     let reads : ReadsRequest region h [] = subst (λ (rest : List ℕ). ReadsRequest region h rest) none at.reads in
-    let same = strict_from region h reads both.0 both.1 (sym at.version ∙ strict.version) in
+    let same = strict_from region h reads first pairs (sym at.version ∙ strict.version) in
     let parts = parts_of h in
     let fields : All IsFieldLine parts.lines = All-map IsFieldLine line_of h.fields (All-weaker IsField (λ f. IsFieldLine (line_of f)) (λ f x. record { name = x.name; raw = x.raw }) h.fields reads.0.fields) in
     let len : r.len ≤ length region = within.section.len_fits in

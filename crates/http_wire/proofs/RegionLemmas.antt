@@ -1,7 +1,8 @@
 -- The head region by places, and that more bytes leave it as it is.
-use Rattle.std.proofs.Common.{◌≡◌, ℕ, zero, suc, ◌+◌, ◌-◌, ◌<◌, ◌≤◌, List, ◌++◌, length, take, drop, get_or, refl, sym, ap, ◌∙◌, subst, arith, append_assoc, inl, inr}
+use Rattle.std.proofs.Common.{◌≡◌, ℕ, zero, suc, ◌+◌, ◌-◌, ◌<◌, ◌≤◌, min, List, ◌++◌, length, take, drop, get_or, codes, refl, sym, ap, ◌∙◌, subst, arith, append_assoc, inl, inr, Some, None}
 use Rattle.std.proofs.lemmas.Bool.{cases_order, cases_lt}
 use Rattle.std.proofs.lemmas.List.{get_or-take, get_or_append_left, length-take-le, length-append, take-append-drop, take_at, drop_at}
+use Rattle.memchr.specs.Find.{FindsNeedle, OccursAt}
 use Rattle.rollout_model.specs.Limits.{head_length_limit}
 use Rattle.http_wire.specs.Regions.{IsHeadEndAt, HasRegion, HasNoRegion}
 
@@ -55,6 +56,37 @@ end_of_region bytes region after h =
 pub no_region : (bytes : List ℕ) → ((k : ℕ) → k + 4 ≤ length bytes → k + 4 ≤ head_length_limit → IsHeadEndAt bytes k → ⊥) → HasNoRegion bytes
 no_region bytes none region after h =
     let at = end_of_region bytes region after h in none at.0 at.2 at.3 at.4
+
+-- ---- CR LF CR LF as a needle
+
+end_of_needle : (bytes : List ℕ) (k : ℕ) → OccursAt bytes (codes "\r\n\r\n") k → IsHeadEndAt bytes k
+end_of_needle bytes k o =
+    let at : (j i : ℕ) → k + j ≡ i → j < 4 → get_or bytes i 0 ≡ get_or (codes "\r\n\r\n") j 0 = λ j i e l. ap (λ p. get_or bytes p 0) (sym e) ∙ o.reads j l in
+    ((at 0 k (omega arith) (omega arith), at 1 (k + 1) refl (omega arith)), (at 2 (k + 2) refl (omega arith), at 3 (k + 2 + 1) (omega arith) (omega arith)))
+
+needle_of_end : (bytes : List ℕ) (k : ℕ) → k + 4 ≤ length bytes → IsHeadEndAt bytes k → OccursAt bytes (codes "\r\n\r\n") k
+needle_of_end bytes k fits h = record { fits = fits; reads = at }
+  where
+    at : (j : ℕ) → j < 4 → get_or bytes (k + j) 0 ≡ get_or (codes "\r\n\r\n") j 0
+    at zero l = ap (λ p. get_or bytes p 0) (omega arith) ∙ h.0.0
+    at (suc zero) l = h.0.1
+    at (suc (suc zero)) l = h.1.0
+    at (suc (suc (suc zero))) l = ap (λ p. get_or bytes p 0) (omega arith) ∙ h.1.1
+    at (suc (suc (suc (suc j)))) l = absurd (omega (arith, l))
+
+-- within the limit it stands first at the region's end, or nowhere
+pub region_found : (bytes : List ℕ) (n k : ℕ) → n ≤ length bytes → n ≤ head_length_limit → FindsNeedle (take n bytes) (codes "\r\n\r\n") 0 (Some k)
+    → HasRegion bytes (take (k + 4) bytes) (drop (k + 4) bytes)
+region_found bytes n k fits limit found =
+    let size = length-take-le n bytes fits in
+    let room : k + 4 ≤ n = omega (arith, found.1.fits) in
+    region_at bytes k (omega arith) (omega arith) (end_in_take bytes n k room (end_of_needle (take n bytes) k found.1))
+    (λ j l here. found.0.before j (omega arith) l (needle_of_end (take n bytes) j (omega arith) (take_of_end bytes n j (omega arith) here)))
+
+pub no_region_found : (bytes : List ℕ) (n : ℕ) → n ≡ min (length bytes) head_length_limit → FindsNeedle (take n bytes) (codes "\r\n\r\n") 0 None → HasNoRegion bytes
+no_region_found bytes n least found =
+    let size = length-take-le n bytes (omega arith) in
+    no_region bytes (λ k fits limit here. found k (omega arith) (omega arith) (needle_of_end (take n bytes) k (omega arith) (take_of_end bytes n k (omega arith) here)))
 
 -- two regions of the same bytes are one
 region_shorter : (bytes r s a b : List ℕ) → HasRegion bytes r a → HasRegion bytes s b → length r < length s → ⊥

@@ -1,5 +1,6 @@
 //! The head of a message, in its one strict form (RFC 9112, sections 3 and 5).
-ghost use Rattle.std.specs.Prelude.{◌≡◌, ℕ, ◌≤◌, ◌↔◌, ◌&&◌, List, length, slice_index, IsTrue, IfSome, IfNone};
+ghost use Rattle.std.specs.Prelude.{◌≡◌, ℕ, ◌≤◌, ◌↔◌, true, List, length, slice_index, IsTrue, IfSome, IfNone};
+ghost use Rattle.std.specs.List.{list_all};
 ghost use Rattle.http_wire.specs.Regions.{HasFewFields};
 ghost use Rattle.http_wire.specs.Heads.{HeadParts, IsOriginForm, SpellsHead, is_target_byte};
 ghost use Rattle.http_wire.specs.Parse.{lf_follows_cr, is_no_line_break, IsStrict, IsHeadAt};
@@ -18,39 +19,39 @@ pub(crate) struct HeadSpans {
     pub(crate) field_count: usize,
 }
 
-/// Whether each LF follows a CR.
-fn has_no_bare_line_feed(bytes: &[u8]) -> bool
-    ensures { result ≡ lf_follows_cr 0 bytes.now }
-{
-    let mut previous = 0;
-    for b in bytes {
-        if *b == b'\n' && previous != b'\r' {
-            return false;
-        }
-        previous = *b;
-    }
-    true
-}
-
 #[tactic(auto, unfolding(crate::specs::Heads::is_target_byte))]
 fn is_target_byte(b: u8) -> bool
     ensures { result ≡ is_target_byte b }
 {
-    b.is_ascii_alphanumeric() || b"/?:@-._~!$&'()*+,;=%".contains(&b)
+    matches!(b, b'a'..=b'z')
+        | matches!(b, b'?'..=b'Z')
+        | matches!(b, b'$'..=b';')
+        | matches!(b, b'!' | b'=' | b'_' | b'~')
+}
+
+/// Whether each byte may stand in a target. It goes on after one that may not, so that a compiler can test many at once.
+fn are_target_bytes(bytes: &[u8]) -> bool
+    ensures { result ≡ list_all is_target_byte bytes.now }
+{
+    let mut all = true;
+    for b in bytes {
+        all &= is_target_byte(*b);
+    }
+    all
 }
 
 fn is_origin_form(target: &[u8]) -> bool
     ensures { IsTrue result ↔ IsOriginForm target.now }
 {
-    target.first() == Some(&b'/') && target.iter().all(|b| is_target_byte(*b))
+    target.first() == Some(&b'/') && are_target_bytes(target)
 }
 
-/// Whether no empty line comes first and each LF follows a CR.
-fn has_strict_lines(region: &[u8]) -> bool
-    ensures { result ≡ (is_no_line_break (slice_index region.now 0) && lf_follows_cr 0 region.now) }
+/// Whether no empty line comes first.
+fn has_first_line(region: &[u8]) -> bool
+    ensures { result ≡ is_no_line_break (slice_index region.now 0) }
 {
     match region.first() {
-        Some(first) => *first != b'\r' && *first != b'\n' && has_no_bare_line_feed(region),
+        Some(first) => *first != b'\r' && *first != b'\n',
         None => true,
     }
 }
@@ -63,13 +64,14 @@ fn is_strict(region: &[u8], head: &RequestSpans) -> bool
     head.len == region.len() && head.version == 1 && is_origin_form(head.path.of(region))
 }
 
-/// The parts of the head, if the region has the form of one.
+/// The parts of the head, if the region, in which each LF follows a CR, has the form of one.
 pub(crate) fn parse_head(region: &[u8]) -> Option<HeadSpans>
-    requires { HasFewFields region.now }
+    requires few { HasFewFields region.now }
+    requires pairs { lf_follows_cr 0 region.now ≡ true }
     ensures found { IfSome result (IsHeadAt region.now) }
     ensures none { IfNone result ((h : HeadParts) → SpellsHead region.now h → ⊥) }
 {
-    if !has_strict_lines(region) {
+    if !has_first_line(region) {
         return None;
     }
     let mut fields = [EMPTY_HEADER_SPAN; FIELD_LIMIT];

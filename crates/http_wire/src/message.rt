@@ -86,8 +86,12 @@ fn read_region(region: &[u8]) -> Result<(Message<'_>, usize), WireFault>
     ensures body { IfOk result (λ r. body_length (message_of r.0).fields ≡ Ok r.1) }
     ensures fault { IfErr result (IsBadRegion region.now) }
 {
-    if line_ends(region) > FIELD_LIMIT + 2 {
+    let ends = line_ends(region);
+    if ends.count > FIELD_LIMIT + 2 {
         return Err(WireFault::HeadTooLarge);
+    }
+    if !ends.strict {
+        return Err(WireFault::BadHead);
     }
     let Some(spans) = parse_head(region) else {
         return Err(WireFault::BadHead);

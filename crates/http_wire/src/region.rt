@@ -1,26 +1,12 @@
-//! Where the head of a message ends.
-ghost use Rattle.std.specs.Prelude.{◌≡◌, ℕ, ◌+◌, ◌<◌, ◌≤◌, ◌↔◌, Bool, true, List, length, take, drop, IsTrue, IfSome, IfNone};
-ghost use Rattle.http_wire.specs.Regions.{IsLineEndAt, IsHeadEndAt, HasRegion, HasNoRegion, line_ends};
+//! Where the head of a message ends, and its lines.
+ghost use Rattle.std.specs.Prelude.{◌≡◌, ℕ, ◌≤◌, Bool, true, List, length, take, drop, IfSome, IfNone};
+ghost use Rattle.http_wire.specs.Regions.{HasRegion, HasNoRegion, line_ends};
+ghost use Rattle.http_wire.specs.Parse.{lf_follows_cr};
 
+use memchr::{memchr_iter, memmem};
 use rollout_model::limits::HEAD_LENGTH_LIMIT;
 
-const CARRIAGE_RETURN: u8 = b'\r';
-
-const LINE_FEED: u8 = b'\n';
-
-fn is_line_end_at(bytes: &[u8], place: usize) -> bool
-    requires { place + 1 < length bytes.now }
-    ensures { IsTrue result ↔ IsLineEndAt bytes.now place }
-{
-    bytes[place] == CARRIAGE_RETURN && bytes[place + 1] == LINE_FEED
-}
-
-fn is_head_end_at(bytes: &[u8], place: usize) -> bool
-    requires { place + 3 < length bytes.now }
-    ensures { IsTrue result ↔ IsHeadEndAt bytes.now place }
-{
-    is_line_end_at(bytes, place) && is_line_end_at(bytes, place + 2)
-}
+const HEAD_END: &[u8] = b"\r\n\r\n";
 
 /// The length of the head region.
 pub(crate) fn region_len(bytes: &[u8]) -> Option<usize>
@@ -29,26 +15,32 @@ pub(crate) fn region_len(bytes: &[u8]) -> Option<usize>
     ensures none { IfNone result (HasNoRegion bytes.now) }
 {
     let limit = bytes.len().min(HEAD_LENGTH_LIMIT);
-    if limit < 4 {
-        return None;
-    }
-    for k in 0..limit - 3 {
-        if is_head_end_at(bytes, k) {
-            return Some(k + 4);
-        }
-    }
-    None
+    let place = memmem::find(&bytes[..limit], HEAD_END)?;
+    Some(place + HEAD_END.len())
 }
 
-/// How often CR LF stands in the bytes.
-pub(crate) fn line_ends(bytes: &[u8]) -> usize
-    ensures { result ≡ line_ends bytes.now }
+/// The ends of a head's lines.
+#[derive(Clone, Copy)]
+pub(crate) struct LineEnds {
+    /// How often CR LF stands there.
+    pub(crate) count: usize,
+    /// Whether each LF follows a CR.
+    pub(crate) strict: bool,
+}
+
+/// The line ends in the bytes.
+pub(crate) fn line_ends(bytes: &[u8]) -> LineEnds
+    ensures count { result.count ≡ line_ends bytes.now }
+    ensures strict { result.strict ≡ lf_follows_cr 0 bytes.now }
 {
     let mut count = 0;
-    for i in 0..bytes.len() {
-        if bytes[i] == CARRIAGE_RETURN && i + 1 < bytes.len() && bytes[i + 1] == LINE_FEED {
+    let mut strict = true;
+    for place in memchr_iter(b'\n', bytes) {
+        if place > 0 && bytes.get(place - 1) == Some(&b'\r') {
             count += 1;
+        } else {
+            strict = false;
         }
     }
-    count
+    LineEnds { count, strict }
 }

@@ -92,7 +92,8 @@ pub fn reply_bytes(alloc: Global, answer: &Answer) -> Result<Vec<u8>, Refusal>
 {
     let size = answer.body.len() as u64;
     let head = reply_head(answer.status, answer.content_type, false, size);
-    let mut bytes = Vec::from_slice(alloc, head.as_bytes())?;
+    let mut bytes = Vec::with_capacity(alloc, head.as_bytes().len() + answer.body.len())?;
+    bytes.extend_from_slice(head.as_bytes())?;
     bytes.extend_from_slice(&answer.body)?;
     Ok(bytes)
 }

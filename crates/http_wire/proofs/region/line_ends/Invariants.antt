@@ -1,10 +1,16 @@
-use Rattle.std.proofs.Common.{◌≡◌, ◌+◌, ◌≤◌, drop}
+use Rattle.std.proofs.Common.{◌≡◌, ◌+◌, ◌≤◌, ◌&&◌, length}
+use Rattle.std.specs.List.{list_all}
 use Rattle.http_wire.specs.Regions.{line_ends}
+use Rattle.http_wire.specs.Parse.{lf_follows_cr}
+use Rattle.http_wire.proofs.LineLemmas.{follows, pairs_at}
 use Rattle.http_wire.proofs.region.line_ends.Given as goal
 
--- those so far and those of what is left are all
-abbrev pub invariant-loop-i : goal.invariant-loop-i
-invariant-loop-i l = record {
-  all : l.count + line_ends (drop l.i l.bytes) ≡ line_ends l.bytes;
-  few : l.count ≤ l.i;
+-- the places that are left decide
+abbrev pub invariant-loop-place : goal.invariant-loop-place
+invariant-loop-place l = record {
+  all : l.count + pairs_at l.bytes l.place-iterator ≡ line_ends l.bytes;
+  few : l.count + length l.place-iterator ≤ length l.bytes;
+  strict : (l.strict && list_all (follows l.bytes) l.place-iterator) ≡ lf_follows_cr 0 l.bytes;
+  next : (goal.iterator-loop-place).can_next l.place-iterator;
+  finite : (goal.iterator-loop-place).is_finite l.place-iterator;
 }

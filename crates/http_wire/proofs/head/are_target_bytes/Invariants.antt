@@ -1,0 +1,8 @@
+use Rattle.std.proofs.Common.{◌≡◌, ◌&&◌, drop}
+use Rattle.std.specs.List.{list_all}
+use Rattle.http_wire.specs.Heads.{is_target_byte}
+use Rattle.http_wire.proofs.head.are_target_bytes.Given as goal
+
+-- the bytes that are left decide
+abbrev pub invariant-loop-b : goal.invariant-loop-b
+invariant-loop-b l = (l.all && list_all is_target_byte (drop l.b-index l.bytes)) ≡ list_all is_target_byte l.bytes
