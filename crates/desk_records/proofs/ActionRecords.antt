@@ -1,5 +1,5 @@
 -- What is read of actions and offers, where a ledger is held.
-use Rattle.std.proofs.Common.{◌≡◌, ◌≤◌, ◌&&◌, ℕ, ◌+◌, pos, List, [], ◌∷◌, map, filter, take, drop, length, slice_get, Bool, true, false, cond, Option, Some, None, option_map, refl, ap, ◌∙◌, nat_eq}
+use Rattle.std.proofs.Common.{◌≡◌, ◌≤◌, ℕ, ◌+◌, pos, List, [], ◌∷◌, map, filter, take, drop, length, slice_get, Bool, true, false, cond, Option, Some, None, option_map, refl, ap, ◌∙◌, nat_eq}
 use Rattle.std.specs.List.{zip}
 use Rattle.std.proofs.lemmas.List.{take-map, drop-map}
 use Rattle.sqlite_value.specs.declared.value.Value.{Value}

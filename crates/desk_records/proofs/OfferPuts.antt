@@ -28,7 +28,7 @@ use Rattle.sqlite.specs.Collation.TheVariants.{Binary}
 use Rattle.sql_calls.specs.Keyed.{IsHeldBy}
 use Rattle.sql_calls.proofs.KeyConflicts.{IsKeyOnly}
 use Rattle.sql_calls.proofs.KeyedRows.{IsBlind, on_content, held_added, held_seen, held_changed, next_is, found_id}
-use Rattle.sql_calls.proofs.KeyedTables.{one_written, written}
+use Rattle.sql_calls.proofs.KeyedTables.{none_passes, is_among, only_one, one_written, written}
 use Rattle.sql_calls.proofs.NumberedRows.{cast_int, cast_null}
 use Rattle.sql_calls.proofs.Selects.{passes, shown_of, simple_rows}
 use Rattle.sql_calls.proofs.Upserts.{Puts, Resolved}
@@ -55,24 +55,6 @@ few [] [] same low = refl
 few [] (y ∷ ys) same low = absurd (omega (arith, length_permutation _ _ same))
 few (x ∷ []) ys same low = one_permutation x ys same
 few (x ∷ y ∷ xs) ys same low = absurd (omega (arith, low))
-
-none_passes : (p : Row → Bool) (rows : List Row) → ((r : Row) → Has rows r → p r ≡ true → ⊥) → filter p rows ≡ []
-none_passes p [] h = refl
-none_passes p (r ∷ rows) h = go (p r) refl (none_passes p rows (λ s there. h s (inr there)))
-  where
-    go : (b : Bool) → p r ≡ b → filter p rows ≡ [] → cond b (r ∷ filter p rows) (filter p rows) ≡ []
-    go true e more = absurd (h r (inl refl) e)
-    go false e more = more
-
-is_among : (p : Row → Bool) (rows : List Row) (r : Row) → Has rows r → p r ≡ true → Has (filter p rows) r
-is_among p [] r there passes_it = absurd there
-is_among p (s ∷ rows) r (inl same) passes_it = let e : p s ≡ true = ap p (sym same) ∙ passes_it in rw e (inl same)
-is_among p (s ∷ rows) r (inr there) passes_it =
-    let more = is_among p rows r there passes_it in elim (p s) as (λ b. Has (cond b (s ∷ filter p rows) (filter p rows)) r) [ true ↦ inr more | false ↦ more ]
-
-only_one : (found r : Row) → Has (found ∷ []) r → r ≡ found
-only_one found r (inl same) = same
-only_one found r (inr none) = absurd none
 
 map_none : (f : Row → Row) (rows : List Row) → map f rows ≡ [] → rows ≡ []
 map_none f [] e = refl

@@ -3,15 +3,13 @@ use Rattle.std.proofs.Common.{◌≡◌, ◌≢◌, ◌&&◌, ℕ, pos, List, []
 use Rattle.std.proofs.lemmas.Bool.Decides.{nat_tests}
 use Rattle.sqlite_value.specs.declared.value.Value.TheVariants.{Null, Int, Text}
 use Rattle.sqlite_value.specs.Order.{Row}
-use Rattle.sqlite.specs.Command.TheVariants.{Insert, Update, Delete}
-use Rattle.sqlite.specs.Source.TheVariants.{Values}
+use Rattle.sqlite.specs.Command.TheVariants.{Update, Delete}
 use Rattle.sqlite.specs.Effect.{Database}
 use Rattle.sqlite.specs.State.{State, Writes}
 use Rattle.sqlite_rules.specs.Cast.{cast_all}
 use Rattle.sql_calls.specs.Keyed.{IsHeldBy}
-use Rattle.sql_calls.proofs.Inserts.{inserts}
 use Rattle.sql_calls.proofs.KeyedRows.{on_content, changed}
-use Rattle.sql_calls.proofs.KeyedTables.{adds_row, changes_key, drops, keys_apart}
+use Rattle.sql_calls.proofs.KeyedTables.{changes_key, drops, keys_apart}
 use Rattle.sql_calls.proofs.NumberedRows.{cast_int}
 use Rattle.sql_calls.proofs.Selects.{passes, shown_of}
 use Rattle.sql_calls.proofs.Updates.{deletes, updates}

@@ -1,10 +1,9 @@
 -- Calls on ledgers, said of records: the tables hold the ledger of the records before a command and after it.
-use Rattle.std.proofs.Common.{◌≡◌, Option, Result, Ok, Err, subst}
+use Rattle.std.proofs.Common.{◌≡◌, Result, Ok, Err, subst}
 use Rattle.sqlite.specs.Effect.{Database}
 use Rattle.sqlite.specs.State.{State}
 use Rattle.sql_calls.specs.Standing.{Reads, ReadsTo, Writes, WritesTo, Changes, Spoils}
 use Rattle.rollout_machine.specs.Commands.{Bytes}
-use Rattle.rollout_machine.specs.Records.{Records}
 use Rattle.desk_records.specs.Holds.{HoldsLedger, HoldsRecords, Ledger, ledger_of}
 
 -- ---- of what is held by a value that is made of another

@@ -11,6 +11,7 @@ ghost use Rattle.desk_records.specs.NextOffers.{next_offer};
 ghost use Rattle.desk_records.specs.RolloutRow.{IsActionRow, IsListedActionRow, IsOfferRow, actions_for, actions_of, stored_action};
 ghost use Rattle.desk_store.specs.Counting.{AddsIn};
 ghost use Rattle.desk_store.specs.Ledgers.{ReadsLedger, WritesLedger};
+ghost use Rattle.desk_store.specs.Changing.{StaysIn};
 
 use crate::change::OpenChange;
 use crate::codes::{code_of_outcome, flag_code};
@@ -66,7 +67,7 @@ impl FromRow for HistoryEntry {
 impl<'a, S: Alter> OpenChange<'a, S> {
     /// The number of the last action, which is how many there are.
     pub fn read_last_action(&mut self) -> Result<u32, Fault>
-        ensures same_reference { self.new.store.ghost_name ≡ self.old.store.ghost_name }
+        ensures stays { StaysIn self.old self.new result }
         ensures reads { ReadsLedger S.Store self.old self.new result (λ l last. last ≡ length (zip l.records.actions l.tallies)) }
         ensures work { AddsIn 1 1 self.old self.new }
     {
@@ -76,7 +77,7 @@ impl<'a, S: Alter> OpenChange<'a, S> {
 
     /// The action of a number, without its history. A row that breaks a column's rule is a failed store.
     pub fn read_action(&mut self, number: ActionNo) -> Result<Option<StoredAction>, Fault>
-        ensures same_reference { self.new.store.ghost_name ≡ self.old.store.ghost_name }
+        ensures stays { StaysIn self.old self.new result }
         ensures reads { ReadsLedger S.Store self.old self.new result (λ l found. found ≡ option_map (stored_action l.records.rollouts) (item_numbered (zip l.records.actions l.tallies) number)) }
         ensures work { AddsIn 1 1 self.old self.new }
     {
@@ -91,7 +92,7 @@ impl<'a, S: Alter> OpenChange<'a, S> {
         number: RolloutNo,
         page: Page,
     ) -> Result<Vec<ListedAction>, Fault>
-        ensures same_reference { self.new.store.ghost_name ≡ self.old.store.ghost_name }
+        ensures stays { StaysIn self.old self.new result }
         ensures reads { ReadsLedger S.Store self.old self.new result (λ l found. found.items ≡ take page.limit (drop page.offset (actions_of l.records.rollouts number 1 (zip l.records.actions l.tallies)))) }
         ensures work { self.new.store.now.calls.work.statements ≤ self.old.store.now.calls.work.statements + 1 }
     {
@@ -109,7 +110,7 @@ impl<'a, S: Alter> OpenChange<'a, S> {
         id: &ControllerId,
         page: Page,
     ) -> Result<Vec<ListedAction>, Fault>
-        ensures same_reference { self.new.store.ghost_name ≡ self.old.store.ghost_name }
+        ensures stays { StaysIn self.old self.new result }
         ensures reads { ReadsLedger S.Store self.old self.new result (λ l found. found.items ≡ take page.limit (drop page.offset (actions_for l.records.rollouts id.now 1 (zip l.records.actions l.tallies)))) }
         ensures work { self.new.store.now.calls.work.statements ≤ self.old.store.now.calls.work.statements + 1 }
     {
@@ -123,7 +124,7 @@ impl<'a, S: Alter> OpenChange<'a, S> {
 
     /// The history of an action, a page of it in its order. A row that breaks a column's rule is a failed store.
     pub fn read_entries(&mut self, number: ActionNo, page: Page) -> Result<Vec<HistoryEntry>, Fault>
-        ensures same_reference { self.new.store.ghost_name ≡ self.old.store.ghost_name }
+        ensures stays { StaysIn self.old self.new result }
         ensures reads { ReadsLedger S.Store self.old self.new result
             (λ l found. list_all keeps_details (history_of (item_numbered l.records.actions number)) ≡ true → found.items ≡ take page.limit (drop page.offset (history_of (item_numbered l.records.actions number)))) }
         ensures work { self.new.store.now.calls.work.statements ≤ self.old.store.now.calls.work.statements + 1 }
@@ -138,7 +139,7 @@ impl<'a, S: Alter> OpenChange<'a, S> {
 
     /// What the target of an id is offered. A row that breaks a column's rule is a failed store.
     pub fn read_offer(&mut self, id: &ControllerId) -> Result<Option<Offer>, Fault>
-        ensures same_reference { self.new.store.ghost_name ≡ self.old.store.ghost_name }
+        ensures stays { StaysIn self.old self.new result }
         ensures reads { ReadsLedger S.Store self.old self.new result (λ l found. found ≡ l.offers id.now) }
         ensures work { AddsIn 1 1 self.old self.new }
     {
@@ -150,7 +151,7 @@ impl<'a, S: Alter> OpenChange<'a, S> {
     /// What the target of an id is to be offered: the first of its actions that is open and whose place a started group of its rollout
     /// holds. A row that breaks a column's rule is a failed store.
     pub fn read_next_offer(&mut self, id: &ControllerId) -> Result<Option<Offer>, Fault>
-        ensures same_reference { self.new.store.ghost_name ≡ self.old.store.ghost_name }
+        ensures stays { StaysIn self.old self.new result }
         ensures reads { ReadsLedger S.Store self.old self.new result (λ l found. length l.tallies ≡ length l.records.actions → found ≡ next_offer l.records id.now) }
         ensures work { AddsIn 1 1 self.old self.new }
     {
@@ -167,7 +168,7 @@ impl<'a, S: Alter> OpenChange<'a, S> {
         place: u32,
         id: &ControllerId,
     ) -> Result<(), Fault>
-        ensures same_reference { self.new.store.ghost_name ≡ self.old.store.ghost_name }
+        ensures stays { StaysIn self.old self.new result }
         ensures writes { WritesLedger S.Store self.old self.new result (AddsAction number rollout place id.now) }
         ensures work { AddsIn 1 0 self.old self.new }
     {
@@ -186,7 +187,7 @@ impl<'a, S: Alter> OpenChange<'a, S> {
         notes: u32,
         entries: u32,
     ) -> Result<(), Fault>
-        ensures same_reference { self.new.store.ghost_name ≡ self.old.store.ghost_name }
+        ensures stays { StaysIn self.old self.new result }
         ensures writes { WritesLedger S.Store self.old self.new result (SetsAction number canceling outcome (record { notes = notes; entries = entries })) }
         ensures work { AddsIn 1 0 self.old self.new }
     {
@@ -208,7 +209,7 @@ impl<'a, S: Alter> OpenChange<'a, S> {
         word: u32,
         details: &str,
     ) -> Result<(), Fault>
-        ensures same_reference { self.new.store.ghost_name ≡ self.old.store.ghost_name }
+        ensures stays { StaysIn self.old self.new result }
         ensures writes { WritesLedger S.Store self.old self.new result (AddsEntry number sequence kind word details.now) }
         ensures work { AddsIn 1 0 self.old self.new }
     {
@@ -220,7 +221,7 @@ impl<'a, S: Alter> OpenChange<'a, S> {
 
     /// Offers a target something in place of what it is offered.
     pub fn change_offer(&mut self, id: &ControllerId, offer: Offer) -> Result<(), Fault>
-        ensures same_reference { self.new.store.ghost_name ≡ self.old.store.ghost_name }
+        ensures stays { StaysIn self.old self.new result }
         ensures writes { WritesLedger S.Store self.old self.new result (SetsOffer id.now offer) }
         ensures work { AddsIn 1 0 self.old self.new }
     {
@@ -233,7 +234,7 @@ impl<'a, S: Alter> OpenChange<'a, S> {
 
     /// Offers a target nothing any more.
     pub fn drop_offer(&mut self, id: &ControllerId) -> Result<(), Fault>
-        ensures same_reference { self.new.store.ghost_name ≡ self.old.store.ghost_name }
+        ensures stays { StaysIn self.old self.new result }
         ensures writes { WritesLedger S.Store self.old self.new result (λ l next. next ≡ with_offer l id.now None) }
         ensures work { AddsIn 1 0 self.old self.new }
     {

@@ -7,7 +7,7 @@ ghost use Rattle.rollout_machine.specs.ByteStrings.{item_numbered};
 ghost use Rattle.rollout_machine.specs.Objects.{artifacts_shown};
 ghost use Rattle.desk_records.specs.ArtifactRow.{stored};
 ghost use Rattle.desk_records.specs.Artifacts.{is_same_artifact, piece_numbered, with_artifact, AddsPiece};
-ghost use Rattle.desk_store.specs.Changing.{ReadsIn, WritesIn};
+ghost use Rattle.desk_store.specs.Changing.{ReadsIn, WritesIn, StaysIn};
 ghost use Rattle.desk_store.specs.Counting.{AddsIn};
 
 use crate::change::OpenChange;
@@ -27,7 +27,7 @@ impl<'a, S: Alter> OpenChange<'a, S> {
         module_number: ModuleNo,
         filename: &Filename,
     ) -> Result<bool, Fault>
-        ensures same_reference { self.new.store.ghost_name ≡ self.old.store.ghost_name }
+        ensures stays { StaysIn self.old self.new result }
         ensures reads { ReadsIn S.Store self.old self.new result
             (λ r found. found ≡ list_any (is_same_artifact module_number filename.now) r.artifacts) }
         ensures work { AddsIn 1 1 self.old self.new }
@@ -41,7 +41,7 @@ impl<'a, S: Alter> OpenChange<'a, S> {
 
     /// The number of the last artifact, which is how many there are.
     pub fn read_last_artifact(&mut self) -> Result<u32, Fault>
-        ensures same_reference { self.new.store.ghost_name ≡ self.old.store.ghost_name }
+        ensures stays { StaysIn self.old self.new result }
         ensures reads { ReadsIn S.Store self.old self.new result (λ r last. last ≡ length r.artifacts) }
         ensures work { AddsIn 1 1 self.old self.new }
     {
@@ -51,7 +51,7 @@ impl<'a, S: Alter> OpenChange<'a, S> {
 
     /// What is kept of the artifact of a number, without its contents. A row that breaks a column's rule is a failed store.
     pub fn read_artifact(&mut self, number: ArtifactNo) -> Result<Option<StoredArtifact>, Fault>
-        ensures same_reference { self.new.store.ghost_name ≡ self.old.store.ghost_name }
+        ensures stays { StaysIn self.old self.new result }
         ensures reads { ReadsIn S.Store self.old self.new result (λ r found. found ≡ option_map stored (item_numbered r.artifacts number)) }
         ensures work { AddsIn 1 1 self.old self.new }
     {
@@ -62,7 +62,7 @@ impl<'a, S: Alter> OpenChange<'a, S> {
 
     /// The artifacts of a module, in the order of their numbers. A row that breaks a column's rule is a failed store.
     pub fn read_module_artifacts(&mut self, module_number: ModuleNo) -> Result<Vec<Artifact>, Fault>
-        ensures same_reference { self.new.store.ghost_name ≡ self.old.store.ghost_name }
+        ensures stays { StaysIn self.old self.new result }
         ensures reads { ReadsIn S.Store self.old self.new result (λ r artifacts. artifacts.items ≡ artifacts_shown module_number 1 r.artifacts) }
         ensures work { self.new.store.now.calls.work.statements ≤ self.old.store.now.calls.work.statements + 1 }
     {
@@ -81,7 +81,7 @@ impl<'a, S: Alter> OpenChange<'a, S> {
         number: ArtifactNo,
         sequence: u32,
     ) -> Result<Option<Vec<u8>>, Fault>
-        ensures same_reference { self.new.store.ghost_name ≡ self.old.store.ghost_name }
+        ensures stays { StaysIn self.old self.new result }
         ensures reads { ReadsIn S.Store self.old self.new result
             (λ r found. option_map vec_items found ≡ piece_numbered r.artifacts number sequence) }
         ensures work { AddsIn 1 1 self.old self.new }
@@ -103,7 +103,7 @@ impl<'a, S: Alter> OpenChange<'a, S> {
         size: u32,
         digest: &Digest,
     ) -> Result<(), Fault>
-        ensures same_reference { self.new.store.ghost_name ≡ self.old.store.ghost_name }
+        ensures stays { StaysIn self.old self.new result }
         ensures writes { WritesIn S.Store self.old self.new result
             (λ r next. (number ≡ length r.artifacts + 1) × (next ≡ with_artifact r module_number filename.now size digest.now)) }
         ensures work { AddsIn 1 0 self.old self.new }
@@ -127,7 +127,7 @@ impl<'a, S: Alter> OpenChange<'a, S> {
         sequence: u32,
         bytes: &[u8],
     ) -> Result<(), Fault>
-        ensures same_reference { self.new.store.ghost_name ≡ self.old.store.ghost_name }
+        ensures stays { StaysIn self.old self.new result }
         ensures writes { WritesIn S.Store self.old self.new result
             (AddsPiece number sequence bytes.now) }
         ensures work { AddsIn 1 0 self.old self.new }

@@ -3,7 +3,7 @@
 ghost use Rattle.std.specs.Prelude.{◌≡◌, ◌≤◌, ◌+◌};
 ghost use Rattle.rollout_machine.specs.Verdicts.{target_of};
 ghost use Rattle.desk_records.specs.Targets.{AddsAttribute, SetsAttribute, attributes_of};
-ghost use Rattle.desk_store.specs.Changing.{ReadsIn, WritesIn};
+ghost use Rattle.desk_store.specs.Changing.{ReadsIn, WritesIn, StaysIn};
 ghost use Rattle.desk_store.specs.Counting.{AddsIn};
 
 use crate::change::OpenChange;
@@ -17,7 +17,7 @@ impl<'a, S: Alter> OpenChange<'a, S> {
     /// The attributes of the target of an id, by their keys in byte order; none where there is no such target. A row that
     /// breaks a column's rule is a failed store.
     pub fn read_target_attributes(&mut self, id: &ControllerId) -> Result<Attributes, Fault>
-        ensures same_reference { self.new.store.ghost_name ≡ self.old.store.ghost_name }
+        ensures stays { StaysIn self.old self.new result }
         ensures reads { ReadsIn S.Store self.old self.new result (λ r attributes. attributes ≡ attributes_of (target_of r id.now)) }
         ensures work { self.new.store.now.calls.work.statements ≤ self.old.store.now.calls.work.statements + 1 }
     {
@@ -35,7 +35,7 @@ impl<'a, S: Alter> OpenChange<'a, S> {
         id: &ControllerId,
         attribute: &Attribute,
     ) -> Result<(), Fault>
-        ensures same_reference { self.new.store.ghost_name ≡ self.old.store.ghost_name }
+        ensures stays { StaysIn self.old self.new result }
         ensures writes { WritesIn S.Store self.old self.new result
             (AddsAttribute id.now attribute.now) }
         ensures work { AddsIn 1 0 self.old self.new }
@@ -56,7 +56,7 @@ impl<'a, S: Alter> OpenChange<'a, S> {
         id: &ControllerId,
         attribute: &Attribute,
     ) -> Result<(), Fault>
-        ensures same_reference { self.new.store.ghost_name ≡ self.old.store.ghost_name }
+        ensures stays { StaysIn self.old self.new result }
         ensures writes { WritesIn S.Store self.old self.new result
             (SetsAttribute id.now attribute.now) }
         ensures work { AddsIn 1 0 self.old self.new }

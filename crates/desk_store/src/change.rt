@@ -3,11 +3,12 @@
 ghost use Rattle.std.specs.Prelude.{◌≡◌, ◌+◌, length, IfErr};
 ghost use Rattle.std.specs.List.{list_any};
 ghost use Rattle.sqlite.specs.Held.{state};
+ghost use Rattle.sql_calls.specs.Calls.{Grows, failures_in};
 ghost use Rattle.sql_calls.specs.Standing.{Commits, GivesUp};
 ghost use Rattle.rollout_machine.specs.ByteStrings.{item_numbered};
 ghost use Rattle.desk_records.specs.Holds.{HoldsRecords};
 ghost use Rattle.desk_records.specs.Modules.{is_same, with_module};
-ghost use Rattle.desk_store.specs.Changing.{ReadsIn, WritesIn};
+ghost use Rattle.desk_store.specs.Changing.{ReadsIn, WritesIn, StaysIn};
 ghost use Rattle.desk_store.specs.Counting.{AddsIn};
 
 use crate::reading::{finished, last_number, read_optional};
@@ -25,7 +26,7 @@ pub struct OpenChange<'a, S: Alter> {
 impl<'a, S: Alter> OpenChange<'a, S> {
     /// Whether there is a module of the same name, kind and version.
     pub fn read_same_module(&mut self, label: &ModuleLabel) -> Result<bool, Fault>
-        ensures same_reference { self.new.store.ghost_name ≡ self.old.store.ghost_name }
+        ensures stays { StaysIn self.old self.new result }
         ensures reads { ReadsIn S.Store self.old self.new result (λ r found. found ≡ list_any (is_same label.now) r.modules) }
         ensures work { AddsIn 1 1 self.old self.new }
     {
@@ -42,7 +43,7 @@ impl<'a, S: Alter> OpenChange<'a, S> {
 
     /// The number of the last module, which is how many there are.
     pub fn read_last_module(&mut self) -> Result<u32, Fault>
-        ensures same_reference { self.new.store.ghost_name ≡ self.old.store.ghost_name }
+        ensures stays { StaysIn self.old self.new result }
         ensures reads { ReadsIn S.Store self.old self.new result (λ r last. last ≡ length r.modules) }
         ensures work { AddsIn 1 1 self.old self.new }
     {
@@ -52,7 +53,7 @@ impl<'a, S: Alter> OpenChange<'a, S> {
 
     /// The module of a number. A row that breaks a column's rule is a failed store.
     pub fn read_module(&mut self, number: ModuleNo) -> Result<Option<ModuleLabel>, Fault>
-        ensures same_reference { self.new.store.ghost_name ≡ self.old.store.ghost_name }
+        ensures stays { StaysIn self.old self.new result }
         ensures reads { ReadsIn S.Store self.old self.new result (λ r found. found ≡ item_numbered r.modules number) }
         ensures work { AddsIn 1 1 self.old self.new }
     {
@@ -63,7 +64,7 @@ impl<'a, S: Alter> OpenChange<'a, S> {
 
     /// Adds the module of the next number.
     pub fn write_module(&mut self, number: ModuleNo, label: &ModuleLabel) -> Result<(), Fault>
-        ensures same_reference { self.new.store.ghost_name ≡ self.old.store.ghost_name }
+        ensures stays { StaysIn self.old self.new result }
         ensures writes { WritesIn S.Store self.old self.new result (λ r next. (number ≡ length r.modules + 1) × (next ≡ with_module r label.now)) }
         ensures work { AddsIn 1 0 self.old self.new }
     {
@@ -82,6 +83,7 @@ impl<'a, S: Alter> OpenChange<'a, S> {
     pub fn commit(self) -> Result<(), Fault>
         ensures commits { Commits HoldsRecords (state S.Store self.entry.store.now.calls.conn) (state S.Store self.exit.0.now.calls.conn) result }
         ensures work { self.exit.0.now.calls.work ≡ self.entry.store.now.calls.work }
+        ensures grows { Grows (failures_in result) self.entry.store.now.calls self.exit.0.now.calls }
         ensures store { IfErr result (λ e. e ≡ Fault.Store) }
     {
         let OpenChange { store } = self;
@@ -92,6 +94,7 @@ impl<'a, S: Alter> OpenChange<'a, S> {
     pub fn give_up(self) -> Result<(), Fault>
         ensures gives_up { GivesUp HoldsRecords (state S.Store self.entry.store.now.calls.conn) (state S.Store self.exit.0.now.calls.conn) result }
         ensures work { self.exit.0.now.calls.work ≡ self.entry.store.now.calls.work }
+        ensures grows { Grows (failures_in result) self.entry.store.now.calls self.exit.0.now.calls }
         ensures store { IfErr result (λ e. e ≡ Fault.Store) }
     {
         let OpenChange { store } = self;

@@ -12,6 +12,7 @@ ghost use Rattle.desk_records.specs.RolloutRow.{IsGroupRow, IsRolloutRow, stored
 ghost use Rattle.desk_records.specs.Rollouts.{groups_of, is_called, last_started_group, members_of};
 ghost use Rattle.desk_store.specs.Counting.{AddsIn};
 ghost use Rattle.desk_store.specs.Ledgers.{ReadsLedger, WritesLedger};
+ghost use Rattle.desk_store.specs.Changing.{StaysIn};
 
 use crate::change::OpenChange;
 use crate::codes::{code_of_approval, flag_code};
@@ -58,7 +59,7 @@ impl FromRow for ControllerId {
 impl<'a, S: Alter> OpenChange<'a, S> {
     /// Whether new rollouts wait for approval.
     pub fn read_approval(&mut self) -> Result<bool, Fault>
-        ensures same_reference { self.new.store.ghost_name ≡ self.old.store.ghost_name }
+        ensures stays { StaysIn self.old self.new result }
         ensures reads { ReadsLedger S.Store self.old self.new result (λ l approval. approval ≡ l.records.approval) }
         ensures work { AddsIn 1 1 self.old self.new }
     {
@@ -68,7 +69,7 @@ impl<'a, S: Alter> OpenChange<'a, S> {
 
     /// Whether there is a rollout of the name.
     pub fn read_same_rollout(&mut self, name: &Text) -> Result<bool, Fault>
-        ensures same_reference { self.new.store.ghost_name ≡ self.old.store.ghost_name }
+        ensures stays { StaysIn self.old self.new result }
         ensures reads { ReadsLedger S.Store self.old self.new result (λ l found. found ≡ list_any (is_called name.now) l.records.rollouts) }
         ensures work { AddsIn 1 1 self.old self.new }
     {
@@ -81,7 +82,7 @@ impl<'a, S: Alter> OpenChange<'a, S> {
 
     /// The number of the last rollout, which is how many there are.
     pub fn read_last_rollout(&mut self) -> Result<u32, Fault>
-        ensures same_reference { self.new.store.ghost_name ≡ self.old.store.ghost_name }
+        ensures stays { StaysIn self.old self.new result }
         ensures reads { ReadsLedger S.Store self.old self.new result (λ l last. last ≡ length l.records.rollouts) }
         ensures work { AddsIn 1 1 self.old self.new }
     {
@@ -91,7 +92,7 @@ impl<'a, S: Alter> OpenChange<'a, S> {
 
     /// The rollout of a number, without its members and groups. A row that breaks a column's rule is a failed store.
     pub fn read_rollout(&mut self, number: RolloutNo) -> Result<Option<StoredRollout>, Fault>
-        ensures same_reference { self.new.store.ghost_name ≡ self.old.store.ghost_name }
+        ensures stays { StaysIn self.old self.new result }
         ensures reads { ReadsLedger S.Store self.old self.new result (λ l found. found ≡ option_map stored_rollout (item_numbered l.records.rollouts number)) }
         ensures work { AddsIn 1 1 self.old self.new }
     {
@@ -102,7 +103,7 @@ impl<'a, S: Alter> OpenChange<'a, S> {
 
     /// The rollouts of a page, in the order of their numbers. A row that breaks a column's rule is a failed store.
     pub fn read_rollouts(&mut self, page: Page) -> Result<Vec<StoredRollout>, Fault>
-        ensures same_reference { self.new.store.ghost_name ≡ self.old.store.ghost_name }
+        ensures stays { StaysIn self.old self.new result }
         ensures reads { ReadsLedger S.Store self.old self.new result (λ l found. found.items ≡ map stored_rollout (take page.limit (drop page.offset l.records.rollouts))) }
         ensures work { self.new.store.now.calls.work.statements ≤ self.old.store.now.calls.work.statements + 1 }
     {
@@ -120,7 +121,7 @@ impl<'a, S: Alter> OpenChange<'a, S> {
         number: RolloutNo,
         page: Page,
     ) -> Result<Vec<ControllerId>, Fault>
-        ensures same_reference { self.new.store.ghost_name ≡ self.old.store.ghost_name }
+        ensures stays { StaysIn self.old self.new result }
         ensures reads { ReadsLedger S.Store self.old self.new result (λ l found. found.items ≡ take page.limit (drop page.offset (members_of (item_numbered l.records.rollouts number)))) }
         ensures work { self.new.store.now.calls.work.statements ≤ self.old.store.now.calls.work.statements + 1 }
     {
@@ -134,7 +135,7 @@ impl<'a, S: Alter> OpenChange<'a, S> {
 
     /// The groups of a rollout, in the order of their numbers, which are counted from 1; none where there is no such rollout. A row that breaks a column's rule is a failed store.
     pub fn read_groups(&mut self, number: RolloutNo) -> Result<Vec<GroupRecord>, Fault>
-        ensures same_reference { self.new.store.ghost_name ≡ self.old.store.ghost_name }
+        ensures stays { StaysIn self.old self.new result }
         ensures reads { ReadsLedger S.Store self.old self.new result (λ l groups. groups.items ≡ groups_of (item_numbered l.records.rollouts number)) }
         ensures work { self.new.store.now.calls.work.statements ≤ self.old.store.now.calls.work.statements + 1 }
     {
@@ -149,7 +150,7 @@ impl<'a, S: Alter> OpenChange<'a, S> {
         number: RolloutNo,
         group: u32,
     ) -> Result<Option<GroupRecord>, Fault>
-        ensures same_reference { self.new.store.ghost_name ≡ self.old.store.ghost_name }
+        ensures stays { StaysIn self.old self.new result }
         ensures reads { ReadsLedger S.Store self.old self.new result (λ l found. found ≡ group_numbered group (groups_of (item_numbered l.records.rollouts number))) }
         ensures work { AddsIn 1 1 self.old self.new }
     {
@@ -167,7 +168,7 @@ impl<'a, S: Alter> OpenChange<'a, S> {
         number: RolloutNo,
         place: u32,
     ) -> Result<Option<GroupRecord>, Fault>
-        ensures same_reference { self.new.store.ghost_name ≡ self.old.store.ghost_name }
+        ensures stays { StaysIn self.old self.new result }
         ensures reads { ReadsLedger S.Store self.old self.new result (λ l found. found ≡ group_holding place (groups_of (item_numbered l.records.rollouts number))) }
         ensures work { AddsIn 1 1 self.old self.new }
     {
@@ -181,7 +182,7 @@ impl<'a, S: Alter> OpenChange<'a, S> {
 
     /// The last group of a rollout that is started. A row that breaks a column's rule is a failed store.
     pub fn read_last_started(&mut self, number: RolloutNo) -> Result<Option<GroupRecord>, Fault>
-        ensures same_reference { self.new.store.ghost_name ≡ self.old.store.ghost_name }
+        ensures stays { StaysIn self.old self.new result }
         ensures reads { ReadsLedger S.Store self.old self.new result (λ l found. found ≡ last_started_group (groups_of (item_numbered l.records.rollouts number))) }
         ensures work { AddsIn 1 1 self.old self.new }
     {
@@ -197,7 +198,7 @@ impl<'a, S: Alter> OpenChange<'a, S> {
         plan: &RolloutPlan,
         approval: Approval,
     ) -> Result<(), Fault>
-        ensures same_reference { self.new.store.ghost_name ≡ self.old.store.ghost_name }
+        ensures stays { StaysIn self.old self.new result }
         ensures writes { WritesLedger S.Store self.old self.new result (AddsRollout number plan.now approval) }
         ensures work { AddsIn 1 0 self.old self.new }
     {
@@ -227,7 +228,7 @@ impl<'a, S: Alter> OpenChange<'a, S> {
         started: bool,
         paused: bool,
     ) -> Result<(), Fault>
-        ensures same_reference { self.new.store.ghost_name ≡ self.old.store.ghost_name }
+        ensures stays { StaysIn self.old self.new result }
         ensures writes { WritesLedger S.Store self.old self.new result (SetsRollout number approval started paused) }
         ensures work { AddsIn 1 0 self.old self.new }
     {
@@ -247,7 +248,7 @@ impl<'a, S: Alter> OpenChange<'a, S> {
         place: u32,
         id: &ControllerId,
     ) -> Result<(), Fault>
-        ensures same_reference { self.new.store.ghost_name ≡ self.old.store.ghost_name }
+        ensures stays { StaysIn self.old self.new result }
         ensures writes { WritesLedger S.Store self.old self.new result (AddsMember number place id.now) }
         ensures work { AddsIn 1 0 self.old self.new }
     {
@@ -263,7 +264,7 @@ impl<'a, S: Alter> OpenChange<'a, S> {
         group: u32,
         bounds: Bounds,
     ) -> Result<(), Fault>
-        ensures same_reference { self.new.store.ghost_name ≡ self.old.store.ghost_name }
+        ensures stays { StaysIn self.old self.new result }
         ensures writes { WritesLedger S.Store self.old self.new result (AddsGroup number group bounds) }
         ensures work { AddsIn 1 0 self.old self.new }
     {
@@ -283,7 +284,7 @@ impl<'a, S: Alter> OpenChange<'a, S> {
         bad: u32,
         gone: u32,
     ) -> Result<(), Fault>
-        ensures same_reference { self.new.store.ghost_name ≡ self.old.store.ghost_name }
+        ensures stays { StaysIn self.old self.new result }
         ensures writes { WritesLedger S.Store self.old self.new result (SetsGroup number group started ok bad gone) }
         ensures work { AddsIn 1 0 self.old self.new }
     {

@@ -2,7 +2,7 @@
 
 ghost use Rattle.std.specs.Prelude.{◌≡◌, not, [], IfOk};
 ghost use Rattle.sqlite.specs.Held.{state};
-ghost use Rattle.sql_calls.specs.Calls.{RunsText, no_work};
+ghost use Rattle.sql_calls.specs.Calls.{RunsText, Grows, no_work, failures_in};
 ghost use Rattle.sql_calls.specs.Standing.{Begins};
 ghost use Rattle.desk_records.specs.Holds.{HoldsRecords};
 ghost use Rattle.desk_store.specs.Texts.{begin_text};
@@ -31,19 +31,11 @@ impl<S: Alter> DeskStore<S> {
         }
     }
 
-    /// What was run and taken since the last reset.
+    /// What was run and taken so far.
     pub fn work(&self) -> Work
         ensures { result ≡ self.now.calls.work }
     {
         self.calls.work()
-    }
-
-    /// Counts from nothing again.
-    pub fn reset_work(&mut self)
-        ensures work { self.new.calls.work ≡ no_work }
-        ensures conn { self.new.calls.conn ≡ self.old.calls.conn }
-    {
-        self.calls.reset_work();
     }
 
     /// Hands the connection back.
@@ -57,6 +49,7 @@ impl<S: Alter> DeskStore<S> {
     fn start(&mut self) -> Result<(), Fault>
         ensures runs { RunsText (state S.Store self.old.calls.conn) (state S.Store self.new.calls.conn) begin_text [] result }
         ensures work { self.new.calls.work ≡ self.old.calls.work }
+        ensures grows { Grows (failures_in result) self.old.calls self.new.calls }
     {
         self.calls.begin()
     }
@@ -72,6 +65,7 @@ impl<S: Alter> DeskStore<S> {
         ensures same_reference { IfOk result (λ c. c.store.ghost_name ≡ self.entry.ghost_name) }
         ensures begun { IfOk result (λ c. Begins HoldsRecords (state S.Store self.old.calls.conn) (state S.Store c.store.now.calls.conn)) }
         ensures work { IfOk result (λ c. c.store.now.calls.work ≡ self.old.calls.work) }
+        ensures grows { IfOk result (λ c. Grows 0 self.old.calls c.store.now.calls) }
     {
         match self.start() {
             Ok(()) => Ok(OpenChange { store: self }),

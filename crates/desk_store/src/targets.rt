@@ -5,7 +5,7 @@ ghost use Rattle.std.specs.Option.{option_map};
 ghost use Rattle.rollout_machine.specs.Verdicts.{tags_of, target_of};
 ghost use Rattle.desk_records.specs.TargetRow.{listed_target, stored_target};
 ghost use Rattle.desk_records.specs.Targets.{AddsTag, AddsTarget, renamed, untagged, with_changed};
-ghost use Rattle.desk_store.specs.Changing.{ReadsIn, WritesIn};
+ghost use Rattle.desk_store.specs.Changing.{ReadsIn, WritesIn, StaysIn};
 ghost use Rattle.desk_store.specs.Counting.{AddsIn};
 
 use crate::change::OpenChange;
@@ -21,7 +21,7 @@ use sqlite::{Alter, params};
 impl<'a, S: Alter> OpenChange<'a, S> {
     /// What is kept of the target of an id, without its tags and attributes. A row that breaks a column's rule is a failed store.
     pub fn read_target(&mut self, id: &ControllerId) -> Result<Option<StoredTarget>, Fault>
-        ensures same_reference { self.new.store.ghost_name ≡ self.old.store.ghost_name }
+        ensures stays { StaysIn self.old self.new result }
         ensures reads { ReadsIn S.Store self.old self.new result (λ r found. found ≡ option_map stored_target (target_of r id.now)) }
         ensures work { AddsIn 1 1 self.old self.new }
     {
@@ -32,7 +32,7 @@ impl<'a, S: Alter> OpenChange<'a, S> {
 
     /// The tags of the target of an id, in byte order; none where there is no such target. A row that breaks the column's rule is a failed store.
     pub fn read_target_tags(&mut self, id: &ControllerId) -> Result<Vec<Word>, Fault>
-        ensures same_reference { self.new.store.ghost_name ≡ self.old.store.ghost_name }
+        ensures stays { StaysIn self.old self.new result }
         ensures reads { ReadsIn S.Store self.old self.new result (λ r tags. tags.items ≡ tags_of (target_of r id.now)) }
         ensures work { self.new.store.now.calls.work.statements ≤ self.old.store.now.calls.work.statements + 1 }
     {
@@ -47,7 +47,7 @@ impl<'a, S: Alter> OpenChange<'a, S> {
     /// The targets of a page by their ids and names, in byte order of their ids. A row that breaks a column's rule is a
     /// failed store.
     pub fn read_targets(&mut self, page: Page) -> Result<Vec<ListedTarget>, Fault>
-        ensures same_reference { self.new.store.ghost_name ≡ self.old.store.ghost_name }
+        ensures stays { StaysIn self.old self.new result }
         ensures reads { ReadsIn S.Store self.old self.new result
             (λ r listed. listed.items ≡ map listed_target (take page.limit (drop page.offset r.targets))) }
         ensures work { self.new.store.now.calls.work.statements ≤ self.old.store.now.calls.work.statements + 1 }
@@ -62,7 +62,7 @@ impl<'a, S: Alter> OpenChange<'a, S> {
 
     /// How many targets there are.
     pub fn read_target_count(&mut self) -> Result<u32, Fault>
-        ensures same_reference { self.new.store.ghost_name ≡ self.old.store.ghost_name }
+        ensures stays { StaysIn self.old self.new result }
         ensures reads { ReadsIn S.Store self.old self.new result (λ r count. count ≡ length r.targets) }
         ensures work { AddsIn 1 1 self.old self.new }
     {
@@ -77,7 +77,7 @@ impl<'a, S: Alter> OpenChange<'a, S> {
         name: &Text,
         digest: &Digest,
     ) -> Result<(), Fault>
-        ensures same_reference { self.new.store.ghost_name ≡ self.old.store.ghost_name }
+        ensures stays { StaysIn self.old self.new result }
         ensures writes { WritesIn S.Store self.old self.new result
             (AddsTarget id.now name.now digest.now) }
         ensures work { AddsIn 1 0 self.old self.new }
@@ -95,7 +95,7 @@ impl<'a, S: Alter> OpenChange<'a, S> {
         name: &Text,
         digest: &Digest,
     ) -> Result<(), Fault>
-        ensures same_reference { self.new.store.ghost_name ≡ self.old.store.ghost_name }
+        ensures stays { StaysIn self.old self.new result }
         ensures writes { WritesIn S.Store self.old self.new result (λ r next. next ≡ with_changed r id.now (renamed name.now digest.now)) }
         ensures work { AddsIn 1 0 self.old self.new }
     {
@@ -107,7 +107,7 @@ impl<'a, S: Alter> OpenChange<'a, S> {
 
     /// Gives a target that is there a tag that it hasn't.
     pub fn write_target_tag(&mut self, id: &ControllerId, tag: &Word) -> Result<(), Fault>
-        ensures same_reference { self.new.store.ghost_name ≡ self.old.store.ghost_name }
+        ensures stays { StaysIn self.old self.new result }
         ensures writes { WritesIn S.Store self.old self.new result
             (AddsTag id.now tag.now) }
         ensures work { AddsIn 1 0 self.old self.new }
@@ -119,7 +119,7 @@ impl<'a, S: Alter> OpenChange<'a, S> {
 
     /// Takes a tag from the target of an id, where it has it.
     pub fn drop_target_tag(&mut self, id: &ControllerId, tag: &Word) -> Result<(), Fault>
-        ensures same_reference { self.new.store.ghost_name ≡ self.old.store.ghost_name }
+        ensures stays { StaysIn self.old self.new result }
         ensures writes { WritesIn S.Store self.old self.new result (λ r next. next ≡ with_changed r id.now (untagged tag.now)) }
         ensures work { AddsIn 1 0 self.old self.new }
     {

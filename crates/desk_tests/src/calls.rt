@@ -1,106 +1,90 @@
-//! Calls of the database: what they count, a text that compiles, a transaction that is rolled back.
+//! Calls of the database: what they count, a transaction that is rolled back, and a commit that fails.
 
-use sql_calls::{Calls, Fault};
-use sqlite::{Connection, MemStore, params};
+use sql_calls::Calls;
+use sqlite::{Alter, Connection, MemStore};
 use std::alloc::Global;
 
-const TABLE: &str = "CREATE TABLE note (number INTEGER PRIMARY KEY, title TEXT NOT NULL) STRICT";
+const CREATE: &str = "CREATE TABLE note (number INTEGER PRIMARY KEY, title TEXT NOT NULL) STRICT";
 
-/// A table without a row, and nothing counted.
-fn notes(alloc: Global) -> Option<Calls<MemStore>> {
-    let mut calls = Calls::new(Connection::open_in_memory(alloc).ok()?);
-    calls.run(TABLE, &[]).ok()?;
-    calls.reset_work();
-    Some(calls)
+const INSERT: &str = "INSERT INTO note (title) VALUES ('Pump')";
+
+const SELECT: &str = "SELECT title FROM note";
+
+fn new_calls(alloc: Global) -> Option<Calls<MemStore>> {
+    Some(Calls::new(Connection::open_in_memory(alloc).ok()?))
 }
 
-fn adds(calls: &mut Calls<MemStore>, title: &str) -> bool {
-    calls
-        .run("INSERT INTO note (title) VALUES (?1)", params![title])
-        .is_ok()
+fn runs<S: Alter>(calls: &mut Calls<S>, sql: &str) -> bool {
+    calls.run(sql, &[]).is_ok()
 }
 
-fn has(calls: &mut Calls<MemStore>, count: usize) -> bool {
-    match calls.ask("SELECT number FROM note", &[]) {
+fn has<S: Alter>(calls: &mut Calls<S>, count: usize) -> bool {
+    match calls.ask(SELECT, &[]) {
         Ok(rows) => rows.len() == count,
         Err(_) => false,
     }
 }
 
-fn has_worked(calls: &Calls<MemStore>, statements: u64, rows: u64) -> bool {
+/// Whether the query's first row is there.
+fn has_first<S: Alter>(calls: &mut Calls<S>) -> bool {
+    match calls.first(SELECT, &[]) {
+        Ok(row) => row.is_some(),
+        Err(_) => false,
+    }
+}
+
+fn begins<S: Alter>(calls: &mut Calls<S>) -> bool {
+    calls.begin().is_ok() && !calls.is_autocommit()
+}
+
+fn commits<S: Alter>(calls: &mut Calls<S>) -> bool {
+    calls.commit().is_ok() && calls.is_autocommit()
+}
+
+fn rolls_back<S: Alter>(calls: &mut Calls<S>) -> bool {
+    calls.roll_back().is_ok() && calls.is_autocommit()
+}
+
+fn has_counted<S: Alter>(calls: &Calls<S>, statements: u64, rows: u64, failures: u64) -> bool {
     let work = calls.work();
-    work.statements == statements && work.rows == rows
+    work.statements == statements && work.rows == rows && calls.failures() == failures
 }
 
-/// Whether a query's first row is there, or not, as wanted.
-fn finds(calls: &mut Calls<MemStore>, sql: &str, wanted: bool) -> bool {
-    match calls.first(sql, &[]) {
-        Ok(row) => row.is_some() == wanted,
-        Err(_) => false,
-    }
-}
-
-fn counts(calls: &mut Calls<MemStore>) -> bool {
-    adds(calls, "a")
-        && adds(calls, "b")
+/// A new table gets two rows.
+fn adds_two<S: Alter>(calls: &mut Calls<S>) -> bool {
+    runs(calls, CREATE)
+        && !has_first(calls)
+        && runs(calls, INSERT)
+        && runs(calls, INSERT)
         && has(calls, 2)
-        && finds(calls, "SELECT title FROM note ORDER BY number", true)
-        && finds(calls, "SELECT title FROM note WHERE number = 7", false)
-        && has_worked(calls, 5, 3)
+        && has_first(calls)
+        && has_counted(calls, 6, 3, 0)
 }
 
-/// A commit without a begin fails.
-fn commits_nothing(calls: &mut Calls<MemStore>) -> bool {
-    matches!(calls.commit(), Err(Fault::Store))
+/// A third row is rolled back, and another one is kept.
+fn adds_a_third<S: Alter>(calls: &mut Calls<S>) -> bool {
+    begins(calls)
+        && runs(calls, INSERT)
+        && rolls_back(calls)
+        && has(calls, 2)
+        && begins(calls)
+        && runs(calls, INSERT)
+        && commits(calls)
+        && has(calls, 3)
 }
 
-fn rolls_back(calls: &mut Calls<MemStore>) -> bool {
-    calls.begin().is_ok()
-        && !calls.is_autocommit()
-        && adds(calls, "a")
-        && calls.roll_back().is_ok()
-        && has(calls, 0)
-}
-
-fn commits(calls: &mut Calls<MemStore>) -> bool {
-    calls.begin().is_ok() && adds(calls, "b") && calls.commit().is_ok() && has(calls, 1)
-}
-
-fn compiles(calls: &mut Calls<MemStore>, sql: &str, wanted: bool) -> bool {
-    match calls.compiles(sql) {
-        Ok(is_right) => is_right == wanted,
-        Err(_) => false,
-    }
+/// A commit without a begin fails, and is counted as a failure alone.
+fn fails_to_commit<S: Alter>(calls: &mut Calls<S>) -> bool {
+    !commits(calls) && has_counted(calls, 10, 8, 1)
 }
 
 #[test]
-fn statements_and_rows_are_counted(rt: HostRuntime) {
-    match notes(rt.alloc()) {
-        Some(mut calls) => assert!(rt; counts(&mut calls)),
-        None => assert!(rt; false, "memory"),
-    }
-}
-
-#[test]
-fn a_transaction_is_rolled_back_whole(rt: HostRuntime) {
-    match notes(rt.alloc()) {
+fn calls_are_counted(rt: HostRuntime) {
+    match new_calls(rt.alloc()) {
         Some(mut calls) => {
-            assert!(rt; rolls_back(&mut calls));
-            assert!(rt; commits(&mut calls));
-            assert!(rt; commits_nothing(&mut calls));
-            assert!(rt; has_worked(&calls, 4, 1));
-        }
-        None => assert!(rt; false, "memory"),
-    }
-}
-
-#[test]
-fn a_text_compiles_where_its_columns_are(rt: HostRuntime) {
-    match notes(rt.alloc()) {
-        Some(mut calls) => {
-            assert!(rt; compiles(&mut calls, "SELECT title FROM note", true));
-            assert!(rt; compiles(&mut calls, "SELECT size FROM note", false));
-            assert!(rt; compiles(&mut calls, "SELECT title FROM notes", false));
+            assert!(rt; adds_two(&mut calls));
+            assert!(rt; adds_a_third(&mut calls));
+            assert!(rt; fails_to_commit(&mut calls));
         }
         None => assert!(rt; false, "memory"),
     }

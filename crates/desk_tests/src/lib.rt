@@ -6,14 +6,10 @@ mod asked;
 #[cfg(test)]
 mod calls;
 #[cfg(test)]
-mod downloads;
-#[cfg(test)]
 mod memory_of_downloads;
-#[cfg(test)]
-mod puts;
 #[cfg(test)]
 mod runs;
 #[cfg(test)]
-mod store;
+mod told;
 #[cfg(test)]
 mod work;

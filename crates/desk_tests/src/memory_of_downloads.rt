@@ -1,11 +1,55 @@
 //! A download of two pieces where a request for memory may be refused: `tools/each-allocation` refuses each in turn. A piece for
 //! which memory was wanting is the next one again.
 
-use super::asked::{asks_contents, bytes, refusal_in};
-use super::downloads::{hands_out, next_of, with_two_pieces};
+use super::asked::adds_module;
+use super::told::{does, download, new_desk, next_piece, refusal_in};
 use rollout_desk::{Desk, Download};
-use rollout_model::{Query, Refusal};
+use rollout_model::{ArtifactNo, Command, Contents, Filename, ModuleNo, Query, Refusal, Upload};
 use sqlite::Alter;
+use std::alloc::Global;
+
+/// The bytes of every piece but the last.
+const PIECE: usize = 65_536;
+
+/// 65,537 bytes: 0, 1, 2 and so on, and from 251 on again from 0.
+fn two_pieces(alloc: Global) -> Option<Vec<u8>> {
+    let size = PIECE + 1;
+    let mut bytes = Vec::with_capacity(alloc, size).ok()?;
+    for place in 0..size {
+        bytes.push((place % 251) as u8).ok()?;
+    }
+    Some(bytes)
+}
+
+/// Adds an artifact of two pieces to module 1.
+fn uploads(alloc: Global) -> Option<Command> {
+    let module_number = ModuleNo::new(1)?;
+    let filename = Filename::read("abc.bin")?;
+    let contents = Contents::from_bytes(two_pieces(alloc)?)?;
+    Some(Command::AddArtifact(Upload {
+        module_number,
+        filename,
+        expected: None,
+        contents,
+    }))
+}
+
+fn asks_contents() -> Option<Query> {
+    Some(Query::Contents(ModuleNo::new(1)?, ArtifactNo::new(1)?))
+}
+
+/// Whether the next piece of a download is these bytes; or no piece where these are none.
+fn hands_out<S: Alter>(
+    desk: &mut Desk<S>,
+    download: &mut Download,
+    wanted: &[u8],
+) -> Result<bool, Refusal> {
+    match next_piece(desk, download) {
+        Ok(Some(piece)) => Ok(!wanted.is_empty() && piece.as_slice() == wanted),
+        Ok(None) => Ok(wanted.is_empty()),
+        Err(refusal) => Err(refusal),
+    }
+}
 
 /// Whether the next piece is these bytes, if need be the second time; or the desk refuses everything, since memory was wanting for a
 /// rollback.
@@ -22,7 +66,7 @@ fn hands_out_at_last<S: Alter>(desk: &mut Desk<S>, download: &mut Download, want
 
 /// Whether a download hands out the bytes in two pieces, and no more then.
 fn hands_all_out<S: Alter>(desk: &mut Desk<S>, mut download: Download, contents: &[u8]) -> bool {
-    let (first, second) = next_of(contents);
+    let (first, second) = contents.split_at(contents.len().min(PIECE));
     hands_out_at_last(desk, &mut download, first)
         && hands_out_at_last(desk, &mut download, second)
         && hands_out_at_last(desk, &mut download, &[])
@@ -30,19 +74,23 @@ fn hands_all_out<S: Alter>(desk: &mut Desk<S>, mut download: Download, contents:
 
 /// A download, or why there is none.
 fn begin<S: Alter>(desk: &mut Desk<S>, query: &Query) -> Result<Download, Option<Refusal>> {
-    match desk.download(query) {
+    match download(desk, query) {
         Ok(download) => Ok(download),
         Err(reply) => Err(refusal_in(&reply)),
     }
 }
 
-/// Whether the artifact comes back; or none is there, since memory was wanting before.
-fn comes_back<S: Alter>(desk: &mut Desk<S>, query: &Query, contents: &[u8]) -> bool {
-    let begun = match begin(desk, query) {
+/// The same, a second time where memory was wanting.
+fn begin_at_last<S: Alter>(desk: &mut Desk<S>, query: &Query) -> Result<Download, Option<Refusal>> {
+    match begin(desk, query) {
         Err(Some(Refusal::NoMemory)) => begin(desk, query),
         begun => begun,
-    };
-    match begun {
+    }
+}
+
+/// Whether the artifact comes back; or none is there, since memory was wanting before.
+fn comes_back<S: Alter>(desk: &mut Desk<S>, query: &Query, contents: &[u8]) -> bool {
+    match begin_at_last(desk, query) {
         Ok(download) => hands_all_out(desk, download, contents),
         Err(refusal) => refusal == Some(Refusal::NotFound) || desk.stopped(),
     }
@@ -50,13 +98,15 @@ fn comes_back<S: Alter>(desk: &mut Desk<S>, query: &Query, contents: &[u8]) -> b
 
 #[test]
 fn each_piece_is_handed_out_or_wants_memory(rt: HostRuntime) {
-    let Some(query) = asks_contents(1) else {
+    let Some(query) = asks_contents() else {
         return;
     };
-    let Some(contents) = bytes(rt.alloc(), 65_537) else {
+    let Some(contents) = two_pieces(rt.alloc()) else {
         return;
     };
-    if let Some(mut desk) = with_two_pieces(rt.alloc()) {
+    if let Some(mut desk) = new_desk(rt.alloc()) {
+        let _ = does(&mut desk, adds_module(rt.alloc()));
+        let _ = does(&mut desk, uploads(rt.alloc()));
         assert!(rt; comes_back(&mut desk, &query, &contents));
     }
 }

@@ -1,22 +1,21 @@
-//! What reports make the store do: those of a rollout of a thousand members, up to the one that starts its second group.
+//! What reports make the store do: those of a rollout of ten thousand members, up to the one that starts its second group.
 
-use super::asked::{adds, made, row_of, takes, text};
+use super::asked::{adds_module, puts, row_of, text, token};
+use super::told::{answer, does, new_desk};
 use rollout_desk::Desk;
 use rollout_model::{
-    ActionNo, Command, ControllerId, Credential, DeploymentWord, Details, Digest, FilterText,
-    GroupCount, ModuleList, ModuleNo, Percentage, Query, Reply, Report, RolloutNo, RolloutPlan,
-    SetLabel, SetNo, TargetRows,
+    ActionNo, Command, ControllerId, Credential, DeploymentWord, Details, FilterText, GroupCount,
+    ModuleList, ModuleNo, Percentage, Query, Reply, Report, Request, RolloutNo, RolloutPlan,
+    SetLabel, SetNo,
 };
-use sqlite::{Alter, MemStore};
+use sqlite::Alter;
 use std::alloc::Global;
 
-const MEMBERS: u32 = 1_000;
+/// As many as a desk takes.
+const MEMBERS: u32 = 10_000;
 
-/// Of the first half one of a hundred.
-const ENOUGH: u32 = 5;
-
-/// The byte that the digest of each token has 32 times.
-const TOKEN: u8 = 7;
+/// Of the 5,000 members of the first group one of a hundred.
+const ENOUGH: u32 = 50;
 
 /// The id of the member at a place, in whose order ids are.
 fn id_at(alloc: Global, place: u32) -> Option<ControllerId> {
@@ -28,19 +27,19 @@ fn id_at(alloc: Global, place: u32) -> Option<ControllerId> {
 fn puts_members(alloc: Global) -> Option<Command> {
     let mut rows = Vec::new(alloc);
     for place in 1..=MEMBERS {
-        let id = id_at(alloc, place)?;
-        rows.push(row_of(alloc, id.as_str(), "Pump", TOKEN)?).ok()?;
+        rows.push(row_of(alloc, id_at(alloc, place)?, "Pump")?)
+            .ok()?;
     }
-    Some(Command::PutTargets(TargetRows::from_rows(rows)))
+    Some(puts(rows))
 }
 
 /// A set of module 1.
 fn adds_set(alloc: Global) -> Option<Command> {
     let mut numbers = Vec::new(alloc);
     numbers.push(ModuleNo::new(1)?).ok()?;
+    let modules = ModuleList::from_numbers(numbers)?;
     let name = text(alloc, "spring")?;
     let version = text(alloc, "1")?;
-    let modules = ModuleList::from_numbers(numbers)?;
     Some(Command::AddSet(SetLabel {
         name,
         version,
@@ -50,12 +49,12 @@ fn adds_set(alloc: Global) -> Option<Command> {
 
 /// A rollout of all targets in two groups, of which the second starts at a success of one in a hundred of the first.
 fn creates(alloc: Global) -> Option<Command> {
-    let name = text(alloc, "spring")?;
     let set_number = SetNo::new(1)?;
-    let filter_text = FilterText::from_text(alloc, "name==*").ok()?;
     let groups = GroupCount::new(2)?;
     let success = Percentage::new(1)?;
     let error = Percentage::new(100)?;
+    let name = text(alloc, "spring")?;
+    let filter_text = FilterText::from_text(alloc, "name==*").ok()?;
     Some(Command::CreateRollout(RolloutPlan {
         name,
         set_number,
@@ -66,21 +65,24 @@ fn creates(alloc: Global) -> Option<Command> {
     }))
 }
 
-/// A desk whose rollout of a thousand members is started.
-fn started(alloc: Global) -> Option<Desk<MemStore>> {
-    let module = adds(alloc, "1")?;
-    let set = adds_set(alloc)?;
-    let members = puts_members(alloc)?;
-    let rollout = creates(alloc)?;
-    let start = Command::Start(RolloutNo::new(1)?);
-    made(alloc, &[module, set, members, rollout, start])
+fn starts() -> Option<Command> {
+    Some(Command::Start(RolloutNo::new(1)?))
+}
+
+/// Whether a rollout of all members is started.
+fn begins<S: Alter>(alloc: Global, desk: &mut Desk<S>) -> bool {
+    does(desk, adds_module(alloc))
+        && does(desk, adds_set(alloc))
+        && does(desk, puts_members(alloc))
+        && does(desk, creates(alloc))
+        && does(desk, starts())
 }
 
 fn credential_at(alloc: Global, place: u32) -> Option<Credential> {
     let id = id_at(alloc, place)?;
     Some(Credential {
         id,
-        digest: Digest::new([TOKEN; 32]),
+        digest: token(),
     })
 }
 
@@ -97,38 +99,59 @@ fn succeeds(alloc: Global, place: u32) -> Option<Command> {
     }))
 }
 
-/// Whether the member at a place is offered something.
-fn is_offered<S: Alter>(alloc: Global, desk: &mut Desk<S>, place: u32) -> Option<bool> {
-    let query = Query::Poll(credential_at(alloc, place)?);
-    match desk.ask(&query) {
+/// The last member asks what it is offered.
+fn polls(alloc: Global) -> Option<Request> {
+    Some(Request::Ask(Query::Poll(credential_at(alloc, MEMBERS)?)))
+}
+
+/// Whether a poll is answered by an offer, or by none.
+fn offers(reply: &Reply) -> Option<bool> {
+    match reply {
         Reply::Poll(_, offer) => Some(offer.is_some()),
         _ => None,
     }
 }
 
-/// Whether a success is taken, in some statements and in no more than a report may run, with no more rows than it may take.
-fn takes_in_bounds<S: Alter>(alloc: Global, desk: &mut Desk<S>, place: u32) -> Option<bool> {
-    let report = succeeds(alloc, place)?;
-    let is_taken = takes(desk, &report);
-    let work = desk.work();
-    Some(is_taken && work.statements > 0 && work.statements <= 14 && work.rows <= 24)
+/// Whether the last member is offered something.
+fn is_offered<S: Alter>(alloc: Global, desk: &mut Desk<S>) -> Option<bool> {
+    let request = polls(alloc)?;
+    offers(&answer(desk, &request))
 }
 
-/// Whether the last of the successes that are enough starts the second group, and no report does more than it may.
-fn starts_the_second<S: Alter>(alloc: Global, desk: &mut Desk<S>) -> Option<bool> {
-    let last = MEMBERS;
+/// Whether the last report ran some statements and no more than one may run, with no more rows than it may take.
+fn is_in_bounds<S: Alter>(desk: &Desk<S>) -> bool {
+    let work = desk.work();
+    work.statements > 0 && work.statements <= 14 && work.rows <= 24
+}
+
+/// Whether a success is taken within its bounds.
+fn takes_success<S: Alter>(alloc: Global, desk: &mut Desk<S>, place: u32) -> bool {
+    does(desk, succeeds(alloc, place)) && is_in_bounds(desk)
+}
+
+/// Whether the successes before the last of those that are enough are taken and start nothing.
+fn waits<S: Alter>(alloc: Global, desk: &mut Desk<S>) -> bool {
     for place in 1..ENOUGH {
-        if !takes_in_bounds(alloc, desk, place)? || is_offered(alloc, desk, last)? {
-            return Some(false);
+        if !takes_success(alloc, desk, place) || is_offered(alloc, desk) != Some(false) {
+            return false;
         }
     }
-    Some(takes_in_bounds(alloc, desk, ENOUGH)? && is_offered(alloc, desk, last)?)
+    true
+}
+
+/// Whether the last of the successes that are enough starts the second group.
+fn goes_on<S: Alter>(alloc: Global, desk: &mut Desk<S>) -> bool {
+    takes_success(alloc, desk, ENOUGH) && is_offered(alloc, desk) == Some(true)
 }
 
 #[test]
 fn a_report_runs_few_statements(rt: HostRuntime) {
-    match started(rt.alloc()) {
-        Some(mut desk) => assert!(rt; starts_the_second(rt.alloc(), &mut desk) == Some(true)),
+    match new_desk(rt.alloc()) {
+        Some(mut desk) => {
+            assert!(rt; begins(rt.alloc(), &mut desk));
+            assert!(rt; waits(rt.alloc(), &mut desk));
+            assert!(rt; goes_on(rt.alloc(), &mut desk));
+        }
         None => assert!(rt; false, "memory"),
     }
 }

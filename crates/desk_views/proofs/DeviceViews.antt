@@ -1,5 +1,5 @@
 -- From typed reads to what a device is shown.
-use Rattle.std.proofs.Common.{◌≡◌, ℕ, zero, suc, ◌+◌, Bool, true, false, cond, not, ◌&&◌, ◌||◌, nat_eq, List, [], ◌∷◌, ◌++◌, map, find, Option, Some, None, Result, Ok, Err, refl, sym, ap, subst, ◌∙◌, arith, append_assoc, append-nil}
+use Rattle.std.proofs.Common.{◌≡◌, ℕ, zero, suc, ◌+◌, Bool, true, false, cond, ◌&&◌, ◌||◌, nat_eq, List, [], ◌∷◌, ◌++◌, map, find, Option, Some, None, Result, Ok, Err, refl, sym, ap, subst, ◌∙◌, arith, append_assoc, append-nil}
 use Rattle.std.proofs.lemmas.Bool.{or_parts, and_parts}
 use Rattle.std.proofs.lemmas.List.{map-append}
 use Rattle.std.specs.Cmp.Lexicographic.{pointwise}
@@ -19,7 +19,7 @@ use Rattle.desk_records.specs.Targets.{are_sorted, ids_of, in_byte_order}
 use Rattle.desk_records.specs.declared.rollout_row.StoredAction.{StoredAction}
 use Rattle.desk_records.specs.declared.rollout_row.StoredRollout.{StoredRollout}
 use Rattle.desk_records.specs.declared.target_row.StoredTarget.{StoredTarget}
-use Rattle.rollout_machine.proofs.Imports.{AllAbove, IsSorted, not_above}
+use Rattle.rollout_machine.proofs.Imports.{IsSorted, not_above}
 use Rattle.rollout_machine.proofs.TargetTies.{same_true}
 use Rattle.rollout_machine.specs.Answers.{artifact_named, for_device, if_found, is_offer_of, modules_offered, query_reply}
 use Rattle.rollout_machine.specs.ByteStrings.{contains_word, item_numbered, same_bytes}

@@ -1,17 +1,16 @@
 -- The details in the histories of accepted commands keep their rule.
-use Rattle.std.proofs.Common.{◌≡◌, ℕ, Bool, true, false, cond, List, [], ◌∷◌, ◌++◌, Option, Some, None, refl, sym, ap, subst, ◌∙◌}
+use Rattle.std.proofs.Common.{◌≡◌, ℕ, Bool, true, false, cond, [], Option, Some, None, refl, ap, ◌∙◌}
 use Rattle.std.specs.List.{list_all}
 use Rattle.std.specs.Option.{option_map}
 use Rattle.std.proofs.lemmas.Bool.{and_parts}
 use Rattle.std.proofs.lemmas.List.Folds.{list_all-append}
-use Rattle.rollout_machine.specs.Actions.{ActionPlace, HistoryEntry, action_place, action_places, entries_of, history}
+use Rattle.rollout_machine.specs.Actions.{ActionPlace, action_place, action_places, entries_of, history}
 use Rattle.rollout_machine.specs.ByteStrings.{item_numbered}
 use Rattle.rollout_machine.specs.CommandList.{CommandList, Make, ◌▸◌}
 use Rattle.rollout_machine.specs.CommandRules.{IsWellFormed, is_credential}
 use Rattle.rollout_machine.specs.Commands.{Command, Feedback, CancelFeedback}
 use Rattle.rollout_machine.specs.Records.{Records, action_in, records}
 use Rattle.rollout_machine.specs.Validity.{IsValid}
-use Rattle.rollout_machine.specs.declared.records.ActionRecord.{ActionRecord}
 use Rattle.rollout_machine.proofs.Actions.{numbered_map}
 use Rattle.rollout_model.specs.Rules.{are_details}
 use Rattle.desk_records.specs.EntryRow.{keeps_details}

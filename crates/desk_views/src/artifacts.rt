@@ -7,7 +7,7 @@ ghost use Rattle.rollout_machine.specs.Answers.{artifact_of_module, query_reply}
 ghost use Rattle.rollout_machine.specs.ByteStrings.{item_numbered};
 ghost use Rattle.rollout_machine.specs.Requests.{ShowArtifacts, ShowArtifact, ShowContents};
 ghost use Rattle.rollout_machine.specs.Views.{reply_of};
-ghost use Rattle.desk_store.specs.Changing.{ReadsIn};
+ghost use Rattle.desk_store.specs.Changing.{ReadsIn, StaysIn};
 ghost use Rattle.desk_views.specs.Contents.{contents_found};
 
 use desk_store::{Fault, OpenChange, StoredArtifact};
@@ -25,7 +25,7 @@ pub fn show_artifacts<S: Alter>(
     module_number: ModuleNo,
     page: Page,
 ) -> Result<Reply, Fault>
-    ensures same_reference { change.new.store.ghost_name ≡ change.old.store.ghost_name }
+    ensures stays { StaysIn change.old change.new result }
     ensures reads { ReadsIn S.Store change.old change.new result (λ now reply. reply_of reply ≡ query_reply now (ShowArtifacts module_number page)) }
 {
     if change.read_module(module_number)?.is_none() {
@@ -42,7 +42,7 @@ pub fn show_artifact<S: Alter>(
     module_number: ModuleNo,
     number: ArtifactNo,
 ) -> Result<Reply, Fault>
-    ensures same_reference { change.new.store.ghost_name ≡ change.old.store.ghost_name }
+    ensures stays { StaysIn change.old change.new result }
     ensures reads { ReadsIn S.Store change.old change.new result (λ now reply. reply_of reply ≡ query_reply now (ShowArtifact module_number number)) }
 {
     match read_of_module(change, module_number, number)? {
@@ -59,7 +59,7 @@ pub fn show_contents<S: Alter>(
     module_number: ModuleNo,
     number: ArtifactNo,
 ) -> Result<Reply, Fault>
-    ensures same_reference { change.new.store.ghost_name ≡ change.old.store.ghost_name }
+    ensures stays { StaysIn change.old change.new result }
     ensures reads { ReadsIn S.Store change.old change.new result (λ now reply. reply_of reply ≡ query_reply now (ShowContents module_number number)) }
 {
     let found = match read_of_module(change, module_number, number)? {
@@ -77,8 +77,9 @@ pub(crate) fn read_contents<S: Alter>(
     number: ArtifactNo,
     size: u32,
 ) -> Result<Contents, Fault>
-    ensures same_reference { change.new.store.ghost_name ≡ change.old.store.ghost_name }
+    ensures stays { StaysIn change.old change.new result }
     ensures reads { ReadsIn S.Store change.old change.new result (λ now contents. contents ≡ contents_found (item_numbered now.artifacts number)) }
+    ensures sized { IfOk result (λ contents. length contents ≡ size) }
 {
     let bytes = read_pieces(alloc, change, number)?;
     whole_contents(bytes, size)
@@ -106,7 +107,7 @@ fn read_of_module<S: Alter>(
     module_number: ModuleNo,
     number: ArtifactNo,
 ) -> Result<Option<StoredArtifact>, Fault>
-    ensures same_reference { change.new.store.ghost_name ≡ change.old.store.ghost_name }
+    ensures stays { StaysIn change.old change.new result }
     ensures reads { ReadsIn S.Store change.old change.new result
         (λ now found. found ≡ option_map stored (artifact_of_module now module_number number)) }
 {
@@ -138,7 +139,7 @@ fn read_pieces<S: Alter>(
     change: &mut OpenChange<'_, S>,
     number: ArtifactNo,
 ) -> Result<Vec<u8>, Fault>
-    ensures same_reference { change.new.store.ghost_name ≡ change.old.store.ghost_name }
+    ensures stays { StaysIn change.old change.new result }
     ensures reads { ReadsIn S.Store change.old change.new result (λ now bytes. bytes.items ≡ contents_found (item_numbered now.artifacts number)) }
 {
     let mut bytes = Vec::new(alloc);
@@ -162,7 +163,8 @@ fn append(bytes: &mut Vec<u8>, piece: &[u8]) -> Result<(), Fault>
 
 /// The contents of these bytes, where there are as many as the artifact says.
 fn whole_contents(bytes: Vec<u8>, size: u32) -> Result<Contents, Fault>
-    ensures { IfOk result (λ contents. contents ≡ bytes.items) }
+    ensures bytes { IfOk result (λ contents. contents ≡ bytes.items) }
+    ensures sized { IfOk result (λ contents. length contents ≡ size) }
 {
     if bytes.len() != size as usize {
         return Err(Fault::Store);

@@ -11,7 +11,7 @@ ghost use Rattle.rollout_machine.specs.Requests.{Download, ShowDeployment};
 ghost use Rattle.rollout_machine.specs.Views.{chunk, reply_of};
 ghost use Rattle.desk_records.specs.declared.rollout_row.StoredRollout.{StoredRollout};
 ghost use Rattle.rollout_model.specs.declared.artifact.Artifact.{Artifact};
-ghost use Rattle.desk_store.specs.Changing.{ReadsIn};
+ghost use Rattle.desk_store.specs.Changing.{ReadsIn, StaysIn};
 ghost use Rattle.desk_views.specs.Downloads.{downloadable, named};
 
 use crate::artifacts::read_contents;
@@ -31,7 +31,7 @@ pub fn show_deployment<S: Alter>(
     device: &Credential,
     number: ActionNo,
 ) -> Result<Reply, Fault>
-    ensures same_reference { change.new.store.ghost_name ≡ change.old.store.ghost_name }
+    ensures stays { StaysIn change.old change.new result }
     ensures reads { ReadsIn S.Store change.old change.new result (λ now reply. reply_of reply ≡ query_reply now (ShowDeployment device.now number)) }
 {
     if !knows_device(change, device)? {
@@ -55,7 +55,7 @@ fn read_chunks<S: Alter>(
     change: &mut OpenChange<'_, S>,
     number: ActionNo,
 ) -> Result<Vec<Chunk>, Fault>
-    ensures same_reference { change.new.store.ghost_name ≡ change.old.store.ghost_name }
+    ensures stays { StaysIn change.old change.new result }
     ensures reads { ReadsIn S.Store change.old change.new result
         (λ now chunks. map chunk chunks.items ≡ chunks_of now (modules_of_action now (item_numbered now.actions number))) }
 {
@@ -69,7 +69,7 @@ fn read_module_chunks<S: Alter>(
     change: &mut OpenChange<'_, S>,
     modules: Vec<ModuleNo>,
 ) -> Result<Vec<Chunk>, Fault>
-    ensures same_reference { change.new.store.ghost_name ≡ change.old.store.ghost_name }
+    ensures stays { StaysIn change.old change.new result }
     ensures reads { ReadsIn S.Store change.old change.new result (λ now chunks. map chunk chunks.items ≡ chunks_of now modules.items) }
 {
     let mut chunks = Vec::new(alloc);
@@ -85,7 +85,7 @@ fn add_chunk<S: Alter>(
     module_number: ModuleNo,
     chunks: &mut Vec<Chunk>,
 ) -> Result<(), Fault>
-    ensures same_reference { change.new.store.ghost_name ≡ change.old.store.ghost_name }
+    ensures stays { StaysIn change.old change.new result }
     ensures reads { ReadsIn S.Store change.old change.new result
         (λ now _. map chunk chunks.new.items ≡ map chunk chunks.old.items ++ chunks_of_module now module_number (item_numbered now.modules module_number)) }
 {
@@ -117,7 +117,7 @@ fn read_action_modules<S: Alter>(
     change: &mut OpenChange<'_, S>,
     number: ActionNo,
 ) -> Result<Vec<ModuleNo>, Fault>
-    ensures same_reference { change.new.store.ghost_name ≡ change.old.store.ghost_name }
+    ensures stays { StaysIn change.old change.new result }
     ensures reads { ReadsIn S.Store change.old change.new result (λ now modules. modules.items ≡ modules_of_action now (item_numbered now.actions number)) }
 {
     match change.read_action(number)? {
@@ -132,7 +132,7 @@ fn read_rollout_modules<S: Alter>(
     change: &mut OpenChange<'_, S>,
     number: RolloutNo,
 ) -> Result<Vec<ModuleNo>, Fault>
-    ensures same_reference { change.new.store.ghost_name ≡ change.old.store.ghost_name }
+    ensures stays { StaysIn change.old change.new result }
     ensures reads { ReadsIn S.Store change.old change.new result (λ now modules. modules.items ≡ modules_of_rollout now (item_numbered now.rollouts number)) }
 {
     let found = change.read_rollout(number)?;
@@ -160,7 +160,7 @@ pub fn show_download<S: Alter>(
     module_number: ModuleNo,
     filename: &Filename,
 ) -> Result<Reply, Fault>
-    ensures same_reference { change.new.store.ghost_name ≡ change.old.store.ghost_name }
+    ensures stays { StaysIn change.old change.new result }
     ensures reads { ReadsIn S.Store change.old change.new result (λ now reply. reply_of reply ≡ query_reply now (Download device.now module_number filename.now)) }
 {
     match find_download(alloc, change, device, module_number, filename)? {
@@ -180,7 +180,7 @@ pub fn find_download<S: Alter>(
     module_number: ModuleNo,
     filename: &Filename,
 ) -> Result<Result<Artifact, Refusal>, Fault>
-    ensures same_reference { change.new.store.ghost_name ≡ change.old.store.ghost_name }
+    ensures stays { StaysIn change.old change.new result }
     ensures reads { ReadsIn S.Store change.old change.new result (λ now found. found ≡ downloadable now device.now module_number filename.now) }
 {
     if !knows_device(change, device)? {
@@ -200,7 +200,7 @@ fn read_offered_modules<S: Alter>(
     change: &mut OpenChange<'_, S>,
     id: &ControllerId,
 ) -> Result<Vec<ModuleNo>, Fault>
-    ensures same_reference { change.new.store.ghost_name ≡ change.old.store.ghost_name }
+    ensures stays { StaysIn change.old change.new result }
     ensures reads { ReadsIn S.Store change.old change.new result (λ now modules. modules.items ≡ modules_offered now (offer now id.now)) }
 {
     match change.read_offer(id)? {
@@ -215,7 +215,7 @@ fn read_installed<S: Alter>(
     change: &mut OpenChange<'_, S>,
     offer: Offer,
 ) -> Result<Vec<ModuleNo>, Fault>
-    ensures same_reference { change.new.store.ghost_name ≡ change.old.store.ghost_name }
+    ensures stays { StaysIn change.old change.new result }
     ensures reads { ReadsIn S.Store change.old change.new result (λ now modules. modules.items ≡ modules_offered now (Some offer)) }
 {
     if offer.canceling {

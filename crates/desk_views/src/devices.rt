@@ -5,7 +5,7 @@ ghost use Rattle.rollout_machine.specs.Answers.{is_offer_of, query_reply};
 ghost use Rattle.rollout_machine.specs.Requests.{Poll, ShowCancel};
 ghost use Rattle.rollout_machine.specs.Verdicts.{is_known};
 ghost use Rattle.rollout_machine.specs.Views.{reply_of};
-ghost use Rattle.desk_store.specs.Changing.{ReadsIn};
+ghost use Rattle.desk_store.specs.Changing.{ReadsIn, StaysIn};
 ghost use Rattle.desk_store.specs.Counting.{AddsIn};
 
 use desk_store::{Fault, OpenChange};
@@ -17,7 +17,7 @@ pub fn knows_device<S: Alter>(
     change: &mut OpenChange<'_, S>,
     device: &Credential,
 ) -> Result<bool, Fault>
-    ensures same_reference { change.new.store.ghost_name ≡ change.old.store.ghost_name }
+    ensures stays { StaysIn change.old change.new result }
     ensures reads { ReadsIn S.Store change.old change.new result (λ now known. known ≡ is_known now device.now) }
     ensures work { AddsIn 1 1 change.old change.new }
 {
@@ -33,7 +33,7 @@ pub fn show_poll<S: Alter>(
     change: &mut OpenChange<'_, S>,
     device: &Credential,
 ) -> Result<Reply, Fault>
-    ensures same_reference { change.new.store.ghost_name ≡ change.old.store.ghost_name }
+    ensures stays { StaysIn change.old change.new result }
     ensures reads { ReadsIn S.Store change.old change.new result (λ now reply. reply_of reply ≡ query_reply now (Poll device.now)) }
 {
     if !knows_device(change, device)? {
@@ -49,7 +49,7 @@ pub fn show_cancel<S: Alter>(
     device: &Credential,
     number: ActionNo,
 ) -> Result<Reply, Fault>
-    ensures same_reference { change.new.store.ghost_name ≡ change.old.store.ghost_name }
+    ensures stays { StaysIn change.old change.new result }
     ensures reads { ReadsIn S.Store change.old change.new result (λ now reply. reply_of reply ≡ query_reply now (ShowCancel device.now number)) }
 {
     if !knows_device(change, device)? {

@@ -7,7 +7,7 @@ ghost use Rattle.rollout_machine.specs.ByteStrings.{item_numbered};
 ghost use Rattle.rollout_machine.specs.Objects.{module_shown, modules_shown};
 ghost use Rattle.rollout_machine.specs.Requests.{ShowModule, ShowModules};
 ghost use Rattle.rollout_machine.specs.Views.{reply_of};
-ghost use Rattle.desk_store.specs.Changing.{ReadsIn};
+ghost use Rattle.desk_store.specs.Changing.{ReadsIn, StaysIn};
 
 use crate::pages::count_on;
 use desk_store::{Fault, OpenChange};
@@ -20,7 +20,7 @@ pub fn show_module<S: Alter>(
     change: &mut OpenChange<'_, S>,
     number: ModuleNo,
 ) -> Result<Reply, Fault>
-    ensures same_reference { change.new.store.ghost_name ≡ change.old.store.ghost_name }
+    ensures stays { StaysIn change.old change.new result }
     ensures reads { ReadsIn S.Store change.old change.new result (λ now reply. reply_of reply ≡ query_reply now (ShowModule number)) }
 {
     match read_shown(change, number)? {
@@ -35,7 +35,7 @@ pub fn show_modules<S: Alter>(
     change: &mut OpenChange<'_, S>,
     page: Page,
 ) -> Result<Reply, Fault>
-    ensures same_reference { change.new.store.ghost_name ≡ change.old.store.ghost_name }
+    ensures stays { StaysIn change.old change.new result }
     ensures reads { ReadsIn S.Store change.old change.new result (λ now reply. reply_of reply ≡ query_reply now (ShowModules page)) }
 {
     let total = change.read_last_module()?;
@@ -50,7 +50,7 @@ fn read_page<S: Alter>(
     page: Page,
     total: u32,
 ) -> Result<Vec<Module>, Fault>
-    ensures same_reference { change.new.store.ghost_name ≡ change.old.store.ghost_name }
+    ensures stays { StaysIn change.old change.new result }
     ensures reads { ReadsIn S.Store change.old change.new result
         (λ now content. total ≡ length now.modules → content.items ≡ take page.limit (drop page.offset (modules_shown now))) }
 {
@@ -67,7 +67,7 @@ fn read_page<S: Alter>(
 
 /// The module of a number up to the last one. Where it isn't there the store has failed.
 fn read_entry<S: Alter>(change: &mut OpenChange<'_, S>, number: u32) -> Result<Module, Fault>
-    ensures same_reference { change.new.store.ghost_name ≡ change.old.store.ghost_name }
+    ensures stays { StaysIn change.old change.new result }
     ensures reads { ReadsIn S.Store change.old change.new result (λ now shown. item_numbered (modules_shown now) number ≡ Some shown) }
 {
     let Some(number) = ModuleNo::new(number) else {
@@ -84,7 +84,7 @@ fn read_shown<S: Alter>(
     change: &mut OpenChange<'_, S>,
     number: ModuleNo,
 ) -> Result<Option<Module>, Fault>
-    ensures same_reference { change.new.store.ghost_name ≡ change.old.store.ghost_name }
+    ensures stays { StaysIn change.old change.new result }
     ensures reads { ReadsIn S.Store change.old change.new result
         (λ now found. found ≡ option_map (module_shown now number) (item_numbered now.modules number)) }
 {

@@ -7,6 +7,7 @@ ghost use Rattle.rollout_machine.specs.Views.{report};
 ghost use Rattle.rollout_machine.specs.declared.records.RolloutRecord.{RolloutRecord};
 ghost use Rattle.desk_views.specs.Rollouts.{IsSeenOf};
 ghost use Rattle.desk_views.specs.Showing.{ShowsIn};
+ghost use Rattle.desk_store.specs.Changing.{StaysIn};
 
 use crate::groups::all_shown;
 use crate::rollouts::{SeenRollout, read_seen_rollout, shown};
@@ -21,7 +22,7 @@ pub fn show_report<S: Alter>(
     change: &mut OpenChange<'_, S>,
     number: RolloutNo,
 ) -> Result<Reply, Fault>
-    ensures same_reference { change.new.store.ghost_name ≡ change.old.store.ghost_name }
+    ensures stays { StaysIn change.old change.new result }
     ensures shows { ShowsIn S.Store change.old change.new (ShowReport number) result }
 {
     let seen = match read_seen_rollout(change, number)? {

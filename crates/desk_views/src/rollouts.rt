@@ -11,6 +11,7 @@ ghost use Rattle.campaign_core.specs.RolloutChecks.{BothOrNone};
 ghost use Rattle.desk_records.specs.RolloutRow.{stored_rollout};
 ghost use Rattle.desk_views.specs.Rollouts.{IsSeenOf, last_place};
 ghost use Rattle.desk_views.specs.Showing.{ReadsAtListsIn, ShowsIn};
+ghost use Rattle.desk_store.specs.Changing.{StaysIn};
 
 use crate::pages::count_on;
 use campaign_core::{GroupStatus, RolloutStatus, rollout_word};
@@ -105,7 +106,7 @@ pub fn read_seen_rollout<S: Alter>(
     change: &mut OpenChange<'_, S>,
     number: RolloutNo,
 ) -> Result<Option<SeenRollout>, Fault>
-    ensures same_reference { change.new.store.ghost_name ≡ change.old.store.ghost_name }
+    ensures stays { StaysIn change.old change.new result }
     ensures reads { ReadsAtListsIn S.Store change.old change.new result (λ now found. BothOrNone IsSeenOf found (item_numbered now.rollouts number)) }
 {
     let stored = match change.read_rollout(number)? {
@@ -122,7 +123,7 @@ pub(crate) fn read_groups_of<S: Alter>(
     number: RolloutNo,
     stored: StoredRollout,
 ) -> Result<SeenRollout, Fault>
-    ensures same_reference { change.new.store.ghost_name ≡ change.old.store.ghost_name }
+    ensures stays { StaysIn change.old change.new result }
     ensures reads { ReadsAtListsIn S.Store change.old change.new result
         (λ now seen. (x : RolloutRecord) → item_numbered now.rollouts number ≡ Some x → stored ≡ stored_rollout x → IsSeenOf seen x) }
 {
@@ -172,7 +173,7 @@ pub fn show_rollout<S: Alter>(
     change: &mut OpenChange<'_, S>,
     number: RolloutNo,
 ) -> Result<Reply, Fault>
-    ensures same_reference { change.new.store.ghost_name ≡ change.old.store.ghost_name }
+    ensures stays { StaysIn change.old change.new result }
     ensures shows { ShowsIn S.Store change.old change.new (ShowRollout number) result }
 {
     match read_seen_rollout(change, number)? {
@@ -187,7 +188,7 @@ pub fn show_rollouts<S: Alter>(
     change: &mut OpenChange<'_, S>,
     page: Page,
 ) -> Result<Reply, Fault>
-    ensures same_reference { change.new.store.ghost_name ≡ change.old.store.ghost_name }
+    ensures stays { StaysIn change.old change.new result }
     ensures shows { ShowsIn S.Store change.old change.new (ShowRollouts page) result }
 {
     let total = change.read_last_rollout()?;
@@ -202,7 +203,7 @@ fn read_page<S: Alter>(
     page: Page,
     total: u32,
 ) -> Result<Vec<Rollout>, Fault>
-    ensures same_reference { change.new.store.ghost_name ≡ change.old.store.ghost_name }
+    ensures stays { StaysIn change.old change.new result }
     ensures reads { ReadsAtListsIn S.Store change.old change.new result
         (λ now content. total ≡ length now.rollouts → content.items ≡ take page.limit (drop page.offset (rollouts_shown now.rollouts))) }
 {
@@ -219,7 +220,7 @@ fn read_page<S: Alter>(
 
 /// The rollout of a number up to the last one. Where it isn't there the store has failed.
 fn read_entry<S: Alter>(change: &mut OpenChange<'_, S>, number: u32) -> Result<Rollout, Fault>
-    ensures same_reference { change.new.store.ghost_name ≡ change.old.store.ghost_name }
+    ensures stays { StaysIn change.old change.new result }
     ensures reads { ReadsAtListsIn S.Store change.old change.new result (λ now entry. item_numbered (rollouts_shown now.rollouts) number ≡ Some entry) }
 {
     let Some(number) = RolloutNo::new(number) else {

@@ -9,7 +9,7 @@ ghost use Rattle.rollout_machine.specs.Views.{listed, reply_of};
 ghost use Rattle.rollout_model.specs.declared.shown_target.ShownTarget.{ShownTarget};
 ghost use Rattle.target_filter.specs.Grammar.{Tree};
 ghost use Rattle.target_filter.specs.Profile.{filter_of};
-ghost use Rattle.desk_store.specs.Changing.{ReadsIn};
+ghost use Rattle.desk_store.specs.Changing.{ReadsIn, StaysIn};
 ghost use Rattle.desk_views.specs.Targets.{matching_shown, target_listed, worded};
 
 use crate::pages::is_on;
@@ -32,7 +32,7 @@ pub fn show_targets<S: Alter>(
     filter: &Option<FilterText>,
     page: Page,
 ) -> Result<Reply, Fault>
-    ensures same_reference { change.new.store.ghost_name ≡ change.old.store.ghost_name }
+    ensures stays { StaysIn change.old change.new result }
     ensures reads { ReadsIn S.Store change.old change.new result (λ now reply. reply_of reply ≡ query_reply now (ShowTargets filter.now page)) }
 {
     match filter {
@@ -47,7 +47,7 @@ fn show_all<S: Alter>(
     change: &mut OpenChange<'_, S>,
     page: Page,
 ) -> Result<Reply, Fault>
-    ensures same_reference { change.new.store.ghost_name ≡ change.old.store.ghost_name }
+    ensures stays { StaysIn change.old change.new result }
     ensures reads { ReadsIn S.Store change.old change.new result (λ now reply. reply_of reply ≡ query_reply now (ShowTargets None page)) }
 {
     let total = change.read_target_count()?;
@@ -62,7 +62,7 @@ fn read_entries<S: Alter>(
     change: &mut OpenChange<'_, S>,
     entries: Vec<ListedTarget>,
 ) -> Result<Vec<ShownTarget>, Fault>
-    ensures same_reference { change.new.store.ghost_name ≡ change.old.store.ghost_name }
+    ensures stays { StaysIn change.old change.new result }
     ensures reads { ReadsIn S.Store change.old change.new result
         (λ now content. content.items ≡ map (worded now) (map (target_listed now) entries.items)) }
 {
@@ -85,7 +85,7 @@ fn show_matching<S: Alter>(
     text: &FilterText,
     page: Page,
 ) -> Result<Reply, Fault>
-    ensures same_reference { change.new.store.ghost_name ≡ change.old.store.ghost_name }
+    ensures stays { StaysIn change.old change.new result }
     ensures reads { ReadsIn S.Store change.old change.new result (λ now reply. reply_of reply ≡ query_reply now (ShowTargets (Some text.now) page)) }
 {
     let words = text.as_str();
@@ -106,7 +106,7 @@ fn read_matching<S: Alter>(
     filter: &Filter,
     page: Page,
 ) -> Result<PageOf<ShownTarget>, Fault>
-    ensures same_reference { change.new.store.ghost_name ≡ change.old.store.ghost_name }
+    ensures stays { StaysIn change.old change.new result }
     ensures reads { ReadsIn S.Store change.old change.new result
         (λ now shown. (f : Tree) → filter_of filter.now ≡ Some f → listed shown ≡ page_of page (matching_shown now f (map seen now.targets))) }
 {
@@ -132,7 +132,7 @@ fn add_chunk<S: Alter>(
     offset: u32,
     shown: &mut PageOf<ShownTarget>,
 ) -> Result<(), Fault>
-    ensures same_reference { change.new.store.ghost_name ≡ change.old.store.ghost_name }
+    ensures stays { StaysIn change.old change.new result }
     ensures reads { ReadsIn S.Store change.old change.new result
         (λ now _. (f : Tree) → filter_of filter.now ≡ Some f → listed shown.old ≡ page_of page (matching_shown now f (map seen (take offset now.targets)))
         → listed shown.new ≡ page_of page (matching_shown now f (map seen (take (offset + 10000) now.targets)))) }
@@ -153,7 +153,7 @@ fn add_matching<S: Alter>(
     entries: Vec<ListedTarget>,
     shown: &mut PageOf<ShownTarget>,
 ) -> Result<(), Fault>
-    ensures same_reference { change.new.store.ghost_name ≡ change.old.store.ghost_name }
+    ensures stays { StaysIn change.old change.new result }
     ensures reads { ReadsIn S.Store change.old change.new result
         (λ now _. (f : Tree) → filter_of filter.now ≡ Some f → (all : List ShownTarget) → listed shown.old ≡ page_of page all
         → listed shown.new ≡ page_of page (all ++ matching_shown now f (map (target_listed now) entries.items))) }
@@ -172,7 +172,7 @@ fn add_if_match<S: Alter>(
     entry: ListedTarget,
     shown: &mut PageOf<ShownTarget>,
 ) -> Result<(), Fault>
-    ensures same_reference { change.new.store.ghost_name ≡ change.old.store.ghost_name }
+    ensures stays { StaysIn change.old change.new result }
     ensures reads { ReadsIn S.Store change.old change.new result
         (λ now _. (f : Tree) → filter_of filter.now ≡ Some f → (all : List ShownTarget) → listed shown.old ≡ page_of page all
         → listed shown.new ≡ page_of page (all ++ matching_shown now f (target_listed now entry ∷ []))) }
@@ -193,7 +193,7 @@ fn add<S: Alter>(
     target: Target,
     shown: &mut PageOf<ShownTarget>,
 ) -> Result<(), Fault>
-    ensures same_reference { change.new.store.ghost_name ≡ change.old.store.ghost_name }
+    ensures stays { StaysIn change.old change.new result }
     ensures reads { ReadsIn S.Store change.old change.new result
         (λ now _. (all : List ShownTarget) → listed shown.old ≡ page_of page all → listed shown.new ≡ page_of page (all ++ worded now target ∷ [])) }
 {

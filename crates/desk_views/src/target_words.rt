@@ -6,7 +6,7 @@ ghost use Rattle.rollout_machine.specs.StateWords.{target_word};
 ghost use Rattle.campaign_core.specs.StatusWords.{target_word_from};
 ghost use Rattle.desk_records.specs.Actions.{tally_of};
 ghost use Rattle.desk_records.specs.RolloutRow.{actions_for};
-ghost use Rattle.desk_store.specs.Changing.{ReadsIn};
+ghost use Rattle.desk_store.specs.Changing.{ReadsIn, StaysIn};
 ghost use Rattle.desk_views.specs.TargetWords.{is_begun, last_ending};
 
 use campaign_core::{TargetStatus, target_word};
@@ -22,7 +22,7 @@ pub(crate) fn read_target_word<S: Alter>(
     change: &mut OpenChange<'_, S>,
     id: &ControllerId,
 ) -> Result<TargetWord, Fault>
-    ensures same_reference { change.new.store.ghost_name ≡ change.old.store.ghost_name }
+    ensures stays { StaysIn change.old change.new result }
     ensures reads { ReadsIn S.Store change.old change.new result (λ now word. word ≡ target_word now id.now) }
 {
     let status = read_status(change, id)?;
@@ -34,7 +34,7 @@ fn read_status<S: Alter>(
     change: &mut OpenChange<'_, S>,
     id: &ControllerId,
 ) -> Result<TargetStatus, Fault>
-    ensures same_reference { change.new.store.ghost_name ≡ change.old.store.ghost_name }
+    ensures stays { StaysIn change.old change.new result }
     ensures reads { ReadsIn S.Store change.old change.new result (λ now status. target_word_from status ≡ target_word now id.now) }
 {
     if change.read_offer(id)?.is_some() {
@@ -57,7 +57,7 @@ fn read_actions<S: Alter>(
     change: &mut OpenChange<'_, S>,
     id: &ControllerId,
 ) -> Result<Vec<ListedAction>, Fault>
-    ensures same_reference { change.new.store.ghost_name ≡ change.old.store.ghost_name }
+    ensures stays { StaysIn change.old change.new result }
     ensures reads { ReadsIn S.Store change.old change.new result
         (λ now actions. actions.items ≡ actions_for now.rollouts id.now 1 (zip now.actions (map tally_of now.actions))) }
 {
@@ -74,7 +74,7 @@ fn read_last_ending<S: Alter>(
     change: &mut OpenChange<'_, S>,
     actions: Vec<ListedAction>,
 ) -> Result<Option<Outcome>, Fault>
-    ensures same_reference { change.new.store.ghost_name ≡ change.old.store.ghost_name }
+    ensures stays { StaysIn change.old change.new result }
     ensures reads { ReadsIn S.Store change.old change.new result (λ now last. last ≡ last_ending now None actions.items) }
 {
     let mut left = actions;
@@ -91,7 +91,7 @@ fn read_is_begun<S: Alter>(
     change: &mut OpenChange<'_, S>,
     action: &StoredAction,
 ) -> Result<bool, Fault>
-    ensures same_reference { change.new.store.ghost_name ≡ change.old.store.ghost_name }
+    ensures stays { StaysIn change.old change.new result }
     ensures reads { ReadsIn S.Store change.old change.new result (λ now begun. begun ≡ is_begun now action.now) }
 {
     match change.read_holding_group(action.rollout, action.position)? {

@@ -7,7 +7,7 @@ ghost use Rattle.rollout_machine.specs.Objects.{target_shown};
 ghost use Rattle.rollout_machine.specs.Requests.{ShowTarget};
 ghost use Rattle.rollout_machine.specs.Verdicts.{target_of};
 ghost use Rattle.rollout_machine.specs.Views.{reply_of, shown_target};
-ghost use Rattle.desk_store.specs.Changing.{ReadsIn};
+ghost use Rattle.desk_store.specs.Changing.{ReadsIn, StaysIn};
 ghost use Rattle.desk_views.specs.Targets.{target_listed, worded};
 
 use crate::target_words::read_target_word;
@@ -22,7 +22,7 @@ pub fn show_target<S: Alter>(
     change: &mut OpenChange<'_, S>,
     id: ControllerId,
 ) -> Result<Reply, Fault>
-    ensures same_reference { change.new.store.ghost_name ≡ change.old.store.ghost_name }
+    ensures stays { StaysIn change.old change.new result }
     ensures reads { ReadsIn S.Store change.old change.new result (λ now reply. reply_of reply ≡ query_reply now (ShowTarget id)) }
 {
     match read_shown(change, id)? {
@@ -36,7 +36,7 @@ pub(crate) fn read_shown<S: Alter>(
     change: &mut OpenChange<'_, S>,
     id: ControllerId,
 ) -> Result<Option<ShownTarget>, Fault>
-    ensures same_reference { change.new.store.ghost_name ≡ change.old.store.ghost_name }
+    ensures stays { StaysIn change.old change.new result }
     ensures reads { ReadsIn S.Store change.old change.new result
         (λ now found. option_map shown_target found ≡ option_map (target_shown now) (target_of now id)) }
 {
@@ -63,7 +63,7 @@ pub fn read_listed<S: Alter>(
     change: &mut OpenChange<'_, S>,
     listed: ListedTarget,
 ) -> Result<Target, Fault>
-    ensures same_reference { change.new.store.ghost_name ≡ change.old.store.ghost_name }
+    ensures stays { StaysIn change.old change.new result }
     ensures reads { ReadsIn S.Store change.old change.new result (λ now target. target ≡ target_listed now listed) }
 {
     let words = change.read_target_tags(&listed.id)?;
@@ -99,7 +99,7 @@ pub(crate) fn with_word<S: Alter>(
     change: &mut OpenChange<'_, S>,
     target: Target,
 ) -> Result<ShownTarget, Fault>
-    ensures same_reference { change.new.store.ghost_name ≡ change.old.store.ghost_name }
+    ensures stays { StaysIn change.old change.new result }
     ensures reads { ReadsIn S.Store change.old change.new result (λ now shown. shown ≡ worded now target) }
 {
     let word = read_target_word(change, &target.id)?;

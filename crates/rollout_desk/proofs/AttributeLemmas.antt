@@ -6,9 +6,7 @@ use Rattle.std.specs.Cmp.Lexicographic.{pointwise}
 use Rattle.std.proofs.lemmas.Bool.{and_parts, false≢true}
 use Rattle.std.proofs.lemmas.Bool.Decides.{nat_tests}
 use Rattle.std.proofs.lemmas.List.{map-append, length-map}
-use Rattle.desk_records.specs.TargetRow.{stored_target}
-use Rattle.desk_records.specs.Targets.{AddsAttribute, SetsAttribute, are_sorted, attributed, attributes_of, ids_of, in_byte_order, is_sorted, keys_of, with_changed}
-use Rattle.desk_records.specs.declared.target_row.StoredTarget.{StoredTarget}
+use Rattle.desk_records.specs.Targets.{AddsAttribute, SetsAttribute, are_sorted, attributed, attributes_of, in_byte_order, is_sorted, keys_of, with_changed}
 use Rattle.rollout_machine.specs.ByteStrings.{same_bytes, bytes_below, contains_word, with_word, with_words}
 use Rattle.rollout_machine.specs.Commands.{Bytes, Attribute, Credential, PutAttributes}
 use Rattle.rollout_machine.specs.Records.{Records}
@@ -16,14 +14,14 @@ use Rattle.rollout_machine.specs.RecordSteps.{change_target, step_records}
 use Rattle.rollout_machine.specs.Targets.{Target, with_attribute, with_attributes}
 use Rattle.rollout_machine.specs.Verdicts.{check, is_known, target_of, keys_of as keys_there}
 use Rattle.rollout_machine.proofs.Imports.{AllAbove, IsSorted, above_more, not_above, sorted_with_all}
-use Rattle.rollout_machine.proofs.TargetTies.{same_refl, same_true, has_with}
+use Rattle.rollout_machine.proofs.TargetTies.{same_refl, same_true}
 use Rattle.rollout_model.specs.Pairs.{is_same_attribute}
 use Rattle.rollout_model.specs.declared.refusal.Refusal.TheVariants.{Unauthorized, Quota}
 use Rattle.rollout_desk.specs.Attributes.{GivesAttribute, GivesAttributes, attributed_with, has_attribute, keys_after}
-use Rattle.rollout_desk.proofs.ByteOrderLemmas.{below_apart, count_with, same_sym, sorted_from, with_there}
+use Rattle.rollout_desk.proofs.ByteOrderLemmas.{count_with, same_sym, sorted_from, with_there}
 use Rattle.rollout_desk.proofs.PutLemmas.{one_more, words_then}
 use Rattle.rollout_desk.proofs.TagLemmas.{has_all, pointwise_is, same_pointwise}
-use Rattle.rollout_desk.proofs.TargetLemmas.{change_twice, find_changed, found, ids_sorted, no_change, none_above, unchanged}
+use Rattle.rollout_desk.proofs.TargetLemmas.{change_twice, find_changed, found, ids_sorted, no_change, unchanged}
 
 -- ---- keys
 

@@ -1,6 +1,6 @@
 -- Calls of the store one after the other, and a command that is made of them.
-use Rattle.std.proofs.Common.{◌≡◌, ℕ, Some, None, Result, Ok, Err, IsErr, arith, subst, sym}
-use Rattle.sqlite.specs.State.{State, HasCleanDisk}
+use Rattle.std.proofs.Common.{◌≡◌, Some, None, Result, Ok, Err, IsErr, arith, subst, sym}
+use Rattle.sqlite.specs.State.{State}
 use Rattle.sqlite.specs.Effect.{Database}
 use Rattle.sql_calls.specs.Standing.{IsChanging, Reads, Writes}
 use Rattle.sql_calls.proofs.Changes.{spoils}

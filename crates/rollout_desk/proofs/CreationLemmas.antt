@@ -1,6 +1,6 @@
 -- The creation of a rollout, from what is read to what is written.
-use Rattle.std.proofs.Common.{◌≡◌, ◌≤◌, ◌<◌, ◌&&◌, ◌||◌, ℕ, zero, suc, ◌+◌, Bool, true, false, not, cond, nat_eq, nat_lt, List, [], ◌∷◌, ◌++◌, map, filter, get_or, take, drop, length, set, slice_get, Option, Some, None, is_none, refl, sym, ap, subst, ◌∙◌, arith}
-use Rattle.std.specs.List.{list_all, list_any}
+use Rattle.std.proofs.Common.{◌≡◌, ◌≤◌, ◌<◌, ℕ, zero, suc, ◌+◌, Bool, true, false, not, cond, nat_eq, nat_lt, List, [], ◌∷◌, ◌++◌, map, filter, get_or, take, drop, length, set, slice_get, Some, None, is_none, refl, sym, ap, subst, ◌∙◌, arith}
+use Rattle.std.specs.List.{list_all}
 use Rattle.std.specs.Option.{IsSomeAnd}
 use Rattle.std.proofs.lemmas.Bool.{and_parts}
 use Rattle.std.proofs.lemmas.Bool.Decides.{nat_tests}
@@ -12,7 +12,7 @@ use Rattle.rollout_machine.specs.ByteStrings.{item_numbered}
 use Rattle.rollout_machine.specs.CommandList.{CommandList}
 use Rattle.rollout_machine.specs.Commands.{Bytes, CreateRollout, RolloutPlan}
 use Rattle.rollout_machine.specs.Filters.{matches, seen}
-use Rattle.rollout_machine.specs.Offers.{first_offer, offer}
+use Rattle.rollout_machine.specs.Offers.{first_offer}
 use Rattle.rollout_machine.specs.Ranges.{each_from}
 use Rattle.rollout_machine.specs.Objects.{rollout_shown}
 use Rattle.rollout_machine.specs.Replies.{RolloutAdded}
@@ -28,8 +28,6 @@ use Rattle.rollout_machine.specs.declared.records.ActionRecord.{ActionRecord}
 use Rattle.rollout_machine.specs.declared.records.RolloutRecord.{RolloutRecord}
 use Rattle.rollout_machine.proofs.Induction.{invariant_of}
 use Rattle.rollout_machine.proofs.Lists.{each_from_more}
-use Rattle.rollout_model.specs.declared.approval.Approval.{Approval}
-use Rattle.rollout_model.specs.declared.refusal.Refusal.{Refusal}
 use Rattle.rollout_model.specs.declared.request.Reply.TheVariants as reply
 use Rattle.rollout_model.specs.declared.rollout.Rollout.{Rollout}
 use Rattle.rollout_model.specs.declared.target.Target.{Target as SeenTarget}

@@ -10,7 +10,7 @@ use Rattle.sql_calls.proofs.Changes.{spoils}
 use Rattle.desk_records.specs.Artifacts.{piece_numbered, pieces_of_artifact}
 use Rattle.desk_views.specs.Downloads.{downloadable}
 use Rattle.desk_views.proofs.DeviceViews.{answered_by}
-use Rattle.rollout_machine.specs.Answers.{Answer, answer, query_reply, if_found, artifact_if, artifact_of_module}
+use Rattle.rollout_machine.specs.Answers.{Answer, query_reply, if_found, artifact_if, artifact_of_module}
 use Rattle.rollout_machine.specs.ByteStrings.{item_numbered}
 use Rattle.rollout_machine.specs.CommandList.{CommandList, followed_by}
 use Rattle.rollout_machine.specs.Commands.{Bytes, Command, Credential}
@@ -29,7 +29,7 @@ use Rattle.rollout_model.specs.declared.refusal.Refusal.TheVariants.{NoMemory, N
 use Rattle.rollout_model.specs.declared.request.Reply as model
 use Rattle.rollout_model.specs.declared.request.Reply.TheVariants as reply
 use Rattle.rollout_desk.specs.Desks.{desk_state_at}
-use Rattle.contents_handler.specs.Downloads.{sent, next_length, Sends, BeginsAt, Begins, HandsPieces}
+use Rattle.contents_handler.specs.Downloads.{sent, next_length, BeginsAt, Begins, HandsPieces}
 use Rattle.contents_handler.specs.declared.download.Download.{Download}
 use Rattle.rollout_desk.specs.Downloads.{artifact_in, BeginsOffered, HandsItsArtifact, IsNextOf, RefusesContents, DownloadsGoOn}
 use Rattle.rollout_desk.specs.Looks.{EndsLook, FindsDownload, Looks, bytes_of}

@@ -2,14 +2,12 @@
 use Rattle.std.proofs.Common.{◌≡◌, ◌≤◌, Bool, true, false, cond, List, [], ◌∷◌, map, length, nat_lt, Option, Some, None, refl, sym, ap, ◌∙◌, arith}
 use Rattle.std.proofs.lemmas.Bool.Decides.{nat_tests}
 use Rattle.std.proofs.lemmas.List.{length-map}
-use Rattle.rollout_machine.specs.ByteStrings.{with_words}
 use Rattle.rollout_machine.specs.CommandList.{CommandList, Make, ◌▸◌}
 use Rattle.rollout_machine.specs.Commands.{Bytes, TargetRow, AddModule, AddArtifact, AddSet, Tag, Untag, PutAttributes, CreateRollout, Approve, Deny, Start, Pause, Resume, TriggerNext, Cancel, Feedback, CancelFeedback, PutTargets}
 use Rattle.rollout_machine.specs.Records.{records}
-use Rattle.rollout_machine.specs.Targets.{Target, target_in, target_ids, targets}
+use Rattle.rollout_machine.specs.Targets.{Target, target_in, target_ids}
 use Rattle.rollout_machine.specs.Validity.{IsValid}
 use Rattle.rollout_machine.specs.Verdicts.{verdict}
-use Rattle.rollout_model.specs.declared.refusal.Refusal.{Refusal}
 use Rattle.rollout_model.specs.declared.refusal.Refusal.TheVariants.{Quota}
 
 ids_are : (h : CommandList) (ids : List Bytes) → map (λ (t : Target). t.id) (map (target_in h) ids) ≡ ids

@@ -1,8 +1,8 @@
 -- From the calls of the store to a look at the records.
-use Rattle.std.proofs.Common.{◌≡◌, ◌⊎◌, inl, inr, Ok, Err, refl, sym, subst, ◌∙◌, arith}
+use Rattle.std.proofs.Common.{◌≡◌, ◌⊎◌, inl, inr, Ok, Err, refl, sym, subst, arith}
 use Rattle.sqlite.specs.Effect.{Database}
-use Rattle.sqlite.specs.State.{State, HasCleanDisk}
-use Rattle.sql_calls.specs.Standing.{Rests, Doubts, Changes, Spoils, Reads, Begins, Keeps}
+use Rattle.sqlite.specs.State.{State}
+use Rattle.sql_calls.specs.Standing.{Rests, Doubts, Reads, Begins, Keeps}
 use Rattle.sql_calls.specs.declared.fault.Fault.{Fault}
 use Rattle.sql_calls.specs.declared.fault.Fault.TheVariants.{Memory, Store}
 use Rattle.sql_calls.proofs.Changes.{spoils}

@@ -22,15 +22,14 @@ use Rattle.rollout_machine.specs.declared.records.RolloutRecord.{RolloutRecord}
 use Rattle.rollout_machine.proofs.Induction.{never_started}
 use Rattle.rollout_machine.proofs.Lists.{each_from_more}
 use Rattle.rollout_model.specs.Rules.{is_number}
-use Rattle.rollout_model.specs.declared.refusal.Refusal.{Refusal}
 use Rattle.rollout_model.specs.declared.refusal.Refusal.TheVariants.{NotFound, WrongState}
 use Rattle.campaign_core.proofs.SoundLemmas.{records_are_sound}
-use Rattle.desk_records.specs.Actions.{Tally, actor_of, tally_of}
+use Rattle.desk_records.specs.Actions.{actor_of, tally_of}
 use Rattle.desk_records.specs.Holds.{Ledger, ledger_of}
 use Rattle.desk_records.specs.LedgerSteps.{AddsAction, SetsRollout, scheduled, set_numbered, turned, with_actions, with_groups, with_rollouts}
 use Rattle.desk_records.specs.Rollouts.{members_of}
 use Rattle.desk_views.specs.declared.rollouts.SeenRollout.{SeenRollout}
-use Rattle.rollout_desk.specs.GroupStarts.{StartsGroup, started, with_group}
+use Rattle.rollout_desk.specs.GroupStarts.{StartsGroup, started}
 use Rattle.rollout_desk.specs.Starts.{AddsActions, ReadsMembers, StartsWhole, new_for}
 use Rattle.rollout_desk.proofs.LedgerEnds.{changed_at, ends_with_group, rollout_of, set_is_there, set_twice}
 use Rattle.rollout_desk.proofs.StandingLemmas.{Found}

@@ -4,7 +4,7 @@ use Rattle.std.proofs.lemmas.Bool.{false≢true}
 use Rattle.std.proofs.lemmas.Bool.Decides.{nat_tests}
 use Rattle.desk_records.specs.TargetRow.{stored_target}
 use Rattle.desk_records.specs.declared.target_row.StoredTarget.{StoredTarget}
-use Rattle.desk_records.specs.Targets.{are_sorted, tagged, with_changed, AddsTag}
+use Rattle.desk_records.specs.Targets.{are_sorted, tagged, AddsTag}
 use Rattle.rollout_machine.specs.ByteStrings.{contains_word}
 use Rattle.rollout_machine.specs.Commands.{Bytes, Tag, Untag}
 use Rattle.rollout_machine.specs.Records.{Records}

@@ -8,6 +8,7 @@ ghost use Rattle.rollout_desk.specs.ActionSteps.{Acts, ActsBy, Follows, MayAct, 
 ghost use Rattle.rollout_desk.specs.Offering.{MayReoffer};
 ghost use Rattle.rollout_desk.specs.Changing.{StepsIn, WritesAllLedger};
 ghost use Rattle.desk_store.specs.Counting.{AddsIn};
+ghost use Rattle.desk_store.specs.Changing.{StaysIn};
 
 use crate::endings::follow_ending;
 use crate::entries::{Told, more_if, one_more, tell_cancel, tell_deployment};
@@ -70,7 +71,7 @@ fn write_told<S: Alter>(
     place: u32,
     told: &Option<Told>,
 ) -> Result<(), Fault>
-    ensures same_reference { change.new.store.ghost_name ≡ change.old.store.ghost_name }
+    ensures stays { StaysIn change.old change.new result }
     ensures writes { WritesAllLedger S.Store change.old change.new result (WritesTold seen.now.number place told.now) }
     ensures work { AddsIn 1 0 change.old change.new }
 {
@@ -93,7 +94,7 @@ fn tell_action<S: Alter>(
     after: &ActionChange,
     told: &Option<Told>,
 ) -> Result<(), Fault>
-    ensures same_reference { change.new.store.ghost_name ≡ change.old.store.ghost_name }
+    ensures stays { StaysIn change.old change.new result }
     ensures writes { WritesAllLedger S.Store change.old change.new result (TellsAction seen.now after.now told.now) }
     ensures work { AddsIn 2 0 change.old change.new }
 {
@@ -126,7 +127,7 @@ fn offer_next<S: Alter>(
     seen: &SeenAction,
     after: &ActionChange,
 ) -> Result<(), Fault>
-    ensures same_reference { change.new.store.ghost_name ≡ change.old.store.ghost_name }
+    ensures stays { StaysIn change.old change.new result }
     ensures writes { WritesAllLedger S.Store change.old change.new result (MayReoffer (stays_offered seen.now.action.canceling after.now) seen.now.action.target) }
     ensures work { AddsIn 2 1 change.old change.new }
 {
@@ -142,7 +143,7 @@ fn follow<S: Alter>(
     seen: &SeenAction,
     after: &ActionChange,
 ) -> Result<(), Fault>
-    ensures same_reference { change.new.store.ghost_name ≡ change.old.store.ghost_name }
+    ensures stays { StaysIn change.old change.new result }
     ensures writes { WritesAllLedger S.Store change.old change.new result (Follows seen.now after.now) }
     ensures work { AddsIn 5 1 change.old change.new }
 {
@@ -160,7 +161,7 @@ fn act<S: Alter>(
     after: &ActionChange,
     told: &Option<Told>,
 ) -> Result<(), Fault>
-    ensures same_reference { change.new.store.ghost_name ≡ change.old.store.ghost_name }
+    ensures stays { StaysIn change.old change.new result }
     ensures writes { WritesAllLedger S.Store change.old change.new result (Acts seen.now after.now told.now) }
     ensures work { AddsIn 9 2 change.old change.new }
 {
@@ -176,7 +177,7 @@ fn may_act<S: Alter>(
     after: &Option<ActionChange>,
     told: &Option<Told>,
 ) -> Result<(), Fault>
-    ensures same_reference { change.new.store.ghost_name ≡ change.old.store.ghost_name }
+    ensures stays { StaysIn change.old change.new result }
     ensures writes { WritesAllLedger S.Store change.old change.new result (MayAct seen.now after.now told.now) }
     ensures work { AddsIn 9 2 change.old change.new }
 {
@@ -208,7 +209,7 @@ fn act_by<S: Alter>(
     accepted: &RolloutChange,
     told: &Option<Told>,
 ) -> Result<(), Fault>
-    ensures same_reference { change.new.store.ghost_name ≡ change.old.store.ghost_name }
+    ensures stays { StaysIn change.old change.new result }
     ensures writes { WritesAllLedger S.Store change.old change.new result (ActsBy seen.now accepted.now told.now) }
     ensures work { AddsIn 9 2 change.old change.new }
 {
@@ -240,7 +241,7 @@ pub(crate) fn take_feedback<S: Alter>(
     change: &mut OpenChange<'_, S>,
     report: &Report<DeploymentWord>,
 ) -> Result<Step, Fault>
-    ensures same_reference { change.new.store.ghost_name ≡ change.old.store.ghost_name }
+    ensures stays { StaysIn change.old change.new result }
     ensures steps { StepsIn S.Store change.old change.new (Feedback report.now) result }
     ensures work { AddsIn 14 24 change.old change.new }
 {
@@ -261,7 +262,7 @@ pub(crate) fn take_cancel_feedback<S: Alter>(
     change: &mut OpenChange<'_, S>,
     report: &Report<CancelWord>,
 ) -> Result<Step, Fault>
-    ensures same_reference { change.new.store.ghost_name ≡ change.old.store.ghost_name }
+    ensures stays { StaysIn change.old change.new result }
     ensures steps { StepsIn S.Store change.old change.new (CancelFeedback report.now) result }
     ensures work { AddsIn 14 24 change.old change.new }
 {
@@ -281,7 +282,7 @@ pub(crate) fn cancel_action<S: Alter>(
     change: &mut OpenChange<'_, S>,
     asked: &Cancel,
 ) -> Result<Step, Fault>
-    ensures same_reference { change.new.store.ghost_name ≡ change.old.store.ghost_name }
+    ensures stays { StaysIn change.old change.new result }
     ensures steps { StepsIn S.Store change.old change.new (CancelCommand asked.now.target asked.now.action asked.now.force) result }
 {
     cancel_is_well_formed(asked);

@@ -8,6 +8,7 @@ ghost use Rattle.rollout_machine.specs.ByteStrings.{contains_word};
 ghost use Rattle.rollout_machine.specs.Commands.{Attribute, PutAttributes};
 ghost use Rattle.rollout_desk.specs.Changing.{StepsIn, WritesAllIn};
 ghost use Rattle.rollout_desk.specs.Attributes.{GivesAttribute, GivesAttributes, has_attribute, keys_after};
+ghost use Rattle.desk_store.specs.Changing.{StaysIn};
 
 use crate::step::Step;
 use desk_store::{Fault, OpenChange};
@@ -59,7 +60,7 @@ fn give_attribute<S: Alter>(
     had: &[Attribute],
     since: &[Attribute],
 ) -> Result<(), Fault>
-    ensures same_reference { change.new.store.ghost_name ≡ change.old.store.ghost_name }
+    ensures stays { StaysIn change.old change.new result }
     ensures writes { WritesAllIn S.Store change.old change.new result (GivesAttribute id.now had.now since.now attribute.now) }
 {
     if !has_key_since(had, since, &attribute.key) {
@@ -78,7 +79,7 @@ fn give_attributes<S: Alter>(
     given: &[Attribute],
     had: &[Attribute],
 ) -> Result<(), Fault>
-    ensures same_reference { change.new.store.ghost_name ≡ change.old.store.ghost_name }
+    ensures stays { StaysIn change.old change.new result }
     ensures writes { WritesAllIn S.Store change.old change.new result (GivesAttributes id.now had.now given.now) }
 {
     for (i, attribute) in given.iter().enumerate() {
@@ -93,7 +94,7 @@ pub(crate) fn put_attributes<S: Alter>(
     device: &Credential,
     given: &ConfigData,
 ) -> Result<Step, Fault>
-    ensures same_reference { change.new.store.ghost_name ≡ change.old.store.ghost_name }
+    ensures stays { StaysIn change.old change.new result }
     ensures steps { StepsIn S.Store change.old change.new (PutAttributes device.now given.now) result }
 {
     if !knows_device(change, device)? {

@@ -4,12 +4,14 @@ ghost use Rattle.std.specs.Prelude.{◌≡◌, true};
 ghost use Rattle.sqlite.specs.Held.{state};
 ghost use Rattle.desk_records.specs.Holds.{HoldsRecords};
 ghost use Rattle.rollout_machine.specs.Requests.{Do, Ask};
+ghost use Rattle.rollout_machine.specs.StoreFailures.{is_failed_store};
 ghost use Rattle.rollout_machine.specs.Views.{command_of, query_of, reply_of};
 ghost use Rattle.desk_views.specs.Showing.{ShowsIn};
 ghost use Rattle.rollout_desk.specs.Changing.{StepsIn};
-ghost use Rattle.rollout_desk.specs.Working.{is_report};
+ghost use Rattle.rollout_desk.specs.Working.{TellsFailures, is_report};
 ghost use Rattle.rollout_desk.specs.Steps.{Handles, EndsByCommit, EndsByRollback};
 ghost use Rattle.desk_store.specs.Counting.{Adds, AddsIn};
+ghost use Rattle.desk_store.specs.Changing.{StaysIn};
 
 use crate::actions::{cancel_action, take_cancel_feedback, take_feedback};
 use crate::artifacts::add_artifact;
@@ -42,7 +44,7 @@ fn step<S: Alter>(
     change: &mut OpenChange<'_, S>,
     command: &Command,
 ) -> Result<Step, Fault>
-    ensures same_reference { change.new.store.ghost_name ≡ change.old.store.ghost_name }
+    ensures stays { StaysIn change.old change.new result }
     ensures steps { StepsIn S.Store change.old change.new (command_of command.now) result }
     ensures work { is_report (command_of command.now) ≡ true → AddsIn 14 24 change.old change.new }
 {
@@ -73,7 +75,7 @@ fn answer<S: Alter>(
     change: &mut OpenChange<'_, S>,
     query: &Query,
 ) -> Result<Reply, Fault>
-    ensures same_reference { change.new.store.ghost_name ≡ change.old.store.ghost_name }
+    ensures stays { StaysIn change.old change.new result }
     ensures shows { ShowsIn S.Store change.old change.new (query_of query.now) result }
 {
     match query {
@@ -115,6 +117,7 @@ fn answer<S: Alter>(
 fn commit<S: Alter>(change: OpenChange<'_, S>, reply: Reply) -> Reply
     ensures ends { EndsByCommit HoldsRecords (state S.Store change.entry.store.now.calls.conn) (state S.Store change.exit.0.now.calls.conn) (reply_of reply) (reply_of result) }
     ensures work { change.exit.0.now.calls.work ≡ change.entry.store.now.calls.work }
+    ensures tells { TellsFailures (is_failed_store (reply_of result)) change.entry.store.now.calls change.exit.0.now.calls }
 {
     match change.commit() {
         Ok(()) => reply,
@@ -126,6 +129,7 @@ fn commit<S: Alter>(change: OpenChange<'_, S>, reply: Reply) -> Reply
 fn give_up<S: Alter>(change: OpenChange<'_, S>, reply: Reply) -> Reply
     ensures ends { EndsByRollback HoldsRecords (state S.Store change.entry.store.now.calls.conn) (state S.Store change.exit.0.now.calls.conn) (reply_of reply) (reply_of result) }
     ensures work { change.exit.0.now.calls.work ≡ change.entry.store.now.calls.work }
+    ensures tells { TellsFailures (is_failed_store (reply_of result)) change.entry.store.now.calls change.exit.0.now.calls }
 {
     match change.give_up() {
         Ok(()) => reply,
@@ -141,6 +145,7 @@ pub(crate) fn run_command<S: Alter>(
 ) -> Reply
     ensures handles { Handles HoldsRecords (state S.Store store.old.calls.conn) (state S.Store store.new.calls.conn) (Do (command_of command.now)) (reply_of result) }
     ensures work { is_report (command_of command.now) ≡ true → Adds 14 24 store.old.calls.work store.new.calls.work }
+    ensures tells { TellsFailures (is_failed_store (reply_of result)) store.old.calls store.new.calls }
 {
     command_is_well_formed(command);
     let mut change = match store.begin() {
@@ -156,7 +161,8 @@ pub(crate) fn run_command<S: Alter>(
 
 /// Answers a query inside a transaction that changes nothing.
 pub(crate) fn run_query<S: Alter>(alloc: Global, store: &mut DeskStore<S>, query: &Query) -> Reply
-    ensures { Handles HoldsRecords (state S.Store store.old.calls.conn) (state S.Store store.new.calls.conn) (Ask (query_of query.now)) (reply_of result) }
+    ensures handles { Handles HoldsRecords (state S.Store store.old.calls.conn) (state S.Store store.new.calls.conn) (Ask (query_of query.now)) (reply_of result) }
+    ensures tells { TellsFailures (is_failed_store (reply_of result)) store.old.calls store.new.calls }
 {
     let mut change = match store.begin() {
         Ok(change) => change,

@@ -6,7 +6,7 @@ ghost use Rattle.rollout_machine.specs.Rollouts.{chosen};
 ghost use Rattle.target_filter.specs.Grammar.{Tree};
 ghost use Rattle.target_filter.specs.Profile.{filter_of};
 ghost use Rattle.campaign_core.specs.RolloutChecks.{IsPlanView};
-ghost use Rattle.desk_store.specs.Changing.{ReadsIn};
+ghost use Rattle.desk_store.specs.Changing.{ReadsIn, StaysIn};
 ghost use Rattle.desk_views.specs.Targets.{target_listed};
 ghost use Rattle.rollout_desk.specs.Changing.{StepsIn, WritesAllLedger};
 ghost use Rattle.rollout_desk.specs.Creations.{CreatesRollout, IsChosen, IsWordOf, ids_matching, in_part, shown_new};
@@ -38,7 +38,7 @@ fn add_if_match<S: Alter>(
     entry: ListedTarget,
     members: &mut Vec<ControllerId>,
 ) -> Result<(), Fault>
-    ensures same_reference { change.new.store.ghost_name ≡ change.old.store.ghost_name }
+    ensures stays { StaysIn change.old change.new result }
     ensures reads { ReadsIn S.Store change.old change.new result
         (λ r _. (f : Tree) → filter_of filter.now ≡ Some f → members.new.items ≡ members.old.items ++ ids_matching f (target_listed r entry ∷ [])) }
 {
@@ -61,7 +61,7 @@ fn matching<S: Alter>(
     filter: &Filter,
     entries: Vec<ListedTarget>,
 ) -> Result<Vec<ControllerId>, Fault>
-    ensures same_reference { change.new.store.ghost_name ≡ change.old.store.ghost_name }
+    ensures stays { StaysIn change.old change.new result }
     ensures reads { ReadsIn S.Store change.old change.new result
         (λ r members. (f : Tree) → filter_of filter.now ≡ Some f → members.items ≡ ids_matching f (map (target_listed r) entries.items)) }
 {
@@ -78,7 +78,7 @@ fn all_matching<S: Alter>(
     change: &mut OpenChange<'_, S>,
     filter: &Filter,
 ) -> Result<Vec<ControllerId>, Fault>
-    ensures same_reference { change.new.store.ghost_name ≡ change.old.store.ghost_name }
+    ensures stays { StaysIn change.old change.new result }
     ensures reads { ReadsIn S.Store change.old change.new result
         (λ r members. (f : Tree) → filter_of filter.now ≡ Some f → members.items ≡ chosen (Some f) r.targets) }
 {
@@ -94,7 +94,7 @@ fn choose<S: Alter>(
     change: &mut OpenChange<'_, S>,
     text: &FilterText,
 ) -> Result<Chosen, Fault>
-    ensures same_reference { change.new.store.ghost_name ≡ change.old.store.ghost_name }
+    ensures stays { StaysIn change.old change.new result }
     ensures reads { ReadsIn S.Store change.old change.new result (IsChosen text.now) }
 {
     let words = text.as_str();
@@ -124,7 +124,7 @@ fn read_view<S: Alter>(
     members: u32,
 ) -> Result<PlanView, Fault>
     requires { members ≡ length chosen.now.members.items }
-    ensures same_reference { change.new.store.ghost_name ≡ change.old.store.ghost_name }
+    ensures stays { StaysIn change.old change.new result }
     ensures members { IfOk result (λ view. view.members ≡ members) }
     ensures reads { ReadsIn S.Store change.old change.new result (λ r view. IsChosen plan.now.filter_text r chosen.now → IsPlanView view plan.now r) }
 {
@@ -184,7 +184,7 @@ fn write_whole<S: Alter>(
 ) -> Result<(), Fault>
     requires enough { plan.now.groups ≤ length members.now }
     requires few { length members.now ≤ 4294967295 }
-    ensures same_reference { change.new.store.ghost_name ≡ change.old.store.ghost_name }
+    ensures stays { StaysIn change.old change.new result }
     ensures writes { WritesAllLedger S.Store change.old change.new result (CreatesRollout (in_part created.now plan.now (length members.now) plan.now.groups members.now)) }
 {
     let number = created.number;
@@ -214,7 +214,7 @@ pub(crate) fn create_rollout<S: Alter>(
     change: &mut OpenChange<'_, S>,
     plan: &RolloutPlan,
 ) -> Result<Step, Fault>
-    ensures same_reference { change.new.store.ghost_name ≡ change.old.store.ghost_name }
+    ensures stays { StaysIn change.old change.new result }
     ensures steps { StepsIn S.Store change.old change.new (CreateRollout plan.now) result }
 {
     let chosen = choose(alloc, change, &plan.filter_text)?;

@@ -5,11 +5,12 @@ ghost use Rattle.rollout_model.specs.declared.refusal.Refusal.TheVariants.{Stopp
 ghost use Rattle.rollout_machine.specs.Replies.{Refused};
 ghost use Rattle.rollout_machine.specs.Requests.{Asks, Do, Ask};
 ghost use Rattle.rollout_machine.specs.Standing.{Applies, StaysStopped};
+ghost use Rattle.rollout_machine.specs.StoreFailures.{is_failed_store};
 ghost use Rattle.rollout_machine.specs.Views.{command_of, query_of, request_of, reply_of};
 ghost use Rattle.rollout_desk.specs.DeskStates.{desk_state};
 ghost use Rattle.rollout_desk.specs.Promises.{IsPromised, KeepsToOffers, ShowsWhole};
-ghost use Rattle.rollout_desk.specs.Working.{KeepsBound};
-ghost use Rattle.sql_calls.specs.Calls.{no_work};
+ghost use Rattle.rollout_desk.specs.Working.{KeepsBound, TellsFailures};
+ghost use Rattle.sql_calls.specs.Calls.{no_work, since};
 
 use crate::change::{run_command, run_query};
 use desk_store::{DeskStore, Work};
@@ -56,15 +57,16 @@ impl<S: Alter> Desk<S> {
         ensures stops { reply_of result ≡ Refused StoreFailed → (desk_state S.Store self.new).is_stopped ≡ true }
         ensures stopped { (desk_state S.Store self.old).is_stopped ≡ true → (reply_of result ≡ Refused Stopped) × StaysStopped (desk_state S.Store self.old) (desk_state S.Store self.new) }
         ensures bound { KeepsBound (command_of command.now) self.new.work }
-        ensures counted { (desk_state S.Store self.old).is_stopped ≡ false → self.new.work ≡ self.new.store.calls.work }
+        ensures counted { self.new.work ≡ since self.new.store.calls.work self.old.store.calls.work }
+        ensures tells { TellsFailures (is_failed_store (reply_of result)) self.old.store.calls self.new.store.calls }
     {
         self.work = NO_WORK;
         if self.stopped {
             return Reply::Refused(Refusal::Stopped);
         }
-        self.store.reset_work();
+        let before = self.store.work();
         let reply = run_command(self.alloc, &mut self.store, command);
-        self.work = self.store.work();
+        self.work = self.store.work().since(before);
         self.stopped = says_store_failed(&reply);
         reply
     }
@@ -77,6 +79,8 @@ impl<S: Alter> Desk<S> {
         ensures whole { IsPromised (desk_state S.Store self.old) (desk_state S.Store self.new) (λ h. ShowsWhole h (query_of query.now) (reply_of result)) }
         ensures stops { reply_of result ≡ Refused StoreFailed → (desk_state S.Store self.new).is_stopped ≡ true }
         ensures stopped { (desk_state S.Store self.old).is_stopped ≡ true → (reply_of result ≡ Refused Stopped) × StaysStopped (desk_state S.Store self.old) (desk_state S.Store self.new) }
+        ensures tells { TellsFailures (is_failed_store (reply_of result)) self.old.store.calls self.new.store.calls }
+        ensures work { self.new.work ≡ self.old.work }
     {
         if self.stopped {
             return Reply::Refused(Refusal::Stopped);
@@ -92,6 +96,7 @@ impl<S: Alter> Desk<S> {
         ensures applies { Applies (desk_state S.Store self.old) (desk_state S.Store self.new) (Asks (request_of request.now)) (reply_of result) }
         ensures stops { reply_of result ≡ Refused StoreFailed → (desk_state S.Store self.new).is_stopped ≡ true }
         ensures stopped { (desk_state S.Store self.old).is_stopped ≡ true → (reply_of result ≡ Refused Stopped) × StaysStopped (desk_state S.Store self.old) (desk_state S.Store self.new) }
+        ensures tells { TellsFailures (is_failed_store (reply_of result)) self.old.store.calls self.new.store.calls }
     {
         match request {
             Request::Do(command) => self.apply(command),

@@ -10,6 +10,7 @@ ghost use Rattle.rollout_desk.specs.DeskStates.{desk_state};
 ghost use Rattle.contents_handler.specs.Downloads.{Begins, HandsPieces, KeepsCount};
 ghost use Rattle.rollout_desk.specs.Downloads.{BeginsOffered, HandsItsArtifact, IsInterruption, RefusesContents, DownloadsGoOn, artifact_in};
 ghost use Rattle.rollout_desk.specs.Promises.{IsPromised};
+ghost use Rattle.rollout_desk.specs.Working.{TellsFailures, replies_store, tells_store};
 
 use crate::desk::Desk;
 use crate::look::{look_for_download, of_length, read_piece};
@@ -45,6 +46,8 @@ impl<S: Alter> Desk<S> {
         ensures stops { IfErr result (λ reply. reply_of reply ≡ Refused StoreFailed → (desk_state S.Store self.new).is_stopped ≡ true) }
         ensures stopped { (desk_state S.Store self.old).is_stopped ≡ true
             → IfErr result (λ reply. reply_of reply ≡ Refused Stopped) × StaysStopped (desk_state S.Store self.old) (desk_state S.Store self.new) }
+        ensures tells { TellsFailures (replies_store result) self.old.store.calls self.new.store.calls }
+        ensures work { self.new.work ≡ self.old.work }
     {
         match query {
             Query::Contents(module_number, number) => self.find_artifact(*module_number, *number),
@@ -69,6 +72,8 @@ impl<S: Alter> Desk<S> {
         ensures stops { IfErr result (λ reply. reply_of reply ≡ Refused StoreFailed → (desk_state S.Store self.new).is_stopped ≡ true) }
         ensures stopped { (desk_state S.Store self.old).is_stopped ≡ true
             → IfErr result (λ reply. reply_of reply ≡ Refused Stopped) × StaysStopped (desk_state S.Store self.old) (desk_state S.Store self.new) }
+        ensures tells { TellsFailures (replies_store result) self.old.store.calls self.new.store.calls }
+        ensures work { self.new.work ≡ self.old.work }
     {
         let reply = self.ask(&Query::Artifact(module_number, number));
         match artifact_in(reply) {
@@ -95,6 +100,8 @@ impl<S: Alter> Desk<S> {
         ensures stops { IfErr result (λ reply. reply_of reply ≡ Refused StoreFailed → (desk_state S.Store self.new).is_stopped ≡ true) }
         ensures stopped { (desk_state S.Store self.old).is_stopped ≡ true
             → IfErr result (λ reply. reply_of reply ≡ Refused Stopped) × StaysStopped (desk_state S.Store self.old) (desk_state S.Store self.new) }
+        ensures tells { TellsFailures (replies_store result) self.old.store.calls self.new.store.calls }
+        ensures work { self.new.work ≡ self.old.work }
     {
         if self.stopped {
             return Err(Reply::Refused(Refusal::Stopped));
@@ -123,6 +130,8 @@ impl<S: Alter> Desk<S> {
         ensures interrupted { IfErr result IsInterruption }
         ensures stops { result ≡ Err Refusal.StoreFailed → (desk_state S.Store self.new).is_stopped ≡ true }
         ensures stopped { (desk_state S.Store self.old).is_stopped ≡ true → (result ≡ Err Refusal.Stopped) × StaysStopped (desk_state S.Store self.old) (desk_state S.Store self.new) }
+        ensures tells { TellsFailures (tells_store result) self.old.store.calls self.new.store.calls }
+        ensures work { self.new.work ≡ self.old.work }
     {
         if self.stopped {
             return Err(Refusal::Stopped);

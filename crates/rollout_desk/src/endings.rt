@@ -6,6 +6,7 @@ ghost use Rattle.rollout_machine.specs.RecordSteps.{counted};
 ghost use Rattle.rollout_desk.specs.Changing.{WritesAllLedger};
 ghost use Rattle.rollout_desk.specs.Endings.{CountsOutcome, FollowsOutcome, PausesIf, StartsNamed, StartsNumbered};
 ghost use Rattle.desk_store.specs.Counting.{AddsIn};
+ghost use Rattle.desk_store.specs.Changing.{StaysIn};
 
 use crate::entries::one_more;
 use crate::groups::start_group;
@@ -42,7 +43,7 @@ fn count_outcome<S: Alter>(
     seen: &SeenAction,
     outcome: Outcome,
 ) -> Result<(), Fault>
-    ensures same_reference { change.new.store.ghost_name ≡ change.old.store.ghost_name }
+    ensures stays { StaysIn change.old change.new result }
     ensures writes { WritesAllLedger S.Store change.old change.new result (CountsOutcome seen.now outcome) }
     ensures work { AddsIn 1 0 change.old change.new }
 {
@@ -63,7 +64,7 @@ fn pause_if<S: Alter>(
     seen: &SeenAction,
     pauses: bool,
 ) -> Result<(), Fault>
-    ensures same_reference { change.new.store.ghost_name ≡ change.old.store.ghost_name }
+    ensures stays { StaysIn change.old change.new result }
     ensures writes { WritesAllLedger S.Store change.old change.new result (PausesIf seen.now pauses) }
     ensures work { AddsIn 1 0 change.old change.new }
 {
@@ -80,7 +81,7 @@ fn start_numbered<S: Alter>(
     rollout: RolloutNo,
     number: u32,
 ) -> Result<(), Fault>
-    ensures same_reference { change.new.store.ghost_name ≡ change.old.store.ghost_name }
+    ensures stays { StaysIn change.old change.new result }
     ensures writes { WritesAllLedger S.Store change.old change.new result (StartsNumbered rollout number) }
     ensures work { AddsIn 3 1 change.old change.new }
 {
@@ -97,7 +98,7 @@ pub(crate) fn start_named<S: Alter>(
     rollout: RolloutNo,
     starts: Option<u32>,
 ) -> Result<(), Fault>
-    ensures same_reference { change.new.store.ghost_name ≡ change.old.store.ghost_name }
+    ensures stays { StaysIn change.old change.new result }
     ensures writes { WritesAllLedger S.Store change.old change.new result (StartsNamed rollout starts) }
     ensures work { AddsIn 3 1 change.old change.new }
 {
@@ -113,7 +114,7 @@ pub(crate) fn follow_ending<S: Alter>(
     seen: &SeenAction,
     ending: &Ending,
 ) -> Result<(), Fault>
-    ensures same_reference { change.new.store.ghost_name ≡ change.old.store.ghost_name }
+    ensures stays { StaysIn change.old change.new result }
     ensures writes { WritesAllLedger S.Store change.old change.new result (FollowsOutcome seen.now ending.now) }
     ensures work { AddsIn 5 1 change.old change.new }
 {

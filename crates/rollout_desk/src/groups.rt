@@ -4,6 +4,7 @@ ghost use Rattle.std.specs.Prelude.{◌≡◌};
 ghost use Rattle.rollout_desk.specs.Changing.{WritesAllLedger};
 ghost use Rattle.desk_store.specs.Counting.{AddsIn};
 ghost use Rattle.rollout_desk.specs.GroupStarts.{StartsGroup};
+ghost use Rattle.desk_store.specs.Changing.{StaysIn};
 
 use desk_store::{Fault, OpenChange};
 use rollout_machine::GroupRecord;
@@ -16,7 +17,7 @@ pub(crate) fn start_group<S: Alter>(
     number: RolloutNo,
     group: &GroupRecord,
 ) -> Result<(), Fault>
-    ensures same_reference { change.new.store.ghost_name ≡ change.old.store.ghost_name }
+    ensures stays { StaysIn change.old change.new result }
     ensures writes { WritesAllLedger S.Store change.old change.new result (StartsGroup number group.now) }
     ensures work { AddsIn 2 0 change.old change.new }
 {

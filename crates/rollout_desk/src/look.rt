@@ -5,6 +5,7 @@ ghost use Rattle.sqlite.specs.Held.{state};
 ghost use Rattle.desk_records.specs.Artifacts.{piece_numbered};
 ghost use Rattle.desk_records.specs.Holds.{HoldsRecords};
 ghost use Rattle.rollout_desk.specs.Looks.{Looks, EndsLook, FindsDownload, bytes_of};
+ghost use Rattle.rollout_desk.specs.Working.{TellsFailures, tells_store};
 
 use crate::refusals::refusal_of;
 use desk_store::{DeskStore, OpenChange};
@@ -14,11 +15,12 @@ use sqlite::Alter;
 use std::alloc::Global;
 
 /// Gives a change up, and then what was found in it.
-fn give_up<S: Alter>(
+fn give_up<S: Alter, T: Drop>(
     change: OpenChange<'_, S>,
-    found: Result<Option<Vec<u8>>, Refusal>,
-) -> Result<Option<Vec<u8>>, Refusal>
-    ensures { EndsLook HoldsRecords (state S.Store change.entry.store.now.calls.conn) (state S.Store change.exit.0.now.calls.conn) found result }
+    found: Result<T, Refusal>,
+) -> Result<T, Refusal>
+    ensures ends { EndsLook HoldsRecords (state S.Store change.entry.store.now.calls.conn) (state S.Store change.exit.0.now.calls.conn) found result }
+    ensures tells { TellsFailures (tells_store result) change.entry.store.now.calls change.exit.0.now.calls }
 {
     match change.give_up() {
         Ok(()) => found,
@@ -32,8 +34,9 @@ pub(crate) fn read_piece<S: Alter>(
     number: ArtifactNo,
     place: u32,
 ) -> Result<Option<Vec<u8>>, Refusal>
-    ensures { Looks HoldsRecords (state S.Store store.old.calls.conn) (state S.Store store.new.calls.conn) result
+    ensures looks { Looks HoldsRecords (state S.Store store.old.calls.conn) (state S.Store store.new.calls.conn) result
         (λ r found. bytes_of found ≡ piece_numbered r.artifacts number place) }
+    ensures tells { TellsFailures (tells_store result) store.old.calls store.new.calls }
 {
     let mut change = match store.begin() {
         Ok(change) => change,
@@ -45,19 +48,6 @@ pub(crate) fn read_piece<S: Alter>(
     }
 }
 
-/// Gives a change up, and then the artifact that was found in it.
-fn give_up_found<S: Alter>(
-    change: OpenChange<'_, S>,
-    found: Result<Artifact, Refusal>,
-) -> Result<Artifact, Refusal>
-    ensures { EndsLook HoldsRecords (state S.Store change.entry.store.now.calls.conn) (state S.Store change.exit.0.now.calls.conn) found result }
-{
-    match change.give_up() {
-        Ok(()) => found,
-        Err(_) => Err(Refusal::StoreFailed),
-    }
-}
-
 /// Finds the artifact whose contents a device asks for, or else what the download is refused with, inside a transaction that changes nothing.
 pub(crate) fn look_for_download<S: Alter>(
     alloc: Global,
@@ -66,15 +56,16 @@ pub(crate) fn look_for_download<S: Alter>(
     module_number: ModuleNo,
     filename: &Filename,
 ) -> Result<Artifact, Refusal>
-    ensures { FindsDownload HoldsRecords (state S.Store store.old.calls.conn) (state S.Store store.new.calls.conn) device.now module_number filename.now result }
+    ensures finds { FindsDownload HoldsRecords (state S.Store store.old.calls.conn) (state S.Store store.new.calls.conn) device.now module_number filename.now result }
+    ensures tells { TellsFailures (tells_store result) store.old.calls store.new.calls }
 {
     let mut change = match store.begin() {
         Ok(change) => change,
         Err(fault) => return Err(refusal_of(fault)),
     };
     match find_download(alloc, &mut change, device, module_number, filename) {
-        Ok(found) => give_up_found(change, found),
-        Err(fault) => give_up_found(change, Err(refusal_of(fault))),
+        Ok(found) => give_up(change, found),
+        Err(fault) => give_up(change, Err(refusal_of(fault))),
     }
 }
 

@@ -2,7 +2,7 @@
 
 ghost use Rattle.std.specs.Prelude.{◌≡◌};
 ghost use Rattle.rollout_machine.specs.Commands.{AddModule};
-ghost use Rattle.desk_store.specs.Changing.{ReadsIn};
+ghost use Rattle.desk_store.specs.Changing.{ReadsIn, StaysIn};
 ghost use Rattle.rollout_desk.specs.Changing.{StepsIn};
 ghost use Rattle.rollout_desk.specs.Additions.{GetsModuleNumber};
 
@@ -18,7 +18,7 @@ fn next_module<S: Alter>(
     change: &mut OpenChange<'_, S>,
     label: &ModuleLabel,
 ) -> Result<Result<ModuleNo, Refusal>, Fault>
-    ensures same_reference { change.new.store.ghost_name ≡ change.old.store.ghost_name }
+    ensures stays { StaysIn change.old change.new result }
     ensures reads { ReadsIn S.Store change.old change.new result (GetsModuleNumber label.now) }
 {
     if change.read_same_module(label)? {
@@ -37,7 +37,7 @@ pub(crate) fn add_module<S: Alter>(
     change: &mut OpenChange<'_, S>,
     label: &ModuleLabel,
 ) -> Result<Step, Fault>
-    ensures same_reference { change.new.store.ghost_name ≡ change.old.store.ghost_name }
+    ensures stays { StaysIn change.old change.new result }
     ensures steps { StepsIn S.Store change.old change.new (AddModule label.now) result }
 {
     let number = match next_module(change, label)? {

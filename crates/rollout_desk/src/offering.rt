@@ -4,6 +4,7 @@ ghost use Rattle.std.specs.Prelude.{◌≡◌};
 ghost use Rattle.rollout_desk.specs.Changing.{WritesAllLedger};
 ghost use Rattle.rollout_desk.specs.Offering.{Reoffers};
 ghost use Rattle.desk_store.specs.Counting.{AddsIn};
+ghost use Rattle.desk_store.specs.Changing.{StaysIn};
 
 use desk_store::{Fault, OpenChange};
 use rollout_model::ControllerId;
@@ -14,7 +15,7 @@ pub(crate) fn offer_anew<S: Alter>(
     change: &mut OpenChange<'_, S>,
     id: &ControllerId,
 ) -> Result<(), Fault>
-    ensures same_reference { change.new.store.ghost_name ≡ change.old.store.ghost_name }
+    ensures stays { StaysIn change.old change.new result }
     ensures writes { WritesAllLedger S.Store change.old change.new result (Reoffers id.now) }
     ensures work { AddsIn 2 1 change.old change.new }
 {

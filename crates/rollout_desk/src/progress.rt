@@ -9,6 +9,7 @@ ghost use Rattle.rollout_machine.specs.RecordSteps.{last_started, view_from_grou
 ghost use Rattle.rollout_machine.specs.declared.records.RolloutRecord.{RolloutRecord};
 ghost use Rattle.rollout_desk.specs.Changing.{StepsIn, WritesAllLedger};
 ghost use Rattle.rollout_desk.specs.Standings.{GoesOn, IsSeenAt, Judges, StartsIf, gone_by, pause_left, starts_by};
+ghost use Rattle.desk_store.specs.Changing.{StaysIn};
 
 use crate::groups::start_group;
 use crate::standing::{number_is_well_formed, refusal_in};
@@ -152,7 +153,7 @@ fn start_next<S: Alter>(
     groups: &[GroupRecord],
     starts: Option<u32>,
 ) -> Result<(), Fault>
-    ensures same_reference { change.new.store.ghost_name ≡ change.old.store.ghost_name }
+    ensures stays { StaysIn change.old change.new result }
     ensures writes { WritesAllLedger S.Store change.old change.new result (StartsIf number groups.now starts) }
 {
     let Some(next) = starts else {
@@ -172,7 +173,7 @@ fn write_going<S: Alter>(
     paused: bool,
     starts: Option<u32>,
 ) -> Result<(), Fault>
-    ensures same_reference { change.new.store.ghost_name ≡ change.old.store.ghost_name }
+    ensures stays { StaysIn change.old change.new result }
     ensures writes { WritesAllLedger S.Store change.old change.new result (GoesOn number seen.now paused starts) }
 {
     change.change_rollout(number, seen.approval, seen.started, paused)?;
@@ -185,7 +186,7 @@ fn go_on<S: Alter>(
     number: RolloutNo,
     going: Going,
 ) -> Result<Step, Fault>
-    ensures same_reference { change.new.store.ghost_name ≡ change.old.store.ghost_name }
+    ensures stays { StaysIn change.old change.new result }
     ensures steps { StepsIn S.Store change.old change.new (gone_by going number) result }
 {
     let found = read_seen_rollout(change, number)?;
@@ -208,7 +209,7 @@ pub(crate) fn resume_rollout<S: Alter>(
     change: &mut OpenChange<'_, S>,
     number: RolloutNo,
 ) -> Result<Step, Fault>
-    ensures same_reference { change.new.store.ghost_name ≡ change.old.store.ghost_name }
+    ensures stays { StaysIn change.old change.new result }
     ensures steps { StepsIn S.Store change.old change.new (Resume number) result }
 {
     go_on(change, number, Going::Resumed)
@@ -219,7 +220,7 @@ pub(crate) fn trigger_next<S: Alter>(
     change: &mut OpenChange<'_, S>,
     number: RolloutNo,
 ) -> Result<Step, Fault>
-    ensures same_reference { change.new.store.ghost_name ≡ change.old.store.ghost_name }
+    ensures stays { StaysIn change.old change.new result }
     ensures steps { StepsIn S.Store change.old change.new (TriggerNext number) result }
 {
     go_on(change, number, Going::Triggered)

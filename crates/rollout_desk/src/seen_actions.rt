@@ -5,7 +5,7 @@ ghost use Rattle.sql_calls.specs.declared.fault.Fault.TheVariants.{Store};
 ghost use Rattle.rollout_machine.specs.RecordSteps.{view_from_group};
 ghost use Rattle.rollout_machine.specs.StateWords.{number_of_group, size_of_group};
 ghost use Rattle.desk_records.specs.Rollouts.{last_started_group};
-ghost use Rattle.desk_store.specs.Changing.{ReadsIn};
+ghost use Rattle.desk_store.specs.Changing.{ReadsIn, StaysIn};
 ghost use Rattle.desk_store.specs.Counting.{AddsIn};
 ghost use Rattle.desk_store.specs.Ledgers.{ReadsLedger};
 ghost use Rattle.rollout_desk.specs.SeenActions.{MaySee, SeesIn, SeesReport, SeesTarget, action_view_seen, cancel_view_seen, only_of, only_started, report_view_seen, rollout_seen};
@@ -118,7 +118,7 @@ fn see_in<S: Alter>(
     number: ActionNo,
     action: &StoredAction,
 ) -> Result<SeenAction, Fault>
-    ensures same_reference { change.new.store.ghost_name ≡ change.old.store.ghost_name }
+    ensures stays { StaysIn change.old change.new result }
     ensures reads { ReadsLedger S.Store change.old change.new result (λ l seen. SeesIn l number action.now seen) }
     ensures work { AddsIn 3 3 change.old change.new }
 {
@@ -143,7 +143,7 @@ fn see_action<S: Alter>(
     change: &mut OpenChange<'_, S>,
     number: ActionNo,
 ) -> Result<Option<SeenAction>, Fault>
-    ensures same_reference { change.new.store.ghost_name ≡ change.old.store.ghost_name }
+    ensures stays { StaysIn change.old change.new result }
     ensures reads { ReadsLedger S.Store change.old change.new result (MaySee number) }
     ensures work { AddsIn 4 4 change.old change.new }
 {
@@ -189,7 +189,7 @@ pub(crate) fn see_report<S: Alter>(
     device: &Credential,
     number: ActionNo,
 ) -> Result<SeenReport, Fault>
-    ensures same_reference { change.new.store.ghost_name ≡ change.old.store.ghost_name }
+    ensures stays { StaysIn change.old change.new result }
     ensures reads { ReadsIn S.Store change.old change.new result (SeesReport device.now number) }
     ensures work { AddsIn 5 5 change.old change.new }
 {
@@ -207,7 +207,7 @@ pub(crate) fn see_target<S: Alter>(
     id: &ControllerId,
     number: ActionNo,
 ) -> Result<Option<SeenAction>, Fault>
-    ensures same_reference { change.new.store.ghost_name ≡ change.old.store.ghost_name }
+    ensures stays { StaysIn change.old change.new result }
     ensures reads { ReadsIn S.Store change.old change.new result (SeesTarget id.now number) }
     ensures work { AddsIn 5 5 change.old change.new }
 {

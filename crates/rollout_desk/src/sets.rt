@@ -4,7 +4,7 @@ ghost use Rattle.std.specs.Prelude.{◌≡◌, ◌≤◌, ◌+◌, true, length,
 ghost use Rattle.rollout_model.specs.Rules.{is_module_list};
 ghost use Rattle.std.specs.List.{list_any};
 ghost use Rattle.rollout_machine.specs.Commands.{AddSet};
-ghost use Rattle.desk_store.specs.Changing.{ReadsIn};
+ghost use Rattle.desk_store.specs.Changing.{ReadsIn, StaysIn};
 ghost use Rattle.rollout_desk.specs.Changing.{StepsIn, WritesAllIn};
 ghost use Rattle.rollout_desk.specs.Additions.{AddsModules, AddsWhole, GetsSetNumber, LacksModule};
 
@@ -28,7 +28,7 @@ fn lacks_a_module<S: Alter>(
     change: &mut OpenChange<'_, S>,
     modules: &ModuleList,
 ) -> Result<bool, Fault>
-    ensures same_reference { change.new.store.ghost_name ≡ change.old.store.ghost_name }
+    ensures stays { StaysIn change.old change.new result }
     ensures reads { ReadsIn S.Store change.old change.new result (LacksModule modules.now) }
 {
     let last = change.read_last_module()?;
@@ -40,7 +40,7 @@ fn next_set<S: Alter>(
     change: &mut OpenChange<'_, S>,
     label: &SetLabel,
 ) -> Result<Result<SetNo, Refusal>, Fault>
-    ensures same_reference { change.new.store.ghost_name ≡ change.old.store.ghost_name }
+    ensures stays { StaysIn change.old change.new result }
     ensures reads { ReadsIn S.Store change.old change.new result (GetsSetNumber label.now) }
 {
     if lacks_a_module(change, &label.modules)? {
@@ -64,7 +64,7 @@ fn write_modules<S: Alter>(
     modules: &[ModuleNo],
 ) -> Result<(), Fault>
     requires { before + length modules.now ≤ 8 }
-    ensures same_reference { change.new.store.ghost_name ≡ change.old.store.ghost_name }
+    ensures stays { StaysIn change.old change.new result }
     ensures writes { WritesAllIn S.Store change.old change.new result (AddsModules number before modules.now) }
 {
     match modules {
@@ -82,7 +82,7 @@ fn write_whole<S: Alter>(
     number: SetNo,
     label: &SetLabel,
 ) -> Result<(), Fault>
-    ensures same_reference { change.new.store.ghost_name ≡ change.old.store.ghost_name }
+    ensures stays { StaysIn change.old change.new result }
     ensures writes { WritesAllIn S.Store change.old change.new result (AddsWhole number label.now) }
 {
     change.write_set(number, &label.name, &label.version)?;
@@ -95,7 +95,7 @@ pub(crate) fn add_set<S: Alter>(
     change: &mut OpenChange<'_, S>,
     label: &SetLabel,
 ) -> Result<Step, Fault>
-    ensures same_reference { change.new.store.ghost_name ≡ change.old.store.ghost_name }
+    ensures stays { StaysIn change.old change.new result }
     ensures steps { StepsIn S.Store change.old change.new (AddSet label.now) result }
 {
     let number = match next_set(change, label)? {

@@ -6,6 +6,7 @@ ghost use Rattle.rollout_model.specs.Rules.{is_number};
 ghost use Rattle.rollout_machine.specs.Commands.{Approve, Deny, Pause};
 ghost use Rattle.rollout_desk.specs.Changing.{StepsIn};
 ghost use Rattle.rollout_desk.specs.Standings.{Judges, WritesSaid, said_by};
+ghost use Rattle.desk_store.specs.Changing.{StaysIn};
 
 use crate::step::Step;
 use campaign_core::{RolloutChange, StandingView, approve, deny, pause};
@@ -60,7 +61,7 @@ fn write_said<S: Alter>(
     seen: &SeenRollout,
     said: Said,
 ) -> Result<(), Fault>
-    ensures same_reference { change.new.store.ghost_name ≡ change.old.store.ghost_name }
+    ensures stays { StaysIn change.old change.new result }
     ensures writes { WritesLedger S.Store change.old change.new result (WritesSaid said number seen.now) }
 {
     match said {
@@ -80,7 +81,7 @@ fn say<S: Alter>(
     number: RolloutNo,
     said: Said,
 ) -> Result<Step, Fault>
-    ensures same_reference { change.new.store.ghost_name ≡ change.old.store.ghost_name }
+    ensures stays { StaysIn change.old change.new result }
     ensures steps { StepsIn S.Store change.old change.new (said_by said number) result }
 {
     let found = read_seen_rollout(change, number)?;
@@ -100,7 +101,7 @@ pub(crate) fn approve_rollout<S: Alter>(
     change: &mut OpenChange<'_, S>,
     number: RolloutNo,
 ) -> Result<Step, Fault>
-    ensures same_reference { change.new.store.ghost_name ≡ change.old.store.ghost_name }
+    ensures stays { StaysIn change.old change.new result }
     ensures steps { StepsIn S.Store change.old change.new (Approve number) result }
 {
     say(change, number, Said::Approved)
@@ -111,7 +112,7 @@ pub(crate) fn deny_rollout<S: Alter>(
     change: &mut OpenChange<'_, S>,
     number: RolloutNo,
 ) -> Result<Step, Fault>
-    ensures same_reference { change.new.store.ghost_name ≡ change.old.store.ghost_name }
+    ensures stays { StaysIn change.old change.new result }
     ensures steps { StepsIn S.Store change.old change.new (Deny number) result }
 {
     say(change, number, Said::Denied)
@@ -122,7 +123,7 @@ pub(crate) fn pause_rollout<S: Alter>(
     change: &mut OpenChange<'_, S>,
     number: RolloutNo,
 ) -> Result<Step, Fault>
-    ensures same_reference { change.new.store.ghost_name ≡ change.old.store.ghost_name }
+    ensures stays { StaysIn change.old change.new result }
     ensures steps { StepsIn S.Store change.old change.new (Pause number) result }
 {
     say(change, number, Said::Paused)

@@ -6,6 +6,7 @@ ghost use Rattle.rollout_desk.specs.Changing.{StepsIn, WritesAllLedger};
 ghost use Rattle.rollout_desk.specs.Standings.{Judges};
 ghost use Rattle.rollout_desk.specs.Starts.{AddsActions, ReadsMembers, StartsWhole};
 ghost use Rattle.desk_store.specs.Ledgers.{ReadsLedger};
+ghost use Rattle.desk_store.specs.Changing.{StaysIn};
 
 use crate::groups::start_group;
 use crate::standing::{number_is_well_formed, refusal_in};
@@ -34,7 +35,7 @@ fn read_all_members<S: Alter>(
     number: RolloutNo,
     count: u32,
 ) -> Result<Vec<ControllerId>, Fault>
-    ensures same_reference { change.new.store.ghost_name ≡ change.old.store.ghost_name }
+    ensures stays { StaysIn change.old change.new result }
     ensures reads { ReadsLedger S.Store change.old change.new result (λ l members. ReadsMembers number count l members.items) }
 {
     let page = Page {
@@ -53,7 +54,7 @@ fn write_actions<S: Alter>(
     members: &[ControllerId],
 ) -> Result<(), Fault>
     requires { last + length members.now ≤ 2147483647 }
-    ensures same_reference { change.new.store.ghost_name ≡ change.old.store.ghost_name }
+    ensures stays { StaysIn change.old change.new result }
     ensures writes { WritesAllLedger S.Store change.old change.new result (AddsActions number last members.now (length members.now)) }
 {
     for (i, id) in members.iter().enumerate() {
@@ -74,7 +75,7 @@ fn write_start<S: Alter>(
     members: &[ControllerId],
 ) -> Result<(), Fault>
     requires { last + length members.now ≤ 2147483647 }
-    ensures same_reference { change.new.store.ghost_name ≡ change.old.store.ghost_name }
+    ensures stays { StaysIn change.old change.new result }
     ensures writes { WritesAllLedger S.Store change.old change.new result (StartsWhole number seen.now first.now last members.now) }
 {
     change.change_rollout(number, seen.approval, true, seen.paused)?;
@@ -101,7 +102,7 @@ pub(crate) fn start_rollout<S: Alter>(
     change: &mut OpenChange<'_, S>,
     number: RolloutNo,
 ) -> Result<Step, Fault>
-    ensures same_reference { change.new.store.ghost_name ≡ change.old.store.ghost_name }
+    ensures stays { StaysIn change.old change.new result }
     ensures steps { StepsIn S.Store change.old change.new (Start number) result }
 {
     let found = read_seen_rollout(change, number)?;

@@ -4,7 +4,7 @@ ghost use Rattle.std.specs.Prelude.{◌≡◌, is_none};
 ghost use Rattle.std.specs.Option.{option_map};
 ghost use Rattle.rollout_machine.specs.Commands.{Tag, Untag};
 ghost use Rattle.rollout_machine.specs.Verdicts.{target_of};
-ghost use Rattle.desk_store.specs.Changing.{ReadsIn};
+ghost use Rattle.desk_store.specs.Changing.{ReadsIn, StaysIn};
 ghost use Rattle.desk_store.specs.Counting.{AddsIn};
 ghost use Rattle.rollout_desk.specs.Changing.{StepsIn};
 
@@ -19,7 +19,7 @@ pub(crate) fn lacks_target<S: Alter>(
     change: &mut OpenChange<'_, S>,
     id: &ControllerId,
 ) -> Result<bool, Fault>
-    ensures same_reference { change.new.store.ghost_name ≡ change.old.store.ghost_name }
+    ensures stays { StaysIn change.old change.new result }
     ensures reads { ReadsIn S.Store change.old change.new result (λ r lacks. lacks ≡ is_none (target_of r id.now)) }
     ensures work { AddsIn 1 1 change.old change.new }
 {
@@ -33,7 +33,7 @@ pub(crate) fn tag_target<S: Alter>(
     id: &ControllerId,
     tag: &Word,
 ) -> Result<Step, Fault>
-    ensures same_reference { change.new.store.ghost_name ≡ change.old.store.ghost_name }
+    ensures stays { StaysIn change.old change.new result }
     ensures steps { StepsIn S.Store change.old change.new (Tag id.now tag.now) result }
 {
     if lacks_target(change, id)? {
@@ -56,7 +56,7 @@ pub(crate) fn untag_target<S: Alter>(
     id: &ControllerId,
     tag: &Word,
 ) -> Result<Step, Fault>
-    ensures same_reference { change.new.store.ghost_name ≡ change.old.store.ghost_name }
+    ensures stays { StaysIn change.old change.new result }
     ensures steps { StepsIn S.Store change.old change.new (Untag id.now tag.now) result }
 {
     if lacks_target(change, id)? {

@@ -3,7 +3,7 @@
 ghost use Rattle.std.specs.Prelude.{◌≡◌, ◌<◌, None, Some, IfNone, IfSome, length};
 ghost use Rattle.rollout_machine.specs.Commands.{PutTargets};
 ghost use Rattle.desk_records.specs.Holds.{HoldsRecords};
-ghost use Rattle.desk_store.specs.Changing.{ReadsIn, seen_in};
+ghost use Rattle.desk_store.specs.Changing.{ReadsIn, seen_in, StaysIn};
 ghost use Rattle.rollout_desk.specs.Changing.{StepsIn, WritesAllIn};
 ghost use Rattle.rollout_desk.specs.Imports.{AddsTags, DropsTags, LeavesRoom, PutsAll, PutsOver, PutsRow, Renames, Retags};
 
@@ -20,7 +20,7 @@ fn drop_tags<S: Alter>(
     had: &[Word],
     wanted: &[Word],
 ) -> Result<(), Fault>
-    ensures same_reference { change.new.store.ghost_name ≡ change.old.store.ghost_name }
+    ensures stays { StaysIn change.old change.new result }
     ensures writes { WritesAllIn S.Store change.old change.new result (DropsTags id.now had.now wanted.now) }
 {
     match had {
@@ -42,7 +42,7 @@ fn add_tags<S: Alter>(
     tags: &[Word],
     had: &[Word],
 ) -> Result<(), Fault>
-    ensures same_reference { change.new.store.ghost_name ≡ change.old.store.ghost_name }
+    ensures stays { StaysIn change.old change.new result }
     ensures writes { WritesAllIn S.Store change.old change.new result (AddsTags id.now tags.now had.now) }
 {
     match tags {
@@ -63,7 +63,7 @@ fn retag<S: Alter>(
     id: &ControllerId,
     tags: &Tags,
 ) -> Result<(), Fault>
-    ensures same_reference { change.new.store.ghost_name ≡ change.old.store.ghost_name }
+    ensures stays { StaysIn change.old change.new result }
     ensures writes { WritesAllIn S.Store change.old change.new result (Retags id.now tags.now) }
 {
     let had = change.read_target_tags(id)?;
@@ -77,7 +77,7 @@ fn rename<S: Alter>(
     row: &TargetRow,
     stored: &StoredTarget,
 ) -> Result<(), Fault>
-    ensures same_reference { change.new.store.ghost_name ≡ change.old.store.ghost_name }
+    ensures stays { StaysIn change.old change.new result }
     ensures writes { WritesAllIn S.Store change.old change.new result (Renames row.now stored.now) }
 {
     if stored.name == row.name && stored.digest == row.digest {
@@ -88,7 +88,7 @@ fn rename<S: Alter>(
 
 /// Puts the row of a target that isn't there.
 fn add_row<S: Alter>(change: &mut OpenChange<'_, S>, row: &TargetRow) -> Result<(), Fault>
-    ensures same_reference { change.new.store.ghost_name ≡ change.old.store.ghost_name }
+    ensures stays { StaysIn change.old change.new result }
     ensures writes { WritesAllIn S.Store change.old change.new result (PutsOver None row.now) }
 {
     change.write_target(&row.id, &row.name, &row.digest)?;
@@ -101,7 +101,7 @@ fn change_row<S: Alter>(
     row: &TargetRow,
     stored: &StoredTarget,
 ) -> Result<(), Fault>
-    ensures same_reference { change.new.store.ghost_name ≡ change.old.store.ghost_name }
+    ensures stays { StaysIn change.old change.new result }
     ensures writes { WritesAllIn S.Store change.old change.new result (PutsOver (Some stored.now) row.now) }
 {
     rename(change, row, stored)?;
@@ -110,7 +110,7 @@ fn change_row<S: Alter>(
 
 /// How many more targets the desk takes. They are counted where that isn't known yet.
 fn room_left<S: Alter>(change: &mut OpenChange<'_, S>, left: Option<u32>) -> Result<u32, Fault>
-    ensures same_reference { change.new.store.ghost_name ≡ change.old.store.ghost_name }
+    ensures stays { StaysIn change.old change.new result }
     ensures reads { ReadsIn S.Store change.old change.new result (LeavesRoom left) }
 {
     match left {
@@ -128,7 +128,7 @@ fn put_row<S: Alter>(
     row: &TargetRow,
     left: Option<u32>,
 ) -> Result<Result<Option<u32>, Refusal>, Fault>
-    ensures same_reference { change.new.store.ghost_name ≡ change.old.store.ghost_name }
+    ensures stays { StaysIn change.old change.new result }
     ensures puts { PutsRow HoldsRecords (seen_in S.Store change.old) (seen_in S.Store change.new) row.now left result }
 {
     let found = change.read_target(&row.id)?;
@@ -154,7 +154,7 @@ fn put_rows<S: Alter>(
     change: &mut OpenChange<'_, S>,
     rows: &[TargetRow],
 ) -> Result<Option<Refusal>, Fault>
-    ensures same_reference { change.new.store.ghost_name ≡ change.old.store.ghost_name }
+    ensures stays { StaysIn change.old change.new result }
     ensures puts { PutsAll HoldsRecords (seen_in S.Store change.old) (seen_in S.Store change.new) rows.now result }
 {
     let mut left = None;
@@ -183,7 +183,7 @@ pub(crate) fn put_targets<S: Alter>(
     change: &mut OpenChange<'_, S>,
     rows: &TargetRows,
 ) -> Result<Step, Fault>
-    ensures same_reference { change.new.store.ghost_name ≡ change.old.store.ghost_name }
+    ensures stays { StaysIn change.old change.new result }
     ensures steps { StepsIn S.Store change.old change.new (PutTargets rows.now) result }
 {
     let rows = rows.as_slice();

@@ -59,7 +59,7 @@ map_id : {X : Type 0} (xs : List X) → map (λ x. x) xs ≡ xs
 map_id [] = refl
 map_id (x ∷ xs) = ap (λ l. x ∷ l) (map_id xs)
 
-none_passes : (p : Row → Bool) (rows : List Row) → ((r : Row) → Has rows r → p r ≡ true → ⊥) → filter p rows ≡ []
+pub none_passes : (p : Row → Bool) (rows : List Row) → ((r : Row) → Has rows r → p r ≡ true → ⊥) → filter p rows ≡ []
 none_passes p [] h = refl
 none_passes p (r ∷ rows) h = go (p r) refl (none_passes p rows (λ s there. h s (inr there)))
   where
@@ -67,13 +67,13 @@ none_passes p (r ∷ rows) h = go (p r) refl (none_passes p rows (λ s there. h 
     go true e more = absurd (h r (inl refl) e)
     go false e more = more
 
-is_among : (p : Row → Bool) (rows : List Row) (r : Row) → Has rows r → p r ≡ true → Has (filter p rows) r
+pub is_among : (p : Row → Bool) (rows : List Row) (r : Row) → Has rows r → p r ≡ true → Has (filter p rows) r
 is_among p [] r there passes_it = absurd there
 is_among p (s ∷ rows) r (inl same) passes_it = let e : p s ≡ true = ap p (sym same) ∙ passes_it in rw e (inl same)
 is_among p (s ∷ rows) r (inr there) passes_it =
     let more = is_among p rows r there passes_it in elim (p s) as (λ b. Has (cond b (s ∷ filter p rows) (filter p rows)) r) [ true ↦ inr more | false ↦ more ]
 
-only_one : (found r : Row) → Has (found ∷ []) r → r ≡ found
+pub only_one : (found r : Row) → Has (found ∷ []) r → r ≡ found
 only_one found r (inl same) = same
 only_one found r (inr none) = absurd none
 

@@ -1,5 +1,4 @@
 pub mod Means
-pub mod Compiling
 pub mod Ends
 pub mod Leavings
 pub mod Changes

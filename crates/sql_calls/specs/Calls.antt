@@ -1,13 +1,14 @@
 -- What one call leaves of the connection, and what it adds to the work.
-use Rattle.std.specs.Prelude.{◌≡◌, ℕ, ◌+◌, ◌-◌, ◌^◌, min, Bool, true, false, List, length, Vec, Option, Some, None, Result, Ok, Err, is_ok}
+use Rattle.std.specs.Prelude.{◌≡◌, ◌≤◌, ℕ, zero, suc, ◌+◌, ◌-◌, ◌^◌, min, List, length, Vec, Option, Some, None, Result, Ok, Err}
 use Rattle.std.specs.declared.alloc.Global.{Global}
 use Rattle.sqlite.specs.Order.{Row}
-use Rattle.sqlite.specs.Listing.{understood}
 use Rattle.sqlite.specs.declared.error.Error.{Error}
-use Rattle.sqlite.specs.declared.error.Error.TheVariants.{SqlInputError, QueryReturnedNoRows}
-use Rattle.sqlite.specs.State.{State, HasCleanDisk, IsUnchanged, IsNotRun, Survives, Shown, Executes, FailsToQuery, QueriesRow, CommitsShowing, CommitsBy}
+use Rattle.sqlite.specs.declared.error.Error.TheVariants.{QueryReturnedNoRows}
+use Rattle.sqlite.specs.State.{State, HasCleanDisk, Survives, Shown, Executes, FailsToQuery, QueriesRow, CommitsShowing, CommitsBy}
 use Rattle.sql_calls.specs.declared.calls.Work.{Work}
+use Rattle.sql_calls.specs.declared.calls.Calls.{Calls}
 use Rattle.sql_calls.specs.declared.fault.Fault.{Fault}
+use Rattle.sql_calls.specs.declared.fault.Fault.TheVariants.{Memory, Store}
 use Rattle.sql_calls.specs.Faults.{fault_named}
 
 -- ---- the work
@@ -23,6 +24,10 @@ capped n = min n (2 ^ 64 - 1)
 abbrev pub counts : Work → ℕ → Work
 counts w rows = record { statements = capped (w.statements + 1); rows = capped (w.rows + rows) }
 
+-- what a count has more than an earlier one
+abbrev pub since : Work → Work → Work
+since w earlier = record { statements = w.statements - earlier.statements; rows = w.rows - earlier.rows }
+
 abbrev pub rows_in : Result (Vec Row Global) Fault → ℕ
 rows_in (Ok rows) = length rows.items
 rows_in (Err fault) = 0
@@ -31,6 +36,28 @@ abbrev pub row_in : Result (Option Row) Fault → ℕ
 row_in (Ok (Some row)) = 1
 row_in (Ok None) = 0
 row_in (Err fault) = 0
+
+-- ---- the failures
+
+-- so many more, if there are any
+abbrev pub fails : ℕ → ℕ → ℕ
+fails zero failures = failures
+fails (suc more) failures = capped (failures + suc more)
+
+abbrev pub failures_of : Fault → ℕ
+failures_of Store = 1
+failures_of Memory = 0
+
+abbrev pub failures_in : {A : Type 0} → Result A Fault → ℕ
+failures_in (Ok a) = 0
+failures_in (Err fault) = failures_of fault
+
+-- no count falls, and at most so many calls failed
+pub record Grows {S : Type 0} (more : ℕ) (old new : Calls S) : Type 0 where
+  pub statements : old.work.statements ≤ new.work.statements
+  pub rows : old.work.rows ≤ new.work.rows
+  pub failures : old.failures ≤ new.failures
+  pub few : new.failures ≤ old.failures + more
 
 -- ---- the connection
 
@@ -61,17 +88,3 @@ TakesTo old new sql params (Err fault) = (error : Error) × (fault ≡ fault_nam
 pub record TakesFirst (old new : State) (sql : List ℕ) (params : Row) (result : Result (Option Row) Fault) : Type 0 where
   pub answers : HasCleanDisk new → TakesTo old new sql params result
   pub survives : Survives old new (CommitsShowing sql params old)
-
-abbrev pub is_input_error : Error → Bool
-is_input_error (SqlInputError e) = true
-is_input_error _ = false
-
--- the answer is whether the text compiles; a fault comes of another error than that the text doesn't
-abbrev pub TriesTo : State → State → List ℕ → Result Bool Fault → Type 0
-TriesTo old new sql (Ok compiles) = (compiles ≡ is_ok (understood old.now.schema sql)) × IsUnchanged old new
-TriesTo old new sql (Err fault) = (error : Error) × (fault ≡ fault_named error) × (is_input_error error ≡ false) × ((params : Row) → IsNotRun old new sql params error)
-
--- a text that is compiled and not run
-pub record TriesText (old new : State) (sql : List ℕ) (result : Result Bool Fault) : Type 0 where
-  pub tries : HasCleanDisk new → TriesTo old new sql result
-  pub survives : Survives old new (λ _. ⊥)

@@ -3,7 +3,7 @@
 ghost use Rattle.std.specs.Prelude.{◌≡◌, not, []};
 ghost use Rattle.sqlite.specs.Held.{state};
 ghost use Rattle.sqlite.specs.Values.{bound};
-ghost use Rattle.sql_calls.specs.Calls.{RunsText, AsksText, TakesFirst, TriesText, counts, no_work, rows_in, row_in};
+ghost use Rattle.sql_calls.specs.Calls.{RunsText, AsksText, TakesFirst, Grows, counts, no_work, since, rows_in, row_in, fails, failures_of, failures_in};
 
 use crate::fault::{Fault, fault_of};
 use sqlite::types::ValueRef;
@@ -24,11 +24,24 @@ pub struct Work {
     pub rows: u64,
 }
 
-/// The one owner of a connection: each call hands in at most one statement, and counts it.
+impl Work {
+    /// What was run and taken after an earlier count of the same calls.
+    pub fn since(self, earlier: Work) -> Work
+        ensures { result ≡ since self earlier }
+    {
+        Work {
+            statements: self.statements.saturating_sub(earlier.statements),
+            rows: self.rows.saturating_sub(earlier.rows),
+        }
+    }
+}
+
+/// The one owner of a connection: each call hands in at most one statement, and counts it. No call sets a count back.
 #[derive(Drop)]
 pub struct Calls<S: Alter> {
     conn: Connection<S>,
     work: Work,
+    failures: u64,
 }
 
 impl<S: Alter> Calls<S> {
@@ -36,6 +49,7 @@ impl<S: Alter> Calls<S> {
     pub fn new(conn: Connection<S>) -> Calls<S>
         ensures conn { result.conn ≡ conn }
         ensures work { result.work ≡ no_work }
+        ensures failures { result.failures ≡ 0 }
     {
         Calls {
             conn,
@@ -43,6 +57,7 @@ impl<S: Alter> Calls<S> {
                 statements: 0,
                 rows: 0,
             },
+            failures: 0,
         }
     }
 
@@ -54,22 +69,18 @@ impl<S: Alter> Calls<S> {
         conn
     }
 
-    /// What was run and taken since the last reset.
+    /// What was run and taken so far.
     pub fn work(&self) -> Work
         ensures { result ≡ self.now.work }
     {
         self.work
     }
 
-    /// Counts from nothing again.
-    pub fn reset_work(&mut self)
-        ensures work { self.new.work ≡ no_work }
-        ensures conn { self.new.conn ≡ self.old.conn }
+    /// How often a call failed with `Fault::Store`. It stays at 2^64 - 1 once it is there.
+    pub fn failures(&self) -> u64
+        ensures { result ≡ self.now.failures }
     {
-        self.work = Work {
-            statements: 0,
-            rows: 0,
-        };
+        self.failures
     }
 
     /// Whether no transaction is open.
@@ -83,15 +94,19 @@ impl<S: Alter> Calls<S> {
     pub fn run(&mut self, sql: &str, params: &[ValueRef<'_>]) -> Result<(), Fault>
         ensures runs { RunsText (state S.Store self.old.conn) (state S.Store self.new.conn) sql.now (bound params.now) result }
         ensures work { self.new.work ≡ counts self.old.work 0 }
+        ensures failures { self.new.failures ≡ fails (failures_in result) self.old.failures }
+        ensures grows { Grows (failures_in result) self.old self.new }
     {
         self.count(0);
-        run_on(&mut self.conn, sql, params)
+        self.run_uncounted(sql, params)
     }
 
     /// Runs one query, and takes all its rows.
     pub fn ask(&mut self, sql: &str, params: &[ValueRef<'_>]) -> Result<Vec<Row>, Fault>
         ensures asks { AsksText (state S.Store self.old.conn) (state S.Store self.new.conn) sql.now (bound params.now) result }
         ensures work { self.new.work ≡ counts self.old.work (rows_in result) }
+        ensures failures { self.new.failures ≡ fails (failures_in result) self.old.failures }
+        ensures grows { Grows (failures_in result) self.old self.new }
     {
         match ask_on(&mut self.conn, sql, params) {
             Ok(rows) => {
@@ -100,6 +115,7 @@ impl<S: Alter> Calls<S> {
             }
             Err(fault) => {
                 self.count(0);
+                self.failed(fault);
                 Err(fault)
             }
         }
@@ -109,6 +125,8 @@ impl<S: Alter> Calls<S> {
     pub fn first(&mut self, sql: &str, params: &[ValueRef<'_>]) -> Result<Option<Row>, Fault>
         ensures takes { TakesFirst (state S.Store self.old.conn) (state S.Store self.new.conn) sql.now (bound params.now) result }
         ensures work { self.new.work ≡ counts self.old.work (row_in result) }
+        ensures failures { self.new.failures ≡ fails (failures_in result) self.old.failures }
+        ensures grows { Grows (failures_in result) self.old self.new }
     {
         match first_on(&mut self.conn, sql, params) {
             Ok(Some(row)) => {
@@ -121,49 +139,76 @@ impl<S: Alter> Calls<S> {
             }
             Err(fault) => {
                 self.count(0);
+                self.failed(fault);
                 Err(fault)
             }
         }
-    }
-
-    /// Compiles a text and runs nothing: whether its tables and columns are there.
-    pub fn compiles(&mut self, sql: &str) -> Result<bool, Fault>
-        ensures tries { TriesText (state S.Store self.old.conn) (state S.Store self.new.conn) sql.now result }
-        ensures work { self.new.work ≡ self.old.work }
-    {
-        compiles_on(&mut self.conn, sql)
     }
 
     /// Begins a transaction.
     pub fn begin(&mut self) -> Result<(), Fault>
         ensures runs { RunsText (state S.Store self.old.conn) (state S.Store self.new.conn) BEGIN.now [] result }
         ensures work { self.new.work ≡ self.old.work }
+        ensures failures { self.new.failures ≡ fails (failures_in result) self.old.failures }
+        ensures grows { Grows (failures_in result) self.old self.new }
     {
-        run_on(&mut self.conn, BEGIN, &[])
+        self.run_uncounted(BEGIN, &[])
     }
 
     /// Commits the transaction.
     pub fn commit(&mut self) -> Result<(), Fault>
         ensures runs { RunsText (state S.Store self.old.conn) (state S.Store self.new.conn) COMMIT.now [] result }
         ensures work { self.new.work ≡ self.old.work }
+        ensures failures { self.new.failures ≡ fails (failures_in result) self.old.failures }
+        ensures grows { Grows (failures_in result) self.old self.new }
     {
-        run_on(&mut self.conn, COMMIT, &[])
+        self.run_uncounted(COMMIT, &[])
     }
 
     /// Rolls the transaction back.
     pub fn roll_back(&mut self) -> Result<(), Fault>
         ensures runs { RunsText (state S.Store self.old.conn) (state S.Store self.new.conn) ROLLBACK.now [] result }
         ensures work { self.new.work ≡ self.old.work }
+        ensures failures { self.new.failures ≡ fails (failures_in result) self.old.failures }
+        ensures grows { Grows (failures_in result) self.old self.new }
     {
-        run_on(&mut self.conn, ROLLBACK, &[])
+        self.run_uncounted(ROLLBACK, &[])
+    }
+
+    fn run_uncounted(&mut self, sql: &str, params: &[ValueRef<'_>]) -> Result<(), Fault>
+        ensures runs { RunsText (state S.Store self.old.conn) (state S.Store self.new.conn) sql.now (bound params.now) result }
+        ensures work { self.new.work ≡ self.old.work }
+        ensures failures { self.new.failures ≡ fails (failures_in result) self.old.failures }
+        ensures grows { Grows (failures_in result) self.old self.new }
+    {
+        match run_on(&mut self.conn, sql, params) {
+            Ok(()) => Ok(()),
+            Err(fault) => {
+                self.failed(fault);
+                Err(fault)
+            }
+        }
     }
 
     fn count(&mut self, rows: u64)
         ensures work { self.new.work ≡ counts self.old.work rows }
+        ensures failures { self.new.failures ≡ self.old.failures }
+        ensures grows { Grows 0 self.old self.new }
         ensures conn { self.new.conn ≡ self.old.conn }
     {
         self.work.statements = self.work.statements.saturating_add(1);
         self.work.rows = self.work.rows.saturating_add(rows);
+    }
+
+    fn failed(&mut self, fault: Fault)
+        ensures failures { self.new.failures ≡ fails (failures_of fault) self.old.failures }
+        ensures grows { Grows (failures_of fault) self.old self.new }
+        ensures work { self.new.work ≡ self.old.work }
+        ensures conn { self.new.conn ≡ self.old.conn }
+    {
+        if matches!(fault, Fault::Store) {
+            self.failures = self.failures.saturating_add(1);
+        }
     }
 }
 
@@ -203,19 +248,6 @@ fn first_on<S: Alter>(
     match conn.query_row(sql, params) {
         Ok(row) => Ok(Some(row)),
         Err(Error::QueryReturnedNoRows) => Ok(None),
-        Err(error) => Err(fault_of(error)),
-    }
-}
-
-fn compiles_on<S: Alter>(conn: &mut Connection<S>, sql: &str) -> Result<bool, Fault>
-    ensures { TriesText (state S.Store conn.old) (state S.Store conn.new) sql.now result }
-{
-    match conn.prepare(sql) {
-        Ok(statement) => {
-            drop(statement);
-            Ok(true)
-        }
-        Err(Error::SqlInputError(_)) => Ok(false),
         Err(error) => Err(fault_of(error)),
     }
 }

@@ -15,7 +15,7 @@ returns-in-Err-clause-reads g c = read_in_vain HoldsRecords _ _ _ _ _ (both_read
 
 pub loop-one-preserved : goal.loop-one-preserved
 loop-one-preserved g c = record {
-  same_reference = search rules;
+  stays = search rules;
   reads = reads_as HoldsRecords _ _ _ _ _ _ (both_read HoldsRecords _ _ _ _ _ _ _ c.loop-one.invariant.reads c.in_ok-shown.ensures.reads)
       (λ r is of. more_shown (listed_shown r) c.args.listed.now c.loop-one.one-index c.one-item.result _ _ _ c.loop-one-test.true c.one-item.is (is.0 of) (is.1 of) (rw (ap is_ok c.in-Ok.is) at c.push.ensures.items));
 }

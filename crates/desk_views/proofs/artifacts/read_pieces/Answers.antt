@@ -20,7 +20,7 @@ returns-in-None-clause-reads g c =
 
 pub loop-place-preserved : goal.loop-place-preserved
 loop-place-preserved g c = record {
-  same_reference = search rules;
+  stays = search rules;
   reads = reads_as HoldsRecords _ _ _ _ _ _ (both_read HoldsRecords _ _ _ _ _ _ _ c.loop-place.invariant.reads (rw c.in-Some.is at c.in_ok-piece.ensures.reads))
       (λ r is. pieces_grow (pieces_of_artifact (item_numbered r.artifacts c.args.number)) _ _ c.loop-place.place _ _ is.0 is.1 (omega arith)
       (c.in_ok-append-in-Some.ensures ∙ ap (λ l. c.loop-place.bytes.items ++ l) c.deref.ensures.value));

@@ -1,5 +1,4 @@
 use Rattle.std.proofs.Common.{◌∙◌, ap}
-use Rattle.std.specs.List.{list_any}
 use Rattle.sql_calls.proofs.Composing.{both_read, reads_as, second_fails}
 use Rattle.desk_records.specs.Holds.{HoldsRecords}
 use Rattle.desk_views.specs.Downloads.{named}

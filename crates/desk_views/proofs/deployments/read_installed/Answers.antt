@@ -1,4 +1,3 @@
-use Rattle.std.proofs.Common.{◌∙◌, refl}
 use Rattle.sql_calls.proofs.Composing.{known}
 use Rattle.desk_records.specs.Holds.{HoldsRecords}
 use Rattle.desk_views.proofs.deployments.read_installed.Goals as goal

@@ -11,7 +11,7 @@ returns-in_err-add_chunk-clause-reads g c = second_fails HoldsRecords _ _ _ _ _ 
 
 pub loop-module_number-preserved : goal.loop-module_number-preserved
 loop-module_number-preserved g c = record {
-  same_reference = search rules;
+  stays = search rules;
   reads = reads_as HoldsRecords _ _ _ _ _ _ (both_read HoldsRecords _ _ _ _ _ _ _ c.loop-module_number.invariant.reads c.in_ok-add_chunk.ensures.reads) (λ r is. chunks_grow r _ _ c.loop-module_number.yielded c.in-Some.module_number is.0 is.1);
 }
 

@@ -12,7 +12,7 @@ returns-in_err-add_target-clause-reads g c = second_fails HoldsRecords _ _ _ _ _
 
 pub loop-id-preserved : goal.loop-id-preserved
 loop-id-preserved g c = record {
-  same_reference = search rules;
+  stays = search rules;
   reads = reads_as HoldsRecords _ _ _ _ _ _ (both_read HoldsRecords _ _ _ _ _ _ _ c.loop-id.invariant.reads c.in_ok-add_target.ensures.reads) (λ r is. targets_grow r c.loop-id.yielded c.in-Some.id _ _ is.0 is.1);
 }
 

@@ -15,7 +15,7 @@ returns-in-Err-clause-reads g c = read_in_vain HoldsRecords _ _ _ _ _ (both_read
 
 pub loop-place-preserved : goal.loop-place-preserved
 loop-place-preserved g c = record {
-  same_reference = search rules;
+  stays = search rules;
   reads = reads_as HoldsRecords _ _ _ _ _ _ (both_read HoldsRecords _ _ _ _ _ _ _ c.loop-place.invariant.reads c.in_ok-entry.ensures.reads)
       (λ r is of. page_grows (rollouts_shown r.rollouts) _ _ c.args.page.offset c.loop-place.place _ _ (is.0 of) (is.1 of) (omega arith) (rw (ap is_ok c.in-Ok.is) at c.push.ensures.items));
 }

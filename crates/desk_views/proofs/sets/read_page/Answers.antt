@@ -14,7 +14,7 @@ returns-in-Err-clause-reads g c = read_in_vain HoldsRecords _ _ _ _ _ (both_read
 
 pub loop-place-preserved : goal.loop-place-preserved
 loop-place-preserved g c = record {
-  same_reference = search rules;
+  stays = search rules;
   reads = reads_as HoldsRecords _ _ _ _ _ _ (both_read HoldsRecords _ _ _ _ _ _ _ c.loop-place.invariant.reads c.in_ok-shown.ensures.reads)
       (λ r is. page_grows (numbered set_shown 1 r.sets) _ _ c.args.page.offset c.loop-place.place _ _ is.0 is.1 (omega arith) (rw (ap is_ok c.in-Ok.is) at c.push.ensures.items));
 }

@@ -11,7 +11,7 @@ returns-in_err-add_if_match-clause-reads g c = second_fails HoldsRecords _ _ _ _
 
 pub loop-entry-preserved : goal.loop-entry-preserved
 loop-entry-preserved g c = record {
-  same_reference = search rules;
+  stays = search rules;
   reads = reads_as HoldsRecords _ _ _ _ _ _ (both_read HoldsRecords _ _ _ _ _ _ _ c.loop-entry.invariant.reads c.in_ok-add_if_match.ensures.reads)
       (λ r is f tree all was. is.1 f tree _ (is.0 f tree all was) ∙ ap (page_of c.args.page) (matching_grow r f all c.loop-entry.yielded c.in-Some.entry));
 }

@@ -19,7 +19,7 @@ returns-in-Err-clause-reads g c =
 
 pub loop-entry-preserved : goal.loop-entry-preserved
 loop-entry-preserved g c = record {
-  same_reference = search rules;
+  stays = search rules;
   reads = reads_as HoldsRecords _ _ _ _ _ _
       (both_read HoldsRecords _ _ _ _ _ _ _ (both_read HoldsRecords _ _ _ _ _ _ _ c.loop-entry.invariant.reads c.in_ok-target.ensures.reads) c.in_ok-shown.ensures.reads)
       (λ r is. entries_grow r _ _ c.loop-entry.yielded c.in-Some.entry c.in_ok-target.target c.in_ok-shown.shown is.0.0 is.0.1 is.1 (rw (ap is_ok c.in-Ok.is) at c.push.ensures.items));

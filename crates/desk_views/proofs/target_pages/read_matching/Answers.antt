@@ -9,13 +9,13 @@ returns-in_err-add_chunk-clause-reads g c = second_fails HoldsRecords _ _ _ _ _ 
 
 pub loop-chunk-init : goal.loop-chunk-init
 loop-chunk-init g c = record {
-  same_reference = search rules;
+  stays = search rules;
   reads = reads_as HoldsRecords _ _ _ _ _ _ c.in_ok-count.ensures.reads (λ r is. (is, λ f tree. nothing_yet c.args.page c.new.result c.new.ensures.items));
 }
 
 pub loop-chunk-preserved : goal.loop-chunk-preserved
 loop-chunk-preserved g c = record {
-  same_reference = search rules;
+  stays = search rules;
   reads = reads_as HoldsRecords _ _ _ _ _ _ (both_read HoldsRecords _ _ _ _ _ _ _ c.loop-chunk.invariant.reads c.in_ok-add_chunk.ensures.reads)
       (λ r is. (is.0.0, λ f tree. next_chunk c.args.page f r c.loop-chunk.shown c.add_chunk.new.shown c.loop-chunk.chunk c.in-Some.offset (search rules) (is.1 f tree) (is.0.1 f tree)));
 }

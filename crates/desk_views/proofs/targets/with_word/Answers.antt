@@ -1,7 +1,6 @@
 use Rattle.std.proofs.Common.{ap, ◌∙◌}
 use Rattle.sql_calls.proofs.Composing.{reads_as}
 use Rattle.desk_records.specs.Holds.{HoldsRecords}
-use Rattle.rollout_model.specs.declared.shown_target.ShownTarget.{ShownTarget}
 use Rattle.rollout_machine.specs.StateWords.{TargetWord}
 use Rattle.desk_views.proofs.targets.with_word.Goals as goal
 

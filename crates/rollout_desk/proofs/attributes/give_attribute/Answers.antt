@@ -1,4 +1,3 @@
-use Rattle.std.proofs.Common.{◌∙◌}
 use Rattle.desk_records.specs.Holds.{HoldsRecords}
 use Rattle.rollout_desk.specs.Attributes.{GivesAttribute}
 use Rattle.rollout_desk.proofs.AttributeLemmas.{adds_one, keeps_one, sets_one}

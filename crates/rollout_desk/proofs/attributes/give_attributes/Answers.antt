@@ -1,4 +1,4 @@
-use Rattle.std.proofs.Common.{◌∙◌, refl, take, subst}
+use Rattle.std.proofs.Common.{take, subst, rules}
 use Rattle.desk_records.specs.Holds.{HoldsRecords}
 use Rattle.rollout_desk.specs.Attributes.{GivesAttributes}
 use Rattle.rollout_desk.proofs.AttributeLemmas.{begun, more_attributes, no_attributes}
@@ -9,7 +9,7 @@ use Rattle.rollout_desk.proofs.attributes.give_attributes.Goals as goal
 
 pub loop-i-init : goal.loop-i-init
 loop-i-init g c = record {
-  same_reference = refl;
+  stays = search rules;
   writes = writes_nothing HoldsRecords _ _ (no_attributes c.args.id.now c.args.had.now);
 }
 
@@ -24,7 +24,7 @@ returns-in_err-give_attribute-clause-writes g c =
 
 pub loop-i-preserved : goal.loop-i-preserved
 loop-i-preserved g c = record {
-  same_reference = c.give_attribute.ensures.same_reference ∙ c.loop-i.invariant.same_reference;
+  stays = search rules;
   writes = all_write HoldsRecords _ _ _ _ _ _ _ c.loop-i.invariant.writes
       (λ r next h. more_attributes c.args.id.now c.args.had.now (take c.loop-i.i c.args.given.now) c.index-given-i.result r next
       (subst (λ l. GivesAttributes c.args.id.now c.args.had.now l r next) (one_more c.args.given.now c.index-given-i.result c.loop-i.i c.loop-i-test.true c.index-given-i.is) h))

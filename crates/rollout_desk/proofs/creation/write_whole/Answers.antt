@@ -1,4 +1,4 @@
-use Rattle.std.proofs.Common.{◌≡◌, ◌∙◌, ◌+◌, [], arith, length, take, subst, sym}
+use Rattle.std.proofs.Common.{◌≡◌, ◌+◌, [], arith, length, take, subst, sym, rules}
 use Rattle.desk_records.specs.Holds.{HoldsLedger}
 use Rattle.rollout_desk.specs.Creations.{CreatesRollout, in_part}
 use Rattle.rollout_desk.proofs.ComposeLemmas.{write_fails, writes_all}
@@ -11,7 +11,7 @@ returns-in_err-write_rollout-clause-writes g c = write_fails HoldsLedger _ _ _ _
 
 pub loop-i-init : goal.loop-i-init
 loop-i-init g c = record {
-  same_reference = c.write_rollout.ensures.same_reference;
+  stays = search rules;
   writes = writes_as HoldsLedger _ _ _ _ (begins c.args.created.now c.args.plan.now (length c.args.members.now)) _ (writes_all HoldsLedger _ _ _ _ c.in_ok-write_rollout.ensures.writes);
 }
 
@@ -26,7 +26,7 @@ returns-in_err-write_group-clause-writes g c =
 
 pub loop-i-preserved : goal.loop-i-preserved
 loop-i-preserved g c = record {
-  same_reference = c.write_group.ensures.same_reference ∙ c.loop-i.invariant.same_reference;
+  stays = search rules;
   writes = all_write HoldsLedger _ _ _ _ _ _ _ c.loop-i.invariant.writes (one_group c.args.created.now c.args.plan.now (length c.args.members.now) c.loop-i.i) _
       (writes_all HoldsLedger _ _ _ _ (rw (c.group_bounds-bounds.ensures, c.get-groups.ensures.value) at c.in_ok-write_group.ensures.writes));
 }
@@ -35,7 +35,7 @@ pub loop-i-2-init : goal.loop-i-2-init
 loop-i-2-init g c =
     let all : c.loop-i.i ≡ c.args.plan.now.groups = omega (arith, c.loop-i-test.false, c.loop-i.auto.i-end, c.get-groups.ensures.value) in
     record {
-      same_reference = c.loop-i.invariant.same_reference;
+      stays = search rules;
       writes = writes_as HoldsLedger _ _ _ _ (λ l next h. subst (λ k. CreatesRollout (in_part c.args.created.now c.args.plan.now (length c.args.members.now) k []) l next) (sym all) h) _ c.loop-i.invariant.writes;
     }
 
@@ -52,7 +52,7 @@ pub loop-i-2-preserved : goal.loop-i-2-preserved
 loop-i-2-preserved g c =
     let members = c.args.members.now in
     record {
-      same_reference = c.write_member.ensures.same_reference ∙ c.loop-i-2.invariant.same_reference;
+      stays = search rules;
       writes = all_write HoldsLedger _ _ _ _ _ _ _ c.loop-i-2.invariant.writes
           (one_member c.args.created.now c.args.plan.now (length members) c.args.plan.now.groups members c.index-members-i.result c.loop-i-2.i c.loop-i-2-test.true c.index-members-i.is) _ (writes_all HoldsLedger _ _ _ _ c.in_ok-write_member.ensures.writes);
     }

@@ -1,4 +1,4 @@
-use Rattle.std.proofs.Common.{None, Some}
+use Rattle.std.proofs.Common.{None}
 use Rattle.desk_records.specs.Holds.{HoldsLedger}
 use Rattle.rollout_desk.proofs.ComposeLemmas.{writes_all}
 use Rattle.rollout_desk.proofs.OfferingLemmas.{offer_becomes, offer_set}

@@ -1,6 +1,5 @@
-use Rattle.std.proofs.Common.{◌≡◌, false, List, Ok, refl, sym, ◌∙◌, arith}
+use Rattle.std.proofs.Common.{◌≡◌, Ok, refl, sym, ◌∙◌, arith}
 use Rattle.desk_records.specs.Holds.{HoldsRecords}
-use Rattle.rollout_machine.specs.ByteStrings.{contains_word}
 use Rattle.rollout_machine.specs.Commands.{Tag}
 use Rattle.sql_calls.specs.declared.fault.Fault.{Fault}
 use Rattle.sql_calls.proofs.Composing.{both_read, read_held}

@@ -1,4 +1,4 @@
-use Rattle.std.proofs.Common.{◌≡◌, ◌≤◌, ◌-◌, None, Some, refl, arith}
+use Rattle.std.proofs.Common.{◌≡◌, ◌≤◌, None, Some, refl, arith}
 use Rattle.sql_calls.proofs.Composing.{both_read, read_held}
 use Rattle.desk_records.specs.Holds.{HoldsRecords}
 use Rattle.rollout_model.specs.declared.refusal.Refusal.TheVariants.{Quota}

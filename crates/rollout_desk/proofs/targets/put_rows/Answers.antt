@@ -1,10 +1,10 @@
-use Rattle.std.proofs.Common.{refl, ◌∙◌}
+use Rattle.std.proofs.Common.{rules}
 use Rattle.desk_records.specs.Holds.{HoldsRecords}
 use Rattle.rollout_desk.proofs.PutLemmas.{all_put, none_put, row_fails, row_more, row_refuses}
 use Rattle.rollout_desk.proofs.targets.put_rows.Goals as goal
 
 pub loop-row-init : goal.loop-row-init
-loop-row-init g c = record { same_reference = refl; puts = none_put HoldsRecords _ }
+loop-row-init g c = record { stays = search rules; puts = none_put HoldsRecords _ }
 
 pub returns-in_err-then-clause-puts : goal.returns-in_err-then-clause-puts
 returns-in_err-then-clause-puts g c =
@@ -16,7 +16,7 @@ returns-in-Err-clause-puts g c =
 
 pub loop-row-preserved : goal.loop-row-preserved
 loop-row-preserved g c = record {
-  same_reference = c.put_row.ensures.same_reference ∙ c.loop-row.invariant.same_reference;
+  stays = search rules;
   puts = row_more HoldsRecords _ _ _ c.args.rows.now c.row-item.result c.loop-row.row-index c.loop-row-test.true c.row-item.is c.loop-row.left c.loop-row.invariant.puts c.in-Ok.then (rw c.in-Ok.is at c.in_ok-then.ensures.puts);
 }
 

@@ -11,9 +11,9 @@ pub returns-in-Err : goal.returns-in-Err
 returns-in-Err g c =
     let fails : Keeps HoldsRecords (state g.S.Store c.args.self.now.calls.conn) (state g.S.Store c.start.new.self.calls.conn) =
     fails_to_begin HoldsRecords begin_text _ _ (begin_is _) c.in-Err.fault c.in-Err.ensures.runs in
-    ((refl, (λ w. tt), (fails, c.in-Err.ensures.work)), record { refused = tt; same_reference = tt; begun = tt; work = tt })
+    ((refl, (λ w. tt), (fails, c.in-Err.ensures.work, c.in-Err.ensures.grows)), record { refused = tt; same_reference = tt; begun = tt; work = tt; grows = tt })
 
 pub returns-in-Ok : goal.returns-in-Ok
 returns-in-Ok g c =
     let begun : Begins HoldsRecords (state g.S.Store c.args.self.now.calls.conn) (state g.S.Store c.start.new.self.calls.conn) = begins HoldsRecords begin_text _ _ (begin_is _) c.in-Ok.ensures.runs in
-    ((refl, (λ w. refl), tt), record { refused = tt; same_reference = refl; begun = begun; work = c.in-Ok.ensures.work })
+    ((refl, (λ w. refl), tt), record { refused = tt; same_reference = refl; begun = begun; work = c.in-Ok.ensures.work; grows = c.in-Ok.ensures.grows })

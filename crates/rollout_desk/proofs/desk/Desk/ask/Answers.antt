@@ -12,10 +12,10 @@ pub returns-clause-offered : goal.returns-clause-offered
 returns-clause-offered g c =
     let now = desk_state_at HoldsRecords c.says_store_failed-self.result (state g.S.Store c.run_query-reply.new.store.calls.conn) in
     offers_kept (desk_state g.S.Store c.args.self.now) now (query_of c.args.query.now) (reply_of c.run_query-reply.result)
-    (answers HoldsRecords (state g.S.Store c.args.self.now.store.calls.conn) (state g.S.Store c.run_query-reply.new.store.calls.conn) c.args.self.now.stopped c.says_store_failed-self.result (Ask (query_of c.args.query.now)) _ c.if-self.false c.run_query-reply.ensures c.says_store_failed-self.ensures.is)
+    (answers HoldsRecords (state g.S.Store c.args.self.now.store.calls.conn) (state g.S.Store c.run_query-reply.new.store.calls.conn) c.args.self.now.stopped c.says_store_failed-self.result (Ask (query_of c.args.query.now)) _ c.if-self.false c.run_query-reply.ensures.handles c.says_store_failed-self.ensures.is)
 
 pub returns-clause-whole : goal.returns-clause-whole
 returns-clause-whole g c =
     let now = desk_state_at HoldsRecords c.says_store_failed-self.result (state g.S.Store c.run_query-reply.new.store.calls.conn) in
     contents_whole (desk_state g.S.Store c.args.self.now) now (query_of c.args.query.now) (reply_of c.run_query-reply.result)
-    (answers HoldsRecords (state g.S.Store c.args.self.now.store.calls.conn) (state g.S.Store c.run_query-reply.new.store.calls.conn) c.args.self.now.stopped c.says_store_failed-self.result (Ask (query_of c.args.query.now)) _ c.if-self.false c.run_query-reply.ensures c.says_store_failed-self.ensures.is)
+    (answers HoldsRecords (state g.S.Store c.args.self.now.store.calls.conn) (state g.S.Store c.run_query-reply.new.store.calls.conn) c.args.self.now.stopped c.says_store_failed-self.result (Ask (query_of c.args.query.now)) _ c.if-self.false c.run_query-reply.ensures.handles c.says_store_failed-self.ensures.is)

@@ -1,11 +1,13 @@
-use Rattle.std.proofs.Common.{◌≡◌, subst, sym}
+use Rattle.std.proofs.Common.{◌≡◌, subst}
 use Rattle.rollout_machine.specs.Replies.{Refused}
 use Rattle.rollout_model.specs.declared.refusal.Refusal.TheVariants.{Stopped}
 use Rattle.rollout_machine.specs.Requests.{Asks, Ask, ShowArtifact, ShowContents}
 use Rattle.rollout_machine.specs.Standing.{Applies}
+use Rattle.rollout_machine.specs.StoreFailures.{is_failed_store}
 use Rattle.rollout_machine.specs.Views.{reply_of}
 use Rattle.rollout_desk.specs.DeskStates.{desk_state}
 use Rattle.rollout_desk.specs.Downloads.{RefusesContents}
+use Rattle.rollout_desk.specs.Working.{TellsFailures}
 use Rattle.rollout_desk.proofs.DownloadLemmas.{begun, contents_refused, other_reply, refuses, shown_reply}
 use Rattle.rollout_desk.proofs.desk.Desk.find_artifact.Goals as goal
 
@@ -37,3 +39,8 @@ returns-in-Err-clause-stopped g c = λ over.
     let it = c.ask-reply.ensures.stopped over in
     let other = other_reply c.ask-reply.result c.in-Err.reply c.in-Err.ensures in
     (subst (λ r. reply_of r ≡ Refused Stopped) other.0 it.0, it.1)
+
+pub returns-in-Err-clause-tells : goal.returns-in-Err-clause-tells
+returns-in-Err-clause-tells g c =
+    let other = other_reply c.ask-reply.result c.in-Err.reply c.in-Err.ensures in
+    subst (λ r. TellsFailures (is_failed_store (reply_of r)) c.args.self.now.store.calls c.ask-reply.new.self.store.calls) other.0 c.ask-reply.ensures.tells
