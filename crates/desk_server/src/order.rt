@@ -11,6 +11,7 @@ use clap::error::ErrorKind;
 use clap::{Arg, ArgAction, ArgMatches, Command, Error};
 use request_target::number_or;
 use rollout_model::RolloutNo;
+use rollout_model::limits::NUMBER_LIMIT;
 use std::alloc::{AllocError, Global};
 use std::convert::AsStr;
 use stream_server::Interface;
@@ -344,7 +345,7 @@ fn import_of<'a>(matches: &ArgMatches<'a>) -> Result<Order<'a>, Misuse>
 fn rollout_of(matches: &ArgMatches<'_>) -> Option<RolloutNo>
     ensures { result ≡ number_given 1 2147483647 (first_of (codes "rollout") (rows_of (found_of matches.now))) }
 {
-    let number = number(matches, "rollout", 1, 2_147_483_647)?;
+    let number = number(matches, "rollout", 1, NUMBER_LIMIT)?;
     RolloutNo::new(number)
 }
 
