@@ -1,5 +1,5 @@
 -- Records of four fields, and fields that are no text.
-use Rattle.std.proofs.Common.{◌≡◌, ◌≢◌, ◌<◌, ◌≤◌, ◌==◌, ℕ, List, [], ◌∷◌, length, Bool, true, false, ◌&&◌, cond, Option, Some, None, refl, arith, nat_le, count_by, Bor, get_or, map, take, ◌+◌, ◌++◌, sym, ◌∙◌}
+use Rattle.std.proofs.Common.{◌≡◌, ◌<◌, ◌≤◌, ◌==◌, ℕ, List, [], ◌∷◌, length, Bool, true, false, cond, Option, Some, None, refl, arith, nat_le, count_by, Bor, get_or, map, take, ◌+◌, ◌++◌, sym, ◌∙◌}
 use Rattle.std.specs.List.{list_all, slice_split}
 use Rattle.std.proofs.lemmas.List.{map-append, take_more}
 use Rattle.std.proofs.lemmas.List.Folds.{list_all-map, list_all_at}
@@ -10,7 +10,7 @@ use Rattle.std.proofs.lemmas.Str.{IsUtf8-from_is_utf8}
 use Rattle.csv.specs.Records.{field_at}
 use Rattle.rollout_model.specs.Rules.{is_spelled, is_text, is_text_letter, is_token, is_word, tag_list_of, text_of, token_of, word_of}
 use Rattle.rollout_model.proofs.RuleLemmas.{both, spelled_is_utf8}
-use Rattle.desk_files.specs.TargetRecords.{row_of, tags_of, words_of}
+use Rattle.desk_files.specs.TargetRecords.{tags_of}
 
 pub four_are : (fs : List (List ℕ)) (a b c d : List ℕ) → length fs ≡ 4 → Some a ≡ field_at fs 0 → Some b ≡ field_at fs 1 → Some c ≡ field_at fs 2 → Some d ≡ field_at fs 3
     → fs ≡ a ∷ b ∷ c ∷ d ∷ []
@@ -21,14 +21,6 @@ four_are (w ∷ x ∷ []) a b c d four at0 at1 at2 at3 = absurd (omega arith)
 four_are (w ∷ x ∷ y ∷ []) a b c d four at0 at1 at2 at3 = absurd (omega arith)
 four_are (w ∷ x ∷ y ∷ z ∷ []) a b c d four at0 at1 at2 at3 = cc
 four_are (v ∷ w ∷ x ∷ y ∷ z ∷ more) a b c d four at0 at1 at2 at3 = absurd (omega arith)
-
-pub row_of-not_four : (fs : List (List ℕ)) → length fs ≢ 4 → row_of fs ≡ None
-row_of-not_four [] other = refl
-row_of-not_four (w ∷ []) other = refl
-row_of-not_four (w ∷ x ∷ []) other = refl
-row_of-not_four (w ∷ x ∷ y ∷ []) other = refl
-row_of-not_four (w ∷ x ∷ y ∷ z ∷ []) other = absurd (other refl)
-row_of-not_four (v ∷ w ∷ x ∷ y ∷ z ∷ more) other = refl
 
 refused : (v : Bool) (bs : List ℕ) → (v ≡ true → ⊥) → cond v (Some bs) None ≡ None
 refused true bs not_so = absurd (not_so refl)
@@ -53,19 +45,8 @@ is_word-none bs none = by (is_word bs) none
 
 -- ---- tags
 
-pub words_of-some : (field : List ℕ) → 0 < length field → words_of field ≡ slice_split (λ c. c == 32) field
-words_of-some [] some = absurd (omega arith)
-words_of-some (b ∷ bs) some = refl
-
 pub tag_list_of-many : (ws : List (List ℕ)) → 16 < length ws → tag_list_of ws ≡ None
 tag_list_of-many ws many = let few : nat_le (length ws) 16 ≡ false = grind (arith, nat_tests) in rw few refl
-
-pub tag_list_of-no_words : (ws : List (List ℕ)) → list_all is_word ws ≡ false → tag_list_of ws ≡ None
-tag_list_of-no_words ws none = rw none (by (nat_le (length ws) 16))
-  where
-    by : (v : Bool) → cond (v && false) (Some ws) None ≡ None
-    by true = refl
-    by false = refl
 
 -- a field with 16 spaces has more than 16 tags
 pub tags_of-many : (field : List ℕ) → 16 ≤ count_by (λ b. b == 32) field → tags_of field ≡ None

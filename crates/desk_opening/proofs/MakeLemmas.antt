@@ -57,13 +57,6 @@ pub record HasMade (old new : State) (n : ℕ) : Type 0 where
   pub wears : Wears old new
   pub made : Changes HoldsStage old Free Free → Changes HoldsStage new (Partly (take n places) (drop n places)) Free
 
-pub none_made : (s : State) → HasMade s s 0
-none_made s = record {
-  wears = omega arith;
-  made = λ was clean. let first = was clean in
-      record { mode = first.mode; is_open = first.is_open; now_holds = (first.now_holds.0, tt, first.now_holds.1); kept_holds = first.kept_holds; crash = first.crash };
-}
-
 module _ (old a b : State) (n : ℕ) (so_far : HasMade old a n) (d : DeskTable) (within : n < length all_tables) where
   abbrev next : Place
   next = place_of (get_or all_tables n d)
@@ -85,12 +78,6 @@ module _ (old a b : State) (n : ℕ) (so_far : HasMade old a n) (d : DeskTable) 
   not_made fault text is h (Err f) bad =
       let ran = subst (λ sql. RunsText a b sql [] (Err fault)) is h in
       record { wears = omega (arith, so_far.wears, h.survives.clean); makes = λ was. has_no_table next (take n places) (drop (n + 1) places) a b (comes_next was) fault ran }
-
-pub whole_made : {F : Type 0} (old new : State) (n : ℕ) → take n places ≡ places → drop n places ≡ [] → HasMade old new n → MakesTables {A = Unit {0}} {E = F} old new (Ok tt)
-whole_made old new n all none h = record {
-  wears = h.wears;
-  makes = λ was. subst (λ made. Changes HoldsStage new (Partly made []) Free) all (subst (λ left. Changes HoldsStage new (Partly (take n places) left) Free) none (h.made was));
-}
 
 -- ---- the whole
 

@@ -19,8 +19,8 @@ use Rattle.desk_records.specs.declared.texts.TheConstants.{GET_DESK}
 use Rattle.desk_records.proofs.Meaning.{desk_query, get_desk_is}
 use Rattle.desk_opening.specs.declared.opening.OpenFault.{OpenFault}
 use Rattle.desk_opening.specs.declared.opening.OpenFault.TheVariants.{NotDesk}
-use Rattle.desk_opening.specs.Opening.{Keeps, Adopts, HasDeskTables, HasNoRow, HasRow, LacksDesk, IsFailure, Tells}
-use Rattle.desk_opening.proofs.RowLemmas.{tells_on, tells_failure}
+use Rattle.desk_opening.specs.Opening.{Keeps, Adopts, HasDeskTables, HasNoRow, HasRow, LacksDesk, Tells}
+use Rattle.desk_opening.proofs.RowLemmas.{tells_on}
 
 knows_row : (db : Database) (r : Records) → HoldsRecords db r → Known db.schema GET_DESK.now
 knows_row db r holds = record { command = Select (record { lets = []; body = desk_query (holds.spot Desk).tree }) _; means = get_desk_is db.schema (holds.spot Desk).at (holds.spot Desk).tree (holds.stands Desk) }
@@ -32,10 +32,6 @@ LeavesAll a z = (r : Records) → Rests HoldsRecords a r → HasCleanDisk z → 
 pub keeps_err : {A E : Type 0} (a z : State) → Wears a z → LeavesAll a z → (out : Result A E) → IsErr out → Keeps a z out
 keeps_err a z wears leaves (Ok x) bad = absurd (cc)
 keeps_err a z wears leaves (Err e) bad = record { wears = wears; keeps = leaves }
-
-pub keeps_same : {A B E F : Type 0} (a z : State) (e : E) → Keeps {A = A} a z (Err e) → (out : Result B F) → IsErr out → Keeps a z out
-keeps_same a z e h (Ok x) bad = absurd (cc)
-keeps_same a z e h (Err f) bad = record { wears = h.wears; keeps = h.keeps }
 
 -- what stands is what every crash leaves
 pub leaves_still : {A E : Type 0} (a z : State) (x : A) → Keeps {E = E} a z (Ok x) → LeavesAll a z
@@ -71,13 +67,6 @@ keeps_either a z x h (Ok y) = record { wears = h.wears; keeps = h.keeps }
 keeps_either a z x h (Err f) = record { wears = h.wears; keeps = leaves_still a z x h }
 
 -- ---- the connection is given back
-
--- nothing was asked of it
-pub adopts_none : (A : Type 0) (s : State) (e : OpenFault) → Tells {A = A} (HasRow s.now) (LacksDesk s.now) (Err e) → Adopts {A = A} s s (Err e)
-adopts_none A s e tells = record { keeps = record { wears = omega arith; keeps = λ r was clean db left. (was clean).crash db left }; tells = λ _. tells }
-
-pub adopts_failed : (A : Type 0) (s : State) (e : OpenFault) → IsFailure e → Adopts {A = A} s s (Err e)
-adopts_failed A s e fails = adopts_none A s e (tells_failure A (HasRow s.now) (LacksDesk s.now) e fails)
 
 -- a connection that was wrapped is the same
 module _ {X B : Type 0} (view : X → State) (old first last given : X) (same : first ≡ old) (is : given ≡ last) (table : StandsSomewhere (view old).now.schema (desk_table 0)) (out : Result B OpenFault)

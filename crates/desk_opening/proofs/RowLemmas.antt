@@ -1,5 +1,5 @@
 -- What the query of the row of `desk` reads.
-use Rattle.std.proofs.Common.{◌≡◌, ◌≢◌, ◌<◌, ◌<ℤ◌, ◌⊎◌, ◌&&◌, inl, inr, ℕ, ℤ, zero, suc, length, pos, Bool, true, false, List, [], ◌∷◌, cond, map, filter, codes, Option, Some, None, Ok, Err, Result, refl, sym, subst, ◌∙◌, arith}
+use Rattle.std.proofs.Common.{◌≡◌, ◌≢◌, ◌<◌, ◌⊎◌, ◌&&◌, inl, inr, ℕ, zero, suc, length, pos, Bool, true, false, List, [], ◌∷◌, cond, map, filter, codes, Option, Some, None, Ok, Err, Result, refl, sym, subst, ◌∙◌, arith}
 use Rattle.sqlite_value.specs.declared.value.Value.{Value}
 use Rattle.sqlite_value.specs.declared.value.Value.TheVariants.{Null, Int, Real, Text, Blob}
 use Rattle.sqlite_value.specs.Order.{Row, column, value_cmp}
@@ -25,7 +25,7 @@ use Rattle.desk_records.proofs.MeaningWords.{is_equal}
 use Rattle.desk_records.proofs.Meaning.{get_desk_is}
 use Rattle.desk_opening.specs.declared.opening.OpenFault.{OpenFault}
 use Rattle.desk_opening.specs.declared.opening.OpenFault.TheVariants.{NotDesk, NewerVersion, Memory, Store}
-use Rattle.desk_opening.specs.Opening.{HasNoRow, HasRow, ReadsRow, Tells, IsDeskRow, IsNewerRow, IsOtherRow, IsFailure}
+use Rattle.desk_opening.specs.Opening.{HasNoRow, HasRow, ReadsRow, Tells, IsDeskRow, IsNewerRow, IsOtherRow}
 
 judged : (b : Bool) → is_true (from_truth (Some b)) ≡ b
 judged true = refl
@@ -139,12 +139,6 @@ tells_read db found row out is reads stands told = tells_row db row out (subst (
 pub tells_none : (db : Database) (found : Option Row) → found ≡ None → ReadsRow db found → StandsSomewhere db.schema (desk_table 0) → HasRow db IsOtherRow ⊎ HasNoRow db
 tells_none db found is reads stands = inr (subst (ReadsRow db) is reads stands)
 
-pub tells_failure : (A : Type 0) (Says : (Row → Type 0) → Type 0) (Lacks : Type 0) (e : OpenFault) → IsFailure e → Tells {A = A} Says Lacks (Err e)
-tells_failure A Says Lacks NotDesk fails = absurd fails
-tells_failure A Says Lacks NewerVersion fails = absurd fails
-tells_failure A Says Lacks Memory fails = tt
-tells_failure A Says Lacks Store fails = tt
-
 -- the same of another call, which may lack more
 pub tells_on : (A B : Type 0) (Says : (Row → Type 0) → Type 0) (Lacks More : Type 0) → (Lacks → More) → (e : OpenFault) → Tells {A = A} Says Lacks (Err e) → Tells {A = B} Says More (Err e)
 tells_on A B Says Lacks More more NotDesk (inl told) = inl told
@@ -160,16 +154,3 @@ pub within_row : (row : Row) (at : ℕ) (v : Value) → column row at ≡ v → 
 within_row [] at v is some = absurd (some (sym is))
 within_row (x ∷ row) zero v is some = omega arith
 within_row (x ∷ row) (suc at) v is some = let more = within_row row at v is some in omega (arith, more)
-
-pub reads_number : (row : Row) (n m : ℤ) → column row 1 ≡ Int n → column row 1 ≡ Int m → n ≡ m
-reads_number row n m h k = let same : Int n ≡ Int m = sym h ∙ k in cc
-
--- a version of 1 or above 1
-pub other_version : (row : Row) (n : ℤ) → column row 1 ≡ Int n → n ≢ pos 1 → ¬ (pos 1 <ℤ n) → IsOtherRow row
-other_version row n is one above = (λ desk. one (reads_number row n (pos 1) is desk.version), λ newer. above (subst (λ (m : ℤ). pos 1 <ℤ m) (reads_number row newer.number n newer.version is) newer.later))
-
-pub other_format : (row : Row) → column row 0 ≢ Text (codes "fwdesk") → IsOtherRow row
-other_format row other = (λ desk. other desk.format, λ newer. other newer.format)
-
-pub no_version : (row : Row) → ((n : ℤ) → column row 1 ≢ Int n) → IsOtherRow row
-no_version row none = (λ desk. none (pos 1) desk.version, λ newer. none newer.number newer.version)

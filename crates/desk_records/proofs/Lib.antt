@@ -30,6 +30,7 @@ pub mod LedgerWrites
 pub mod OfferWrites
 pub mod PartWrites
 pub mod DeskRecords
+pub mod DetailLines
 pub mod EntryRecords
 pub mod NextOfferRecords
 pub mod GroupOffersMeaning

@@ -1,9 +1,10 @@
 //! The rows of entries of histories.
 
-ghost use Rattle.std.specs.Prelude.{◌≡◌, IfOk, IfSome, []};
+ghost use Rattle.std.specs.Prelude.{◌≡◌, ◌⊎◌, IfOk, IfErr, IfSome, IfNone, None, length, nat_eq, if◌then◌else◌};
 ghost use Rattle.sqlite_value.specs.Order.{column};
 ghost use Rattle.desk_records.specs.Actions.{lines_of};
-ghost use Rattle.desk_records.specs.EntryRow.{IsEntryRow, cancel_in, deployment_in};
+ghost use Rattle.rollout_model.specs.Rules.{details_of};
+ghost use Rattle.desk_records.specs.EntryRow.{BreaksEntry, HasNoDetails, IsEntryRow, cancel_in, deployment_in};
 ghost use Rattle.desk_records.specs.ModuleRow.{StoredText};
 
 use crate::artifact_row::number_at;
@@ -18,7 +19,8 @@ use std::str;
 
 /// The entry in a row of kind, word and details.
 pub fn read_entry(alloc: Global, row: &Row) -> Result<HistoryEntry, RowFault>
-    ensures { IfOk result (IsEntryRow row.now) }
+    ensures ok { IfOk result (IsEntryRow row.now) }
+    ensures err { IfErr result (λ e. (e ≡ RowFault.Memory) ⊎ ((c : _) × (e ≡ RowFault.Broken c) × BreaksEntry row.now c)) }
 {
     let is_of_cancel = flag_at(row, 0).ok_or(RowFault::Broken(Column::EntryKind))?;
     if is_of_cancel {
@@ -63,7 +65,8 @@ fn cancel_word_at(row: &Row, at: usize) -> Option<CancelWord>
 
 /// The details of a column.
 fn details_at(alloc: Global, row: &Row, at: usize) -> Result<Details, RowFault>
-    ensures { IfOk result (λ details. column row.now at ≡ StoredText (lines_of details)) }
+    ensures ok { IfOk result (λ details. column row.now at ≡ StoredText (lines_of details)) }
+    ensures err { IfErr result (λ e. (e ≡ RowFault.Memory) ⊎ ((e ≡ RowFault.Broken Column.EntryDetails) × HasNoDetails (column row.now at))) }
 {
     let broken = RowFault::Broken(Column::EntryDetails);
     let Ok(ValueRef::Text(text)) = row.get_ref(at) else {
@@ -81,7 +84,8 @@ fn details_at(alloc: Global, row: &Row, at: usize) -> Result<Details, RowFault>
 
 /// The lines of a text, each ended by a line feed; `None` where they are no details.
 fn read_lines(alloc: Global, text: &str) -> Result<Option<Details>, AllocError>
-    ensures { IfOk result (λ found. IfSome found (λ details. lines_of details ≡ text.now)) }
+    ensures some { IfOk result (λ found. IfSome found (λ details. lines_of details ≡ text.now)) }
+    ensures none { IfOk result (λ found. IfNone found (HasNoDetails (StoredText text.now))) }
 {
     let mut lines = Vec::new(alloc);
     let mut rest = text;
@@ -100,8 +104,7 @@ fn read_lines(alloc: Global, text: &str) -> Result<Option<Details>, AllocError>
 
 /// The lines as details, where nothing is left.
 fn details_of(lines: Vec<Detail>, rest: &str) -> Option<Details>
-    ensures whole { IfSome result (λ details. details ≡ lines.items) }
-    ensures nothing { IfSome result (λ details. rest.now ≡ []) }
+    ensures { result ≡ (if nat_eq (length rest.now) 0 then details_of lines.items else None) }
 {
     if !rest.is_empty() {
         return None;

@@ -31,7 +31,7 @@ use Rattle.desk_records.specs.Rollouts.{approval_code, flag}
 use Rattle.desk_records.specs.Schema.{Place, name_of, table_at}
 use Rattle.desk_records.proofs.RolloutRecords.{shown_group}
 use Rattle.desk_records.proofs.ActionRecords.{shown_action, told_listed, told_offer}
-use Rattle.desk_records.proofs.EntryRecords.{same_details}
+use Rattle.desk_records.proofs.DetailLines.{same_details}
 use Rattle.desk_store.specs.Rows.{AreReadAs}
 
 -- what a text means wherever the table stands

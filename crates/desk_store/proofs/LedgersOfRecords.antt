@@ -1,5 +1,5 @@
 -- Calls on ledgers, said of records: the tables hold the ledger of the records before a command and after it.
-use Rattle.std.proofs.Common.{◌≡◌, Result, Ok, Err, subst}
+use Rattle.std.proofs.Common.{◌≡◌, Result, Ok, Err}
 use Rattle.sqlite.specs.Effect.{Database}
 use Rattle.sqlite.specs.State.{State}
 use Rattle.sql_calls.specs.Standing.{Reads, ReadsTo, Writes, WritesTo, Changes, Spoils}
@@ -44,13 +44,6 @@ module _ {R Q : Type 0} (Holds : Database → R → Type 0) (f : Q → R) where
 pub ledger_read : {A E : Type 0} (old new : State) (out : Result A E) (Answer : Ledger → A → Type 0) → Reads HoldsLedger old new out Answer → Reads HoldsRecords old new out (λ r a. Answer (ledger_of r) a)
 ledger_read = reads_made HoldsLedger ledger_of
 
-pub ledger_written : {A E : Type 0} (old new : State) (out : Result A E) (Change : Ledger → Ledger → Type 0) → Writes HoldsLedger old new out Change → Writes HoldsRecords old new out (λ r next. Change (ledger_of r) (ledger_of next))
-ledger_written = writes_made HoldsLedger ledger_of
-
 -- ledgers that offer the same, id by id, are the same
 pub same_ledger : (l m : Ledger) → l.records ≡ m.records → l.tallies ≡ m.tallies → ((id : Bytes) → l.offers id ≡ m.offers id) → l ≡ m
 same_ledger l m records tallies offers = λ i. record { records = records i; tallies = tallies i; offers = λ id. offers id i }
-
--- and where one is held the other is
-pub held_alike : (db : Database) (l m : Ledger) → l.records ≡ m.records → l.tallies ≡ m.tallies → ((id : Bytes) → l.offers id ≡ m.offers id) → HoldsLedger db l → HoldsLedger db m
-held_alike db l m records tallies offers = subst (HoldsLedger db) (same_ledger l m records tallies offers)

@@ -6,10 +6,10 @@ use Rattle.std.specs.Str.Parse.{digits_value}
 use Rattle.std.proofs.lemmas.Bool.{cond_both}
 use Rattle.std.proofs.lemmas.Result.{IfErr-at_err}
 use Rattle.httparse.proofs.GrammarLemmas.{request_unique}
-use Rattle.rollout_model.specs.Limits.{head_length_limit, field_limit, body_length_limit}
+use Rattle.rollout_model.specs.Limits.{field_limit, body_length_limit}
 use Rattle.http_wire.specs.Faults.{WireFault}
 use Rattle.http_wire.specs.Faults.{TooLarge, BadHead, BadLength, HeadTooLarge, BadCoding}
-use Rattle.http_wire.specs.Regions.{HasRegion, HasNoRegion, HasFewFields, line_ends}
+use Rattle.http_wire.specs.Regions.{HasRegion, HasFewFields, line_ends}
 use Rattle.http_wire.specs.Heads.{FieldLine, HeadParts, SpellsHead, NameAndValue, name_and_value}
 use Rattle.http_wire.specs.BodyLengths.{body_length, is_digits, length_of, length_by, unless_coded}
 use Rattle.http_wire.specs.Fields.{fields_named}
@@ -100,15 +100,6 @@ body_fault region m t fs BadLength head err = (m, t, fs, head, err)
 body_fault region m t fs BadCoding head err = (m, t, fs, head, err)
 
 -- ---- what stands at the front
-
-pub no_region_undecided : (bytes : List ℕ) → HasNoRegion bytes → length bytes < head_length_limit → IsUndecided bytes
-no_region_undecided bytes none short = record {
-  no_message = λ m rest message. none _ _ message.has;
-  no_fault = λ f fault. elim fault [
-    | inl bad ↦ none _ _ bad.2
-    | inr long ↦ absurd (omega (arith, long.1))
-  ];
-}
 
 pub missing_body : (bytes region after m t : List ℕ) (fs : List NameAndValue) (n : ℕ) → HasRegion bytes region after → IsGood region m t fs n
     → length after < n → IsUndecided bytes

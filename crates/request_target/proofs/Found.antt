@@ -222,9 +222,6 @@ walk_found {K} (suc n) rs (b ∷ p) short bytes plain =
 pub first_found : {K : Type 0} (rs : RowsOf K) (path : List ℕ) → all_bytes path ≡ true → all_plain rs ≡ true → Found (λ t. meets t path) rs (first rs path)
 first_found rs path bytes plain = walk_found (length path) rs path (omega arith) bytes plain
 
-pub some_found : {K : Type 0} (rs : RowsOf K) (path : List ℕ) (k : K) → all_bytes path ≡ true → all_plain rs ≡ true → first rs path ≡ Some k → (t : List ℕ) × In t k rs × (meets t path ≡ true)
-some_found {K} rs path k bytes plain e = subst (Found (λ t. meets t path) rs) e (first_found rs path bytes plain)
-
 pub none_found : {K : Type 0} (rs : RowsOf K) (path : List ℕ) → all_bytes path ≡ true → all_plain rs ≡ true → first rs path ≡ None → (t : List ℕ) (k : K) → In t k rs → meets t path ≡ true → ⊥
 none_found {K} rs path bytes plain e = subst (Found (λ t. meets t path) rs) e (first_found rs path bytes plain)
 

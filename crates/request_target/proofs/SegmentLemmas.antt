@@ -1,5 +1,5 @@
 -- The first segment of a path, and the segment at a place.
-use Rattle.std.proofs.Common.{◌≡◌, ◌<◌, ◌+◌, ℕ, suc, List, [], ◌∷◌, ◌++◌, length, take, drop, get_or, Bool, true, false, not, ◌==◌, Option, None, refl, sym, ap, ◌∙◌, arith}
+use Rattle.std.proofs.Common.{◌≡◌, ◌<◌, ◌+◌, ℕ, suc, List, [], ◌∷◌, ◌++◌, length, take, drop, get_or, Bool, true, false, not, ◌==◌, None, refl, sym, ap, ◌∙◌, arith}
 use Rattle.std.specs.Prelude.{slice_get}
 use Rattle.std.specs.List.{list_all}
 use Rattle.std.proofs.lemmas.Bool.{false≢true}
@@ -36,10 +36,6 @@ cut t k l e h =
     let one : k + 1 ≡ suc k = omega arith in
     let whole : t ≡ take k t ++ 47 ∷ drop (k + 1) t = sym (take-append-drop k t) ∙ ap (λ y. take k t ++ y) (drop-cons t k 0 l ∙ ap (λ b. b ∷ drop (suc k) t) e ∙ ap (λ n. 47 ∷ drop n t) (sym one)) in
     ap segments whole ∙ first_segment (take k t) (drop (k + 1) t) h
-
--- behind the first segment
-pub later_segment : (path first rest : List ℕ) (place before : ℕ) (o : Option (List ℕ)) → segments path ≡ first ∷ segments rest → place ≡ suc before → o ≡ slice_get (segments rest) before → o ≡ slice_get (segments path) place
-later_segment path first rest place before o is next found = found ∙ sym (ap (λ n. slice_get (segments path) n) next ∙ ap (λ (s : List (List ℕ)). slice_get s (suc before)) is)
 
 pub none_later : (path : List ℕ) (place before : ℕ) → segments path ≡ path ∷ [] → place ≡ suc before → None ≡ slice_get (segments path) place
 none_later path place before is next = later_none ∙ sym (ap (λ n. slice_get (segments path) n) next ∙ ap (λ (s : List (List ℕ)). slice_get s (suc before)) is)

@@ -41,10 +41,6 @@ abbrev IsTail : List ℕ → Type 0
 IsTail [] = Unit {0}
 IsTail (x ∷ t) = x ≡ 47
 
-false_and : (a : Bool) → (a && false) ≡ false
-false_and true = refl
-false_and false = refl
-
 and_assoc : (a b c : Bool) → (a && (b && c)) ≡ ((a && b) && c)
 and_assoc true b c = refl
 and_assoc false b c = refl

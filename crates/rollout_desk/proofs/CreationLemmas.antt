@@ -106,9 +106,6 @@ all_chosen r sorted f count entries size listed ids is =
 pub by_filter : (text : Bytes) (r : Records) (f : Tree) (found : Chosen) → filter_of text ≡ Some f → found.bad_filter ≡ false → found.members.items ≡ chosen (Some f) r.targets → IsChosen text r found
 by_filter text r f found tree good members = record { bad_filter = good ∙ sym (ap is_none tree); members = members ∙ sym (ap (λ o. chosen o r.targets) tree) }
 
-pub by_none : (text : Bytes) (r : Records) (found : Chosen) → filter_of text ≡ None → found.bad_filter ≡ true → found.members.items ≡ [] → IsChosen text r found
-by_none text r found none bad members = record { bad_filter = bad ∙ sym (ap is_none none); members = members ∙ sym (ap (λ o. chosen o r.targets) none) }
-
 pub set_missing : (r : Records) (number last : ℕ) → 1 ≤ number → last ≡ length r.sets → nat_lt last number ≡ is_none (item_numbered r.sets number)
 set_missing r number last least size = ap (λ n. nat_lt n number) size ∙ sym (past_is_missing r.sets number least)
 

@@ -103,9 +103,6 @@ too_many row r left none is room = (nothing (target_of r row.id) is, omega (arit
   nothing None is = refl
   nothing (Some t) is = absurd (cc)
 
-pub room_known : (left : ℕ) (r : Records) → LeavesRoom (Some left) r left
-room_known left r room = room
-
 pub room_counted : (count room : ℕ) (r : Records) → count ≡ length r.targets → room ≡ 10000 - count → LeavesRoom None r room
 room_counted count room r size is few = omega (arith, size, is, few)
 

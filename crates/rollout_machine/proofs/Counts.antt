@@ -40,13 +40,6 @@ none_up_to p (suc n) h =
     let here : p (suc n) ≡ false = h (suc n) (omega arith) (omega arith) in
     rw (before, here) refl
 
-pub same_up_to : (p q : ℕ → Bool) (n : ℕ) → ((i : ℕ) → 1 ≤ i → i ≤ n → p i ≡ q i) → some_up_to p n ≡ some_up_to q n
-same_up_to p q zero h = refl
-same_up_to p q (suc n) h =
-    let before : some_up_to p n ≡ some_up_to q n = same_up_to p q n (λ i l u. h i l (omega arith)) in
-    let here : p (suc n) ≡ q (suc n) = h (suc n) (omega arith) (omega arith) in
-    cc (before, here)
-
 pub one_up_to : (p : ℕ → Bool) (n k : ℕ) → 1 ≤ k → k ≤ n → ((i : ℕ) → 1 ≤ i → i ≤ n → (i ≡ k → ⊥) → p i ≡ false) → some_up_to p n ≡ p k
 one_up_to p zero k l u h = absurd (omega arith)
 one_up_to p (suc n) k l u h = elim (cases_eq k (suc n)) [

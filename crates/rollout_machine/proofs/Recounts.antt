@@ -61,10 +61,6 @@ others_none : (P : ActionPlace → Bool) (r q : ℕ) (o : Option Rollout) → On
 others_none P r q None only ne = refl
 others_none P r q (Some x) only ne = of_others P q 1 (size_of x) (λ j. only q j ne)
 
-or_other : (a b : Bool) → b ≡ false → (a || b) ≡ a
-or_other true b e = refl
-or_other false b e = e
-
 pub stays_there : (h : CommandList) (c : Command) (r : ℕ) (x : Rollout) → rollout_at h r ≡ Some x → rollout_at (h ▸ c) r ≡ Some x
 stays_there h c r x e = stays_numbered (rollouts h) (created h c) r x e
 

@@ -15,7 +15,7 @@ use Rattle.rollout_machine.specs.StoreFailures.{is_failed_store, is_store}
 use Rattle.rollout_machine.specs.Verdicts.{verdict, check, verdict_row, first_refusal, is_known, target_of}
 use Rattle.rollout_model.specs.declared.refusal.Refusal.{Refusal}
 use Rattle.rollout_model.specs.declared.refusal.Refusal.TheVariants.{StoreFailed, NotFound, Unauthorized}
-use Rattle.std.proofs.Common.{◌≡◌, ◌≢◌, ◌⊎◌, inl, inr, Bool, true, false, List, [], ◌∷◌, ℕ, Option, Some, None, refl, ap, sym, subst, length, ◌∙◌}
+use Rattle.std.proofs.Common.{◌≡◌, ◌≢◌, Bool, true, false, List, [], ◌∷◌, ℕ, Option, Some, None, refl, ap, sym, subst, length, ◌∙◌}
 use Rattle.std.specs.Prelude.{cond, not, ◌&&◌, nat_eq}
 use Rattle.std.specs.List.{list_any}
 use Rattle.std.proofs.lemmas.Bool.{false≢true, and_parts}
@@ -31,13 +31,6 @@ failed_true _ e = absurd (false≢true e)
 -- a reply by the test
 pub no_store_reply : (reply : Reply) → is_failed_store reply ≡ false → reply ≢ Refused StoreFailed
 no_store_reply reply never e = false≢true (sym never ∙ ap is_failed_store e)
-
--- a reply is a failed store, or it isn't
-pub store_or_not : (reply : Reply) → (reply ≡ Refused StoreFailed) ⊎ (reply ≢ Refused StoreFailed)
-store_or_not reply = go (is_failed_store reply) refl where
-  go : (b : Bool) → is_failed_store reply ≡ b → (reply ≡ Refused StoreFailed) ⊎ (reply ≢ Refused StoreFailed)
-  go true e = inl (failed_true reply e)
-  go false e = inr (no_store_reply reply e)
 
 -- ---- verdicts
 

@@ -1,5 +1,5 @@
 -- The table of refusals: number, name, status, and whether the connection ends.
-use Rattle.std.specs.Prelude.{ℕ, Bool, true, false, List, [], ◌∷◌, codes}
+use Rattle.std.specs.Prelude.{ℕ, Bool, true, false, List, codes}
 pub use Rattle.rollout_model.specs.declared.refusal.Refusal.{Refusal}
 pub use Rattle.rollout_model.specs.declared.refusal.Refusal.TheVariants.{BadRequest, Unauthorized, NotFound, BadMethod, Exists, Locked, WrongState, ClosedAction, TooLarge, Quota, BadFilter, TooFewTargets, WrongDigest, BadImportLine, NoMemory, StoreFailed, Stopped, BadHead, BadLength, HeadTooLarge, BadCoding}
 
@@ -31,7 +31,3 @@ refusal_row BadHead = record { number = 18; name = codes "head"; status = 400; e
 refusal_row BadLength = record { number = 19; name = codes "length"; status = 400; ends = true }
 refusal_row HeadTooLarge = record { number = 20; name = codes "head_size"; status = 431; ends = true }
 refusal_row BadCoding = record { number = 21; name = codes "coding"; status = 501; ends = true }
-
--- every refusal, in the order of the numbers; an import's with some line
-abbrev pub all_refusals : List Refusal
-all_refusals = BadRequest ∷ Unauthorized ∷ NotFound ∷ BadMethod ∷ Exists ∷ Locked ∷ WrongState ∷ ClosedAction ∷ TooLarge ∷ Quota ∷ BadFilter ∷ TooFewTargets ∷ WrongDigest ∷ BadImportLine 2 ∷ NoMemory ∷ StoreFailed ∷ Stopped ∷ BadHead ∷ BadLength ∷ HeadTooLarge ∷ BadCoding ∷ []

@@ -1,16 +1,15 @@
 -- What CREATE TABLE and CREATE INDEX do, for any schema.
-use Rattle.std.proofs.Common.{[], ◌≡◌, ℕ, List, slice_get, false, Some, None, Ok, sym, ap, subst, ◌∙◌}
+use Rattle.std.proofs.Common.{[], ◌≡◌, ℕ, List, false, None, Ok, sym, ap, subst, ◌∙◌}
 use Rattle.sqlite.specs.Order.{Row}
 use Rattle.sqlite.specs.Table.{Table}
 use Rattle.sqlite.specs.Schema.{Schema}
-use Rattle.sqlite.specs.Command.TheVariants.{CreateTable, CreateIndex}
+use Rattle.sqlite.specs.Command.TheVariants.{CreateTable}
 use Rattle.sqlite.specs.Change.{created, indexed, next_tree, KeepsRows}
 use Rattle.sqlite_schema.specs.declared.schema.Index.{Index}
-use Rattle.sqlite_resolve.specs.Compile.{index_defined_by}
 use Rattle.sqlite.specs.Compile.{table_defined_by}
-use Rattle.sqlite.specs.Does.{Tally, Does, lacks_sequence}
+use Rattle.sqlite.specs.Does.{Tally, lacks_sequence}
 use Rattle.sqlite.specs.Effect.{Database}
-use Rattle.sqlite.specs.State.{State, mode_of, Writes}
+use Rattle.sqlite.specs.State.{State, Writes}
 use Rattle.sql_calls.proofs.Inserts.{went, same_value}
 
 pub record Created (schema : Schema) (table : Table) (old new : Database) : Type 0 where
@@ -40,17 +39,3 @@ creates schema table text defined plain old new has params count w =
 pub record IndexCreated (schema : Schema) (table : Table) (index : Index) (old new : Database) : Type 0 where
   pub schema_is : new.schema ≡ indexed schema table index
   pub others : KeepsRows schema.tables old.trees new.trees
-
-pub creates_index : (schema : Schema) (at : ℕ) (table : Table) (index : Index) (text : List ℕ) → slice_get schema.tables at ≡ Some table → index_defined_by table text ≡ Ok index
-    → (old new : State) → old.now.schema ≡ schema → (params : Row) (count : ℕ) → Writes old new None (CreateIndex at) text params count → IndexCreated schema table index old.now new.now
-creates_index schema at table index text there defined old new has params count w =
-    let on = subst (λ s. Does old.step_limit (mode_of old) params (record old.now { schema = s }) text None (CreateIndex at) (Ok (w.tally, new.now))) has w.changed in
-    let all = went (rw there at on) in
-    let made = all.1 in
-    let both : Ok made.index ≡ Ok index = sym made.defined ∙ defined in
-    let same : made.index ≡ index = cc in
-    let now : new.now ≡ all.0 = ap (λ (p : Tally × Database). p.1) (same_value all.2) in
-    record {
-      schema_is = ap (λ (d : Database). d.schema) now ∙ made.is ∙ ap (indexed schema table) same;
-      others = subst (λ (d : Database). KeepsRows schema.tables old.now.trees d.trees) (sym now) made.rows;
-    }

@@ -11,7 +11,7 @@ use Rattle.sqlite_schema.specs.declared.schema.Index.{Index}
 use Rattle.sqlite_schema.specs.Names.{same_name}
 use Rattle.sqlite_trees.specs.Objects.{catalog_tree}
 use Rattle.sqlite_trees.specs.Tree.{IsAscending}
-use Rattle.sqlite_catalog.specs.Listing.{IsSound, IsTableRow, IsIndexRow, IsViewRow, IsDefined, automatic, is_index_row, is_view_row}
+use Rattle.sqlite_catalog.specs.Listing.{IsSound, IsTableRow, IsIndexRow, IsDefined, automatic, is_index_row}
 use Rattle.sqlite_catalog.proofs.StepLemmas.{same_itself, named_once}
 use Rattle.sqlite_catalog.proofs.AlterLemmas.{numbers_differ}
 
@@ -22,11 +22,6 @@ zip_same R one [] (x ∷ xs) ys h k = absurd h
 zip_same R one (a ∷ rs) [] ys h k = absurd h
 zip_same R one (a ∷ rs) (x ∷ xs) [] h k = absurd k
 zip_same R one (a ∷ rs) (x ∷ xs) (y ∷ ys) h k = let same = one a x y h.0 k.0 in let more = zip_same R one rs xs ys h.1 k.1 in cc
-
-zip_none : {A B C : Type 0} (R : A → B → Type 0) (S : A → C → Type 0) (rs : List A) (xs : List C) → AllZip R rs [] → AllZip S rs xs → xs ≡ []
-zip_none R S [] [] h k = refl
-zip_none R S [] (x ∷ xs) h k = absurd k
-zip_none R S (a ∷ rs) xs h k = absurd h
 
 one_table : (row : Row) (s t : Table) → IsTableRow row s → IsTableRow row t → s ≡ t
 one_table row s t h k =
@@ -80,14 +75,3 @@ same_indexes s z db h k =
     let mine = k.lists.listed in
     let found = subst (λ ts. AllZip (IsIndexRow ts) (filter is_index_row (db catalog_tree)) s.indexes) (same_tables s z db h k) h.lists.listed.indexes in
     zip_same (IsIndexRow z.tables) (one_index z.tables mine.named) _ s.indexes z.indexes found mine.indexes
-
--- Trees list one schema alone, with whatever indexes, where there is no view.
-pub one_schema : (schema s : Schema) (db : Trees) → schema.views ≡ [] → IsSound schema db → IsSound s db → s ≡ schema
-one_schema schema s db no_view own other =
-    let mine = own.lists.listed in
-    let found = other.lists.listed in
-    let tables = same_tables s schema db other own in
-    let indexes = same_indexes s schema db other own in
-    let views : s.views ≡ [] = zip_none _ _ _ s.views (subst (AllZip IsViewRow (filter is_view_row (db catalog_tree))) no_view mine.views) found.views in
-    ap (λ ts. let it : Schema = record s { tables = ts } in it) tables ∙ ap (λ is. let it : Schema = record { tables = schema.tables; indexes = is; views = s.views } in it) indexes
-    ∙ ap (λ vs. let it : Schema = record { tables = schema.tables; indexes = schema.indexes; views = vs } in it) (views ∙ sym no_view)

@@ -3,9 +3,7 @@ use Rattle.sqlite.specs.Collation.TheVariants.{Binary}
 use Rattle.std.specs.Prelude.{Bool, Option, true, false, [], List, ℕ}
 use Rattle.sqlite_value.specs.declared.value.Value.TheVariants.{Null}
 use Rattle.sqlite_value.specs.declared.keys.Order.{Order}
-use Rattle.sqlite_value.specs.Keys.{plain}
 use Rattle.sqlite_schema.specs.declared.schema.Column.{Column}
-use Rattle.sqlite_schema.specs.declared.schema.Index.{Index}
 use Rattle.sqlite.specs.Table.{Table}
 use Rattle.sqlite.specs.Kind.{Kind}
 
@@ -29,7 +27,3 @@ table_of name tree columns key primary uniques orders = record {
   stamps = record { places = []; terms = []; formats = [] };
   is_counted = false;
 }
-
--- what CREATE INDEX makes
-abbrev pub index_of : List ℕ → ℕ → ℕ → List ℕ → Index
-index_of name tree table columns = record { name = name; tree = tree; table = table; columns = columns; order = plain; is_unique = false }

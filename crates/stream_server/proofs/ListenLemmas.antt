@@ -52,10 +52,6 @@ keeps_on interface old new stream unread out out_new outcome told clean headline
   stays = λ stop. (stopped stop).stays;
 }
 
--- none yet
-pub on_nil : {A : Type 0} {File : Type 0} (s : DeskState File) (count : A) → KeepsOn s s (Ok count)
-on_nil s count = record { clean = λ clean. clean; keeps = λ h clean keeps. keeps; store = tt; stays = stays s }
-
 -- some and then one more, of which this is told
 pub on_append : {A B C : Type 0} {File : Type 0} (s t u : DeskState File) (count : A) (next : Result B ListenFault) (told : Result C ListenFault)
     → KeepsOn s t (Ok count) → KeepsOn t u next → (StopsAtStore u next → StopsAtStore u told) → KeepsOn s u told

@@ -5,7 +5,7 @@ use Rattle.target_filter.specs.Scanner.{Stops, Ends}
 use Rattle.target_filter.specs.Grammar.{Tree, IsInGrammar, IsFilter, nesting}
 use Rattle.target_filter.specs.Profile.{IsProfileFilter, IsInProfile, filter_of}
 use Rattle.target_filter.specs.Faults.{IsRefused}
-use Rattle.target_filter.specs.declared.fault.FilterFault.TheVariants.{TooLong, Syntax, TooDeep, Memory}
+use Rattle.target_filter.specs.declared.fault.FilterFault.TheVariants.{Syntax, TooDeep, Memory}
 use Rattle.target_filter.specs.declared.fault.FilterFault.{FilterFault}
 use Rattle.std.specs.Prelude.{Result, Ok, Err}
 use Rattle.std.specs.Result.{MatchResult, IfErr}
@@ -19,9 +19,6 @@ syntax text n u l h = (l, stops_outside text n h, stops_longest text n u h)
 pub too_deep : (text : List ℕ) (n : ℕ) → length text ≤ 512 → Ends text n → 16 < n → IsRefused text TooDeep
 too_deep text n l h d = let (t, r) = ends_filter text n h in (l, t, (r.0, omega (arith, r.1)))
 
-pub in_grammar : (text : List ℕ) (n : ℕ) → Ends text n → IsInGrammar text
-in_grammar text n h = let (t, r) = ends_filter text n h in (t, r.0)
-
 pub profile_filter : (text : List ℕ) (n : ℕ) (t : Tree) → length text ≤ 512 → Ends text n → n ≤ 16 → IsFilter text t → IsProfileFilter text t
 profile_filter text n t l h d f =
     let (u, r) = ends_filter text n h in
@@ -30,10 +27,6 @@ profile_filter text n t l h d f =
 
 pub in_profile : (text : List ℕ) (n : ℕ) → length text ≤ 512 → Ends text n → n ≤ 16 → IsInProfile text
 in_profile text n l h d = let (t, r) = ends_filter text n h in (t, profile_filter text n t l h d r.0)
-
--- nothing is computed for a text that is refused
-pub long_none : (text : List ℕ) → 512 < length text → filter_of text ≡ None
-long_none text l = filter_none text (λ p. absurd (omega (arith, p.1.short)))
 
 pub outside_none : (text : List ℕ) → (IsInGrammar text → ⊥) → filter_of text ≡ None
 outside_none text h = filter_none text (λ p. h (p.0, p.1.filter))

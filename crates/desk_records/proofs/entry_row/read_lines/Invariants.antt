@@ -1,9 +1,11 @@
-use Rattle.std.proofs.Common.{◌≡◌, ◌++◌}
+use Rattle.std.proofs.Common.{◌≡◌, ◌++◌, true, length}
+use Rattle.std.specs.List.{list_all}
+use Rattle.rollout_model.specs.Rules.{is_detail}
 use denote.Text.{Utf8}
 use denote.Shadow.{shadow}
 use Rattle.desk_records.specs.Actions.{lines_of}
 use Rattle.desk_records.proofs.entry_row.read_lines.Given as goal
 
--- the text is the lines so far and the rest
+-- the text is the lines so far, which are details, and the rest
 abbrev pub invariant-loop : goal.invariant-loop
-invariant-loop l = shadow (Utf8 l.rest) × (l.text ≡ lines_of l.lines.items ++ l.rest)
+invariant-loop l = shadow (Utf8 l.rest) × (l.text ≡ lines_of l.lines.items ++ l.rest) × (list_all is_detail l.lines.items ≡ true) × (length l.lines.items ≡ l.counter)

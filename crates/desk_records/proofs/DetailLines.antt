@@ -1,0 +1,175 @@
+-- Texts of details: each line ended by a line feed.
+use Rattle.std.proofs.Common.{◌≡◌, ◌≢◌, ◌≤◌, ◌<◌, ℕ, suc, Bool, true, false, not, nat_eq, nat_le, List, [], ◌∷◌, ◌++◌, length, get_or, Option, Some, None, IfNone, refl, sym, ap, ap₂, subst, ◌∙◌, arith, append-nil, append_assoc, length-append, if◌then◌else◌}
+use Rattle.std.specs.List.{list_all}
+use Rattle.std.specs.Str.{IsUtf8, is_utf8}
+use Rattle.std.proofs.lemmas.Bool.{and_parts}
+use Rattle.std.proofs.lemmas.Bool.Decides.{nat_tests}
+use Rattle.std.proofs.lemmas.List.Folds.{list_all-append}
+use Rattle.std.proofs.lemmas.Str.Ascii.{IsAscii-cons, IsAscii-nil}
+use Rattle.std.proofs.lemmas.Str.{IsUtf8-append, IsUtf8-from_ascii, IsUtf8-from_is_utf8, IsUtf8-nil}
+use Rattle.sqlite_value.specs.declared.value.Value.{Value}
+use Rattle.sqlite_value.specs.declared.value.Value.TheVariants.{Text}
+use Rattle.rollout_machine.specs.Commands.{Bytes}
+use Rattle.rollout_model.specs.Rules.{are_details, detail_of, details_of, is_detail, is_text_letter}
+use Rattle.desk_records.specs.Actions.{lines_of}
+use Rattle.desk_records.specs.EntryRow.{HasNoDetails}
+
+-- ---- what a text says
+
+-- one line more
+pub line_more : (text rest line more : Bytes) (lines : List Bytes) → text ≡ lines_of lines ++ rest → rest ≡ line ++ 10 ∷ more → text ≡ lines_of (lines ++ line ∷ []) ++ more
+line_more text rest line more lines is next = is ∙ ap (λ r. lines_of lines ++ r) next ∙ go lines
+  where
+    go : (ls : List Bytes) → lines_of ls ++ (line ++ 10 ∷ more) ≡ lines_of (ls ++ line ∷ []) ++ more
+    go [] = sym (append_assoc line (10 ∷ []) more) ∙ ap (λ l. l ++ more) (sym (append-nil (line ++ 10 ∷ [])))
+    go (l ∷ ls) = append_assoc (l ++ 10 ∷ []) (lines_of ls) (line ++ 10 ∷ more) ∙ ap (λ r. (l ++ 10 ∷ []) ++ r) (go ls) ∙ sym (append_assoc (l ++ 10 ∷ []) (lines_of (ls ++ line ∷ [])) more)
+
+pub detail_is : (line d : Bytes) → detail_of line ≡ Some d → (d ≡ line) × (is_detail d ≡ true)
+detail_is line d is = go (is_detail line) refl is
+  where
+    go : (b : Bool) → is_detail line ≡ b → (if b then Some line else None) ≡ Some d → (d ≡ line) × (is_detail d ≡ true)
+    go true good e = let same : d ≡ line = cc in (same, ap is_detail same ∙ good)
+    go false bad e = absurd cc
+
+pub no_detail : (line : Bytes) → detail_of line ≡ None → is_detail line ≡ false
+no_detail line is = go (is_detail line) is
+  where
+    go : (b : Bool) → (if b then Some line else None) ≡ None → b ≡ false
+    go true e = absurd cc
+    go false e = refl
+
+pub one_more : (lines : List Bytes) (d : Bytes) → list_all is_detail lines ≡ true → is_detail d ≡ true → list_all is_detail (lines ++ d ∷ []) ≡ true
+one_more lines d good fine = rw (list_all-append is_detail lines (d ∷ [])) (rw good (rw fine refl))
+
+abbrev no_feed : Bytes → Bool
+no_feed line = list_all (λ b. not (nat_eq b 10)) line
+
+letters_no_feed : (line : Bytes) → list_all is_text_letter line ≡ true → no_feed line ≡ true
+letters_no_feed [] h = refl
+letters_no_feed (b ∷ line) h =
+    let parts = and_parts (is_text_letter b) (list_all is_text_letter line) h in
+    let low = (and_parts (nat_le 32 b) _ parts.0).0 in
+    let other : nat_eq b 10 ≡ false = grind (arith, nat_tests, low) in
+    rw other (letters_no_feed line parts.1)
+
+-- no letter of a line ends it
+one_line : (l m xs ys : Bytes) → no_feed l ≡ true → no_feed m ≡ true → l ++ 10 ∷ xs ≡ m ++ 10 ∷ ys → (l ≡ m) × (xs ≡ ys)
+one_line [] [] xs ys one two is = (refl, cc)
+one_line [] (b ∷ m) xs ys one two is =
+    let same : 10 ≡ b = cc in
+    let parts = and_parts (not (nat_eq b 10)) (no_feed m) two in
+    absurd (let it : not (nat_eq 10 10) ≡ true = ap (λ n. not (nat_eq n 10)) same ∙ parts.0 in cc)
+one_line (a ∷ l) [] xs ys one two is =
+    let same : a ≡ 10 = cc in
+    let parts = and_parts (not (nat_eq a 10)) (no_feed l) one in
+    absurd (let it : not (nat_eq 10 10) ≡ true = ap (λ n. not (nat_eq n 10)) (sym same) ∙ parts.0 in cc)
+one_line (a ∷ l) (b ∷ m) xs ys one two is =
+    let same : a ≡ b = cc in
+    let rest : l ++ 10 ∷ xs ≡ m ++ 10 ∷ ys = cc in
+    let it = one_line l m xs ys (and_parts (not (nat_eq a 10)) (no_feed l) one).1 (and_parts (not (nat_eq b 10)) (no_feed m) two).1 rest in
+    (ap₂ ◌∷◌ same it.0, it.1)
+
+first_empty : (line rest : Bytes) → line ++ 10 ∷ rest ≡ [] → ⊥
+first_empty [] rest is = absurd cc
+first_empty (b ∷ line) rest is = absurd cc
+
+no_lines : (ms : List Bytes) → lines_of ms ≡ [] → ms ≡ []
+no_lines [] is = refl
+no_lines (m ∷ ms) is = absurd (first_empty m (lines_of ms) (sym (append_assoc m (10 ∷ []) (lines_of ms)) ∙ is))
+
+feedless : (line : Bytes) → is_detail line ≡ true → no_feed line ≡ true
+feedless line h = letters_no_feed line (and_parts _ (list_all is_text_letter line) (and_parts _ _ h).0).1
+
+-- details whose text begins with that of some lines begin with these
+begins : (ls ms : List Bytes) (rest : Bytes) → list_all is_detail ls ≡ true → list_all is_detail ms ≡ true → lines_of ls ++ rest ≡ lines_of ms
+    → (more : List Bytes) × (ms ≡ ls ++ more) × (list_all is_detail more ≡ true) × (rest ≡ lines_of more)
+begins [] ms rest good fine is = (ms, refl, fine, is)
+begins (l ∷ ls) [] rest good fine is =
+    absurd (first_empty l (lines_of ls ++ rest) (sym (append_assoc (l ++ 10 ∷ []) (lines_of ls) rest ∙ append_assoc l (10 ∷ []) (lines_of ls ++ rest)) ∙ is))
+begins (l ∷ ls) (m ∷ ms) rest good fine is =
+    let here = and_parts (is_detail l) (list_all is_detail ls) good in
+    let there = and_parts (is_detail m) (list_all is_detail ms) fine in
+    let it = one_line l m (lines_of ls ++ rest) (lines_of ms) (feedless l here.0) (feedless m there.0) (sym (append_assoc (l ++ 10 ∷ []) (lines_of ls) rest ∙ append_assoc l (10 ∷ []) (lines_of ls ++ rest)) ∙ is ∙ append_assoc m (10 ∷ []) (lines_of ms)) in
+    let go = begins ls ms rest here.1 there.1 it.1 in
+    (go.0, ap₂ ◌∷◌ (sym it.0) go.1, go.2, go.3)
+
+-- details are told by their text
+same_lines : (ls ms : List Bytes) → list_all is_detail ls ≡ true → list_all is_detail ms ≡ true → lines_of ls ≡ lines_of ms → ls ≡ ms
+same_lines ls ms good fine is =
+    let it = begins ls ms [] good fine (append-nil (lines_of ls) ∙ is) in
+    sym (it.1 ∙ ap (λ more. ls ++ more) (no_lines it.0 (sym it.3)) ∙ append-nil ls)
+
+pub same_details : (d e : List Bytes) → are_details d ≡ true → are_details e ≡ true → lines_of d ≡ lines_of e → d ≡ e
+same_details d e good fine is = same_lines d e (and_parts _ (list_all is_detail d) good).1 (and_parts _ (list_all is_detail e) fine).1 is
+
+-- ---- a text that holds no details
+
+-- the lines so far are details, and none are followed by the rest
+pub holds_none : (text rest : Bytes) (lines : List Bytes) → text ≡ lines_of lines ++ rest → list_all is_detail lines ≡ true
+    → ((more : List Bytes) → list_all is_detail more ≡ true → length (lines ++ more) ≤ 8 → rest ≢ lines_of more) → HasNoDetails (Text text)
+holds_none text rest lines is good ends details fine same =
+    let parts = and_parts _ (list_all is_detail details) fine in
+    let it = begins lines details rest good parts.1 (sym is ∙ text_of same) in
+    ends it.0 it.2 (subst (λ ls. length ls ≤ 8) it.1 (grind (arith, nat_tests, parts.0))) it.3
+  where
+    text_of : Text text ≡ Text (lines_of details) → text ≡ lines_of details
+    text_of e = cc
+
+no_feed_in : (bs : Bytes) → ((i : ℕ) → i < length bs → get_or bs i 0 ≢ 10) → no_feed bs ≡ true
+no_feed_in [] none = refl
+no_feed_in (b ∷ bs) none =
+    let other : nat_eq b 10 ≡ false = grind (arith, nat_tests, none 0 (omega arith)) in
+    rw other (no_feed_in bs (λ i low. none (suc i) (omega (arith, low))))
+
+feed_within : (m rest : Bytes) → no_feed (m ++ 10 ∷ rest) ≡ true → ⊥
+feed_within [] rest h = absurd cc
+feed_within (b ∷ m) rest h = feed_within m rest (and_parts (not (nat_eq b 10)) (no_feed (m ++ 10 ∷ rest)) h).1
+
+-- the lines are all that there is, or they don't say the text
+pub all_or_none : (text rest : Bytes) (lines : List Bytes) (found : Option (List Bytes)) → found ≡ (if nat_eq (length rest) 0 then details_of lines else None)
+    → text ≡ lines_of lines ++ rest → list_all is_detail lines ≡ true → length lines ≤ 8
+    → (rest ≢ [] → (more : List Bytes) → list_all is_detail more ≡ true → length (lines ++ more) ≤ 8 → rest ≢ lines_of more) → IfNone found (HasNoDetails (Text text))
+all_or_none text [] lines found is said good few ends =
+    let few_told : nat_le (length lines) 8 ≡ true = grind (arith, nat_tests, few) in
+    let fine : are_details lines ≡ true = rw few_told good in
+    rw (is ∙ go (are_details lines) fine) tt
+  where
+    go : (b : Bool) → b ≡ true → (if b then Some lines else None) ≡ Some lines
+    go true e = refl
+    go false e = absurd cc
+all_or_none text (b ∷ rest) lines found is said good few ends =
+    let some : nat_eq (length (b ∷ rest)) 0 ≡ false = grind (arith, nat_tests) in
+    let none : found ≡ None = is ∙ rw some refl in
+    rw none (holds_none text (b ∷ rest) lines said good (ends (λ e. absurd cc)))
+
+-- no line ends in the rest
+pub ends_nowhere : (rest : Bytes) → rest ≢ [] → ((i : ℕ) → i < length rest → get_or rest i 0 ≢ 10) → (more : List Bytes) → rest ≢ lines_of more
+ends_nowhere rest some none [] is = some is
+ends_nowhere rest some none (m ∷ ms) is = feed_within m (lines_of ms) (subst (λ bs. no_feed bs ≡ true) (is ∙ append_assoc m (10 ∷ []) (lines_of ms)) (no_feed_in rest none))
+
+-- the line that comes next is no detail
+pub begins_badly : (rest line more : Bytes) → rest ≡ line ++ 10 ∷ more → ((i : ℕ) → i < length line → get_or line i 0 ≢ 10) → is_detail line ≡ false
+    → (ms : List Bytes) → list_all is_detail ms ≡ true → rest ≢ lines_of ms
+begins_badly rest line more is none bad [] fine same = first_empty line more (sym is ∙ same)
+begins_badly rest line more is none bad (m ∷ ms) fine same =
+    let there = and_parts (is_detail m) (list_all is_detail ms) fine in
+    let it = one_line line m more (lines_of ms) (no_feed_in line none) (feedless m there.0) (sym is ∙ same ∙ append_assoc m (10 ∷ []) (lines_of ms)) in
+    absurd (let same : is_detail line ≡ true = ap is_detail it.0 ∙ there.0 in cc)
+
+-- as many lines as there may be, and a rest
+pub goes_too_far : (rest : Bytes) (lines : List Bytes) → length lines ≡ 8 → rest ≢ [] → (more : List Bytes) → length (lines ++ more) ≤ 8 → rest ≢ lines_of more
+goes_too_far rest lines full some [] few same = some same
+goes_too_far rest lines full some (m ∷ ms) few same = absurd (omega (arith, full, few, length-append lines (m ∷ ms)))
+
+-- a text of details is UTF-8
+lines_are_utf8 : (ls : List Bytes) → list_all is_detail ls ≡ true → IsUtf8 (lines_of ls)
+lines_are_utf8 [] good = IsUtf8-nil
+lines_are_utf8 (l ∷ ls) good =
+    let here = and_parts (is_detail l) (list_all is_detail ls) good in
+    IsUtf8-append (l ++ 10 ∷ []) (lines_of ls) (IsUtf8-append l (10 ∷ []) (IsUtf8-from_is_utf8 l (and_parts _ (is_utf8 l) here.0).1) (IsUtf8-from_ascii (10 ∷ []) (IsAscii-cons 10 [] (omega arith) IsAscii-nil))) (lines_are_utf8 ls here.1)
+
+-- what is no UTF-8
+pub unread_details : (v : Value) (text : Bytes) → v ≡ Text text → (IsUtf8 text → ⊥) → HasNoDetails v
+unread_details v text is bad details fine same =
+    let text_is : text ≡ lines_of details = cc in
+    bad (subst IsUtf8 (sym text_is) (lines_are_utf8 details (and_parts _ (list_all is_detail details) fine).1))
