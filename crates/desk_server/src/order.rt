@@ -106,7 +106,7 @@ fn interface<'a>(alloc: Global) -> Arg<'a>
         .long("interface")
         .action(ArgAction::Set)
         .required(true)
-        .help("Which calls are served: ddi (devices), mgmt (keepers) or both")
+        .help("Which calls are served: ddi (devices), mgmt (operators) or both")
 }
 
 fn approval<'a>(alloc: Global) -> Arg<'a>

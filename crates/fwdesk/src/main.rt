@@ -7,6 +7,7 @@ use desk_server::{
 };
 use http_wire::Watched;
 use rollout_desk::Desk;
+use rollout_model::limits::FILE_LENGTH_LIMIT;
 use sqlite::{FileFrom, FileStore, Unknown};
 use std::alloc::Global;
 use std::fs::File;
@@ -31,7 +32,7 @@ fn words(rt: &HostRuntime, alloc: Global) -> Option<Vec<String>> {
 type Opened = Result<Desk<FileStore<FileFrom<Unknown>>>, OpenFault>;
 
 /// How many bytes of an import's file are read: one more than it may have.
-const READ_LIMIT: u64 = 1_048_577;
+const READ_LIMIT: u64 = FILE_LENGTH_LIMIT as u64 + 1;
 
 /// The first bytes of a file, by which one that is too large is known as such.
 fn first_bytes(rt: &HostRuntime, alloc: Global, path: &str) -> io::Result<Vec<u8>> {

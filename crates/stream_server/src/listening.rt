@@ -12,6 +12,7 @@ use http_wire::Watched;
 use std::alloc::Global;
 use std::io::Read;
 use std::net::{Shutdown, TcpListener, TcpStream};
+use std::time::Duration;
 
 /// Why no further connection is served.
 #[derive(Clone, Copy)]
@@ -22,11 +23,20 @@ pub enum ListenFault {
     Net,
 }
 
+/// How long a read or a write of a connection waits for its client, in seconds.
+const PATIENCE: u64 = 30;
+
+/// Lets no read and no write of a connection wait for ever, and says whether that could be set.
+fn limit_waiting(stream: &TcpStream) -> bool {
+    let patience = Some(Duration::from_secs(PATIENCE));
+    stream.set_read_timeout(patience).is_ok() && stream.set_write_timeout(patience).is_ok()
+}
+
 /// How many reads are made of what a client still sends once its connection is served.
 const LAST_READS: u32 = 1024;
 
 /// Ends the writing half of a connection and reads what the client still sends, up to 4 MiB: closing a connection with bytes unread takes
-/// back a reply that the client hasn't read yet.
+/// back a reply that the client hasn't read yet. A client that sends nothing more and doesn't close is waited for once.
 fn let_go(mut stream: &TcpStream) {
     let Ok(()) = stream.shutdown(Shutdown::Write) else {
         return;
@@ -40,7 +50,7 @@ fn let_go(mut stream: &TcpStream) {
     }
 }
 
-/// Serves a connection, and says whether it was served to its end.
+/// Serves a connection, and says whether it was served to its end. A client that kept a read or a write waiting isn't waited for again.
 fn serve_connection<D: ContentsHandler>(
     alloc: Global,
     desk: &mut D,
@@ -52,13 +62,23 @@ fn serve_connection<D: ContentsHandler>(
     let mut reader = Watched::new(stream);
     let mut writer = Watched::new(stream);
     match serve(alloc, desk, &mut reader, &mut writer, interface) {
-        Ok(_) => Ok(true),
-        Err(ServeFault::Store) => Err(ListenFault::Store),
-        Err(ServeFault::Read | ServeFault::Write | ServeFault::Memory) => Ok(false),
+        Ok(_) => {
+            let_go(stream);
+            Ok(true)
+        }
+        Err(ServeFault::Store) => {
+            let_go(stream);
+            Err(ListenFault::Store)
+        }
+        Err(ServeFault::Memory) => {
+            let_go(stream);
+            Ok(false)
+        }
+        Err(ServeFault::Read | ServeFault::Write) => Ok(false),
     }
 }
 
-/// Serves the next connection, and says whether it was served to its end.
+/// Serves the next connection, and says whether it was served to its end. One whose waiting can't be limited isn't served.
 fn serve_next<D: ContentsHandler>(
     alloc: Global,
     desk: &mut D,
@@ -70,13 +90,14 @@ fn serve_next<D: ContentsHandler>(
     let Ok((stream, _peer)) = listener.accept() else {
         return Err(ListenFault::Net);
     };
-    let told = serve_connection(alloc, desk, &stream, interface);
-    let_go(&stream);
-    told
+    if !limit_waiting(&stream) {
+        return Ok(false);
+    }
+    serve_connection(alloc, desk, &stream, interface)
 }
 
 /// Serves so many connections one after the other, and counts those that were served to their end. A fault of reading, writing or memory
-/// ends its connection alone.
+/// ends its connection alone; so does a client for which a read or a write has to wait longer than 30 seconds.
 pub fn serve_on<D: ContentsHandler>(
     alloc: Global,
     desk: &mut D,
