@@ -1,7 +1,8 @@
 //! What the program does with an order.
 
-ghost use Rattle.std.specs.Prelude.{◌≡◌, ◌++◌, ℕ, List, [], true, Result, is_some, IfErr, IfOk, IsOkAnd};
+ghost use Rattle.std.specs.Prelude.{◌≡◌, ◌++◌, ◌∷◌, ℕ, List, [], true, Result, is_some, IfErr, IfOk, IsOkAnd};
 ghost use Rattle.std.specs.Io.KnownBytes.{Appends, Consumes};
+ghost use Rattle.std.specs.Net.Addr.{ipv4_octets};
 ghost use Rattle.http_wire.specs.Watched.{inner_of, has_failed};
 ghost use Rattle.stream_server.specs.declared.served.Served.{Served as Outcome};
 ghost use Rattle.stream_server.specs.declared.served.ServeFault.{ServeFault as Fault};
@@ -17,7 +18,7 @@ use rollout_desk::Desk;
 use sqlite::Alter;
 use std::alloc::Global;
 use std::io::{Read, Write};
-use std::net::TcpListener;
+use std::net::{Ipv4Addr, TcpListener};
 use stream_server::{ContentsHandler, Interface, ListenFault, ServeFault, serve, serve_on};
 
 /// The exit status of what was done.
@@ -93,6 +94,14 @@ fn run<R: Read, W: Write, E: Write, D: ContentsHandler>(
     }
 }
 
+/// The address that the order `serve` listens on: this port of 127.0.0.1, which nobody reaches from another machine.
+pub fn listen_address(port: u16) -> (Ipv4Addr, u16)
+    ensures local { ipv4_octets result.0 ≡ 127 ∷ 0 ∷ 0 ∷ 1 ∷ [] }
+    ensures port { result.1 ≡ port }
+{
+    (Ipv4Addr::new(127, 0, 0, 1), port)
+}
+
 /// Serves the connections to a port, or answers at once where the port wasn't taken.
 #[tactic(auto, using(stream_server::proofs::ListenLemmas::keeps_what_stands, stream_server::proofs::PartLemmas::stays))]
 fn listen<D: ContentsHandler>(
@@ -102,7 +111,7 @@ fn listen<D: ContentsHandler>(
     listener: Option<&TcpListener>,
     connections: u32,
 ) -> Result<u32, ListenFault>
-    ensures { Listens (is_some listener.entry) connections (D.state desk.old) (D.state desk.new) result }
+    ensures { Listens interface (is_some listener.entry) connections (D.state desk.old) (D.state desk.new) result }
 {
     match listener {
         Some(listener) => serve_on(alloc, desk, listener, connections, interface),
@@ -119,7 +128,7 @@ fn run_on<E: Write, D: ContentsHandler>(
     connections: u32,
     errors: &mut Watched<E>,
 ) -> u8
-    ensures { CarriesOutOn (is_some listener.entry) connections (D.state desk.old) (D.state desk.new)
+    ensures { CarriesOutOn interface (is_some listener.entry) connections (D.state desk.old) (D.state desk.new)
         (E.contents (inner_of errors.old)) (E.contents (inner_of errors.new)) (has_failed errors.new) result }
 {
     match listen(alloc, desk, interface, listener, connections) {
@@ -169,7 +178,7 @@ pub fn carry_out_on<E: Write, S: Alter>(
 ) -> u8
     ensures unopened { IfErr desk.old (λ fault. (result ≡ 1)
         × Tells (E.contents (inner_of errors.old)) (E.contents (inner_of errors.new)) (has_failed errors.new) (open_line fault)) }
-    ensures carries_out { IfOk desk.old (λ before. IsOkAnd desk.new (λ after. CarriesOutOn (is_some listener.entry) connections
+    ensures carries_out { IfOk desk.old (λ before. IsOkAnd desk.new (λ after. CarriesOutOn setup.now.interface (is_some listener.entry) connections
         (desk_state S.Store before) (desk_state S.Store after) (E.contents (inner_of errors.old)) (E.contents (inner_of errors.new)) (has_failed errors.new) result)) }
 {
     match desk {

@@ -3,7 +3,8 @@
 
 use desk_opening::OpenFault;
 use desk_server::{
-    Order, Setup, carry_out, carry_out_import, carry_out_on, carry_out_report, open_for, read_order,
+    Order, Setup, carry_out, carry_out_import, carry_out_on, carry_out_report, listen_address,
+    open_for, read_order,
 };
 use http_wire::Watched;
 use rollout_desk::Desk;
@@ -12,7 +13,7 @@ use sqlite::{FileFrom, FileStore, Unknown};
 use std::alloc::Global;
 use std::fs::File;
 use std::io::Read;
-use std::net::{Ipv4Addr, TcpListener};
+use std::net::TcpListener;
 use std::process::ExitCode;
 use std::{env, io};
 
@@ -53,7 +54,7 @@ fn serve(
     desk: &mut Opened,
 ) -> u8 {
     let listener = match desk {
-        Ok(_) => TcpListener::bind(rt, (Ipv4Addr::LOCALHOST, port)).ok(),
+        Ok(_) => TcpListener::bind(rt, listen_address(port)).ok(),
         Err(_) => None,
     };
     let mut errors = Watched::new(rt.stderr());

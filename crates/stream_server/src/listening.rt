@@ -57,7 +57,7 @@ fn serve_connection<D: ContentsHandler>(
     stream: &TcpStream,
     interface: Interface,
 ) -> Result<bool, ListenFault>
-    ensures { KeepsOn (D.state desk.old) (D.state desk.new) result }
+    ensures { KeepsOn interface (D.state desk.old) (D.state desk.new) result }
 {
     let mut reader = Watched::new(stream);
     let mut writer = Watched::new(stream);
@@ -85,7 +85,7 @@ fn serve_next<D: ContentsHandler>(
     listener: &TcpListener,
     interface: Interface,
 ) -> Result<bool, ListenFault>
-    ensures { KeepsOn (D.state desk.old) (D.state desk.new) result }
+    ensures { KeepsOn interface (D.state desk.old) (D.state desk.new) result }
 {
     let Ok((stream, _peer)) = listener.accept() else {
         return Err(ListenFault::Net);
@@ -106,7 +106,7 @@ pub fn serve_on<D: ContentsHandler>(
     interface: Interface,
 ) -> Result<u32, ListenFault>
     ensures clean { (D.state desk.new).is_clean → (D.state desk.old).is_clean }
-    ensures keeps { (h : CommandList) → (D.state desk.new).is_clean → StandsFor (D.state desk.old) h → Keeps (D.state desk.new) h }
+    ensures keeps { (h : CommandList) → (D.state desk.new).is_clean → StandsFor (D.state desk.old) h → Keeps interface (D.state desk.new) h }
     ensures store { StopsAtStore (D.state desk.new) result }
     ensures stopped { (D.state desk.old).is_stopped ≡ true → StaysStopped (D.state desk.old) (D.state desk.new) }
     ensures counts { IfOk result (λ served. served ≤ connections) }
