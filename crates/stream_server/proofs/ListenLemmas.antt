@@ -46,13 +46,13 @@ accepted_is h asked reply c may = elim may [
 
 one_asked : (interface : Interface) (h : CommandList) (message : WireMessage) (reply : Reply) (accepted : Option Command) → ByMachine interface h message reply accepted
     → All (IsAsked interface) (one accepted)
-one_asked interface h message reply None may = All-nil _
-one_asked interface h message reply (Some c) may = All-cons _ c [] (message, asked_command h (reading interface message) c (accepted_is h (reading interface message) reply c may)) (All-nil _)
+one_asked interface h message reply None may = All-nil (IsAsked interface)
+one_asked interface h message reply (Some c) may = All-cons (IsAsked interface) c [] (message, asked_command h (reading interface message) c (accepted_is h (reading interface message) reply c may)) (All-nil (IsAsked interface))
 
 all_asked : (interface : Interface) (h : CommandList) (run : List Exchange) → IsRun (ByMachine interface) h run → All (IsAsked interface) (accepted_in run)
-all_asked interface h [] is_run = All-nil _
+all_asked interface h [] is_run = All-nil (IsAsked interface)
 all_asked interface h (x ∷ xs) is_run =
-    All-append _ (one x.accepted) (accepted_in xs) (one_asked interface h x.message x.reply x.accepted is_run.0) (all_asked interface (followed_by h (one x.accepted)) xs is_run.2)
+    All-append (IsAsked interface) (one x.accepted) (accepted_in xs) (one_asked interface h x.message x.reply x.accepted is_run.0) (all_asked interface (followed_by h (one x.accepted)) xs is_run.2)
 
 All-first : {X : Type 0} (P : X → Type 0) (xs ys : List X) → All P (xs ++ ys) → All P xs
 All-first P [] ys all = All-nil P
@@ -61,7 +61,7 @@ All-first P (x ∷ xs) ys all = All-cons P x xs (All-head P x (xs ++ ys) all) (A
 -- ---- connections
 
 pub keeps_what_stands : {File : Type 0} (interface : Interface) (s : DeskState File) (h : CommandList) → StandsFor s h → Keeps interface s h
-keeps_what_stands interface s h stands = record { desk = inr ([], All-nil _, stands); crash = λ file leaves. ([], All-nil _, stands.crash file leaves) }
+keeps_what_stands interface s h stands = record { desk = inr ([], All-nil (IsAsked interface), stands); crash = λ file leaves. ([], All-nil (IsAsked interface), stands.crash file leaves) }
 
 keeps_by_headline : {File : Type 0} (interface : Interface) (s : DeskState File) (h : CommandList) (more : List Command) (stream unread out out_new : Option (List ℕ)) (outcome : Result Served ServeFault)
     → All (IsAsked interface) more → Headline interface (followed_by h more) s stream unread out out_new outcome → Keeps interface s h
@@ -72,12 +72,12 @@ keeps_by_headline interface s h more stream unread out out_new outcome asked hea
       desk = elim headline.desk [
         | inl stopped ↦ inl stopped
         | inr stands ↦
-            inr (more ++ accepted, All-append _ more accepted asked asks, subst (λ (k : CommandList). StandsFor s k) (sym (followed_append h more accepted)) stands)
+            inr (more ++ accepted, All-append (IsAsked interface) more accepted asked asks, subst (λ (k : CommandList). StandsFor s k) (sym (followed_append h more accepted)) stands)
       ];
       crash = λ file leaves.
           let part = headline.crash file leaves in
           let kept = All-first (IsAsked interface) part.kept part.lost (subst (All (IsAsked interface)) part.parts asks) in
-          (more ++ part.kept, All-append _ more part.kept asked kept, subst (λ (k : CommandList). s.holds file k) (sym (followed_append h more part.kept)) part.holds);
+          (more ++ part.kept, All-append (IsAsked interface) more part.kept asked kept, subst (λ (k : CommandList). s.holds file k) (sym (followed_append h more part.kept)) part.holds);
     }
 
 keeps_stopped : {File : Type 0} (interface : Interface) (old new : DeskState File) (h : CommandList) → StaysStopped old new → Keeps interface old h → Keeps interface new h

@@ -23,13 +23,18 @@ pub enum ListenFault {
     Net,
 }
 
-/// How long a read or a write of a connection waits for its client, in seconds.
-const PATIENCE: u64 = 30;
+/// How long a read of a connection waits for its client, in seconds.
+const READ_PATIENCE: u64 = 30;
+
+/// How long a write does. It is half as long, since a write that has waited in vain ends well where a part of it went out before, and the
+/// next one waits for the same client again.
+const WRITE_PATIENCE: u64 = 15;
 
 /// Lets no read and no write of a connection wait for ever, and says whether that could be set.
 fn limit_waiting(stream: &TcpStream) -> bool {
-    let patience = Some(Duration::from_secs(PATIENCE));
-    stream.set_read_timeout(patience).is_ok() && stream.set_write_timeout(patience).is_ok()
+    let read = stream.set_read_timeout(Some(Duration::from_secs(READ_PATIENCE)));
+    let write = stream.set_write_timeout(Some(Duration::from_secs(WRITE_PATIENCE)));
+    read.is_ok() && write.is_ok()
 }
 
 /// How many reads are made of what a client still sends once its connection is served.
