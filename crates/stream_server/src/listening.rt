@@ -26,9 +26,9 @@ pub enum ListenFault {
 /// How long a read of a connection waits for its client, in seconds.
 const READ_PATIENCE: u64 = 30;
 
-/// How long a write does. It is half as long, since a write that has waited in vain ends well where a part of it went out before, and the
-/// next one waits for the same client again.
-const WRITE_PATIENCE: u64 = 15;
+/// How long a write does. It is a third of that: a write that has waited in vain ends well where a part of it went out before, so a client
+/// that reads nothing is waited for by some three of them, until no room is left on the way to it.
+const WRITE_PATIENCE: u64 = 10;
 
 /// Lets no read and no write of a connection wait for ever, and says whether that could be set.
 fn limit_waiting(stream: &TcpStream) -> bool {
