@@ -4,9 +4,8 @@ import shutil
 import subprocess
 from pathlib import Path
 
-# what has to be there, and the package of Debian 12 that has it
-PROGRAMS = {"nginx": "nginx", "swupdate": "swupdate", "dbus-daemon": "dbus-daemon", "openssl": "openssl"}
-BINDINGS = Path("/usr/lib/python3/dist-packages/gi/__init__.py")
+# a package of Debian 12 has a program of its name, but for this one
+BINDINGS = {"python3-gi": Path("/usr/lib/python3/dist-packages/gi/__init__.py")}
 UPDATER = "rauc-hawkbit-updater"
 # where apt keeps what it knows of unstable, apart from the system's own
 APT = """
@@ -39,30 +38,46 @@ def found(program):
     return shutil.which(program, path=f"{os.environ['PATH']}:/usr/sbin:/sbin")
 
 
-def install(more):
-    """Installs the packages of Debian that are missing."""
-    wanted = [package for program, package in {**PROGRAMS, **more}.items() if not found(program)]
-    wanted += [] if BINDINGS.is_file() else ["python3-gi"]
-    if wanted:
-        print(f"installing {', '.join(wanted)}", flush=True)
-        quiet = {**os.environ, "DEBIAN_FRONTEND": "noninteractive"}
-        apt = ["apt-get", "-q", "-y", "-o", "DPkg::Lock::Timeout=300"]
-        said([*apt, "update"], env=quiet)
-        said([*apt, "install", "--no-install-recommends", *wanted], env=quiet)
+def absent(wanted):
+    """The packages of Debian 12 among these that aren't there."""
+    return sorted(it for it in wanted - {UPDATER} if not (BINDINGS[it].is_file() if it in BINDINGS else found(it)))
+
+
+def install(wanted):
+    """Installs those that are missing."""
+    print(f"installing {', '.join(wanted)}", flush=True)
+    quiet = {**os.environ, "DEBIAN_FRONTEND": "noninteractive"}
+    apt = ["apt-get", "-q", "-y", "-o", "DPkg::Lock::Timeout=300"]
+    said([*apt, "update"], env=quiet)
+    said([*apt, "install", "--no-install-recommends", *wanted], env=quiet)
+
+
+def get(wanted, folder):
+    """Gets what is missing, and gives what couldn't be had."""
+    try:
+        if missing := absent(wanted):
+            install(missing)
+    except (Missing, OSError, subprocess.TimeoutExpired) as error:
+        print(f"couldn't be had: {error}", flush=True)
+    lacks = set(absent(wanted))
+    try:
+        if UPDATER in wanted and not (folder / "root").is_dir():
+            fetch(folder, folder / "root")
+    except (Missing, OSError, subprocess.TimeoutExpired) as error:
+        print(f"couldn't be had: {error}", flush=True)
+        lacks.add(UPDATER)
+    return lacks
 
 
 def updater(folder):
-    """The words that run rauc-hawkbit-updater, with its own loader and libraries. They are fetched where they aren't in the folder yet."""
-    root = folder / "root"
-    if not root.is_dir():
-        print(f"fetching {UPDATER} and its libraries from Debian's unstable into {folder}", flush=True)
-        fetch(folder, root)
-    libraries = root / "usr/lib/x86_64-linux-gnu"
-    return [str(libraries / "ld-linux-x86-64.so.2"), "--library-path", str(libraries), str(root / "usr/bin" / UPDATER)]
+    """The words that run rauc-hawkbit-updater, with its own loader and libraries."""
+    libraries = folder / "root/usr/lib/x86_64-linux-gnu"
+    return [str(libraries / "ld-linux-x86-64.so.2"), "--library-path", str(libraries), str(folder / "root/usr/bin" / UPDATER)]
 
 
 def fetch(folder, root):
     """Lets apt-get choose and check the packages, as on a machine that has none yet, and unpacks them."""
+    print(f"fetching {UPDATER} and its libraries from Debian's unstable into {folder}", flush=True)
     for it in ("lists/partial", "archives/partial", "state"):
         (folder / it).mkdir(parents=True, exist_ok=True)
     (folder / "status").touch()
