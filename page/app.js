@@ -1,0 +1,136 @@
+// Leads from an address to what it shows, keeps that up to date, and says what went wrong.
+import {events, gently} from "./api.js";
+import {h, settle} from "./drawing.js";
+import * as firmware from "./firmware.js";
+import * as rollouts from "./rollouts.js";
+import * as targets from "./targets.js";
+
+const VIEWS = [
+  [/^\/rollouts$/, rollouts.list],
+  [/^\/rollouts\/new$/, rollouts.fresh],
+  [/^\/rollouts\/(\d+)$/, rollouts.one],
+  [/^\/rollouts\/(\d+)\/groups\/(\d+)$/, rollouts.members],
+  [/^\/targets$/, targets.list],
+  [/^\/targets\/([\w.-]+)$/, targets.one],
+  [/^\/targets\/([\w.-]+)\/actions\/(\d+)$/, targets.action],
+  [/^\/firmware$/, firmware.list],
+  [/^\/firmware\/modules\/(\d+)$/, firmware.module],
+];
+
+const place = (id) => document.getElementById(id);
+const now = () => new Date().toLocaleTimeString([], {hour: "2-digit", minute: "2-digit", second: "2-digit"});
+
+/** What is shown: its view, its data, and the parts that keep what is typed into them. */
+let shown = null;
+
+/** What is said once the next view is there. */
+let carried = null;
+
+const page = {
+  /** Goes to another address, and says something there. */
+  go(address, words = null) {
+    carried = words;
+    location.hash = address;
+  },
+  refresh: () => shown.loop.now(),
+  redraw: () => draw(shown),
+  say(kind, words) {
+    settle(place("notice"), [h("p", {class: `notice ${kind}`, "data-key": Date.now()}, words,
+      h("button", {class: "small", "aria-label": "Put this message away", onclick: () => settle(place("notice"), [])}, "✕"))]);
+  },
+  /** Does it, and says what the server refuses. */
+  async tried(work) {
+    try {
+      await work();
+    } catch (refusal) {
+      page.say("bad", refusal.sentence ?? String(refusal));
+    }
+  },
+  /** A part that is drawn once for as long as the view is shown. */
+  kept(key, make) {
+    if (!shown.parts.has(key)) {
+      const part = make();
+      part.dataset.key = `kept ${key}`;
+      shown.parts.set(key, part);
+    }
+    return shown.parts.get(key);
+  },
+};
+
+function draw(view) {
+  const title = view.view.title(view.data);
+  document.title = `${title} · fwdesk`;
+  settle(place("main"), [h("h1", {tabindex: -1}, title), view.view.draw(view.data, page)]);
+}
+
+/** Asks for what a view shows, and draws it where the view is still the one that is shown. */
+async function update(view) {
+  if (view.data && view.view.still) {
+    return;
+  }
+  try {
+    const data = await view.view.load(view.parameters, view.query);
+    if (view !== shown) {
+      return;
+    }
+    const first = !view.data;
+    if (first) {
+      place("main").replaceChildren();
+    }
+    view.data = data;
+    draw(view);
+    if (first && view.moved) {
+      place("main").querySelector("h1").focus();
+    }
+  } catch (refusal) {
+    const words = refusal.sentence ?? String(refusal);
+    if (view === shown && !view.data) {
+      place("main").replaceChildren(h("h1", {tabindex: -1}, "Not shown"), h("p", {class: "notice bad"}, words));
+    }
+    place("asked").textContent = `${now()} ${words}`;
+    throw refusal;
+  }
+}
+
+function show(moved) {
+  const [address, query] = (location.hash.slice(1) || "/rollouts").split("?");
+  const [pattern, view] = VIEWS.find(([it]) => it.test(address)) ?? VIEWS[0];
+  shown?.loop.end();
+  const next = {view, moved, parameters: pattern.exec(address)?.slice(1) ?? [], query: new URLSearchParams(query), parts: new Map()};
+  shown = next;
+  next.loop = gently(() => update(next));
+  for (const it of place("pages").children) {
+    it.setAttribute("aria-current", address.startsWith(it.hash.slice(1)) ? "page" : "false");
+  }
+}
+
+/** A failed store or a stopped server stays in view; what the proxy says in its place goes with the next answer. */
+events.addEventListener("fault", ({detail}) => {
+  const kept = detail.isStore ? "store" : "away";
+  const more = detail.isStore ? " Look at the server's disk, start the program anew, then look here whether the last command is there." : " The page asks again, less often each time.";
+  if (kept === "store" || !place("banner").querySelector("[data-key=store]")) {
+    const away = kept === "store" ? h("button", {class: "small", onclick: () => settle(place("banner"), [])}, "I have seen to it") : null;
+    settle(place("banner"), [h("p", {class: "notice bad", "data-key": kept}, `${now()} ${detail.sentence}${more}`, away)]);
+  }
+});
+
+events.addEventListener("answer", () => {
+  place("asked").textContent = `as of ${now()}`;
+  if (place("banner").querySelector("[data-key=away]")) {
+    settle(place("banner"), []);
+  }
+});
+
+place("skip").onclick = (event) => {
+  event.preventDefault();
+  place("main").focus();
+};
+addEventListener("hashchange", () => {
+  settle(place("notice"), []);
+  if (carried) {
+    page.say("ok", carried);
+  }
+  carried = null;
+  show(true);
+});
+show(false);

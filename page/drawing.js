@@ -1,0 +1,157 @@
+// Draws: elements with text in them (never HTML), bars, badges, tables, forms; and settles a new drawing into the old one.
+
+const SVG = "http://www.w3.org/2000/svg";
+
+function filled(element, attributes, children) {
+  for (const [key, value] of Object.entries(attributes)) {
+    if (key.startsWith("on")) {
+      element[key] = value;
+    } else if (value !== false && value !== null && value !== undefined) {
+      element.setAttribute(key, value === true ? "" : value);
+    }
+  }
+  element.append(...children.flat(Infinity).filter((it) => it !== null && it !== undefined && it !== false));
+  return element;
+}
+
+/** An element of HTML; a child that is no element is text. */
+export const h = (tag, attributes = {}, ...children) => filled(document.createElement(tag), attributes, children);
+
+const s = (tag, attributes = {}, ...children) => filled(document.createElementNS(SVG, tag), attributes, children);
+
+const HANDLERS = ["onclick", "oninput", "onchange", "onsubmit"];
+// what belongs to the reader once it is drawn
+const KEPT = ["open", "value", "checked", "selected"];
+
+function alike(old, fresh) {
+  return old?.nodeName === fresh.nodeName && old.id === fresh.id && old.dataset?.key === fresh.dataset?.key;
+}
+
+function patch(old, fresh) {
+  if (old.nodeType === Node.TEXT_NODE) {
+    if (old.data !== fresh.data) {
+      old.data = fresh.data;
+    }
+    return;
+  }
+  for (const {name} of [...old.attributes]) {
+    if (!fresh.hasAttribute(name) && !KEPT.includes(name)) {
+      old.removeAttribute(name);
+    }
+  }
+  for (const {name, value} of fresh.attributes) {
+    if (old.getAttribute(name) !== value && !KEPT.includes(name)) {
+      old.setAttribute(name, value);
+    }
+  }
+  HANDLERS.forEach((it) => (old[it] = fresh[it]));
+  settle(old, [...fresh.childNodes]);
+}
+
+/** Brings the children of a place to what is drawn now, and leaves alone what is there already: focus, scrolling and what is typed stay. */
+export function settle(place, drawn) {
+  const fresh = drawn.flat(Infinity).filter((it) => it !== null && it !== undefined && it !== false);
+  fresh.forEach((it, at) => {
+    const node = it instanceof Node ? it : document.createTextNode(it);
+    const old = place.childNodes[at];
+    if (!old) {
+      place.append(node);
+    } else if (node.parentNode === place) {
+      place.insertBefore(node, old);
+    } else if (alike(old, node)) {
+      patch(old, node);
+    } else {
+      old.replaceWith(node);
+    }
+  });
+  while (place.childNodes.length > fresh.length) {
+    place.lastChild.remove();
+  }
+}
+
+export const PARTS = ["ok", "open", "waiting", "gone", "bad"];
+
+/** A number with thin spaces between its thousands. */
+export const number = (it) => String(it).replace(/\B(?=(\d{3})+$)/g, "\u202f");
+
+/** A number of things: `1 device`, `2 devices`. */
+export const many = (count, one) => `${number(count)} ${one}${count === 1 ? "" : "s"}`;
+
+/** How many there are of each part, in words. */
+export const inWords = (counts) => PARTS.filter((it) => counts[it]).map((it) => `${number(counts[it])} ${it}`).join(", ") || "none";
+
+function mark(kind, at) {
+  const path = kind === "success" ? "M0 7l-5 -7h10z" : "M0 25l-5 7h10z";
+  return s("svg", {x: `${at}%`, y: 0, class: `mark ${kind}`}, s("line", {x1: 0, x2: 0, y1: 5, y2: 27}), s("path", {d: path}));
+}
+
+/**
+ * A bar: ok grows from the left towards the mark of success, bad from the right towards the mark of error.
+ * `thresholds` are percentages, or null where they aren't known.
+ */
+export function bar(counts, label, thresholds = null) {
+  let at = 0;
+  const parts = PARTS.map((it) => {
+    const width = counts.size ? (100 * counts[it]) / counts.size : 0;
+    at += width;
+    return width ? s("rect", {class: it, x: `${at - width}%`, width: `${width}%`, y: 7, height: 18}) : null;
+  });
+  const marks = thresholds ? [mark("success", thresholds.success), mark("error", 100 - thresholds.error)] : [];
+  const said = thresholds ? `; success at ${thresholds.success} %, a pause at ${thresholds.error} % bad` : "";
+  return s("svg", {class: "bar", role: "img", "aria-label": `${label}: ${inWords(counts)}, of ${number(counts.size)}${said}`}, parts, marks);
+}
+
+/** What the colours stand for, with how many there are of each. */
+export function legend(counts) {
+  const entry = (it) => h("li", {}, s("svg", {class: "swatch", "aria-hidden": true}, s("rect", {class: it, width: "100%", height: "100%"})),
+    h("strong", {"data-count": it}, number(counts[it])), h("span", {}, it));
+  return h("ul", {class: "legend", "aria-label": "Devices by outcome"}, PARTS.map(entry));
+}
+
+const SIGNS = {ok: "✓", bad: "✕", gone: "○", open: "▶", waiting: "…", paused: "❚❚"};
+
+/** A state: a sign and a word, in a colour. */
+export const badge = (kind, word) => h("span", {class: `badge ${kind}`}, h("span", {"aria-hidden": true, class: "sign"}, SIGNS[kind]), word.replaceAll("_", " "));
+
+/** A table that scrolls by itself where it is too wide. */
+export function table(label, heads, rows) {
+  return h("div", {class: "wide", role: "region", "aria-label": label, tabindex: 0}, h("table", {},
+    h("thead", {}, h("tr", {}, heads.map((it) => h("th", {scope: "col"}, it)))),
+    h("tbody", {}, rows.map((row) => h("tr", {}, row.map((it) => h("td", {}, it)))))));
+}
+
+export const link = (address, ...text) => h("a", {href: address}, ...text);
+
+/** The way to the other pages of a list; `address` tells where a page is. */
+export function pager(total, offset, limit, address) {
+  if (total <= limit) {
+    return h("p", {class: "pager"}, many(total, "entry").replace("entrys", "entries"));
+  }
+  const to = (at, word) => (at < 0 || at >= total || at === offset ? h("span", {}, word) : link(address(at), word));
+  return h("nav", {class: "pager", "aria-label": "Pages of the list"}, to(Math.max(0, offset - limit), "← before"),
+    h("span", {}, `${number(offset + 1)} to ${number(Math.min(total, offset + limit))} of ${number(total)}`), to(offset + limit, "after →"));
+}
+
+/** A labelled control with a hint. */
+export function field(id, label, control, hint = "") {
+  control.id = id;
+  if (hint) {
+    control.setAttribute("aria-describedby", `${id}-hint`);
+  }
+  return h("div", {class: "field"}, h("label", {for: id}, label), control, hint ? h("p", {class: "hint", id: `${id}-hint`}, hint) : null);
+}
+
+/** What was typed into a form. */
+export const typed = (form) => Object.fromEntries(new FormData(form));
+
+const dialog = document.getElementById("dialog");
+
+/** Asks once more, in words that say what will happen. */
+export function sure(title, sentences, yes) {
+  settle(document.getElementById("dialog-title"), [title]);
+  settle(document.getElementById("dialog-words"), sentences.map((it) => h("p", {}, it)));
+  settle(document.getElementById("dialog-yes"), [yes]);
+  dialog.returnValue = "no";
+  dialog.showModal();
+  return new Promise((done) => dialog.addEventListener("close", () => done(dialog.returnValue === "yes"), {once: true}));
+}
