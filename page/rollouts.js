@@ -119,7 +119,7 @@ function thresholdForm(rollout, page) {
     remember(rollout, typed(event.target));
     page.redraw();
   };
-  return h("details", {class: "marks"}, h("summary", {}, kept ? `Marks: success ${kept.success} %, error ${kept.error} %` : "Marks of the thresholds"),
+  return h("details", {class: "marks"}, h("summary", {}, kept ? `Marks: ▼ success at ${kept.success} % ok, ▲ a pause at ${kept.error} % bad` : "Marks of the thresholds"),
     h("p", {class: "hint"}, "The server tells a rollout's thresholds by no call. Those of rollouts that were created here are known; others can be typed in, for the marks alone."),
     h("form", {class: "row", onsubmit: keep}, box("success", "Success, %", kept?.success), box("error", "Error, %", kept?.error), h("button", {}, "Draw the marks")));
 }
@@ -130,7 +130,7 @@ function groupRow(rollout, group, thresholds) {
     h("div", {class: "line"}, h("h3", {}, `Group ${group.id}`), badge(GROUP_KINDS[group.status], group.status),
       link(`#/rollouts/${rollout.id}/groups/${group.id}`, many(group.size, "device"))),
     bar(counts, `Group ${group.id}`, thresholds),
-    h("p", {class: "under"}, inWords(counts), group.bad ? ` · ${percent(group.bad, group.size)} bad` : "", group.ok ? ` · ${percent(group.ok, group.size)} ok` : ""));
+    h("p", {class: "under"}, PARTS.filter((it) => counts[it]).map((it) => `${number(counts[it])} ${it} (${percent(counts[it], group.size)})`).join(", ")));
 }
 
 export const one = {
@@ -242,7 +242,7 @@ export const fresh = {
       h("div", {class: "row"},
         field("rollout-groups", "Groups", number_("groups", 3), "of even size, 1 to 50"),
         field("rollout-success", "Success threshold, %", number_("success", 80), "the next group starts where so many of a group succeeded"),
-        field("rollout-error", "Error threshold, %", number_("error", 20), "the rollout pauses where so many of a group failed")),
+        field("rollout-error", "Error threshold, %", number_("error", 10), "the rollout pauses where so many of a group failed")),
       plan,
       h("p", {class: "buttons"}, h("button", {class: "main"}, "Create the rollout"), link("#/rollouts", "Back")));
     form.oninput = preview;
