@@ -7,7 +7,7 @@ function filled(element, attributes, children) {
     if (key.startsWith("on")) {
       element[key] = value;
     } else if (value !== false && value !== null && value !== undefined) {
-      element.setAttribute(key, value === true ? "" : value);
+      element.setAttribute(key, value === true && !key.startsWith("aria-") ? "" : value);
     }
   }
   element.append(...children.flat(Infinity).filter((it) => it !== null && it !== undefined && it !== false));
