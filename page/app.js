@@ -107,7 +107,9 @@ function show(moved) {
 /** A failed store or a stopped server stays in view; what the proxy says in its place goes with the next answer. */
 events.addEventListener("fault", ({detail}) => {
   const kept = detail.isStore ? "store" : "away";
-  const more = detail.isStore ? " Look at the server's disk, start the program anew, then look here whether the last command is there." : " The page asks again, less often each time.";
+  const more = detail.isStore
+    ? " Look at the server's disk, start the program anew, then look here whether the last command is there."
+    : " The page asks again, less often each time.";
   if (kept === "store" || !place("banner").querySelector("[data-key=store]")) {
     const away = kept === "store" ? h("button", {class: "small", onclick: () => settle(place("banner"), [])}, "I have seen to it") : null;
     settle(place("banner"), [h("p", {class: "notice bad", "data-key": kept}, `${now()} ${detail.sentence}${more}`, away)]);

@@ -111,7 +111,8 @@ export function legend(counts) {
 const SIGNS = {ok: "✓", bad: "✕", gone: "○", open: "▶", waiting: "…", paused: "❚❚"};
 
 /** A state: a sign and a word, in a colour. */
-export const badge = (kind, word) => h("span", {class: `badge ${kind}`}, h("span", {"aria-hidden": true, class: "sign"}, SIGNS[kind]), word.replaceAll("_", " "));
+export const badge = (kind, word) =>
+  h("span", {class: `badge ${kind}`}, h("span", {"aria-hidden": true, class: "sign"}, SIGNS[kind]), word.replaceAll("_", " "));
 
 /** A table that scrolls by itself where it is too wide. */
 export function table(label, heads, rows) {
@@ -132,6 +133,9 @@ export function pager(total, offset, limit, address) {
     h("span", {}, `${number(offset + 1)} to ${number(Math.min(total, offset + limit))} of ${number(total)}`), to(offset + limit, "after →"));
 }
 
+/** A paragraph of a kind. */
+export const p = (kind, ...text) => h("p", {class: kind}, text);
+
 /** A labelled control with a hint. */
 export function field(id, label, control, hint = "") {
   control.id = id;
@@ -140,6 +144,10 @@ export function field(id, label, control, hint = "") {
   }
   return h("div", {class: "field"}, h("label", {for: id}, label), control, hint ? h("p", {class: "hint", id: `${id}-hint`}, hint) : null);
 }
+
+/** A control for a word of the server: so many letters, digits and `. _ -`. */
+export const word = (name, longest, more = {}) =>
+  h("input", {name, required: true, pattern: `[A-Za-z0-9._\\-]{1,${longest}}`, title: `1 to ${longest} of A-Z a-z 0-9 . _ -`, autocomplete: "off", ...more});
 
 /** What was typed into a form. */
 export const typed = (form) => Object.fromEntries(new FormData(form));

@@ -1,6 +1,6 @@
 // Firmware: modules with their files, and the sets that are made of them.
 import {all, ask, get, upload} from "./api.js";
-import {field, h, link, many, number, settle, table, typed} from "./drawing.js";
+import {field, h, link, many, number, p, settle, table, typed, word} from "./drawing.js";
 
 const MODULES = "/rest/v1/softwaremodules";
 const SETS = "/rest/v1/distributionsets";
@@ -9,7 +9,7 @@ const text = (name, more = {}) => h("input", {name, required: true, maxlength: 1
 const nameOf = (module) => `${module.name} ${module.version}`;
 
 /** A form whose input is sent, after which it is empty and the page is asked for anew. */
-function adding(id, word, controls, send, page) {
+function adding(id, command, controls, send, page) {
   const submit = (event) => {
     event.preventDefault();
     const form = event.target;
@@ -19,7 +19,7 @@ function adding(id, word, controls, send, page) {
       page.refresh();
     });
   };
-  return h("form", {id, class: "row", onsubmit: submit}, controls, h("button", {}, word));
+  return h("form", {id, class: "row", onsubmit: submit}, controls, h("button", {}, command));
 }
 
 function moduleForm(page) {
@@ -41,11 +41,11 @@ function setForm(modules, page) {
     const [made] = await ask("POST", SETS, [{name, version, modules: chosen}]);
     return `Added: set ${made.id}, ${nameOf(made)}. Its modules take no further file.`;
   };
-  const choices = modules.map((it) => h("label", {class: "choice", "data-key": it.id}, h("input", {type: "checkbox", name: "module", value: it.id}), nameOf(it)));
+  const choice = (it) => h("label", {class: "choice", "data-key": it.id}, h("input", {type: "checkbox", name: "module", value: it.id}), nameOf(it));
   return adding("new-set", "Make the set", [
     field("set-name", "Name", text("name")),
     field("set-version", "Version", text("version")),
-    h("fieldset", {}, h("legend", {}, "Modules, 1 to 8"), h("div", {class: "choices"}, choices)),
+    h("fieldset", {}, h("legend", {}, "Modules, 1 to 8"), h("div", {class: "choices"}, modules.map(choice))),
   ], send, page);
 }
 
@@ -58,10 +58,10 @@ export const list = {
     const setRow = (it) => [nameOf(it), it.modules.map(({id}, at) => [at ? ", " : "", link(`#/firmware/modules/${id}`, names.get(id) ?? `module ${id}`)])];
     return [
       h("h2", {}, "Modules"),
-      modules.length ? table("Modules", ["Module", "Type", "Files"], modules.map(moduleRow)) : h("p", {class: "empty"}, "No module yet."),
+      modules.length ? table("Modules", ["Module", "Type", "Files"], modules.map(moduleRow)) : p("empty", "No module yet."),
       h("details", {class: "card"}, h("summary", {}, "Add a module"), moduleForm(page)),
       h("h2", {}, "Sets"),
-      sets.length ? table("Sets", ["Set", "Modules"], sets.map(setRow)) : h("p", {class: "empty"}, "No set yet: a rollout hands one out."),
+      sets.length ? table("Sets", ["Set", "Modules"], sets.map(setRow)) : p("empty", "No set yet: a rollout hands one out."),
       h("details", {class: "card"}, h("summary", {}, "Make a set"), setForm(modules, page)),
     ];
   },
@@ -72,20 +72,20 @@ const hexadecimal = (bytes) => [...new Uint8Array(bytes)].map((it) => it.toStrin
 /** The SHA-256 of a file, or null where the browser computes none: it does so over https and on this machine alone. */
 const digestOf = async (file) => (crypto.subtle ? hexadecimal(await crypto.subtle.digest("SHA-256", await file.arrayBuffer())) : null);
 
+const UNGUARDED = "This address isn't https, so the browser computed no SHA-256: the file went without one, and may have arrived otherwise than it left.";
+
 async function sendFile(module, {file, filename}, told) {
   settle(told, ["Computes the SHA-256…"]);
   const sha256 = await digestOf(file);
   const query = new URLSearchParams({filename: filename || file.name, ...(sha256 && {sha256})});
   const bar = h("progress", {max: 1, "aria-label": "Sent so far"});
   const percent = h("span", {});
-  const unguarded = "This address isn't https, so the browser computes no SHA-256: the file goes without one, and the server can't tell whether it arrived as it left.";
-  settle(told, [h("p", {}, sha256 ? ["SHA-256 ", h("code", {}, sha256)] : unguarded), h("p", {}, bar, " ", percent)]);
+  settle(told, [h("p", {}, sha256 ? ["SHA-256 ", h("code", {}, sha256)] : UNGUARDED), h("p", {}, bar, " ", percent)]);
   const made = await upload(`${MODULES}/${module.id}/artifacts?${query}`, file, (gone, whole) => {
     bar.value = gone / whole;
     percent.textContent = `${number(gone)} of ${number(whole)} bytes`;
   });
-  const same = sha256 ? ", as it was computed here" : "";
-  return `Added: ${made.providedFilename}, ${many(made.size, "byte")}. The server computed the SHA-256 ${made.hashes.sha256}${same}.`;
+  return `Added: ${made.providedFilename}, ${many(made.size, "byte")}, SHA-256 ${made.hashes.sha256}. ${sha256 ? "It arrived as it left." : UNGUARDED}`;
 }
 
 function uploadForm(module, page) {
@@ -100,7 +100,7 @@ function uploadForm(module, page) {
   return h("section", {class: "card", "aria-label": "Upload"}, h("h2", {}, "Add a file"),
     adding("upload", "Upload", [
       field("upload-file", "File", h("input", {type: "file", name: "file", required: true}), "its SHA-256 is computed here and sent along"),
-      field("upload-name", "Name on the server", h("input", {name: "filename", maxlength: 128, pattern: "[A-Za-z0-9._\\-]+", title: "letters, digits and . _ -", autocomplete: "off"}), "the file's own where it is left empty"),
+      field("upload-name", "Name on the server", word("filename", 128, {required: false}), "the file's own where it is left empty"),
     ], send, page), told);
 }
 
@@ -114,9 +114,9 @@ export const module = {
       `${number(file.size)} bytes`, h("code", {class: "digest"}, file.hashes.sha256)];
     return [
       h("p", {}, link("#/firmware", "← Firmware")),
-      h("p", {class: "facts"}, `module ${it.id}, type ${it.type}`),
-      artifacts.length ? table("Files", ["File", "Size", "SHA-256"], artifacts.map(row)) : h("p", {class: "empty"}, "No file yet."),
-      it.locked ? h("p", {class: "hint"}, "A set names this module, so its files stay as they are.") : page.kept("upload", () => uploadForm(it, page)),
+      p("facts", `module ${it.id}, type ${it.type}`),
+      artifacts.length ? table("Files", ["File", "Size", "SHA-256"], artifacts.map(row)) : p("empty", "No file yet."),
+      it.locked ? p("hint", "A set names this module, so its files stay as they are.") : page.kept("upload", () => uploadForm(it, page)),
     ];
   },
 };

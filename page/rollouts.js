@@ -1,6 +1,6 @@
 // Rollouts: the list, one of them, the members of a group, and a new one.
 import {all, ask, askText, get, page as pageOf} from "./api.js";
-import {badge, bar, field, h, inWords, legend, link, many, number, pager, PARTS, settle, table, typed} from "./drawing.js";
+import {badge, bar, field, h, inWords, legend, link, many, number, p, pager, PARTS, settle, table, typed} from "./drawing.js";
 import {actionBadge, filterField, targetBadge} from "./targets.js";
 import {buttons} from "./steering.js";
 
@@ -10,7 +10,7 @@ const KINDS = {waiting_for_approval: "waiting", approval_denied: "bad", ready: "
 const GROUP_KINDS = {ready: "waiting", scheduled: "waiting", running: "open", error: "bad", finished: "ok"};
 
 /** How many of a group's devices are in each part. Open ones are offered the set, waiting ones aren't yet. */
-export function countsOf(group) {
+function countsOf(group) {
   const {size, ok, bad, gone} = group;
   const left = size - ok - bad - gone;
   const waits = group.status === "ready" || group.status === "scheduled";
@@ -33,17 +33,19 @@ const percent = (part, size) => `${Math.floor((100 * part) / size)} %`;
 const reaches = (group, thresholds) => 100 * group.bad >= group.size * thresholds.error;
 
 /** Why a paused rollout is paused, as far as its groups tell. */
-export function cause(groups, thresholds) {
+function cause(groups, thresholds) {
   const failed = groups.filter((it) => it.status === "error" || (thresholds && it.bad && reaches(it, thresholds)));
   if (!failed.length) {
-    return thresholds ? "Paused by an operator: no group's errors are at the threshold." : "Paused by an operator, or by the errors of a group that is finished now.";
+    return thresholds
+      ? "Paused by an operator: no group's errors are at the threshold."
+      : "Paused by an operator, or by the errors of a group that is finished now.";
   }
   const each = failed.map((it) => `group ${it.id} (${number(it.bad)} of ${number(it.size)} failed, ${percent(it.bad, it.size)})`);
   const limit = thresholds ? `the error threshold of ${thresholds.error} %` : "the error threshold";
   return `Paused: the errors of ${each.join(" and of ")} reached ${limit}.`;
 }
 
-const titleOf = (set) => (set ? `${set.name} ${set.version}` : "its set");
+const titleOf = (set) => `${set.name} ${set.version}`;
 
 // a set never changes
 const sets = new Map();
@@ -79,12 +81,13 @@ function groupCell(group, thresholds) {
 
 function card({rollout, groups, set}) {
   const thresholds = recall(rollout);
+  const size = `${many(rollout.totalTargets, "device")} in ${many(rollout.totalGroups, "group")}`;
   return h("li", {class: `card ${rollout.status}`, "data-key": rollout.id},
     h("div", {class: "line"}, h("h2", {}, link(`#/rollouts/${rollout.id}`, rollout.name)), badge(KINDS[rollout.status], rollout.status)),
-    h("p", {class: "facts"}, `${titleOf(set)} for ${many(rollout.totalTargets, "device")} in ${many(rollout.totalGroups, "group")}, `, h("code", {}, rollout.targetFilterQuery)),
-    rollout.status === "paused" ? h("p", {class: "cause"}, cause(groups, thresholds)) : null,
+    p("facts", `${titleOf(set)} for ${size}, `, h("code", {}, rollout.targetFilterQuery)),
+    rollout.status === "paused" ? p("cause", cause(groups, thresholds)) : null,
     h("ul", {class: "strip", "aria-label": `Groups of ${rollout.name}`}, groups.map((it) => groupCell(it, thresholds))),
-    h("p", {class: "under"}, inWords(sum(groups))));
+    p("under", inWords(sum(groups))));
 }
 
 export const list = {
@@ -102,9 +105,9 @@ export const list = {
     return {shown, total: found.total, offset: offset < 0 ? Math.max(0, found.total - SHOWN) : offset};
   },
   draw({shown, total, offset}) {
-    const none = h("p", {class: "empty"}, "There is no rollout yet. It needs ", link("#/firmware", "a set of firmware"), " and ", link("#/targets", "a fleet"), ".");
+    const none = p("empty", "There is no rollout yet. It needs ", link("#/firmware", "a set of firmware"), " and ", link("#/targets", "a fleet"), ".");
     return [
-      h("p", {class: "buttons"}, h("a", {class: "button main", href: "#/rollouts/new"}, "New rollout")),
+      p("buttons", h("a", {class: "button main", href: "#/rollouts/new"}, "New rollout")),
       shown.length ? h("ul", {class: "cards"}, shown.map(card)) : none,
       total > SHOWN ? pager(total, offset, SHOWN, (at) => `#/rollouts?offset=${at}`) : null,
     ];
@@ -119,9 +122,11 @@ function thresholdForm(rollout, page) {
     remember(rollout, typed(event.target));
     page.redraw();
   };
-  return h("details", {class: "marks"}, h("summary", {}, kept ? `Marks: ▼ success at ${kept.success} % ok, ▲ a pause at ${kept.error} % bad` : "Marks of the thresholds"),
-    h("p", {class: "hint"}, "The server tells a rollout's thresholds by no call. Those of rollouts that were created here are known; others can be typed in, for the marks alone."),
-    h("form", {class: "row", onsubmit: keep}, box("success", "Success, %", kept?.success), box("error", "Error, %", kept?.error), h("button", {}, "Draw the marks")));
+  const title = kept ? `Marks: ▼ success at ${kept.success} % ok, ▲ a pause at ${kept.error} % bad` : "Marks of the thresholds";
+  const hint = "The server tells a rollout's thresholds by no call. This browser knows those it created; others can be typed in, for the marks alone.";
+  const boxes = [box("success", "Success, %", kept?.success), box("error", "Error, %", kept?.error)];
+  const form = h("form", {class: "row", onsubmit: keep}, boxes, h("button", {}, "Draw the marks"));
+  return h("details", {class: "marks"}, h("summary", {}, title), p("hint", hint), form);
 }
 
 function groupRow(rollout, group, thresholds) {
@@ -130,7 +135,7 @@ function groupRow(rollout, group, thresholds) {
     h("div", {class: "line"}, h("h3", {}, `Group ${group.id}`), badge(GROUP_KINDS[group.status], group.status),
       link(`#/rollouts/${rollout.id}/groups/${group.id}`, many(group.size, "device"))),
     bar(counts, `Group ${group.id}`, thresholds),
-    h("p", {class: "under"}, PARTS.filter((it) => counts[it]).map((it) => `${number(counts[it])} ${it} (${percent(counts[it], group.size)})`).join(", ")));
+    p("under", PARTS.filter((it) => counts[it]).map((it) => `${number(counts[it])} ${it} (${percent(counts[it], group.size)})`).join(", ")));
 }
 
 export const one = {
@@ -147,13 +152,13 @@ export const one = {
     const total = sum(groups);
     const file = (path, name, text) => h("a", {href: `/desk/v1/rollouts/${rollout.id}/${path}`, download: name}, text);
     return [
-      h("p", {class: "line"}, badge(KINDS[rollout.status], rollout.status), h("span", {class: "facts"}, `${titleOf(set)} for `, h("code", {}, rollout.targetFilterQuery))),
-      rollout.status === "paused" ? h("p", {class: "cause"}, cause(groups, thresholds)) : null,
-      h("p", {class: "buttons"}, buttons({rollout, groups, set, thresholds}, page)),
+      p("line", badge(KINDS[rollout.status], rollout.status), h("span", {class: "facts"}, `${titleOf(set)} for `, h("code", {}, rollout.targetFilterQuery))),
+      rollout.status === "paused" ? p("cause", cause(groups, thresholds)) : null,
+      p("buttons", buttons({rollout, groups, set, thresholds}, page)),
       h("section", {class: "card", "aria-label": "All groups"}, bar(total, "All groups"), legend(total)),
       thresholdForm(rollout, page),
       h("ol", {class: "groups", "aria-label": "Groups"}, groups.map((it) => groupRow(rollout, it, thresholds))),
-      h("p", {class: "files"}, file("report", `rollout-${rollout.id}.txt`, "Save the report"), file("actions", `rollout-${rollout.id}.csv`, "Save the table of actions")),
+      p("files", file("report", `rollout-${rollout.id}.txt`, "Save the report"), file("actions", `rollout-${rollout.id}.csv`, "Save the table of actions")),
     ];
   },
 };
@@ -178,7 +183,8 @@ export const members = {
     const row = ({controllerId, name, updateStatus}) => {
       const its = actions.get(controllerId);
       const history = its ? link(`#/targets/${controllerId}/actions/${its.action}`, `action ${its.action}`) : "none yet";
-      return [link(`#/targets/${controllerId}`, controllerId), name, its ? actionBadge(its.state) : badge("waiting", "not started"), targetBadge(updateStatus), history];
+      const state = its ? actionBadge(its.state) : badge("waiting", "not started");
+      return [link(`#/targets/${controllerId}`, controllerId), name, state, targetBadge(updateStatus), history];
     };
     return [
       h("p", {}, link(`#/rollouts/${rollout.id}`, `← ${rollout.name}`)),
@@ -191,19 +197,21 @@ export const members = {
 };
 
 /** The sizes of even groups, as the server cuts them. */
-export function evenly(total, count) {
+function evenly(total, count) {
   const end = (k) => Math.floor((k * total) / count);
   return Array.from({length: count}, (_, k) => end(k + 1) - end(k));
 }
 
 function planned(total, count, thresholds) {
   if (!(count >= 1 && count <= 50)) {
-    return [h("p", {class: "hint"}, "A rollout has 1 to 50 groups.")];
+    return [p("hint", "A rollout has 1 to 50 groups.")];
   }
   if (total < count) {
-    return [h("p", {class: "hint"}, `${many(total, "device")} can't fill ${many(count, "group")}.`)];
+    return [p("hint", `${many(total, "device")} can't fill ${many(count, "group")}.`)];
   }
-  const drawn = (size, k) => h("li", {}, bar({size, ok: 0, bad: 0, gone: 0, open: 0, waiting: size}, `Group ${k + 1}`, thresholds), h("span", {class: "under"}, `${k + 1} · ${many(size, "device")}`));
+  const asWaiting = (size) => countsOf({size, ok: 0, bad: 0, gone: 0, status: "ready"});
+  const drawn = (size, k) =>
+    h("li", {}, bar(asWaiting(size), `Group ${k + 1}`, thresholds), h("span", {class: "under"}, `${k + 1} · ${many(size, "device")}`));
   return [h("ul", {class: "strip", "aria-label": "Groups as they will be"}, evenly(total, count).map(drawn))];
 }
 
@@ -229,12 +237,12 @@ export const fresh = {
     const form = h("form", {id: "new-rollout"});
     const preview = () => {
       const {groups, success, error} = typed(form);
-      settle(plan, matching === null ? [h("p", {class: "hint"}, "Type a filter to see the groups.")] : planned(matching, Number(groups), {success, error}));
+      settle(plan, matching === null ? [p("hint", "Type a filter to see the groups.")] : planned(matching, Number(groups), {success, error}));
     };
     const number_ = (name, value) => h("input", {name, type: "number", min: 1, max: name === "groups" ? 50 : 100, required: true, value});
     form.append(
       field("rollout-name", "Name", h("input", {name: "name", required: true, maxlength: 128, autocomplete: "off"})),
-      field("rollout-set", "Set", h("select", {name: "set", required: true}, known.map((it) => h("option", {value: it.id}, `${it.name} ${it.version}`)).reverse())),
+      field("rollout-set", "Set", h("select", {name: "set", required: true}, known.map((it) => h("option", {value: it.id}, titleOf(it))).reverse())),
       filterField("rollout-filter", "name==*", (total) => {
         matching = total;
         preview();
@@ -244,13 +252,13 @@ export const fresh = {
         field("rollout-success", "Success threshold, %", number_("success", 80), "the next group starts where so many of a group succeeded"),
         field("rollout-error", "Error threshold, %", number_("error", 10), "the rollout pauses where so many of a group failed")),
       plan,
-      h("p", {class: "buttons"}, h("button", {class: "main"}, "Create the rollout"), link("#/rollouts", "Back")));
+      p("buttons", h("button", {class: "main"}, "Create the rollout"), link("#/rollouts", "Back")));
     form.oninput = preview;
     form.onsubmit = (event) => {
       event.preventDefault();
       page.tried(() => create(typed(form), page));
     };
     preview();
-    return known.length ? [form] : [h("p", {class: "empty"}, "A rollout needs a set: ", link("#/firmware", "make one first"), ".")];
+    return known.length ? [form] : [p("empty", "A rollout needs a set: ", link("#/firmware", "make one first"), ".")];
   },
 };

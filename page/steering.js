@@ -1,6 +1,6 @@
 // Steering: what a state allows, and what will happen, said before it does.
 import {ask} from "./api.js";
-import {h, many, number, sure} from "./drawing.js";
+import {h, many, sure} from "./drawing.js";
 
 const offered = (group, set) => `${many(group.size, "device")} ${group.size === 1 ? "is" : "are"} offered ${set.name} ${set.version}`;
 const isWaiting = (group) => group.status === "scheduled" || group.status === "ready";
@@ -22,7 +22,7 @@ function onResume({groups, set, thresholds}) {
   const needed = Math.ceil((before.size * thresholds.success) / 100);
   return before.ok >= needed
     ? `Ends the pause, and starts group ${after.id} at once, since group ${before.id} has its success: ${offered(after, set)}.`
-    : `Ends the pause. Group ${after.id} starts where ${number(needed)} of ${number(before.size)} in group ${before.id} succeeded; now it is ${number(before.ok)}.`;
+    : `Ends the pause. Group ${after.id} starts once ${needed} of ${before.size} in group ${before.id} succeeded; ${before.ok} did so far.`;
 }
 
 const COMMANDS = {
@@ -31,19 +31,22 @@ const COMMANDS = {
     allowed: ({rollout}) => rollout.status === "ready",
     says({rollout, groups, set}) {
       const rest = rollout.totalTargets - groups[0].size;
-      return [`Starts group 1: ${offered(groups[0], set)}.`, rest ? `${many(rest, "device")} in ${many(groups.length - 1, "group")} wait for their turn.` : "It is the only group."];
+      const later = rest ? `Later: ${many(rest, "device")} in ${many(groups.length - 1, "group")}.` : "It is the only group.";
+      return [`Starts group 1: ${offered(groups[0], set)}.`, later];
     },
   },
   pause: {
     word: "Pause",
     allowed: ({rollout}) => rollout.status === "running",
-    says: ({groups}) => ["Starts no further group until it is resumed.", `No offer is withdrawn: ${many(open(groups), "device")} that have it open may still install.`],
+    says: ({groups}) => ["Starts no further group until it is resumed.", `Withdraws no offer: ${many(open(groups), "device")} may still install.`],
   },
   resume: {word: "Resume", allowed: ({rollout}) => rollout.status === "paused", says: (it) => [onResume(it)]},
   triggerNextGroup: {
     word: "Start the next group",
     allowed: ({rollout, groups}) => rollout.status === "running" && next(groups),
-    says: ({groups, set}) => [`Starts group ${next(groups).id}: ${offered(next(groups), set)}.`, `It doesn't wait for the success of group ${last(groups).id}.`],
+    says({groups, set}) {
+      return [`Starts group ${next(groups).id}: ${offered(next(groups), set)}.`, `It doesn't wait for the success of group ${last(groups).id}.`];
+    },
   },
   approve: {
     word: "Approve",
@@ -86,8 +89,8 @@ export function cancelButton({id, target, status, rollout}, page) {
   }
   const word = forced ? "Cancel by force" : "Cancel";
   const says = forced
-    ? [`Ends action ${id} of ${target} now, without the device: it counts as gone in rollout ${rollout}.`, "A device that installs all the same isn't counted any more."]
-    : [`Asks ${target} to give action ${id} of rollout ${rollout} up, when it polls next.`, "A device that is past that point goes on, and its outcome counts."];
+    ? [`Ends action ${id} of ${target} now, without the device: it counts as gone in rollout ${rollout}.`, "What the device does all the same isn't counted."]
+    : [`Asks ${target} to give action ${id} of rollout ${rollout} up, when it polls next.`, "A device that goes on all the same has its outcome counted."];
   const send = () => ask("DELETE", `/rest/v1/targets/${target}/actions/${id}${forced ? "?force=true" : ""}`);
   const press = () => steer(`${word}: action ${id} of ${target}`, says, word, `Done: ${word.toLowerCase()}, action ${id} of ${target}.`, page, send);
   return h("button", {"data-key": `${word} ${id}`, onclick: press, "aria-label": `${word}: action ${id}`}, word);

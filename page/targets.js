@@ -1,6 +1,6 @@
 // The fleet: targets by a filter, one of them with its tags and actions, the history of an action, the import of a file.
 import {ask, get, page as pageOf} from "./api.js";
-import {badge, field, h, link, many, number, pager, settle, table, typed} from "./drawing.js";
+import {badge, field, h, link, many, number, p, pager, settle, table, typed, word} from "./drawing.js";
 import {faultOf} from "./filter.js";
 import {cancelButton} from "./steering.js";
 
@@ -57,7 +57,8 @@ export function filterField(id, filter, counted = () => {}) {
   if (filter) {
     count();
   }
-  const whole = field(id, "Filter", input, "controllerid, name, tag or attribute.KEY, == or !=, a value in which * stands for anything; ; is and, a comma is or");
+  const hint = "controllerid, name, tag or attribute.KEY; == or !=; a value, * stands for anything. Joined by ; for and, by a comma for or";
+  const whole = field(id, "Filter", input, hint);
   input.setAttribute("aria-describedby", `${id}-told ${id}-hint`);
   input.after(told);
   return whole;
@@ -74,15 +75,16 @@ function importForm(page) {
     settle(told, [`Sends ${file.name}…`]);
     try {
       const {accepted} = await ask("POST", "/desk/v1/import", file);
-      settle(told, [h("p", {class: "notice ok"}, `Imported: ${many(accepted, "device")}.`)]);
+      settle(told, [p("notice ok", `Imported: ${many(accepted, "device")}.`)]);
       page.refresh();
     } catch (refusal) {
-      settle(told, [h("p", {class: "notice bad"}, refusal.sentence), refusal.number === 14 ? await wrongRecord(file, refusal.line) : null]);
+      settle(told, [p("notice bad", refusal.sentence), refusal.number === 14 ? await wrongRecord(file, refusal.line) : null]);
     }
   };
   return h("details", {class: "card"}, h("summary", {}, "Import a file of devices"),
     h("form", {class: "row", onsubmit: send},
-      field("import-file", "CSV file", h("input", {type: "file", name: "file", accept: ".csv,text/csv", required: true}), "its first line is controllerid,name,token,tags; a device that is there already gets the new name, token and tags"),
+      field("import-file", "CSV file", h("input", {type: "file", name: "file", accept: ".csv,text/csv", required: true}),
+        "its first line is controllerid,name,token,tags; a device that is there already gets the new name, token and tags"),
       h("button", {}, "Import")),
     told);
 }
@@ -93,7 +95,16 @@ async function wrongRecord(file, line) {
   if (!line) {
     return h("p", {}, "It is the file as a whole: empty, or no text in UTF-8.");
   }
-  return h("p", {}, "Line ", h("strong", {"data-line": line}, line), line === 1 ? " has to be controllerid,name,token,tags; it is " : " is ", h("code", {class: "fault"}, h("mark", {}, records[line - 1] ?? "")));
+  const wanted = line === 1 ? " has to be controllerid,name,token,tags; it is " : " is ";
+  return h("p", {}, "Line ", h("strong", {"data-line": line}, line), wanted, h("code", {class: "fault"}, h("mark", {}, records[line - 1] ?? "")));
+}
+
+function shownTargets({refusal, content, total}) {
+  const row = (it) => [link(`#/targets/${it.controllerId}`, it.controllerId), it.name, targetBadge(it.updateStatus), tagsOf(it), attributesOf(it)];
+  if (refusal) {
+    return p("notice bad", refusal.sentence);
+  }
+  return total ? table("Targets", ["Device", "Name", "State", "Tags", "Attributes"], content.map(row)) : p("empty", "No device is there that matches.");
 }
 
 export const list = {
@@ -109,11 +120,10 @@ export const list = {
       event.preventDefault();
       page.go(address(0, typed(event.target).filter));
     };
-    const row = (it) => [link(`#/targets/${it.controllerId}`, it.controllerId), it.name, targetBadge(it.updateStatus), tagsOf(it), attributesOf(it)];
     return [
-      page.kept("filter", () => h("form", {onsubmit: search, role: "search"}, filterField("fleet-filter", filter), h("p", {class: "buttons"}, h("button", {class: "main"}, "Show these")))),
-      targets.refusal ? h("p", {class: "notice bad"}, targets.refusal.sentence)
-        : targets.total ? table("Targets", ["Device", "Name", "State", "Tags", "Attributes"], targets.content.map(row)) : h("p", {class: "empty"}, "No device is there that matches."),
+      page.kept("filter", () => h("form", {onsubmit: search, role: "search"}, filterField("fleet-filter", filter),
+        p("buttons", h("button", {class: "main"}, "Show these")))),
+      shownTargets(targets),
       pager(targets.total, offset, SHOWN, address),
       page.kept("import", () => importForm(page)),
     ];
@@ -133,9 +143,10 @@ function tagForm(target, page) {
     event.target.reset();
     change("POST", tag, "Tag put");
   };
-  const tag = (it) => h("li", {class: "tag", "data-key": it}, it, h("button", {class: "small", "aria-label": `Take the tag ${it}`, onclick: () => change("DELETE", it, "Tag taken")}, "✕"));
+  const take = (it) => h("button", {class: "small", "aria-label": `Take the tag ${it}`, onclick: () => change("DELETE", it, "Tag taken")}, "✕");
+  const tag = (it) => h("li", {class: "tag", "data-key": it}, it, take(it));
   return [h("ul", {class: "tags", "aria-label": "Tags"}, target.tags.map(tag)),
-    h("form", {class: "row", onsubmit: put}, field("tag", "A new tag", h("input", {name: "tag", required: true, pattern: "[A-Za-z0-9._\\-]{1,64}", title: "1 to 64 letters, digits and . _ -", autocomplete: "off"})), h("button", {}, "Put the tag"))];
+    h("form", {class: "row", onsubmit: put}, field("tag", "A new tag", word("tag", 64)), h("button", {}, "Put the tag"))];
 }
 
 const actionAt = (it) => `#/targets/${it.target}/actions/${it.id}`;
@@ -147,15 +158,18 @@ export const one = {
     return {target: await get(`${LIST}/${id}`), offset, actions: await pageOf(`${LIST}/${id}/actions`, offset, SHOWN)};
   },
   draw({target, offset, actions}, page) {
-    const row = (it) => [link(actionAt(it), `action ${it.id}`), link(`#/rollouts/${it.rollout}`, `rollout ${it.rollout}`), `group ${it.group}`, actionBadge(it.status), cancelButton(it, page)];
+    const ofRollout = (it) => link(`#/rollouts/${it.rollout}`, `rollout ${it.rollout}`);
+    const row = (it) => [link(actionAt(it), `action ${it.id}`), ofRollout(it), `group ${it.group}`, actionBadge(it.status), cancelButton(it, page)];
     return [
-      h("p", {class: "line"}, targetBadge(target.updateStatus), h("span", {class: "facts"}, target.name)),
+      p("line", targetBadge(target.updateStatus), h("span", {class: "facts"}, target.name)),
       h("section", {class: "card", "aria-label": "Tags"}, h("h2", {}, "Tags"), tagForm(target, page)),
       h("section", {class: "card", "aria-label": "Attributes"}, h("h2", {}, "Attributes"),
         h("dl", {}, Object.entries(target.attributes).map(([key, value]) => [h("dt", {}, key), h("dd", {}, value)])),
-        Object.keys(target.attributes).length ? null : h("p", {class: "hint"}, "The device has told none.")),
+        Object.keys(target.attributes).length ? null : p("hint", "The device has told none.")),
       h("h2", {}, "Actions"),
-      actions.total ? table("Actions", ["Action", "Rollout", "Group", "State", ""], actions.content.map(row)) : h("p", {class: "empty"}, "No rollout has reached this device."),
+      actions.total
+        ? table("Actions", ["Action", "Rollout", "Group", "State", "Steering"], actions.content.map(row))
+        : p("empty", "No rollout has reached this device."),
       actions.total > SHOWN ? pager(actions.total, offset, SHOWN, (at) => `#/targets/${target.controllerId}?offset=${at}`) : null,
     ];
   },
@@ -174,10 +188,11 @@ export const action = {
   },
   draw({action: it, history}, page) {
     return [
-      h("p", {class: "line"}, link(`#/targets/${it.target}`, `← ${it.target}`), actionBadge(it.status), link(`#/rollouts/${it.rollout}/groups/${it.group}`, `group ${it.group} of rollout ${it.rollout}`)),
-      h("p", {class: "buttons"}, cancelButton(it, page)),
+      p("line", link(`#/targets/${it.target}`, `← ${it.target}`), actionBadge(it.status),
+        link(`#/rollouts/${it.rollout}/groups/${it.group}`, `group ${it.group} of rollout ${it.rollout}`)),
+      p("buttons", cancelButton(it, page)),
       h("h2", {}, "What the device reported"),
-      history.total ? h("ol", {class: "history"}, history.content.map(entry)) : h("p", {class: "empty"}, "Nothing yet."),
+      history.total ? h("ol", {class: "history"}, history.content.map(entry)) : p("empty", "Nothing yet."),
     ];
   },
 };
