@@ -112,7 +112,13 @@ export const list = {
   async load(_, query) {
     const filter = query.get("q") ?? "";
     const offset = Number(query.get("offset") ?? 0);
-    return {filter, offset, targets: await pageOf(matching(filter), offset, SHOWN).catch((refusal) => ({refusal, content: [], total: 0}))};
+    const none = (refusal) => {
+      if (refusal.number !== 11) {
+        throw refusal;
+      }
+      return {refusal, content: [], total: 0};
+    };
+    return {filter, offset, targets: await pageOf(matching(filter), offset, SHOWN).catch(none)};
   },
   draw({filter, offset, targets}, page) {
     const address = (at, text = filter) => `#/targets?${new URLSearchParams({q: text, offset: at})}`;
