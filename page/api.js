@@ -21,7 +21,7 @@ const WORDS = {
 };
 
 /** What the server, or the proxy before it, doesn't do: its number (0 where it gave none), its words, and the line of an import. */
-class Refusal extends Error {
+export class Refusal extends Error {
   constructor(status, told) {
     const number = told?.number ?? 0;
     super(number ? WORDS[number] ?? told.error : status ? WORDS[{401: 2, 413: 9}[status]] ?? `the proxy answers ${status}` : "the server can't be reached");

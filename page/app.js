@@ -1,5 +1,5 @@
 // Leads from an address to what it shows, keeps that up to date, and says what went wrong.
-import {events, gently} from "./api.js";
+import {events, gently, Refusal} from "./api.js";
 import {h, settle} from "./drawing.js";
 import * as firmware from "./firmware.js";
 import * as rollouts from "./rollouts.js";
@@ -16,6 +16,13 @@ const VIEWS = [
   [/^\/firmware$/, firmware.list],
   [/^\/firmware\/modules\/(\d+)$/, firmware.module],
 ];
+
+/** What an address leads to that leads nowhere: what the server says of such a number. */
+const NOWHERE = {
+  async load() {
+    throw new Refusal(404, {number: 3});
+  },
+};
 
 const place = (id) => document.getElementById(id);
 const now = () => new Date().toLocaleTimeString([], {hour: "2-digit", minute: "2-digit", second: "2-digit"});
@@ -94,9 +101,9 @@ async function update(view) {
 
 function show(moved) {
   const [address, query] = (location.hash.slice(1) || "/rollouts").split("?");
-  const [pattern, view] = VIEWS.find(([it]) => it.test(address)) ?? VIEWS[0];
+  const [pattern, view] = VIEWS.find(([it]) => it.test(address)) ?? [/^/, NOWHERE];
   shown?.loop.end();
-  const next = {view, moved, parameters: pattern.exec(address)?.slice(1) ?? [], query: new URLSearchParams(query), parts: new Map()};
+  const next = {view, moved, parameters: pattern.exec(address).slice(1), query: new URLSearchParams(query), parts: new Map()};
   shown = next;
   next.loop = gently(() => update(next));
   for (const it of place("pages").children) {
