@@ -129,9 +129,9 @@ export const list = {
     return [
       page.kept("filter", () => h("form", {onsubmit: search, role: "search"}, filterField("fleet-filter", filter),
         p("buttons", h("button", {class: "main"}, "Show these")))),
+      page.kept("import", () => importForm(page)),
       shownTargets(targets),
       pager(targets.total, offset, SHOWN, address),
-      page.kept("import", () => importForm(page)),
     ];
   },
 };
