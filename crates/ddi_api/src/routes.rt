@@ -19,37 +19,39 @@ pub struct DeviceRoutes {
     ghost by_table: { router ≡ device_rows },
 }
 
+/// Each route with what it leads to.
+const ROUTES: [(&str, DeviceCall); 7] = [
+    ("/DEFAULT/controller/v1/{controller}", DeviceCall::Poll),
+    (
+        "/DEFAULT/controller/v1/{controller}/deploymentBase/{action}",
+        DeviceCall::ShowDeployment,
+    ),
+    (
+        "/DEFAULT/controller/v1/{controller}/deploymentBase/{action}/feedback",
+        DeviceCall::Feedback,
+    ),
+    (
+        "/DEFAULT/controller/v1/{controller}/cancelAction/{action}",
+        DeviceCall::ShowCancel,
+    ),
+    (
+        "/DEFAULT/controller/v1/{controller}/cancelAction/{action}/feedback",
+        DeviceCall::CancelFeedback,
+    ),
+    (
+        "/DEFAULT/controller/v1/{controller}/configData",
+        DeviceCall::PutAttributes,
+    ),
+    (
+        "/DEFAULT/controller/v1/{controller}/softwaremodules/{module}/artifacts/{filename}",
+        DeviceCall::Download,
+    ),
+];
+
 fn device_router(alloc: Global) -> Result<Router<DeviceCall>, AllocError>
     ensures { IfOk result (λ r. r ≡ device_rows) }
 {
-    let routes = [
-        ("/DEFAULT/controller/v1/{controller}", DeviceCall::Poll),
-        (
-            "/DEFAULT/controller/v1/{controller}/deploymentBase/{action}",
-            DeviceCall::ShowDeployment,
-        ),
-        (
-            "/DEFAULT/controller/v1/{controller}/deploymentBase/{action}/feedback",
-            DeviceCall::Feedback,
-        ),
-        (
-            "/DEFAULT/controller/v1/{controller}/cancelAction/{action}",
-            DeviceCall::ShowCancel,
-        ),
-        (
-            "/DEFAULT/controller/v1/{controller}/cancelAction/{action}/feedback",
-            DeviceCall::CancelFeedback,
-        ),
-        (
-            "/DEFAULT/controller/v1/{controller}/configData",
-            DeviceCall::PutAttributes,
-        ),
-        (
-            "/DEFAULT/controller/v1/{controller}/softwaremodules/{module}/artifacts/{filename}",
-            DeviceCall::Download,
-        ),
-    ];
-    router_of(alloc, &routes)
+    router_of(alloc, &ROUTES)
 }
 
 impl DeviceRoutes {

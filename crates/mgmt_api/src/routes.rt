@@ -68,90 +68,92 @@ pub struct ManageRoutes {
     ghost by_table: { router ≡ manage_rows },
 }
 
+/// Each route with what it leads to.
+const ROUTES: [(&str, ManageRoute); 27] = [
+    ("/rest/v1/softwaremodules", ManageRoute::Modules),
+    ("/rest/v1/softwaremodules/{module}", ManageRoute::Module),
+    (
+        "/rest/v1/softwaremodules/{module}/artifacts",
+        ManageRoute::Artifacts,
+    ),
+    (
+        "/rest/v1/softwaremodules/{module}/artifacts/{artifact}",
+        ManageRoute::Artifact,
+    ),
+    (
+        "/rest/v1/softwaremodules/{module}/artifacts/{artifact}/download",
+        ManageRoute::Contents,
+    ),
+    ("/rest/v1/distributionsets", ManageRoute::Sets),
+    ("/rest/v1/distributionsets/{set}", ManageRoute::Set),
+    ("/rest/v1/targets", ManageRoute::Targets),
+    ("/rest/v1/targets/{target}", ManageRoute::Target),
+    (
+        "/rest/v1/targets/{target}/tags/{tag}",
+        ManageRoute::TargetTag,
+    ),
+    (
+        "/rest/v1/targets/{target}/actions",
+        ManageRoute::TargetActions,
+    ),
+    (
+        "/rest/v1/targets/{target}/actions/{action}",
+        ManageRoute::Action,
+    ),
+    (
+        "/rest/v1/targets/{target}/actions/{action}/status",
+        ManageRoute::History,
+    ),
+    ("/rest/v1/rollouts", ManageRoute::Rollouts),
+    ("/rest/v1/rollouts/{rollout}", ManageRoute::Rollout),
+    (
+        "/rest/v1/rollouts/{rollout}/approve",
+        ManageRoute::Turned(RolloutTurn::Approve),
+    ),
+    (
+        "/rest/v1/rollouts/{rollout}/deny",
+        ManageRoute::Turned(RolloutTurn::Deny),
+    ),
+    (
+        "/rest/v1/rollouts/{rollout}/start",
+        ManageRoute::Turned(RolloutTurn::Start),
+    ),
+    (
+        "/rest/v1/rollouts/{rollout}/pause",
+        ManageRoute::Turned(RolloutTurn::Pause),
+    ),
+    (
+        "/rest/v1/rollouts/{rollout}/resume",
+        ManageRoute::Turned(RolloutTurn::Resume),
+    ),
+    (
+        "/rest/v1/rollouts/{rollout}/triggerNextGroup",
+        ManageRoute::Turned(RolloutTurn::TriggerNext),
+    ),
+    (
+        "/rest/v1/rollouts/{rollout}/deploygroups",
+        ManageRoute::Groups,
+    ),
+    (
+        "/rest/v1/rollouts/{rollout}/deploygroups/{group}",
+        ManageRoute::Group,
+    ),
+    (
+        "/rest/v1/rollouts/{rollout}/deploygroups/{group}/targets",
+        ManageRoute::GroupTargets,
+    ),
+    ("/desk/v1/rollouts/{rollout}/report", ManageRoute::Report),
+    (
+        "/desk/v1/rollouts/{rollout}/actions",
+        ManageRoute::ActionsTable,
+    ),
+    ("/desk/v1/import", ManageRoute::Import),
+];
+
 fn manage_router(alloc: Global) -> Result<Router<ManageRoute>, AllocError>
     ensures { IfOk result (λ r. r ≡ manage_rows) }
 {
-    let routes = [
-        ("/rest/v1/softwaremodules", ManageRoute::Modules),
-        ("/rest/v1/softwaremodules/{module}", ManageRoute::Module),
-        (
-            "/rest/v1/softwaremodules/{module}/artifacts",
-            ManageRoute::Artifacts,
-        ),
-        (
-            "/rest/v1/softwaremodules/{module}/artifacts/{artifact}",
-            ManageRoute::Artifact,
-        ),
-        (
-            "/rest/v1/softwaremodules/{module}/artifacts/{artifact}/download",
-            ManageRoute::Contents,
-        ),
-        ("/rest/v1/distributionsets", ManageRoute::Sets),
-        ("/rest/v1/distributionsets/{set}", ManageRoute::Set),
-        ("/rest/v1/targets", ManageRoute::Targets),
-        ("/rest/v1/targets/{target}", ManageRoute::Target),
-        (
-            "/rest/v1/targets/{target}/tags/{tag}",
-            ManageRoute::TargetTag,
-        ),
-        (
-            "/rest/v1/targets/{target}/actions",
-            ManageRoute::TargetActions,
-        ),
-        (
-            "/rest/v1/targets/{target}/actions/{action}",
-            ManageRoute::Action,
-        ),
-        (
-            "/rest/v1/targets/{target}/actions/{action}/status",
-            ManageRoute::History,
-        ),
-        ("/rest/v1/rollouts", ManageRoute::Rollouts),
-        ("/rest/v1/rollouts/{rollout}", ManageRoute::Rollout),
-        (
-            "/rest/v1/rollouts/{rollout}/approve",
-            ManageRoute::Turned(RolloutTurn::Approve),
-        ),
-        (
-            "/rest/v1/rollouts/{rollout}/deny",
-            ManageRoute::Turned(RolloutTurn::Deny),
-        ),
-        (
-            "/rest/v1/rollouts/{rollout}/start",
-            ManageRoute::Turned(RolloutTurn::Start),
-        ),
-        (
-            "/rest/v1/rollouts/{rollout}/pause",
-            ManageRoute::Turned(RolloutTurn::Pause),
-        ),
-        (
-            "/rest/v1/rollouts/{rollout}/resume",
-            ManageRoute::Turned(RolloutTurn::Resume),
-        ),
-        (
-            "/rest/v1/rollouts/{rollout}/triggerNextGroup",
-            ManageRoute::Turned(RolloutTurn::TriggerNext),
-        ),
-        (
-            "/rest/v1/rollouts/{rollout}/deploygroups",
-            ManageRoute::Groups,
-        ),
-        (
-            "/rest/v1/rollouts/{rollout}/deploygroups/{group}",
-            ManageRoute::Group,
-        ),
-        (
-            "/rest/v1/rollouts/{rollout}/deploygroups/{group}/targets",
-            ManageRoute::GroupTargets,
-        ),
-        ("/desk/v1/rollouts/{rollout}/report", ManageRoute::Report),
-        (
-            "/desk/v1/rollouts/{rollout}/actions",
-            ManageRoute::ActionsTable,
-        ),
-        ("/desk/v1/import", ManageRoute::Import),
-    ];
-    router_of(alloc, &routes)
+    router_of(alloc, &ROUTES)
 }
 
 impl ManageRoutes {
