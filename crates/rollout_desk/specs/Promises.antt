@@ -1,4 +1,4 @@
--- What devices and keepers rely on in an answer to a query, at any list that the desk stands for.
+-- What devices and operators rely on in an answer to a query, at any list that the desk stands for.
 use Rattle.std.specs.Prelude.{◌≡◌, ℕ, true, false, length, Option, Some, None}
 use Rattle.rollout_machine.specs.Actions.{ActionPlace}
 use Rattle.rollout_machine.specs.Answers.{artifact_named, artifact_of_module}
