@@ -72,7 +72,8 @@ pub record CarriesOut {S : Type 0} (g : Ghosts S) (setup : Setup) (before after 
 
 -- So many connections were served one after the other, or the port wasn't taken. What a socket gives and takes no contract can say, so this
 -- speaks of the desk and of the outcome.
-pub record Listens {File : Type 0} (interface : Interface) (bound : Bool) (connections : ℕ) (old new : DeskState File) (outcome : Result ℕ ListenFault) : Type 0 where
+pub record Listens {File : Type 0} (interface : Interface) (bound : Bool) (connections : ℕ)
+    (old new : DeskState File) (outcome : Result ℕ ListenFault) : Type 0 where
   pub clean : new.is_clean → old.is_clean
   pub keeps : (h : CommandList) → new.is_clean → StandsFor old h → Keeps interface new h
   pub store : StopsAtStore new outcome
@@ -87,7 +88,8 @@ ReportsOn old new telling_fails (Ok served) = Appends old new []
 ReportsOn old new telling_fails (Err fault) = Tells old new telling_fails (listen_line fault)
 
 -- The order `serve` was carried out over an opened desk, with this outcome, which gives the status and the line that is told.
-pub record CarriesOutOn {File : Type 0} (interface : Interface) (bound : Bool) (connections : ℕ) (before after : DeskState File) (told told_new : Option (List ℕ)) (telling_fails : Bool) (status : ℕ) : Type 0 where
+pub record CarriesOutOn {File : Type 0} (interface : Interface) (bound : Bool) (connections : ℕ)
+    (before after : DeskState File) (told told_new : Option (List ℕ)) (telling_fails : Bool) (status : ℕ) : Type 0 where
   pub outcome : Result ℕ ListenFault
   pub listens : Listens interface bound connections before after outcome
   pub status_is : status ≡ status_of outcome

@@ -102,7 +102,7 @@ fn serve_next<D: ContentsHandler>(
 }
 
 /// Serves so many connections one after the other, and counts those that were served to their end. A fault of reading, writing or memory
-/// ends its connection alone; so does a client for which a read or a write has to wait longer than 30 seconds.
+/// ends its connection alone; so does a client for which a read waits longer than 30 seconds, or a write longer than 10.
 pub fn serve_on<D: ContentsHandler>(
     alloc: Global,
     desk: &mut D,
