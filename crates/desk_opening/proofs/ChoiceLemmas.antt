@@ -8,6 +8,7 @@ use Rattle.sqlite_schema.specs.Names.{table_named}
 use Rattle.sqlite_catalog.specs.Change.{is_used}
 use Rattle.sql_front.specs.Free.{LeavesFree}
 use Rattle.sql_calls.specs.Standing.{Rests}
+use Rattle.sql_calls.proofs.FrameEnds.{still_holds}
 use Rattle.rollout_machine.specs.Records.{Records}
 use Rattle.desk_records.specs.Schema.{Desk, desk_names}
 use Rattle.desk_records.specs.Holds.{HoldsRecords}
@@ -22,12 +23,12 @@ used_at s at h = rw h
 -- a database that holds records uses the name `desk`
 held_is_used : (old : State) (r : Records) → IsKnownOpen old → Rests HoldsRecords old r → HasCleanDisk old → ¬ LeavesFree old.now.schema desk_names
 held_is_used old r is_open was clean free =
-    let holds = (was clean).now_holds (is_open clean) in
+    let holds = still_holds HoldsRecords old r (was clean) (is_open clean) in
     both_ways (is_used old.now.schema (codes "desk")) free.0 (used_at old.now.schema (holds.spot Desk).at (holds.stands Desk).named)
 
 -- a database that leaves the names free uses none
 free_is_unused : (old : State) → IsKnownOpen old → Rests HoldsStage old Free → HasCleanDisk old → ¬ ¬ LeavesFree old.now.schema desk_names
-free_is_unused old is_open was clean used = used ((was clean).now_holds (is_open clean)).1
+free_is_unused old is_open was clean used = used (still_holds HoldsStage old Free (was clean) (is_open clean)).1
 
 finds_failure : (A : Type 0) (db : Database) (e : OpenFault) → IsFailure e → FindsTo {A = A} db (Err e)
 finds_failure A db NotDesk fails = absurd fails

@@ -8,10 +8,11 @@ use Rattle.sqlite.specs.State.{State, HasCleanDisk}
 use Rattle.sql_front.specs.Found.{StandsSomewhere}
 use Rattle.sql_calls.specs.declared.fault.Fault.{Fault}
 use Rattle.sql_calls.specs.Calls.{RunsText, TakesFirst}
-use Rattle.sql_calls.specs.Standing.{Wears, HoldIn, Rests, Changes, Spoils}
-use Rattle.sql_calls.proofs.Means.{Known}
+use Rattle.sql_calls.specs.Standing.{Wears, HoldIn, Rests, Opens, Spoiled}
+use Rattle.sql_calls.specs.Means.{Known}
 use Rattle.sql_calls.proofs.Ends.{begin_is, rollback_is}
-use Rattle.sql_calls.proofs.Changes as change
+use Rattle.sql_calls.proofs.FrameEnds.{begins, fails_to_begin, gives_up}
+use Rattle.sql_calls.proofs.Framing.{first_frames}
 use Rattle.rollout_machine.specs.Records.{Records}
 use Rattle.desk_records.specs.Schema.{Desk, desk_table}
 use Rattle.desk_records.specs.Holds.{HoldsRecords}
@@ -35,30 +36,30 @@ keeps_err a z wears leaves (Err e) bad = record { wears = wears; keeps = leaves 
 
 -- what stands is what every crash leaves
 pub leaves_still : {A E : Type 0} (a z : State) (x : A) → Keeps {E = E} a z (Ok x) → LeavesAll a z
-leaves_still a z x h r was clean db left = (h.keeps r was clean).crash db left
+leaves_still a z x h r was clean db left = (h.keeps r was clean).held.crash db left
 
 module _ (a b : State) where
   pub not_begun : (fault : Fault) → RunsText a b (codes "BEGIN") [] (Err fault) → LeavesAll a b
-  not_begun fault h r was clean db left = (change.not_begun HoldsRecords (codes "BEGIN") a b (begin_is a.now.schema) r was fault h clean).crash db left
+  not_begun fault h r was clean db left = ((fails_to_begin HoldsRecords (codes "BEGIN") a b (begin_is a.now.schema) fault h).rests r was clean).held.crash db left
 
   module _ (first : RunsText a b (codes "BEGIN") [] (Ok tt)) (c : State) where
-    began : (r : Records) → Rests HoldsRecords a r → Changes HoldsRecords b r r
-    began r was = change.begun HoldsRecords (codes "BEGIN") a b (begin_is a.now.schema) r was first
+    began : (r : Records) → Rests HoldsRecords a r → Opens HoldsRecords b r
+    began = (begins HoldsRecords (codes "BEGIN") a b (begin_is a.now.schema) first).opens
 
     pub not_taken : (fault : Fault) → TakesFirst b c GET_DESK.now [] (Err fault) → LeavesAll a c
-    not_taken fault h r was clean db left = (change.taken_err HoldsRecords GET_DESK.now [] b c r r (began r was) knows_row fault h clean).crash db left
+    not_taken fault h r was clean db left = ((first_frames HoldsRecords GET_DESK.now [] b c knows_row (Err fault) h r (began r was)).spoiled clean).crash db left
 
     module _ (row : Option Row) (second : TakesFirst b c GET_DESK.now [] (Ok row)) (d : State) where
-      taken : (r : Records) → Rests HoldsRecords a r → Spoils HoldsRecords c r
-      taken r was = change.spoils HoldsRecords c r r (change.taken_ok HoldsRecords GET_DESK.now [] b c r r (began r was) knows_row row second)
+      taken : (r : Records) → Rests HoldsRecords a r → Spoiled HoldsRecords c r
+      taken r was = (first_frames HoldsRecords GET_DESK.now [] b c knows_row (Ok row) second r (began r was)).spoiled
 
       pub not_ended : (fault : Fault) → RunsText c d (codes "ROLLBACK") [] (Err fault) → LeavesAll a d
-      not_ended fault h r was clean db left = elim ((change.not_given_up HoldsRecords (codes "ROLLBACK") c d r (taken r was) (rollback_is c.now.schema) fault h clean).crash db left) [ inl one ↦ one | inr other ↦ other ]
+      not_ended fault h r was clean db left = elim (((gives_up HoldsRecords (codes "ROLLBACK") c d (rollback_is c.now.schema) (Err fault) h).gives_up r (taken r was) clean).crash db left) [ inl one ↦ one | inr other ↦ other ]
 
       pub ended : {A E : Type 0} (x : A) → RunsText c d (codes "ROLLBACK") [] (Ok tt) → Keeps {E = E} a d (Ok x)
       ended x h = record {
         wears = omega (arith, first.survives.clean, second.survives.clean, h.survives.clean);
-        keeps = λ r was. change.given_up HoldsRecords (codes "ROLLBACK") c d r (taken r was) (rollback_is c.now.schema) h;
+        keeps = λ r was. (gives_up HoldsRecords (codes "ROLLBACK") c d (rollback_is c.now.schema) (Ok tt) h).gives_up r (taken r was);
       }
 
 -- what comes after the reading changes nothing

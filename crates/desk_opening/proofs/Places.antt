@@ -23,7 +23,7 @@ use Rattle.sqlite_keyed.proofs.ListLemmas.{none_from_any}
 use Rattle.sql_front.specs.Bare.{IsBareTable, HaveNullDefaults}
 use Rattle.sql_front.proofs.Write.{Makes, with_create, makes_known}
 use Rattle.sql_calls.specs.Tables.{table_of}
-use Rattle.sql_calls.proofs.Means.{Means}
+use Rattle.sql_calls.specs.Means.{Means}
 use Rattle.desk_records.specs.Schema.{Place, Desk, Modules, Sets, SetModules, Artifacts, Pieces, Targets, TargetTags, TargetAttributes, OfRollouts, Rollouts, Members, Groups, Actions, Feedbacks, Offers, places, table_at, name_of}
 use Rattle.desk_records.proofs.ArtifactMeaning.{create_artifact_makes, create_piece_makes}
 use Rattle.desk_records.proofs.RolloutMeaning.{create_rollout_makes, create_member_makes, create_rollout_group_makes}

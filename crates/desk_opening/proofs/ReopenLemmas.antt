@@ -23,6 +23,7 @@ use Rattle.sqlite_catalog.specs.Change.{is_used}
 use Rattle.sql_front.specs.Stands.{Stands}
 use Rattle.sqlite_rules.specs.Lists.{Has}
 use Rattle.sql_calls.specs.Standing.{HoldIn, IsAtRest, Rests}
+use Rattle.sql_calls.proofs.FrameEnds.{still_holds}
 use Rattle.sql_calls.proofs.Schemas.{same_indexes, same_tables}
 use Rattle.sql_front.specs.Free.{LeavesFree}
 use Rattle.rollout_machine.specs.Records.{Records}
@@ -61,9 +62,11 @@ at_rest s r settled opens live held =
     let kept : HoldsRecords s.committed r = holds_over s.committed.schema s.committed.trees r (live opens.is_open).1 held in
     record {
       mode = opens.autocommit;
-      now_holds = λ _. subst (λ d. HoldsRecords d r) (sym opens.clean) kept;
-      kept_holds = λ _. kept;
-      crash = λ db left. subst (λ t. HoldIn HoldsRecords t r) (sym (settled db opens.is_open left)) held;
+      held = record {
+        ended = λ _ _. opens.clean;
+        kept_holds = λ _. kept;
+        crash = λ db left. subst (λ t. HoldIn HoldsRecords t r) (sym (settled db opens.is_open left)) held;
+      };
     }
 
 free_at_rest : (s : State) → IsSettled s → Opens s → IsLive s → UsesNoName s.committed.trees → IsAtRest HoldsStage s Free
@@ -72,9 +75,11 @@ free_at_rest s settled opens live none =
     let kept : HoldsStage s.committed Free = (sound, none s.committed.schema sound) in
     record {
       mode = opens.autocommit;
-      now_holds = λ _. subst (λ d. HoldsStage d Free) (sym opens.clean) kept;
-      kept_holds = λ _. kept;
-      crash = λ db left. subst (λ t. HoldIn HoldsStage t Free) (sym (settled db opens.is_open left)) (s.committed.schema, kept);
+      held = record {
+        ended = λ _ _. opens.clean;
+        kept_holds = λ _. kept;
+        crash = λ db left. subst (λ t. HoldIn HoldsStage t Free) (sym (settled db opens.is_open left)) (s.committed.schema, kept);
+      };
     }
 
 -- ---- what was found
@@ -110,8 +115,8 @@ module _ (image : Image) (old : State) (opened : HasCleanDisk old → Opens old 
   none clean lacks = let it = opened clean in (old.committed.trees, reads clean, (old.committed.schema, (it.1 it.0.is_open).1, subst (λ d. HasNoDesk d) it.0.clean lacks))
 
   only_fails : (A : Type 0) (e : OpenFault) → HasCleanDisk old → FindsTo {A = A} old.now (Err e) → ((r : Records) × HoldsDesk HoldsDatabase image r) ⊎ HoldsNone HoldsDatabase image → IsFailure e
-  only_fails A e clean finds (inl has) = held_fails old.now has.0 ((rests has.0 has.1 clean).now_holds (opened clean).0.is_open) A e finds
-  only_fails A e clean finds (inr nothing) = free_fails A old.now ((rests_free nothing clean).now_holds (opened clean).0.is_open).1 e finds
+  only_fails A e clean finds (inl has) = held_fails old.now has.0 (still_holds HoldsRecords old has.0 (rests has.0 has.1 clean) (opened clean).0.is_open) A e finds
+  only_fails A e clean finds (inr nothing) = free_fails A old.now (still_holds HoldsStage old Free (rests_free nothing clean) (opened clean).0.is_open).1 e finds
 
   pub reopens : {X Y : Type 0} (view : X → State) (approval : Bool) (out : Result X (OpenFault × Y)) → IfOk out (λ x. OpensDesk old (view x) approval (told out)) → IfOk out (λ x. Reopens image (view x) approval)
   reopens view approval (Err e) h = tt

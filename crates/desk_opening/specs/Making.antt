@@ -9,7 +9,7 @@ use Rattle.sqlite_schema.specs.declared.schema.Index.{Index}
 use Rattle.sqlite_rules.specs.Lists.{Has}
 use Rattle.sql_front.specs.Stands.{Stands}
 use Rattle.sql_front.specs.Free.{LeavesFree}
-use Rattle.sql_calls.specs.Standing.{Wears, HoldIn, Rests, Changes}
+use Rattle.sql_calls.specs.Standing.{Wears, HoldIn, Rests, Sees, Spoiled}
 use Rattle.rollout_machine.specs.CommandList.{Make}
 use Rattle.rollout_machine.specs.Records.{Records, records}
 use Rattle.desk_records.specs.Schema.{Place, places, table_at, name_of, desk_names}
@@ -58,9 +58,14 @@ pub record Makes {A E : Type 0} (old new : State) (approval : Bool) (result : Re
   pub wears : Wears old new
   pub makes : MakesTo old new approval result
 
+-- A change in which tables are made: what it sees, and what every crash leaves.
+pub record Changes (s : State) (now kept : Stage) : Type 0 where
+  pub sees : Sees HoldsStage s now
+  pub spoiled : Spoiled HoldsStage s kept
+
 abbrev pub MakesTablesTo : {A E : Type 0} → State → State → Result A E → Type 0
-MakesTablesTo old new (Ok _) = Changes HoldsStage old Free Free → Changes HoldsStage new (Partly places []) Free
-MakesTablesTo old new (Err e) = Changes HoldsStage old Free Free → HasCleanDisk new → (db : Trees) → new.may_leave db → LeavesNoDesk db
+MakesTablesTo old new (Ok _) = Changes old Free Free → Changes new (Partly places []) Free
+MakesTablesTo old new (Err e) = Changes old Free Free → HasCleanDisk new → (db : Trees) → new.may_leave db → LeavesNoDesk db
 
 -- the fault alone, of a call that gives back with it what was left
 abbrev pub told : {A E X : Type 0} → Result A (E × X) → Result A E

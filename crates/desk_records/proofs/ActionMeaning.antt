@@ -18,7 +18,7 @@ use Rattle.sql_front.proofs.Texts.{Queries, queries_known}
 use Rattle.sql_front.proofs.TextsWithin.{QueriesWithin, queries_known_within}
 use Rattle.sql_front.proofs.Write.{Adds, Makes, adds_known}
 use Rattle.sql_front.proofs.Change.{Updates, Removes, updates_known, removes_known}
-use Rattle.sql_calls.proofs.Means.{Means}
+use Rattle.sql_calls.specs.Means.{Means}
 use Rattle.sql_calls.proofs.Selects.{simple, by}
 use Rattle.desk_records.specs.declared.action_texts.TheConstants.{CREATE_ACTION, CREATE_FEEDBACK, CREATE_OFFER, LAST_ACTION, GET_ACTION, LIST_ACTIONS, LIST_TARGET_ACTIONS, PUT_ACTION, SET_ACTION, PUT_FEEDBACK, LIST_ENTRIES, GET_OFFER, SET_OFFER, DROP_OFFER, NEXT_OFFER}
 use Rattle.desk_records.specs.Schema.{action_table, feedback_table, offer_table, group_table}

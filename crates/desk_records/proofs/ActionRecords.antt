@@ -12,7 +12,7 @@ use Rattle.sqlite.specs.Effect.{Database, Reads as Shows}
 use Rattle.sqlite_value.specs.Keys.{first_key, plain}
 use Rattle.sqlite_schema.specs.Rules.{agree}
 use Rattle.sql_calls.specs.Keyed.{rows_from}
-use Rattle.sql_calls.proofs.Changes.{ShowsFirst}
+use Rattle.sql_calls.proofs.Finding.{ShowsFirst}
 use Rattle.sql_calls.proofs.KeyedRows.{on_content}
 use Rattle.sql_calls.proofs.KeyedTables.{keys_apart, reads_key}
 use Rattle.sql_calls.proofs.NumberedTables.{numbered_in_order}

@@ -15,7 +15,7 @@ use Rattle.sqlite_resolve.specs.Select.{named, paging}
 use Rattle.sql_front.specs.Stands.{Stands}
 use Rattle.sql_front.proofs.Texts.{Queries, queries_known}
 use Rattle.sql_front.proofs.Write.{Adds, Makes, adds_known}
-use Rattle.sql_calls.proofs.Means.{Means}
+use Rattle.sql_calls.specs.Means.{Means}
 use Rattle.sql_calls.proofs.Selects.{simple, by}
 use Rattle.desk_records.specs.declared.artifact_texts.TheConstants.{CREATE_ARTIFACT, CREATE_PIECE, FIND_ARTIFACT, LAST_ARTIFACT, GET_ARTIFACT, LIST_ARTIFACTS, GET_PIECE, PUT_ARTIFACT, PUT_PIECE}
 use Rattle.desk_records.specs.Schema.{artifact_table, piece_table}

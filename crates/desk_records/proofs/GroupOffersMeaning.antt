@@ -19,7 +19,7 @@ use Rattle.sqlite_resolve.specs.Select.{named, paging}
 use Rattle.sqlite_resolve.specs.Write.{places, as_row, updated_in}
 use Rattle.sql_front.specs.Stands.{Stands}
 use Rattle.sql_front.proofs.Upsert.{Upserts, upserts_known, upsert_of}
-use Rattle.sql_calls.proofs.Means.{Means}
+use Rattle.sql_calls.specs.Means.{Means}
 use Rattle.sql_calls.proofs.Selects.{simple, by}
 use Rattle.desk_records.specs.declared.action_texts.TheConstants.{PUT_GROUP_OFFERS}
 use Rattle.desk_records.specs.Schema.{action_table, offer_table}

@@ -8,7 +8,7 @@ use Rattle.sqlite_sql.specs.declared.ops.BinaryOp.TheVariants.{Compare}
 use Rattle.sqlite_sql.specs.declared.ops.CompareOp.TheVariants.{Eq, Le, Ge}
 use Rattle.sqlite_resolve.specs.declared.compiled.Compiled.{Compiled}
 use Rattle.sqlite_resolve.specs.Compile.{compiled}
-use Rattle.sql_calls.proofs.Means.{Means}
+use Rattle.sql_calls.specs.Means.{Means}
 
 pub means_of : (s : Schema) (sql : List ℕ) (c : Compiled) → compiled s sql ≡ Ok c → c.returning ≡ None → c.formats ≡ [] → Means s sql c.command
 unfolding understood

@@ -11,7 +11,7 @@ use Rattle.sqlite.specs.Source.TheVariants.{Values}
 use Rattle.sqlite.specs.Effect.{Database}
 use Rattle.sqlite.specs.State.{State, Writes}
 use Rattle.sql_calls.specs.Keyed.{rows_from}
-use Rattle.sql_calls.proofs.Changes.{ShowsFirst}
+use Rattle.sql_calls.proofs.Finding.{ShowsFirst}
 use Rattle.sql_calls.proofs.Selects.{simple, passes}
 use Rattle.sql_calls.proofs.Inserts.{inserts}
 use Rattle.sql_calls.proofs.NumberedRows.{put_next, cast_int, cast_null}

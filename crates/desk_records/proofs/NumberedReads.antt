@@ -18,7 +18,7 @@ use Rattle.sqlite.specs.Effect.{Database, Reads as Shows}
 use Rattle.sqlite.proofs.Callers.{one_permutation}
 use Rattle.sqlite_keyed.proofs.ListLemmas.{all_of, filter_all, none_counted}
 use Rattle.sql_calls.specs.Keyed.{rows_from}
-use Rattle.sql_calls.proofs.Changes.{ShowsFirst}
+use Rattle.sql_calls.proofs.Finding.{ShowsFirst}
 use Rattle.sql_calls.proofs.Selects.{simple, passes, shown_of, simple_rows}
 use Rattle.sql_calls.proofs.NumberedTables.{number_query, numbered_in_order, has_number, filter_numbered, at_number, row_of, last_query, last_number, last_of}
 use Rattle.rollout_machine.specs.ByteStrings.{item_numbered}

@@ -17,7 +17,7 @@ use Rattle.sql_front.specs.Stands.{Stands}
 use Rattle.sql_front.proofs.Texts.{Queries, queries_known}
 use Rattle.sql_front.proofs.Write.{Adds, Makes, adds_known}
 use Rattle.sql_front.proofs.Change.{Updates, updates_known}
-use Rattle.sql_calls.proofs.Means.{Means}
+use Rattle.sql_calls.specs.Means.{Means}
 use Rattle.sql_calls.proofs.Selects.{simple, by}
 use Rattle.desk_records.specs.declared.rollout_texts.TheConstants.{CREATE_ROLLOUT, CREATE_MEMBER, CREATE_ROLLOUT_GROUP, FIND_ROLLOUT, LAST_ROLLOUT, GET_ROLLOUT, LIST_ROLLOUTS, LIST_MEMBERS, LIST_GROUPS, GET_GROUP, HOLDING_GROUP, LAST_STARTED, PUT_ROLLOUT, SET_ROLLOUT, PUT_MEMBER, PUT_GROUP, SET_GROUP}
 use Rattle.desk_records.specs.Schema.{rollout_table, member_table, group_table}

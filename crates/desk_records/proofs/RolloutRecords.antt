@@ -13,7 +13,7 @@ use Rattle.sqlite.specs.Command.TheVariants.{Select}
 use Rattle.sqlite.specs.Effect.{Database, Reads as Shows}
 use Rattle.sqlite_keyed.proofs.ListLemmas.{first_taken}
 use Rattle.sql_calls.specs.Keyed.{rows_from}
-use Rattle.sql_calls.proofs.Changes.{ShowsFirst}
+use Rattle.sql_calls.proofs.Finding.{ShowsFirst}
 use Rattle.sql_calls.proofs.KeyedRows.{on_content}
 use Rattle.sql_calls.proofs.Selects.{simple, passes, shown_of}
 use Rattle.rollout_machine.specs.ByteStrings.{item_numbered}

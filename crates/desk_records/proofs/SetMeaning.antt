@@ -15,7 +15,7 @@ use Rattle.sqlite_resolve.specs.Select.{named, paging}
 use Rattle.sql_front.specs.Stands.{Stands}
 use Rattle.sql_front.proofs.Texts.{Queries, queries_known}
 use Rattle.sql_front.proofs.Write.{Adds, Makes, adds_known}
-use Rattle.sql_calls.proofs.Means.{Means}
+use Rattle.sql_calls.specs.Means.{Means}
 use Rattle.sql_calls.proofs.Selects.{simple, by}
 use Rattle.desk_records.specs.declared.set_texts.TheConstants.{CREATE_SET, CREATE_SET_MODULE, FIND_SET, LAST_SET, GET_SET, LIST_SET_MODULES, MODULE_LOCKED, PUT_SET, PUT_SET_MODULE}
 use Rattle.desk_records.specs.Schema.{set_table, set_module_table}

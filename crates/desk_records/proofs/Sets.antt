@@ -21,7 +21,7 @@ use Rattle.sqlite.specs.Schema.{Schema}
 use Rattle.sqlite.specs.Effect.{Database, Reads as Shows}
 use Rattle.sqlite_keyed.proofs.SortLemmas.{sorted_unique}
 use Rattle.sql_calls.specs.Keyed.{rows_from, IsHeldBy}
-use Rattle.sql_calls.proofs.Changes.{ShowsFirst}
+use Rattle.sql_calls.proofs.Finding.{ShowsFirst}
 use Rattle.sql_calls.proofs.Selects.{simple, passes, shown_in, ordered_rows}
 use Rattle.sql_calls.proofs.Inserts.{Inserted, given_rows}
 use Rattle.sql_calls.proofs.NumberedRows.{put_next, cast_int, cast_null}

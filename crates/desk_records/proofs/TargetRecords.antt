@@ -19,7 +19,7 @@ use Rattle.sqlite.specs.Effect.{Database, Reads as Shows}
 use Rattle.sqlite.specs.State.{State, Writes}
 use Rattle.sql_calls.specs.Keyed.{IsHeldBy, Rise}
 use Rattle.sql_calls.specs.Tables.{strict}
-use Rattle.sql_calls.proofs.Changes.{ShowsFirst}
+use Rattle.sql_calls.proofs.Finding.{ShowsFirst}
 use Rattle.sql_calls.proofs.Counts.{count_query, count_rows, length_held}
 use Rattle.sql_calls.proofs.Inserts.{inserts}
 use Rattle.sql_calls.proofs.KeyedRows.{on_content, changed}

@@ -9,10 +9,11 @@ use Rattle.sqlite.specs.Effect.{Database, Reads as Shows}
 use Rattle.sqlite.specs.State.{State}
 use Rattle.sql_calls.specs.declared.fault.Fault.{Fault}
 use Rattle.sql_calls.specs.Calls.{AsksText, TakesFirst}
-use Rattle.sql_calls.specs.Standing.{Reads}
-use Rattle.sql_calls.proofs.Changes.{Knows, ShowsFirst}
+use Rattle.sql_calls.specs.Standing.{Finds, Makes}
+use Rattle.sql_calls.specs.Means.{Knows, KnowsWrite}
+use Rattle.sql_calls.proofs.Finding.{ShowsFirst}
 use Rattle.sql_calls.proofs.Selects.{simple}
-use Rattle.sql_calls.proofs.TypedCalls.{asks_ok, takes_ok}
+use Rattle.sql_calls.proofs.Finding.{ask_finds, first_finds, run_makes}
 use Rattle.std.proofs.lemmas.Bool.{and_parts}
 use Rattle.rollout_machine.specs.Actions.{HistoryEntry}
 use Rattle.rollout_machine.specs.ByteStrings.{item_numbered}
@@ -23,7 +24,7 @@ use Rattle.desk_records.specs.declared.rollout_row.ListedAction.{ListedAction}
 use Rattle.desk_records.specs.declared.rollout_row.StoredAction.{StoredAction}
 use Rattle.desk_records.specs.Actions.{history_of}
 use Rattle.desk_records.specs.EntryRow.{IsEntryRow, keeps_details}
-use Rattle.desk_records.specs.Holds.{HoldsLedger, Ledger}
+use Rattle.desk_records.specs.Holds.{HoldsLedger, HoldsRecords, Ledger, ledger_of}
 use Rattle.desk_records.specs.Modules.{IsLastRow}
 use Rattle.desk_records.specs.RolloutRow.{IsActionRow, IsListedActionRow, IsOfferRow, actions_for, actions_of, stored_action}
 use Rattle.desk_records.specs.Schema.{OfRollouts, Actions, Feedbacks, Offers}
@@ -32,7 +33,8 @@ use Rattle.desk_records.proofs.ActionMeaning.{last_action_query, action_columns,
 use Rattle.desk_records.proofs.ActionRecords.{shown_action, told_listed, lasts_action, gets_action, lists_actions, lists_target_actions, told_offer, gets_offer}
 use Rattle.desk_records.proofs.EntryRecords.{lists_entries}
 use Rattle.desk_store.specs.Rows.{AreReadAs, IsReadAs}
-use Rattle.desk_store.proofs.LedgerReads.{ledger_knows, both_mapped, one_action, one_listed, one_offer, same_entries}
+use Rattle.desk_store.proofs.Known.{ledger_knows, ledger_writes}
+use Rattle.desk_store.proofs.LedgerReads.{both_mapped, one_action, one_listed, one_offer, same_entries}
 use Rattle.desk_store.proofs.ModuleCalls.{one_last}
 use Rattle.desk_store.proofs.ReadLemmas.{asks_all, takes_one}
 
@@ -63,25 +65,25 @@ lasts : (row : Option Row) (out : Result ℕ Fault) → IfOk out (λ n. IsLastRo
 lasts row (Ok n) h = λ db l holds shown. one_last row n (length (zip l.records.actions l.tallies)) h (lasts_action db l holds (codes "number" ∷ []) row shown)
 lasts row (Err e) h = tt
 
-pub last_read : (old new : State) (row : Option Row) → TakesFirst old new LAST_ACTION.now [] (Ok row) → (out : Result ℕ Fault) → IfOk out (λ n. IsLastRow n row) → Reads HoldsLedger old new out (λ l last. last ≡ length (zip l.records.actions l.tallies))
-last_read old new row h out is = takes_ok HoldsLedger LAST_ACTION.now [] old new (λ l last. last ≡ length (zip l.records.actions l.tallies)) ending (λ db l holds at given. tt) row h out (lasts row out is)
+pub last_read : (old new : State) (row : Option Row) → TakesFirst old new LAST_ACTION.now [] (Ok row) → (out : Result ℕ Fault) → IfOk out (λ n. IsLastRow n row) → Finds HoldsLedger (λ (l : Ledger). l) old new out (λ l last. last ≡ length (zip l.records.actions l.tallies))
+last_read old new row h out is = first_finds HoldsLedger (λ (l : Ledger). l) LAST_ACTION.now [] old new (λ l last. last ≡ length (zip l.records.actions l.tallies)) ending (λ db l holds at given. tt) row h out (lasts row out is)
 
 pub action_read : (number : ℕ) → 1 ≤ number → (old new : State) (row : Option Row) → TakesFirst old new GET_ACTION.now (Int (pos number) ∷ []) (Ok row) → (out : Result (Option StoredAction) Fault) → IfOk out (λ found. IsReadAs IsActionRow found row)
-    → Reads HoldsLedger old new out (λ l found. found ≡ option_map (stored_action l.records.rollouts) (item_numbered (zip l.records.actions l.tallies) number))
+    → Finds HoldsLedger (λ (l : Ledger). l) old new out (λ l found. found ≡ option_map (stored_action l.records.rollouts) (item_numbered (zip l.records.actions l.tallies) number))
 action_read number least old new row =
-    takes_one IsActionRow shown_action GET_ACTION.now (Int (pos number) ∷ []) old new getting (λ l. option_map (stored_action l.records.rollouts) (item_numbered (zip l.records.actions l.tallies) number)) ◌≡◌ refl (λ a b h. ap Some (one_action a b h)) (λ db l holds at given. tt) row
+    takes_one (λ (l : Ledger). l) IsActionRow shown_action GET_ACTION.now (Int (pos number) ∷ []) old new getting (λ l. option_map (stored_action l.records.rollouts) (item_numbered (zip l.records.actions l.tallies) number)) ◌≡◌ refl (λ a b h. ap Some (one_action a b h)) (λ db l holds at given. tt) row
     (λ db l holds shown. gets_action db l holds action_names number least row shown ∙ both_mapped shown_action (stored_action l.records.rollouts) _)
 
 pub actions_read : (number limit offset : ℕ) (old new : State) (rows : Vec Row Global) → AsksText old new LIST_ACTIONS.now (Int (pos number) ∷ Int (pos limit) ∷ Int (pos offset) ∷ []) (Ok rows) → (out : Result (Vec ListedAction Global) Fault) → IfOk out (λ found. AreReadAs IsListedActionRow rows.items found.items)
-    → Reads HoldsLedger old new out (λ l found. found.items ≡ take limit (drop offset (actions_of l.records.rollouts number 1 (zip l.records.actions l.tallies))))
+    → Finds HoldsLedger (λ (l : Ledger). l) old new out (λ l found. found.items ≡ take limit (drop offset (actions_of l.records.rollouts number 1 (zip l.records.actions l.tallies))))
 actions_read number limit offset old new rows =
-    asks_all vec_items IsListedActionRow told_listed one_listed LIST_ACTIONS.now (Int (pos number) ∷ Int (pos limit) ∷ Int (pos offset) ∷ []) old new listing (λ l. take limit (drop offset (actions_of l.records.rollouts number 1 (zip l.records.actions l.tallies)))) rows
+    asks_all (λ (l : Ledger). l) vec_items IsListedActionRow told_listed one_listed LIST_ACTIONS.now (Int (pos number) ∷ Int (pos limit) ∷ Int (pos offset) ∷ []) old new listing (λ l. take limit (drop offset (actions_of l.records.rollouts number 1 (zip l.records.actions l.tallies)))) rows
     (λ db l holds shown. lists_actions db l holds listed_names number limit offset rows.items shown)
 
 pub target_actions_read : (id : Bytes) (limit offset : ℕ) (old new : State) (rows : Vec Row Global) → AsksText old new LIST_TARGET_ACTIONS.now (Text id ∷ Int (pos limit) ∷ Int (pos offset) ∷ []) (Ok rows) → (out : Result (Vec ListedAction Global) Fault)
-    → IfOk out (λ found. AreReadAs IsListedActionRow rows.items found.items) → Reads HoldsLedger old new out (λ l found. found.items ≡ take limit (drop offset (actions_for l.records.rollouts id 1 (zip l.records.actions l.tallies))))
+    → IfOk out (λ found. AreReadAs IsListedActionRow rows.items found.items) → Finds HoldsLedger (λ (l : Ledger). l) old new out (λ l found. found.items ≡ take limit (drop offset (actions_for l.records.rollouts id 1 (zip l.records.actions l.tallies))))
 target_actions_read id limit offset old new rows =
-    asks_all vec_items IsListedActionRow told_listed one_listed LIST_TARGET_ACTIONS.now (Text id ∷ Int (pos limit) ∷ Int (pos offset) ∷ []) old new listing_targets (λ l. take limit (drop offset (actions_for l.records.rollouts id 1 (zip l.records.actions l.tallies)))) rows
+    asks_all (λ (l : Ledger). l) vec_items IsListedActionRow told_listed one_listed LIST_TARGET_ACTIONS.now (Text id ∷ Int (pos limit) ∷ Int (pos offset) ∷ []) old new listing_targets (λ l. take limit (drop offset (actions_for l.records.rollouts id 1 (zip l.records.actions l.tallies)))) rows
     (λ db l holds shown. lists_target_actions db l holds listed_names id limit offset rows.items shown)
 
 -- ---- histories
@@ -98,9 +100,9 @@ kept_to p (suc n) (e ∷ es) h = let parts = and_parts (p e) (list_all p es) h i
 
 pub entries_read : (number limit offset : ℕ) → 1 ≤ number → (old new : State) (rows : Vec Row Global) → AsksText old new LIST_ENTRIES.now (Int (pos number) ∷ Int (pos limit) ∷ Int (pos offset) ∷ []) (Ok rows) → (out : Result (Vec HistoryEntry Global) Fault)
     → IfOk out (λ found. AreReadAs IsEntryRow rows.items found.items)
-    → Reads HoldsLedger old new out (λ l found. list_all keeps_details (history_of (item_numbered l.records.actions number)) ≡ true → found.items ≡ take limit (drop offset (history_of (item_numbered l.records.actions number))))
+    → Finds HoldsLedger (λ (l : Ledger). l) old new out (λ l found. list_all keeps_details (history_of (item_numbered l.records.actions number)) ≡ true → found.items ≡ take limit (drop offset (history_of (item_numbered l.records.actions number))))
 entries_read number limit offset least old new rows h out are_read =
-    asks_ok HoldsLedger LIST_ENTRIES.now (Int (pos number) ∷ Int (pos limit) ∷ Int (pos offset) ∷ []) old new (λ l found. list_all keeps_details (history_of (item_numbered l.records.actions number)) ≡ true → found.items ≡ part l)
+    ask_finds HoldsLedger (λ (l : Ledger). l) LIST_ENTRIES.now (Int (pos number) ∷ Int (pos limit) ∷ Int (pos offset) ∷ []) old new (λ l found. list_all keeps_details (history_of (item_numbered l.records.actions number)) ≡ true → found.items ≡ part l)
     listing_entries rows h out (answers out are_read)
   where
     part : Ledger → List HistoryEntry
@@ -118,7 +120,7 @@ entries_read number limit offset least old new rows h out are_read =
 -- ---- offers
 
 pub offer_read : (id : Bytes) (old new : State) (row : Option Row) → TakesFirst old new GET_OFFER.now (Text id ∷ []) (Ok row) → (out : Result (Option Offer) Fault) → IfOk out (λ found. IsReadAs IsOfferRow found row)
-    → Reads HoldsLedger old new out (λ l found. found ≡ l.offers id)
+    → Finds HoldsLedger (λ (l : Ledger). l) old new out (λ l found. found ≡ l.offers id)
 offer_read id old new row =
-    takes_one IsOfferRow told_offer GET_OFFER.now (Text id ∷ []) old new offered (λ l. l.offers id) ◌≡◌ refl (λ a b h. ap Some (one_offer a b h)) (λ db l holds at given. tt) row
+    takes_one (λ (l : Ledger). l) IsOfferRow told_offer GET_OFFER.now (Text id ∷ []) old new offered (λ l. l.offers id) ◌≡◌ refl (λ a b h. ap Some (one_offer a b h)) (λ db l holds at given. tt) row
     (λ db l holds shown. gets_offer db l holds (codes "action" ∷ codes "kind" ∷ []) id row shown)

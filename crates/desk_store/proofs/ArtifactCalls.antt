@@ -12,10 +12,11 @@ use Rattle.sqlite.specs.Effect.{Database}
 use Rattle.sqlite.specs.State.{State}
 use Rattle.sql_calls.specs.declared.fault.Fault.{Fault}
 use Rattle.sql_calls.specs.Calls.{RunsText, AsksText, TakesFirst}
-use Rattle.sql_calls.specs.Standing.{Reads, Writes}
-use Rattle.sql_calls.proofs.Changes.{Knows, ShowsFirst}
+use Rattle.sql_calls.specs.Standing.{Finds, Makes}
+use Rattle.sql_calls.specs.Means.{Knows, KnowsWrite}
+use Rattle.sql_calls.proofs.Finding.{ShowsFirst}
 use Rattle.sql_calls.proofs.Selects.{simple}
-use Rattle.sql_calls.proofs.TypedCalls.{takes_ok, writes}
+use Rattle.sql_calls.proofs.Finding.{ask_finds, first_finds, run_makes}
 use Rattle.rollout_machine.specs.ByteStrings.{item_numbered}
 use Rattle.rollout_machine.specs.Commands.{Bytes}
 use Rattle.rollout_machine.specs.Objects.{artifacts_shown}
@@ -24,7 +25,7 @@ use Rattle.rollout_model.specs.declared.artifact.Artifact.{Artifact}
 use Rattle.desk_records.specs.declared.artifact_texts.TheConstants.{FIND_ARTIFACT, LAST_ARTIFACT, GET_ARTIFACT, LIST_ARTIFACTS, GET_PIECE, PUT_ARTIFACT, PUT_PIECE}
 use Rattle.desk_records.specs.declared.artifact_row.StoredArtifact.{StoredArtifact}
 use Rattle.desk_records.specs.Schema.{Artifacts, Pieces}
-use Rattle.desk_records.specs.Holds.{HoldsRecords}
+use Rattle.desk_records.specs.Holds.{HoldsLedger, HoldsRecords, Ledger, ledger_of}
 use Rattle.desk_records.specs.Modules.{IsLastRow}
 use Rattle.desk_records.specs.Artifacts.{told_of, piece_row, is_same_artifact, file_of, piece_numbered, artifact_filed, with_artifact, AddsPiece}
 use Rattle.desk_records.specs.ArtifactRow.{IsStoredRow, IsArtifactRow, StoredBytes, stored}
@@ -34,39 +35,39 @@ use Rattle.desk_records.proofs.ArtifactRecords.{finds_artifact, lasts_artifact, 
 use Rattle.desk_store.specs.Rows.{AreReadAs, IsReadAs}
 use Rattle.desk_store.proofs.ReadLemmas.{asks_all, takes_one}
 use Rattle.desk_store.proofs.ModuleCalls.{one_last}
-use Rattle.desk_store.proofs.Known.{known_at}
+use Rattle.desk_store.proofs.Known.{ledger_knows, ledger_writes}
 
 -- ---- what the texts mean where the records are held
 
-abbrev pub finding : Knows HoldsRecords FIND_ARTIFACT.now
-finding = known_at Artifacts FIND_ARTIFACT.now (λ at tree. Select (record { lets = []; body = simple tree same_file (col 1 0 ∷ []) }) (codes "number" ∷ [])) find_artifact_is
+abbrev pub finding : Knows HoldsLedger FIND_ARTIFACT.now
+finding = ledger_knows Artifacts FIND_ARTIFACT.now (λ at tree. Select (record { lets = []; body = simple tree same_file (col 1 0 ∷ []) }) (codes "number" ∷ [])) find_artifact_is
 
-abbrev pub ending : Knows HoldsRecords LAST_ARTIFACT.now
-ending = known_at Artifacts LAST_ARTIFACT.now (λ at tree. Select (record { lets = []; body = last_artifact_query tree }) (codes "number" ∷ [])) last_artifact_is
+abbrev pub ending : Knows HoldsLedger LAST_ARTIFACT.now
+ending = ledger_knows Artifacts LAST_ARTIFACT.now (λ at tree. Select (record { lets = []; body = last_artifact_query tree }) (codes "number" ∷ [])) last_artifact_is
 
-abbrev pub getting : Knows HoldsRecords GET_ARTIFACT.now
-getting = known_at Artifacts GET_ARTIFACT.now (λ at tree. Select (record { lets = []; body = simple tree (at_key 0 0 ∷ []) told_columns }) told_names) get_artifact_is
+abbrev pub getting : Knows HoldsLedger GET_ARTIFACT.now
+getting = ledger_knows Artifacts GET_ARTIFACT.now (λ at tree. Select (record { lets = []; body = simple tree (at_key 0 0 ∷ []) told_columns }) told_names) get_artifact_is
 
-abbrev pub listing : Knows HoldsRecords LIST_ARTIFACTS.now
-listing = known_at Artifacts LIST_ARTIFACTS.now (λ at tree. Select (record { lets = []; body = artifacts_query tree }) shown_names) list_artifacts_is
+abbrev pub listing : Knows HoldsLedger LIST_ARTIFACTS.now
+listing = ledger_knows Artifacts LIST_ARTIFACTS.now (λ at tree. Select (record { lets = []; body = artifacts_query tree }) shown_names) list_artifacts_is
 
-abbrev pub taking : Knows HoldsRecords GET_PIECE.now
-taking = known_at Pieces GET_PIECE.now (λ at tree. Select (record { lets = []; body = simple tree at_piece (col 1 3 ∷ []) }) (codes "bytes" ∷ [])) get_piece_is
+abbrev pub taking : Knows HoldsLedger GET_PIECE.now
+taking = ledger_knows Pieces GET_PIECE.now (λ at tree. Select (record { lets = []; body = simple tree at_piece (col 1 3 ∷ []) }) (codes "bytes" ∷ [])) get_piece_is
 
-abbrev pub putting : Knows HoldsRecords PUT_ARTIFACT.now
-putting = known_at Artifacts PUT_ARTIFACT.now (λ at tree. Insert at (Values artifact_terms 6)) put_artifact_is
+abbrev pub putting : KnowsWrite HoldsLedger PUT_ARTIFACT.now
+putting = ledger_writes Artifacts PUT_ARTIFACT.now (λ at tree. Insert at (Values artifact_terms 6)) put_artifact_is (λ at tree. refl)
 
-abbrev pub placing : Knows HoldsRecords PUT_PIECE.now
-placing = known_at Pieces PUT_PIECE.now (λ at tree. Insert at (Values piece_terms 4)) put_piece_is
+abbrev pub placing : KnowsWrite HoldsLedger PUT_PIECE.now
+placing = ledger_writes Pieces PUT_PIECE.now (λ at tree. Insert at (Values piece_terms 4)) put_piece_is (λ at tree. refl)
 
 -- ---- whether a module has such an artifact
 
-abbrev pub Finds : ℕ → Bytes → Records → Bool → Type 0
-Finds m filename r found = found ≡ list_any (is_same_artifact m filename) r.artifacts
+abbrev pub FindsSame : ℕ → Bytes → Records → Bool → Type 0
+FindsSame m filename r found = found ≡ list_any (is_same_artifact m filename) r.artifacts
 
-pub found : {E : Type 0} (m : ℕ) (filename : Bytes) (old new : State) (row : Option Row) → TakesFirst old new FIND_ARTIFACT.now (file_of m filename) (Ok row) → Reads HoldsRecords {E = E} old new (Ok (is_some row)) (Finds m filename)
+pub found : {E : Type 0} (m : ℕ) (filename : Bytes) (old new : State) (row : Option Row) → TakesFirst old new FIND_ARTIFACT.now (file_of m filename) (Ok row) → Finds HoldsLedger ledger_of {E = E} old new (Ok (is_some row)) (FindsSame m filename)
 found m filename old new row h =
-    takes_ok HoldsRecords FIND_ARTIFACT.now (file_of m filename) old new (Finds m filename) finding (λ db r holds at given. tt) row h (Ok (is_some row)) (λ db now holds shown. finds_artifact db now holds (codes "number" ∷ []) m filename row shown)
+    first_finds HoldsLedger ledger_of FIND_ARTIFACT.now (file_of m filename) old new (FindsSame m filename) finding (λ db r holds at given. tt) row h (Ok (is_some row)) (λ db now holds shown. finds_artifact db now holds (codes "number" ∷ []) m filename row shown)
 
 -- ---- the last number
 
@@ -74,12 +75,12 @@ abbrev pub IsLast : Records → ℕ → Type 0
 IsLast r last = last ≡ length r.artifacts
 
 lasts : (row : Option Row) (out : Result ℕ Fault) → IfOk out (λ n. IsLastRow n row)
-    → IfOk out (λ n. (db : Database) (now : Records) (holds : HoldsRecords db now) → ShowsFirst (ending db now holds).command db [] row → n ≡ length now.artifacts)
+    → IfOk out (λ n. (db : Database) (now : Records) (holds : HoldsRecords db now) → ShowsFirst (ending db (ledger_of now) holds).command db [] row → n ≡ length now.artifacts)
 lasts row (Ok n) h = λ db now holds shown. one_last row n (length now.artifacts) h (lasts_artifact db now holds (codes "number" ∷ []) row shown)
 lasts row (Err e) h = tt
 
-pub last_read : (old new : State) (row : Option Row) → TakesFirst old new LAST_ARTIFACT.now [] (Ok row) → (out : Result ℕ Fault) → IfOk out (λ n. IsLastRow n row) → Reads HoldsRecords old new out IsLast
-last_read old new row h out is = takes_ok HoldsRecords LAST_ARTIFACT.now [] old new IsLast ending (λ db r holds at given. tt) row h out (lasts row out is)
+pub last_read : (old new : State) (row : Option Row) → TakesFirst old new LAST_ARTIFACT.now [] (Ok row) → (out : Result ℕ Fault) → IfOk out (λ n. IsLastRow n row) → Finds HoldsLedger ledger_of old new out IsLast
+last_read old new row h out is = first_finds HoldsLedger ledger_of LAST_ARTIFACT.now [] old new IsLast ending (λ db r holds at given. tt) row h out (lasts row out is)
 
 -- ---- an artifact by its number
 
@@ -100,9 +101,9 @@ one_told told a h =
     λ i. record { module_number = m i; filename = name i; size = size i; digest = digest i }
 
 pub artifact_read : (number : ℕ) → 1 ≤ number → (old new : State) (row : Option Row) → TakesFirst old new GET_ARTIFACT.now (Int (pos number) ∷ []) (Ok row) → (out : Result (Option StoredArtifact) Fault)
-    → IfOk out (λ found. IsReadAs IsStoredRow found row) → Reads HoldsRecords old new out (Gets number)
+    → IfOk out (λ found. IsReadAs IsStoredRow found row) → Finds HoldsLedger ledger_of old new out (Gets number)
 artifact_read number least old new row =
-    takes_one IsStoredRow told_of GET_ARTIFACT.now (Int (pos number) ∷ []) old new getting (λ r. item_numbered r.artifacts number) (λ found a. found ≡ option_map stored a) refl (λ told a h. ap Some (one_told told a h)) (λ db r holds at given. tt) row
+    takes_one ledger_of IsStoredRow told_of GET_ARTIFACT.now (Int (pos number) ∷ []) old new getting (λ r. item_numbered r.artifacts number) (λ found a. found ≡ option_map stored a) refl (λ told a h. ap Some (one_told told a h)) (λ db r holds at given. tt) row
     (λ db now holds. gets_artifact db now holds told_names number least row)
 
 -- ---- the artifacts of a module
@@ -127,9 +128,9 @@ one_shown a b h =
     λ i. record { number = number i; filename = name i; size = size i; digest = digest i }
 
 pub artifacts_read : (m : ℕ) (old new : State) (rows : Vec Row Global) → AsksText old new LIST_ARTIFACTS.now (Int (pos m) ∷ []) (Ok rows) → (out : Result (Vec Artifact Global) Fault)
-    → IfOk out (λ artifacts. AreReadAs IsArtifactRow rows.items artifacts.items) → Reads HoldsRecords old new out (Lists m)
+    → IfOk out (λ artifacts. AreReadAs IsArtifactRow rows.items artifacts.items) → Finds HoldsLedger ledger_of old new out (Lists m)
 artifacts_read m old new rows =
-    asks_all vec_items IsArtifactRow shown_row one_shown LIST_ARTIFACTS.now (Int (pos m) ∷ []) old new listing (λ r. artifacts_shown m 1 r.artifacts) rows (λ db now holds. lists_artifacts db now holds shown_names m rows.items)
+    asks_all ledger_of vec_items IsArtifactRow shown_row one_shown LIST_ARTIFACTS.now (Int (pos m) ∷ []) old new listing (λ r. artifacts_shown m 1 r.artifacts) rows (λ db now holds. lists_artifacts db now holds shown_names m rows.items)
 
 -- ---- a piece
 
@@ -144,9 +145,9 @@ one_piece : (a : Vec ℕ Global) (b : Bytes) → IsPieceRow (Blob b ∷ []) a �
 one_piece a b h = let same : Blob b ≡ Blob a.items = h in cc
 
 pub piece_read : (number sequence : ℕ) → 1 ≤ number → (old new : State) (row : Option Row) → TakesFirst old new GET_PIECE.now (Int (pos number) ∷ Int (pos sequence) ∷ []) (Ok row) → (out : Result (Option (Vec ℕ Global)) Fault)
-    → IfOk out (λ found. IsReadAs IsPieceRow found row) → Reads HoldsRecords old new out (Takes number sequence)
+    → IfOk out (λ found. IsReadAs IsPieceRow found row) → Finds HoldsLedger ledger_of old new out (Takes number sequence)
 piece_read number sequence least old new row =
-    takes_one IsPieceRow (λ bytes. Blob bytes ∷ []) GET_PIECE.now (Int (pos number) ∷ Int (pos sequence) ∷ []) old new taking (λ r. piece_numbered r.artifacts number sequence) (λ found bytes. option_map vec_items found ≡ bytes) refl
+    takes_one ledger_of IsPieceRow (λ bytes. Blob bytes ∷ []) GET_PIECE.now (Int (pos number) ∷ Int (pos sequence) ∷ []) old new taking (λ r. piece_numbered r.artifacts number sequence) (λ found bytes. option_map vec_items found ≡ bytes) refl
     (λ a b h. ap Some (one_piece a b h)) (λ db r holds at given. tt) row (λ db now holds. gets_piece db now holds (codes "bytes" ∷ []) number sequence least row)
 
 -- ---- a new artifact, and a further piece of it
@@ -155,11 +156,11 @@ abbrev pub Puts : ℕ → ℕ → Bytes → ℕ → Bytes → Records → Record
 Puts number m filename size digest r next = (number ≡ length r.artifacts + 1) × (next ≡ with_artifact r m filename size digest)
 
 pub artifact_written : (number m : ℕ) (filename : Bytes) (size : ℕ) (digest : Bytes) (old new : State) (out : Result (Unit {0}) Fault) → RunsText old new PUT_ARTIFACT.now (Int (pos number) ∷ told_of (artifact_filed m filename size digest)) out
-    → Writes HoldsRecords old new out (Puts number m filename size digest)
+    → Makes HoldsLedger ledger_of old new out (Puts number m filename size digest)
 artifact_written number m filename size digest old new out h =
-    writes HoldsRecords PUT_ARTIFACT.now (Int (pos number) ∷ told_of (artifact_filed m filename size digest)) old new (Puts number m filename size digest) putting (λ db r holds. refl) out h
+    run_makes HoldsLedger ledger_of PUT_ARTIFACT.now (Int (pos number) ∷ told_of (artifact_filed m filename size digest)) old new (Puts number m filename size digest) putting.knows out h
     (λ now next change holds count w. (w, subst (HoldsRecords new.now) (sym change.1) (adds_artifact m filename size digest number old new _ count now holds change.0 w)))
 
-pub piece_written : (number sequence : ℕ) (bytes : Bytes) (old new : State) (out : Result (Unit {0}) Fault) → RunsText old new PUT_PIECE.now (piece_row number sequence bytes) out → Writes HoldsRecords old new out (AddsPiece number sequence bytes)
-piece_written number sequence bytes old new out h = writes HoldsRecords PUT_PIECE.now (piece_row number sequence bytes) old new (AddsPiece number sequence bytes) placing (λ db r holds. refl) out h
+pub piece_written : (number sequence : ℕ) (bytes : Bytes) (old new : State) (out : Result (Unit {0}) Fault) → RunsText old new PUT_PIECE.now (piece_row number sequence bytes) out → Makes HoldsLedger ledger_of old new out (AddsPiece number sequence bytes)
+piece_written number sequence bytes old new out h = run_makes HoldsLedger ledger_of PUT_PIECE.now (piece_row number sequence bytes) old new (AddsPiece number sequence bytes) placing.knows out h
     (λ now next change holds count w. (w, adds_piece number sequence bytes old new _ count now next holds change w))

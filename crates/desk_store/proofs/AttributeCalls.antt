@@ -8,15 +8,15 @@ use Rattle.sqlite.specs.Source.TheVariants.{Values}
 use Rattle.sqlite.specs.State.{State}
 use Rattle.sql_calls.specs.declared.fault.Fault.{Fault}
 use Rattle.sql_calls.specs.Calls.{RunsText, AsksText}
-use Rattle.sql_calls.specs.Standing.{Reads, Writes}
-use Rattle.sql_calls.proofs.Changes.{Knows}
-use Rattle.sql_calls.proofs.TypedCalls.{writes}
+use Rattle.sql_calls.specs.Standing.{Finds, Makes}
+use Rattle.sql_calls.specs.Means.{Knows, KnowsWrite}
+use Rattle.sql_calls.proofs.Finding.{ask_finds, first_finds, run_makes}
 use Rattle.rollout_machine.specs.Commands.{Bytes, Attribute}
 use Rattle.rollout_machine.specs.Records.{Records}
 use Rattle.rollout_machine.specs.Verdicts.{target_of}
 use Rattle.desk_records.specs.declared.target_texts.TheConstants.{LIST_TARGET_ATTRIBUTES, PUT_TARGET_ATTRIBUTE, SET_TARGET_ATTRIBUTE}
 use Rattle.desk_records.specs.Schema.{TargetAttributes}
-use Rattle.desk_records.specs.Holds.{HoldsRecords}
+use Rattle.desk_records.specs.Holds.{HoldsLedger, HoldsRecords, Ledger, ledger_of}
 use Rattle.desk_records.specs.TargetRow.{IsAttributeRow}
 use Rattle.desk_records.specs.Targets.{attributes_of, AddsAttribute, SetsAttribute}
 use Rattle.desk_records.proofs.Attributes.{attribute_row}
@@ -24,18 +24,18 @@ use Rattle.desk_records.proofs.TargetMeaning.{attributes_query, attribute_terms,
 use Rattle.desk_records.proofs.AttributeRecords.{lists_target_attributes, adds_attribute, sets_attribute}
 use Rattle.desk_store.specs.Rows.{AreReadAs}
 use Rattle.desk_store.proofs.ReadLemmas.{asks_all}
-use Rattle.desk_store.proofs.Known.{known_at}
+use Rattle.desk_store.proofs.Known.{ledger_knows, ledger_writes}
 
 -- ---- what the texts mean where the records are held
 
-abbrev pub listing : Knows HoldsRecords LIST_TARGET_ATTRIBUTES.now
-listing = known_at TargetAttributes LIST_TARGET_ATTRIBUTES.now (λ at tree. Select (record { lets = []; body = attributes_query tree }) (codes "key" ∷ codes "value" ∷ [])) list_target_attributes_is
+abbrev pub listing : Knows HoldsLedger LIST_TARGET_ATTRIBUTES.now
+listing = ledger_knows TargetAttributes LIST_TARGET_ATTRIBUTES.now (λ at tree. Select (record { lets = []; body = attributes_query tree }) (codes "key" ∷ codes "value" ∷ [])) list_target_attributes_is
 
-abbrev pub putting : Knows HoldsRecords PUT_TARGET_ATTRIBUTE.now
-putting = known_at TargetAttributes PUT_TARGET_ATTRIBUTE.now (λ at tree. Insert at (Values attribute_terms 4)) put_target_attribute_is
+abbrev pub putting : KnowsWrite HoldsLedger PUT_TARGET_ATTRIBUTE.now
+putting = ledger_writes TargetAttributes PUT_TARGET_ATTRIBUTE.now (λ at tree. Insert at (Values attribute_terms 4)) put_target_attribute_is (λ at tree. refl)
 
-abbrev pub setting : Knows HoldsRecords SET_TARGET_ATTRIBUTE.now
-setting = known_at TargetAttributes SET_TARGET_ATTRIBUTE.now (λ at tree. Update at (record { lets = []; body = set_attribute_query tree })) set_target_attribute_is
+abbrev pub setting : KnowsWrite HoldsLedger SET_TARGET_ATTRIBUTE.now
+setting = ledger_writes TargetAttributes SET_TARGET_ATTRIBUTE.now (λ at tree. Update at (record { lets = []; body = set_attribute_query tree })) set_target_attribute_is (λ at tree. refl)
 
 -- ---- the attributes of a target
 
@@ -55,16 +55,16 @@ one_shown a b h =
     λ i. record { key = key i; value = value i }
 
 pub attributes_read : (id : Bytes) (old new : State) (rows : Vec Row Global) → AsksText old new LIST_TARGET_ATTRIBUTES.now (Text id ∷ []) (Ok rows) → (out : Result (List Attribute) Fault) → IfOk out (AreReadAs IsAttributeRow rows.items)
-    → Reads HoldsRecords old new out (Lists id)
+    → Finds HoldsLedger ledger_of old new out (Lists id)
 attributes_read id old new rows =
-    asks_all (λ l. l) IsAttributeRow shown_row one_shown LIST_TARGET_ATTRIBUTES.now (Text id ∷ []) old new listing (λ r. attributes_of (target_of r id)) rows (λ db now holds. lists_target_attributes db now holds (codes "key" ∷ codes "value" ∷ []) id rows.items)
+    asks_all ledger_of (λ l. l) IsAttributeRow shown_row one_shown LIST_TARGET_ATTRIBUTES.now (Text id ∷ []) old new listing (λ r. attributes_of (target_of r id)) rows (λ db now holds. lists_target_attributes db now holds (codes "key" ∷ codes "value" ∷ []) id rows.items)
 
 -- ---- what is written
 
-pub attribute_written : (id : Bytes) (a : Attribute) (old new : State) (out : Result (Unit {0}) Fault) → RunsText old new PUT_TARGET_ATTRIBUTE.now (attribute_row id a) out → Writes HoldsRecords old new out (AddsAttribute id a)
-attribute_written id a old new out h = writes HoldsRecords PUT_TARGET_ATTRIBUTE.now (attribute_row id a) old new (AddsAttribute id a) putting (λ db r holds. refl) out h
+pub attribute_written : (id : Bytes) (a : Attribute) (old new : State) (out : Result (Unit {0}) Fault) → RunsText old new PUT_TARGET_ATTRIBUTE.now (attribute_row id a) out → Makes HoldsLedger ledger_of old new out (AddsAttribute id a)
+attribute_written id a old new out h = run_makes HoldsLedger ledger_of PUT_TARGET_ATTRIBUTE.now (attribute_row id a) old new (AddsAttribute id a) putting.knows out h
     (λ now next change holds count done. (done, adds_attribute id a old new _ count now next holds change done))
 
-pub attribute_set : (id : Bytes) (a : Attribute) (old new : State) (out : Result (Unit {0}) Fault) → RunsText old new SET_TARGET_ATTRIBUTE.now (attribute_row id a) out → Writes HoldsRecords old new out (SetsAttribute id a)
-attribute_set id a old new out h = writes HoldsRecords SET_TARGET_ATTRIBUTE.now (attribute_row id a) old new (SetsAttribute id a) setting (λ db r holds. refl) out h
+pub attribute_set : (id : Bytes) (a : Attribute) (old new : State) (out : Result (Unit {0}) Fault) → RunsText old new SET_TARGET_ATTRIBUTE.now (attribute_row id a) out → Makes HoldsLedger ledger_of old new out (SetsAttribute id a)
+attribute_set id a old new out h = run_makes HoldsLedger ledger_of SET_TARGET_ATTRIBUTE.now (attribute_row id a) old new (SetsAttribute id a) setting.knows out h
     (λ now next change holds count done. (done, sets_attribute id a old new _ count now next holds change done))

@@ -1,17 +1,17 @@
 -- The ends of a change, where each failure is a failed store.
 use Rattle.std.proofs.Common.{◌≡◌, Bool, true, false, not, Ok, Err, Result, refl}
-use Rattle.sqlite.specs.Effect.{Database}
 use Rattle.sqlite.specs.State.{State}
 use Rattle.sql_calls.specs.declared.fault.Fault.{Fault}
 use Rattle.sql_calls.specs.Standing.{Commits, GivesUp}
+use Rattle.desk_records.specs.Holds.{HoldsLedger}
 use Rattle.desk_store.specs.Faults.{as_store}
 
-module _ {R : Type 0} (Holds : Database → R → Type 0) (old new : State) where
-  pub commits_as_store : (out : Result (Unit {0}) Fault) → Commits Holds old new out → Commits Holds old new (as_store out)
+module _ (old new : State) where
+  pub commits_as_store : (out : Result (Unit {0}) Fault) → Commits HoldsLedger old new out → Commits HoldsLedger old new (as_store out)
   commits_as_store (Ok _) h = h
   commits_as_store (Err fault) h = record { wears = h.wears; commits = h.commits }
 
-  pub gives_up_as_store : (out : Result (Unit {0}) Fault) → GivesUp Holds old new out → GivesUp Holds old new (as_store out)
+  pub gives_up_as_store : (out : Result (Unit {0}) Fault) → GivesUp HoldsLedger old new out → GivesUp HoldsLedger old new (as_store out)
   gives_up_as_store (Ok _) h = h
   gives_up_as_store (Err fault) h = record { wears = h.wears; gives_up = h.gives_up }
 

@@ -3,23 +3,26 @@ use Rattle.std.proofs.Common.{ℕ, Result, refl}
 use Rattle.sqlite.specs.State.{State}
 use Rattle.sql_calls.specs.declared.fault.Fault.{Fault}
 use Rattle.sql_calls.specs.Calls.{RunsText}
-use Rattle.sql_calls.specs.Standing.{Writes}
-use Rattle.sql_calls.proofs.Changes.{Knows}
-use Rattle.sql_calls.proofs.TypedCalls.{writes}
+use Rattle.sql_calls.specs.Standing.{Finds, Makes}
+use Rattle.sql_calls.specs.Means.{Knows, KnowsWrite}
+use Rattle.sql_calls.proofs.Finding.{ask_finds, first_finds, run_makes}
 use Rattle.rollout_machine.specs.declared.bounds.Bounds.{Bounds}
 use Rattle.desk_records.specs.declared.action_texts.TheConstants.{PUT_GROUP_OFFERS}
-use Rattle.desk_records.specs.Holds.{HoldsLedger}
+use Rattle.desk_records.specs.Holds.{HoldsLedger, HoldsRecords, Ledger, ledger_of}
 use Rattle.desk_records.specs.LedgerSteps.{OffersGroup}
 use Rattle.desk_records.specs.Schema.{OfRollouts, Actions, Offers}
 use Rattle.desk_records.proofs.GroupOffersMeaning.{put_group_offers_command, put_group_offers_is}
 use Rattle.desk_records.proofs.GroupOfferWrites.{group_params, offers_group, offers_keyed}
 
-abbrev knows_put_group_offers : Knows HoldsLedger PUT_GROUP_OFFERS.now
-knows_put_group_offers db l holds = record {
-  command = put_group_offers_command (holds.spot (OfRollouts Offers)).at (holds.spot (OfRollouts Offers)).tree (holds.spot (OfRollouts Actions)).tree;
-  means = put_group_offers_is db.schema (holds.spot (OfRollouts Offers)).at (holds.spot (OfRollouts Offers)).tree (holds.spot (OfRollouts Actions)).at (holds.spot (OfRollouts Actions)).tree
-      (holds.stands (OfRollouts Offers)) (holds.stands (OfRollouts Actions)) (offers_keyed db l holds);
+abbrev pub knows_put_group_offers : KnowsWrite HoldsLedger PUT_GROUP_OFFERS.now
+knows_put_group_offers = record {
+  knows = λ db l holds. record {
+    command = put_group_offers_command (holds.spot (OfRollouts Offers)).at (holds.spot (OfRollouts Offers)).tree (holds.spot (OfRollouts Actions)).tree;
+    means = put_group_offers_is db.schema (holds.spot (OfRollouts Offers)).at (holds.spot (OfRollouts Offers)).tree (holds.spot (OfRollouts Actions)).at (holds.spot (OfRollouts Actions)).tree
+        (holds.stands (OfRollouts Offers)) (holds.stands (OfRollouts Actions)) (offers_keyed db l holds);
+  };
+  rows = λ db l holds. refl;
 }
 
-pub group_offers_written : (number : ℕ) (bounds : Bounds) (old new : State) (out : Result (Unit {0}) Fault) → RunsText old new PUT_GROUP_OFFERS.now (group_params number bounds) out → Writes HoldsLedger old new out (OffersGroup number bounds)
-group_offers_written number bounds old new out h = writes HoldsLedger PUT_GROUP_OFFERS.now (group_params number bounds) old new (OffersGroup number bounds) knows_put_group_offers (λ db l holds. refl) out h (λ now next change holds count w. (w, offers_group number bounds old new _ count now next holds change w))
+pub group_offers_written : (number : ℕ) (bounds : Bounds) (old new : State) (out : Result (Unit {0}) Fault) → RunsText old new PUT_GROUP_OFFERS.now (group_params number bounds) out → Makes HoldsLedger (λ (l : Ledger). l) old new out (OffersGroup number bounds)
+group_offers_written number bounds old new out h = run_makes HoldsLedger (λ (l : Ledger). l) PUT_GROUP_OFFERS.now (group_params number bounds) old new (OffersGroup number bounds) knows_put_group_offers.knows out h (λ now next change holds count w. (w, offers_group number bounds old new _ count now next holds change w))

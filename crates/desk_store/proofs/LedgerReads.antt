@@ -7,8 +7,8 @@ use Rattle.sqlite_value.specs.declared.value.Value.TheVariants.{Int, Text}
 use Rattle.sqlite_value.specs.Order.{Row}
 use Rattle.sqlite.specs.Command.{Command}
 use Rattle.sqlite.specs.Schema.{Schema}
-use Rattle.sql_calls.proofs.Changes.{Knows}
-use Rattle.sql_calls.proofs.Means.{Means}
+use Rattle.sql_calls.specs.Means.{Knows, KnowsWrite}
+use Rattle.sql_calls.specs.Means.{Means}
 use Rattle.sql_front.specs.Stands.{Stands}
 use Rattle.rollout_machine.specs.Actions.{HistoryEntry, DeploymentEntry, CancelEntry}
 use Rattle.rollout_machine.specs.Commands.{DeploymentWord, CancelWord, Proceeding, Scheduled, Resumed, Succeeded, Failed, Rejected, Noted, ClosedCancel, CanceledCancel, RejectedCancel, NotedCancel}
@@ -25,7 +25,7 @@ use Rattle.desk_records.specs.declared.rollout_row.StoredRollout.{StoredRollout}
 use Rattle.desk_records.specs.Actions.{cancel_code, deployment_code, lines_of, outcome_code, told_entry}
 use Rattle.desk_records.specs.EntryRow.{IsEntryRow, cancel_from, cancel_in, deployment_from, deployment_in, keeps_details}
 use Rattle.desk_records.specs.Codes.{coded_in, flag_of, approval_from, outcome_from, flag_in, approval_in, outcome_in}
-use Rattle.desk_records.specs.Holds.{HoldsLedger}
+use Rattle.desk_records.specs.Holds.{HoldsLedger, HoldsRecords, Ledger, ledger_of}
 use Rattle.desk_records.specs.RolloutRow.{IsRolloutRow, IsGroupRow, IsActionRow, IsListedActionRow, IsOfferRow}
 use Rattle.desk_records.specs.Rollouts.{approval_code, flag}
 use Rattle.desk_records.specs.Schema.{Place, name_of, table_at}
@@ -33,10 +33,6 @@ use Rattle.desk_records.proofs.RolloutRecords.{shown_group}
 use Rattle.desk_records.proofs.ActionRecords.{shown_action, told_listed, told_offer}
 use Rattle.desk_records.proofs.DetailLines.{same_details}
 use Rattle.desk_store.specs.Rows.{AreReadAs}
-
--- what a text means wherever the table stands
-abbrev pub ledger_knows : (t : Place) (sql : List ℕ) (command : ℕ → ℕ → Command) → ((s : Schema) (at tree : ℕ) → Stands s (name_of t) at (table_at t tree) → Means s sql (command at tree)) → Knows HoldsLedger sql
-ledger_knows t sql command means db l holds = record { command = command (holds.spot t).at (holds.spot t).tree; means = means db.schema (holds.spot t).at (holds.spot t).tree (holds.stands t) }
 
 pub both_mapped : {A B C : Type 0} (f : B → C) (g : A → B) (o : Option A) → option_map (λ a. f (g a)) o ≡ option_map f (option_map g o)
 both_mapped f g None = refl

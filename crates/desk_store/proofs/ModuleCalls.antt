@@ -12,46 +12,47 @@ use Rattle.sqlite.specs.State.{State}
 use Rattle.std.specs.Prelude.{codes}
 use Rattle.sql_calls.specs.declared.fault.Fault.{Fault}
 use Rattle.sql_calls.specs.Calls.{RunsText, TakesFirst}
-use Rattle.sql_calls.specs.Standing.{Reads, Writes}
-use Rattle.sql_calls.proofs.Changes.{Knows, ShowsFirst}
+use Rattle.sql_calls.specs.Standing.{Finds, Makes}
+use Rattle.sql_calls.specs.Means.{Knows, KnowsWrite}
+use Rattle.sql_calls.proofs.Finding.{ShowsFirst}
 use Rattle.sql_calls.proofs.Selects.{simple}
-use Rattle.sql_calls.proofs.TypedCalls.{takes_ok, writes}
+use Rattle.sql_calls.proofs.Finding.{ask_finds, first_finds, run_makes}
 use Rattle.rollout_machine.specs.ByteStrings.{item_numbered}
 use Rattle.rollout_machine.specs.Commands.{ModuleLabel}
 use Rattle.rollout_machine.specs.Records.{Records}
 use Rattle.desk_records.specs.declared.texts.TheConstants.{FIND_MODULE, LAST_MODULE, GET_MODULE, PUT_MODULE}
 use Rattle.desk_records.specs.ModuleRow.{IsLabelRow}
 use Rattle.desk_records.specs.Schema.{Modules}
-use Rattle.desk_records.specs.Holds.{HoldsRecords}
+use Rattle.desk_records.specs.Holds.{HoldsLedger, HoldsRecords, Ledger, ledger_of}
 use Rattle.desk_records.specs.Modules.{is_same, words_of, with_module, IsLastRow}
 use Rattle.desk_records.proofs.MeaningWords.{at_key}
 use Rattle.desk_records.proofs.Meaning.{same_label, label_columns, last_module_query, module_terms, find_module_is, last_module_is, get_module_is, put_module_is}
 use Rattle.desk_records.proofs.Modules.{finds_module, lasts_module, gets_module, adds_module}
 use Rattle.desk_store.specs.Rows.{IsReadAs}
 use Rattle.desk_store.proofs.ReadLemmas.{takes_one}
-use Rattle.desk_store.proofs.Known.{known_at}
+use Rattle.desk_store.proofs.Known.{ledger_knows, ledger_writes}
 
 -- ---- what the texts mean where the records are held
 
-abbrev pub finding : Knows HoldsRecords FIND_MODULE.now
-finding = known_at Modules FIND_MODULE.now (λ at tree. Select (record { lets = []; body = simple tree same_label (col 1 0 ∷ []) }) (codes "number" ∷ [])) find_module_is
+abbrev pub finding : Knows HoldsLedger FIND_MODULE.now
+finding = ledger_knows Modules FIND_MODULE.now (λ at tree. Select (record { lets = []; body = simple tree same_label (col 1 0 ∷ []) }) (codes "number" ∷ [])) find_module_is
 
-abbrev pub ending : Knows HoldsRecords LAST_MODULE.now
-ending = known_at Modules LAST_MODULE.now (λ at tree. Select (record { lets = []; body = last_module_query tree }) (codes "number" ∷ [])) last_module_is
+abbrev pub ending : Knows HoldsLedger LAST_MODULE.now
+ending = ledger_knows Modules LAST_MODULE.now (λ at tree. Select (record { lets = []; body = last_module_query tree }) (codes "number" ∷ [])) last_module_is
 
-abbrev pub getting : Knows HoldsRecords GET_MODULE.now
-getting = known_at Modules GET_MODULE.now (λ at tree. Select (record { lets = []; body = simple tree (at_key 0 0 ∷ []) label_columns }) (codes "name" ∷ codes "type" ∷ codes "version" ∷ [])) get_module_is
+abbrev pub getting : Knows HoldsLedger GET_MODULE.now
+getting = ledger_knows Modules GET_MODULE.now (λ at tree. Select (record { lets = []; body = simple tree (at_key 0 0 ∷ []) label_columns }) (codes "name" ∷ codes "type" ∷ codes "version" ∷ [])) get_module_is
 
-abbrev pub putting : Knows HoldsRecords PUT_MODULE.now
-putting = known_at Modules PUT_MODULE.now (λ at tree. Insert at (Values module_terms 5)) put_module_is
+abbrev pub putting : KnowsWrite HoldsLedger PUT_MODULE.now
+putting = ledger_writes Modules PUT_MODULE.now (λ at tree. Insert at (Values module_terms 5)) put_module_is (λ at tree. refl)
 
 -- ---- whether there is such a module
 
-abbrev pub Finds : ModuleLabel → Records → Bool → Type 0
-Finds label r found = found ≡ list_any (is_same label) r.modules
+abbrev pub FindsSame : ModuleLabel → Records → Bool → Type 0
+FindsSame label r found = found ≡ list_any (is_same label) r.modules
 
-pub found : {E : Type 0} (label : ModuleLabel) (old new : State) (row : Option Row) → TakesFirst old new FIND_MODULE.now (words_of label) (Ok row) → Reads HoldsRecords {E = E} old new (Ok (is_some row)) (Finds label)
-found label old new row h = takes_ok HoldsRecords FIND_MODULE.now (words_of label) old new (Finds label) finding (λ db r holds at given. tt) row h (Ok (is_some row)) (λ db now holds shown. finds_module label db now holds (codes "number" ∷ []) row shown)
+pub found : {E : Type 0} (label : ModuleLabel) (old new : State) (row : Option Row) → TakesFirst old new FIND_MODULE.now (words_of label) (Ok row) → Finds HoldsLedger ledger_of {E = E} old new (Ok (is_some row)) (FindsSame label)
+found label old new row h = first_finds HoldsLedger ledger_of FIND_MODULE.now (words_of label) old new (FindsSame label) finding (λ db r holds at given. tt) row h (Ok (is_some row)) (λ db now holds shown. finds_module label db now holds (codes "number" ∷ []) row shown)
 
 -- ---- the last number
 
@@ -63,12 +64,12 @@ one_last None m n h k = h ∙ sym k
 one_last (Some row) m n h k = let both : Int (pos m) ≡ Int (pos n) = sym h ∙ k in cc
 
 lasts : (row : Option Row) (out : Result ℕ Fault) → IfOk out (λ n. IsLastRow n row)
-    → IfOk out (λ n. (db : Database) (now : Records) (holds : HoldsRecords db now) → ShowsFirst (ending db now holds).command db [] row → n ≡ length now.modules)
+    → IfOk out (λ n. (db : Database) (now : Records) (holds : HoldsRecords db now) → ShowsFirst (ending db (ledger_of now) holds).command db [] row → n ≡ length now.modules)
 lasts row (Ok n) h = λ db now holds shown. one_last row n (length now.modules) h (lasts_module db now holds (codes "number" ∷ []) row shown)
 lasts row (Err e) h = tt
 
-pub last_read : (old new : State) (row : Option Row) → TakesFirst old new LAST_MODULE.now [] (Ok row) → (out : Result ℕ Fault) → IfOk out (λ n. IsLastRow n row) → Reads HoldsRecords old new out IsLast
-last_read old new row h out is = takes_ok HoldsRecords LAST_MODULE.now [] old new IsLast ending (λ db r holds at given. tt) row h out (lasts row out is)
+pub last_read : (old new : State) (row : Option Row) → TakesFirst old new LAST_MODULE.now [] (Ok row) → (out : Result ℕ Fault) → IfOk out (λ n. IsLastRow n row) → Finds HoldsLedger ledger_of old new out IsLast
+last_read old new row h out is = first_finds HoldsLedger ledger_of LAST_MODULE.now [] old new IsLast ending (λ db r holds at given. tt) row h out (lasts row out is)
 
 -- ---- a module by its number
 
@@ -87,8 +88,8 @@ one_label a b h =
     λ i. record { name = name i; kind = kind i; version = version i }
 
 pub module_read : (number : ℕ) → 1 ≤ number → (old new : State) (row : Option Row) → TakesFirst old new GET_MODULE.now (Int (pos number) ∷ []) (Ok row) → (out : Result (Option ModuleLabel) Fault) → IfOk out (λ found. IsReadAs IsLabelRow found row)
-    → Reads HoldsRecords old new out (Gets number)
-module_read number least old new row = takes_one IsLabelRow words_of GET_MODULE.now (Int (pos number) ∷ []) old new getting (λ r. item_numbered r.modules number) ◌≡◌ refl (λ a b h. ap Some (one_label a b h)) (λ db r holds at given. tt) row
+    → Finds HoldsLedger ledger_of old new out (Gets number)
+module_read number least old new row = takes_one ledger_of IsLabelRow words_of GET_MODULE.now (Int (pos number) ∷ []) old new getting (λ r. item_numbered r.modules number) ◌≡◌ refl (λ a b h. ap Some (one_label a b h)) (λ db r holds at given. tt) row
     (λ db now holds. gets_module number least db now holds (codes "name" ∷ codes "type" ∷ codes "version" ∷ []) row)
 
 -- ---- a new module
@@ -96,6 +97,6 @@ module_read number least old new row = takes_one IsLabelRow words_of GET_MODULE.
 abbrev pub Puts : ℕ → ModuleLabel → Records → Records → Type 0
 Puts number label r next = (number ≡ length r.modules + 1) × (next ≡ with_module r label)
 
-pub module_written : (number : ℕ) (label : ModuleLabel) (old new : State) (out : Result (Unit {0}) Fault) → RunsText old new PUT_MODULE.now (Int (pos number) ∷ words_of label) out → Writes HoldsRecords old new out (Puts number label)
-module_written number label old new out h = writes HoldsRecords PUT_MODULE.now (Int (pos number) ∷ words_of label) old new (Puts number label) putting (λ db r holds. refl) out h
+pub module_written : (number : ℕ) (label : ModuleLabel) (old new : State) (out : Result (Unit {0}) Fault) → RunsText old new PUT_MODULE.now (Int (pos number) ∷ words_of label) out → Makes HoldsLedger ledger_of old new out (Puts number label)
+module_written number label old new out h = run_makes HoldsLedger ledger_of PUT_MODULE.now (Int (pos number) ∷ words_of label) old new (Puts number label) putting.knows out h
     (λ now next change holds count w. (w, subst (HoldsRecords new.now) (sym change.1) (adds_module label number old new _ count now holds change.0 w)))

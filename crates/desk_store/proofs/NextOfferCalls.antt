@@ -10,14 +10,15 @@ use Rattle.sqlite.specs.State.{State}
 use Rattle.sql_front.specs.Stands.{Stands}
 use Rattle.sql_calls.specs.declared.fault.Fault.{Fault}
 use Rattle.sql_calls.specs.Calls.{TakesFirst}
-use Rattle.sql_calls.specs.Standing.{Reads}
-use Rattle.sql_calls.proofs.Changes.{Knows, ShowsFirst}
-use Rattle.sql_calls.proofs.Means.{Means}
-use Rattle.sql_calls.proofs.TypedCalls.{takes_ok}
+use Rattle.sql_calls.specs.Standing.{Finds, Makes}
+use Rattle.sql_calls.specs.Means.{Knows, KnowsWrite}
+use Rattle.sql_calls.proofs.Finding.{ShowsFirst}
+use Rattle.sql_calls.specs.Means.{Means}
+use Rattle.sql_calls.proofs.Finding.{ask_finds, first_finds, run_makes}
 use Rattle.rollout_machine.specs.Commands.{Bytes}
 use Rattle.rollout_model.specs.declared.rollout.Offer.{Offer}
 use Rattle.desk_records.specs.declared.action_texts.TheConstants.{NEXT_OFFER}
-use Rattle.desk_records.specs.Holds.{HoldsLedger, Ledger}
+use Rattle.desk_records.specs.Holds.{HoldsLedger, HoldsRecords, Ledger, ledger_of}
 use Rattle.desk_records.specs.NextOffers.{next_offer}
 use Rattle.desk_records.specs.RolloutRow.{IsOfferRow}
 use Rattle.desk_records.specs.Schema.{Place, OfRollouts, Actions, Groups, name_of, table_at}
@@ -37,9 +38,9 @@ abbrev pub next : Knows HoldsLedger NEXT_OFFER.now
 next = ledger_knows_two (OfRollouts Actions) (OfRollouts Groups) NEXT_OFFER.now (λ tree other. Select (record { lets = []; body = next_offer_query tree other }) (codes "number" ∷ codes "canceling" ∷ [])) next_offer_is
 
 pub next_offer_read : (id : Bytes) (old new : State) (row : Option Row) → TakesFirst old new NEXT_OFFER.now (Text id ∷ []) (Ok row) → (out : Result (Option Offer) Fault) → IfOk out (λ found. IsReadAs IsOfferRow found row)
-    → Reads HoldsLedger old new out (λ l found. length l.tallies ≡ length l.records.actions → found ≡ next_offer l.records id)
+    → Finds HoldsLedger (λ (l : Ledger). l) old new out (λ l found. length l.tallies ≡ length l.records.actions → found ≡ next_offer l.records id)
 next_offer_read id old new row h out is_read =
-    takes_ok HoldsLedger NEXT_OFFER.now (Text id ∷ []) old new (λ l found. length l.tallies ≡ length l.records.actions → found ≡ next_offer l.records id) next (λ db l holds at given. tt) row h out (answers out is_read)
+    first_finds HoldsLedger (λ (l : Ledger). l) NEXT_OFFER.now (Text id ∷ []) old new (λ l found. length l.tallies ≡ length l.records.actions → found ≡ next_offer l.records id) next (λ db l holds at given. tt) row h out (answers out is_read)
   where
     answers : (out : Result (Option Offer) Fault) → IfOk out (λ found. IsReadAs IsOfferRow found row)
         → IfOk out (λ found. (db : Database) (l : Ledger) (holds : HoldsLedger db l) → ShowsFirst (next db l holds).command db (Text id ∷ []) row → length l.tallies ≡ length l.records.actions → found ≡ next_offer l.records id)

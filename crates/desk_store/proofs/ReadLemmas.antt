@@ -9,9 +9,10 @@ use Rattle.sqlite.specs.State.{State}
 use Rattle.sqlite.proofs.Callers.{EndsIn}
 use Rattle.sql_calls.specs.declared.fault.Fault.{Fault}
 use Rattle.sql_calls.specs.Calls.{AsksText, TakesFirst}
-use Rattle.sql_calls.specs.Standing.{Reads}
-use Rattle.sql_calls.proofs.Changes.{Knows, ShowsFirst}
-use Rattle.sql_calls.proofs.TypedCalls.{asks_ok, takes_ok}
+use Rattle.sql_calls.specs.Standing.{Finds}
+use Rattle.sql_calls.specs.Means.{Knows}
+use Rattle.sql_calls.proofs.Finding.{ShowsFirst, ask_finds, first_finds}
+use Rattle.desk_records.specs.Holds.{HoldsLedger, Ledger}
 use Rattle.desk_store.specs.Rows.{AreReadAs, IsReadAs}
 
 -- a further row, and what it is read as
@@ -31,33 +32,35 @@ module _ {A B : Type 0} (is : Row → A → Type 0) (row_of : B → Row) where
       let it : row ≡ row_of b = cc in
       subst (λ f. Tells f (Some b)) (sym h.1) (some h.0 b (subst (λ r. is r h.0) it h.2))
 
+module _ {Q : Type 0} (of : Q → Ledger) {A B : Type 0} (is : Row → A → Type 0) (row_of : B → Row) where
   -- a query whose first row, if there is one, was made of one thing
-  pub takes_one : {R : Type 0} {Holds : Database → R → Type 0} (sql : List ℕ) (params : Row) (old new : State) (knows : Knows Holds sql) (wanted : R → Option B) (Tells : Option A → Option B → Type 0)
+  pub takes_one : (sql : List ℕ) (params : Row) (old new : State) (knows : Knows HoldsLedger sql) (wanted : Q → Option B) (Tells : Option A → Option B → Type 0)
       → Tells None None → ((a : A) (b : B) → is (row_of b) a → Tells (Some a) (Some b))
-      → ((db : Database) (r : R) (holds : Holds db r) (at : Database) (given : Row) → EndsIn (knows db r holds).command at given)
-      → (row : Option Row) → ((db : Database) (now : R) (holds : Holds db now) → ShowsFirst (knows db now holds).command db params row → row ≡ option_map row_of (wanted now))
-      → TakesFirst old new sql params (Ok row) → (out : Result (Option A) Fault) → IfOk out (λ found. IsReadAs is found row) → Reads Holds old new out (λ r found. Tells found (wanted r))
-  takes_one {R = R} {Holds = Holds} sql params old new knows wanted Tells none some ends row shows h out is_read = takes_ok Holds sql params old new (λ r found. Tells found (wanted r)) knows ends row h out (answers out is_read)
+      → ((db : Database) (l : Ledger) (holds : HoldsLedger db l) (at : Database) (given : Row) → EndsIn (knows db l holds).command at given)
+      → (row : Option Row) → ((db : Database) (now : Q) (holds : HoldsLedger db (of now)) → ShowsFirst (knows db (of now) holds).command db params row → row ≡ option_map row_of (wanted now))
+      → TakesFirst old new sql params (Ok row) → (out : Result (Option A) Fault) → IfOk out (λ found. IsReadAs is found row) → Finds HoldsLedger of old new out (λ r found. Tells found (wanted r))
+  takes_one sql params old new knows wanted Tells none some ends row shows h out is_read = first_finds HoldsLedger of sql params old new (λ r found. Tells found (wanted r)) knows ends row h out (answers out is_read)
     where
       answers : (out : Result (Option A) Fault) → IfOk out (λ found. IsReadAs is found row)
-          → IfOk out (λ found. (db : Database) (now : R) (holds : Holds db now) → ShowsFirst (knows db now holds).command db params row → Tells found (wanted now))
-      answers (Ok found) is_read = λ db now holds shown. one_read Tells none some found (wanted now) row is_read (shows db now holds shown)
+          → IfOk out (λ found. (db : Database) (now : Q) (holds : HoldsLedger db (of now)) → ShowsFirst (knows db (of now) holds).command db params row → Tells found (wanted now))
+      answers (Ok found) is_read = λ db now holds shown. one_read is row_of Tells none some found (wanted now) row is_read (shows db now holds shown)
       answers (Err e) is_read = tt
 
-module _ {A V : Type 0} (items : V → List A) (is : Row → A → Type 0) (row_of : A → Row) (one : (a b : A) → is (row_of b) a → a ≡ b) where
+module _ {A : Type 0} (is : Row → A → Type 0) (row_of : A → Row) (one : (a b : A) → is (row_of b) a → a ≡ b) where
   all_read : (found wanted : List A) → AreReadAs is (map row_of wanted) found → found ≡ wanted
   all_read [] [] h = refl
   all_read [] (b ∷ bs) h = absurd h
   all_read (a ∷ as_are) [] h = absurd h
   all_read (a ∷ as_are) (b ∷ bs) h = ap₂ ◌∷◌ (one a b h.0) (all_read as_are bs h.1)
 
+module _ {Q : Type 0} (of : Q → Ledger) {A V : Type 0} (items : V → List A) (is : Row → A → Type 0) (row_of : A → Row) (one : (a b : A) → is (row_of b) a → a ≡ b) where
   -- a query whose rows were made of a list
-  pub asks_all : {R : Type 0} {Holds : Database → R → Type 0} (sql : List ℕ) (params : Row) (old new : State) (knows : Knows Holds sql) (wanted : R → List A) (rows : Vec Row Global)
-      → ((db : Database) (now : R) (holds : Holds db now) → Shows (knows db now holds).command db params rows.items → rows.items ≡ map row_of (wanted now))
-      → AsksText old new sql params (Ok rows) → (out : Result V Fault) → IfOk out (λ found. AreReadAs is rows.items (items found)) → Reads Holds old new out (λ r found. items found ≡ wanted r)
-  asks_all {R = R} {Holds = Holds} sql params old new knows wanted rows shows h out are_read = asks_ok Holds sql params old new (λ r found. items found ≡ wanted r) knows rows h out (answers out are_read)
+  pub asks_all : (sql : List ℕ) (params : Row) (old new : State) (knows : Knows HoldsLedger sql) (wanted : Q → List A) (rows : Vec Row Global)
+      → ((db : Database) (now : Q) (holds : HoldsLedger db (of now)) → Shows (knows db (of now) holds).command db params rows.items → rows.items ≡ map row_of (wanted now))
+      → AsksText old new sql params (Ok rows) → (out : Result V Fault) → IfOk out (λ found. AreReadAs is rows.items (items found)) → Finds HoldsLedger of old new out (λ r found. items found ≡ wanted r)
+  asks_all sql params old new knows wanted rows shows h out are_read = ask_finds HoldsLedger of sql params old new (λ r found. items found ≡ wanted r) knows rows h out (answers out are_read)
     where
       answers : (out : Result V Fault) → IfOk out (λ found. AreReadAs is rows.items (items found))
-          → IfOk out (λ found. (db : Database) (now : R) (holds : Holds db now) → Shows (knows db now holds).command db params rows.items → items found ≡ wanted now)
-      answers (Ok found) are_read = λ db now holds shown. all_read (items found) (wanted now) (subst (λ l. AreReadAs is l (items found)) (shows db now holds shown) are_read)
+          → IfOk out (λ found. (db : Database) (now : Q) (holds : HoldsLedger db (of now)) → Shows (knows db (of now) holds).command db params rows.items → items found ≡ wanted now)
+      answers (Ok found) are_read = λ db now holds shown. all_read is row_of one (items found) (wanted now) (subst (λ l. AreReadAs is l (items found)) (shows db now holds shown) are_read)
       answers (Err e) are_read = tt

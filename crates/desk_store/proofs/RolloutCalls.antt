@@ -12,10 +12,11 @@ use Rattle.sqlite.specs.State.{State}
 use Rattle.sqlite_keyed.proofs.ListLemmas.{map-map}
 use Rattle.sql_calls.specs.declared.fault.Fault.{Fault}
 use Rattle.sql_calls.specs.Calls.{AsksText, TakesFirst}
-use Rattle.sql_calls.specs.Standing.{Reads}
-use Rattle.sql_calls.proofs.Changes.{Knows, ShowsFirst}
+use Rattle.sql_calls.specs.Standing.{Finds, Makes}
+use Rattle.sql_calls.specs.Means.{Knows, KnowsWrite}
+use Rattle.sql_calls.proofs.Finding.{ShowsFirst}
 use Rattle.sql_calls.proofs.Selects.{simple}
-use Rattle.sql_calls.proofs.TypedCalls.{takes_ok}
+use Rattle.sql_calls.proofs.Finding.{ask_finds, first_finds, run_makes}
 use Rattle.rollout_machine.specs.ByteStrings.{item_numbered}
 use Rattle.rollout_machine.specs.Commands.{Bytes}
 use Rattle.rollout_machine.specs.StateWords.{group_numbered, group_holding}
@@ -25,7 +26,7 @@ use Rattle.rollout_model.specs.declared.word.Word.{Word}
 use Rattle.desk_records.specs.declared.texts.TheConstants.{GET_DESK}
 use Rattle.desk_records.specs.declared.rollout_texts.TheConstants.{FIND_ROLLOUT, LAST_ROLLOUT, GET_ROLLOUT, LIST_ROLLOUTS, LIST_MEMBERS, LIST_GROUPS, GET_GROUP, HOLDING_GROUP, LAST_STARTED}
 use Rattle.desk_records.specs.declared.rollout_row.StoredRollout.{StoredRollout}
-use Rattle.desk_records.specs.Holds.{HoldsLedger, Ledger}
+use Rattle.desk_records.specs.Holds.{HoldsLedger, HoldsRecords, Ledger, ledger_of}
 use Rattle.desk_records.specs.Modules.{IsLastRow}
 use Rattle.desk_records.specs.RolloutRow.{IsRolloutRow, IsGroupRow, stored_rollout}
 use Rattle.desk_records.specs.Rollouts.{is_called, groups_of, last_started_group, members_of}
@@ -37,7 +38,8 @@ use Rattle.desk_records.proofs.MeaningWords.{at_key}
 use Rattle.desk_records.proofs.RolloutMeaning.{same_name, last_rollout_query, rollout_columns, rollout_names, list_rollouts_query, group_names, list_groups_query, get_group_query, holding_group_query, last_started_query, find_rollout_is, last_rollout_is, get_rollout_is, list_rollouts_is, list_members_query, list_members_is, list_groups_is, get_group_is, holding_group_is, last_started_is}
 use Rattle.desk_records.proofs.RolloutRecords.{finds_rollout, lasts_rollout, gets_rollout, lists_rollouts, lists_members, shown_group, lists_groups, gets_group, holds_group, lasts_started}
 use Rattle.desk_store.specs.Rows.{AreReadAs, IsApproval, IsReadAs}
-use Rattle.desk_store.proofs.LedgerReads.{ledger_knows, both_mapped, kept_flag, shown_rollout, one_rollout, one_group}
+use Rattle.desk_store.proofs.Known.{ledger_knows, ledger_writes}
+use Rattle.desk_store.proofs.LedgerReads.{both_mapped, kept_flag, shown_rollout, one_rollout, one_group}
 use Rattle.desk_store.proofs.ModuleCalls.{one_last}
 use Rattle.desk_store.proofs.ReadLemmas.{asks_all, takes_one}
 
@@ -84,14 +86,14 @@ approves : (row : Option Row) (out : Result Bool Fault) → IfOk out (λ a. IsAp
 approves row (Ok a) h = λ db l holds shown. one_approval a l.records.approval row h (gets_desk db l holds (codes "format" ∷ codes "version" ∷ codes "approval" ∷ []) row shown)
 approves row (Err e) h = tt
 
-pub approval_read : (old new : State) (row : Option Row) → TakesFirst old new GET_DESK.now [] (Ok row) → (out : Result Bool Fault) → IfOk out (λ a. IsApproval a row) → Reads HoldsLedger old new out (λ l a. a ≡ l.records.approval)
-approval_read old new row h out is = takes_ok HoldsLedger GET_DESK.now [] old new (λ l a. a ≡ l.records.approval) getting_desk (λ db l holds at given. tt) row h out (approves row out is)
+pub approval_read : (old new : State) (row : Option Row) → TakesFirst old new GET_DESK.now [] (Ok row) → (out : Result Bool Fault) → IfOk out (λ a. IsApproval a row) → Finds HoldsLedger (λ (l : Ledger). l) old new out (λ l a. a ≡ l.records.approval)
+approval_read old new row h out is = first_finds HoldsLedger (λ (l : Ledger). l) GET_DESK.now [] old new (λ l a. a ≡ l.records.approval) getting_desk (λ db l holds at given. tt) row h out (approves row out is)
 
 -- ---- rollouts
 
-pub found : {E : Type 0} (name : Bytes) (old new : State) (row : Option Row) → TakesFirst old new FIND_ROLLOUT.now (Text name ∷ []) (Ok row) → Reads HoldsLedger {E = E} old new (Ok (is_some row)) (λ l there. there ≡ list_any (is_called name) l.records.rollouts)
+pub found : {E : Type 0} (name : Bytes) (old new : State) (row : Option Row) → TakesFirst old new FIND_ROLLOUT.now (Text name ∷ []) (Ok row) → Finds HoldsLedger (λ (l : Ledger). l) {E = E} old new (Ok (is_some row)) (λ l there. there ≡ list_any (is_called name) l.records.rollouts)
 found name old new row h =
-    takes_ok HoldsLedger FIND_ROLLOUT.now (Text name ∷ []) old new (λ l there. there ≡ list_any (is_called name) l.records.rollouts) finding (λ db l holds at given. tt) row h (Ok (is_some row))
+    first_finds HoldsLedger (λ (l : Ledger). l) FIND_ROLLOUT.now (Text name ∷ []) old new (λ l there. there ≡ list_any (is_called name) l.records.rollouts) finding (λ db l holds at given. tt) row h (Ok (is_some row))
     (λ db l holds shown. finds_rollout db l holds (codes "number" ∷ []) name row shown)
 
 lasts : (row : Option Row) (out : Result ℕ Fault) → IfOk out (λ n. IsLastRow n row)
@@ -99,19 +101,19 @@ lasts : (row : Option Row) (out : Result ℕ Fault) → IfOk out (λ n. IsLastRo
 lasts row (Ok n) h = λ db l holds shown. one_last row n (length l.records.rollouts) h (lasts_rollout db l holds (codes "number" ∷ []) row shown)
 lasts row (Err e) h = tt
 
-pub last_read : (old new : State) (row : Option Row) → TakesFirst old new LAST_ROLLOUT.now [] (Ok row) → (out : Result ℕ Fault) → IfOk out (λ n. IsLastRow n row) → Reads HoldsLedger old new out (λ l last. last ≡ length l.records.rollouts)
-last_read old new row h out is = takes_ok HoldsLedger LAST_ROLLOUT.now [] old new (λ l last. last ≡ length l.records.rollouts) ending (λ db l holds at given. tt) row h out (lasts row out is)
+pub last_read : (old new : State) (row : Option Row) → TakesFirst old new LAST_ROLLOUT.now [] (Ok row) → (out : Result ℕ Fault) → IfOk out (λ n. IsLastRow n row) → Finds HoldsLedger (λ (l : Ledger). l) old new out (λ l last. last ≡ length l.records.rollouts)
+last_read old new row h out is = first_finds HoldsLedger (λ (l : Ledger). l) LAST_ROLLOUT.now [] old new (λ l last. last ≡ length l.records.rollouts) ending (λ db l holds at given. tt) row h out (lasts row out is)
 
 pub rollout_read : (number : ℕ) → 1 ≤ number → (old new : State) (row : Option Row) → TakesFirst old new GET_ROLLOUT.now (Int (pos number) ∷ []) (Ok row) → (out : Result (Option StoredRollout) Fault) → IfOk out (λ found. IsReadAs IsRolloutRow found row)
-    → Reads HoldsLedger old new out (λ l found. found ≡ option_map stored_rollout (item_numbered l.records.rollouts number))
+    → Finds HoldsLedger (λ (l : Ledger). l) old new out (λ l found. found ≡ option_map stored_rollout (item_numbered l.records.rollouts number))
 rollout_read number least old new row =
-    takes_one IsRolloutRow shown_rollout GET_ROLLOUT.now (Int (pos number) ∷ []) old new getting (λ l. option_map stored_rollout (item_numbered l.records.rollouts number)) ◌≡◌ refl (λ a b h. ap Some (one_rollout a b h)) (λ db l holds at given. tt) row
+    takes_one (λ (l : Ledger). l) IsRolloutRow shown_rollout GET_ROLLOUT.now (Int (pos number) ∷ []) old new getting (λ l. option_map stored_rollout (item_numbered l.records.rollouts number)) ◌≡◌ refl (λ a b h. ap Some (one_rollout a b h)) (λ db l holds at given. tt) row
     (λ db l holds shown. gets_rollout db l holds rollout_names number least row shown ∙ both_mapped shown_rollout stored_rollout _)
 
 pub rollouts_read : (limit offset : ℕ) (old new : State) (rows : Vec Row Global) → AsksText old new LIST_ROLLOUTS.now (Int (pos limit) ∷ Int (pos offset) ∷ []) (Ok rows) → (out : Result (Vec StoredRollout Global) Fault) → IfOk out (λ found. AreReadAs IsRolloutRow rows.items found.items)
-    → Reads HoldsLedger old new out (λ l found. found.items ≡ map stored_rollout (take limit (drop offset l.records.rollouts)))
+    → Finds HoldsLedger (λ (l : Ledger). l) old new out (λ l found. found.items ≡ map stored_rollout (take limit (drop offset l.records.rollouts)))
 rollouts_read limit offset old new rows =
-    asks_all vec_items IsRolloutRow shown_rollout one_rollout LIST_ROLLOUTS.now (Int (pos limit) ∷ Int (pos offset) ∷ []) old new paging (λ l. map stored_rollout (take limit (drop offset l.records.rollouts))) rows
+    asks_all (λ (l : Ledger). l) vec_items IsRolloutRow shown_rollout one_rollout LIST_ROLLOUTS.now (Int (pos limit) ∷ Int (pos offset) ∷ []) old new paging (λ l. map stored_rollout (take limit (drop offset l.records.rollouts))) rows
     (λ db l holds shown. lists_rollouts db l holds rollout_names limit offset rows.items shown ∙ sym (map-map shown_rollout stored_rollout _))
 
 -- ---- members
@@ -120,33 +122,33 @@ one_member : (a b : Bytes) → column (Text b ∷ []) 0 ≡ Text a → a ≡ b
 one_member a b h = let same : Text b ≡ Text a = h in cc
 
 pub members_read : (number limit offset : ℕ) → 1 ≤ number → (old new : State) (rows : Vec Row Global) → AsksText old new LIST_MEMBERS.now (Int (pos number) ∷ Int (pos limit) ∷ Int (pos offset) ∷ []) (Ok rows) → (out : Result (Vec (Word TargetKind) Global) Fault)
-    → IfOk out (λ found. AreReadAs (λ row id. column row 0 ≡ Text id) rows.items found.items) → Reads HoldsLedger old new out (λ l found. found.items ≡ take limit (drop offset (members_of (item_numbered l.records.rollouts number))))
+    → IfOk out (λ found. AreReadAs (λ row id. column row 0 ≡ Text id) rows.items found.items) → Finds HoldsLedger (λ (l : Ledger). l) old new out (λ l found. found.items ≡ take limit (drop offset (members_of (item_numbered l.records.rollouts number))))
 members_read number limit offset least old new rows =
-    asks_all vec_items (λ row id. column row 0 ≡ Text id) (λ id. Text id ∷ []) one_member LIST_MEMBERS.now (Int (pos number) ∷ Int (pos limit) ∷ Int (pos offset) ∷ []) old new listing_members (λ l. take limit (drop offset (members_of (item_numbered l.records.rollouts number)))) rows
+    asks_all (λ (l : Ledger). l) vec_items (λ row id. column row 0 ≡ Text id) (λ id. Text id ∷ []) one_member LIST_MEMBERS.now (Int (pos number) ∷ Int (pos limit) ∷ Int (pos offset) ∷ []) old new listing_members (λ l. take limit (drop offset (members_of (item_numbered l.records.rollouts number)))) rows
     (λ db l holds shown. lists_members db l holds (codes "controller" ∷ []) number limit offset least rows.items shown)
 
 -- ---- groups
 
 pub groups_read : (number : ℕ) → 1 ≤ number → (old new : State) (rows : Vec Row Global) → AsksText old new LIST_GROUPS.now (Int (pos number) ∷ []) (Ok rows) → (out : Result (Vec GroupRecord Global) Fault) → IfOk out (λ found. AreReadAs IsGroupRow rows.items found.items)
-    → Reads HoldsLedger old new out (λ l found. found.items ≡ groups_of (item_numbered l.records.rollouts number))
+    → Finds HoldsLedger (λ (l : Ledger). l) old new out (λ l found. found.items ≡ groups_of (item_numbered l.records.rollouts number))
 groups_read number least old new rows =
-    asks_all vec_items IsGroupRow shown_group one_group LIST_GROUPS.now (Int (pos number) ∷ []) old new listing (λ l. groups_of (item_numbered l.records.rollouts number)) rows
+    asks_all (λ (l : Ledger). l) vec_items IsGroupRow shown_group one_group LIST_GROUPS.now (Int (pos number) ∷ []) old new listing (λ l. groups_of (item_numbered l.records.rollouts number)) rows
     (λ db l holds shown. lists_groups db l holds group_names number least rows.items shown)
 
 pub group_read : (number place : ℕ) → 1 ≤ number → (old new : State) (row : Option Row) → TakesFirst old new GET_GROUP.now (Int (pos number) ∷ Int (pos place) ∷ []) (Ok row) → (out : Result (Option GroupRecord) Fault) → IfOk out (λ found. IsReadAs IsGroupRow found row)
-    → Reads HoldsLedger old new out (λ l found. found ≡ group_numbered place (groups_of (item_numbered l.records.rollouts number)))
+    → Finds HoldsLedger (λ (l : Ledger). l) old new out (λ l found. found ≡ group_numbered place (groups_of (item_numbered l.records.rollouts number)))
 group_read number place least old new row =
-    takes_one IsGroupRow shown_group GET_GROUP.now (Int (pos number) ∷ Int (pos place) ∷ []) old new getting_group (λ l. group_numbered place (groups_of (item_numbered l.records.rollouts number))) ◌≡◌ refl (λ a b h. ap Some (one_group a b h)) (λ db l holds at given. tt) row
+    takes_one (λ (l : Ledger). l) IsGroupRow shown_group GET_GROUP.now (Int (pos number) ∷ Int (pos place) ∷ []) old new getting_group (λ l. group_numbered place (groups_of (item_numbered l.records.rollouts number))) ◌≡◌ refl (λ a b h. ap Some (one_group a b h)) (λ db l holds at given. tt) row
     (λ db l holds shown. gets_group db l holds group_names number place least row shown)
 
 pub holding_read : (number place : ℕ) → 1 ≤ number → (old new : State) (row : Option Row) → TakesFirst old new HOLDING_GROUP.now (Int (pos number) ∷ Int (pos place) ∷ []) (Ok row) → (out : Result (Option GroupRecord) Fault) → IfOk out (λ found. IsReadAs IsGroupRow found row)
-    → Reads HoldsLedger old new out (λ l found. found ≡ group_holding place (groups_of (item_numbered l.records.rollouts number)))
+    → Finds HoldsLedger (λ (l : Ledger). l) old new out (λ l found. found ≡ group_holding place (groups_of (item_numbered l.records.rollouts number)))
 holding_read number place least old new row =
-    takes_one IsGroupRow shown_group HOLDING_GROUP.now (Int (pos number) ∷ Int (pos place) ∷ []) old new holding_group (λ l. group_holding place (groups_of (item_numbered l.records.rollouts number))) ◌≡◌ refl (λ a b h. ap Some (one_group a b h)) (λ db l holds at given. tt) row
+    takes_one (λ (l : Ledger). l) IsGroupRow shown_group HOLDING_GROUP.now (Int (pos number) ∷ Int (pos place) ∷ []) old new holding_group (λ l. group_holding place (groups_of (item_numbered l.records.rollouts number))) ◌≡◌ refl (λ a b h. ap Some (one_group a b h)) (λ db l holds at given. tt) row
     (λ db l holds shown. holds_group db l holds group_names number place least row shown)
 
 pub last_started_read : (number : ℕ) → 1 ≤ number → (old new : State) (row : Option Row) → TakesFirst old new LAST_STARTED.now (Int (pos number) ∷ []) (Ok row) → (out : Result (Option GroupRecord) Fault) → IfOk out (λ found. IsReadAs IsGroupRow found row)
-    → Reads HoldsLedger old new out (λ l found. found ≡ last_started_group (groups_of (item_numbered l.records.rollouts number)))
+    → Finds HoldsLedger (λ (l : Ledger). l) old new out (λ l found. found ≡ last_started_group (groups_of (item_numbered l.records.rollouts number)))
 last_started_read number least old new row =
-    takes_one IsGroupRow shown_group LAST_STARTED.now (Int (pos number) ∷ []) old new last_started (λ l. last_started_group (groups_of (item_numbered l.records.rollouts number))) ◌≡◌ refl (λ a b h. ap Some (one_group a b h)) (λ db l holds at given. tt) row
+    takes_one (λ (l : Ledger). l) IsGroupRow shown_group LAST_STARTED.now (Int (pos number) ∷ []) old new last_started (λ l. last_started_group (groups_of (item_numbered l.records.rollouts number))) ◌≡◌ refl (λ a b h. ap Some (one_group a b h)) (λ db l holds at given. tt) row
     (λ db l holds shown. lasts_started db l holds group_names number least row shown)

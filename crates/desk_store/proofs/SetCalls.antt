@@ -12,10 +12,11 @@ use Rattle.sqlite.specs.Effect.{Database}
 use Rattle.sqlite.specs.State.{State}
 use Rattle.sql_calls.specs.declared.fault.Fault.{Fault}
 use Rattle.sql_calls.specs.Calls.{RunsText, AsksText, TakesFirst}
-use Rattle.sql_calls.specs.Standing.{Reads, Writes}
-use Rattle.sql_calls.proofs.Changes.{Knows, ShowsFirst}
+use Rattle.sql_calls.specs.Standing.{Finds, Makes}
+use Rattle.sql_calls.specs.Means.{Knows, KnowsWrite}
+use Rattle.sql_calls.proofs.Finding.{ShowsFirst}
 use Rattle.sql_calls.proofs.Selects.{simple}
-use Rattle.sql_calls.proofs.TypedCalls.{takes_ok, writes}
+use Rattle.sql_calls.proofs.Finding.{ask_finds, first_finds, run_makes}
 use Rattle.rollout_machine.specs.ByteStrings.{item_numbered}
 use Rattle.rollout_machine.specs.Commands.{Bytes, SetLabel}
 use Rattle.rollout_machine.specs.Objects.{modules_of_set}
@@ -26,7 +27,7 @@ use Rattle.rollout_machine.specs.Verdicts.{is_named_by_set}
 use Rattle.desk_records.specs.declared.set_texts.TheConstants.{FIND_SET, LAST_SET, GET_SET, LIST_SET_MODULES, MODULE_LOCKED, PUT_SET, PUT_SET_MODULE}
 use Rattle.desk_records.specs.declared.set_row.SetName.{SetName}
 use Rattle.desk_records.specs.Schema.{Sets, SetModules}
-use Rattle.desk_records.specs.Holds.{HoldsRecords}
+use Rattle.desk_records.specs.Holds.{HoldsLedger, HoldsRecords, Ledger, ledger_of}
 use Rattle.desk_records.specs.Modules.{IsLastRow}
 use Rattle.desk_records.specs.Sets.{place_row, is_same_set, names_of, with_set, AddsSetModule}
 use Rattle.desk_records.specs.SetRow.{IsSetNameRow, StoredNumber, called}
@@ -36,39 +37,39 @@ use Rattle.desk_records.proofs.SetRecords.{finds_set, lasts_set, gets_set, lists
 use Rattle.desk_store.specs.Rows.{AreReadAs, IsReadAs}
 use Rattle.desk_store.proofs.ReadLemmas.{asks_all, takes_one}
 use Rattle.desk_store.proofs.ModuleCalls.{one_last}
-use Rattle.desk_store.proofs.Known.{known_at}
+use Rattle.desk_store.proofs.Known.{ledger_knows, ledger_writes}
 
 -- ---- what the texts mean where the records are held
 
-abbrev pub finding : Knows HoldsRecords FIND_SET.now
-finding = known_at Sets FIND_SET.now (λ at tree. Select (record { lets = []; body = simple tree same_names (col 1 0 ∷ []) }) (codes "number" ∷ [])) find_set_is
+abbrev pub finding : Knows HoldsLedger FIND_SET.now
+finding = ledger_knows Sets FIND_SET.now (λ at tree. Select (record { lets = []; body = simple tree same_names (col 1 0 ∷ []) }) (codes "number" ∷ [])) find_set_is
 
-abbrev pub ending : Knows HoldsRecords LAST_SET.now
-ending = known_at Sets LAST_SET.now (λ at tree. Select (record { lets = []; body = last_set_query tree }) (codes "number" ∷ [])) last_set_is
+abbrev pub ending : Knows HoldsLedger LAST_SET.now
+ending = ledger_knows Sets LAST_SET.now (λ at tree. Select (record { lets = []; body = last_set_query tree }) (codes "number" ∷ [])) last_set_is
 
-abbrev pub getting : Knows HoldsRecords GET_SET.now
-getting = known_at Sets GET_SET.now (λ at tree. Select (record { lets = []; body = simple tree (at_key 0 0 ∷ []) name_columns }) (codes "name" ∷ codes "version" ∷ [])) get_set_is
+abbrev pub getting : Knows HoldsLedger GET_SET.now
+getting = ledger_knows Sets GET_SET.now (λ at tree. Select (record { lets = []; body = simple tree (at_key 0 0 ∷ []) name_columns }) (codes "name" ∷ codes "version" ∷ [])) get_set_is
 
-abbrev pub listing : Knows HoldsRecords LIST_SET_MODULES.now
-listing = known_at SetModules LIST_SET_MODULES.now (λ at tree. Select (record { lets = []; body = set_modules_query tree }) (codes "module" ∷ [])) list_set_modules_is
+abbrev pub listing : Knows HoldsLedger LIST_SET_MODULES.now
+listing = ledger_knows SetModules LIST_SET_MODULES.now (λ at tree. Select (record { lets = []; body = set_modules_query tree }) (codes "module" ∷ [])) list_set_modules_is
 
-abbrev pub locking : Knows HoldsRecords MODULE_LOCKED.now
-locking = known_at SetModules MODULE_LOCKED.now (λ at tree. Select (record { lets = []; body = locked_query tree }) (codes "dset" ∷ [])) module_locked_is
+abbrev pub locking : Knows HoldsLedger MODULE_LOCKED.now
+locking = ledger_knows SetModules MODULE_LOCKED.now (λ at tree. Select (record { lets = []; body = locked_query tree }) (codes "dset" ∷ [])) module_locked_is
 
-abbrev pub putting : Knows HoldsRecords PUT_SET.now
-putting = known_at Sets PUT_SET.now (λ at tree. Insert at (Values set_terms 4)) put_set_is
+abbrev pub putting : KnowsWrite HoldsLedger PUT_SET.now
+putting = ledger_writes Sets PUT_SET.now (λ at tree. Insert at (Values set_terms 4)) put_set_is (λ at tree. refl)
 
-abbrev pub placing : Knows HoldsRecords PUT_SET_MODULE.now
-placing = known_at SetModules PUT_SET_MODULE.now (λ at tree. Insert at (Values set_module_terms 4)) put_set_module_is
+abbrev pub placing : KnowsWrite HoldsLedger PUT_SET_MODULE.now
+placing = ledger_writes SetModules PUT_SET_MODULE.now (λ at tree. Insert at (Values set_module_terms 4)) put_set_module_is (λ at tree. refl)
 
 -- ---- whether there is such a set
 
-abbrev pub Finds : Bytes → Bytes → Records → Bool → Type 0
-Finds name version r found = found ≡ list_any (is_same_set name version) r.sets
+abbrev pub FindsSame : Bytes → Bytes → Records → Bool → Type 0
+FindsSame name version r found = found ≡ list_any (is_same_set name version) r.sets
 
-pub found : {E : Type 0} (name version : Bytes) (old new : State) (row : Option Row) → TakesFirst old new FIND_SET.now (names_of name version) (Ok row) → Reads HoldsRecords {E = E} old new (Ok (is_some row)) (Finds name version)
+pub found : {E : Type 0} (name version : Bytes) (old new : State) (row : Option Row) → TakesFirst old new FIND_SET.now (names_of name version) (Ok row) → Finds HoldsLedger ledger_of {E = E} old new (Ok (is_some row)) (FindsSame name version)
 found name version old new row h =
-    takes_ok HoldsRecords FIND_SET.now (names_of name version) old new (Finds name version) finding (λ db r holds at given. tt) row h (Ok (is_some row)) (λ db now holds shown. finds_set db now holds (codes "number" ∷ []) name version row shown)
+    first_finds HoldsLedger ledger_of FIND_SET.now (names_of name version) old new (FindsSame name version) finding (λ db r holds at given. tt) row h (Ok (is_some row)) (λ db now holds shown. finds_set db now holds (codes "number" ∷ []) name version row shown)
 
 -- ---- the last number
 
@@ -76,12 +77,12 @@ abbrev pub IsLast : Records → ℕ → Type 0
 IsLast r last = last ≡ length r.sets
 
 lasts : (row : Option Row) (out : Result ℕ Fault) → IfOk out (λ n. IsLastRow n row)
-    → IfOk out (λ n. (db : Database) (now : Records) (holds : HoldsRecords db now) → ShowsFirst (ending db now holds).command db [] row → n ≡ length now.sets)
+    → IfOk out (λ n. (db : Database) (now : Records) (holds : HoldsRecords db now) → ShowsFirst (ending db (ledger_of now) holds).command db [] row → n ≡ length now.sets)
 lasts row (Ok n) h = λ db now holds shown. one_last row n (length now.sets) h (lasts_set db now holds (codes "number" ∷ []) row shown)
 lasts row (Err e) h = tt
 
-pub last_read : (old new : State) (row : Option Row) → TakesFirst old new LAST_SET.now [] (Ok row) → (out : Result ℕ Fault) → IfOk out (λ n. IsLastRow n row) → Reads HoldsRecords old new out IsLast
-last_read old new row h out is = takes_ok HoldsRecords LAST_SET.now [] old new IsLast ending (λ db r holds at given. tt) row h out (lasts row out is)
+pub last_read : (old new : State) (row : Option Row) → TakesFirst old new LAST_SET.now [] (Ok row) → (out : Result ℕ Fault) → IfOk out (λ n. IsLastRow n row) → Finds HoldsLedger ledger_of old new out IsLast
+last_read old new row h out is = first_finds HoldsLedger ledger_of LAST_SET.now [] old new IsLast ending (λ db r holds at given. tt) row h out (lasts row out is)
 
 -- ---- a set's name by its number
 
@@ -98,9 +99,9 @@ one_name name set h =
     λ i. record { name = same i; version = alike i }
 
 pub set_read : (number : ℕ) → 1 ≤ number → (old new : State) (row : Option Row) → TakesFirst old new GET_SET.now (Int (pos number) ∷ []) (Ok row) → (out : Result (Option SetName) Fault) → IfOk out (λ found. IsReadAs IsSetNameRow found row)
-    → Reads HoldsRecords old new out (Gets number)
+    → Finds HoldsLedger ledger_of old new out (Gets number)
 set_read number least old new row =
-    takes_one IsSetNameRow (λ (set : SetLabel). names_of set.name set.version) GET_SET.now (Int (pos number) ∷ []) old new getting (λ r. item_numbered r.sets number) (λ found set. found ≡ option_map called set) refl (λ a b h. ap Some (one_name a b h))
+    takes_one ledger_of IsSetNameRow (λ (set : SetLabel). names_of set.name set.version) GET_SET.now (Int (pos number) ∷ []) old new getting (λ r. item_numbered r.sets number) (λ found set. found ≡ option_map called set) refl (λ a b h. ap Some (one_name a b h))
     (λ db r holds at given. tt) row (λ db now holds. gets_set db now holds (codes "name" ∷ codes "version" ∷ []) number least row)
 
 -- ---- a set's modules
@@ -116,8 +117,8 @@ one_number : (a b : ℕ) → IsNumberRow (Int (pos b) ∷ []) a → a ≡ b
 one_number a b h = let same : Int (pos b) ≡ Int (pos a) = h in cc
 
 pub modules_read : (number : ℕ) → 1 ≤ number → (old new : State) (rows : Vec Row Global) → AsksText old new LIST_SET_MODULES.now (Int (pos number) ∷ []) (Ok rows) → (out : Result (Vec (Number ModuleKind) Global) Fault)
-    → IfOk out (λ ms. AreReadAs IsNumberRow rows.items ms.items) → Reads HoldsRecords old new out (Lists number)
-modules_read number least old new rows = asks_all vec_items IsNumberRow (λ m. Int (pos m) ∷ []) one_number LIST_SET_MODULES.now (Int (pos number) ∷ []) old new listing (λ r. modules_of_set (item_numbered r.sets number)) rows
+    → IfOk out (λ ms. AreReadAs IsNumberRow rows.items ms.items) → Finds HoldsLedger ledger_of old new out (Lists number)
+modules_read number least old new rows = asks_all ledger_of vec_items IsNumberRow (λ m. Int (pos m) ∷ []) one_number LIST_SET_MODULES.now (Int (pos number) ∷ []) old new listing (λ r. modules_of_set (item_numbered r.sets number)) rows
     (λ db now holds. lists_set_modules db now holds (codes "module" ∷ []) number least rows.items)
 
 -- ---- whether a set names a module
@@ -125,19 +126,19 @@ modules_read number least old new rows = asks_all vec_items IsNumberRow (λ m. I
 abbrev pub Locks : ℕ → Records → Bool → Type 0
 Locks number r locked = locked ≡ is_named_by_set r.sets number
 
-pub locked : {E : Type 0} (number : ℕ) (old new : State) (row : Option Row) → TakesFirst old new MODULE_LOCKED.now (Int (pos number) ∷ []) (Ok row) → Reads HoldsRecords {E = E} old new (Ok (is_some row)) (Locks number)
+pub locked : {E : Type 0} (number : ℕ) (old new : State) (row : Option Row) → TakesFirst old new MODULE_LOCKED.now (Int (pos number) ∷ []) (Ok row) → Finds HoldsLedger ledger_of {E = E} old new (Ok (is_some row)) (Locks number)
 locked number old new row h =
-    takes_ok HoldsRecords MODULE_LOCKED.now (Int (pos number) ∷ []) old new (Locks number) locking (λ db r holds at given. tt) row h (Ok (is_some row)) (λ db now holds shown. finds_lock db now holds (codes "dset" ∷ []) number row shown)
+    first_finds HoldsLedger ledger_of MODULE_LOCKED.now (Int (pos number) ∷ []) old new (Locks number) locking (λ db r holds at given. tt) row h (Ok (is_some row)) (λ db now holds shown. finds_lock db now holds (codes "dset" ∷ []) number row shown)
 
 -- ---- a new set, and a further module of it
 
 abbrev pub Puts : ℕ → Bytes → Bytes → Records → Records → Type 0
 Puts number name version r next = (number ≡ length r.sets + 1) × (next ≡ with_set r name version)
 
-pub set_written : (number : ℕ) (name version : Bytes) (old new : State) (out : Result (Unit {0}) Fault) → RunsText old new PUT_SET.now (Int (pos number) ∷ names_of name version) out → Writes HoldsRecords old new out (Puts number name version)
-set_written number name version old new out h = writes HoldsRecords PUT_SET.now (Int (pos number) ∷ names_of name version) old new (Puts number name version) putting (λ db r holds. refl) out h
+pub set_written : (number : ℕ) (name version : Bytes) (old new : State) (out : Result (Unit {0}) Fault) → RunsText old new PUT_SET.now (Int (pos number) ∷ names_of name version) out → Makes HoldsLedger ledger_of old new out (Puts number name version)
+set_written number name version old new out h = run_makes HoldsLedger ledger_of PUT_SET.now (Int (pos number) ∷ names_of name version) old new (Puts number name version) putting.knows out h
     (λ now next change holds count w. (w, subst (HoldsRecords new.now) (sym change.1) (adds_set name version number old new _ count now holds change.0 w)))
 
-pub set_module_written : (number place m : ℕ) (old new : State) (out : Result (Unit {0}) Fault) → RunsText old new PUT_SET_MODULE.now (place_row number place m) out → Writes HoldsRecords old new out (AddsSetModule number place m)
-set_module_written number place m old new out h = writes HoldsRecords PUT_SET_MODULE.now (place_row number place m) old new (AddsSetModule number place m) placing (λ db r holds. refl) out h
+pub set_module_written : (number place m : ℕ) (old new : State) (out : Result (Unit {0}) Fault) → RunsText old new PUT_SET_MODULE.now (place_row number place m) out → Makes HoldsLedger ledger_of old new out (AddsSetModule number place m)
+set_module_written number place m old new out h = run_makes HoldsLedger ledger_of PUT_SET_MODULE.now (place_row number place m) old new (AddsSetModule number place m) placing.knows out h
     (λ now next change holds count w. (w, adds_set_module number place m old new _ count now next holds change w))

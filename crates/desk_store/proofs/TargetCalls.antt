@@ -9,11 +9,12 @@ use Rattle.sqlite.specs.Effect.{Database}
 use Rattle.sqlite.specs.State.{State}
 use Rattle.sql_calls.specs.declared.fault.Fault.{Fault}
 use Rattle.sql_calls.specs.Calls.{RunsText, AsksText, TakesFirst}
-use Rattle.sql_calls.specs.Standing.{Reads, Writes}
-use Rattle.sql_calls.proofs.Changes.{Knows, ShowsFirst}
+use Rattle.sql_calls.specs.Standing.{Finds, Makes}
+use Rattle.sql_calls.specs.Means.{Knows, KnowsWrite}
+use Rattle.sql_calls.proofs.Finding.{ShowsFirst}
 use Rattle.sql_calls.proofs.Counts.{count_query}
 use Rattle.sql_calls.proofs.Selects.{simple}
-use Rattle.sql_calls.proofs.TypedCalls.{takes_ok, writes}
+use Rattle.sql_calls.proofs.Finding.{ask_finds, first_finds, run_makes}
 use Rattle.rollout_machine.specs.Commands.{Bytes}
 use Rattle.rollout_machine.specs.Records.{Records}
 use Rattle.rollout_machine.specs.Targets.{Target}
@@ -24,7 +25,7 @@ use Rattle.desk_records.specs.declared.target_texts.TheConstants.{COUNT_TARGETS,
 use Rattle.desk_records.specs.declared.target_row.ListedTarget.{ListedTarget}
 use Rattle.desk_records.specs.declared.target_row.StoredTarget.{StoredTarget}
 use Rattle.desk_records.specs.Schema.{Targets, TargetTags}
-use Rattle.desk_records.specs.Holds.{HoldsRecords}
+use Rattle.desk_records.specs.Holds.{HoldsLedger, HoldsRecords, Ledger, ledger_of}
 use Rattle.desk_records.specs.ModuleRow.{StoredText}
 use Rattle.desk_records.specs.TargetRow.{IsTargetRow, IsListedTargetRow, listed_target, stored_target}
 use Rattle.desk_records.specs.Targets.{AddsTag, AddsTarget, renamed, untagged, with_changed}
@@ -33,33 +34,33 @@ use Rattle.desk_records.proofs.TargetMeaning.{of_target, target_columns, target_
 use Rattle.desk_records.proofs.TargetRecords.{told_target, listed_row, gets_target, counts_targets, lists_targets, lists_target_tags, adds_target, sets_target, adds_tag, drops_tag}
 use Rattle.desk_store.specs.Rows.{AreReadAs, IsCount, IsReadAs}
 use Rattle.desk_store.proofs.ReadLemmas.{asks_all, takes_one}
-use Rattle.desk_store.proofs.Known.{known_at}
+use Rattle.desk_store.proofs.Known.{ledger_knows, ledger_writes}
 
 -- ---- what the texts mean where the records are held
 
-abbrev pub getting : Knows HoldsRecords GET_TARGET.now
-getting = known_at Targets GET_TARGET.now (λ at tree. Select (record { lets = []; body = simple tree of_target target_columns }) (codes "name" ∷ codes "digest" ∷ [])) get_target_is
+abbrev pub getting : Knows HoldsLedger GET_TARGET.now
+getting = ledger_knows Targets GET_TARGET.now (λ at tree. Select (record { lets = []; body = simple tree of_target target_columns }) (codes "name" ∷ codes "digest" ∷ [])) get_target_is
 
-abbrev pub counting : Knows HoldsRecords COUNT_TARGETS.now
-counting = known_at Targets COUNT_TARGETS.now (λ at tree. Select (record { lets = []; body = count_query tree }) (codes "count(*)" ∷ [])) count_targets_is
+abbrev pub counting : Knows HoldsLedger COUNT_TARGETS.now
+counting = ledger_knows Targets COUNT_TARGETS.now (λ at tree. Select (record { lets = []; body = count_query tree }) (codes "count(*)" ∷ [])) count_targets_is
 
-abbrev pub paging : Knows HoldsRecords LIST_TARGETS.now
-paging = known_at Targets LIST_TARGETS.now (λ at tree. Select (record { lets = []; body = targets_query tree }) (codes "controller" ∷ codes "name" ∷ [])) list_targets_is
+abbrev pub paging : Knows HoldsLedger LIST_TARGETS.now
+paging = ledger_knows Targets LIST_TARGETS.now (λ at tree. Select (record { lets = []; body = targets_query tree }) (codes "controller" ∷ codes "name" ∷ [])) list_targets_is
 
-abbrev pub listing : Knows HoldsRecords LIST_TARGET_TAGS.now
-listing = known_at TargetTags LIST_TARGET_TAGS.now (λ at tree. Select (record { lets = []; body = tags_query tree }) (codes "tag" ∷ [])) list_target_tags_is
+abbrev pub listing : Knows HoldsLedger LIST_TARGET_TAGS.now
+listing = ledger_knows TargetTags LIST_TARGET_TAGS.now (λ at tree. Select (record { lets = []; body = tags_query tree }) (codes "tag" ∷ [])) list_target_tags_is
 
-abbrev pub putting : Knows HoldsRecords PUT_TARGET.now
-putting = known_at Targets PUT_TARGET.now (λ at tree. Insert at (Values target_terms 4)) put_target_is
+abbrev pub putting : KnowsWrite HoldsLedger PUT_TARGET.now
+putting = ledger_writes Targets PUT_TARGET.now (λ at tree. Insert at (Values target_terms 4)) put_target_is (λ at tree. refl)
 
-abbrev pub setting : Knows HoldsRecords SET_TARGET.now
-setting = known_at Targets SET_TARGET.now (λ at tree. Update at (record { lets = []; body = set_target_query tree })) set_target_is
+abbrev pub setting : KnowsWrite HoldsLedger SET_TARGET.now
+setting = ledger_writes Targets SET_TARGET.now (λ at tree. Update at (record { lets = []; body = set_target_query tree })) set_target_is (λ at tree. refl)
 
-abbrev pub tagging : Knows HoldsRecords PUT_TARGET_TAG.now
-tagging = known_at TargetTags PUT_TARGET_TAG.now (λ at tree. Insert at (Values tag_terms 3)) put_target_tag_is
+abbrev pub tagging : KnowsWrite HoldsLedger PUT_TARGET_TAG.now
+tagging = ledger_writes TargetTags PUT_TARGET_TAG.now (λ at tree. Insert at (Values tag_terms 3)) put_target_tag_is (λ at tree. refl)
 
-abbrev pub dropping : Knows HoldsRecords DROP_TARGET_TAG.now
-dropping = known_at TargetTags DROP_TARGET_TAG.now (λ at tree. Delete at (record { lets = []; body = drop_tag_query tree })) drop_target_tag_is
+abbrev pub dropping : KnowsWrite HoldsLedger DROP_TARGET_TAG.now
+dropping = ledger_writes TargetTags DROP_TARGET_TAG.now (λ at tree. Delete at (record { lets = []; body = drop_tag_query tree })) drop_target_tag_is (λ at tree. refl)
 
 -- ---- a target by its id
 
@@ -76,9 +77,9 @@ one_told told t h =
     λ i. record { name = name i; digest = digest i }
 
 pub target_read : (id : Bytes) (old new : State) (row : Option Row) → TakesFirst old new GET_TARGET.now (Text id ∷ []) (Ok row) → (out : Result (Option StoredTarget) Fault) → IfOk out (λ found. IsReadAs IsTargetRow found row)
-    → Reads HoldsRecords old new out (Gets id)
+    → Finds HoldsLedger ledger_of old new out (Gets id)
 target_read id old new row =
-    takes_one IsTargetRow told_target GET_TARGET.now (Text id ∷ []) old new getting (λ r. target_of r id) (λ found t. found ≡ option_map stored_target t) refl (λ told t h. ap Some (one_told told t h)) (λ db r holds at given. tt) row
+    takes_one ledger_of IsTargetRow told_target GET_TARGET.now (Text id ∷ []) old new getting (λ r. target_of r id) (λ found t. found ≡ option_map stored_target t) refl (λ told t h. ap Some (one_told told t h)) (λ db r holds at given. tt) row
     (λ db now holds. gets_target db now holds (codes "name" ∷ codes "digest" ∷ []) id row)
 
 -- ---- how many there are
@@ -96,12 +97,12 @@ same_count count size (Some row) h small is =
     omega (arith, number, small)
 
 counts : (row : Option Row) (out : Result ℕ Fault) → IfOk out (λ n. IsCount n row) → IfOk out (λ n. n < 2 ^ 32)
-    → IfOk out (λ n. (db : Database) (now : Records) (holds : HoldsRecords db now) → ShowsFirst (counting db now holds).command db [] row → Counts now n)
+    → IfOk out (λ n. (db : Database) (now : Records) (holds : HoldsRecords db now) → ShowsFirst (counting db (ledger_of now) holds).command db [] row → Counts now n)
 counts row (Ok n) h small = λ db now holds shown. same_count n (length now.targets) row h small (counts_targets db now holds (codes "count(*)" ∷ []) row shown)
 counts row (Err e) h small = tt
 
-pub count_read : (old new : State) (row : Option Row) → TakesFirst old new COUNT_TARGETS.now [] (Ok row) → (out : Result ℕ Fault) → IfOk out (λ n. IsCount n row) → IfOk out (λ n. n < 2 ^ 32) → Reads HoldsRecords old new out Counts
-count_read old new row h out is small = takes_ok HoldsRecords COUNT_TARGETS.now [] old new Counts counting (λ db r holds at given. tt) row h out (counts row out is small)
+pub count_read : (old new : State) (row : Option Row) → TakesFirst old new COUNT_TARGETS.now [] (Ok row) → (out : Result ℕ Fault) → IfOk out (λ n. IsCount n row) → IfOk out (λ n. n < 2 ^ 32) → Finds HoldsLedger ledger_of old new out Counts
+count_read old new row h out is small = first_finds HoldsLedger ledger_of COUNT_TARGETS.now [] old new Counts counting (λ db r holds at given. tt) row h out (counts row out is small)
 
 -- ---- the targets of a page
 
@@ -125,9 +126,9 @@ rows_listed [] = refl
 rows_listed (t ∷ ts) = ap (λ l. listed_row t ∷ l) (rows_listed ts)
 
 pub targets_read : (limit offset : ℕ) (old new : State) (rows : Vec Row Global) → AsksText old new LIST_TARGETS.now (Int (pos limit) ∷ Int (pos offset) ∷ []) (Ok rows) → (out : Result (Vec ListedTarget Global) Fault)
-    → IfOk out (λ targets. AreReadAs IsListedTargetRow rows.items targets.items) → Reads HoldsRecords old new out (Pages limit offset)
+    → IfOk out (λ targets. AreReadAs IsListedTargetRow rows.items targets.items) → Finds HoldsLedger ledger_of old new out (Pages limit offset)
 targets_read limit offset old new rows =
-    asks_all vec_items IsListedTargetRow row_of one_listed LIST_TARGETS.now (Int (pos limit) ∷ Int (pos offset) ∷ []) old new paging (λ r. map listed_target (take limit (drop offset r.targets))) rows
+    asks_all ledger_of vec_items IsListedTargetRow row_of one_listed LIST_TARGETS.now (Int (pos limit) ∷ Int (pos offset) ∷ []) old new paging (λ r. map listed_target (take limit (drop offset r.targets))) rows
     (λ db now holds shown. lists_targets db now holds (codes "controller" ∷ codes "name" ∷ []) limit offset rows.items shown ∙ rows_listed _)
 
 -- ---- the tags of a target
@@ -143,29 +144,29 @@ one_tag : (a b : Bytes) → IsTagRow (Text b ∷ []) a → a ≡ b
 one_tag a b h = let same : Text b ≡ Text a = h in cc
 
 pub tags_read : (id : Bytes) (old new : State) (rows : Vec Row Global) → AsksText old new LIST_TARGET_TAGS.now (Text id ∷ []) (Ok rows) → (out : Result (Vec (Word LabelKind) Global) Fault) → IfOk out (λ tags. AreReadAs IsTagRow rows.items tags.items)
-    → Reads HoldsRecords old new out (Lists id)
+    → Finds HoldsLedger ledger_of old new out (Lists id)
 tags_read id old new rows =
-    asks_all vec_items IsTagRow (λ w. Text w ∷ []) one_tag LIST_TARGET_TAGS.now (Text id ∷ []) old new listing (λ r. tags_of (target_of r id)) rows (λ db now holds. lists_target_tags db now holds (codes "tag" ∷ []) id rows.items)
+    asks_all ledger_of vec_items IsTagRow (λ w. Text w ∷ []) one_tag LIST_TARGET_TAGS.now (Text id ∷ []) old new listing (λ r. tags_of (target_of r id)) rows (λ db now holds. lists_target_tags db now holds (codes "tag" ∷ []) id rows.items)
 
 -- ---- what is written
 
 abbrev pub named_row : Bytes → Bytes → Bytes → Row
 named_row id name digest = Text id ∷ Text name ∷ Blob digest ∷ []
 
-pub target_written : (id name digest : Bytes) (old new : State) (out : Result (Unit {0}) Fault) → RunsText old new PUT_TARGET.now (named_row id name digest) out → Writes HoldsRecords old new out (AddsTarget id name digest)
-target_written id name digest old new out h = writes HoldsRecords PUT_TARGET.now (named_row id name digest) old new (AddsTarget id name digest) putting (λ db r holds. refl) out h
+pub target_written : (id name digest : Bytes) (old new : State) (out : Result (Unit {0}) Fault) → RunsText old new PUT_TARGET.now (named_row id name digest) out → Makes HoldsLedger ledger_of old new out (AddsTarget id name digest)
+target_written id name digest old new out h = run_makes HoldsLedger ledger_of PUT_TARGET.now (named_row id name digest) old new (AddsTarget id name digest) putting.knows out h
     (λ now next change holds count w. (w, adds_target id name digest old new _ count now next holds change w))
 
 abbrev pub ChangesTarget : Bytes → (Target → Target) → Records → Records → Type 0
 ChangesTarget id f r next = next ≡ with_changed r id f
 
-pub target_changed : (id name digest : Bytes) (old new : State) (out : Result (Unit {0}) Fault) → RunsText old new SET_TARGET.now (named_row id name digest) out → Writes HoldsRecords old new out (ChangesTarget id (renamed name digest))
-target_changed id name digest old new out h = writes HoldsRecords SET_TARGET.now (named_row id name digest) old new (ChangesTarget id (renamed name digest)) setting (λ db r holds. refl) out h
+pub target_changed : (id name digest : Bytes) (old new : State) (out : Result (Unit {0}) Fault) → RunsText old new SET_TARGET.now (named_row id name digest) out → Makes HoldsLedger ledger_of old new out (ChangesTarget id (renamed name digest))
+target_changed id name digest old new out h = run_makes HoldsLedger ledger_of SET_TARGET.now (named_row id name digest) old new (ChangesTarget id (renamed name digest)) setting.knows out h
     (λ now next change holds count w. (w, subst (HoldsRecords new.now) (sym change) (sets_target id name digest old new _ count now holds w)))
 
-pub tag_written : (id w : Bytes) (old new : State) (out : Result (Unit {0}) Fault) → RunsText old new PUT_TARGET_TAG.now (tag_row id w) out → Writes HoldsRecords old new out (AddsTag id w)
-tag_written id w old new out h = writes HoldsRecords PUT_TARGET_TAG.now (tag_row id w) old new (AddsTag id w) tagging (λ db r holds. refl) out h (λ now next change holds count done. (done, adds_tag id w old new _ count now next holds change done))
+pub tag_written : (id w : Bytes) (old new : State) (out : Result (Unit {0}) Fault) → RunsText old new PUT_TARGET_TAG.now (tag_row id w) out → Makes HoldsLedger ledger_of old new out (AddsTag id w)
+tag_written id w old new out h = run_makes HoldsLedger ledger_of PUT_TARGET_TAG.now (tag_row id w) old new (AddsTag id w) tagging.knows out h (λ now next change holds count done. (done, adds_tag id w old new _ count now next holds change done))
 
-pub tag_dropped : (id w : Bytes) (old new : State) (out : Result (Unit {0}) Fault) → RunsText old new DROP_TARGET_TAG.now (tag_row id w) out → Writes HoldsRecords old new out (ChangesTarget id (untagged w))
-tag_dropped id w old new out h = writes HoldsRecords DROP_TARGET_TAG.now (tag_row id w) old new (ChangesTarget id (untagged w)) dropping (λ db r holds. refl) out h
+pub tag_dropped : (id w : Bytes) (old new : State) (out : Result (Unit {0}) Fault) → RunsText old new DROP_TARGET_TAG.now (tag_row id w) out → Makes HoldsLedger ledger_of old new out (ChangesTarget id (untagged w))
+tag_dropped id w old new out h = run_makes HoldsLedger ledger_of DROP_TARGET_TAG.now (tag_row id w) old new (ChangesTarget id (untagged w)) dropping.knows out h
     (λ now next change holds count done. (done, subst (HoldsRecords new.now) (sym change) (drops_tag id w old new _ count now holds done)))

@@ -4,26 +4,36 @@ use Rattle.sqlite.specs.Store.{Ghosts}
 use Rattle.sqlite.specs.Held.{state}
 use Rattle.sqlite.specs.State.{State}
 use Rattle.sql_calls.specs.Calls.{Grows, failures_in}
-use Rattle.sql_calls.specs.Standing.{Reads, Writes}
+use Rattle.sql_calls.specs.Standing.{Finds, FrameTo, Makes}
 use Rattle.sql_calls.specs.declared.fault.Fault.{Fault}
 use Rattle.rollout_machine.specs.Records.{Records}
-use Rattle.desk_records.specs.Holds.{HoldsRecords}
+use Rattle.desk_records.specs.Holds.{HoldsLedger, Ledger, ledger_of}
 use Rattle.desk_store.specs.declared.change.OpenChange.{OpenChange}
-
--- the same store, of which no count falls; a call of it failed only where the result says so
-pub record StaysIn {S A : Type 0} (old new : OpenChange S) (result : Result A Fault) : Type 0 where
-  pub same_reference : new.store.ghost_name ≡ old.store.ghost_name
-  pub grows : Grows (failures_in result) old.store.now.calls new.store.now.calls
 
 module _ {S : Type 0} (g : Ghosts S) where
   -- the connection of the change
   abbrev pub seen_in : OpenChange S → State
   seen_in change = state g change.store.now.calls.conn
 
-  -- the records answer, and stay as they are
-  abbrev pub ReadsIn : {A E : Type 0} → OpenChange S → OpenChange S → Result A E → (Records → A → Type 0) → Type 0
-  ReadsIn old new result Answer = Reads HoldsRecords (seen_in old) (seen_in new) result Answer
+  -- The same store, of which no count falls; a call of it failed only where the result says so. Ok leaves the change open; after an error it
+  -- can only be given up, and a crash leaves what it would have left before.
+  pub record StaysIn {A : Type 0} (old new : OpenChange S) (result : Result A Fault) : Type 0 where
+    pub same_reference : new.store.ghost_name ≡ old.store.ghost_name
+    pub grows : Grows (failures_in result) old.store.now.calls new.store.now.calls
+    pub frame : FrameTo HoldsLedger (seen_in old) (seen_in new) result
 
-  -- the records change
-  abbrev pub WritesIn : {A E : Type 0} → OpenChange S → OpenChange S → Result A E → (Records → Records → Type 0) → Type 0
-  WritesIn old new result Change = Writes HoldsRecords (seen_in old) (seen_in new) result Change
+  -- the ledger answers, and stays as it is
+  abbrev pub FindsLedger : {A E : Type 0} → OpenChange S → OpenChange S → Result A E → (Ledger → A → Type 0) → Type 0
+  FindsLedger old new result Answer = Finds HoldsLedger (λ (l : Ledger). l) (seen_in old) (seen_in new) result Answer
+
+  -- the records answer, and stay as they are
+  abbrev pub FindsIn : {A E : Type 0} → OpenChange S → OpenChange S → Result A E → (Records → A → Type 0) → Type 0
+  FindsIn old new result Answer = Finds HoldsLedger ledger_of (seen_in old) (seen_in new) result Answer
+
+  -- the next ledger is made
+  abbrev pub MakesLedger : {A E : Type 0} → OpenChange S → OpenChange S → Result A E → (Ledger → Ledger → Type 0) → Type 0
+  MakesLedger old new result Change = Makes HoldsLedger (λ (l : Ledger). l) (seen_in old) (seen_in new) result Change
+
+  -- the next records are made
+  abbrev pub MakesIn : {A E : Type 0} → OpenChange S → OpenChange S → Result A E → (Records → Records → Type 0) → Type 0
+  MakesIn old new result Change = Makes HoldsLedger ledger_of (seen_in old) (seen_in new) result Change

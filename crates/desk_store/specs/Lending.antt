@@ -6,7 +6,7 @@ use Rattle.sqlite.specs.Held.{state}
 use Rattle.sql_calls.specs.declared.fault.Fault.{Fault}
 use Rattle.sql_calls.specs.Calls.{Grows, failures_in}
 use Rattle.sql_calls.specs.Standing.{Keeps}
-use Rattle.desk_records.specs.Holds.{HoldsRecords}
+use Rattle.desk_records.specs.Holds.{HoldsLedger}
 use Rattle.desk_store.specs.declared.store.DeskStore.{DeskStore}
 use Rattle.desk_store.specs.declared.change.OpenChange.{OpenChange}
 use Rattle.desk_store.specs.contracts.store.DeskStore as desk
@@ -14,4 +14,4 @@ use Rattle.desk_store.specs.contracts.store.DeskStore as desk
 module _ (S : RattleType) (g : store.Ghosts S.Denot) where
   -- the records stand as before, and nothing more is counted but the failure
   abbrev pub store_rests : MutBor (DeskStore S.Denot) → Result (OpenChange S.Denot) Fault → Fml
-  store_rests c r = RestsIfErr (desk.the_row S g) c (λ it. it.store.ghost_name) r (λ last. Keeps HoldsRecords (state g c.now.calls.conn) (state g last.calls.conn) × (last.calls.work ≡ c.now.calls.work) × Grows (failures_in r) c.now.calls last.calls)
+  store_rests c r = RestsIfErr (desk.the_row S g) c (λ it. it.store.ghost_name) r (λ last. Keeps HoldsLedger (state g c.now.calls.conn) (state g last.calls.conn) × (last.calls.work ≡ c.now.calls.work) × Grows (failures_in r) c.now.calls last.calls)

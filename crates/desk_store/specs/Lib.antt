@@ -4,4 +4,3 @@ pub mod Counting
 pub mod Texts
 pub mod Lending
 pub mod Changing
-pub mod Ledgers

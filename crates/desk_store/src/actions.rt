@@ -10,8 +10,7 @@ ghost use Rattle.desk_records.specs.LedgerSteps.{AddsAction, AddsEntry, SetsActi
 ghost use Rattle.desk_records.specs.NextOffers.{next_offer};
 ghost use Rattle.desk_records.specs.RolloutRow.{IsActionRow, IsListedActionRow, IsOfferRow, actions_for, actions_of, stored_action};
 ghost use Rattle.desk_store.specs.Counting.{AddsIn};
-ghost use Rattle.desk_store.specs.Ledgers.{ReadsLedger, WritesLedger};
-ghost use Rattle.desk_store.specs.Changing.{StaysIn};
+ghost use Rattle.desk_store.specs.Changing.{FindsLedger, MakesLedger, StaysIn};
 
 use crate::change::OpenChange;
 use crate::codes::{code_of_outcome, flag_code};
@@ -67,22 +66,22 @@ impl FromRow for HistoryEntry {
 impl<'a, S: Alter> OpenChange<'a, S> {
     /// The number of the last action, which is how many there are.
     pub fn read_last_action(&mut self) -> Result<u32, Fault>
-        ensures stays { StaysIn self.old self.new result }
-        ensures reads { ReadsLedger S.Store self.old self.new result (λ l last. last ≡ length (zip l.records.actions l.tallies)) }
+        ensures stays { StaysIn S.Store self.old self.new result }
+        ensures reads { FindsLedger S.Store self.old self.new result (λ l last. last ≡ length (zip l.records.actions l.tallies)) }
         ensures work { AddsIn 1 1 self.old self.new }
     {
-        let row = self.store.calls.first(LAST_ACTION, &[])?;
+        let row = self.first(LAST_ACTION, &[])?;
         last_number(row)
     }
 
     /// The action of a number, without its history. A row that breaks a column's rule is a failed store.
     pub fn read_action(&mut self, number: ActionNo) -> Result<Option<StoredAction>, Fault>
-        ensures stays { StaysIn self.old self.new result }
-        ensures reads { ReadsLedger S.Store self.old self.new result (λ l found. found ≡ option_map (stored_action l.records.rollouts) (item_numbered (zip l.records.actions l.tallies) number)) }
+        ensures stays { StaysIn S.Store self.old self.new result }
+        ensures reads { FindsLedger S.Store self.old self.new result (λ l found. found ≡ option_map (stored_action l.records.rollouts) (item_numbered (zip l.records.actions l.tallies) number)) }
         ensures work { AddsIn 1 1 self.old self.new }
     {
         let alloc = self.store.alloc;
-        let row = self.store.calls.first(GET_ACTION, params![number.get()])?;
+        let row = self.first(GET_ACTION, params![number.get()])?;
         read_optional(alloc, row)
     }
 
@@ -92,12 +91,12 @@ impl<'a, S: Alter> OpenChange<'a, S> {
         number: RolloutNo,
         page: Page,
     ) -> Result<Vec<ListedAction>, Fault>
-        ensures stays { StaysIn self.old self.new result }
-        ensures reads { ReadsLedger S.Store self.old self.new result (λ l found. found.items ≡ take page.limit (drop page.offset (actions_of l.records.rollouts number 1 (zip l.records.actions l.tallies)))) }
+        ensures stays { StaysIn S.Store self.old self.new result }
+        ensures reads { FindsLedger S.Store self.old self.new result (λ l found. found.items ≡ take page.limit (drop page.offset (actions_of l.records.rollouts number 1 (zip l.records.actions l.tallies)))) }
         ensures work { self.new.store.now.calls.work.statements ≤ self.old.store.now.calls.work.statements + 1 }
     {
         let alloc = self.store.alloc;
-        let rows = self.store.calls.ask(
+        let rows = self.ask(
             LIST_ACTIONS,
             params![number.get(), page.limit, page.offset],
         )?;
@@ -110,12 +109,12 @@ impl<'a, S: Alter> OpenChange<'a, S> {
         id: &ControllerId,
         page: Page,
     ) -> Result<Vec<ListedAction>, Fault>
-        ensures stays { StaysIn self.old self.new result }
-        ensures reads { ReadsLedger S.Store self.old self.new result (λ l found. found.items ≡ take page.limit (drop page.offset (actions_for l.records.rollouts id.now 1 (zip l.records.actions l.tallies)))) }
+        ensures stays { StaysIn S.Store self.old self.new result }
+        ensures reads { FindsLedger S.Store self.old self.new result (λ l found. found.items ≡ take page.limit (drop page.offset (actions_for l.records.rollouts id.now 1 (zip l.records.actions l.tallies)))) }
         ensures work { self.new.store.now.calls.work.statements ≤ self.old.store.now.calls.work.statements + 1 }
     {
         let alloc = self.store.alloc;
-        let rows = self.store.calls.ask(
+        let rows = self.ask(
             LIST_TARGET_ACTIONS,
             params![id.as_str(), page.limit, page.offset],
         )?;
@@ -124,13 +123,13 @@ impl<'a, S: Alter> OpenChange<'a, S> {
 
     /// The history of an action, a page of it in its order. A row that breaks a column's rule is a failed store.
     pub fn read_entries(&mut self, number: ActionNo, page: Page) -> Result<Vec<HistoryEntry>, Fault>
-        ensures stays { StaysIn self.old self.new result }
-        ensures reads { ReadsLedger S.Store self.old self.new result
+        ensures stays { StaysIn S.Store self.old self.new result }
+        ensures reads { FindsLedger S.Store self.old self.new result
             (λ l found. list_all keeps_details (history_of (item_numbered l.records.actions number)) ≡ true → found.items ≡ take page.limit (drop page.offset (history_of (item_numbered l.records.actions number)))) }
         ensures work { self.new.store.now.calls.work.statements ≤ self.old.store.now.calls.work.statements + 1 }
     {
         let alloc = self.store.alloc;
-        let rows = self.store.calls.ask(
+        let rows = self.ask(
             LIST_ENTRIES,
             params![number.get(), page.limit, page.offset],
         )?;
@@ -139,24 +138,24 @@ impl<'a, S: Alter> OpenChange<'a, S> {
 
     /// What the target of an id is offered. A row that breaks a column's rule is a failed store.
     pub fn read_offer(&mut self, id: &ControllerId) -> Result<Option<Offer>, Fault>
-        ensures stays { StaysIn self.old self.new result }
-        ensures reads { ReadsLedger S.Store self.old self.new result (λ l found. found ≡ l.offers id.now) }
+        ensures stays { StaysIn S.Store self.old self.new result }
+        ensures reads { FindsLedger S.Store self.old self.new result (λ l found. found ≡ l.offers id.now) }
         ensures work { AddsIn 1 1 self.old self.new }
     {
         let alloc = self.store.alloc;
-        let row = self.store.calls.first(GET_OFFER, params![id.as_str()])?;
+        let row = self.first(GET_OFFER, params![id.as_str()])?;
         read_optional(alloc, row)
     }
 
     /// What the target of an id is to be offered: the first of its actions that is open and whose place a started group of its rollout
     /// holds. A row that breaks a column's rule is a failed store.
     pub fn read_next_offer(&mut self, id: &ControllerId) -> Result<Option<Offer>, Fault>
-        ensures stays { StaysIn self.old self.new result }
-        ensures reads { ReadsLedger S.Store self.old self.new result (λ l found. length l.tallies ≡ length l.records.actions → found ≡ next_offer l.records id.now) }
+        ensures stays { StaysIn S.Store self.old self.new result }
+        ensures reads { FindsLedger S.Store self.old self.new result (λ l found. length l.tallies ≡ length l.records.actions → found ≡ next_offer l.records id.now) }
         ensures work { AddsIn 1 1 self.old self.new }
     {
         let alloc = self.store.alloc;
-        let row = self.store.calls.first(NEXT_OFFER, params![id.as_str()])?;
+        let row = self.first(NEXT_OFFER, params![id.as_str()])?;
         read_optional(alloc, row)
     }
 
@@ -168,11 +167,11 @@ impl<'a, S: Alter> OpenChange<'a, S> {
         place: u32,
         id: &ControllerId,
     ) -> Result<(), Fault>
-        ensures stays { StaysIn self.old self.new result }
-        ensures writes { WritesLedger S.Store self.old self.new result (AddsAction number rollout place id.now) }
+        ensures stays { StaysIn S.Store self.old self.new result }
+        ensures writes { MakesLedger S.Store self.old self.new result (AddsAction number rollout place id.now) }
         ensures work { AddsIn 1 0 self.old self.new }
     {
-        self.store.calls.run(
+        self.run(
             PUT_ACTION,
             params![number.get(), rollout.get(), place, id.as_str()],
         )
@@ -187,13 +186,13 @@ impl<'a, S: Alter> OpenChange<'a, S> {
         notes: u32,
         entries: u32,
     ) -> Result<(), Fault>
-        ensures stays { StaysIn self.old self.new result }
-        ensures writes { WritesLedger S.Store self.old self.new result (SetsAction number canceling outcome (record { notes = notes; entries = entries })) }
+        ensures stays { StaysIn S.Store self.old self.new result }
+        ensures writes { MakesLedger S.Store self.old self.new result (SetsAction number canceling outcome (record { notes = notes; entries = entries })) }
         ensures work { AddsIn 1 0 self.old self.new }
     {
         let canceling_code = flag_code(canceling);
         let outcome_code = code_of_outcome(outcome);
-        self.store.calls.run(
+        self.run(
             SET_ACTION,
             params![number.get(), canceling_code, outcome_code, notes, entries],
         )
@@ -209,11 +208,11 @@ impl<'a, S: Alter> OpenChange<'a, S> {
         word: u32,
         details: &str,
     ) -> Result<(), Fault>
-        ensures stays { StaysIn self.old self.new result }
-        ensures writes { WritesLedger S.Store self.old self.new result (AddsEntry number sequence kind word details.now) }
+        ensures stays { StaysIn S.Store self.old self.new result }
+        ensures writes { MakesLedger S.Store self.old self.new result (AddsEntry number sequence kind word details.now) }
         ensures work { AddsIn 1 0 self.old self.new }
     {
-        self.store.calls.run(
+        self.run(
             PUT_FEEDBACK,
             params![number.get(), sequence, kind, word, details],
         )
@@ -221,12 +220,12 @@ impl<'a, S: Alter> OpenChange<'a, S> {
 
     /// Offers a target something in place of what it is offered.
     pub fn change_offer(&mut self, id: &ControllerId, offer: Offer) -> Result<(), Fault>
-        ensures stays { StaysIn self.old self.new result }
-        ensures writes { WritesLedger S.Store self.old self.new result (SetsOffer id.now offer) }
+        ensures stays { StaysIn S.Store self.old self.new result }
+        ensures writes { MakesLedger S.Store self.old self.new result (SetsOffer id.now offer) }
         ensures work { AddsIn 1 0 self.old self.new }
     {
         let canceling = flag_code(offer.canceling);
-        self.store.calls.run(
+        self.run(
             SET_OFFER,
             params![id.as_str(), offer.action.get(), canceling],
         )
@@ -234,10 +233,10 @@ impl<'a, S: Alter> OpenChange<'a, S> {
 
     /// Offers a target nothing any more.
     pub fn drop_offer(&mut self, id: &ControllerId) -> Result<(), Fault>
-        ensures stays { StaysIn self.old self.new result }
-        ensures writes { WritesLedger S.Store self.old self.new result (λ l next. next ≡ with_offer l id.now None) }
+        ensures stays { StaysIn S.Store self.old self.new result }
+        ensures writes { MakesLedger S.Store self.old self.new result (λ l next. next ≡ with_offer l id.now None) }
         ensures work { AddsIn 1 0 self.old self.new }
     {
-        self.store.calls.run(DROP_OFFER, params![id.as_str()])
+        self.run(DROP_OFFER, params![id.as_str()])
     }
 }

@@ -7,8 +7,8 @@ ghost use Rattle.rollout_machine.specs.ByteStrings.{item_numbered};
 ghost use Rattle.rollout_machine.specs.Objects.{artifacts_shown};
 ghost use Rattle.desk_records.specs.ArtifactRow.{stored};
 ghost use Rattle.desk_records.specs.Artifacts.{is_same_artifact, piece_numbered, with_artifact, AddsPiece};
-ghost use Rattle.desk_store.specs.Changing.{ReadsIn, WritesIn, StaysIn};
 ghost use Rattle.desk_store.specs.Counting.{AddsIn};
+ghost use Rattle.desk_store.specs.Changing.{FindsIn, MakesIn, StaysIn};
 
 use crate::change::OpenChange;
 use crate::reading::{last_number, read_all, read_optional};
@@ -27,12 +27,12 @@ impl<'a, S: Alter> OpenChange<'a, S> {
         module_number: ModuleNo,
         filename: &Filename,
     ) -> Result<bool, Fault>
-        ensures stays { StaysIn self.old self.new result }
-        ensures reads { ReadsIn S.Store self.old self.new result
+        ensures stays { StaysIn S.Store self.old self.new result }
+        ensures reads { FindsIn S.Store self.old self.new result
             (λ r found. found ≡ list_any (is_same_artifact module_number filename.now) r.artifacts) }
         ensures work { AddsIn 1 1 self.old self.new }
     {
-        let row = self.store.calls.first(
+        let row = self.first(
             FIND_ARTIFACT,
             params![module_number.get(), filename.as_str()],
         )?;
@@ -41,36 +41,33 @@ impl<'a, S: Alter> OpenChange<'a, S> {
 
     /// The number of the last artifact, which is how many there are.
     pub fn read_last_artifact(&mut self) -> Result<u32, Fault>
-        ensures stays { StaysIn self.old self.new result }
-        ensures reads { ReadsIn S.Store self.old self.new result (λ r last. last ≡ length r.artifacts) }
+        ensures stays { StaysIn S.Store self.old self.new result }
+        ensures reads { FindsIn S.Store self.old self.new result (λ r last. last ≡ length r.artifacts) }
         ensures work { AddsIn 1 1 self.old self.new }
     {
-        let row = self.store.calls.first(LAST_ARTIFACT, &[])?;
+        let row = self.first(LAST_ARTIFACT, &[])?;
         last_number(row)
     }
 
     /// What is kept of the artifact of a number, without its contents. A row that breaks a column's rule is a failed store.
     pub fn read_artifact(&mut self, number: ArtifactNo) -> Result<Option<StoredArtifact>, Fault>
-        ensures stays { StaysIn self.old self.new result }
-        ensures reads { ReadsIn S.Store self.old self.new result (λ r found. found ≡ option_map stored (item_numbered r.artifacts number)) }
+        ensures stays { StaysIn S.Store self.old self.new result }
+        ensures reads { FindsIn S.Store self.old self.new result (λ r found. found ≡ option_map stored (item_numbered r.artifacts number)) }
         ensures work { AddsIn 1 1 self.old self.new }
     {
         let alloc = self.store.alloc;
-        let row = self.store.calls.first(GET_ARTIFACT, params![number.get()])?;
+        let row = self.first(GET_ARTIFACT, params![number.get()])?;
         read_optional(alloc, row)
     }
 
     /// The artifacts of a module, in the order of their numbers. A row that breaks a column's rule is a failed store.
     pub fn read_module_artifacts(&mut self, module_number: ModuleNo) -> Result<Vec<Artifact>, Fault>
-        ensures stays { StaysIn self.old self.new result }
-        ensures reads { ReadsIn S.Store self.old self.new result (λ r artifacts. artifacts.items ≡ artifacts_shown module_number 1 r.artifacts) }
+        ensures stays { StaysIn S.Store self.old self.new result }
+        ensures reads { FindsIn S.Store self.old self.new result (λ r artifacts. artifacts.items ≡ artifacts_shown module_number 1 r.artifacts) }
         ensures work { self.new.store.now.calls.work.statements ≤ self.old.store.now.calls.work.statements + 1 }
     {
         let alloc = self.store.alloc;
-        let rows = self
-            .store
-            .calls
-            .ask(LIST_ARTIFACTS, params![module_number.get()])?;
+        let rows = self.ask(LIST_ARTIFACTS, params![module_number.get()])?;
         read_all(alloc, &rows)
     }
 
@@ -81,16 +78,13 @@ impl<'a, S: Alter> OpenChange<'a, S> {
         number: ArtifactNo,
         sequence: u32,
     ) -> Result<Option<Vec<u8>>, Fault>
-        ensures stays { StaysIn self.old self.new result }
-        ensures reads { ReadsIn S.Store self.old self.new result
+        ensures stays { StaysIn S.Store self.old self.new result }
+        ensures reads { FindsIn S.Store self.old self.new result
             (λ r found. option_map vec_items found ≡ piece_numbered r.artifacts number sequence) }
         ensures work { AddsIn 1 1 self.old self.new }
     {
         let alloc = self.store.alloc;
-        let row = self
-            .store
-            .calls
-            .first(GET_PIECE, params![number.get(), sequence])?;
+        let row = self.first(GET_PIECE, params![number.get(), sequence])?;
         read_optional(alloc, row)
     }
 
@@ -103,12 +97,12 @@ impl<'a, S: Alter> OpenChange<'a, S> {
         size: u32,
         digest: &Digest,
     ) -> Result<(), Fault>
-        ensures stays { StaysIn self.old self.new result }
-        ensures writes { WritesIn S.Store self.old self.new result
+        ensures stays { StaysIn S.Store self.old self.new result }
+        ensures writes { MakesIn S.Store self.old self.new result
             (λ r next. (number ≡ length r.artifacts + 1) × (next ≡ with_artifact r module_number filename.now size digest.now)) }
         ensures work { AddsIn 1 0 self.old self.new }
     {
-        self.store.calls.run(
+        self.run(
             PUT_ARTIFACT,
             params![
                 number.get(),
@@ -127,13 +121,11 @@ impl<'a, S: Alter> OpenChange<'a, S> {
         sequence: u32,
         bytes: &[u8],
     ) -> Result<(), Fault>
-        ensures stays { StaysIn self.old self.new result }
-        ensures writes { WritesIn S.Store self.old self.new result
+        ensures stays { StaysIn S.Store self.old self.new result }
+        ensures writes { MakesIn S.Store self.old self.new result
             (AddsPiece number sequence bytes.now) }
         ensures work { AddsIn 1 0 self.old self.new }
     {
-        self.store
-            .calls
-            .run(PUT_PIECE, params![number.get(), sequence, bytes])
+        self.run(PUT_PIECE, params![number.get(), sequence, bytes])
     }
 }

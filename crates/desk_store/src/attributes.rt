@@ -3,8 +3,8 @@
 ghost use Rattle.std.specs.Prelude.{◌≡◌, ◌≤◌, ◌+◌};
 ghost use Rattle.rollout_machine.specs.Verdicts.{target_of};
 ghost use Rattle.desk_records.specs.Targets.{AddsAttribute, SetsAttribute, attributes_of};
-ghost use Rattle.desk_store.specs.Changing.{ReadsIn, WritesIn, StaysIn};
 ghost use Rattle.desk_store.specs.Counting.{AddsIn};
+ghost use Rattle.desk_store.specs.Changing.{FindsIn, MakesIn, StaysIn};
 
 use crate::change::OpenChange;
 use crate::reading::read_attributes;
@@ -17,15 +17,12 @@ impl<'a, S: Alter> OpenChange<'a, S> {
     /// The attributes of the target of an id, by their keys in byte order; none where there is no such target. A row that
     /// breaks a column's rule is a failed store.
     pub fn read_target_attributes(&mut self, id: &ControllerId) -> Result<Attributes, Fault>
-        ensures stays { StaysIn self.old self.new result }
-        ensures reads { ReadsIn S.Store self.old self.new result (λ r attributes. attributes ≡ attributes_of (target_of r id.now)) }
+        ensures stays { StaysIn S.Store self.old self.new result }
+        ensures reads { FindsIn S.Store self.old self.new result (λ r attributes. attributes ≡ attributes_of (target_of r id.now)) }
         ensures work { self.new.store.now.calls.work.statements ≤ self.old.store.now.calls.work.statements + 1 }
     {
         let alloc = self.store.alloc;
-        let rows = self
-            .store
-            .calls
-            .ask(LIST_TARGET_ATTRIBUTES, params![id.as_str()])?;
+        let rows = self.ask(LIST_TARGET_ATTRIBUTES, params![id.as_str()])?;
         read_attributes(alloc, &rows)
     }
 
@@ -35,12 +32,12 @@ impl<'a, S: Alter> OpenChange<'a, S> {
         id: &ControllerId,
         attribute: &Attribute,
     ) -> Result<(), Fault>
-        ensures stays { StaysIn self.old self.new result }
-        ensures writes { WritesIn S.Store self.old self.new result
+        ensures stays { StaysIn S.Store self.old self.new result }
+        ensures writes { MakesIn S.Store self.old self.new result
             (AddsAttribute id.now attribute.now) }
         ensures work { AddsIn 1 0 self.old self.new }
     {
-        self.store.calls.run(
+        self.run(
             PUT_TARGET_ATTRIBUTE,
             params![
                 id.as_str(),
@@ -56,12 +53,12 @@ impl<'a, S: Alter> OpenChange<'a, S> {
         id: &ControllerId,
         attribute: &Attribute,
     ) -> Result<(), Fault>
-        ensures stays { StaysIn self.old self.new result }
-        ensures writes { WritesIn S.Store self.old self.new result
+        ensures stays { StaysIn S.Store self.old self.new result }
+        ensures writes { MakesIn S.Store self.old self.new result
             (SetsAttribute id.now attribute.now) }
         ensures work { AddsIn 1 0 self.old self.new }
     {
-        self.store.calls.run(
+        self.run(
             SET_TARGET_ATTRIBUTE,
             params![
                 id.as_str(),

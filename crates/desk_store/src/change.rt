@@ -6,10 +6,10 @@ ghost use Rattle.sqlite.specs.Held.{state};
 ghost use Rattle.sql_calls.specs.Calls.{Grows, failures_in};
 ghost use Rattle.sql_calls.specs.Standing.{Commits, GivesUp};
 ghost use Rattle.rollout_machine.specs.ByteStrings.{item_numbered};
-ghost use Rattle.desk_records.specs.Holds.{HoldsRecords};
+ghost use Rattle.desk_records.specs.Holds.{HoldsLedger};
 ghost use Rattle.desk_records.specs.Modules.{is_same, with_module};
-ghost use Rattle.desk_store.specs.Changing.{ReadsIn, WritesIn, StaysIn};
 ghost use Rattle.desk_store.specs.Counting.{AddsIn};
+ghost use Rattle.desk_store.specs.Changing.{FindsIn, MakesIn, StaysIn};
 
 use crate::reading::{finished, last_number, read_optional};
 use crate::store::DeskStore;
@@ -26,11 +26,11 @@ pub struct OpenChange<'a, S: Alter> {
 impl<'a, S: Alter> OpenChange<'a, S> {
     /// Whether there is a module of the same name, kind and version.
     pub fn read_same_module(&mut self, label: &ModuleLabel) -> Result<bool, Fault>
-        ensures stays { StaysIn self.old self.new result }
-        ensures reads { ReadsIn S.Store self.old self.new result (λ r found. found ≡ list_any (is_same label.now) r.modules) }
+        ensures stays { StaysIn S.Store self.old self.new result }
+        ensures reads { FindsIn S.Store self.old self.new result (λ r found. found ≡ list_any (is_same label.now) r.modules) }
         ensures work { AddsIn 1 1 self.old self.new }
     {
-        let row = self.store.calls.first(
+        let row = self.first(
             FIND_MODULE,
             params![
                 label.name.as_str(),
@@ -43,32 +43,32 @@ impl<'a, S: Alter> OpenChange<'a, S> {
 
     /// The number of the last module, which is how many there are.
     pub fn read_last_module(&mut self) -> Result<u32, Fault>
-        ensures stays { StaysIn self.old self.new result }
-        ensures reads { ReadsIn S.Store self.old self.new result (λ r last. last ≡ length r.modules) }
+        ensures stays { StaysIn S.Store self.old self.new result }
+        ensures reads { FindsIn S.Store self.old self.new result (λ r last. last ≡ length r.modules) }
         ensures work { AddsIn 1 1 self.old self.new }
     {
-        let row = self.store.calls.first(LAST_MODULE, &[])?;
+        let row = self.first(LAST_MODULE, &[])?;
         last_number(row)
     }
 
     /// The module of a number. A row that breaks a column's rule is a failed store.
     pub fn read_module(&mut self, number: ModuleNo) -> Result<Option<ModuleLabel>, Fault>
-        ensures stays { StaysIn self.old self.new result }
-        ensures reads { ReadsIn S.Store self.old self.new result (λ r found. found ≡ item_numbered r.modules number) }
+        ensures stays { StaysIn S.Store self.old self.new result }
+        ensures reads { FindsIn S.Store self.old self.new result (λ r found. found ≡ item_numbered r.modules number) }
         ensures work { AddsIn 1 1 self.old self.new }
     {
         let alloc = self.store.alloc;
-        let row = self.store.calls.first(GET_MODULE, params![number.get()])?;
+        let row = self.first(GET_MODULE, params![number.get()])?;
         read_optional(alloc, row)
     }
 
     /// Adds the module of the next number.
     pub fn write_module(&mut self, number: ModuleNo, label: &ModuleLabel) -> Result<(), Fault>
-        ensures stays { StaysIn self.old self.new result }
-        ensures writes { WritesIn S.Store self.old self.new result (λ r next. (number ≡ length r.modules + 1) × (next ≡ with_module r label.now)) }
+        ensures stays { StaysIn S.Store self.old self.new result }
+        ensures writes { MakesIn S.Store self.old self.new result (λ r next. (number ≡ length r.modules + 1) × (next ≡ with_module r label.now)) }
         ensures work { AddsIn 1 0 self.old self.new }
     {
-        self.store.calls.run(
+        self.run(
             PUT_MODULE,
             params![
                 number.get(),
@@ -81,7 +81,7 @@ impl<'a, S: Alter> OpenChange<'a, S> {
 
     /// Commits the change. At `Ok` every crash leaves it, and at `Err`, which is `Store`, it or the records before it.
     pub fn commit(self) -> Result<(), Fault>
-        ensures commits { Commits HoldsRecords (state S.Store self.entry.store.now.calls.conn) (state S.Store self.exit.0.now.calls.conn) result }
+        ensures commits { Commits HoldsLedger (state S.Store self.entry.store.now.calls.conn) (state S.Store self.exit.0.now.calls.conn) result }
         ensures work { self.exit.0.now.calls.work ≡ self.entry.store.now.calls.work }
         ensures grows { Grows (failures_in result) self.entry.store.now.calls self.exit.0.now.calls }
         ensures store { IfErr result (λ e. e ≡ Fault.Store) }
@@ -92,7 +92,7 @@ impl<'a, S: Alter> OpenChange<'a, S> {
 
     /// Gives the change up. At `Ok` the records stand as before it. An `Err` is `Store`.
     pub fn give_up(self) -> Result<(), Fault>
-        ensures gives_up { GivesUp HoldsRecords (state S.Store self.entry.store.now.calls.conn) (state S.Store self.exit.0.now.calls.conn) result }
+        ensures gives_up { GivesUp HoldsLedger (state S.Store self.entry.store.now.calls.conn) (state S.Store self.exit.0.now.calls.conn) result }
         ensures work { self.exit.0.now.calls.work ≡ self.entry.store.now.calls.work }
         ensures grows { Grows (failures_in result) self.entry.store.now.calls self.exit.0.now.calls }
         ensures store { IfErr result (λ e. e ≡ Fault.Store) }

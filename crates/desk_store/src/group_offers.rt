@@ -3,8 +3,7 @@
 ghost use Rattle.std.specs.Prelude.{◌≡◌, ◌≤◌, ◌+◌};
 ghost use Rattle.desk_records.specs.LedgerSteps.{OffersGroup};
 ghost use Rattle.desk_store.specs.Counting.{AddsIn};
-ghost use Rattle.desk_store.specs.Ledgers.{WritesLedger};
-ghost use Rattle.desk_store.specs.Changing.{StaysIn};
+ghost use Rattle.desk_store.specs.Changing.{MakesLedger, StaysIn};
 
 use crate::change::OpenChange;
 use desk_records::PUT_GROUP_OFFERS;
@@ -16,11 +15,11 @@ use sqlite::{Alter, params};
 impl<'a, S: Alter> OpenChange<'a, S> {
     /// Offers each action of a rollout between two places to its target, unless that is offered one of no greater number.
     pub fn write_group_offers(&mut self, number: RolloutNo, bounds: Bounds) -> Result<(), Fault>
-        ensures stays { StaysIn self.old self.new result }
-        ensures writes { WritesLedger S.Store self.old self.new result (OffersGroup number bounds) }
+        ensures stays { StaysIn S.Store self.old self.new result }
+        ensures writes { MakesLedger S.Store self.old self.new result (OffersGroup number bounds) }
         ensures work { AddsIn 1 0 self.old self.new }
     {
-        self.store.calls.run(
+        self.run(
             PUT_GROUP_OFFERS,
             params![number.get(), bounds.first, bounds.last],
         )

@@ -11,6 +11,7 @@ mod group_offers;
 mod reading;
 mod rollouts;
 mod sets;
+mod statements;
 mod store;
 mod targets;
 

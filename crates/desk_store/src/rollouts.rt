@@ -11,8 +11,7 @@ ghost use Rattle.desk_records.specs.ModuleRow.{StoredText};
 ghost use Rattle.desk_records.specs.RolloutRow.{IsGroupRow, IsRolloutRow, stored_rollout};
 ghost use Rattle.desk_records.specs.Rollouts.{groups_of, is_called, last_started_group, members_of};
 ghost use Rattle.desk_store.specs.Counting.{AddsIn};
-ghost use Rattle.desk_store.specs.Ledgers.{ReadsLedger, WritesLedger};
-ghost use Rattle.desk_store.specs.Changing.{StaysIn};
+ghost use Rattle.desk_store.specs.Changing.{FindsLedger, MakesLedger, StaysIn};
 
 use crate::change::OpenChange;
 use crate::codes::{code_of_approval, flag_code};
@@ -59,59 +58,53 @@ impl FromRow for ControllerId {
 impl<'a, S: Alter> OpenChange<'a, S> {
     /// Whether new rollouts wait for approval.
     pub fn read_approval(&mut self) -> Result<bool, Fault>
-        ensures stays { StaysIn self.old self.new result }
-        ensures reads { ReadsLedger S.Store self.old self.new result (λ l approval. approval ≡ l.records.approval) }
+        ensures stays { StaysIn S.Store self.old self.new result }
+        ensures reads { FindsLedger S.Store self.old self.new result (λ l approval. approval ≡ l.records.approval) }
         ensures work { AddsIn 1 1 self.old self.new }
     {
-        let row = self.store.calls.first(GET_DESK, &[])?;
+        let row = self.first(GET_DESK, &[])?;
         approval_in(row)
     }
 
     /// Whether there is a rollout of the name.
     pub fn read_same_rollout(&mut self, name: &Text) -> Result<bool, Fault>
-        ensures stays { StaysIn self.old self.new result }
-        ensures reads { ReadsLedger S.Store self.old self.new result (λ l found. found ≡ list_any (is_called name.now) l.records.rollouts) }
+        ensures stays { StaysIn S.Store self.old self.new result }
+        ensures reads { FindsLedger S.Store self.old self.new result (λ l found. found ≡ list_any (is_called name.now) l.records.rollouts) }
         ensures work { AddsIn 1 1 self.old self.new }
     {
-        let row = self
-            .store
-            .calls
-            .first(FIND_ROLLOUT, params![name.as_str()])?;
+        let row = self.first(FIND_ROLLOUT, params![name.as_str()])?;
         Ok(row.is_some())
     }
 
     /// The number of the last rollout, which is how many there are.
     pub fn read_last_rollout(&mut self) -> Result<u32, Fault>
-        ensures stays { StaysIn self.old self.new result }
-        ensures reads { ReadsLedger S.Store self.old self.new result (λ l last. last ≡ length l.records.rollouts) }
+        ensures stays { StaysIn S.Store self.old self.new result }
+        ensures reads { FindsLedger S.Store self.old self.new result (λ l last. last ≡ length l.records.rollouts) }
         ensures work { AddsIn 1 1 self.old self.new }
     {
-        let row = self.store.calls.first(LAST_ROLLOUT, &[])?;
+        let row = self.first(LAST_ROLLOUT, &[])?;
         last_number(row)
     }
 
     /// The rollout of a number, without its members and groups. A row that breaks a column's rule is a failed store.
     pub fn read_rollout(&mut self, number: RolloutNo) -> Result<Option<StoredRollout>, Fault>
-        ensures stays { StaysIn self.old self.new result }
-        ensures reads { ReadsLedger S.Store self.old self.new result (λ l found. found ≡ option_map stored_rollout (item_numbered l.records.rollouts number)) }
+        ensures stays { StaysIn S.Store self.old self.new result }
+        ensures reads { FindsLedger S.Store self.old self.new result (λ l found. found ≡ option_map stored_rollout (item_numbered l.records.rollouts number)) }
         ensures work { AddsIn 1 1 self.old self.new }
     {
         let alloc = self.store.alloc;
-        let row = self.store.calls.first(GET_ROLLOUT, params![number.get()])?;
+        let row = self.first(GET_ROLLOUT, params![number.get()])?;
         read_optional(alloc, row)
     }
 
     /// The rollouts of a page, in the order of their numbers. A row that breaks a column's rule is a failed store.
     pub fn read_rollouts(&mut self, page: Page) -> Result<Vec<StoredRollout>, Fault>
-        ensures stays { StaysIn self.old self.new result }
-        ensures reads { ReadsLedger S.Store self.old self.new result (λ l found. found.items ≡ map stored_rollout (take page.limit (drop page.offset l.records.rollouts))) }
+        ensures stays { StaysIn S.Store self.old self.new result }
+        ensures reads { FindsLedger S.Store self.old self.new result (λ l found. found.items ≡ map stored_rollout (take page.limit (drop page.offset l.records.rollouts))) }
         ensures work { self.new.store.now.calls.work.statements ≤ self.old.store.now.calls.work.statements + 1 }
     {
         let alloc = self.store.alloc;
-        let rows = self
-            .store
-            .calls
-            .ask(LIST_ROLLOUTS, params![page.limit, page.offset])?;
+        let rows = self.ask(LIST_ROLLOUTS, params![page.limit, page.offset])?;
         read_all(alloc, &rows)
     }
 
@@ -121,12 +114,12 @@ impl<'a, S: Alter> OpenChange<'a, S> {
         number: RolloutNo,
         page: Page,
     ) -> Result<Vec<ControllerId>, Fault>
-        ensures stays { StaysIn self.old self.new result }
-        ensures reads { ReadsLedger S.Store self.old self.new result (λ l found. found.items ≡ take page.limit (drop page.offset (members_of (item_numbered l.records.rollouts number)))) }
+        ensures stays { StaysIn S.Store self.old self.new result }
+        ensures reads { FindsLedger S.Store self.old self.new result (λ l found. found.items ≡ take page.limit (drop page.offset (members_of (item_numbered l.records.rollouts number)))) }
         ensures work { self.new.store.now.calls.work.statements ≤ self.old.store.now.calls.work.statements + 1 }
     {
         let alloc = self.store.alloc;
-        let rows = self.store.calls.ask(
+        let rows = self.ask(
             LIST_MEMBERS,
             params![number.get(), page.limit, page.offset],
         )?;
@@ -135,12 +128,12 @@ impl<'a, S: Alter> OpenChange<'a, S> {
 
     /// The groups of a rollout, in the order of their numbers, which are counted from 1; none where there is no such rollout. A row that breaks a column's rule is a failed store.
     pub fn read_groups(&mut self, number: RolloutNo) -> Result<Vec<GroupRecord>, Fault>
-        ensures stays { StaysIn self.old self.new result }
-        ensures reads { ReadsLedger S.Store self.old self.new result (λ l groups. groups.items ≡ groups_of (item_numbered l.records.rollouts number)) }
+        ensures stays { StaysIn S.Store self.old self.new result }
+        ensures reads { FindsLedger S.Store self.old self.new result (λ l groups. groups.items ≡ groups_of (item_numbered l.records.rollouts number)) }
         ensures work { self.new.store.now.calls.work.statements ≤ self.old.store.now.calls.work.statements + 1 }
     {
         let alloc = self.store.alloc;
-        let rows = self.store.calls.ask(LIST_GROUPS, params![number.get()])?;
+        let rows = self.ask(LIST_GROUPS, params![number.get()])?;
         read_all(alloc, &rows)
     }
 
@@ -150,15 +143,12 @@ impl<'a, S: Alter> OpenChange<'a, S> {
         number: RolloutNo,
         group: u32,
     ) -> Result<Option<GroupRecord>, Fault>
-        ensures stays { StaysIn self.old self.new result }
-        ensures reads { ReadsLedger S.Store self.old self.new result (λ l found. found ≡ group_numbered group (groups_of (item_numbered l.records.rollouts number))) }
+        ensures stays { StaysIn S.Store self.old self.new result }
+        ensures reads { FindsLedger S.Store self.old self.new result (λ l found. found ≡ group_numbered group (groups_of (item_numbered l.records.rollouts number))) }
         ensures work { AddsIn 1 1 self.old self.new }
     {
         let alloc = self.store.alloc;
-        let row = self
-            .store
-            .calls
-            .first(GET_GROUP, params![number.get(), group])?;
+        let row = self.first(GET_GROUP, params![number.get(), group])?;
         read_optional(alloc, row)
     }
 
@@ -168,26 +158,23 @@ impl<'a, S: Alter> OpenChange<'a, S> {
         number: RolloutNo,
         place: u32,
     ) -> Result<Option<GroupRecord>, Fault>
-        ensures stays { StaysIn self.old self.new result }
-        ensures reads { ReadsLedger S.Store self.old self.new result (λ l found. found ≡ group_holding place (groups_of (item_numbered l.records.rollouts number))) }
+        ensures stays { StaysIn S.Store self.old self.new result }
+        ensures reads { FindsLedger S.Store self.old self.new result (λ l found. found ≡ group_holding place (groups_of (item_numbered l.records.rollouts number))) }
         ensures work { AddsIn 1 1 self.old self.new }
     {
         let alloc = self.store.alloc;
-        let row = self
-            .store
-            .calls
-            .first(HOLDING_GROUP, params![number.get(), place])?;
+        let row = self.first(HOLDING_GROUP, params![number.get(), place])?;
         read_optional(alloc, row)
     }
 
     /// The last group of a rollout that is started. A row that breaks a column's rule is a failed store.
     pub fn read_last_started(&mut self, number: RolloutNo) -> Result<Option<GroupRecord>, Fault>
-        ensures stays { StaysIn self.old self.new result }
-        ensures reads { ReadsLedger S.Store self.old self.new result (λ l found. found ≡ last_started_group (groups_of (item_numbered l.records.rollouts number))) }
+        ensures stays { StaysIn S.Store self.old self.new result }
+        ensures reads { FindsLedger S.Store self.old self.new result (λ l found. found ≡ last_started_group (groups_of (item_numbered l.records.rollouts number))) }
         ensures work { AddsIn 1 1 self.old self.new }
     {
         let alloc = self.store.alloc;
-        let row = self.store.calls.first(LAST_STARTED, params![number.get()])?;
+        let row = self.first(LAST_STARTED, params![number.get()])?;
         read_optional(alloc, row)
     }
 
@@ -198,14 +185,14 @@ impl<'a, S: Alter> OpenChange<'a, S> {
         plan: &RolloutPlan,
         approval: Approval,
     ) -> Result<(), Fault>
-        ensures stays { StaysIn self.old self.new result }
-        ensures writes { WritesLedger S.Store self.old self.new result (AddsRollout number plan.now approval) }
+        ensures stays { StaysIn S.Store self.old self.new result }
+        ensures writes { MakesLedger S.Store self.old self.new result (AddsRollout number plan.now approval) }
         ensures work { AddsIn 1 0 self.old self.new }
     {
         let success = u32::from(plan.success.get());
         let error = u32::from(plan.error.get());
         let approval = code_of_approval(approval);
-        self.store.calls.run(
+        self.run(
             PUT_ROLLOUT,
             params![
                 number.get(),
@@ -228,14 +215,14 @@ impl<'a, S: Alter> OpenChange<'a, S> {
         started: bool,
         paused: bool,
     ) -> Result<(), Fault>
-        ensures stays { StaysIn self.old self.new result }
-        ensures writes { WritesLedger S.Store self.old self.new result (SetsRollout number approval started paused) }
+        ensures stays { StaysIn S.Store self.old self.new result }
+        ensures writes { MakesLedger S.Store self.old self.new result (SetsRollout number approval started paused) }
         ensures work { AddsIn 1 0 self.old self.new }
     {
         let approval_code = code_of_approval(approval);
         let started_code = flag_code(started);
         let paused_code = flag_code(paused);
-        self.store.calls.run(
+        self.run(
             SET_ROLLOUT,
             params![number.get(), approval_code, started_code, paused_code],
         )
@@ -248,13 +235,11 @@ impl<'a, S: Alter> OpenChange<'a, S> {
         place: u32,
         id: &ControllerId,
     ) -> Result<(), Fault>
-        ensures stays { StaysIn self.old self.new result }
-        ensures writes { WritesLedger S.Store self.old self.new result (AddsMember number place id.now) }
+        ensures stays { StaysIn S.Store self.old self.new result }
+        ensures writes { MakesLedger S.Store self.old self.new result (AddsMember number place id.now) }
         ensures work { AddsIn 1 0 self.old self.new }
     {
-        self.store
-            .calls
-            .run(PUT_MEMBER, params![number.get(), place, id.as_str()])
+        self.run(PUT_MEMBER, params![number.get(), place, id.as_str()])
     }
 
     /// Adds a group to a rollout, of its next number. It isn't started, and none of its actions ended.
@@ -264,11 +249,11 @@ impl<'a, S: Alter> OpenChange<'a, S> {
         group: u32,
         bounds: Bounds,
     ) -> Result<(), Fault>
-        ensures stays { StaysIn self.old self.new result }
-        ensures writes { WritesLedger S.Store self.old self.new result (AddsGroup number group bounds) }
+        ensures stays { StaysIn S.Store self.old self.new result }
+        ensures writes { MakesLedger S.Store self.old self.new result (AddsGroup number group bounds) }
         ensures work { AddsIn 1 0 self.old self.new }
     {
-        self.store.calls.run(
+        self.run(
             PUT_GROUP,
             params![number.get(), group, bounds.first, bounds.last],
         )
@@ -284,12 +269,12 @@ impl<'a, S: Alter> OpenChange<'a, S> {
         bad: u32,
         gone: u32,
     ) -> Result<(), Fault>
-        ensures stays { StaysIn self.old self.new result }
-        ensures writes { WritesLedger S.Store self.old self.new result (SetsGroup number group started ok bad gone) }
+        ensures stays { StaysIn S.Store self.old self.new result }
+        ensures writes { MakesLedger S.Store self.old self.new result (SetsGroup number group started ok bad gone) }
         ensures work { AddsIn 1 0 self.old self.new }
     {
         let started_code = flag_code(started);
-        self.store.calls.run(
+        self.run(
             SET_GROUP,
             params![number.get(), group, started_code, ok, bad, gone],
         )

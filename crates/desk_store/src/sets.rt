@@ -8,8 +8,8 @@ ghost use Rattle.rollout_machine.specs.Objects.{modules_of_set};
 ghost use Rattle.rollout_machine.specs.Verdicts.{is_named_by_set};
 ghost use Rattle.desk_records.specs.Sets.{is_same_set, with_set, AddsSetModule};
 ghost use Rattle.desk_records.specs.SetRow.{called};
-ghost use Rattle.desk_store.specs.Changing.{ReadsIn, WritesIn, StaysIn};
 ghost use Rattle.desk_store.specs.Counting.{AddsIn};
+ghost use Rattle.desk_store.specs.Changing.{FindsIn, MakesIn, StaysIn};
 
 use crate::change::OpenChange;
 use crate::reading::{last_number, read_all, read_optional};
@@ -23,73 +23,64 @@ use sqlite::{Alter, params};
 impl<'a, S: Alter> OpenChange<'a, S> {
     /// Whether there is a set of the same name and version.
     pub fn read_same_set(&mut self, name: &Text, version: &Text) -> Result<bool, Fault>
-        ensures stays { StaysIn self.old self.new result }
-        ensures reads { ReadsIn S.Store self.old self.new result (λ r found. found ≡ list_any (is_same_set name.now version.now) r.sets) }
+        ensures stays { StaysIn S.Store self.old self.new result }
+        ensures reads { FindsIn S.Store self.old self.new result (λ r found. found ≡ list_any (is_same_set name.now version.now) r.sets) }
         ensures work { AddsIn 1 1 self.old self.new }
     {
-        let row = self
-            .store
-            .calls
-            .first(FIND_SET, params![name.as_str(), version.as_str()])?;
+        let row = self.first(FIND_SET, params![name.as_str(), version.as_str()])?;
         Ok(row.is_some())
     }
 
     /// The number of the last set, which is how many there are.
     pub fn read_last_set(&mut self) -> Result<u32, Fault>
-        ensures stays { StaysIn self.old self.new result }
-        ensures reads { ReadsIn S.Store self.old self.new result (λ r last. last ≡ length r.sets) }
+        ensures stays { StaysIn S.Store self.old self.new result }
+        ensures reads { FindsIn S.Store self.old self.new result (λ r last. last ≡ length r.sets) }
         ensures work { AddsIn 1 1 self.old self.new }
     {
-        let row = self.store.calls.first(LAST_SET, &[])?;
+        let row = self.first(LAST_SET, &[])?;
         last_number(row)
     }
 
     /// What the set of a number is called. A row that breaks a column's rule is a failed store.
     pub fn read_set(&mut self, number: SetNo) -> Result<Option<SetName>, Fault>
-        ensures stays { StaysIn self.old self.new result }
-        ensures reads { ReadsIn S.Store self.old self.new result (λ r found. found ≡ option_map called (item_numbered r.sets number)) }
+        ensures stays { StaysIn S.Store self.old self.new result }
+        ensures reads { FindsIn S.Store self.old self.new result (λ r found. found ≡ option_map called (item_numbered r.sets number)) }
         ensures work { AddsIn 1 1 self.old self.new }
     {
         let alloc = self.store.alloc;
-        let row = self.store.calls.first(GET_SET, params![number.get()])?;
+        let row = self.first(GET_SET, params![number.get()])?;
         read_optional(alloc, row)
     }
 
     /// The modules of the set of a number, in its order; of a set that isn't there none.
     pub fn read_set_modules(&mut self, number: SetNo) -> Result<Vec<ModuleNo>, Fault>
-        ensures stays { StaysIn self.old self.new result }
-        ensures reads { ReadsIn S.Store self.old self.new result (λ r modules. modules.items ≡ modules_of_set (item_numbered r.sets number)) }
+        ensures stays { StaysIn S.Store self.old self.new result }
+        ensures reads { FindsIn S.Store self.old self.new result (λ r modules. modules.items ≡ modules_of_set (item_numbered r.sets number)) }
         ensures work { self.new.store.now.calls.work.statements ≤ self.old.store.now.calls.work.statements + 1 }
     {
         let alloc = self.store.alloc;
-        let rows = self
-            .store
-            .calls
-            .ask(LIST_SET_MODULES, params![number.get()])?;
+        let rows = self.ask(LIST_SET_MODULES, params![number.get()])?;
         read_all(alloc, &rows)
     }
 
     /// Whether a set names the module of a number, so that the module takes no further artifact.
     pub fn read_module_is_locked(&mut self, number: ModuleNo) -> Result<bool, Fault>
-        ensures stays { StaysIn self.old self.new result }
-        ensures reads { ReadsIn S.Store self.old self.new result (λ r locked. locked ≡ is_named_by_set r.sets number) }
+        ensures stays { StaysIn S.Store self.old self.new result }
+        ensures reads { FindsIn S.Store self.old self.new result (λ r locked. locked ≡ is_named_by_set r.sets number) }
         ensures work { AddsIn 1 1 self.old self.new }
     {
-        let row = self
-            .store
-            .calls
-            .first(MODULE_LOCKED, params![number.get()])?;
+        let row = self.first(MODULE_LOCKED, params![number.get()])?;
         Ok(row.is_some())
     }
 
     /// Adds the set of the next number, with no modules yet.
     pub fn write_set(&mut self, number: SetNo, name: &Text, version: &Text) -> Result<(), Fault>
-        ensures stays { StaysIn self.old self.new result }
-        ensures writes { WritesIn S.Store self.old self.new result
+        ensures stays { StaysIn S.Store self.old self.new result }
+        ensures writes { MakesIn S.Store self.old self.new result
             (λ r next. (number ≡ length r.sets + 1) × (next ≡ with_set r name.now version.now)) }
         ensures work { AddsIn 1 0 self.old self.new }
     {
-        self.store.calls.run(
+        self.run(
             PUT_SET,
             params![number.get(), name.as_str(), version.as_str()],
         )
@@ -102,13 +93,11 @@ impl<'a, S: Alter> OpenChange<'a, S> {
         place: u32,
         added: ModuleNo,
     ) -> Result<(), Fault>
-        ensures stays { StaysIn self.old self.new result }
-        ensures writes { WritesIn S.Store self.old self.new result
+        ensures stays { StaysIn S.Store self.old self.new result }
+        ensures writes { MakesIn S.Store self.old self.new result
             (AddsSetModule number place added) }
         ensures work { AddsIn 1 0 self.old self.new }
     {
-        self.store
-            .calls
-            .run(PUT_SET_MODULE, params![number.get(), place, added.get()])
+        self.run(PUT_SET_MODULE, params![number.get(), place, added.get()])
     }
 }

@@ -5,8 +5,8 @@ ghost use Rattle.std.specs.Option.{option_map};
 ghost use Rattle.rollout_machine.specs.Verdicts.{tags_of, target_of};
 ghost use Rattle.desk_records.specs.TargetRow.{listed_target, stored_target};
 ghost use Rattle.desk_records.specs.Targets.{AddsTag, AddsTarget, renamed, untagged, with_changed};
-ghost use Rattle.desk_store.specs.Changing.{ReadsIn, WritesIn, StaysIn};
 ghost use Rattle.desk_store.specs.Counting.{AddsIn};
+ghost use Rattle.desk_store.specs.Changing.{FindsIn, MakesIn, StaysIn};
 
 use crate::change::OpenChange;
 use crate::reading::{counted_in, read_all, read_optional};
@@ -21,52 +21,46 @@ use sqlite::{Alter, params};
 impl<'a, S: Alter> OpenChange<'a, S> {
     /// What is kept of the target of an id, without its tags and attributes. A row that breaks a column's rule is a failed store.
     pub fn read_target(&mut self, id: &ControllerId) -> Result<Option<StoredTarget>, Fault>
-        ensures stays { StaysIn self.old self.new result }
-        ensures reads { ReadsIn S.Store self.old self.new result (λ r found. found ≡ option_map stored_target (target_of r id.now)) }
+        ensures stays { StaysIn S.Store self.old self.new result }
+        ensures reads { FindsIn S.Store self.old self.new result (λ r found. found ≡ option_map stored_target (target_of r id.now)) }
         ensures work { AddsIn 1 1 self.old self.new }
     {
         let alloc = self.store.alloc;
-        let row = self.store.calls.first(GET_TARGET, params![id.as_str()])?;
+        let row = self.first(GET_TARGET, params![id.as_str()])?;
         read_optional(alloc, row)
     }
 
     /// The tags of the target of an id, in byte order; none where there is no such target. A row that breaks the column's rule is a failed store.
     pub fn read_target_tags(&mut self, id: &ControllerId) -> Result<Vec<Word>, Fault>
-        ensures stays { StaysIn self.old self.new result }
-        ensures reads { ReadsIn S.Store self.old self.new result (λ r tags. tags.items ≡ tags_of (target_of r id.now)) }
+        ensures stays { StaysIn S.Store self.old self.new result }
+        ensures reads { FindsIn S.Store self.old self.new result (λ r tags. tags.items ≡ tags_of (target_of r id.now)) }
         ensures work { self.new.store.now.calls.work.statements ≤ self.old.store.now.calls.work.statements + 1 }
     {
         let alloc = self.store.alloc;
-        let rows = self
-            .store
-            .calls
-            .ask(LIST_TARGET_TAGS, params![id.as_str()])?;
+        let rows = self.ask(LIST_TARGET_TAGS, params![id.as_str()])?;
         read_all(alloc, &rows)
     }
 
     /// The targets of a page by their ids and names, in byte order of their ids. A row that breaks a column's rule is a
     /// failed store.
     pub fn read_targets(&mut self, page: Page) -> Result<Vec<ListedTarget>, Fault>
-        ensures stays { StaysIn self.old self.new result }
-        ensures reads { ReadsIn S.Store self.old self.new result
+        ensures stays { StaysIn S.Store self.old self.new result }
+        ensures reads { FindsIn S.Store self.old self.new result
             (λ r listed. listed.items ≡ map listed_target (take page.limit (drop page.offset r.targets))) }
         ensures work { self.new.store.now.calls.work.statements ≤ self.old.store.now.calls.work.statements + 1 }
     {
         let alloc = self.store.alloc;
-        let rows = self
-            .store
-            .calls
-            .ask(LIST_TARGETS, params![page.limit, page.offset])?;
+        let rows = self.ask(LIST_TARGETS, params![page.limit, page.offset])?;
         read_all(alloc, &rows)
     }
 
     /// How many targets there are.
     pub fn read_target_count(&mut self) -> Result<u32, Fault>
-        ensures stays { StaysIn self.old self.new result }
-        ensures reads { ReadsIn S.Store self.old self.new result (λ r count. count ≡ length r.targets) }
+        ensures stays { StaysIn S.Store self.old self.new result }
+        ensures reads { FindsIn S.Store self.old self.new result (λ r count. count ≡ length r.targets) }
         ensures work { AddsIn 1 1 self.old self.new }
     {
-        let row = self.store.calls.first(COUNT_TARGETS, &[])?;
+        let row = self.first(COUNT_TARGETS, &[])?;
         counted_in(row)
     }
 
@@ -77,12 +71,12 @@ impl<'a, S: Alter> OpenChange<'a, S> {
         name: &Text,
         digest: &Digest,
     ) -> Result<(), Fault>
-        ensures stays { StaysIn self.old self.new result }
-        ensures writes { WritesIn S.Store self.old self.new result
+        ensures stays { StaysIn S.Store self.old self.new result }
+        ensures writes { MakesIn S.Store self.old self.new result
             (AddsTarget id.now name.now digest.now) }
         ensures work { AddsIn 1 0 self.old self.new }
     {
-        self.store.calls.run(
+        self.run(
             PUT_TARGET,
             params![id.as_str(), name.as_str(), digest.as_bytes().as_slice()],
         )
@@ -95,11 +89,11 @@ impl<'a, S: Alter> OpenChange<'a, S> {
         name: &Text,
         digest: &Digest,
     ) -> Result<(), Fault>
-        ensures stays { StaysIn self.old self.new result }
-        ensures writes { WritesIn S.Store self.old self.new result (λ r next. next ≡ with_changed r id.now (renamed name.now digest.now)) }
+        ensures stays { StaysIn S.Store self.old self.new result }
+        ensures writes { MakesIn S.Store self.old self.new result (λ r next. next ≡ with_changed r id.now (renamed name.now digest.now)) }
         ensures work { AddsIn 1 0 self.old self.new }
     {
-        self.store.calls.run(
+        self.run(
             SET_TARGET,
             params![id.as_str(), name.as_str(), digest.as_bytes().as_slice()],
         )
@@ -107,24 +101,20 @@ impl<'a, S: Alter> OpenChange<'a, S> {
 
     /// Gives a target that is there a tag that it hasn't.
     pub fn write_target_tag(&mut self, id: &ControllerId, tag: &Word) -> Result<(), Fault>
-        ensures stays { StaysIn self.old self.new result }
-        ensures writes { WritesIn S.Store self.old self.new result
+        ensures stays { StaysIn S.Store self.old self.new result }
+        ensures writes { MakesIn S.Store self.old self.new result
             (AddsTag id.now tag.now) }
         ensures work { AddsIn 1 0 self.old self.new }
     {
-        self.store
-            .calls
-            .run(PUT_TARGET_TAG, params![id.as_str(), tag.as_str()])
+        self.run(PUT_TARGET_TAG, params![id.as_str(), tag.as_str()])
     }
 
     /// Takes a tag from the target of an id, where it has it.
     pub fn drop_target_tag(&mut self, id: &ControllerId, tag: &Word) -> Result<(), Fault>
-        ensures stays { StaysIn self.old self.new result }
-        ensures writes { WritesIn S.Store self.old self.new result (λ r next. next ≡ with_changed r id.now (untagged tag.now)) }
+        ensures stays { StaysIn S.Store self.old self.new result }
+        ensures writes { MakesIn S.Store self.old self.new result (λ r next. next ≡ with_changed r id.now (untagged tag.now)) }
         ensures work { AddsIn 1 0 self.old self.new }
     {
-        self.store
-            .calls
-            .run(DROP_TARGET_TAG, params![id.as_str(), tag.as_str()])
+        self.run(DROP_TARGET_TAG, params![id.as_str(), tag.as_str()])
     }
 }

@@ -8,8 +8,6 @@ use Rattle.std.specs.Option.{option_map}
 use Rattle.std.specs.Prelude.{IfOk, slice_get}
 use Rattle.sqlite.specs.Effect.{Database}
 use Rattle.sqlite.specs.State.{State}
-use Rattle.sql_calls.specs.Standing.{Reads}
-use Rattle.sql_calls.proofs.Composing.{both_read, read_in_vain, reads_as}
 use Rattle.desk_records.proofs.ByteOrder.{same_sym, sorted_from}
 use Rattle.desk_records.proofs.Targets.{has_id}
 use Rattle.desk_records.specs.Actions.{tally_of}
@@ -40,18 +38,6 @@ use Rattle.rollout_model.specs.declared.refusal.Refusal.TheVariants.{NotFound, U
 use Rattle.rollout_model.specs.declared.rollout.Chunk.{Chunk as SeenChunk}
 use Rattle.desk_views.specs.Contents.{contents_found}
 use Rattle.desk_views.specs.Downloads.{downloadable, named, or_not_found}
-
--- ---- a read, and then what answers as it is
-
-module _ {R : Type 0} (Holds : Database → R → Type 0) where
-  pub read_then : {A B E F : Type 0} (a b c : State) (x : A) (out : Result B F) (P : R → A → Type 0) (Q S : R → B → Type 0) → Reads Holds {E = E} a b (Ok x) P → Reads Holds b c out Q → ((r : R) (y : B) → P r x → Q r y → S r y) → Reads Holds a c out S
-  read_then a b c x (Ok y) P Q S first second means = reads_as Holds a c y y (λ r y. P r x × Q r y) S (both_read Holds a b c x y P Q first second) (λ r is. means r y is.0 is.1)
-  read_then a b c x (Err f) P Q S first second means = record { wears = omega (arith, first.wears, second.wears); reads = λ now kept was. second.reads now kept (first.reads now kept was).0 }
-
-  -- what is made of what was read
-  pub read_if : {A B E F : Type 0} (a b : State) (x : A) (out : Result B F) (P : R → A → Type 0) (Q : B → Type 0) {S : R → B → Type 0} → Reads Holds {E = E} a b (Ok x) P → IfOk out Q → ((r : R) (y : B) → P r x → Q y → S r y) → Reads Holds a b out S
-  read_if a b x (Ok y) P Q {S} read is means = reads_as Holds a b x y P S read (λ r it. means r y it is)
-  read_if a b x (Err f) P Q {S} read is means = read_in_vain Holds a b x P S read f
 
 -- ---- the device
 

@@ -3,7 +3,8 @@ use Rattle.std.proofs.Common.{◌≡◌, ◌≤◌, ◌<◌, ◌-◌, ℕ, zero,
 use Rattle.std.specs.Prelude.{slice_get}
 use Rattle.sqlite.specs.Effect.{Database}
 use Rattle.sqlite.specs.State.{State}
-use Rattle.sql_calls.specs.Standing.{Reads}
+use Rattle.sql_calls.specs.Standing.{Finds}
+use Rattle.sql_calls.proofs.Composing.{finds_as}
 use Rattle.rollout_machine.specs.ByteStrings.{item_numbered}
 use Rattle.rollout_machine.specs.CommandList.{CommandList}
 use Rattle.rollout_machine.specs.Effects.{HasSoundPlan}
@@ -18,15 +19,16 @@ use Rattle.rollout_machine.specs.declared.records.RolloutRecord.{RolloutRecord}
 use Rattle.rollout_machine.proofs.Cuts.{all_cut, last_grows}
 use Rattle.rollout_machine.proofs.Induction.{invariant_of, no_record}
 use Rattle.rollout_machine.proofs.Whole.{rollout_numbered}
+use Rattle.desk_records.specs.Holds.{HoldsLedger, ledger_of}
 use Rattle.desk_records.specs.Parts.{parts_of}
 use Rattle.desk_records.specs.Rollouts.{groups_of, numbered_from}
-use Rattle.desk_views.specs.Showing.{AreOfList, ReadsAtLists}
+use Rattle.desk_views.specs.Showing.{AreOfList}
 use Rattle.desk_views.specs.Rollouts.{last_in, last_place}
 
 -- what answers for all records answers at lists
-pub at_lists : (Holds : Database → Records → Type 0) {A E : Type 0} (a b : State) (result : Result A E) (P : Records → A → Type 0) → Reads Holds a b result P → ReadsAtLists Holds a b result P
-at_lists Holds a b (Ok x) P read = record { wears = read.wears; reads = λ now kept was. (let it = read.reads now kept was in (it.0, λ clean of. it.1 clean)) }
-at_lists Holds a b (Err e) P read = record { wears = read.wears; reads = read.reads }
+pub at_lists : {A E : Type 0} {a b : State} {P : Records → A → Type 0} → (out : Result A E) → Finds HoldsLedger ledger_of a b out P → Finds HoldsLedger ledger_of a b out (λ r it. AreOfList r → P r it)
+at_lists (Ok x) read = finds_as read (λ r is of. is)
+at_lists (Err e) read = record { wears = read.wears; finds = tt }
 
 -- ---- a rollout of such a list
 

@@ -6,9 +6,9 @@ ghost use Rattle.rollout_machine.specs.Answers.{action_of_target};
 ghost use Rattle.rollout_machine.specs.ByteStrings.{item_numbered};
 ghost use Rattle.rollout_machine.specs.Objects.{entry_shown, numbered};
 ghost use Rattle.rollout_machine.specs.Requests.{ShowAction, ShowActionsTable, ShowHistory, ShowTargetActions};
-ghost use Rattle.desk_store.specs.Changing.{ReadsIn, StaysIn};
 ghost use Rattle.desk_views.specs.Actions.{history_of, listed_shown, shown_in, stored_in};
-ghost use Rattle.desk_views.specs.Showing.{ReadsAtListsIn, ShowsIn};
+ghost use Rattle.desk_views.specs.Showing.{FindsAtListsIn, ShowsIn};
+ghost use Rattle.desk_store.specs.Changing.{FindsIn, StaysIn};
 
 use crate::pages::part_on;
 use campaign_core::{ActionStatus, action_word};
@@ -34,7 +34,7 @@ pub fn show_target_actions<S: Alter>(
     id: ControllerId,
     page: Page,
 ) -> Result<Reply, Fault>
-    ensures stays { StaysIn change.old change.new result }
+    ensures stays { StaysIn S.Store change.old change.new result }
     ensures shows { ShowsIn S.Store change.old change.new (ShowTargetActions id page) result }
 {
     if change.read_target(&id)?.is_none() {
@@ -52,7 +52,7 @@ pub fn show_actions_table<S: Alter>(
     change: &mut OpenChange<'_, S>,
     number: RolloutNo,
 ) -> Result<Reply, Fault>
-    ensures stays { StaysIn change.old change.new result }
+    ensures stays { StaysIn S.Store change.old change.new result }
     ensures shows { ShowsIn S.Store change.old change.new (ShowActionsTable number) result }
 {
     if change.read_rollout(number)?.is_none() {
@@ -70,7 +70,7 @@ pub fn show_action<S: Alter>(
     id: ControllerId,
     number: ActionNo,
 ) -> Result<Reply, Fault>
-    ensures stays { StaysIn change.old change.new result }
+    ensures stays { StaysIn S.Store change.old change.new result }
     ensures shows { ShowsIn S.Store change.old change.new (ShowAction id number) result }
 {
     let action = match read_of_target(change, id, number)? {
@@ -89,7 +89,7 @@ pub fn show_history<S: Alter>(
     number: ActionNo,
     page: Page,
 ) -> Result<Reply, Fault>
-    ensures stays { StaysIn change.old change.new result }
+    ensures stays { StaysIn S.Store change.old change.new result }
     ensures shows { ShowsIn S.Store change.old change.new (ShowHistory id number page) result }
 {
     let action = match read_of_target(change, id, number)? {
@@ -108,8 +108,8 @@ fn read_entries<S: Alter>(
     number: ActionNo,
     page: Page,
 ) -> Result<Vec<HistoryEntry>, Fault>
-    ensures stays { StaysIn change.old change.new result }
-    ensures reads { ReadsAtListsIn S.Store change.old change.new result (λ now found. found.items ≡ take page.limit (drop page.offset (history_of (item_numbered now.actions number)))) }
+    ensures stays { StaysIn S.Store change.old change.new result }
+    ensures reads { FindsAtListsIn S.Store change.old change.new result (λ now found. found.items ≡ take page.limit (drop page.offset (history_of (item_numbered now.actions number)))) }
 {
     let entries = change.read_entries(number, page)?;
     Ok(entries)
@@ -154,8 +154,8 @@ pub(crate) fn read_of_target<S: Alter>(
     id: ControllerId,
     number: ActionNo,
 ) -> Result<Option<StoredAction>, Fault>
-    ensures stays { StaysIn change.old change.new result }
-    ensures reads { ReadsIn S.Store change.old change.new result (λ now found. found ≡ option_map (stored_in now) (action_of_target now id number)) }
+    ensures stays { StaysIn S.Store change.old change.new result }
+    ensures reads { FindsIn S.Store change.old change.new result (λ now found. found ≡ option_map (stored_in now) (action_of_target now id number)) }
 {
     let found = match change.read_action(number)? {
         Some(found) => found,
@@ -173,8 +173,8 @@ fn read_all_shown<S: Alter>(
     change: &mut OpenChange<'_, S>,
     listed: &[ListedAction],
 ) -> Result<Vec<Action>, Fault>
-    ensures stays { StaysIn change.old change.new result }
-    ensures reads { ReadsAtListsIn S.Store change.old change.new result (λ now all. all.items ≡ map (listed_shown now) listed.now) }
+    ensures stays { StaysIn S.Store change.old change.new result }
+    ensures reads { FindsAtListsIn S.Store change.old change.new result (λ now all. all.items ≡ map (listed_shown now) listed.now) }
 {
     let mut all = Vec::new(alloc);
     for one in listed {
@@ -192,8 +192,8 @@ fn read_shown<S: Alter>(
     change: &mut OpenChange<'_, S>,
     listed: &ListedAction,
 ) -> Result<Action, Fault>
-    ensures stays { StaysIn change.old change.new result }
-    ensures reads { ReadsAtListsIn S.Store change.old change.new result (λ now shown. shown ≡ listed_shown now listed.now) }
+    ensures stays { StaysIn S.Store change.old change.new result }
+    ensures reads { FindsAtListsIn S.Store change.old change.new result (λ now shown. shown ≡ listed_shown now listed.now) }
 {
     let group = change.read_holding_group(listed.action.rollout, listed.action.position)?;
     Ok(shown_in(*listed, group))

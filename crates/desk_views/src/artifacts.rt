@@ -7,8 +7,8 @@ ghost use Rattle.rollout_machine.specs.Answers.{artifact_of_module, query_reply}
 ghost use Rattle.rollout_machine.specs.ByteStrings.{item_numbered};
 ghost use Rattle.rollout_machine.specs.Requests.{ShowArtifacts, ShowArtifact, ShowContents};
 ghost use Rattle.rollout_machine.specs.Views.{reply_of};
-ghost use Rattle.desk_store.specs.Changing.{ReadsIn, StaysIn};
 ghost use Rattle.desk_views.specs.Contents.{contents_found};
+ghost use Rattle.desk_store.specs.Changing.{FindsIn, StaysIn};
 
 use desk_store::{Fault, OpenChange, StoredArtifact};
 use rollout_model::{Artifact, ArtifactNo, Contents, ModuleNo, Page, PageOf, Refusal, Reply};
@@ -25,8 +25,8 @@ pub fn show_artifacts<S: Alter>(
     module_number: ModuleNo,
     page: Page,
 ) -> Result<Reply, Fault>
-    ensures stays { StaysIn change.old change.new result }
-    ensures reads { ReadsIn S.Store change.old change.new result (λ now reply. reply_of reply ≡ query_reply now (ShowArtifacts module_number page)) }
+    ensures stays { StaysIn S.Store change.old change.new result }
+    ensures reads { FindsIn S.Store change.old change.new result (λ now reply. reply_of reply ≡ query_reply now (ShowArtifacts module_number page)) }
 {
     if change.read_module(module_number)?.is_none() {
         return Ok(Reply::Refused(Refusal::NotFound));
@@ -42,8 +42,8 @@ pub fn show_artifact<S: Alter>(
     module_number: ModuleNo,
     number: ArtifactNo,
 ) -> Result<Reply, Fault>
-    ensures stays { StaysIn change.old change.new result }
-    ensures reads { ReadsIn S.Store change.old change.new result (λ now reply. reply_of reply ≡ query_reply now (ShowArtifact module_number number)) }
+    ensures stays { StaysIn S.Store change.old change.new result }
+    ensures reads { FindsIn S.Store change.old change.new result (λ now reply. reply_of reply ≡ query_reply now (ShowArtifact module_number number)) }
 {
     match read_of_module(change, module_number, number)? {
         Some(found) => Ok(Reply::Artifact(shown_as(number, found))),
@@ -59,8 +59,8 @@ pub fn show_contents<S: Alter>(
     module_number: ModuleNo,
     number: ArtifactNo,
 ) -> Result<Reply, Fault>
-    ensures stays { StaysIn change.old change.new result }
-    ensures reads { ReadsIn S.Store change.old change.new result (λ now reply. reply_of reply ≡ query_reply now (ShowContents module_number number)) }
+    ensures stays { StaysIn S.Store change.old change.new result }
+    ensures reads { FindsIn S.Store change.old change.new result (λ now reply. reply_of reply ≡ query_reply now (ShowContents module_number number)) }
 {
     let found = match read_of_module(change, module_number, number)? {
         Some(found) => found,
@@ -77,8 +77,8 @@ pub(crate) fn read_contents<S: Alter>(
     number: ArtifactNo,
     size: u32,
 ) -> Result<Contents, Fault>
-    ensures stays { StaysIn change.old change.new result }
-    ensures reads { ReadsIn S.Store change.old change.new result (λ now contents. contents ≡ contents_found (item_numbered now.artifacts number)) }
+    ensures stays { StaysIn S.Store change.old change.new result }
+    ensures reads { FindsIn S.Store change.old change.new result (λ now contents. contents ≡ contents_found (item_numbered now.artifacts number)) }
     ensures sized { IfOk result (λ contents. length contents ≡ size) }
 {
     let bytes = read_pieces(alloc, change, number)?;
@@ -107,8 +107,8 @@ fn read_of_module<S: Alter>(
     module_number: ModuleNo,
     number: ArtifactNo,
 ) -> Result<Option<StoredArtifact>, Fault>
-    ensures stays { StaysIn change.old change.new result }
-    ensures reads { ReadsIn S.Store change.old change.new result
+    ensures stays { StaysIn S.Store change.old change.new result }
+    ensures reads { FindsIn S.Store change.old change.new result
         (λ now found. found ≡ option_map stored (artifact_of_module now module_number number)) }
 {
     let found = match change.read_artifact(number)? {
@@ -139,8 +139,8 @@ fn read_pieces<S: Alter>(
     change: &mut OpenChange<'_, S>,
     number: ArtifactNo,
 ) -> Result<Vec<u8>, Fault>
-    ensures stays { StaysIn change.old change.new result }
-    ensures reads { ReadsIn S.Store change.old change.new result (λ now bytes. bytes.items ≡ contents_found (item_numbered now.artifacts number)) }
+    ensures stays { StaysIn S.Store change.old change.new result }
+    ensures reads { FindsIn S.Store change.old change.new result (λ now bytes. bytes.items ≡ contents_found (item_numbered now.artifacts number)) }
 {
     let mut bytes = Vec::new(alloc);
     for place in 0..=PIECE_LIMIT {

@@ -11,8 +11,8 @@ ghost use Rattle.rollout_machine.specs.Requests.{Download, ShowDeployment};
 ghost use Rattle.rollout_machine.specs.Views.{chunk, reply_of};
 ghost use Rattle.desk_records.specs.declared.rollout_row.StoredRollout.{StoredRollout};
 ghost use Rattle.rollout_model.specs.declared.artifact.Artifact.{Artifact};
-ghost use Rattle.desk_store.specs.Changing.{ReadsIn, StaysIn};
 ghost use Rattle.desk_views.specs.Downloads.{downloadable, named};
+ghost use Rattle.desk_store.specs.Changing.{FindsIn, StaysIn};
 
 use crate::artifacts::read_contents;
 use crate::devices::{is_offer_of, knows_device};
@@ -31,8 +31,8 @@ pub fn show_deployment<S: Alter>(
     device: &Credential,
     number: ActionNo,
 ) -> Result<Reply, Fault>
-    ensures stays { StaysIn change.old change.new result }
-    ensures reads { ReadsIn S.Store change.old change.new result (λ now reply. reply_of reply ≡ query_reply now (ShowDeployment device.now number)) }
+    ensures stays { StaysIn S.Store change.old change.new result }
+    ensures reads { FindsIn S.Store change.old change.new result (λ now reply. reply_of reply ≡ query_reply now (ShowDeployment device.now number)) }
 {
     if !knows_device(change, device)? {
         return Ok(Reply::Refused(Refusal::Unauthorized));
@@ -55,8 +55,8 @@ fn read_chunks<S: Alter>(
     change: &mut OpenChange<'_, S>,
     number: ActionNo,
 ) -> Result<Vec<Chunk>, Fault>
-    ensures stays { StaysIn change.old change.new result }
-    ensures reads { ReadsIn S.Store change.old change.new result
+    ensures stays { StaysIn S.Store change.old change.new result }
+    ensures reads { FindsIn S.Store change.old change.new result
         (λ now chunks. map chunk chunks.items ≡ chunks_of now (modules_of_action now (item_numbered now.actions number))) }
 {
     let modules = read_action_modules(alloc, change, number)?;
@@ -69,8 +69,8 @@ fn read_module_chunks<S: Alter>(
     change: &mut OpenChange<'_, S>,
     modules: Vec<ModuleNo>,
 ) -> Result<Vec<Chunk>, Fault>
-    ensures stays { StaysIn change.old change.new result }
-    ensures reads { ReadsIn S.Store change.old change.new result (λ now chunks. map chunk chunks.items ≡ chunks_of now modules.items) }
+    ensures stays { StaysIn S.Store change.old change.new result }
+    ensures reads { FindsIn S.Store change.old change.new result (λ now chunks. map chunk chunks.items ≡ chunks_of now modules.items) }
 {
     let mut chunks = Vec::new(alloc);
     for module_number in modules {
@@ -85,8 +85,8 @@ fn add_chunk<S: Alter>(
     module_number: ModuleNo,
     chunks: &mut Vec<Chunk>,
 ) -> Result<(), Fault>
-    ensures stays { StaysIn change.old change.new result }
-    ensures reads { ReadsIn S.Store change.old change.new result
+    ensures stays { StaysIn S.Store change.old change.new result }
+    ensures reads { FindsIn S.Store change.old change.new result
         (λ now _. map chunk chunks.new.items ≡ map chunk chunks.old.items ++ chunks_of_module now module_number (item_numbered now.modules module_number)) }
 {
     let label = match change.read_module(module_number)? {
@@ -117,8 +117,8 @@ fn read_action_modules<S: Alter>(
     change: &mut OpenChange<'_, S>,
     number: ActionNo,
 ) -> Result<Vec<ModuleNo>, Fault>
-    ensures stays { StaysIn change.old change.new result }
-    ensures reads { ReadsIn S.Store change.old change.new result (λ now modules. modules.items ≡ modules_of_action now (item_numbered now.actions number)) }
+    ensures stays { StaysIn S.Store change.old change.new result }
+    ensures reads { FindsIn S.Store change.old change.new result (λ now modules. modules.items ≡ modules_of_action now (item_numbered now.actions number)) }
 {
     match change.read_action(number)? {
         Some(action) => read_rollout_modules(alloc, change, action.rollout),
@@ -132,8 +132,8 @@ fn read_rollout_modules<S: Alter>(
     change: &mut OpenChange<'_, S>,
     number: RolloutNo,
 ) -> Result<Vec<ModuleNo>, Fault>
-    ensures stays { StaysIn change.old change.new result }
-    ensures reads { ReadsIn S.Store change.old change.new result (λ now modules. modules.items ≡ modules_of_rollout now (item_numbered now.rollouts number)) }
+    ensures stays { StaysIn S.Store change.old change.new result }
+    ensures reads { FindsIn S.Store change.old change.new result (λ now modules. modules.items ≡ modules_of_rollout now (item_numbered now.rollouts number)) }
 {
     let found = change.read_rollout(number)?;
     match set_of(&found) {
@@ -160,8 +160,8 @@ pub fn show_download<S: Alter>(
     module_number: ModuleNo,
     filename: &Filename,
 ) -> Result<Reply, Fault>
-    ensures stays { StaysIn change.old change.new result }
-    ensures reads { ReadsIn S.Store change.old change.new result (λ now reply. reply_of reply ≡ query_reply now (Download device.now module_number filename.now)) }
+    ensures stays { StaysIn S.Store change.old change.new result }
+    ensures reads { FindsIn S.Store change.old change.new result (λ now reply. reply_of reply ≡ query_reply now (Download device.now module_number filename.now)) }
 {
     match find_download(alloc, change, device, module_number, filename)? {
         Ok(artifact) => {
@@ -180,8 +180,8 @@ pub fn find_download<S: Alter>(
     module_number: ModuleNo,
     filename: &Filename,
 ) -> Result<Result<Artifact, Refusal>, Fault>
-    ensures stays { StaysIn change.old change.new result }
-    ensures reads { ReadsIn S.Store change.old change.new result (λ now found. found ≡ downloadable now device.now module_number filename.now) }
+    ensures stays { StaysIn S.Store change.old change.new result }
+    ensures reads { FindsIn S.Store change.old change.new result (λ now found. found ≡ downloadable now device.now module_number filename.now) }
 {
     if !knows_device(change, device)? {
         return Ok(Err(Refusal::Unauthorized));
@@ -200,8 +200,8 @@ fn read_offered_modules<S: Alter>(
     change: &mut OpenChange<'_, S>,
     id: &ControllerId,
 ) -> Result<Vec<ModuleNo>, Fault>
-    ensures stays { StaysIn change.old change.new result }
-    ensures reads { ReadsIn S.Store change.old change.new result (λ now modules. modules.items ≡ modules_offered now (offer now id.now)) }
+    ensures stays { StaysIn S.Store change.old change.new result }
+    ensures reads { FindsIn S.Store change.old change.new result (λ now modules. modules.items ≡ modules_offered now (offer now id.now)) }
 {
     match change.read_offer(id)? {
         Some(offer) => read_installed(alloc, change, offer),
@@ -215,8 +215,8 @@ fn read_installed<S: Alter>(
     change: &mut OpenChange<'_, S>,
     offer: Offer,
 ) -> Result<Vec<ModuleNo>, Fault>
-    ensures stays { StaysIn change.old change.new result }
-    ensures reads { ReadsIn S.Store change.old change.new result (λ now modules. modules.items ≡ modules_offered now (Some offer)) }
+    ensures stays { StaysIn S.Store change.old change.new result }
+    ensures reads { FindsIn S.Store change.old change.new result (λ now modules. modules.items ≡ modules_offered now (Some offer)) }
 {
     if offer.canceling {
         return Ok(Vec::new(alloc));

@@ -5,8 +5,8 @@ ghost use Rattle.rollout_machine.specs.Answers.{is_offer_of, query_reply};
 ghost use Rattle.rollout_machine.specs.Requests.{Poll, ShowCancel};
 ghost use Rattle.rollout_machine.specs.Verdicts.{is_known};
 ghost use Rattle.rollout_machine.specs.Views.{reply_of};
-ghost use Rattle.desk_store.specs.Changing.{ReadsIn, StaysIn};
 ghost use Rattle.desk_store.specs.Counting.{AddsIn};
+ghost use Rattle.desk_store.specs.Changing.{FindsIn, StaysIn};
 
 use desk_store::{Fault, OpenChange};
 use rollout_model::{ActionNo, Credential, Offer, Refusal, Reply};
@@ -17,8 +17,8 @@ pub fn knows_device<S: Alter>(
     change: &mut OpenChange<'_, S>,
     device: &Credential,
 ) -> Result<bool, Fault>
-    ensures stays { StaysIn change.old change.new result }
-    ensures reads { ReadsIn S.Store change.old change.new result (λ now known. known ≡ is_known now device.now) }
+    ensures stays { StaysIn S.Store change.old change.new result }
+    ensures reads { FindsIn S.Store change.old change.new result (λ now known. known ≡ is_known now device.now) }
     ensures work { AddsIn 1 1 change.old change.new }
 {
     let found = change.read_target(&device.id)?;
@@ -33,8 +33,8 @@ pub fn show_poll<S: Alter>(
     change: &mut OpenChange<'_, S>,
     device: &Credential,
 ) -> Result<Reply, Fault>
-    ensures stays { StaysIn change.old change.new result }
-    ensures reads { ReadsIn S.Store change.old change.new result (λ now reply. reply_of reply ≡ query_reply now (Poll device.now)) }
+    ensures stays { StaysIn S.Store change.old change.new result }
+    ensures reads { FindsIn S.Store change.old change.new result (λ now reply. reply_of reply ≡ query_reply now (Poll device.now)) }
 {
     if !knows_device(change, device)? {
         return Ok(Reply::Refused(Refusal::Unauthorized));
@@ -49,8 +49,8 @@ pub fn show_cancel<S: Alter>(
     device: &Credential,
     number: ActionNo,
 ) -> Result<Reply, Fault>
-    ensures stays { StaysIn change.old change.new result }
-    ensures reads { ReadsIn S.Store change.old change.new result (λ now reply. reply_of reply ≡ query_reply now (ShowCancel device.now number)) }
+    ensures stays { StaysIn S.Store change.old change.new result }
+    ensures reads { FindsIn S.Store change.old change.new result (λ now reply. reply_of reply ≡ query_reply now (ShowCancel device.now number)) }
 {
     if !knows_device(change, device)? {
         return Ok(Reply::Refused(Refusal::Unauthorized));

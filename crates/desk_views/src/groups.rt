@@ -8,9 +8,9 @@ ghost use Rattle.rollout_machine.specs.StateWords.{size_of_group};
 ghost use Rattle.rollout_machine.specs.Verdicts.{target_of};
 ghost use Rattle.rollout_machine.specs.Views.{listed, shown_target};
 ghost use Rattle.rollout_machine.specs.declared.records.RolloutRecord.{RolloutRecord};
-ghost use Rattle.desk_store.specs.Changing.{ReadsIn, StaysIn};
 ghost use Rattle.desk_views.specs.Rollouts.{IsSeenOf};
 ghost use Rattle.desk_views.specs.Showing.{ShowsIn};
+ghost use Rattle.desk_store.specs.Changing.{FindsIn, StaysIn};
 
 use crate::pages::{count_on, part_on};
 use crate::rollouts::{SeenRollout, read_seen_rollout, size_of};
@@ -29,7 +29,7 @@ pub fn show_groups<S: Alter>(
     number: RolloutNo,
     page: Page,
 ) -> Result<Reply, Fault>
-    ensures stays { StaysIn change.old change.new result }
+    ensures stays { StaysIn S.Store change.old change.new result }
     ensures shows { ShowsIn S.Store change.old change.new (ShowGroups number page) result }
 {
     let seen = match read_seen_rollout(change, number)? {
@@ -46,7 +46,7 @@ pub fn show_group<S: Alter>(
     number: RolloutNo,
     group: u32,
 ) -> Result<Reply, Fault>
-    ensures stays { StaysIn change.old change.new result }
+    ensures stays { StaysIn S.Store change.old change.new result }
     ensures shows { ShowsIn S.Store change.old change.new (ShowGroup number group) result }
 {
     let seen = match read_seen_rollout(change, number)? {
@@ -69,7 +69,7 @@ pub fn show_group_targets<S: Alter>(
     group: u32,
     page: Page,
 ) -> Result<Reply, Fault>
-    ensures stays { StaysIn change.old change.new result }
+    ensures stays { StaysIn S.Store change.old change.new result }
     ensures shows { ShowsIn S.Store change.old change.new (ShowGroupTargets number group page) result }
 {
     let found = match change.read_group(number, group)? {
@@ -101,8 +101,8 @@ fn read_targets<S: Alter>(
     change: &mut OpenChange<'_, S>,
     ids: Vec<ControllerId>,
 ) -> Result<Vec<ShownTarget>, Fault>
-    ensures stays { StaysIn change.old change.new result }
-    ensures reads { ReadsIn S.Store change.old change.new result (λ now content. map shown_target content.items ≡ targets_shown now (targets_of now ids.items)) }
+    ensures stays { StaysIn S.Store change.old change.new result }
+    ensures reads { FindsIn S.Store change.old change.new result (λ now content. map shown_target content.items ≡ targets_shown now (targets_of now ids.items)) }
 {
     let mut content = Vec::new(alloc);
     for id in ids {
@@ -117,8 +117,8 @@ fn add_target<S: Alter>(
     id: ControllerId,
     content: &mut Vec<ShownTarget>,
 ) -> Result<(), Fault>
-    ensures stays { StaysIn change.old change.new result }
-    ensures reads { ReadsIn S.Store change.old change.new result
+    ensures stays { StaysIn S.Store change.old change.new result }
+    ensures reads { FindsIn S.Store change.old change.new result
         (λ now _. map shown_target content.new.items ≡ map shown_target content.old.items ++ targets_shown now (target_if (target_of now id))) }
 {
     let shown = match read_shown(change, id)? {

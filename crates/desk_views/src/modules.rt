@@ -7,7 +7,7 @@ ghost use Rattle.rollout_machine.specs.ByteStrings.{item_numbered};
 ghost use Rattle.rollout_machine.specs.Objects.{module_shown, modules_shown};
 ghost use Rattle.rollout_machine.specs.Requests.{ShowModule, ShowModules};
 ghost use Rattle.rollout_machine.specs.Views.{reply_of};
-ghost use Rattle.desk_store.specs.Changing.{ReadsIn, StaysIn};
+ghost use Rattle.desk_store.specs.Changing.{FindsIn, StaysIn};
 
 use crate::pages::count_on;
 use desk_store::{Fault, OpenChange};
@@ -20,8 +20,8 @@ pub fn show_module<S: Alter>(
     change: &mut OpenChange<'_, S>,
     number: ModuleNo,
 ) -> Result<Reply, Fault>
-    ensures stays { StaysIn change.old change.new result }
-    ensures reads { ReadsIn S.Store change.old change.new result (λ now reply. reply_of reply ≡ query_reply now (ShowModule number)) }
+    ensures stays { StaysIn S.Store change.old change.new result }
+    ensures reads { FindsIn S.Store change.old change.new result (λ now reply. reply_of reply ≡ query_reply now (ShowModule number)) }
 {
     match read_shown(change, number)? {
         Some(shown) => Ok(Reply::Module(shown)),
@@ -35,8 +35,8 @@ pub fn show_modules<S: Alter>(
     change: &mut OpenChange<'_, S>,
     page: Page,
 ) -> Result<Reply, Fault>
-    ensures stays { StaysIn change.old change.new result }
-    ensures reads { ReadsIn S.Store change.old change.new result (λ now reply. reply_of reply ≡ query_reply now (ShowModules page)) }
+    ensures stays { StaysIn S.Store change.old change.new result }
+    ensures reads { FindsIn S.Store change.old change.new result (λ now reply. reply_of reply ≡ query_reply now (ShowModules page)) }
 {
     let total = change.read_last_module()?;
     let content = read_page(alloc, change, page, total)?;
@@ -50,8 +50,8 @@ fn read_page<S: Alter>(
     page: Page,
     total: u32,
 ) -> Result<Vec<Module>, Fault>
-    ensures stays { StaysIn change.old change.new result }
-    ensures reads { ReadsIn S.Store change.old change.new result
+    ensures stays { StaysIn S.Store change.old change.new result }
+    ensures reads { FindsIn S.Store change.old change.new result
         (λ now content. total ≡ length now.modules → content.items ≡ take page.limit (drop page.offset (modules_shown now))) }
 {
     let mut content = Vec::new(alloc);
@@ -67,8 +67,8 @@ fn read_page<S: Alter>(
 
 /// The module of a number up to the last one. Where it isn't there the store has failed.
 fn read_entry<S: Alter>(change: &mut OpenChange<'_, S>, number: u32) -> Result<Module, Fault>
-    ensures stays { StaysIn change.old change.new result }
-    ensures reads { ReadsIn S.Store change.old change.new result (λ now shown. item_numbered (modules_shown now) number ≡ Some shown) }
+    ensures stays { StaysIn S.Store change.old change.new result }
+    ensures reads { FindsIn S.Store change.old change.new result (λ now shown. item_numbered (modules_shown now) number ≡ Some shown) }
 {
     let Some(number) = ModuleNo::new(number) else {
         return Err(Fault::Store);
@@ -84,8 +84,8 @@ fn read_shown<S: Alter>(
     change: &mut OpenChange<'_, S>,
     number: ModuleNo,
 ) -> Result<Option<Module>, Fault>
-    ensures stays { StaysIn change.old change.new result }
-    ensures reads { ReadsIn S.Store change.old change.new result
+    ensures stays { StaysIn S.Store change.old change.new result }
+    ensures reads { FindsIn S.Store change.old change.new result
         (λ now found. found ≡ option_map (module_shown now number) (item_numbered now.modules number)) }
 {
     let label = match change.read_module(number)? {

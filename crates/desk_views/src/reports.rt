@@ -22,7 +22,7 @@ pub fn show_report<S: Alter>(
     change: &mut OpenChange<'_, S>,
     number: RolloutNo,
 ) -> Result<Reply, Fault>
-    ensures stays { StaysIn change.old change.new result }
+    ensures stays { StaysIn S.Store change.old change.new result }
     ensures shows { ShowsIn S.Store change.old change.new (ShowReport number) result }
 {
     let seen = match read_seen_rollout(change, number)? {

@@ -10,7 +10,7 @@ ghost use Rattle.rollout_machine.specs.StateWords.{all_final, rollout_word, size
 ghost use Rattle.campaign_core.specs.RolloutChecks.{BothOrNone};
 ghost use Rattle.desk_records.specs.RolloutRow.{stored_rollout};
 ghost use Rattle.desk_views.specs.Rollouts.{IsSeenOf, last_place};
-ghost use Rattle.desk_views.specs.Showing.{ReadsAtListsIn, ShowsIn};
+ghost use Rattle.desk_views.specs.Showing.{FindsAtListsIn, ShowsIn};
 ghost use Rattle.desk_store.specs.Changing.{StaysIn};
 
 use crate::pages::count_on;
@@ -106,8 +106,8 @@ pub fn read_seen_rollout<S: Alter>(
     change: &mut OpenChange<'_, S>,
     number: RolloutNo,
 ) -> Result<Option<SeenRollout>, Fault>
-    ensures stays { StaysIn change.old change.new result }
-    ensures reads { ReadsAtListsIn S.Store change.old change.new result (λ now found. BothOrNone IsSeenOf found (item_numbered now.rollouts number)) }
+    ensures stays { StaysIn S.Store change.old change.new result }
+    ensures reads { FindsAtListsIn S.Store change.old change.new result (λ now found. BothOrNone IsSeenOf found (item_numbered now.rollouts number)) }
 {
     let stored = match change.read_rollout(number)? {
         Some(stored) => stored,
@@ -123,8 +123,8 @@ pub(crate) fn read_groups_of<S: Alter>(
     number: RolloutNo,
     stored: StoredRollout,
 ) -> Result<SeenRollout, Fault>
-    ensures stays { StaysIn change.old change.new result }
-    ensures reads { ReadsAtListsIn S.Store change.old change.new result
+    ensures stays { StaysIn S.Store change.old change.new result }
+    ensures reads { FindsAtListsIn S.Store change.old change.new result
         (λ now seen. (x : RolloutRecord) → item_numbered now.rollouts number ≡ Some x → stored ≡ stored_rollout x → IsSeenOf seen x) }
 {
     let groups = change.read_groups(number)?;
@@ -173,7 +173,7 @@ pub fn show_rollout<S: Alter>(
     change: &mut OpenChange<'_, S>,
     number: RolloutNo,
 ) -> Result<Reply, Fault>
-    ensures stays { StaysIn change.old change.new result }
+    ensures stays { StaysIn S.Store change.old change.new result }
     ensures shows { ShowsIn S.Store change.old change.new (ShowRollout number) result }
 {
     match read_seen_rollout(change, number)? {
@@ -188,7 +188,7 @@ pub fn show_rollouts<S: Alter>(
     change: &mut OpenChange<'_, S>,
     page: Page,
 ) -> Result<Reply, Fault>
-    ensures stays { StaysIn change.old change.new result }
+    ensures stays { StaysIn S.Store change.old change.new result }
     ensures shows { ShowsIn S.Store change.old change.new (ShowRollouts page) result }
 {
     let total = change.read_last_rollout()?;
@@ -203,8 +203,8 @@ fn read_page<S: Alter>(
     page: Page,
     total: u32,
 ) -> Result<Vec<Rollout>, Fault>
-    ensures stays { StaysIn change.old change.new result }
-    ensures reads { ReadsAtListsIn S.Store change.old change.new result
+    ensures stays { StaysIn S.Store change.old change.new result }
+    ensures reads { FindsAtListsIn S.Store change.old change.new result
         (λ now content. total ≡ length now.rollouts → content.items ≡ take page.limit (drop page.offset (rollouts_shown now.rollouts))) }
 {
     let mut content = Vec::new(alloc);
@@ -220,8 +220,8 @@ fn read_page<S: Alter>(
 
 /// The rollout of a number up to the last one. Where it isn't there the store has failed.
 fn read_entry<S: Alter>(change: &mut OpenChange<'_, S>, number: u32) -> Result<Rollout, Fault>
-    ensures stays { StaysIn change.old change.new result }
-    ensures reads { ReadsAtListsIn S.Store change.old change.new result (λ now entry. item_numbered (rollouts_shown now.rollouts) number ≡ Some entry) }
+    ensures stays { StaysIn S.Store change.old change.new result }
+    ensures reads { FindsAtListsIn S.Store change.old change.new result (λ now entry. item_numbered (rollouts_shown now.rollouts) number ≡ Some entry) }
 {
     let Some(number) = RolloutNo::new(number) else {
         return Err(Fault::Store);

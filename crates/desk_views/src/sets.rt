@@ -6,7 +6,7 @@ ghost use Rattle.rollout_machine.specs.ByteStrings.{item_numbered};
 ghost use Rattle.rollout_machine.specs.Objects.{numbered, set_shown};
 ghost use Rattle.rollout_machine.specs.Requests.{ShowSet, ShowSets};
 ghost use Rattle.rollout_machine.specs.Views.{reply_of};
-ghost use Rattle.desk_store.specs.Changing.{ReadsIn, StaysIn};
+ghost use Rattle.desk_store.specs.Changing.{FindsIn, StaysIn};
 
 use crate::pages::count_on;
 use desk_store::{Fault, OpenChange, SetName};
@@ -18,8 +18,8 @@ use std::alloc::Global;
 
 /// Shows the set of a number, with its modules in their order.
 pub fn show_set<S: Alter>(change: &mut OpenChange<'_, S>, number: SetNo) -> Result<Reply, Fault>
-    ensures stays { StaysIn change.old change.new result }
-    ensures reads { ReadsIn S.Store change.old change.new result (λ now reply. reply_of reply ≡ query_reply now (ShowSet number)) }
+    ensures stays { StaysIn S.Store change.old change.new result }
+    ensures reads { FindsIn S.Store change.old change.new result (λ now reply. reply_of reply ≡ query_reply now (ShowSet number)) }
 {
     match read_label(change, number)? {
         Some(label) => Ok(Reply::Set(DistributionSet { number, label })),
@@ -33,8 +33,8 @@ pub fn show_sets<S: Alter>(
     change: &mut OpenChange<'_, S>,
     page: Page,
 ) -> Result<Reply, Fault>
-    ensures stays { StaysIn change.old change.new result }
-    ensures reads { ReadsIn S.Store change.old change.new result (λ now reply. reply_of reply ≡ query_reply now (ShowSets page)) }
+    ensures stays { StaysIn S.Store change.old change.new result }
+    ensures reads { FindsIn S.Store change.old change.new result (λ now reply. reply_of reply ≡ query_reply now (ShowSets page)) }
 {
     let total = change.read_last_set()?;
     let content = read_page(alloc, change, page, total)?;
@@ -48,8 +48,8 @@ fn read_page<S: Alter>(
     page: Page,
     total: u32,
 ) -> Result<Vec<DistributionSet>, Fault>
-    ensures stays { StaysIn change.old change.new result }
-    ensures reads { ReadsIn S.Store change.old change.new result
+    ensures stays { StaysIn S.Store change.old change.new result }
+    ensures reads { FindsIn S.Store change.old change.new result
         (λ now content. total ≡ length now.sets → content.items ≡ take page.limit (drop page.offset (numbered set_shown 1 now.sets))) }
 {
     let mut content = Vec::new(alloc);
@@ -68,8 +68,8 @@ fn read_entry<S: Alter>(
     change: &mut OpenChange<'_, S>,
     number: u32,
 ) -> Result<DistributionSet, Fault>
-    ensures stays { StaysIn change.old change.new result }
-    ensures reads { ReadsIn S.Store change.old change.new result (λ now shown. item_numbered (numbered set_shown 1 now.sets) number ≡ Some shown) }
+    ensures stays { StaysIn S.Store change.old change.new result }
+    ensures reads { FindsIn S.Store change.old change.new result (λ now shown. item_numbered (numbered set_shown 1 now.sets) number ≡ Some shown) }
 {
     let Some(number) = SetNo::new(number) else {
         return Err(Fault::Store);
@@ -85,8 +85,8 @@ fn read_label<S: Alter>(
     change: &mut OpenChange<'_, S>,
     number: SetNo,
 ) -> Result<Option<SetLabel>, Fault>
-    ensures stays { StaysIn change.old change.new result }
-    ensures reads { ReadsIn S.Store change.old change.new result (λ now found. found ≡ item_numbered now.sets number) }
+    ensures stays { StaysIn S.Store change.old change.new result }
+    ensures reads { FindsIn S.Store change.old change.new result (λ now found. found ≡ item_numbered now.sets number) }
 {
     let called = match change.read_set(number)? {
         Some(called) => called,

@@ -9,8 +9,8 @@ ghost use Rattle.rollout_machine.specs.Views.{listed, reply_of};
 ghost use Rattle.rollout_model.specs.declared.shown_target.ShownTarget.{ShownTarget};
 ghost use Rattle.target_filter.specs.Grammar.{Tree};
 ghost use Rattle.target_filter.specs.Profile.{filter_of};
-ghost use Rattle.desk_store.specs.Changing.{ReadsIn, StaysIn};
 ghost use Rattle.desk_views.specs.Targets.{matching_shown, target_listed, worded};
+ghost use Rattle.desk_store.specs.Changing.{FindsIn, StaysIn};
 
 use crate::pages::is_on;
 use crate::targets::{read_listed, with_word};
@@ -32,8 +32,8 @@ pub fn show_targets<S: Alter>(
     filter: &Option<FilterText>,
     page: Page,
 ) -> Result<Reply, Fault>
-    ensures stays { StaysIn change.old change.new result }
-    ensures reads { ReadsIn S.Store change.old change.new result (λ now reply. reply_of reply ≡ query_reply now (ShowTargets filter.now page)) }
+    ensures stays { StaysIn S.Store change.old change.new result }
+    ensures reads { FindsIn S.Store change.old change.new result (λ now reply. reply_of reply ≡ query_reply now (ShowTargets filter.now page)) }
 {
     match filter {
         Some(text) => show_matching(alloc, change, text, page),
@@ -47,8 +47,8 @@ fn show_all<S: Alter>(
     change: &mut OpenChange<'_, S>,
     page: Page,
 ) -> Result<Reply, Fault>
-    ensures stays { StaysIn change.old change.new result }
-    ensures reads { ReadsIn S.Store change.old change.new result (λ now reply. reply_of reply ≡ query_reply now (ShowTargets None page)) }
+    ensures stays { StaysIn S.Store change.old change.new result }
+    ensures reads { FindsIn S.Store change.old change.new result (λ now reply. reply_of reply ≡ query_reply now (ShowTargets None page)) }
 {
     let total = change.read_target_count()?;
     let entries = change.read_targets(page)?;
@@ -62,8 +62,8 @@ fn read_entries<S: Alter>(
     change: &mut OpenChange<'_, S>,
     entries: Vec<ListedTarget>,
 ) -> Result<Vec<ShownTarget>, Fault>
-    ensures stays { StaysIn change.old change.new result }
-    ensures reads { ReadsIn S.Store change.old change.new result
+    ensures stays { StaysIn S.Store change.old change.new result }
+    ensures reads { FindsIn S.Store change.old change.new result
         (λ now content. content.items ≡ map (worded now) (map (target_listed now) entries.items)) }
 {
     let mut content = Vec::new(alloc);
@@ -85,8 +85,8 @@ fn show_matching<S: Alter>(
     text: &FilterText,
     page: Page,
 ) -> Result<Reply, Fault>
-    ensures stays { StaysIn change.old change.new result }
-    ensures reads { ReadsIn S.Store change.old change.new result (λ now reply. reply_of reply ≡ query_reply now (ShowTargets (Some text.now) page)) }
+    ensures stays { StaysIn S.Store change.old change.new result }
+    ensures reads { FindsIn S.Store change.old change.new result (λ now reply. reply_of reply ≡ query_reply now (ShowTargets (Some text.now) page)) }
 {
     let words = text.as_str();
     let filter = match Filter::read(alloc, words) {
@@ -106,8 +106,8 @@ fn read_matching<S: Alter>(
     filter: &Filter,
     page: Page,
 ) -> Result<PageOf<ShownTarget>, Fault>
-    ensures stays { StaysIn change.old change.new result }
-    ensures reads { ReadsIn S.Store change.old change.new result
+    ensures stays { StaysIn S.Store change.old change.new result }
+    ensures reads { FindsIn S.Store change.old change.new result
         (λ now shown. (f : Tree) → filter_of filter.now ≡ Some f → listed shown ≡ page_of page (matching_shown now f (map seen now.targets))) }
 {
     let count = change.read_target_count()?;
@@ -132,8 +132,8 @@ fn add_chunk<S: Alter>(
     offset: u32,
     shown: &mut PageOf<ShownTarget>,
 ) -> Result<(), Fault>
-    ensures stays { StaysIn change.old change.new result }
-    ensures reads { ReadsIn S.Store change.old change.new result
+    ensures stays { StaysIn S.Store change.old change.new result }
+    ensures reads { FindsIn S.Store change.old change.new result
         (λ now _. (f : Tree) → filter_of filter.now ≡ Some f → listed shown.old ≡ page_of page (matching_shown now f (map seen (take offset now.targets)))
         → listed shown.new ≡ page_of page (matching_shown now f (map seen (take (offset + 10000) now.targets)))) }
 {
@@ -153,8 +153,8 @@ fn add_matching<S: Alter>(
     entries: Vec<ListedTarget>,
     shown: &mut PageOf<ShownTarget>,
 ) -> Result<(), Fault>
-    ensures stays { StaysIn change.old change.new result }
-    ensures reads { ReadsIn S.Store change.old change.new result
+    ensures stays { StaysIn S.Store change.old change.new result }
+    ensures reads { FindsIn S.Store change.old change.new result
         (λ now _. (f : Tree) → filter_of filter.now ≡ Some f → (all : List ShownTarget) → listed shown.old ≡ page_of page all
         → listed shown.new ≡ page_of page (all ++ matching_shown now f (map (target_listed now) entries.items))) }
 {
@@ -172,8 +172,8 @@ fn add_if_match<S: Alter>(
     entry: ListedTarget,
     shown: &mut PageOf<ShownTarget>,
 ) -> Result<(), Fault>
-    ensures stays { StaysIn change.old change.new result }
-    ensures reads { ReadsIn S.Store change.old change.new result
+    ensures stays { StaysIn S.Store change.old change.new result }
+    ensures reads { FindsIn S.Store change.old change.new result
         (λ now _. (f : Tree) → filter_of filter.now ≡ Some f → (all : List ShownTarget) → listed shown.old ≡ page_of page all
         → listed shown.new ≡ page_of page (all ++ matching_shown now f (target_listed now entry ∷ []))) }
 {
@@ -193,8 +193,8 @@ fn add<S: Alter>(
     target: Target,
     shown: &mut PageOf<ShownTarget>,
 ) -> Result<(), Fault>
-    ensures stays { StaysIn change.old change.new result }
-    ensures reads { ReadsIn S.Store change.old change.new result
+    ensures stays { StaysIn S.Store change.old change.new result }
+    ensures reads { FindsIn S.Store change.old change.new result
         (λ now _. (all : List ShownTarget) → listed shown.old ≡ page_of page all → listed shown.new ≡ page_of page (all ++ worded now target ∷ [])) }
 {
     let place = shown.total;

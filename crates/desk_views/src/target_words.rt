@@ -6,8 +6,8 @@ ghost use Rattle.rollout_machine.specs.StateWords.{target_word};
 ghost use Rattle.campaign_core.specs.StatusWords.{target_word_from};
 ghost use Rattle.desk_records.specs.Actions.{tally_of};
 ghost use Rattle.desk_records.specs.RolloutRow.{actions_for};
-ghost use Rattle.desk_store.specs.Changing.{ReadsIn, StaysIn};
 ghost use Rattle.desk_views.specs.TargetWords.{is_begun, last_ending};
+ghost use Rattle.desk_store.specs.Changing.{FindsIn, StaysIn};
 
 use campaign_core::{TargetStatus, target_word};
 use desk_store::{Fault, ListedAction, OpenChange, StoredAction};
@@ -22,8 +22,8 @@ pub(crate) fn read_target_word<S: Alter>(
     change: &mut OpenChange<'_, S>,
     id: &ControllerId,
 ) -> Result<TargetWord, Fault>
-    ensures stays { StaysIn change.old change.new result }
-    ensures reads { ReadsIn S.Store change.old change.new result (λ now word. word ≡ target_word now id.now) }
+    ensures stays { StaysIn S.Store change.old change.new result }
+    ensures reads { FindsIn S.Store change.old change.new result (λ now word. word ≡ target_word now id.now) }
 {
     let status = read_status(change, id)?;
     Ok(target_word(&status))
@@ -34,8 +34,8 @@ fn read_status<S: Alter>(
     change: &mut OpenChange<'_, S>,
     id: &ControllerId,
 ) -> Result<TargetStatus, Fault>
-    ensures stays { StaysIn change.old change.new result }
-    ensures reads { ReadsIn S.Store change.old change.new result (λ now status. target_word_from status ≡ target_word now id.now) }
+    ensures stays { StaysIn S.Store change.old change.new result }
+    ensures reads { FindsIn S.Store change.old change.new result (λ now status. target_word_from status ≡ target_word now id.now) }
 {
     if change.read_offer(id)?.is_some() {
         return Ok(TargetStatus {
@@ -57,8 +57,8 @@ fn read_actions<S: Alter>(
     change: &mut OpenChange<'_, S>,
     id: &ControllerId,
 ) -> Result<Vec<ListedAction>, Fault>
-    ensures stays { StaysIn change.old change.new result }
-    ensures reads { ReadsIn S.Store change.old change.new result
+    ensures stays { StaysIn S.Store change.old change.new result }
+    ensures reads { FindsIn S.Store change.old change.new result
         (λ now actions. actions.items ≡ actions_for now.rollouts id.now 1 (zip now.actions (map tally_of now.actions))) }
 {
     let limit = ROLLOUT_LIMIT + 1;
@@ -74,8 +74,8 @@ fn read_last_ending<S: Alter>(
     change: &mut OpenChange<'_, S>,
     actions: Vec<ListedAction>,
 ) -> Result<Option<Outcome>, Fault>
-    ensures stays { StaysIn change.old change.new result }
-    ensures reads { ReadsIn S.Store change.old change.new result (λ now last. last ≡ last_ending now None actions.items) }
+    ensures stays { StaysIn S.Store change.old change.new result }
+    ensures reads { FindsIn S.Store change.old change.new result (λ now last. last ≡ last_ending now None actions.items) }
 {
     let mut left = actions;
     while let Some(listed) = left.pop() {
@@ -91,8 +91,8 @@ fn read_is_begun<S: Alter>(
     change: &mut OpenChange<'_, S>,
     action: &StoredAction,
 ) -> Result<bool, Fault>
-    ensures stays { StaysIn change.old change.new result }
-    ensures reads { ReadsIn S.Store change.old change.new result (λ now begun. begun ≡ is_begun now action.now) }
+    ensures stays { StaysIn S.Store change.old change.new result }
+    ensures reads { FindsIn S.Store change.old change.new result (λ now begun. begun ≡ is_begun now action.now) }
 {
     match change.read_holding_group(action.rollout, action.position)? {
         Some(group) => Ok(group.started),

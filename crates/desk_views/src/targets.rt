@@ -7,8 +7,8 @@ ghost use Rattle.rollout_machine.specs.Objects.{target_shown};
 ghost use Rattle.rollout_machine.specs.Requests.{ShowTarget};
 ghost use Rattle.rollout_machine.specs.Verdicts.{target_of};
 ghost use Rattle.rollout_machine.specs.Views.{reply_of, shown_target};
-ghost use Rattle.desk_store.specs.Changing.{ReadsIn, StaysIn};
 ghost use Rattle.desk_views.specs.Targets.{target_listed, worded};
+ghost use Rattle.desk_store.specs.Changing.{FindsIn, StaysIn};
 
 use crate::target_words::read_target_word;
 use desk_store::{Fault, ListedTarget, OpenChange, StoredTarget};
@@ -22,8 +22,8 @@ pub fn show_target<S: Alter>(
     change: &mut OpenChange<'_, S>,
     id: ControllerId,
 ) -> Result<Reply, Fault>
-    ensures stays { StaysIn change.old change.new result }
-    ensures reads { ReadsIn S.Store change.old change.new result (λ now reply. reply_of reply ≡ query_reply now (ShowTarget id)) }
+    ensures stays { StaysIn S.Store change.old change.new result }
+    ensures reads { FindsIn S.Store change.old change.new result (λ now reply. reply_of reply ≡ query_reply now (ShowTarget id)) }
 {
     match read_shown(change, id)? {
         Some(shown) => Ok(Reply::Target(shown)),
@@ -36,8 +36,8 @@ pub(crate) fn read_shown<S: Alter>(
     change: &mut OpenChange<'_, S>,
     id: ControllerId,
 ) -> Result<Option<ShownTarget>, Fault>
-    ensures stays { StaysIn change.old change.new result }
-    ensures reads { ReadsIn S.Store change.old change.new result
+    ensures stays { StaysIn S.Store change.old change.new result }
+    ensures reads { FindsIn S.Store change.old change.new result
         (λ now found. option_map shown_target found ≡ option_map (target_shown now) (target_of now id)) }
 {
     let stored = match change.read_target(&id)? {
@@ -63,8 +63,8 @@ pub fn read_listed<S: Alter>(
     change: &mut OpenChange<'_, S>,
     listed: ListedTarget,
 ) -> Result<Target, Fault>
-    ensures stays { StaysIn change.old change.new result }
-    ensures reads { ReadsIn S.Store change.old change.new result (λ now target. target ≡ target_listed now listed) }
+    ensures stays { StaysIn S.Store change.old change.new result }
+    ensures reads { FindsIn S.Store change.old change.new result (λ now target. target ≡ target_listed now listed) }
 {
     let words = change.read_target_tags(&listed.id)?;
     let attributes = change.read_target_attributes(&listed.id)?;
@@ -99,8 +99,8 @@ pub(crate) fn with_word<S: Alter>(
     change: &mut OpenChange<'_, S>,
     target: Target,
 ) -> Result<ShownTarget, Fault>
-    ensures stays { StaysIn change.old change.new result }
-    ensures reads { ReadsIn S.Store change.old change.new result (λ now shown. shown ≡ worded now target) }
+    ensures stays { StaysIn S.Store change.old change.new result }
+    ensures reads { FindsIn S.Store change.old change.new result (λ now shown. shown ≡ worded now target) }
 {
     let word = read_target_word(change, &target.id)?;
     Ok(shown_as(target, word))

@@ -4,8 +4,6 @@ use Rattle.std.specs.Prelude.{is_some}
 use Rattle.std.specs.Option.{is_none}
 use Rattle.sqlite.specs.Effect.{Database}
 use Rattle.sqlite.specs.State.{State}
-use Rattle.sql_calls.specs.Standing.{Reads}
-use Rattle.sql_calls.proofs.Changes.{spoils}
 use Rattle.rollout_machine.specs.Actions.{CancelEntry, DeploymentEntry, HistoryEntry, outcome_of_cancel, outcome_of_deployment}
 use Rattle.rollout_machine.specs.ByteStrings.{same_bytes}
 use Rattle.rollout_machine.specs.CommandList.{CommandList}
@@ -39,11 +37,6 @@ use Rattle.rollout_desk.specs.declared.seen_actions.SeenReport.{SeenReport}
 use Rattle.rollout_desk.specs.declared.step.Step.{Step}
 use Rattle.rollout_desk.proofs.ActingEnds.{acts}
 use Rattle.rollout_desk.proofs.KnownActions.{IsKnown, cancel_viewed, known, report_viewed, seen_at}
-
--- it stops after a read
-pub read_then_stops : {A E F : Type 0} (Holds : Database → Records → Type 0) (command : Command) (a b : State) (x : A) (P : Records → A → Type 0) → Reads Holds {E = E} a b (Ok x) P → (out : Result Step F) → IsErr out → Steps Holds a b command out
-read_then_stops Holds command a b x P read (Ok y) bad = absurd (cc)
-read_then_stops Holds command a b x P read (Err e) bad = record { wears = read.wears; steps = λ h kept valid was. spoils Holds b (records h) kept (read.reads (records h) kept was).0 }
 
 -- ---- which action was seen
 

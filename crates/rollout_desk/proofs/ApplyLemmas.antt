@@ -4,9 +4,8 @@ use Rattle.std.proofs.lemmas.Bool.{cases_Bool, false≢true}
 use Rattle.sqlite.specs.Tree.{Trees}
 use Rattle.sqlite.specs.Effect.{Database}
 use Rattle.sqlite.specs.State.{State, HasCleanDisk}
-use Rattle.sql_calls.specs.Standing.{HoldIn, IsAtRest, IsInDoubt, Rests, Changes, Spoils, Begins, Keeps}
+use Rattle.sql_calls.specs.Standing.{HoldIn, IsAtRest, Rests, Doubts, Begins, Keeps, Finds, Opens, Sees, Spoiled, Wears}
 use Rattle.rollout_model.specs.declared.request.Reply as model
-use Rattle.sql_calls.proofs.Changes.{spoils}
 use Rattle.rollout_machine.specs.Answers.{Answer, answer, query_reply}
 use Rattle.rollout_machine.specs.CommandList.{CommandList, ◌▸◌, followed_by}
 use Rattle.rollout_machine.specs.CommandRules.{IsWellFormed}
@@ -31,7 +30,8 @@ use Rattle.rollout_machine.specs.StoreFailures.{is_failed_store}
 use Rattle.rollout_machine.proofs.StoreFailures.{failed_true}
 use Rattle.rollout_desk.specs.Steps.{refusal_of_fault, Steps, Handles, EndsByCommit, EndsByRollback}
 use Rattle.rollout_desk.specs.declared.step.Step.TheVariants as step
-use Rattle.desk_views.specs.Showing.{Shows}
+use Rattle.desk_records.specs.Holds.{HoldsLedger, HoldsRecords, Ledger, ledger_of}
+use Rattle.desk_views.specs.Showing.{AreOfList}
 
 -- ---- the reply of a failed store
 
@@ -54,7 +54,7 @@ fault_fails Store reply is = inr is
 
 module _ (Holds : Database → Records → Type 0) where
   pub stands : (s : State) (h : CommandList) → IsValid h → IsAtRest Holds s (records h) → StandsFor (desk_state_at Holds false s) h
-  stands s h valid rest = record { runs = refl; valid = valid; shows = rest; crash = λ db left. (valid, rest.crash db left) }
+  stands s h valid rest = record { runs = refl; valid = valid; shows = rest; crash = λ db left. (valid, rest.held.crash db left) }
 
   -- ---- what the desk is after a reply
 
@@ -82,84 +82,113 @@ module _ (Holds : Database → Records → Type 0) where
 
     failed : IsFailure reply → IsAtRest Holds s (records h) → AppliesAt h (desk_state_at Holds (is_failed_store reply) s) (Asks request) reply
     failed (inl is) rest = without_memory is rest
-    failed (inr is) rest = left_alone is rest.crash
+    failed (inr is) rest = left_alone is rest.held.crash
 
     answered : (accepted : Option Command) → record { reply = reply; accepted = accepted } ≡ answer h (Asks request) → StandsFor (desk_state_at Holds false s) (followed_by h (one accepted)) → AppliesAt h (desk_state_at Holds (is_failed_store reply) s) (Asks request) reply
     answered accepted is standing =
         let never : reply ≢ Refused StoreFailed = λ failed. answer_never_stores h request (ap (λ (a : Answer). a.reply) (sym is) ∙ failed) in
         record { accepted = accepted; answers = inr (inr (never, is)); becomes = becomes_list s h reply accepted never standing }
 
-  -- ---- no change begins
+-- ---- what stands, said of records and of the ledger that they are kept in
 
-  pub unbegun : (a b : State) (request : Request) (reply : Reply) → Keeps Holds a b → IsFailure reply → Handles Holds a b request reply
-  unbegun a b request reply keeps bad = record { wears = keeps.wears; handles = λ h clean was. failed h was.valid b request reply bad (keeps.rests (records h) (λ c. was.shows) clean) }
+pub rests_ledger : (s : State) (r : Records) → Rests HoldsRecords s r → Rests HoldsLedger s (ledger_of r)
+rests_ledger s r was clean = let it = was clean in record { mode = it.mode; held = record { ended = it.held.ended; kept_holds = it.held.kept_holds; crash = it.held.crash } }
 
-  module _ (a b : State) (begins : Begins Holds a b) (c d : State) where
-    -- ---- a change that is given up
+pub rests_records : (s : State) (r : Records) → Rests HoldsLedger s (ledger_of r) → Rests HoldsRecords s r
+rests_records s r was clean = let it = was clean in record { mode = it.mode; held = record { ended = it.held.ended; kept_holds = it.held.kept_holds; crash = it.held.crash } }
+
+pub stood : (s : State) (h : CommandList) → StandsFor (desk_state_at HoldsRecords false s) h → Rests HoldsLedger s (ledger_of (records h))
+stood s h was = rests_ledger s (records h) (λ clean. was.shows)
+
+-- ---- no change begins
+
+pub unbegun : (a b : State) (request : Request) (reply : Reply) → Keeps HoldsLedger a b → IsFailure reply → Handles HoldsRecords a b request reply
+unbegun a b request reply keeps bad = record { wears = keeps.wears; handles = λ h clean was. failed HoldsRecords h was.valid b request reply bad (rests_records b (records h) (keeps.rests (ledger_of (records h)) (stood a h was)) clean) }
+
+module _ (a b : State) (begins : Begins HoldsLedger a b) (c d : State) where
+  seen : (h : CommandList) → StandsFor (desk_state_at HoldsRecords false a) h → Sees HoldsLedger b (ledger_of (records h))
+  seen h was = begins.sees (ledger_of (records h)) (stood a h was)
+
+  opened : (h : CommandList) → StandsFor (desk_state_at HoldsRecords false a) h → Opens HoldsLedger b (ledger_of (records h))
+  opened h was = begins.opens (ledger_of (records h)) (stood a h was)
+
+  -- what a call inside leaves can be given up
+  abbrev pub LeavesSpoiled : Type 0
+  LeavesSpoiled = (kept : Ledger) → Opens HoldsLedger b kept → Spoiled HoldsLedger c kept
+
+  -- ---- a change that is given up
+
+  module _ (request : Request) (made : Reply) (wears : Wears b c) (leaves : LeavesSpoiled) where
+    lost_alone : (h : CommandList) (reply : Reply) → HasCleanDisk d → StandsFor (desk_state_at HoldsRecords false a) h → reply ≡ Refused StoreFailed
+        → ((kept : Ledger) → Spoiled HoldsLedger c kept → Doubts HoldsLedger d kept kept) → AppliesAt h (desk_state_at HoldsRecords (is_failed_store reply) d) (Asks request) reply
+    lost_alone h reply clean was is doubts = left_alone HoldsRecords h was.valid d request reply is (λ db left. elim ((doubts _ (leaves _ (opened h was)) clean).crash db left) [ inl one ↦ one | inr one ↦ one ])
 
     -- what was found inside is the answer, and nothing is accepted
-    pub found : (request : Request) (made : Reply) (Says : Records → Type 0) → ((h : CommandList) → IsValid h → Says (records h) → record { reply = made; accepted = None } ≡ answer h (Asks request)) → (wears : Rattle.sql_calls.specs.Standing.Wears b c)
-        → ((h : CommandList) (kept : Records) → IsValid h → Changes Holds b (records h) kept → Spoils Holds c kept × (HasCleanDisk c → Says (records h))) → (reply : Reply) → EndsByRollback Holds c d made reply → Handles Holds a d request reply
-    found request made Says means wears inside reply ends = record {
+    pub found : (Says : Records → Type 0) → ((h : CommandList) → IsValid h → Says (records h) → record { reply = made; accepted = None } ≡ answer h (Asks request))
+        → ((h : CommandList) → IsValid h → Sees HoldsLedger b (ledger_of (records h)) → HasCleanDisk c → Says (records h)) → (reply : Reply) → EndsByRollback c d made reply → Handles HoldsRecords a d request reply
+    found Says means says reply ends = record {
       wears = omega (arith, begins.wears, wears, ends.wears);
-      handles = λ h clean was.
-          let r = records h in
-          let done = inside h r was.valid (begins.begun r (λ known. was.shows)) in
-          let spoiled = done.0 in
-          elim ends.ends [
-            | inl it ↦ answered h was.valid d request reply None (ap (λ (x : Reply). record { reply = x; accepted = None }) it.0 ∙ means h was.valid (done.1 (omega (arith, clean, ends.wears)))) (stands d h was.valid (it.1 r spoiled clean))
-            | inr it ↦ left_alone h was.valid d request reply it.0 (λ db left. elim ((it.1 r spoiled clean).crash db left) [ inl one ↦ one | inr one ↦ one ])
-          ];
+      handles = λ h clean was. elim ends.ends [
+        | inl it ↦ answered HoldsRecords h was.valid d request reply None (ap (λ (x : Reply). record { reply = x; accepted = None }) it.0 ∙ means h was.valid (says h was.valid (seen h was) (omega (arith, clean, ends.wears))))
+            (stands HoldsRecords d h was.valid (rests_records d (records h) (it.1 _ (leaves _ (opened h was))) clean))
+        | inr it ↦ lost_alone h reply clean was it.0 it.1
+      ];
     }
 
     -- something failed inside
-    pub lost : (request : Request) (made : Reply) → IsFailure made → (wears : Rattle.sql_calls.specs.Standing.Wears b c)
-        → ((h : CommandList) (kept : Records) → IsValid h → Changes Holds b (records h) kept → Spoils Holds c kept) → (reply : Reply) → EndsByRollback Holds c d made reply → Handles Holds a d request reply
-    lost request made bad wears inside reply ends = record {
+    pub lost : IsFailure made → (reply : Reply) → EndsByRollback c d made reply → Handles HoldsRecords a d request reply
+    lost bad reply ends = record {
       wears = omega (arith, begins.wears, wears, ends.wears);
-      handles = λ h clean was.
-          let r = records h in
-          let spoiled = inside h r was.valid (begins.begun r (λ known. was.shows)) in
-          elim ends.ends [
-            | inl it ↦ failed h was.valid d request reply (subst IsFailure (sym it.0) bad) (it.1 r spoiled clean)
-            | inr it ↦ left_alone h was.valid d request reply it.0 (λ db left. elim ((it.1 r spoiled clean).crash db left) [ inl one ↦ one | inr one ↦ one ])
-          ];
+      handles = λ h clean was. elim ends.ends [
+        | inl it ↦ failed HoldsRecords h was.valid d request reply (subst IsFailure (sym it.0) bad) (rests_records d (records h) (it.1 _ (leaves _ (opened h was))) clean)
+        | inr it ↦ lost_alone h reply clean was it.0 it.1
+      ];
     }
 
-    -- ---- a command
+  -- a call inside went well
+  abbrev GoesOn : Type 0
+  GoesOn = (kept : Ledger) → Opens HoldsLedger b kept → Opens HoldsLedger c kept
 
-    pub refused : {E : Type 0} (command : Command) (refusal : Refusal) → Steps Holds {E = E} b c command (Ok (step.Refused refusal)) → (reply : Reply) → EndsByRollback Holds c d (Refused refusal) reply → Handles Holds a d (Do command) reply
-    refused command refusal steps reply ends = found (Do command) (Refused refusal) (λ (r : Records). check r command ≡ Some refusal) (λ h valid is. sym (refused_answer h command refusal is)) steps.wears steps.steps reply ends
+  spoils : GoesOn → LeavesSpoiled
+  spoils goes kept was = (goes kept was).spoiled
 
-    pub broken : {E : Type 0} (command : Command) (e : E) → Steps Holds b c command (Err e) → (made : Reply) → IsFailure made → (reply : Reply) → EndsByRollback Holds c d made reply → Handles Holds a d (Do command) reply
-    broken command e steps made bad reply ends = lost (Do command) made bad steps.wears steps.steps reply ends
+  -- ---- a command
 
-    pub accepted : {E : Type 0} (command : Command) → IsWellFormed command → (rust : model.Reply) → Steps Holds {E = E} b c command (Ok (step.Accepted rust)) → (reply : Reply) → EndsByCommit Holds c d (reply_of rust) reply → Handles Holds a d (Do command) reply
-    accepted command good rust steps reply ends = record {
+  module _ (command : Command) where
+    pub refused : {E : Type 0} (refusal : Refusal) → GoesOn → Steps {E = E} b c command (Ok (step.Refused refusal)) → (reply : Reply) → EndsByRollback c d (Refused refusal) reply → Handles HoldsRecords a d (Do command) reply
+    refused refusal goes steps = found (Do command) (Refused refusal) steps.wears (spoils goes) (λ (r : Records). check r command ≡ Some refusal) (λ h valid is. sym (refused_answer h command refusal is)) steps.steps
+
+    pub broken : (made : Reply) → LeavesSpoiled → Wears b c → IsFailure made → (reply : Reply) → EndsByRollback c d made reply → Handles HoldsRecords a d (Do command) reply
+    broken made leaves wears = lost (Do command) made wears leaves
+
+    pub accepted : {E : Type 0} → IsWellFormed command → (rust : model.Reply) → GoesOn → Steps {E = E} b c command (Ok (step.Accepted rust)) → (reply : Reply) → EndsByCommit c d (reply_of rust) reply → Handles HoldsRecords a d (Do command) reply
+    accepted good rust goes steps reply ends = record {
       wears = omega (arith, begins.wears, steps.wears, ends.wears);
       handles = λ h clean was.
           let r = records h in
-          let done = steps.steps h r was.valid (begins.begun r (λ known. was.shows)) in
+          let done = steps.steps h was.valid (seen h was) in
           let facts = done.1 (omega (arith, clean, ends.wears)) in
           let follows = records_step h command was.valid facts.0 in
           let longer : IsValid (h ▸ command) = (was.valid, good, facts.0) in
           let is = accepted_step h command was.valid facts.0 in
           elim ends.ends [
-            | inl it ↦ answered h was.valid d (Do command) reply (Some command) (ap (λ (x : Reply). record { reply = x; accepted = Some command }) (it.0 ∙ facts.1) ∙ sym is)
-                (stands d (h ▸ command) longer (subst (IsAtRest Holds d) (sym follows) (it.1 (step_records r command) r done.0 clean)))
-            | inr it ↦ in_doubt h was.valid d (Do command) reply it.0 (λ db left. elim ((it.1 (step_records r command) r done.0 clean).crash db left) [
+            | inl it ↦ answered HoldsRecords h was.valid d (Do command) reply (Some command) (ap (λ (x : Reply). record { reply = x; accepted = Some command }) (it.0 ∙ facts.1) ∙ sym is)
+                (stands HoldsRecords d (h ▸ command) longer (subst (IsAtRest HoldsRecords d) (sym follows) (rests_records d (step_records r command) (it.1 _ done.0) clean)))
+            | inr it ↦ in_doubt HoldsRecords h was.valid d (Do command) reply it.0 (λ db left. elim ((it.1 _ _ done.0 (spoils goes _ (opened h was)) clean).crash db left) [
               | inl one ↦ inl (was.valid, one)
-              | inr one ↦ inr (subst (λ (o : Option Command). HoldsList Holds db (followed_by h (Rattle.rollout_machine.specs.Requests.one o))) (sym (ap (λ (x : Answer). x.accepted) is)) (longer, subst (HoldIn Holds db) (sym follows) one))
+              | inr one ↦ inr (subst (λ (o : Option Command). HoldsList HoldsRecords db (followed_by h (Rattle.rollout_machine.specs.Requests.one o))) (sym (ap (λ (x : Answer). x.accepted) is)) (longer, subst (HoldIn HoldsRecords db) (sym follows) one))
             ])
           ];
     }
 
-    -- ---- a query
+  -- ---- a query
 
-    pub shown : {E : Type 0} (query : Query) (rust : model.Reply) → Shows Holds {E = E} b c query (Ok rust) → (reply : Reply) → EndsByRollback Holds c d (reply_of rust) reply → Handles Holds a d (Ask query) reply
-    shown query rust shows reply ends =
-        found (Ask query) (reply_of rust) (λ (r : Records). reply_of rust ≡ query_reply r query) (λ h valid is. ap (λ (x : Reply). record { reply = x; accepted = None }) is ∙ sym (query_answer h query)) shows.wears
-        (λ h kept valid was. let it = shows.reads (records h) kept was in (spoils Holds c (records h) kept it.0, λ clean. it.1 clean (record { list = h; valid = valid; are = refl }))) reply ends
+  module _ (query : Query) where
+    pub shown : {E : Type 0} (rust : model.Reply) → GoesOn → Finds HoldsLedger ledger_of {E = E} b c (Ok rust) (λ r reply. AreOfList r → reply_of reply ≡ query_reply r query) → (reply : Reply) → EndsByRollback c d (reply_of rust) reply
+        → Handles HoldsRecords a d (Ask query) reply
+    shown rust goes shows = found (Ask query) (reply_of rust) shows.wears (spoils goes) (λ (r : Records). reply_of rust ≡ query_reply r query)
+        (λ h valid is. ap (λ (x : Reply). record { reply = x; accepted = None }) is ∙ sym (query_answer h query))
+        (λ h valid was clean. (shows.finds (records h) was).1 clean (record { list = h; valid = valid; are = refl }))
 
-    pub unshown : {E : Type 0} (query : Query) (e : E) → Shows Holds b c query (Err e) → (made : Reply) → IsFailure made → (reply : Reply) → EndsByRollback Holds c d made reply → Handles Holds a d (Ask query) reply
-    unshown query e shows made bad reply ends = lost (Ask query) made bad shows.wears (λ h kept valid was. shows.reads (records h) kept was) reply ends
+    pub unshown : (made : Reply) → LeavesSpoiled → Wears b c → IsFailure made → (reply : Reply) → EndsByRollback c d made reply → Handles HoldsRecords a d (Ask query) reply
+    unshown made leaves wears = lost (Ask query) made wears leaves

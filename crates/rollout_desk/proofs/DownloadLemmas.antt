@@ -2,11 +2,10 @@
 use Rattle.std.proofs.Common.{◌≡◌, ◌≢◌, ◌≤◌, ◌<◌, inl, inr, ◌+◌, ◌*◌, ◌++◌, ℕ, zero, suc, List, [], ◌∷◌, Bool, true, false, cond, nat_eq, take, drop, Vec, Option, Some, None, Result, Ok, Err, IfOk, refl, sym, subst, ap, ◌∙◌, arith}
 use Rattle.std.specs.declared.alloc.Global.{Global}
 use Rattle.std.specs.Option.{option_map}
-use Rattle.sqlite.specs.Effect.{Database}
 use Rattle.sqlite.specs.State.{State}
-use Rattle.sql_calls.specs.Standing.{Begins as BeginsChange, Changes, Doubts, Keeps, Reads, Rests, Spoils, Wears}
+use Rattle.sql_calls.specs.Standing.{Begins as BeginsChange, Doubts, Finds, Keeps, Opens, Rests, Spoiled, Wears}
 use Rattle.sql_calls.specs.declared.fault.Fault.{Fault}
-use Rattle.sql_calls.proofs.Changes.{spoils}
+use Rattle.desk_records.specs.Holds.{HoldsLedger, HoldsRecords, Ledger, ledger_of}
 use Rattle.desk_records.specs.Artifacts.{piece_numbered, pieces_of_artifact}
 use Rattle.desk_views.specs.Downloads.{downloadable}
 use Rattle.desk_views.proofs.DeviceViews.{answered_by}
@@ -35,7 +34,7 @@ use Rattle.rollout_desk.specs.Downloads.{artifact_in, BeginsOffered, HandsItsArt
 use Rattle.rollout_desk.specs.Looks.{EndsLook, FindsDownload, Looks, bytes_of}
 use Rattle.rollout_desk.specs.Steps.{Handles, refusal_of_fault}
 use Rattle.rollout_machine.specs.StoreFailures.{is_store}
-use Rattle.rollout_desk.proofs.ApplyLemmas.{fault_fails, found as found_inside, lost, stands, unbegun}
+use Rattle.rollout_desk.proofs.ApplyLemmas.{fault_fails, found as found_inside, lost, stands, unbegun, rests_records, stood}
 use Rattle.rollout_desk.proofs.DeskLemmas.{answers}
 use Rattle.rollout_desk.specs.Promises.{IsPromised}
 use Rattle.rollout_desk.proofs.PromiseLemmas.{downloaded}
@@ -53,15 +52,15 @@ one_more p = record p { pieces = p.pieces + 1 }
 abbrev IsNextPiece : Download → Records → Option (Vec ℕ Global) → Type 0
 IsNextPiece p r found = bytes_of found ≡ piece_numbered r.artifacts p.number (p.pieces + 1)
 
-module _ (Holds : Database → Records → Type 0) (was : Bool) (a b : State) (p : Download) where
-  pub handed : (found : Found) (piece : Vec ℕ Global) → Looks Holds a b found (IsNextPiece p) → found ≡ Ok (Some piece) → 1 ≤ next_length p → was ≡ false
-      → HandsPieces (desk_state_at Holds was a) (desk_state_at Holds was b) p (one_more p) (Ok (Some piece))
+module _ (was : Bool) (a b : State) (p : Download) where
+  pub handed : (found : Found) (piece : Vec ℕ Global) → Looks HoldsRecords a b found (IsNextPiece p) → found ≡ Ok (Some piece) → 1 ≤ next_length p → was ≡ false
+      → HandsPieces (desk_state_at HoldsRecords was a) (desk_state_at HoldsRecords was b) p (one_more p) (Ok (Some piece))
   handed found piece look is more runs h contents clean standing sends =
-      let looked : Looks Holds a b (Ok (Some piece)) (IsNextPiece p) = subst (λ x. Looks Holds a b x (IsNextPiece p)) is look in
+      let looked : Looks HoldsRecords a b (Ok (Some piece)) (IsNextPiece p) = subst (λ x. Looks HoldsRecords a b x (IsNextPiece p)) is look in
       let it = looked.looks (records h) (λ _. standing.shows) in
       let before : p.pieces * piece_length < p.size = omega (arith, more) in
       let next : piece.items ≡ take piece_length (drop (p.pieces * piece_length) contents) = piece_is (records h) p.number p.pieces contents piece.items sends.artifact (it.1 clean) in (
-        subst (λ (x : Bool). StandsFor (desk_state_at Holds x b) h) (sym runs) (stands Holds b h standing.valid (it.0 clean)),
+        subst (λ (x : Bool). StandsFor (desk_state_at HoldsRecords x b) h) (sym runs) (stands HoldsRecords b h standing.valid (it.0 clean)),
         record { artifact = sends.artifact; size = sends.size },
         record {
           next = next ∙ ap (λ n. take piece_length (drop n contents)) (sym (so_far contents p.size p.pieces sends.size before));
@@ -85,12 +84,12 @@ next_of h p piece is = go (item_numbered (records h).artifacts p.number) refl wh
       let has : option_map (λ (x : ArtifactRecord). x.contents) (item_numbered (records h).artifacts p.number) ≡ Some a.contents = ap (option_map (λ (x : ArtifactRecord). x.contents)) at in
       record { contents = a.contents; artifact = has; next = piece_is (records h) p.number p.pieces a.contents piece has is }
 
-module _ (Holds : Database → Records → Type 0) (was : Bool) (a b : State) (p : Download) where
-  pub own_piece : (found : Found) (piece : Vec ℕ Global) → Looks Holds a b found (IsNextPiece p) → found ≡ Ok (Some piece) → was ≡ false → HandsItsArtifact (desk_state_at Holds was a) (desk_state_at Holds was b) p (Ok (Some piece))
+module _ (was : Bool) (a b : State) (p : Download) where
+  pub own_piece : (found : Found) (piece : Vec ℕ Global) → Looks HoldsRecords a b found (IsNextPiece p) → found ≡ Ok (Some piece) → was ≡ false → HandsItsArtifact (desk_state_at HoldsRecords was a) (desk_state_at HoldsRecords was b) p (Ok (Some piece))
   own_piece found piece look is runs h clean standing =
-      let looked : Looks Holds a b (Ok (Some piece)) (IsNextPiece p) = subst (λ x. Looks Holds a b x (IsNextPiece p)) is look in
+      let looked : Looks HoldsRecords a b (Ok (Some piece)) (IsNextPiece p) = subst (λ x. Looks HoldsRecords a b x (IsNextPiece p)) is look in
       let it = looked.looks (records h) (λ _. standing.shows) in
-      (subst (λ (x : Bool). StandsFor (desk_state_at Holds x b) h) (sym runs) (stands Holds b h standing.valid (it.0 clean)), next_of h p piece.items (it.1 clean))
+      (subst (λ (x : Bool). StandsFor (desk_state_at HoldsRecords x b) h) (sym runs) (stands HoldsRecords b h standing.valid (it.0 clean)), next_of h p piece.items (it.1 clean))
 
 -- ---- the first answer
 
@@ -199,68 +198,72 @@ module _ {File : Type 0} (old new : DeskState File) (m k : ℕ) where
 
 -- ---- what a device downloads
 
-module _ (Holds : Database → Records → Type 0) (a : State) (device : Credential) (m : ℕ) (filename : Bytes) where
+module _ (a : State) (device : Credential) (m : ℕ) (filename : Bytes) where
   abbrev request : Request
   request = Ask (DownloadOf device m filename)
 
-  finds_none : (b : State) (refusal : Refusal) → Handles Holds a b request (Refused refusal) → FindsDownload Holds a b device m filename (Err refusal)
+  finds_none : (b : State) (refusal : Refusal) → Handles HoldsRecords a b request (Refused refusal) → FindsDownload HoldsRecords a b device m filename (Err refusal)
   finds_none b refusal h = record { wears = h.wears; finds = h.handles }
 
-  pub not_looked : (b : State) (fault : Fault) (refusal : Refusal) → Keeps Holds a b → refusal ≡ refusal_of_fault fault → FindsDownload Holds a b device m filename (Err refusal)
-  not_looked b fault refusal keeps is = finds_none b refusal (unbegun Holds a b request (Refused refusal) keeps (fault_fails fault (Refused refusal) (ap Refused is)))
+  pub not_looked : (b : State) (fault : Fault) (refusal : Refusal) → Keeps HoldsLedger a b → refusal ≡ refusal_of_fault fault → FindsDownload HoldsRecords a b device m filename (Err refusal)
+  not_looked b fault refusal keeps is = finds_none b refusal (unbegun a b request (Refused refusal) keeps (fault_fails fault (Refused refusal) (ap Refused is)))
 
-  module _ (b : State) (begins : BeginsChange Holds a b) (c d : State) where
-    abbrev Finds : Result Artifact Refusal → Type 0
-    Finds result = FindsDownload Holds a d device m filename result
+  module _ (b : State) (begins : BeginsChange HoldsLedger a b) (c d : State) where
+    abbrev FindsIt : Result Artifact Refusal → Type 0
+    FindsIt result = FindsDownload HoldsRecords a d device m filename result
 
     abbrev IsFound : Records → Result Artifact Refusal → Type 0
     IsFound r found = found ≡ downloadable r device m filename
 
-    abbrev IsSpoiledInside : Type 0
-    IsSpoiledInside = (h : CommandList) (kept : Records) → IsValid h → Changes Holds b (records h) kept → Spoils Holds c kept
+    abbrev Leaves : Type 0
+    Leaves = (kept : Ledger) → Opens HoldsLedger b kept → Spoiled HoldsLedger c kept
 
     -- the change can't be given up
-    not_given_up : (wears : Wears b c) → IsSpoiledInside → (last : Wears c d) → ((kept : Records) → Spoils Holds c kept → Doubts Holds d kept kept) → Finds (Err StoreFailed)
-    not_given_up wears inside last doubts = finds_none d StoreFailed (lost Holds a b begins c d request (Refused StoreFailed) (inr refl) wears inside (Refused StoreFailed) (record { wears = last; ends = inr (refl, doubts) }))
+    not_given_up : (wears : Wears b c) → Leaves → (last : Wears c d) → ((kept : Ledger) → Spoiled HoldsLedger c kept → Doubts HoldsLedger d kept kept) → FindsIt (Err StoreFailed)
+    not_given_up wears leaves last doubts = finds_none d StoreFailed (lost a b begins c d request (Refused StoreFailed) wears leaves (inr refl) (Refused StoreFailed) (record { wears = last; ends = inr (refl, doubts) }))
 
-    given_up : {E : Type 0} (found : Result Artifact Refusal) → Reads Holds {E = E} b c (Ok found) IsFound → (last : Wears c d) → ((kept : Records) → Spoils Holds c kept → Rests Holds d kept) → Finds found
-    given_up (Ok s) reads last rests = record {
+    given_up : {E : Type 0} (found : Result Artifact Refusal) → Leaves → Finds HoldsLedger ledger_of {E = E} b c (Ok found) IsFound → (last : Wears c d) → ((kept : Ledger) → Spoiled HoldsLedger c kept → Rests HoldsLedger d kept) → FindsIt found
+    given_up (Ok s) leaves reads last rests = record {
       wears = omega (arith, begins.wears, reads.wears, last);
       finds = λ h clean was.
-          let it = reads.reads (records h) (records h) (begins.begun (records h) (λ known. was.shows)) in
-          (stands Holds d h was.valid (rests (records h) (spoils Holds c (records h) (records h) it.0) clean), it.1 (omega (arith, clean, last)));
+          let rested = stood a h was in (
+            stands HoldsRecords d h was.valid (rests_records d (records h) (rests _ (leaves _ (begins.opens _ rested))) clean),
+            (reads.finds (records h) (begins.sees _ rested)).1 (omega (arith, clean, last)),
+          );
     }
-    given_up (Err refusal) reads last rests = finds_none d refusal (found_inside Holds a b begins c d request (Refused refusal) (λ r. IsFound r (Err refusal))
+    given_up (Err refusal) leaves reads last rests = finds_none d refusal (found_inside a b begins c d request (Refused refusal) reads.wears leaves (λ r. IsFound r (Err refusal))
         (λ h valid is. (λ i. record { reply = sym (answered_by m filename (records h) device (Err refusal) is) i; accepted = None }) ∙ sym (query_answer h (DownloadOf device m filename)))
-        reads.wears (λ h kept valid was. let it = reads.reads (records h) kept was in (spoils Holds c (records h) kept it.0, it.1)) (Refused refusal) (record { wears = last; ends = inl (refl, rests) }))
+        (λ h valid was. (reads.finds (records h) was).1) (Refused refusal) (record { wears = last; ends = inl (refl, rests) }))
 
-    pub looked_for : {E : Type 0} (found result : Result Artifact Refusal) → Reads Holds {E = E} b c (Ok found) IsFound → EndsLook Holds c d found result → Finds result
-    looked_for found result reads ends = elim ends.ends [
-      | inl it ↦ subst Finds (sym it.0) (given_up found reads ends.wears it.1)
-      | inr it ↦ subst Finds (sym it.0) (not_given_up reads.wears (λ h kept valid was. spoils Holds c (records h) kept (reads.reads (records h) kept was).0) ends.wears it.1)
-    ]
+    pub looked_for : {E : Type 0} (found result : Result Artifact Refusal) → ((kept : Ledger) → Opens HoldsLedger b kept → Opens HoldsLedger c kept) → Finds HoldsLedger ledger_of {E = E} b c (Ok found) IsFound → EndsLook c d found result → FindsIt result
+    looked_for found result goes reads ends =
+        let leaves : Leaves = λ kept was. (goes kept was).spoiled in
+        elim ends.ends [
+          | inl it ↦ subst FindsIt (sym it.0) (given_up found leaves reads ends.wears it.1)
+          | inr it ↦ subst FindsIt (sym it.0) (not_given_up reads.wears leaves ends.wears it.1)
+        ]
 
-    pub looked_in_vain : {E : Type 0} (e : E) (fault : Fault) (refusal : Refusal) (result : Result Artifact Refusal) → Reads Holds b c (Err e) IsFound → refusal ≡ refusal_of_fault fault → EndsLook Holds c d (Err refusal) result → Finds result
-    looked_in_vain e fault refusal result reads is ends = elim ends.ends [
-      | inl it ↦ subst Finds (sym it.0) (finds_none d refusal (lost Holds a b begins c d request (Refused refusal) (fault_fails fault (Refused refusal) (ap Refused is)) reads.wears (λ h kept valid was. reads.reads (records h) kept was) (Refused refusal) (record { wears = ends.wears; ends = inl (refl, it.1) })))
-      | inr it ↦ subst Finds (sym it.0) (not_given_up reads.wears (λ h kept valid was. reads.reads (records h) kept was) ends.wears it.1)
+    pub looked_in_vain : (fault : Fault) (refusal : Refusal) (result : Result Artifact Refusal) → Leaves → (wears : Wears b c) → refusal ≡ refusal_of_fault fault → EndsLook c d (Err refusal) result → FindsIt result
+    looked_in_vain fault refusal result leaves wears is ends = elim ends.ends [
+      | inl it ↦ subst FindsIt (sym it.0) (finds_none d refusal (lost a b begins c d request (Refused refusal) wears leaves (fault_fails fault (Refused refusal) (ap Refused is)) (Refused refusal) (record { wears = ends.wears; ends = inl (refl, it.1) })))
+      | inr it ↦ subst FindsIt (sym it.0) (not_given_up wears leaves ends.wears it.1)
     ]
 
   -- of a desk that runs
   module _ (was : Bool) (runs : was ≡ false) (b : State) where
-    pub offered_begins : (s : Artifact) → FindsDownload Holds a b device m filename (Ok s) → Begins (desk_state_at Holds was a) (desk_state_at Holds was b) (Asks request) (Ok (record { number = s.number; size = s.size; pieces = 0 }))
+    pub offered_begins : (s : Artifact) → FindsDownload HoldsRecords a b device m filename (Ok s) → Begins (desk_state_at HoldsRecords was a) (desk_state_at HoldsRecords was b) (Asks request) (Ok (record { number = s.number; size = s.size; pieces = 0 }))
     offered_begins s found h clean standing =
-        let it = found.finds h clean (subst (λ (x : Bool). StandsFor (desk_state_at Holds x a) h) runs standing) in
+        let it = found.finds h clean (subst (λ (x : Bool). StandsFor (desk_state_at HoldsRecords x a) h) runs standing) in
         let of = answered_by m filename (records h) device (Ok s) it.1 in record {
-          stands = subst (λ (x : Bool). StandsFor (desk_state_at Holds x b) h) (sym runs) it.0;
+          stands = subst (λ (x : Bool). StandsFor (desk_state_at HoldsRecords x b) h) (sym runs) it.0;
           contents = of.0.contents;
           answer = query_answer h (DownloadOf device m filename) ∙ ap answered of.1;
           sends = record { artifact = ap (option_map (λ (x : ArtifactRecord). x.contents)) of.2; size = of.3 ∙ size_is h s.number of.0 of.2 };
           start = omega arith;
         }
 
-    pub offered_refused : (refusal : Refusal) (stopped : Bool) → FindsDownload Holds a b device m filename (Err refusal) → stopped ≡ is_store refusal → Applies (desk_state_at Holds was a) (desk_state_at Holds stopped b) (Asks request) (Refused refusal)
-    offered_refused refusal stopped found is = answers Holds a b was stopped request (Refused refusal) runs (record { wears = found.wears; handles = found.finds }) is
+    pub offered_refused : (refusal : Refusal) (stopped : Bool) → FindsDownload HoldsRecords a b device m filename (Err refusal) → stopped ≡ is_store refusal → Applies (desk_state_at HoldsRecords was a) (desk_state_at HoldsRecords stopped b) (Asks request) (Refused refusal)
+    offered_refused refusal stopped found is = answers HoldsRecords a b was stopped request (Refused refusal) runs (record { wears = found.wears; handles = found.finds }) is
 
 -- what begins is of what the device is offered
 pub begun_offered : {File : Type 0} (old new : DeskState File) (query : Query) (result : Result Download model.Reply) → Begins old new (Asks (Ask query)) result → IfOk result (λ p. IsPromised old new (λ h. BeginsOffered h query p))

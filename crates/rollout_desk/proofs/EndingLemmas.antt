@@ -1,4 +1,5 @@
 -- What follows from the outcome of an action, write by write.
+use Rattle.sql_calls.proofs.Composing.{Then}
 use Rattle.std.proofs.Common.{◌≡◌, ◌+◌, ℕ, Bool, true, false, cond, nat_eq, Some, refl, sym, ap, ◌∙◌, subst}
 use Rattle.rollout_machine.specs.ByteStrings.{item_numbered}
 use Rattle.rollout_machine.specs.Counts.{is_outcome}
@@ -16,7 +17,6 @@ use Rattle.rollout_desk.specs.GroupStarts.{StartsGroup}
 use Rattle.rollout_desk.specs.declared.seen_actions.SeenAction.{SeenAction}
 use Rattle.rollout_desk.proofs.ItemSteps.{set_same, set_twice}
 use Rattle.rollout_desk.proofs.LedgerEnds.{set_is_there}
-use Rattle.rollout_desk.proofs.LedgerWrites.{Then}
 
 -- ---- the counts
 

@@ -11,7 +11,6 @@ pub mod ArtifactLemmas
 pub mod ByteOrderLemmas
 pub mod TargetLemmas
 pub mod TagLemmas
-pub mod WriteLemmas
 pub mod ImportLemmas
 pub mod PutLemmas
 pub mod TagStepLemmas
@@ -25,7 +24,6 @@ pub mod LedgerEnds
 pub mod StandingLemmas
 pub mod ProgressLemmas
 pub mod OfferingLemmas
-pub mod LedgerWrites
 pub mod ItemSteps
 pub mod EndingLemmas
 pub mod TellingLemmas

@@ -42,7 +42,7 @@ use Rattle.std.specs.declared.alloc.Global.{Global}
 use Rattle.rollout_desk.specs.Openings.{ReopensDesk, LeftUnharmed, GivesBack}
 
 stands : (s : State) (h : CommandList) → IsValid h → Rests HoldsRecords s (records h) → HasCleanDisk s → StandsFor (desk_state_at HoldsRecords false s) h
-stands s h valid rests clean = record { runs = refl; valid = valid; shows = rests clean; crash = λ db left. (valid, (rests clean).crash db left) }
+stands s h valid rests clean = record { runs = refl; valid = valid; shows = rests clean; crash = λ db left. (valid, (rests clean).held.crash db left) }
 
 pub reopened_desk : (image : Image) (approval : Bool) (s : State) → Reopens image s approval → ReopensDesk image (desk_state_at HoldsRecords false s) approval
 reopened_desk image approval s h = record {
@@ -97,9 +97,11 @@ empty_at_rest s settled e =
     let kept : HoldsStage s.committed Free = (sound, subst (λ d. LeavesFree d.schema desk_names) opens.clean free) in
     record {
       mode = opens.autocommit;
-      now_holds = λ _. subst (λ d. HoldsStage d Free) (sym opens.clean) kept;
-      kept_holds = λ _. kept;
-      crash = λ db left. subst (λ t. HoldIn HoldsStage t Free) (sym (settled db opens.is_open left)) (s.committed.schema, kept);
+      held = record {
+        ended = λ _ _. opens.clean;
+        kept_holds = λ _. kept;
+        crash = λ db left. subst (λ t. HoldIn HoldsStage t Free) (sym (settled db opens.is_open left)) (s.committed.schema, kept);
+      };
     }
 
 pub made_desk : {A : Type 0} (old new : State) (approval : Bool) (x : A) → IsSettled old → IsEmpty old → OpensDesk old new approval (Ok x) → HasCleanDisk new → StandsFor (desk_state_at HoldsRecords false new) (Make approval)

@@ -3,10 +3,9 @@ use Rattle.std.proofs.Common.{◌≡◌, ◌≤◌, ◌<◌, ◌+◌, ◌-◌, �
 use Rattle.std.specs.Prelude.{is_some}
 use Rattle.std.proofs.lemmas.Bool.Decides.{nat_tests}
 use Rattle.std.proofs.lemmas.List.{map-append, take_more, take_all, take-append-drop, length-map}
-use Rattle.sqlite.specs.Effect.{Database}
 use Rattle.sqlite.specs.State.{State, HasCleanDisk}
-use Rattle.sql_calls.specs.Standing.{Wears, Changes, Reads}
-use Rattle.sql_calls.proofs.Changes.{spoils}
+use Rattle.sql_calls.specs.Standing.{Finds, Makes, Sees, Wears}
+use Rattle.desk_records.specs.Holds.{HoldsLedger, ledger_of}
 use Rattle.desk_records.specs.TargetRow.{stored_target}
 use Rattle.desk_records.specs.Targets.{are_sorted, ids_of}
 use Rattle.desk_records.specs.declared.target_row.StoredTarget.{StoredTarget}
@@ -21,7 +20,6 @@ use Rattle.rollout_machine.specs.Verdicts.{check, target_of}
 use Rattle.rollout_machine.proofs.TargetTies.{same_true}
 use Rattle.rollout_model.specs.declared.refusal.Refusal.{Refusal}
 use Rattle.rollout_model.specs.declared.refusal.Refusal.TheVariants.{Quota}
-use Rattle.rollout_desk.specs.Additions.{WritesAll}
 use Rattle.rollout_desk.specs.Imports.{HasRoom, IsTooMany, LeavesRoom, PutsAll, PutsRow, ids_after, row_ids, with_row}
 use Rattle.rollout_desk.proofs.ByteOrderLemmas.{count_with, same_sym, with_there}
 use Rattle.rollout_desk.proofs.LimitLemmas.{few_in_list}
@@ -136,38 +134,21 @@ over_quota r earlier row later many =
 
 -- ---- one row in a change
 
-module _ (Holds : Database → Records → Type 0) (row : TargetRow) (left : Option ℕ) {F : Type 0} where
-  pub row_unread : {A E : Type 0} (a b : State) (e : E) (P : Records → A → Type 0) → Reads Holds a b (Err e) P → (out : Result (Result (Option ℕ) Refusal) F) → IsErr out → PutsRow Holds a b row left out
-  row_unread a b e P read (Ok x) bad = absurd (cc)
-  row_unread a b e P read (Err f) bad = record { wears = read.wears; puts = read.reads }
+module _ {row : TargetRow} {left : Option ℕ} {F : Type 0} where
+  pub row_refused : {A E : Type 0} {a b : State} {x : A} {P : Records → A → Type 0} {refusal : Refusal} → Finds HoldsLedger ledger_of {E = E} a b (Ok x) P → ((r : Records) → P r x → HasRoom left r → (refusal ≡ Quota) × IsTooMany row r)
+      → PutsRow {E = F} a b row left (Ok (Err refusal))
+  row_refused read means = record { wears = read.wears; puts = λ now was clean. means now ((read.finds now was).1 clean) }
 
-  pub room_unread : {A B E G : Type 0} (a b c : State) (x : A) (e : G) (P : Records → A → Type 0) (Q : Records → B → Type 0) → Reads Holds {E = E} a b (Ok x) P → Reads Holds b c (Err e) Q → (out : Result (Result (Option ℕ) Refusal) F) → IsErr out
-      → PutsRow Holds a c row left out
-  room_unread a b c x e P Q first second (Ok y) bad = absurd (cc)
-  room_unread a b c x e P Q first second (Err f) bad = record { wears = omega (arith, first.wears, second.wears); puts = λ now kept was. second.reads now kept (first.reads now kept was).0 }
-
-  pub row_refused : {A E : Type 0} (a b : State) (x : A) (P : Records → A → Type 0) (refusal : Refusal) → Reads Holds {E = E} a b (Ok x) P → ((r : Records) → P r x → HasRoom left r → (refusal ≡ Quota) × IsTooMany row r) → PutsRow Holds {E = F} a b row left (Ok (Err refusal))
-  row_refused a b x P refusal read means = record { wears = read.wears; puts = λ now kept was. let it = read.reads now kept was in (spoils Holds b now kept it.0, λ clean. means now (it.1 clean)) }
-
-  module _ {A E : Type 0} (a b c : State) (x : A) (P : Records → A → Type 0) (read : Reads Holds {E = E} a b (Ok x) P) (W : Records → Records → Type 0) (writes : (r : Records) → P r x → W r (with_row row r)) where
-    pub row_unwritten : {G : Type 0} (e : G) → WritesAll Holds {A = Unit {0}} b c (Err e) W → (out : Result (Result (Option ℕ) Refusal) F) → IsErr out → PutsRow Holds a c row left out
-    row_unwritten e write (Ok y) bad = absurd (cc)
-    row_unwritten e write (Err f) bad = record {
-      wears = omega (arith, read.wears, write.wears);
-      puts = λ now kept was.
-          let it = read.reads now kept was in
-          write.writes now kept (with_row row now) it.0 (λ clean. writes now (it.1 (omega (arith, clean, write.wears))));
-    }
-
-    pub row_put : {G : Type 0} (then : Option ℕ) → WritesAll Holds {A = Unit {0}} {E = G} b c (Ok tt) W → ((r : Records) → P r x → HasRoom left r → HasRoom then (with_row row r)) → PutsRow Holds {E = F} a c row left (Ok (Ok then))
-    row_put then write means = record {
-      wears = omega (arith, read.wears, write.wears);
-      puts = λ now kept was.
-          let it = read.reads now kept was in (
-            write.writes now kept (with_row row now) it.0 (λ clean. writes now (it.1 (omega (arith, clean, write.wears)))),
-            λ clean. means now (it.1 (omega (arith, clean, write.wears))),
-          );
-    }
+  pub row_put : {A E G : Type 0} {a b c : State} {x : A} {P : Records → A → Type 0} → Finds HoldsLedger ledger_of {E = E} a b (Ok x) P → (W : Records → Records → Type 0) → ((r : Records) → P r x → W r (with_row row r))
+      → (then : Option ℕ) → Makes HoldsLedger ledger_of {A = Unit {0}} {E = G} b c (Ok tt) W → ((r : Records) → P r x → HasRoom left r → HasRoom then (with_row row r)) → PutsRow {E = F} a c row left (Ok (Ok then))
+  row_put read W writes then write means = record {
+    wears = omega (arith, read.wears, write.wears);
+    puts = λ now was.
+        let it = read.finds now was in (
+          write.makes now (with_row row now) it.0 (λ clean. writes now (it.1 (omega (arith, clean, write.wears)))),
+          λ clean. means now (it.1 (omega (arith, clean, write.wears))),
+        );
+  }
 
 -- ---- rows one after the other
 
@@ -183,61 +164,49 @@ then_row : (earlier : List TargetRow) (row : TargetRow) (r : Records) → with_r
 unfolding with_targets
 then_row earlier row r = ap (with_targets r) (sym (put_more earlier row r.targets))
 
-module _ (Holds : Database → Records → Type 0) where
-  -- these rows are put
-  pub record PutsSoFar (old new : State) (rows : List TargetRow) (left : Option ℕ) : Type 0 where
-    pub wears : Wears old new
-    pub puts : (h : CommandList) (kept : Records) → IsValid h → Changes Holds old (records h) kept
-        → Changes Holds new (step_records (records h) (PutTargets rows)) kept × (HasCleanDisk new → HasRoom left (step_records (records h) (PutTargets rows)))
+-- these rows are put
+pub record PutsSoFar (old new : State) (rows : List TargetRow) (left : Option ℕ) : Type 0 where
+  pub wears : Wears old new
+  pub puts : (h : CommandList) → IsValid h → Sees HoldsLedger old (ledger_of (records h))
+      → Sees HoldsLedger new (ledger_of (step_records (records h) (PutTargets rows))) × (HasCleanDisk new → HasRoom left (step_records (records h) (PutTargets rows)))
 
-  pub none_put : (a : State) → PutsSoFar a a [] None
-  none_put a = record { wears = omega arith; puts = λ h kept valid was. (was, λ clean. few_in_list h valid) }
+pub none_put : (a : State) → PutsSoFar a a [] None
+none_put a = record { wears = omega arith; puts = λ h valid was. (was, λ clean. few_in_list h valid) }
 
-  module _ (a b c : State) (rows : List TargetRow) (row : TargetRow) (k : ℕ) (below : k < length rows) (is : row ≡ get_or rows k row) (left : Option ℕ) (so_far : PutsSoFar a b (take k rows) left) {E : Type 0} where
-    pub row_fails : (e : E) → PutsRow Holds b c row left (Err e) → {F : Type 0} (out : Result (Option Refusal) F) → IsErr out → PutsAll Holds a c rows out
-    row_fails e next (Ok x) bad = absurd (cc)
-    row_fails e next (Err f) bad = record {
-      wears = omega (arith, so_far.wears, next.wears);
-      puts = λ h kept valid was. next.puts (step_records (records h) (PutTargets (take k rows))) kept (so_far.puts h kept valid was).0;
+module _ (a b c : State) (rows : List TargetRow) (row : TargetRow) (k : ℕ) (below : k < length rows) (is : row ≡ get_or rows k row) (left : Option ℕ) (so_far : PutsSoFar a b (take k rows) left) {E : Type 0} where
+  pub row_refuses : (refusal : Refusal) → PutsRow {E = E} b c row left (Ok (Err refusal)) → {F : Type 0} → PutsAll {E = F} a c rows (Ok (Some refusal))
+  row_refuses refusal next = record {
+    wears = omega (arith, so_far.wears, next.wears);
+    puts = λ h valid was clean.
+        let it = so_far.puts h valid was in
+        let r = records h in
+        let whole : (take k rows ++ row ∷ []) ++ drop (k + 1) rows ≡ rows = ap (λ xs. xs ++ drop (k + 1) rows) (sym (one_more rows row k below is)) ∙ take-append-drop (k + 1) rows in
+        let why = next.puts (step_records r (PutTargets (take k rows))) it.0 clean (it.1 (omega (arith, clean, next.wears))) in
+        subst (λ l. check r (PutTargets l) ≡ Some refusal) whole (over_quota r (take k rows) row (drop (k + 1) rows) why.1 ∙ ap Some (sym why.0));
+  }
+
+  pub row_more : (then : Option ℕ) → PutsRow {E = E} b c row left (Ok (Ok then)) → PutsSoFar a c (take (k + 1) rows) then
+  row_more then next = record {
+    wears = omega (arith, so_far.wears, next.wears);
+    puts = λ h valid was.
+        let it = so_far.puts h valid was in
+        let r = records h in
+        let done = next.puts (step_records r (PutTargets (take k rows))) it.0 in
+        let same : with_row row (step_records r (PutTargets (take k rows))) ≡ step_records r (PutTargets (take (k + 1) rows)) = then_row (take k rows) row r ∙ ap (λ l. step_records r (PutTargets l)) (sym (one_more rows row k below is)) in (
+          subst (λ (s : Records). Sees HoldsLedger c (ledger_of s)) same done.0,
+          λ clean. subst (λ (s : Records). HasRoom then s) same (done.1 clean (it.1 (omega (arith, clean, next.wears)))),
+        );
+  }
+
+few_left : (left : Option ℕ) (r : Records) → HasRoom left r → length r.targets ≤ 10000
+few_left None r few = few
+few_left (Some left) r room = omega (arith, room)
+
+pub all_put : (a b : State) (rows : List TargetRow) (k : ℕ) (left : Option ℕ) → length rows ≤ k → PutsSoFar a b (take k rows) left → {E : Type 0} → PutsAll {E = E} a b rows (Ok None)
+all_put a b rows k left past so_far =
+    let all : PutsSoFar a b rows left = subst (λ l. PutsSoFar a b l left) (take_all k rows past) so_far in record {
+      wears = all.wears;
+      puts = λ h valid was.
+          let it = all.puts h valid was in
+          (it.0, λ clean. within_quota (records h) rows (few_left left (step_records (records h) (PutTargets rows)) (it.1 clean)));
     }
-
-    pub row_refuses : (refusal : Refusal) → PutsRow Holds {E = E} b c row left (Ok (Err refusal)) → {F : Type 0} → PutsAll Holds {E = F} a c rows (Ok (Some refusal))
-    row_refuses refusal next = record {
-      wears = omega (arith, so_far.wears, next.wears);
-      puts = λ h kept valid was.
-          let it = so_far.puts h kept valid was in
-          let r = records h in
-          let done = next.puts (step_records r (PutTargets (take k rows))) kept it.0 in
-          let whole : (take k rows ++ row ∷ []) ++ drop (k + 1) rows ≡ rows = ap (λ xs. xs ++ drop (k + 1) rows) (sym (one_more rows row k below is)) ∙ take-append-drop (k + 1) rows in (
-            done.0,
-            λ clean.
-                let why = done.1 clean (it.1 (omega (arith, clean, next.wears))) in
-                subst (λ l. check r (PutTargets l) ≡ Some refusal) whole (over_quota r (take k rows) row (drop (k + 1) rows) why.1 ∙ ap Some (sym why.0)),
-          );
-    }
-
-    pub row_more : (then : Option ℕ) → PutsRow Holds {E = E} b c row left (Ok (Ok then)) → PutsSoFar a c (take (k + 1) rows) then
-    row_more then next = record {
-      wears = omega (arith, so_far.wears, next.wears);
-      puts = λ h kept valid was.
-          let it = so_far.puts h kept valid was in
-          let r = records h in
-          let done = next.puts (step_records r (PutTargets (take k rows))) kept it.0 in
-          let same : with_row row (step_records r (PutTargets (take k rows))) ≡ step_records r (PutTargets (take (k + 1) rows)) = then_row (take k rows) row r ∙ ap (λ l. step_records r (PutTargets l)) (sym (one_more rows row k below is)) in (
-            subst (λ (s : Records). Changes Holds c s kept) same done.0,
-            λ clean. subst (λ (s : Records). HasRoom then s) same (done.1 clean (it.1 (omega (arith, clean, next.wears)))),
-          );
-    }
-
-  few_left : (left : Option ℕ) (r : Records) → HasRoom left r → length r.targets ≤ 10000
-  few_left None r few = few
-  few_left (Some left) r room = omega (arith, room)
-
-  pub all_put : (a b : State) (rows : List TargetRow) (k : ℕ) (left : Option ℕ) → length rows ≤ k → PutsSoFar a b (take k rows) left → {E : Type 0} → PutsAll Holds {E = E} a b rows (Ok None)
-  all_put a b rows k left past so_far =
-      let all : PutsSoFar a b rows left = subst (λ l. PutsSoFar a b l left) (take_all k rows past) so_far in record {
-        wears = all.wears;
-        puts = λ h kept valid was.
-            let it = all.puts h kept valid was in
-            (it.0, λ clean. within_quota (records h) rows (few_left left (step_records (records h) (PutTargets rows)) (it.1 clean)));
-      }

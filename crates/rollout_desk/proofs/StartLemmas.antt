@@ -44,13 +44,6 @@ all_members r count l members is size = is ∙ take_all count (members_of (item_
 pub no_action : (r last : ℕ) (members : List Bytes) (l next : Ledger) → AddsActions r last members 0 l next → next ≡ l
 no_action r last members l next h = h.next_is ∙ (λ i. with_actions l (append-nil l.records.actions i) (append-nil l.tallies i))
 
--- as many others
-pub other_actions : (r last : ℕ) (members : List Bytes) (count other : ℕ) (l next : Ledger) → AddsActions r last members count l next → (mid : Ledger) × AddsActions r last members other l mid
-other_actions r last members count other l next h = (
-  with_actions l (l.records.actions ++ new_for r other) (l.tallies ++ map tally_of (new_for r other)),
-  record { tallied = h.tallied; last_is = h.last_is; rollout = h.rollout; is_there = h.is_there; members_are = h.members_are; next_is = refl },
-)
-
 as_many : {X : Type 0} (f : ℕ → X) (a n : ℕ) → length (each_from f a n) ≡ n
 as_many f a zero = refl
 as_many f a (suc n) = ap suc (as_many f (suc a) n)
@@ -99,9 +92,6 @@ two_parts r seen last members l next h = (h.begun, h.sets, h.adds)
 pub three_parts : (r : ℕ) (seen : SeenRollout) (first : GroupRecord) (last : ℕ) (members : List Bytes) (l next : Ledger) → StartsWhole r seen first last members l next
     → (mid : Ledger) × StartsFirst r seen last members l mid × StartsGroup r first mid next
 three_parts r seen first last members l next h = (h.acting, record { begun = h.begun; sets = h.sets; adds = h.adds }, h.starts)
-
-pub parted : (r : ℕ) (seen : SeenRollout) (first : GroupRecord) (last : ℕ) (members : List Bytes) (l next : Ledger) → StartsWhole r seen first last members l next → (mid : Ledger) × StartsFirst r seen last members l mid
-parted r seen first last members l next h = let it = three_parts r seen first last members l next h in (it.0, it.1)
 
 -- ---- the first group
 

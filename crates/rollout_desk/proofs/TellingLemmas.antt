@@ -1,4 +1,5 @@
 -- What is told of an action and what becomes of it, write by write.
+use Rattle.sql_calls.proofs.Composing.{Then}
 use Rattle.std.proofs.Common.{◌≡◌, ℕ, Bool, true, false, List, [], ◌∷◌, ◌++◌, Option, Some, None, refl, sym, ap, ◌∙◌, subst}
 use Rattle.std.specs.Prelude.{string_bytes}
 use Rattle.rollout_machine.specs.Actions.{HistoryEntry}
@@ -18,7 +19,6 @@ use Rattle.rollout_desk.specs.Offering.{MayReoffer, Reoffers}
 use Rattle.rollout_desk.specs.declared.entries.Told.{Told}
 use Rattle.rollout_desk.specs.declared.seen_actions.SeenAction.{SeenAction}
 use Rattle.rollout_desk.proofs.ItemSteps.{append_none, set_same, set_twice, zip_at, zip_set}
-use Rattle.rollout_desk.proofs.LedgerWrites.{Then}
 
 -- ---- the history
 

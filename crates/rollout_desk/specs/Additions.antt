@@ -2,9 +2,6 @@
 use Rattle.std.specs.Prelude.{◌≡◌, ◌≤◌, ◌||◌, ℕ, ◌+◌, ◌*◌, nat_eq, nat_le, Bool, List, filter, [], ◌∷◌, ◌++◌, length, Some, None, Result, Ok, Err}
 use Rattle.std.specs.List.{list_any}
 use Rattle.std.specs.Option.{is_none}
-use Rattle.sqlite.specs.Effect.{Database}
-use Rattle.sqlite.specs.State.{State, HasCleanDisk}
-use Rattle.sql_calls.specs.Standing.{Wears, Changes, Spoils}
 use Rattle.rollout_machine.specs.ByteStrings.{item_numbered}
 use Rattle.rollout_machine.specs.Commands.{Bytes, Command, ModuleLabel, SetLabel, Upload, AddModule, AddArtifact, AddSet}
 use Rattle.rollout_machine.specs.Objects.{artifact_shown}
@@ -29,18 +26,6 @@ GetsSetNumber label r result = GetsNumber (AddSet label) (length r.sets) r resul
 -- one of these modules isn't there
 abbrev pub LacksModule : List ℕ → Records → Bool → Type 0
 LacksModule modules r lacks = lacks ≡ list_any (λ m. is_none (item_numbered r.modules m)) modules
-
--- ---- several writes as one
-
-module _ {R : Type 0} (Holds : Database → R → Type 0) where
-  abbrev pub WritesAllTo : {A E : Type 0} → State → State → (R → R → Type 0) → Result A E → Type 0
-  WritesAllTo old new Change (Ok a) = (now kept next : R) → Changes Holds old now kept → (HasCleanDisk new → Change now next) → Changes Holds new next kept
-  WritesAllTo old new Change (Err e) = (now kept next : R) → Changes Holds old now kept → (HasCleanDisk new → Change now next) → Spoils Holds new kept
-
-  -- Where the change can be made, it is; where one of the writes fails it can only be given up.
-  pub record WritesAll {A E : Type 0} (old new : State) (result : Result A E) (Change : R → R → Type 0) : Type 0 where
-    pub wears : Wears old new
-    pub writes : WritesAllTo old new Change result
 
 -- ---- sets
 

@@ -1,12 +1,12 @@
 -- What an import of targets reads and writes.
-use Rattle.std.specs.Prelude.{◌≡◌, ◌≤◌, ◌+◌, ℕ, true, false, not, List, [], ◌∷◌, map, filter, length, Option, Some, None, Result, Ok, Err, option_map, is_some}
-use Rattle.sqlite.specs.Effect.{Database}
+use Rattle.std.specs.Prelude.{◌≡◌, ◌≤◌, ◌+◌, ℕ, true, false, not, List, [], ◌∷◌, map, filter, length, Option, Some, None, Result, Ok, Err, option_map, is_some, IfOk}
 use Rattle.sqlite.specs.State.{State, HasCleanDisk}
-use Rattle.sql_calls.specs.Standing.{Wears, Changes, Spoils}
+use Rattle.sql_calls.specs.Standing.{Wears, Sees}
 use Rattle.desk_records.specs.TargetRow.{stored_target}
 use Rattle.desk_records.specs.Targets.{ids_of, renamed, with_changed}
 use Rattle.desk_records.specs.declared.target_row.StoredTarget.{StoredTarget}
 use Rattle.rollout_machine.specs.ByteStrings.{contains_word, with_words, without_word, sorted_words}
+use Rattle.desk_records.specs.Holds.{HoldsLedger, ledger_of}
 use Rattle.rollout_machine.specs.CommandList.{CommandList}
 use Rattle.rollout_machine.specs.Commands.{Bytes, TargetRow, PutTargets}
 use Rattle.rollout_machine.specs.Records.{Records, records}
@@ -92,24 +92,21 @@ IsTooMany row r = (target_of r row.id ≡ None) × (length r.targets ≡ target_
 abbrev pub with_row : TargetRow → Records → Records
 with_row row r = step_records r (PutTargets (row ∷ []))
 
-module _ (Holds : Database → Records → Type 0) where
-  abbrev pub PutsRowTo : {E : Type 0} → State → State → TargetRow → Option ℕ → Result (Result (Option ℕ) Refusal) E → Type 0
-  PutsRowTo old new row left (Ok (Ok then)) = (now kept : Records) → Changes Holds old now kept → Changes Holds new (with_row row now) kept × (HasCleanDisk new → HasRoom left now → HasRoom then (with_row row now))
-  PutsRowTo old new row left (Ok (Err refusal)) = (now kept : Records) → Changes Holds old now kept → Spoils Holds new kept × (HasCleanDisk new → HasRoom left now → (refusal ≡ Quota) × IsTooMany row now)
-  PutsRowTo old new row left (Err e) = (now kept : Records) → Changes Holds old now kept → Spoils Holds new kept
+-- One row is put, or it is of one target too many.
+abbrev pub PutsRowTo : State → State → TargetRow → Option ℕ → Result (Option ℕ) Refusal → Type 0
+PutsRowTo old new row left (Ok then) = (now : Records) → Sees HoldsLedger old (ledger_of now) → Sees HoldsLedger new (ledger_of (with_row row now)) × (HasCleanDisk new → HasRoom left now → HasRoom then (with_row row now))
+PutsRowTo old new row left (Err refusal) = (now : Records) → Sees HoldsLedger old (ledger_of now) → HasCleanDisk new → HasRoom left now → (refusal ≡ Quota) × IsTooMany row now
 
-  -- One row is put, or it is of one target too many. Then, and where it fails, the change can only be given up.
-  pub record PutsRow {E : Type 0} (old new : State) (row : TargetRow) (left : Option ℕ) (result : Result (Result (Option ℕ) Refusal) E) : Type 0 where
-    pub wears : Wears old new
-    pub puts : PutsRowTo old new row left result
+pub record PutsRow {E : Type 0} (old new : State) (row : TargetRow) (left : Option ℕ) (result : Result (Result (Option ℕ) Refusal) E) : Type 0 where
+  pub wears : Wears old new
+  pub puts : IfOk result (PutsRowTo old new row left)
 
-  abbrev pub PutsAllTo : {E : Type 0} → State → State → List TargetRow → Result (Option Refusal) E → Type 0
-  PutsAllTo old new rows (Ok None) = (h : CommandList) (kept : Records) → IsValid h → Changes Holds old (records h) kept
-      → Changes Holds new (step_records (records h) (PutTargets rows)) kept × (HasCleanDisk new → check (records h) (PutTargets rows) ≡ None)
-  PutsAllTo old new rows (Ok (Some refusal)) = (h : CommandList) (kept : Records) → IsValid h → Changes Holds old (records h) kept → Spoils Holds new kept × (HasCleanDisk new → check (records h) (PutTargets rows) ≡ Some refusal)
-  PutsAllTo old new rows (Err e) = (h : CommandList) (kept : Records) → IsValid h → Changes Holds old (records h) kept → Spoils Holds new kept
+-- all rows are put, at a list of accepted commands, or this refuses them
+abbrev pub PutsAllTo : State → State → List TargetRow → Option Refusal → Type 0
+PutsAllTo old new rows None = (h : CommandList) → IsValid h → Sees HoldsLedger old (ledger_of (records h))
+    → Sees HoldsLedger new (ledger_of (step_records (records h) (PutTargets rows))) × (HasCleanDisk new → check (records h) (PutTargets rows) ≡ None)
+PutsAllTo old new rows (Some refusal) = (h : CommandList) → IsValid h → Sees HoldsLedger old (ledger_of (records h)) → HasCleanDisk new → check (records h) (PutTargets rows) ≡ Some refusal
 
-  -- all rows are put, at a list of accepted commands, or this refuses them
-  pub record PutsAll {E : Type 0} (old new : State) (rows : List TargetRow) (result : Result (Option Refusal) E) : Type 0 where
-    pub wears : Wears old new
-    pub puts : PutsAllTo old new rows result
+pub record PutsAll {E : Type 0} (old new : State) (rows : List TargetRow) (result : Result (Option Refusal) E) : Type 0 where
+  pub wears : Wears old new
+  pub puts : IfOk result (PutsAllTo old new rows)

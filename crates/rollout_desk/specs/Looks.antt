@@ -4,7 +4,7 @@ use Rattle.std.specs.declared.alloc.Global.{Global}
 use Rattle.std.specs.Option.{option_map}
 use Rattle.sqlite.specs.Effect.{Database}
 use Rattle.sqlite.specs.State.{State, HasCleanDisk}
-use Rattle.sql_calls.specs.Standing.{Wears, Spoils, Rests, Doubts}
+use Rattle.sql_calls.specs.Standing.{Wears, Spoiled, Rests, Doubts}
 use Rattle.rollout_machine.specs.CommandList.{CommandList}
 use Rattle.rollout_machine.specs.Commands.{Bytes, Credential}
 use Rattle.rollout_machine.specs.Records.{Records, records}
@@ -15,12 +15,19 @@ use Rattle.rollout_machine.specs.StoreFailures.{is_store}
 use Rattle.rollout_model.specs.declared.artifact.Artifact.{Artifact}
 use Rattle.rollout_model.specs.declared.refusal.Refusal.{Refusal}
 use Rattle.rollout_model.specs.declared.refusal.Refusal.TheVariants.{NoMemory, StoreFailed}
+use Rattle.desk_records.specs.Holds.{HoldsLedger, Ledger, ledger_of}
 use Rattle.desk_views.specs.Downloads.{downloadable}
 use Rattle.rollout_desk.specs.Desks.{desk_state_at}
 
 -- the bytes of what was found
 abbrev pub bytes_of : Option (Vec ℕ Global) → Option Bytes
 bytes_of found = option_map vec_items found
+
+-- the change is given up, and the result is what was found; or that failed
+pub record EndsLook {A : Type 0} (old new : State) (found result : Result A Refusal) : Type 0 where
+  pub wears : Wears old new
+  pub ends : ((result ≡ found) × ((kept : Ledger) → Spoiled HoldsLedger old kept → Rests HoldsLedger new kept))
+      ⊎ ((result ≡ Err StoreFailed) × ((kept : Ledger) → Spoiled HoldsLedger old kept → Doubts HoldsLedger new kept kept))
 
 module _ (Holds : Database → Records → Type 0) where
   abbrev pub LooksTo : {A : Type 0} → State → State → (Records → A → Type 0) → Result A Refusal → Type 0
@@ -33,12 +40,6 @@ module _ (Holds : Database → Records → Type 0) where
   pub record Looks {A : Type 0} (old new : State) (result : Result A Refusal) (Answer : Records → A → Type 0) : Type 0 where
     pub wears : Wears old new
     pub looks : LooksTo old new Answer result
-
-  -- the change is given up, and the result is what was found; or that failed
-  pub record EndsLook {A : Type 0} (old new : State) (found result : Result A Refusal) : Type 0 where
-    pub wears : Wears old new
-    pub ends : ((result ≡ found) × ((kept : Records) → Spoils Holds old kept → Rests Holds new kept))
-        ⊎ ((result ≡ Err StoreFailed) × ((kept : Records) → Spoils Holds old kept → Doubts Holds new kept kept))
 
   -- The artifact that the device may download, at the list that the desk stands for; or the answer to its query is this refusal.
   abbrev pub FindsTo : State → State → Credential → ℕ → Bytes → Result Artifact Refusal → Type 0

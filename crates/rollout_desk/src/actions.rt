@@ -6,9 +6,9 @@ ghost use Rattle.rollout_model.specs.Rules.{are_details, is_number, is_word};
 ghost use Rattle.rollout_machine.specs.Commands.{Cancel as CancelCommand, CancelFeedback, Feedback};
 ghost use Rattle.rollout_desk.specs.ActionSteps.{Acts, ActsBy, Follows, MayAct, TellsAction, WritesTold, action_change_of, canceling_by, entries_by, notes_by, outcome_by, stays_offered};
 ghost use Rattle.rollout_desk.specs.Offering.{MayReoffer};
-ghost use Rattle.rollout_desk.specs.Changing.{StepsIn, WritesAllLedger};
 ghost use Rattle.desk_store.specs.Counting.{AddsIn};
-ghost use Rattle.desk_store.specs.Changing.{StaysIn};
+ghost use Rattle.desk_store.specs.Changing.{MakesLedger, StaysIn};
+ghost use Rattle.rollout_desk.specs.Changing.{StepsIn};
 
 use crate::endings::follow_ending;
 use crate::entries::{Told, more_if, one_more, tell_cancel, tell_deployment};
@@ -71,8 +71,8 @@ fn write_told<S: Alter>(
     place: u32,
     told: &Option<Told>,
 ) -> Result<(), Fault>
-    ensures stays { StaysIn change.old change.new result }
-    ensures writes { WritesAllLedger S.Store change.old change.new result (WritesTold seen.now.number place told.now) }
+    ensures stays { StaysIn S.Store change.old change.new result }
+    ensures writes { MakesLedger S.Store change.old change.new result (WritesTold seen.now.number place told.now) }
     ensures work { AddsIn 1 0 change.old change.new }
 {
     match told {
@@ -94,8 +94,8 @@ fn tell_action<S: Alter>(
     after: &ActionChange,
     told: &Option<Told>,
 ) -> Result<(), Fault>
-    ensures stays { StaysIn change.old change.new result }
-    ensures writes { WritesAllLedger S.Store change.old change.new result (TellsAction seen.now after.now told.now) }
+    ensures stays { StaysIn S.Store change.old change.new result }
+    ensures writes { MakesLedger S.Store change.old change.new result (TellsAction seen.now after.now told.now) }
     ensures work { AddsIn 2 0 change.old change.new }
 {
     let notes = notes_with(seen.action.notes, told)?;
@@ -127,8 +127,8 @@ fn offer_next<S: Alter>(
     seen: &SeenAction,
     after: &ActionChange,
 ) -> Result<(), Fault>
-    ensures stays { StaysIn change.old change.new result }
-    ensures writes { WritesAllLedger S.Store change.old change.new result (MayReoffer (stays_offered seen.now.action.canceling after.now) seen.now.action.target) }
+    ensures stays { StaysIn S.Store change.old change.new result }
+    ensures writes { MakesLedger S.Store change.old change.new result (MayReoffer (stays_offered seen.now.action.canceling after.now) seen.now.action.target) }
     ensures work { AddsIn 2 1 change.old change.new }
 {
     if stays_offered(seen, after) {
@@ -143,8 +143,8 @@ fn follow<S: Alter>(
     seen: &SeenAction,
     after: &ActionChange,
 ) -> Result<(), Fault>
-    ensures stays { StaysIn change.old change.new result }
-    ensures writes { WritesAllLedger S.Store change.old change.new result (Follows seen.now after.now) }
+    ensures stays { StaysIn S.Store change.old change.new result }
+    ensures writes { MakesLedger S.Store change.old change.new result (Follows seen.now after.now) }
     ensures work { AddsIn 5 1 change.old change.new }
 {
     match after {
@@ -161,8 +161,8 @@ fn act<S: Alter>(
     after: &ActionChange,
     told: &Option<Told>,
 ) -> Result<(), Fault>
-    ensures stays { StaysIn change.old change.new result }
-    ensures writes { WritesAllLedger S.Store change.old change.new result (Acts seen.now after.now told.now) }
+    ensures stays { StaysIn S.Store change.old change.new result }
+    ensures writes { MakesLedger S.Store change.old change.new result (Acts seen.now after.now told.now) }
     ensures work { AddsIn 9 2 change.old change.new }
 {
     tell_action(change, seen, after, told)?;
@@ -177,8 +177,8 @@ fn may_act<S: Alter>(
     after: &Option<ActionChange>,
     told: &Option<Told>,
 ) -> Result<(), Fault>
-    ensures stays { StaysIn change.old change.new result }
-    ensures writes { WritesAllLedger S.Store change.old change.new result (MayAct seen.now after.now told.now) }
+    ensures stays { StaysIn S.Store change.old change.new result }
+    ensures writes { MakesLedger S.Store change.old change.new result (MayAct seen.now after.now told.now) }
     ensures work { AddsIn 9 2 change.old change.new }
 {
     let Some(after) = after else {
@@ -209,8 +209,8 @@ fn act_by<S: Alter>(
     accepted: &RolloutChange,
     told: &Option<Told>,
 ) -> Result<(), Fault>
-    ensures stays { StaysIn change.old change.new result }
-    ensures writes { WritesAllLedger S.Store change.old change.new result (ActsBy seen.now accepted.now told.now) }
+    ensures stays { StaysIn S.Store change.old change.new result }
+    ensures writes { MakesLedger S.Store change.old change.new result (ActsBy seen.now accepted.now told.now) }
     ensures work { AddsIn 9 2 change.old change.new }
 {
     let after = action_change(accepted)?;
@@ -241,7 +241,7 @@ pub(crate) fn take_feedback<S: Alter>(
     change: &mut OpenChange<'_, S>,
     report: &Report<DeploymentWord>,
 ) -> Result<Step, Fault>
-    ensures stays { StaysIn change.old change.new result }
+    ensures stays { StaysIn S.Store change.old change.new result }
     ensures steps { StepsIn S.Store change.old change.new (Feedback report.now) result }
     ensures work { AddsIn 14 24 change.old change.new }
 {
@@ -262,7 +262,7 @@ pub(crate) fn take_cancel_feedback<S: Alter>(
     change: &mut OpenChange<'_, S>,
     report: &Report<CancelWord>,
 ) -> Result<Step, Fault>
-    ensures stays { StaysIn change.old change.new result }
+    ensures stays { StaysIn S.Store change.old change.new result }
     ensures steps { StepsIn S.Store change.old change.new (CancelFeedback report.now) result }
     ensures work { AddsIn 14 24 change.old change.new }
 {
@@ -282,7 +282,7 @@ pub(crate) fn cancel_action<S: Alter>(
     change: &mut OpenChange<'_, S>,
     asked: &Cancel,
 ) -> Result<Step, Fault>
-    ensures stays { StaysIn change.old change.new result }
+    ensures stays { StaysIn S.Store change.old change.new result }
     ensures steps { StepsIn S.Store change.old change.new (CancelCommand asked.now.target asked.now.action asked.now.force) result }
 {
     cancel_is_well_formed(asked);

@@ -7,9 +7,9 @@ ghost use Rattle.rollout_machine.specs.Objects.{artifact_shown};
 ghost use Rattle.rollout_machine.specs.Records.{artifact_from};
 ghost use Rattle.rollout_machine.specs.Verdicts.{first_refusal, verdict_row, wrong_digest};
 ghost use Rattle.rollout_model.specs.Limits.{artifact_size_limit, piece_length};
-ghost use Rattle.desk_store.specs.Changing.{ReadsIn, StaysIn};
-ghost use Rattle.rollout_desk.specs.Changing.{StepsIn, WritesAllIn};
 ghost use Rattle.rollout_desk.specs.Additions.{AddsArtifact, AddsContents, ShowsNextArtifact, is_full};
+ghost use Rattle.desk_store.specs.Changing.{FindsIn, MakesIn, StaysIn};
+ghost use Rattle.rollout_desk.specs.Changing.{StepsIn};
 
 use crate::step::Step;
 use artifact_pieces::describe;
@@ -23,8 +23,8 @@ fn module_refusal<S: Alter>(
     change: &mut OpenChange<'_, S>,
     upload: &Upload,
 ) -> Result<Option<Refusal>, Fault>
-    ensures stays { StaysIn change.old change.new result }
-    ensures reads { ReadsIn S.Store change.old change.new result
+    ensures stays { StaysIn S.Store change.old change.new result }
+    ensures reads { FindsIn S.Store change.old change.new result
         (λ r refusal. refusal ≡ first_refusal (take 3 (verdict_row r (AddArtifact upload.now)))) }
 {
     let last = change.read_last_module()?;
@@ -45,8 +45,8 @@ fn next_number<S: Alter>(
     change: &mut OpenChange<'_, S>,
     module_number: ModuleNo,
 ) -> Result<Option<ArtifactNo>, Fault>
-    ensures stays { StaysIn change.old change.new result }
-    ensures reads { ReadsIn S.Store change.old change.new result
+    ensures stays { StaysIn S.Store change.old change.new result }
+    ensures reads { FindsIn S.Store change.old change.new result
         (λ r number. number ≡ cond (is_full module_number r) None (Some (length r.artifacts + 1))) }
 {
     let of_module = change.read_module_artifacts(module_number)?;
@@ -88,8 +88,8 @@ fn next_artifact<S: Alter>(
     change: &mut OpenChange<'_, S>,
     upload: &Upload,
 ) -> Result<Result<Artifact, Refusal>, Fault>
-    ensures stays { StaysIn change.old change.new result }
-    ensures reads { ReadsIn S.Store change.old change.new result (ShowsNextArtifact upload.now) }
+    ensures stays { StaysIn S.Store change.old change.new result }
+    ensures reads { FindsIn S.Store change.old change.new result (ShowsNextArtifact upload.now) }
 {
     match module_refusal(change, upload)? {
         Some(refusal) => return Ok(Err(refusal)),
@@ -114,8 +114,8 @@ fn write_pieces<S: Alter>(
     bytes: &[u8],
 ) -> Result<(), Fault>
     requires { before * piece_length + length bytes.now ≤ artifact_size_limit }
-    ensures stays { StaysIn change.old change.new result }
-    ensures writes { WritesAllIn S.Store change.old change.new result (AddsContents number before bytes.now) }
+    ensures stays { StaysIn S.Store change.old change.new result }
+    ensures writes { MakesIn S.Store change.old change.new result (AddsContents number before bytes.now) }
 {
     if bytes.is_empty() {
         return Ok(());
@@ -132,8 +132,8 @@ fn write_whole<S: Alter>(
     artifact: &Artifact,
     contents: &Contents,
 ) -> Result<(), Fault>
-    ensures stays { StaysIn change.old change.new result }
-    ensures writes { WritesAllIn S.Store change.old change.new result (AddsArtifact module_number artifact.now contents.now) }
+    ensures stays { StaysIn S.Store change.old change.new result }
+    ensures writes { MakesIn S.Store change.old change.new result (AddsArtifact module_number artifact.now contents.now) }
 {
     change.write_artifact(
         artifact.number,
@@ -150,7 +150,7 @@ pub(crate) fn add_artifact<S: Alter>(
     change: &mut OpenChange<'_, S>,
     upload: &Upload,
 ) -> Result<Step, Fault>
-    ensures stays { StaysIn change.old change.new result }
+    ensures stays { StaysIn S.Store change.old change.new result }
     ensures steps { StepsIn S.Store change.old change.new (AddArtifact upload.now) result }
 {
     let artifact = match next_artifact(change, upload)? {

@@ -6,9 +6,9 @@ ghost use Rattle.std.specs.List.{list_any};
 ghost use Rattle.desk_records.specs.Targets.{in_byte_order, keys_of};
 ghost use Rattle.rollout_machine.specs.ByteStrings.{contains_word};
 ghost use Rattle.rollout_machine.specs.Commands.{Attribute, PutAttributes};
-ghost use Rattle.rollout_desk.specs.Changing.{StepsIn, WritesAllIn};
 ghost use Rattle.rollout_desk.specs.Attributes.{GivesAttribute, GivesAttributes, has_attribute, keys_after};
-ghost use Rattle.desk_store.specs.Changing.{StaysIn};
+ghost use Rattle.desk_store.specs.Changing.{MakesIn, StaysIn};
+ghost use Rattle.rollout_desk.specs.Changing.{StepsIn};
 
 use crate::step::Step;
 use desk_store::{Fault, OpenChange};
@@ -60,8 +60,8 @@ fn give_attribute<S: Alter>(
     had: &[Attribute],
     since: &[Attribute],
 ) -> Result<(), Fault>
-    ensures stays { StaysIn change.old change.new result }
-    ensures writes { WritesAllIn S.Store change.old change.new result (GivesAttribute id.now had.now since.now attribute.now) }
+    ensures stays { StaysIn S.Store change.old change.new result }
+    ensures writes { MakesIn S.Store change.old change.new result (GivesAttribute id.now had.now since.now attribute.now) }
 {
     if !has_key_since(had, since, &attribute.key) {
         return change.write_target_attribute(id, attribute);
@@ -79,8 +79,8 @@ fn give_attributes<S: Alter>(
     given: &[Attribute],
     had: &[Attribute],
 ) -> Result<(), Fault>
-    ensures stays { StaysIn change.old change.new result }
-    ensures writes { WritesAllIn S.Store change.old change.new result (GivesAttributes id.now had.now given.now) }
+    ensures stays { StaysIn S.Store change.old change.new result }
+    ensures writes { MakesIn S.Store change.old change.new result (GivesAttributes id.now had.now given.now) }
 {
     for (i, attribute) in given.iter().enumerate() {
         give_attribute(change, id, attribute, had, &given[..i])?;
@@ -94,7 +94,7 @@ pub(crate) fn put_attributes<S: Alter>(
     device: &Credential,
     given: &ConfigData,
 ) -> Result<Step, Fault>
-    ensures stays { StaysIn change.old change.new result }
+    ensures stays { StaysIn S.Store change.old change.new result }
     ensures steps { StepsIn S.Store change.old change.new (PutAttributes device.now given.now) result }
 {
     if !knows_device(change, device)? {

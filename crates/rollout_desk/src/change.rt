@@ -7,11 +7,11 @@ ghost use Rattle.rollout_machine.specs.Requests.{Do, Ask};
 ghost use Rattle.rollout_machine.specs.StoreFailures.{is_failed_store};
 ghost use Rattle.rollout_machine.specs.Views.{command_of, query_of, reply_of};
 ghost use Rattle.desk_views.specs.Showing.{ShowsIn};
-ghost use Rattle.rollout_desk.specs.Changing.{StepsIn};
 ghost use Rattle.rollout_desk.specs.Working.{TellsFailures, is_report};
 ghost use Rattle.rollout_desk.specs.Steps.{Handles, EndsByCommit, EndsByRollback};
 ghost use Rattle.desk_store.specs.Counting.{Adds, AddsIn};
 ghost use Rattle.desk_store.specs.Changing.{StaysIn};
+ghost use Rattle.rollout_desk.specs.Changing.{StepsIn};
 
 use crate::actions::{cancel_action, take_cancel_feedback, take_feedback};
 use crate::artifacts::add_artifact;
@@ -44,7 +44,7 @@ fn step<S: Alter>(
     change: &mut OpenChange<'_, S>,
     command: &Command,
 ) -> Result<Step, Fault>
-    ensures stays { StaysIn change.old change.new result }
+    ensures stays { StaysIn S.Store change.old change.new result }
     ensures steps { StepsIn S.Store change.old change.new (command_of command.now) result }
     ensures work { is_report (command_of command.now) ≡ true → AddsIn 14 24 change.old change.new }
 {
@@ -75,7 +75,7 @@ fn answer<S: Alter>(
     change: &mut OpenChange<'_, S>,
     query: &Query,
 ) -> Result<Reply, Fault>
-    ensures stays { StaysIn change.old change.new result }
+    ensures stays { StaysIn S.Store change.old change.new result }
     ensures shows { ShowsIn S.Store change.old change.new (query_of query.now) result }
 {
     match query {
@@ -115,7 +115,7 @@ fn answer<S: Alter>(
 
 /// Commits a change, and then gives the reply that was made.
 fn commit<S: Alter>(change: OpenChange<'_, S>, reply: Reply) -> Reply
-    ensures ends { EndsByCommit HoldsRecords (state S.Store change.entry.store.now.calls.conn) (state S.Store change.exit.0.now.calls.conn) (reply_of reply) (reply_of result) }
+    ensures ends { EndsByCommit (state S.Store change.entry.store.now.calls.conn) (state S.Store change.exit.0.now.calls.conn) (reply_of reply) (reply_of result) }
     ensures work { change.exit.0.now.calls.work ≡ change.entry.store.now.calls.work }
     ensures tells { TellsFailures (is_failed_store (reply_of result)) change.entry.store.now.calls change.exit.0.now.calls }
 {
@@ -127,7 +127,7 @@ fn commit<S: Alter>(change: OpenChange<'_, S>, reply: Reply) -> Reply
 
 /// Gives a change up, and then the reply that was made.
 fn give_up<S: Alter>(change: OpenChange<'_, S>, reply: Reply) -> Reply
-    ensures ends { EndsByRollback HoldsRecords (state S.Store change.entry.store.now.calls.conn) (state S.Store change.exit.0.now.calls.conn) (reply_of reply) (reply_of result) }
+    ensures ends { EndsByRollback (state S.Store change.entry.store.now.calls.conn) (state S.Store change.exit.0.now.calls.conn) (reply_of reply) (reply_of result) }
     ensures work { change.exit.0.now.calls.work ≡ change.entry.store.now.calls.work }
     ensures tells { TellsFailures (is_failed_store (reply_of result)) change.entry.store.now.calls change.exit.0.now.calls }
 {

@@ -6,10 +6,10 @@ ghost use Rattle.rollout_machine.specs.Rollouts.{chosen};
 ghost use Rattle.target_filter.specs.Grammar.{Tree};
 ghost use Rattle.target_filter.specs.Profile.{filter_of};
 ghost use Rattle.campaign_core.specs.RolloutChecks.{IsPlanView};
-ghost use Rattle.desk_store.specs.Changing.{ReadsIn, StaysIn};
 ghost use Rattle.desk_views.specs.Targets.{target_listed};
-ghost use Rattle.rollout_desk.specs.Changing.{StepsIn, WritesAllLedger};
 ghost use Rattle.rollout_desk.specs.Creations.{CreatesRollout, IsChosen, IsWordOf, ids_matching, in_part, shown_new};
+ghost use Rattle.desk_store.specs.Changing.{FindsIn, MakesLedger, StaysIn};
+ghost use Rattle.rollout_desk.specs.Changing.{StepsIn};
 
 use crate::step::Step;
 use campaign_core::{NewRollout, PlanView, group_bounds, new_rollout};
@@ -38,8 +38,8 @@ fn add_if_match<S: Alter>(
     entry: ListedTarget,
     members: &mut Vec<ControllerId>,
 ) -> Result<(), Fault>
-    ensures stays { StaysIn change.old change.new result }
-    ensures reads { ReadsIn S.Store change.old change.new result
+    ensures stays { StaysIn S.Store change.old change.new result }
+    ensures reads { FindsIn S.Store change.old change.new result
         (λ r _. (f : Tree) → filter_of filter.now ≡ Some f → members.new.items ≡ members.old.items ++ ids_matching f (target_listed r entry ∷ [])) }
 {
     let id = entry.id;
@@ -61,8 +61,8 @@ fn matching<S: Alter>(
     filter: &Filter,
     entries: Vec<ListedTarget>,
 ) -> Result<Vec<ControllerId>, Fault>
-    ensures stays { StaysIn change.old change.new result }
-    ensures reads { ReadsIn S.Store change.old change.new result
+    ensures stays { StaysIn S.Store change.old change.new result }
+    ensures reads { FindsIn S.Store change.old change.new result
         (λ r members. (f : Tree) → filter_of filter.now ≡ Some f → members.items ≡ ids_matching f (map (target_listed r) entries.items)) }
 {
     let mut members = Vec::new(alloc);
@@ -78,8 +78,8 @@ fn all_matching<S: Alter>(
     change: &mut OpenChange<'_, S>,
     filter: &Filter,
 ) -> Result<Vec<ControllerId>, Fault>
-    ensures stays { StaysIn change.old change.new result }
-    ensures reads { ReadsIn S.Store change.old change.new result
+    ensures stays { StaysIn S.Store change.old change.new result }
+    ensures reads { FindsIn S.Store change.old change.new result
         (λ r members. (f : Tree) → filter_of filter.now ≡ Some f → members.items ≡ chosen (Some f) r.targets) }
 {
     let limit = change.read_target_count()?;
@@ -94,8 +94,8 @@ fn choose<S: Alter>(
     change: &mut OpenChange<'_, S>,
     text: &FilterText,
 ) -> Result<Chosen, Fault>
-    ensures stays { StaysIn change.old change.new result }
-    ensures reads { ReadsIn S.Store change.old change.new result (IsChosen text.now) }
+    ensures stays { StaysIn S.Store change.old change.new result }
+    ensures reads { FindsIn S.Store change.old change.new result (IsChosen text.now) }
 {
     let words = text.as_str();
     let filter = match Filter::read(alloc, words) {
@@ -124,9 +124,9 @@ fn read_view<S: Alter>(
     members: u32,
 ) -> Result<PlanView, Fault>
     requires { members ≡ length chosen.now.members.items }
-    ensures stays { StaysIn change.old change.new result }
+    ensures stays { StaysIn S.Store change.old change.new result }
     ensures members { IfOk result (λ view. view.members ≡ members) }
-    ensures reads { ReadsIn S.Store change.old change.new result (λ r view. IsChosen plan.now.filter_text r chosen.now → IsPlanView view plan.now r) }
+    ensures reads { FindsIn S.Store change.old change.new result (λ r view. IsChosen plan.now.filter_text r chosen.now → IsPlanView view plan.now r) }
 {
     let last_set = change.read_last_set()?;
     let same_name = change.read_same_rollout(&plan.name)?;
@@ -184,8 +184,8 @@ fn write_whole<S: Alter>(
 ) -> Result<(), Fault>
     requires enough { plan.now.groups ≤ length members.now }
     requires few { length members.now ≤ 4294967295 }
-    ensures stays { StaysIn change.old change.new result }
-    ensures writes { WritesAllLedger S.Store change.old change.new result (CreatesRollout (in_part created.now plan.now (length members.now) plan.now.groups members.now)) }
+    ensures stays { StaysIn S.Store change.old change.new result }
+    ensures writes { MakesLedger S.Store change.old change.new result (CreatesRollout (in_part created.now plan.now (length members.now) plan.now.groups members.now)) }
 {
     let number = created.number;
     let size = members.len() as u32;
@@ -214,7 +214,7 @@ pub(crate) fn create_rollout<S: Alter>(
     change: &mut OpenChange<'_, S>,
     plan: &RolloutPlan,
 ) -> Result<Step, Fault>
-    ensures stays { StaysIn change.old change.new result }
+    ensures stays { StaysIn S.Store change.old change.new result }
     ensures steps { StepsIn S.Store change.old change.new (CreateRollout plan.now) result }
 {
     let chosen = choose(alloc, change, &plan.filter_text)?;

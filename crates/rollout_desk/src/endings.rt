@@ -3,10 +3,9 @@
 ghost use Rattle.std.specs.Prelude.{◌≡◌, MatchResult};
 ghost use Rattle.sql_calls.specs.declared.fault.Fault.TheVariants.{Store};
 ghost use Rattle.rollout_machine.specs.RecordSteps.{counted};
-ghost use Rattle.rollout_desk.specs.Changing.{WritesAllLedger};
 ghost use Rattle.rollout_desk.specs.Endings.{CountsOutcome, FollowsOutcome, PausesIf, StartsNamed, StartsNumbered};
 ghost use Rattle.desk_store.specs.Counting.{AddsIn};
-ghost use Rattle.desk_store.specs.Changing.{StaysIn};
+ghost use Rattle.desk_store.specs.Changing.{MakesLedger, StaysIn};
 
 use crate::entries::one_more;
 use crate::groups::start_group;
@@ -43,8 +42,8 @@ fn count_outcome<S: Alter>(
     seen: &SeenAction,
     outcome: Outcome,
 ) -> Result<(), Fault>
-    ensures stays { StaysIn change.old change.new result }
-    ensures writes { WritesAllLedger S.Store change.old change.new result (CountsOutcome seen.now outcome) }
+    ensures stays { StaysIn S.Store change.old change.new result }
+    ensures writes { MakesLedger S.Store change.old change.new result (CountsOutcome seen.now outcome) }
     ensures work { AddsIn 1 0 change.old change.new }
 {
     let group = counted(seen.own, outcome)?;
@@ -64,8 +63,8 @@ fn pause_if<S: Alter>(
     seen: &SeenAction,
     pauses: bool,
 ) -> Result<(), Fault>
-    ensures stays { StaysIn change.old change.new result }
-    ensures writes { WritesAllLedger S.Store change.old change.new result (PausesIf seen.now pauses) }
+    ensures stays { StaysIn S.Store change.old change.new result }
+    ensures writes { MakesLedger S.Store change.old change.new result (PausesIf seen.now pauses) }
     ensures work { AddsIn 1 0 change.old change.new }
 {
     if pauses {
@@ -81,8 +80,8 @@ fn start_numbered<S: Alter>(
     rollout: RolloutNo,
     number: u32,
 ) -> Result<(), Fault>
-    ensures stays { StaysIn change.old change.new result }
-    ensures writes { WritesAllLedger S.Store change.old change.new result (StartsNumbered rollout number) }
+    ensures stays { StaysIn S.Store change.old change.new result }
+    ensures writes { MakesLedger S.Store change.old change.new result (StartsNumbered rollout number) }
     ensures work { AddsIn 3 1 change.old change.new }
 {
     let found = change.read_group(rollout, number)?;
@@ -98,8 +97,8 @@ pub(crate) fn start_named<S: Alter>(
     rollout: RolloutNo,
     starts: Option<u32>,
 ) -> Result<(), Fault>
-    ensures stays { StaysIn change.old change.new result }
-    ensures writes { WritesAllLedger S.Store change.old change.new result (StartsNamed rollout starts) }
+    ensures stays { StaysIn S.Store change.old change.new result }
+    ensures writes { MakesLedger S.Store change.old change.new result (StartsNamed rollout starts) }
     ensures work { AddsIn 3 1 change.old change.new }
 {
     match starts {
@@ -114,8 +113,8 @@ pub(crate) fn follow_ending<S: Alter>(
     seen: &SeenAction,
     ending: &Ending,
 ) -> Result<(), Fault>
-    ensures stays { StaysIn change.old change.new result }
-    ensures writes { WritesAllLedger S.Store change.old change.new result (FollowsOutcome seen.now ending.now) }
+    ensures stays { StaysIn S.Store change.old change.new result }
+    ensures writes { MakesLedger S.Store change.old change.new result (FollowsOutcome seen.now ending.now) }
     ensures work { AddsIn 5 1 change.old change.new }
 {
     count_outcome(change, seen, ending.outcome)?;

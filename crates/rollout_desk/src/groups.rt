@@ -1,10 +1,9 @@
 //! Groups of a rollout: starting one.
 
 ghost use Rattle.std.specs.Prelude.{◌≡◌};
-ghost use Rattle.rollout_desk.specs.Changing.{WritesAllLedger};
 ghost use Rattle.desk_store.specs.Counting.{AddsIn};
 ghost use Rattle.rollout_desk.specs.GroupStarts.{StartsGroup};
-ghost use Rattle.desk_store.specs.Changing.{StaysIn};
+ghost use Rattle.desk_store.specs.Changing.{MakesLedger, StaysIn};
 
 use desk_store::{Fault, OpenChange};
 use rollout_machine::GroupRecord;
@@ -17,8 +16,8 @@ pub(crate) fn start_group<S: Alter>(
     number: RolloutNo,
     group: &GroupRecord,
 ) -> Result<(), Fault>
-    ensures stays { StaysIn change.old change.new result }
-    ensures writes { WritesAllLedger S.Store change.old change.new result (StartsGroup number group.now) }
+    ensures stays { StaysIn S.Store change.old change.new result }
+    ensures writes { MakesLedger S.Store change.old change.new result (StartsGroup number group.now) }
     ensures work { AddsIn 2 0 change.old change.new }
 {
     change.change_group(number, group.number, true, group.ok, group.bad, group.gone)?;

@@ -19,7 +19,7 @@ fn give_up<S: Alter, T: Drop>(
     change: OpenChange<'_, S>,
     found: Result<T, Refusal>,
 ) -> Result<T, Refusal>
-    ensures ends { EndsLook HoldsRecords (state S.Store change.entry.store.now.calls.conn) (state S.Store change.exit.0.now.calls.conn) found result }
+    ensures ends { EndsLook (state S.Store change.entry.store.now.calls.conn) (state S.Store change.exit.0.now.calls.conn) found result }
     ensures tells { TellsFailures (tells_store result) change.entry.store.now.calls change.exit.0.now.calls }
 {
     match change.give_up() {

@@ -2,9 +2,9 @@
 
 ghost use Rattle.std.specs.Prelude.{◌≡◌};
 ghost use Rattle.rollout_machine.specs.Commands.{AddModule};
-ghost use Rattle.desk_store.specs.Changing.{ReadsIn, StaysIn};
-ghost use Rattle.rollout_desk.specs.Changing.{StepsIn};
 ghost use Rattle.rollout_desk.specs.Additions.{GetsModuleNumber};
+ghost use Rattle.desk_store.specs.Changing.{FindsIn, StaysIn};
+ghost use Rattle.rollout_desk.specs.Changing.{StepsIn};
 
 use crate::step::Step;
 use desk_store::{Fault, OpenChange};
@@ -18,8 +18,8 @@ fn next_module<S: Alter>(
     change: &mut OpenChange<'_, S>,
     label: &ModuleLabel,
 ) -> Result<Result<ModuleNo, Refusal>, Fault>
-    ensures stays { StaysIn change.old change.new result }
-    ensures reads { ReadsIn S.Store change.old change.new result (GetsModuleNumber label.now) }
+    ensures stays { StaysIn S.Store change.old change.new result }
+    ensures reads { FindsIn S.Store change.old change.new result (GetsModuleNumber label.now) }
 {
     if change.read_same_module(label)? {
         return Ok(Err(Refusal::Exists));
@@ -37,7 +37,7 @@ pub(crate) fn add_module<S: Alter>(
     change: &mut OpenChange<'_, S>,
     label: &ModuleLabel,
 ) -> Result<Step, Fault>
-    ensures stays { StaysIn change.old change.new result }
+    ensures stays { StaysIn S.Store change.old change.new result }
     ensures steps { StepsIn S.Store change.old change.new (AddModule label.now) result }
 {
     let number = match next_module(change, label)? {

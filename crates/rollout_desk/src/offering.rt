@@ -1,10 +1,9 @@
 //! What a target is offered, looked up again.
 
 ghost use Rattle.std.specs.Prelude.{◌≡◌};
-ghost use Rattle.rollout_desk.specs.Changing.{WritesAllLedger};
 ghost use Rattle.rollout_desk.specs.Offering.{Reoffers};
 ghost use Rattle.desk_store.specs.Counting.{AddsIn};
-ghost use Rattle.desk_store.specs.Changing.{StaysIn};
+ghost use Rattle.desk_store.specs.Changing.{MakesLedger, StaysIn};
 
 use desk_store::{Fault, OpenChange};
 use rollout_model::ControllerId;
@@ -15,8 +14,8 @@ pub(crate) fn offer_anew<S: Alter>(
     change: &mut OpenChange<'_, S>,
     id: &ControllerId,
 ) -> Result<(), Fault>
-    ensures stays { StaysIn change.old change.new result }
-    ensures writes { WritesAllLedger S.Store change.old change.new result (Reoffers id.now) }
+    ensures stays { StaysIn S.Store change.old change.new result }
+    ensures writes { MakesLedger S.Store change.old change.new result (Reoffers id.now) }
     ensures work { AddsIn 2 1 change.old change.new }
 {
     let offer = change.read_next_offer(id)?;

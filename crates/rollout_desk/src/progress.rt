@@ -7,9 +7,9 @@ ghost use Rattle.rollout_machine.specs.CommandList.{CommandList};
 ghost use Rattle.rollout_machine.specs.Commands.{Resume, TriggerNext};
 ghost use Rattle.rollout_machine.specs.RecordSteps.{last_started, view_from_group, view_of};
 ghost use Rattle.rollout_machine.specs.declared.records.RolloutRecord.{RolloutRecord};
-ghost use Rattle.rollout_desk.specs.Changing.{StepsIn, WritesAllLedger};
 ghost use Rattle.rollout_desk.specs.Standings.{GoesOn, IsSeenAt, Judges, StartsIf, gone_by, pause_left, starts_by};
-ghost use Rattle.desk_store.specs.Changing.{StaysIn};
+ghost use Rattle.desk_store.specs.Changing.{MakesLedger, StaysIn};
+ghost use Rattle.rollout_desk.specs.Changing.{StepsIn};
 
 use crate::groups::start_group;
 use crate::standing::{number_is_well_formed, refusal_in};
@@ -153,8 +153,8 @@ fn start_next<S: Alter>(
     groups: &[GroupRecord],
     starts: Option<u32>,
 ) -> Result<(), Fault>
-    ensures stays { StaysIn change.old change.new result }
-    ensures writes { WritesAllLedger S.Store change.old change.new result (StartsIf number groups.now starts) }
+    ensures stays { StaysIn S.Store change.old change.new result }
+    ensures writes { MakesLedger S.Store change.old change.new result (StartsIf number groups.now starts) }
 {
     let Some(next) = starts else {
         return Ok(());
@@ -173,8 +173,8 @@ fn write_going<S: Alter>(
     paused: bool,
     starts: Option<u32>,
 ) -> Result<(), Fault>
-    ensures stays { StaysIn change.old change.new result }
-    ensures writes { WritesAllLedger S.Store change.old change.new result (GoesOn number seen.now paused starts) }
+    ensures stays { StaysIn S.Store change.old change.new result }
+    ensures writes { MakesLedger S.Store change.old change.new result (GoesOn number seen.now paused starts) }
 {
     change.change_rollout(number, seen.approval, seen.started, paused)?;
     start_next(change, number, &seen.groups, starts)
@@ -186,7 +186,7 @@ fn go_on<S: Alter>(
     number: RolloutNo,
     going: Going,
 ) -> Result<Step, Fault>
-    ensures stays { StaysIn change.old change.new result }
+    ensures stays { StaysIn S.Store change.old change.new result }
     ensures steps { StepsIn S.Store change.old change.new (gone_by going number) result }
 {
     let found = read_seen_rollout(change, number)?;
@@ -209,7 +209,7 @@ pub(crate) fn resume_rollout<S: Alter>(
     change: &mut OpenChange<'_, S>,
     number: RolloutNo,
 ) -> Result<Step, Fault>
-    ensures stays { StaysIn change.old change.new result }
+    ensures stays { StaysIn S.Store change.old change.new result }
     ensures steps { StepsIn S.Store change.old change.new (Resume number) result }
 {
     go_on(change, number, Going::Resumed)
@@ -220,7 +220,7 @@ pub(crate) fn trigger_next<S: Alter>(
     change: &mut OpenChange<'_, S>,
     number: RolloutNo,
 ) -> Result<Step, Fault>
-    ensures stays { StaysIn change.old change.new result }
+    ensures stays { StaysIn S.Store change.old change.new result }
     ensures steps { StepsIn S.Store change.old change.new (TriggerNext number) result }
 {
     go_on(change, number, Going::Triggered)

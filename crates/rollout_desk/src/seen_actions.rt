@@ -5,10 +5,9 @@ ghost use Rattle.sql_calls.specs.declared.fault.Fault.TheVariants.{Store};
 ghost use Rattle.rollout_machine.specs.RecordSteps.{view_from_group};
 ghost use Rattle.rollout_machine.specs.StateWords.{number_of_group, size_of_group};
 ghost use Rattle.desk_records.specs.Rollouts.{last_started_group};
-ghost use Rattle.desk_store.specs.Changing.{ReadsIn, StaysIn};
 ghost use Rattle.desk_store.specs.Counting.{AddsIn};
-ghost use Rattle.desk_store.specs.Ledgers.{ReadsLedger};
 ghost use Rattle.rollout_desk.specs.SeenActions.{MaySee, SeesIn, SeesReport, SeesTarget, action_view_seen, cancel_view_seen, only_of, only_started, report_view_seen, rollout_seen};
+ghost use Rattle.desk_store.specs.Changing.{FindsIn, FindsLedger, StaysIn};
 
 use crate::entries::one_more;
 use crate::tags::lacks_target;
@@ -118,8 +117,8 @@ fn see_in<S: Alter>(
     number: ActionNo,
     action: &StoredAction,
 ) -> Result<SeenAction, Fault>
-    ensures stays { StaysIn change.old change.new result }
-    ensures reads { ReadsLedger S.Store change.old change.new result (λ l seen. SeesIn l number action.now seen) }
+    ensures stays { StaysIn S.Store change.old change.new result }
+    ensures reads { FindsLedger S.Store change.old change.new result (λ l seen. SeesIn l number action.now seen) }
     ensures work { AddsIn 3 3 change.old change.new }
 {
     let rollout = change.read_rollout(action.rollout)?.ok_or(Fault::Store)?;
@@ -143,8 +142,8 @@ fn see_action<S: Alter>(
     change: &mut OpenChange<'_, S>,
     number: ActionNo,
 ) -> Result<Option<SeenAction>, Fault>
-    ensures stays { StaysIn change.old change.new result }
-    ensures reads { ReadsLedger S.Store change.old change.new result (MaySee number) }
+    ensures stays { StaysIn S.Store change.old change.new result }
+    ensures reads { FindsLedger S.Store change.old change.new result (MaySee number) }
     ensures work { AddsIn 4 4 change.old change.new }
 {
     let found = change.read_action(number)?;
@@ -189,8 +188,8 @@ pub(crate) fn see_report<S: Alter>(
     device: &Credential,
     number: ActionNo,
 ) -> Result<SeenReport, Fault>
-    ensures stays { StaysIn change.old change.new result }
-    ensures reads { ReadsIn S.Store change.old change.new result (SeesReport device.now number) }
+    ensures stays { StaysIn S.Store change.old change.new result }
+    ensures reads { FindsIn S.Store change.old change.new result (SeesReport device.now number) }
     ensures work { AddsIn 5 5 change.old change.new }
 {
     let knows = knows_device(change, device)?;
@@ -207,8 +206,8 @@ pub(crate) fn see_target<S: Alter>(
     id: &ControllerId,
     number: ActionNo,
 ) -> Result<Option<SeenAction>, Fault>
-    ensures stays { StaysIn change.old change.new result }
-    ensures reads { ReadsIn S.Store change.old change.new result (SeesTarget id.now number) }
+    ensures stays { StaysIn S.Store change.old change.new result }
+    ensures reads { FindsIn S.Store change.old change.new result (SeesTarget id.now number) }
     ensures work { AddsIn 5 5 change.old change.new }
 {
     let lacks = lacks_target(change, id)?;

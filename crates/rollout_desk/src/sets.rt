@@ -4,9 +4,9 @@ ghost use Rattle.std.specs.Prelude.{◌≡◌, ◌≤◌, ◌+◌, true, length,
 ghost use Rattle.rollout_model.specs.Rules.{is_module_list};
 ghost use Rattle.std.specs.List.{list_any};
 ghost use Rattle.rollout_machine.specs.Commands.{AddSet};
-ghost use Rattle.desk_store.specs.Changing.{ReadsIn, StaysIn};
-ghost use Rattle.rollout_desk.specs.Changing.{StepsIn, WritesAllIn};
 ghost use Rattle.rollout_desk.specs.Additions.{AddsModules, AddsWhole, GetsSetNumber, LacksModule};
+ghost use Rattle.desk_store.specs.Changing.{FindsIn, MakesIn, StaysIn};
+ghost use Rattle.rollout_desk.specs.Changing.{StepsIn};
 
 use crate::step::Step;
 use desk_store::{Fault, OpenChange};
@@ -28,8 +28,8 @@ fn lacks_a_module<S: Alter>(
     change: &mut OpenChange<'_, S>,
     modules: &ModuleList,
 ) -> Result<bool, Fault>
-    ensures stays { StaysIn change.old change.new result }
-    ensures reads { ReadsIn S.Store change.old change.new result (LacksModule modules.now) }
+    ensures stays { StaysIn S.Store change.old change.new result }
+    ensures reads { FindsIn S.Store change.old change.new result (LacksModule modules.now) }
 {
     let last = change.read_last_module()?;
     Ok(any_past(modules, last))
@@ -40,8 +40,8 @@ fn next_set<S: Alter>(
     change: &mut OpenChange<'_, S>,
     label: &SetLabel,
 ) -> Result<Result<SetNo, Refusal>, Fault>
-    ensures stays { StaysIn change.old change.new result }
-    ensures reads { ReadsIn S.Store change.old change.new result (GetsSetNumber label.now) }
+    ensures stays { StaysIn S.Store change.old change.new result }
+    ensures reads { FindsIn S.Store change.old change.new result (GetsSetNumber label.now) }
 {
     if lacks_a_module(change, &label.modules)? {
         return Ok(Err(Refusal::NotFound));
@@ -64,8 +64,8 @@ fn write_modules<S: Alter>(
     modules: &[ModuleNo],
 ) -> Result<(), Fault>
     requires { before + length modules.now ≤ 8 }
-    ensures stays { StaysIn change.old change.new result }
-    ensures writes { WritesAllIn S.Store change.old change.new result (AddsModules number before modules.now) }
+    ensures stays { StaysIn S.Store change.old change.new result }
+    ensures writes { MakesIn S.Store change.old change.new result (AddsModules number before modules.now) }
 {
     match modules {
         [] => Ok(()),
@@ -82,8 +82,8 @@ fn write_whole<S: Alter>(
     number: SetNo,
     label: &SetLabel,
 ) -> Result<(), Fault>
-    ensures stays { StaysIn change.old change.new result }
-    ensures writes { WritesAllIn S.Store change.old change.new result (AddsWhole number label.now) }
+    ensures stays { StaysIn S.Store change.old change.new result }
+    ensures writes { MakesIn S.Store change.old change.new result (AddsWhole number label.now) }
 {
     change.write_set(number, &label.name, &label.version)?;
     write_modules(change, number, 0, label.modules.as_slice())
@@ -95,7 +95,7 @@ pub(crate) fn add_set<S: Alter>(
     change: &mut OpenChange<'_, S>,
     label: &SetLabel,
 ) -> Result<Step, Fault>
-    ensures stays { StaysIn change.old change.new result }
+    ensures stays { StaysIn S.Store change.old change.new result }
     ensures steps { StepsIn S.Store change.old change.new (AddSet label.now) result }
 {
     let number = match next_set(change, label)? {

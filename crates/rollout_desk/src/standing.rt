@@ -1,12 +1,11 @@
 //! What is said of a rollout as a whole: it is approved, denied or paused.
 
 ghost use Rattle.std.specs.Prelude.{◌≡◌, MatchResult, None, Some, true};
-ghost use Rattle.desk_store.specs.Ledgers.{WritesLedger};
 ghost use Rattle.rollout_model.specs.Rules.{is_number};
 ghost use Rattle.rollout_machine.specs.Commands.{Approve, Deny, Pause};
-ghost use Rattle.rollout_desk.specs.Changing.{StepsIn};
 ghost use Rattle.rollout_desk.specs.Standings.{Judges, WritesSaid, said_by};
-ghost use Rattle.desk_store.specs.Changing.{StaysIn};
+ghost use Rattle.desk_store.specs.Changing.{MakesLedger, StaysIn};
+ghost use Rattle.rollout_desk.specs.Changing.{StepsIn};
 
 use crate::step::Step;
 use campaign_core::{RolloutChange, StandingView, approve, deny, pause};
@@ -61,8 +60,8 @@ fn write_said<S: Alter>(
     seen: &SeenRollout,
     said: Said,
 ) -> Result<(), Fault>
-    ensures stays { StaysIn change.old change.new result }
-    ensures writes { WritesLedger S.Store change.old change.new result (WritesSaid said number seen.now) }
+    ensures stays { StaysIn S.Store change.old change.new result }
+    ensures writes { MakesLedger S.Store change.old change.new result (WritesSaid said number seen.now) }
 {
     match said {
         Said::Approved => {
@@ -81,7 +80,7 @@ fn say<S: Alter>(
     number: RolloutNo,
     said: Said,
 ) -> Result<Step, Fault>
-    ensures stays { StaysIn change.old change.new result }
+    ensures stays { StaysIn S.Store change.old change.new result }
     ensures steps { StepsIn S.Store change.old change.new (said_by said number) result }
 {
     let found = read_seen_rollout(change, number)?;
@@ -101,7 +100,7 @@ pub(crate) fn approve_rollout<S: Alter>(
     change: &mut OpenChange<'_, S>,
     number: RolloutNo,
 ) -> Result<Step, Fault>
-    ensures stays { StaysIn change.old change.new result }
+    ensures stays { StaysIn S.Store change.old change.new result }
     ensures steps { StepsIn S.Store change.old change.new (Approve number) result }
 {
     say(change, number, Said::Approved)
@@ -112,7 +111,7 @@ pub(crate) fn deny_rollout<S: Alter>(
     change: &mut OpenChange<'_, S>,
     number: RolloutNo,
 ) -> Result<Step, Fault>
-    ensures stays { StaysIn change.old change.new result }
+    ensures stays { StaysIn S.Store change.old change.new result }
     ensures steps { StepsIn S.Store change.old change.new (Deny number) result }
 {
     say(change, number, Said::Denied)
@@ -123,7 +122,7 @@ pub(crate) fn pause_rollout<S: Alter>(
     change: &mut OpenChange<'_, S>,
     number: RolloutNo,
 ) -> Result<Step, Fault>
-    ensures stays { StaysIn change.old change.new result }
+    ensures stays { StaysIn S.Store change.old change.new result }
     ensures steps { StepsIn S.Store change.old change.new (Pause number) result }
 {
     say(change, number, Said::Paused)

@@ -2,11 +2,10 @@
 
 ghost use Rattle.std.specs.Prelude.{◌≡◌, ◌≤◌, ◌+◌, length, slice_get, IsTrue};
 ghost use Rattle.rollout_machine.specs.Commands.{Start};
-ghost use Rattle.rollout_desk.specs.Changing.{StepsIn, WritesAllLedger};
 ghost use Rattle.rollout_desk.specs.Standings.{Judges};
 ghost use Rattle.rollout_desk.specs.Starts.{AddsActions, ReadsMembers, StartsWhole};
-ghost use Rattle.desk_store.specs.Ledgers.{ReadsLedger};
-ghost use Rattle.desk_store.specs.Changing.{StaysIn};
+ghost use Rattle.desk_store.specs.Changing.{FindsLedger, MakesLedger, StaysIn};
+ghost use Rattle.rollout_desk.specs.Changing.{StepsIn};
 
 use crate::groups::start_group;
 use crate::standing::{number_is_well_formed, refusal_in};
@@ -35,8 +34,8 @@ fn read_all_members<S: Alter>(
     number: RolloutNo,
     count: u32,
 ) -> Result<Vec<ControllerId>, Fault>
-    ensures stays { StaysIn change.old change.new result }
-    ensures reads { ReadsLedger S.Store change.old change.new result (λ l members. ReadsMembers number count l members.items) }
+    ensures stays { StaysIn S.Store change.old change.new result }
+    ensures reads { FindsLedger S.Store change.old change.new result (λ l members. ReadsMembers number count l members.items) }
 {
     let page = Page {
         offset: 0,
@@ -54,8 +53,8 @@ fn write_actions<S: Alter>(
     members: &[ControllerId],
 ) -> Result<(), Fault>
     requires { last + length members.now ≤ 2147483647 }
-    ensures stays { StaysIn change.old change.new result }
-    ensures writes { WritesAllLedger S.Store change.old change.new result (AddsActions number last members.now (length members.now)) }
+    ensures stays { StaysIn S.Store change.old change.new result }
+    ensures writes { MakesLedger S.Store change.old change.new result (AddsActions number last members.now (length members.now)) }
 {
     for (i, id) in members.iter().enumerate() {
         let place = i as u32 + 1;
@@ -75,8 +74,8 @@ fn write_start<S: Alter>(
     members: &[ControllerId],
 ) -> Result<(), Fault>
     requires { last + length members.now ≤ 2147483647 }
-    ensures stays { StaysIn change.old change.new result }
-    ensures writes { WritesAllLedger S.Store change.old change.new result (StartsWhole number seen.now first.now last members.now) }
+    ensures stays { StaysIn S.Store change.old change.new result }
+    ensures writes { MakesLedger S.Store change.old change.new result (StartsWhole number seen.now first.now last members.now) }
 {
     change.change_rollout(number, seen.approval, true, seen.paused)?;
     write_actions(change, number, last, members)?;
@@ -102,7 +101,7 @@ pub(crate) fn start_rollout<S: Alter>(
     change: &mut OpenChange<'_, S>,
     number: RolloutNo,
 ) -> Result<Step, Fault>
-    ensures stays { StaysIn change.old change.new result }
+    ensures stays { StaysIn S.Store change.old change.new result }
     ensures steps { StepsIn S.Store change.old change.new (Start number) result }
 {
     let found = read_seen_rollout(change, number)?;

@@ -4,8 +4,8 @@ ghost use Rattle.std.specs.Prelude.{◌≡◌, is_none};
 ghost use Rattle.std.specs.Option.{option_map};
 ghost use Rattle.rollout_machine.specs.Commands.{Tag, Untag};
 ghost use Rattle.rollout_machine.specs.Verdicts.{target_of};
-ghost use Rattle.desk_store.specs.Changing.{ReadsIn, StaysIn};
 ghost use Rattle.desk_store.specs.Counting.{AddsIn};
+ghost use Rattle.desk_store.specs.Changing.{FindsIn, StaysIn};
 ghost use Rattle.rollout_desk.specs.Changing.{StepsIn};
 
 use crate::step::Step;
@@ -19,8 +19,8 @@ pub(crate) fn lacks_target<S: Alter>(
     change: &mut OpenChange<'_, S>,
     id: &ControllerId,
 ) -> Result<bool, Fault>
-    ensures stays { StaysIn change.old change.new result }
-    ensures reads { ReadsIn S.Store change.old change.new result (λ r lacks. lacks ≡ is_none (target_of r id.now)) }
+    ensures stays { StaysIn S.Store change.old change.new result }
+    ensures reads { FindsIn S.Store change.old change.new result (λ r lacks. lacks ≡ is_none (target_of r id.now)) }
     ensures work { AddsIn 1 1 change.old change.new }
 {
     let found = change.read_target(id)?;
@@ -33,7 +33,7 @@ pub(crate) fn tag_target<S: Alter>(
     id: &ControllerId,
     tag: &Word,
 ) -> Result<Step, Fault>
-    ensures stays { StaysIn change.old change.new result }
+    ensures stays { StaysIn S.Store change.old change.new result }
     ensures steps { StepsIn S.Store change.old change.new (Tag id.now tag.now) result }
 {
     if lacks_target(change, id)? {
@@ -56,7 +56,7 @@ pub(crate) fn untag_target<S: Alter>(
     id: &ControllerId,
     tag: &Word,
 ) -> Result<Step, Fault>
-    ensures stays { StaysIn change.old change.new result }
+    ensures stays { StaysIn S.Store change.old change.new result }
     ensures steps { StepsIn S.Store change.old change.new (Untag id.now tag.now) result }
 {
     if lacks_target(change, id)? {

@@ -2,10 +2,9 @@
 
 ghost use Rattle.std.specs.Prelude.{◌≡◌, ◌<◌, None, Some, IfNone, IfSome, length};
 ghost use Rattle.rollout_machine.specs.Commands.{PutTargets};
-ghost use Rattle.desk_records.specs.Holds.{HoldsRecords};
-ghost use Rattle.desk_store.specs.Changing.{ReadsIn, seen_in, StaysIn};
-ghost use Rattle.rollout_desk.specs.Changing.{StepsIn, WritesAllIn};
 ghost use Rattle.rollout_desk.specs.Imports.{AddsTags, DropsTags, LeavesRoom, PutsAll, PutsOver, PutsRow, Renames, Retags};
+ghost use Rattle.desk_store.specs.Changing.{FindsIn, MakesIn, StaysIn, seen_in};
+ghost use Rattle.rollout_desk.specs.Changing.{StepsIn};
 
 use crate::step::Step;
 use desk_store::{Fault, OpenChange, StoredTarget};
@@ -20,8 +19,8 @@ fn drop_tags<S: Alter>(
     had: &[Word],
     wanted: &[Word],
 ) -> Result<(), Fault>
-    ensures stays { StaysIn change.old change.new result }
-    ensures writes { WritesAllIn S.Store change.old change.new result (DropsTags id.now had.now wanted.now) }
+    ensures stays { StaysIn S.Store change.old change.new result }
+    ensures writes { MakesIn S.Store change.old change.new result (DropsTags id.now had.now wanted.now) }
 {
     match had {
         [] => Ok(()),
@@ -42,8 +41,8 @@ fn add_tags<S: Alter>(
     tags: &[Word],
     had: &[Word],
 ) -> Result<(), Fault>
-    ensures stays { StaysIn change.old change.new result }
-    ensures writes { WritesAllIn S.Store change.old change.new result (AddsTags id.now tags.now had.now) }
+    ensures stays { StaysIn S.Store change.old change.new result }
+    ensures writes { MakesIn S.Store change.old change.new result (AddsTags id.now tags.now had.now) }
 {
     match tags {
         [] => Ok(()),
@@ -63,8 +62,8 @@ fn retag<S: Alter>(
     id: &ControllerId,
     tags: &Tags,
 ) -> Result<(), Fault>
-    ensures stays { StaysIn change.old change.new result }
-    ensures writes { WritesAllIn S.Store change.old change.new result (Retags id.now tags.now) }
+    ensures stays { StaysIn S.Store change.old change.new result }
+    ensures writes { MakesIn S.Store change.old change.new result (Retags id.now tags.now) }
 {
     let had = change.read_target_tags(id)?;
     drop_tags(change, id, &had, tags.as_slice())?;
@@ -77,8 +76,8 @@ fn rename<S: Alter>(
     row: &TargetRow,
     stored: &StoredTarget,
 ) -> Result<(), Fault>
-    ensures stays { StaysIn change.old change.new result }
-    ensures writes { WritesAllIn S.Store change.old change.new result (Renames row.now stored.now) }
+    ensures stays { StaysIn S.Store change.old change.new result }
+    ensures writes { MakesIn S.Store change.old change.new result (Renames row.now stored.now) }
 {
     if stored.name == row.name && stored.digest == row.digest {
         return Ok(());
@@ -88,8 +87,8 @@ fn rename<S: Alter>(
 
 /// Puts the row of a target that isn't there.
 fn add_row<S: Alter>(change: &mut OpenChange<'_, S>, row: &TargetRow) -> Result<(), Fault>
-    ensures stays { StaysIn change.old change.new result }
-    ensures writes { WritesAllIn S.Store change.old change.new result (PutsOver None row.now) }
+    ensures stays { StaysIn S.Store change.old change.new result }
+    ensures writes { MakesIn S.Store change.old change.new result (PutsOver None row.now) }
 {
     change.write_target(&row.id, &row.name, &row.digest)?;
     add_tags(change, &row.id, row.tags.as_slice(), &[])
@@ -101,8 +100,8 @@ fn change_row<S: Alter>(
     row: &TargetRow,
     stored: &StoredTarget,
 ) -> Result<(), Fault>
-    ensures stays { StaysIn change.old change.new result }
-    ensures writes { WritesAllIn S.Store change.old change.new result (PutsOver (Some stored.now) row.now) }
+    ensures stays { StaysIn S.Store change.old change.new result }
+    ensures writes { MakesIn S.Store change.old change.new result (PutsOver (Some stored.now) row.now) }
 {
     rename(change, row, stored)?;
     retag(change, &row.id, &row.tags)
@@ -110,8 +109,8 @@ fn change_row<S: Alter>(
 
 /// How many more targets the desk takes. They are counted where that isn't known yet.
 fn room_left<S: Alter>(change: &mut OpenChange<'_, S>, left: Option<u32>) -> Result<u32, Fault>
-    ensures stays { StaysIn change.old change.new result }
-    ensures reads { ReadsIn S.Store change.old change.new result (LeavesRoom left) }
+    ensures stays { StaysIn S.Store change.old change.new result }
+    ensures reads { FindsIn S.Store change.old change.new result (LeavesRoom left) }
 {
     match left {
         Some(known) => return Ok(known),
@@ -128,8 +127,8 @@ fn put_row<S: Alter>(
     row: &TargetRow,
     left: Option<u32>,
 ) -> Result<Result<Option<u32>, Refusal>, Fault>
-    ensures stays { StaysIn change.old change.new result }
-    ensures puts { PutsRow HoldsRecords (seen_in S.Store change.old) (seen_in S.Store change.new) row.now left result }
+    ensures stays { StaysIn S.Store change.old change.new result }
+    ensures puts { PutsRow (seen_in S.Store change.old) (seen_in S.Store change.new) row.now left result }
 {
     let found = change.read_target(&row.id)?;
     match &found {
@@ -154,8 +153,8 @@ fn put_rows<S: Alter>(
     change: &mut OpenChange<'_, S>,
     rows: &[TargetRow],
 ) -> Result<Option<Refusal>, Fault>
-    ensures stays { StaysIn change.old change.new result }
-    ensures puts { PutsAll HoldsRecords (seen_in S.Store change.old) (seen_in S.Store change.new) rows.now result }
+    ensures stays { StaysIn S.Store change.old change.new result }
+    ensures puts { PutsAll (seen_in S.Store change.old) (seen_in S.Store change.new) rows.now result }
 {
     let mut left = None;
     for row in rows {
@@ -183,7 +182,7 @@ pub(crate) fn put_targets<S: Alter>(
     change: &mut OpenChange<'_, S>,
     rows: &TargetRows,
 ) -> Result<Step, Fault>
-    ensures stays { StaysIn change.old change.new result }
+    ensures stays { StaysIn S.Store change.old change.new result }
     ensures steps { StepsIn S.Store change.old change.new (PutTargets rows.now) result }
 {
     let rows = rows.as_slice();

@@ -1,47 +1,95 @@
 -- Calls in a change one after the other.
-use Rattle.std.proofs.Common.{Result, Ok, Err, IsErr, arith}
+use Rattle.std.proofs.Common.{◌≡◌, Result, Ok, Err, IfOk, arith, subst, sym}
 use Rattle.sqlite.specs.Effect.{Database}
-use Rattle.sqlite.specs.State.{State}
-use Rattle.sql_calls.specs.Standing.{Reads}
-use Rattle.sql_calls.proofs.Changes.{spoils}
+use Rattle.sqlite.specs.State.{State, HasCleanDisk}
+use Rattle.sql_calls.specs.Standing.{Finds, IsSeeing, Makes, Sees}
 
-module _ {R : Type 0} (Holds : Database → R → Type 0) where
+-- by what is between them
+abbrev pub Then : {R : Type 0} → (R → R → Type 0) → (R → R → Type 0) → R → R → Type 0
+Then {R = R} C D r next = (mid : R) × C r mid × D mid next
+
+module _ {R Q : Type 0} {Holds : Database → R → Type 0} {of : Q → R} where
+  -- ---- reads
+
   -- what is known without a read
-  pub known : {A E : Type 0} (a : State) (x : A) (P : R → A → Type 0) → ((r : R) → P r x) → Reads Holds {E = E} a a (Ok x) P
-  known a x P means = record { wears = omega arith; reads = λ now kept was. (was, λ clean. means now) }
+  pub known : {A E : Type 0} {a : State} {x : A} {P : Q → A → Type 0} → ((r : Q) → P r x) → Finds Holds of {E = E} a a (Ok x) P
+  known means = record { wears = omega arith; finds = λ now was. (was, λ clean. means now) }
 
   -- what is known of one value is known of another
-  pub reads_as : {A B E F : Type 0} (a b : State) (x : A) (y : B) (P : R → A → Type 0) (Q : R → B → Type 0) → Reads Holds {E = E} a b (Ok x) P → ((r : R) → P r x → Q r y) → Reads Holds {E = F} a b (Ok y) Q
-  reads_as a b x y P Q h means = record { wears = h.wears; reads = λ now kept was. let it = h.reads now kept was in (it.0, λ clean. means now (it.1 clean)) }
-
-  pub read_fails : {A B E F : Type 0} (a b : State) (e : E) (P : R → A → Type 0) (Q : R → B → Type 0) → Reads Holds a b (Err e) P → (out : Result B F) → IsErr out → Reads Holds a b out Q
-  read_fails a b e P Q h (Ok x) bad = absurd (cc)
-  read_fails a b e P Q h (Err f) bad = record { wears = h.wears; reads = h.reads }
-
-  -- what was read is of no use
-  pub read_in_vain : {A B E F : Type 0} (a b : State) (x : A) (P : R → A → Type 0) (Q : R → B → Type 0) → Reads Holds {E = E} a b (Ok x) P → (f : F) → Reads Holds a b (Err f) Q
-  read_in_vain a b x P Q h f = record { wears = h.wears; reads = λ now kept was. spoils Holds b now kept (h.reads now kept was).0 }
-
-  pub read_but_fails : {A B E F : Type 0} (a b : State) (x : A) (P : R → A → Type 0) (Q : R → B → Type 0) → Reads Holds {E = E} a b (Ok x) P → (out : Result B F) → IsErr out → Reads Holds a b out Q
-  read_but_fails a b x P Q h (Ok y) bad = absurd (cc)
-  read_but_fails a b x P Q h (Err f) bad = read_in_vain a b x P Q h f
+  pub finds_as : {A B E F : Type 0} {a b : State} {x : A} {y : B} {P : Q → A → Type 0} {W : Q → B → Type 0} → Finds Holds of {E = E} a b (Ok x) P → ((r : Q) → P r x → W r y) → Finds Holds of {E = F} a b (Ok y) W
+  finds_as h means = record { wears = h.wears; finds = λ now was. let it = h.finds now was in (it.0, λ clean. means now (it.1 clean)) }
 
   -- a second read says as much as the first
-  pub both_read : {A B E F : Type 0} (a b c : State) (x : A) (y : B) (P : R → A → Type 0) (Q : R → B → Type 0) → Reads Holds {E = E} a b (Ok x) P → Reads Holds {E = F} b c (Ok y) Q
-      → Reads Holds {E = F} a c (Ok y) (λ r y. P r x × Q r y)
-  both_read a b c x y P Q first second = record {
+  pub both_found : {A B E F : Type 0} {a b c : State} {x : A} {y : B} {P : Q → A → Type 0} {W : Q → B → Type 0} → Finds Holds of {E = E} a b (Ok x) P → Finds Holds of {E = F} b c (Ok y) W
+      → Finds Holds of {E = F} a c (Ok y) (λ r y. P r x × W r y)
+  both_found first second = record {
     wears = omega (arith, first.wears, second.wears);
-    reads = λ now kept was.
-        let one = first.reads now kept was in
-        let two = second.reads now kept one.0 in
+    finds = λ now was.
+        let one = first.finds now was in
+        let two = second.finds now one.0 in
         (two.0, λ clean. (one.1 (omega (arith, clean, second.wears)), two.1 clean));
   }
 
-  pub second_fails : {A B C E F G : Type 0} (a b c : State) (x : A) (e : F) (P : R → A → Type 0) (Q : R → B → Type 0) (S : R → C → Type 0) → Reads Holds {E = E} a b (Ok x) P → Reads Holds b c (Err e) Q
-      → (out : Result C G) → IsErr out → Reads Holds a c out S
-  second_fails a b c x e P Q S first second (Ok y) bad = absurd (cc)
-  second_fails a b c x e P Q S first second (Err f) bad = record { wears = omega (arith, first.wears, second.wears); reads = λ now kept was. second.reads now kept (first.reads now kept was).0 }
-
   -- what is so wherever something is held is known with each read
-  pub read_held : {A E : Type 0} (a b : State) (x : A) (P : R → A → Type 0) (Q : R → Type 0) → ((db : Database) (r : R) → Holds db r → Q r) → Reads Holds {E = E} a b (Ok x) P → Reads Holds {E = E} a b (Ok x) (λ r y. Q r × P r y)
-  read_held a b x P Q so h = record { wears = h.wears; reads = λ now kept was. (let it = h.reads now kept was in (it.0, λ clean. (so a.now now (was (omega (arith, clean, h.wears))).now_holds, it.1 clean))) }
+  pub found_held : {A E : Type 0} {a b : State} {x : A} {P : Q → A → Type 0} {W : Q → Type 0} → ((db : Database) (r : Q) → Holds db (of r) → W r) → Finds Holds of {E = E} a b (Ok x) P → Finds Holds of {E = E} a b (Ok x) (λ r y. W r × P r y)
+  found_held {a = a} so h = record { wears = h.wears; finds = λ now was. (let it = h.finds now was in (it.0, λ clean. (so a.now now (was.sees (omega (arith, clean, h.wears))).now_holds, it.1 clean))) }
+
+  -- a read, and then one that answers as it is
+  pub found_then : {A B E F : Type 0} {a b c : State} {x : A} {P : Q → A → Type 0} {V W : Q → B → Type 0} → Finds Holds of {E = E} a b (Ok x) P → (out : Result B F) → Finds Holds of b c out V → ((r : Q) (y : B) → P r x → V r y → W r y)
+      → Finds Holds of a c out W
+  found_then first (Ok y) second means = finds_as (both_found first second) (λ r is. means r y is.0 is.1)
+  found_then first (Err f) second means = record { wears = omega (arith, first.wears, second.wears); finds = tt }
+
+  -- what is made of what was read
+  pub found_if : {A B E F : Type 0} {a b : State} {x : A} {P : Q → A → Type 0} {V : B → Type 0} {W : Q → B → Type 0} → Finds Holds of {E = E} a b (Ok x) P → (out : Result B F) → IfOk out V → ((r : Q) (y : B) → P r x → V y → W r y)
+      → Finds Holds of a b out W
+  found_if read (Ok y) is means = finds_as read (λ r it. means r y it is)
+  found_if read (Err f) is means = record { wears = read.wears; finds = tt }
+
+  -- ---- writes
+
+  pub makes_nothing : {E : Type 0} {a : State} {C : Q → Q → Type 0} → ((r next : Q) → C r next → next ≡ r) → Makes Holds of {A = Unit {0}} {E = E} a a (Ok tt) C
+  makes_nothing {a = a} same = record { wears = omega (arith); makes = λ now next was change. record { sees = λ clean. subst (λ (r : Q). IsSeeing Holds a (of r)) (sym (same now next (change clean))) (was.sees clean) } }
+
+  -- writes that a change asks less of
+  pub makes_as : {A E : Type 0} {a b : State} {C W : Q → Q → Type 0} → ((r next : Q) → W r next → C r next) → (out : Result A E) → Makes Holds of a b out C → Makes Holds of a b out W
+  makes_as means (Ok x) h = record { wears = h.wears; makes = λ now next was change. h.makes now next was (λ clean. means now next (change clean)) }
+  makes_as means (Err e) h = record { wears = h.wears; makes = tt }
+
+  -- one and then the others, by what is between them
+  pub makes_then : {A B E F : Type 0} {a b c : State} {x : A} {C D W : Q → Q → Type 0} → Makes Holds of {A = A} {E = E} a b (Ok x) C → ((r next : Q) → W r next → (mid : Q) × C r mid × D mid next)
+      → (out : Result B F) → Makes Holds of b c out D → Makes Holds of a c out W
+  makes_then first parts (Ok y) second = record {
+    wears = omega (arith, first.wears, second.wears);
+    makes = λ now next was change. record { sees = λ clean.
+        let it = parts now next (change clean) in
+        (second.makes it.0 next (first.makes now it.0 was (λ known. it.1)) (λ known. it.2)).sees clean };
+  }
+  makes_then first parts (Err e) second = record { wears = omega (arith, first.wears, second.wears); makes = tt }
+
+  -- three
+  pub makes_three : {A B E F G : Type 0} {a b c d : State} {x : A} {y : B} {C D S W : Q → Q → Type 0} → Makes Holds of {E = E} a b (Ok x) C → Makes Holds of {E = F} b c (Ok y) D → ((r next : Q) → W r next → Then (Then C D) S r next)
+      → {H : Type 0} → (out : Result H G) → Makes Holds of c d out S → Makes Holds of a d out W
+  makes_three {y = y} {C = C} {D = D} first second parts out third = makes_then (makes_then {W = Then C D} first (λ r next h. h) (Ok y) second) parts out third
+
+  -- a read, and then writes that rest on it
+  pub found_then_makes : {A B E F : Type 0} {a b c : State} {x : A} {P : Q → A → Type 0} {D W : Q → Q → Type 0} → Finds Holds of {E = E} a b (Ok x) P → ((r next : Q) → P r x → W r next → D r next)
+      → (out : Result B F) → Makes Holds of b c out D → Makes Holds of a c out W
+  found_then_makes first means (Ok y) second = record {
+    wears = omega (arith, first.wears, second.wears);
+    makes = λ now next was change.
+        let it = first.finds now was in
+        second.makes now next it.0 (λ clean. means now next (it.1 (omega (arith, clean, second.wears))) (change clean));
+  }
+  found_then_makes first means (Err e) second = record { wears = omega (arith, first.wears, second.wears); makes = tt }
+
+module _ {R Q : Type 0} {Holds : Database → R → Type 0} (of : Q → R) {A E : Type 0} {a b : State} where
+  -- what is found of one thing is found of what it is made of
+  pub found_of : {P : R → A → Type 0} → (out : Result A E) → Finds Holds (λ (r : R). r) a b out P → Finds Holds of a b out (λ q x. P (of q) x)
+  found_of (Ok x) h = record { wears = h.wears; finds = λ now was. h.finds (of now) was }
+  found_of (Err e) h = record { wears = h.wears; finds = tt }
+
+  -- .. and so is what is made
+  pub made_of : {C : R → R → Type 0} → (out : Result A E) → Makes Holds (λ (r : R). r) a b out C → Makes Holds of a b out (λ q next. C (of q) (of next))
+  made_of (Ok x) h = record { wears = h.wears; makes = λ now next was change. h.makes (of now) (of next) was change }
+  made_of (Err e) h = record { wears = h.wears; makes = tt }

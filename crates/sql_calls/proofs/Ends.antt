@@ -4,7 +4,7 @@ use Rattle.sqlite.specs.Schema.{Schema}
 use Rattle.sqlite.specs.Command.TheVariants.{Begin, Commit, Rollback}
 use Rattle.sqlite.specs.Listing.{understood}
 use Rattle.sqlite_tied.specs.Compute.{everything}
-use Rattle.sql_calls.proofs.Means.{Means}
+use Rattle.sql_calls.specs.Means.{Means}
 
 pub begin_is : (s : Schema) → Means s (codes "BEGIN") Begin
 unfolding understood everything

@@ -16,7 +16,7 @@ use Rattle.sqlite.specs.Listing.{understood}
 use Rattle.sqlite.specs.Effect.{Database, Reads as Shows, RefusesToRead}
 use Rattle.sqlite.specs.State.{State, HasCleanDisk, IsUnchanged, IsRolledBack, Survives, Executes, ExecutesIn, IsNotRun, IsNoStatement, RunsCommand, Runs, shows_rows, FailsToQuery, FailsToShow, Shown, ShowsRows, Begins, QueriesRow, CommitsShowing, CommitsBy, MayCommit, store_error}
 use Rattle.sqlite.proofs.Callers.{IsPlain, EndsIn, command_of, statement_of, runs_as, reads_as, begins_shown}
-use Rattle.sql_calls.proofs.Means.{Means}
+use Rattle.sql_calls.specs.Means.{Means}
 
 -- nothing changed, or the transaction is undone
 abbrev pub Leaves : State → State → Type 0

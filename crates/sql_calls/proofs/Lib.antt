@@ -1,8 +1,8 @@
-pub mod Means
 pub mod Ends
 pub mod Leavings
-pub mod Changes
-pub mod TypedCalls
+pub mod Framing
+pub mod Finding
+pub mod FrameEnds
 pub mod Composing
 pub mod Selects
 pub mod Inserts

@@ -2,6 +2,7 @@ pub mod Tables
 pub mod Apart
 pub mod Keyed
 pub mod Faults
+pub mod Means
 pub mod Calls
 pub mod Standing
 pub mod KeyIndexes

@@ -1,5 +1,6 @@
--- What a connection stands for, where a database holds what it holds by a relation `Holds`.
-use Rattle.std.specs.Prelude.{◌≡◌, ◌≤◌, true, false, Result, Ok, Err, IsTrue, ◌⊎◌}
+-- What calls leave of a connection, where a database holds what it holds by a relation `Holds`: of the transaction, whatever they answer, and
+-- of what it sees, where they answer Ok.
+use Rattle.std.specs.Prelude.{◌≡◌, ◌≤◌, true, false, Result, Ok, Err, IfOk, IsTrue, ◌⊎◌}
 use Rattle.sqlite.specs.Tree.{Trees}
 use Rattle.sqlite_trees.specs.View.{doubt}
 use Rattle.sqlite.specs.Schema.{Schema}
@@ -10,31 +11,29 @@ use Rattle.sqlite.specs.State.{State, HasCleanDisk}
 abbrev pub Wears : State → State → Type 0
 Wears old new = doubt old.is_clean ≤ doubt new.is_clean
 
+-- A transaction that nothing has ended, and that has the tables of the last commit. It names no records.
+pub record IsInside (s : State) : Type 0 where
+  pub mode : s.in_transaction ≡ true
+  pub is_open : IsTrue s.is_open
+  pub fits : s.now.schema ≡ s.committed.schema
+
 module _ {R : Type 0} (Holds : Database → R → Type 0) where
   -- an open of a file with these trees finds what `r` says
   abbrev pub HoldIn : Trees → R → Type 0
   HoldIn trees r = (schema : Schema) × Holds (record { schema = schema; trees = trees }) r
 
+  -- ---- what a crash leaves, and giving up
+
+  -- A change, whether or not a failure ended it: what the last commit left holds `kept`, and so does what a crash leaves.
+  pub record IsSpoiled (s : State) (kept : R) : Type 0 where
+    pub ended : s.in_transaction ≡ false → IsTrue s.is_open → s.now ≡ s.committed
+    pub kept_holds : IsTrue s.is_open → Holds s.committed kept
+    pub crash : (db : Trees) → s.may_leave db → HoldIn db kept
+
   -- Outside a change. A connection that a fault has shut shows nothing, and every crash leaves `r`.
   pub record IsAtRest (s : State) (r : R) : Type 0 where
     pub mode : s.in_transaction ≡ false
-    pub now_holds : IsTrue s.is_open → Holds s.now r
-    pub kept_holds : IsTrue s.is_open → Holds s.committed r
-    pub crash : (db : Trees) → s.may_leave db → HoldIn db r
-
-  -- Inside a change, which sees `now`, and every crash leaves `kept`.
-  pub record IsChanging (s : State) (now kept : R) : Type 0 where
-    pub mode : s.in_transaction ≡ true
-    pub is_open : IsTrue s.is_open
-    pub now_holds : Holds s.now now
-    pub kept_holds : Holds s.committed kept
-    pub crash : (db : Trees) → s.may_leave db → HoldIn db kept
-
-  -- a change that can only be given up
-  pub record IsSpoiled (s : State) (kept : R) : Type 0 where
-    pub ended : s.in_transaction ≡ false → IsTrue s.is_open → Holds s.now kept
-    pub kept_holds : IsTrue s.is_open → Holds s.committed kept
-    pub crash : (db : Trees) → s.may_leave db → HoldIn db kept
+    pub held : IsSpoiled s r
 
   -- a crash leaves one or the other
   pub record IsInDoubt (s : State) (kept tried : R) : Type 0 where
@@ -44,37 +43,51 @@ module _ {R : Type 0} (Holds : Database → R → Type 0) where
   abbrev pub Rests : State → R → Type 0
   Rests s r = HasCleanDisk s → IsAtRest s r
 
-  abbrev pub Changes : State → R → R → Type 0
-  Changes s now kept = HasCleanDisk s → IsChanging s now kept
-
-  abbrev pub Spoils : State → R → Type 0
-  Spoils s kept = HasCleanDisk s → IsSpoiled s kept
-
   abbrev pub Doubts : State → R → R → Type 0
   Doubts s kept tried = HasCleanDisk s → IsInDoubt s kept tried
 
-  abbrev pub ReadsTo : {A E : Type 0} → State → State → (R → A → Type 0) → Result A E → Type 0
-  ReadsTo old new Answer (Ok a) = (now kept : R) → Changes old now kept → Changes new now kept × (HasCleanDisk new → Answer now a)
-  ReadsTo old new Answer (Err e) = (now kept : R) → Changes old now kept → Spoils new kept
+  -- a change that can be given up
+  pub record Spoiled (s : State) (kept : R) : Type 0 where
+    pub spoiled : HasCleanDisk s → IsSpoiled s kept
 
-  -- A read in a change answers by what the change sees, and changes nothing. Where it fails the change can only be given up.
-  pub record Reads {A E : Type 0} (old new : State) (result : Result A E) (Answer : R → A → Type 0) : Type 0 where
-    pub wears : Wears old new
-    pub reads : ReadsTo old new Answer result
+  -- .. and that goes on
+  pub record Opens (s : State) (kept : R) : Type 0 where
+    pub spoiled : Spoiled s kept
+    pub inside : HasCleanDisk s → IsInside s
 
-  abbrev pub WritesTo : {A E : Type 0} → State → State → (R → R → Type 0) → Result A E → Type 0
-  WritesTo old new Change (Ok a) = (now kept next : R) → Changes old now kept → (HasCleanDisk new → Change now next) → Changes new next kept
-  WritesTo old new Change (Err e) = (now kept : R) → Changes old now kept → Spoils new kept
+  -- Whatever a call of a change answers: Ok leaves it open, with the same `kept`, and after an error it can only be given up.
+  abbrev pub FrameTo : {A E : Type 0} → State → State → Result A E → Type 0
+  FrameTo old new (Ok a) = (kept : R) → Opens old kept → Opens new kept
+  FrameTo old new (Err e) = (kept : R) → Opens old kept → Spoiled new kept
 
-  -- a write in a change
-  pub record Writes {A E : Type 0} (old new : State) (result : Result A E) (Change : R → R → Type 0) : Type 0 where
-    pub wears : Wears old new
-    pub writes : WritesTo old new Change result
+  -- ---- what a change sees
 
-  -- A change begins with what stands. Where it doesn't begin, that stands.
+  pub record IsSeeing (s : State) (now : R) : Type 0 where
+    pub mode : s.in_transaction ≡ true
+    pub is_open : IsTrue s.is_open
+    pub now_holds : Holds s.now now
+
+  pub record Sees (s : State) (now : R) : Type 0 where
+    pub sees : HasCleanDisk s → IsSeeing s now
+
+  module _ {Q : Type 0} (of : Q → R) where
+    -- a read answers by what the change sees, and changes nothing
+    pub record Finds {A E : Type 0} (old new : State) (result : Result A E) (Answer : Q → A → Type 0) : Type 0 where
+      pub wears : Wears old new
+      pub finds : IfOk result (λ a. (now : Q) → Sees old (of now) → Sees new (of now) × (HasCleanDisk new → Answer now a))
+
+    -- writes make the next one of what the change sees
+    pub record Makes {A E : Type 0} (old new : State) (result : Result A E) (Change : Q → Q → Type 0) : Type 0 where
+      pub wears : Wears old new
+      pub makes : IfOk result (λ a. (now next : Q) → Sees old (of now) → (HasCleanDisk new → Change now next) → Sees new (of next))
+
+  -- ---- how a change begins and ends
+
+  -- A change begins with what stands.
   pub record Begins (old new : State) : Type 0 where
     pub wears : Wears old new
-    pub begun : (r : R) → Rests old r → Changes new r r
+    pub opens : (r : R) → Rests old r → Opens new r
+    pub sees : (r : R) → Rests old r → Sees new r
 
   -- what stands, stands
   pub record Keeps (old new : State) : Type 0 where
@@ -82,16 +95,16 @@ module _ {R : Type 0} (Holds : Database → R → Type 0) where
     pub rests : (r : R) → Rests old r → Rests new r
 
   abbrev pub CommitsTo : {A E : Type 0} → State → State → Result A E → Type 0
-  CommitsTo old new (Ok a) = (now kept : R) → Changes old now kept → Rests new now
-  CommitsTo old new (Err e) = (now kept : R) → Changes old now kept → Doubts new kept now
+  CommitsTo old new (Ok a) = (now : R) → Sees old now → Rests new now
+  CommitsTo old new (Err e) = (now kept : R) → Sees old now → Spoiled old kept → Doubts new kept now
 
   pub record Commits {A E : Type 0} (old new : State) (result : Result A E) : Type 0 where
     pub wears : Wears old new
     pub commits : CommitsTo old new result
 
   abbrev pub GivesUpTo : {A E : Type 0} → State → State → Result A E → Type 0
-  GivesUpTo old new (Ok a) = (kept : R) → Spoils old kept → Rests new kept
-  GivesUpTo old new (Err e) = (kept : R) → Spoils old kept → Doubts new kept kept
+  GivesUpTo old new (Ok a) = (kept : R) → Spoiled old kept → Rests new kept
+  GivesUpTo old new (Err e) = (kept : R) → Spoiled old kept → Doubts new kept kept
 
   pub record GivesUp {A E : Type 0} (old new : State) (result : Result A E) : Type 0 where
     pub wears : Wears old new

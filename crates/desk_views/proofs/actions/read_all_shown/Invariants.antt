@@ -1,13 +1,13 @@
 use Rattle.std.proofs.Common.{◌≡◌, Ok, map, take}
 use Rattle.sql_calls.specs.declared.fault.Fault.{Fault}
 use Rattle.desk_views.specs.Actions.{listed_shown}
-use Rattle.desk_views.specs.Showing.{ReadsAtListsIn}
+use Rattle.desk_views.specs.Showing.{FindsAtListsIn}
 use Rattle.desk_store.specs.Changing.{StaysIn}
 use Rattle.desk_views.proofs.actions.read_all_shown.Given as goal
 
 -- those so far
 abbrev pub invariant-loop-one : goal.invariant-loop-one
 invariant-loop-one g l = record {
-  stays : StaysIn l.fn.change l.change (Ok (tt {0}));
-  reads : ReadsAtListsIn g.S.Store {A = Unit {0}} {E = Fault} l.fn.change l.change (Ok tt) (λ r _. l.all.items ≡ map (listed_shown r) (take l.one-index l.listed));
+  stays : StaysIn g.S.Store l.fn.change l.change (Ok (tt {0}));
+  reads : FindsAtListsIn g.S.Store {A = Unit {0}} {E = Fault} l.fn.change l.change (Ok tt) (λ r _. l.all.items ≡ map (listed_shown r) (take l.one-index l.listed));
 }

@@ -1,5 +1,4 @@
-use Rattle.sql_calls.proofs.Composing.{both_read, reads_as, second_fails}
-use Rattle.desk_records.specs.Holds.{HoldsRecords}
+use Rattle.sql_calls.proofs.Composing.{both_found, finds_as}
 use Rattle.rollout_machine.specs.Answers.{action_of_target}
 use Rattle.rollout_machine.specs.Objects.{action_shown}
 use Rattle.rollout_machine.specs.Replies.{ActionShown}
@@ -8,12 +7,9 @@ use Rattle.desk_views.proofs.ActionViews.{action_replied, not_found}
 use Rattle.desk_views.proofs.actions.show_action.Goals as goal
 
 pub returns-in-None-clause-shows : goal.returns-in-None-clause-shows
-returns-in-None-clause-shows g c = reads_as HoldsRecords _ _ _ _ _ _ (rw c.in-None.is at c.in_ok-action.ensures.reads) (λ r is of. not_found (stored_in r) (action_of_target r c.args.id c.args.number) (λ a. ActionShown (action_shown r c.args.number a)) is)
-
-pub returns-in_err-shown-clause-shows : goal.returns-in_err-shown-clause-shows
-returns-in_err-shown-clause-shows g c = second_fails HoldsRecords _ _ _ _ _ _ _ _ c.in_ok-action.ensures.reads c.in_err-shown.ensures.reads _ c.from_residual-in_err-shown.ensures.0
+returns-in-None-clause-shows g c = finds_as (rw c.in-None.is at c.in_ok-action.ensures.reads) (λ r is of. not_found (stored_in r) (action_of_target r c.args.id c.args.number) (λ a. ActionShown (action_shown r c.args.number a)) is)
 
 pub returns-clause-shows : goal.returns-clause-shows
 returns-clause-shows g c =
-    reads_as HoldsRecords _ _ _ _ _ _ (both_read HoldsRecords _ _ _ _ _ _ _ (rw c.in-Some.is at c.in_ok-action.ensures.reads) c.in_ok-shown.ensures.reads)
+    finds_as (both_found (rw c.in-Some.is at c.in_ok-action.ensures.reads) c.in_ok-shown.ensures.reads)
     (λ r is of. action_replied r c.args.number (action_of_target r c.args.id c.args.number) c.in-Some.action c.in_ok-shown.shown is.0 (is.1 of))

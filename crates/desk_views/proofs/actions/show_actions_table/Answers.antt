@@ -1,39 +1,23 @@
 use Rattle.std.proofs.Common.{sym, ap, ◌∙◌, not, map, length}
 use Rattle.std.specs.Option.{is_some}
-use Rattle.sql_calls.proofs.Composing.{both_read, read_but_fails, read_fails, reads_as, second_fails}
-use Rattle.desk_records.specs.Holds.{HoldsRecords}
+use Rattle.sql_calls.proofs.Composing.{both_found, finds_as}
 use Rattle.desk_records.specs.RolloutRow.{stored_rollout}
 use Rattle.rollout_machine.specs.ByteStrings.{item_numbered}
 use Rattle.rollout_machine.specs.Objects.{actions_of_rollout}
 use Rattle.rollout_machine.specs.Replies.{ActionsTableShown}
-use Rattle.desk_store.proofs.LedgersOfRecords.{ledger_read}
+use Rattle.desk_store.proofs.LedgersOfRecords.{ledger_found}
 use Rattle.desk_views.specs.Actions.{listed_shown}
 use Rattle.desk_views.proofs.ActionViews.{all_listed, none_there, of_rollout_is, one_there}
 use Rattle.desk_views.proofs.actions.show_actions_table.Goals as goal
 
-pub returns-in_err-read_rollout-clause-shows : goal.returns-in_err-read_rollout-clause-shows
-returns-in_err-read_rollout-clause-shows g c = read_fails HoldsRecords _ _ _ _ _ (ledger_read _ _ _ _ c.in_err-read_rollout.ensures.reads) _ c.from_residual.ensures.0
-
 pub returns-then-is_none-clause-shows : goal.returns-then-is_none-clause-shows
 returns-then-is_none-clause-shows g c =
-    reads_as HoldsRecords _ _ _ _ _ _ (ledger_read _ _ _ _ c.in_ok-read_rollout.ensures.reads)
+    finds_as (ledger_found _ c.in_ok-read_rollout.ensures.reads)
     (λ r is of. none_there stored_rollout (item_numbered r.rollouts c.args.number) (λ _. ActionsTableShown (actions_of_rollout r c.args.number)) (sym (ap is_some is) ∙ c.is_none.ensures ∙ ap not c.if-is_none.true))
-
-pub returns-in_err-all-clause-shows : goal.returns-in_err-all-clause-shows
-returns-in_err-all-clause-shows g c = second_fails HoldsRecords _ _ _ _ _ _ _ _ (ledger_read _ _ _ _ c.in_ok-read_rollout.ensures.reads) (ledger_read _ _ _ _ c.in_err-all.ensures.reads) _ c.from_residual-in_err-all.ensures.0
-
-pub returns-in_err-count_of-clause-shows : goal.returns-in_err-count_of-clause-shows
-returns-in_err-count_of-clause-shows g c =
-    read_but_fails HoldsRecords _ _ _ _ _ (both_read HoldsRecords _ _ _ _ _ _ _ (ledger_read _ _ _ _ c.in_ok-read_rollout.ensures.reads) (ledger_read _ _ _ _ c.in_ok-all.ensures.reads)) _ c.from_residual-in_err-count_of.ensures.0
-
-pub returns-in_err-actions-clause-shows : goal.returns-in_err-actions-clause-shows
-returns-in_err-actions-clause-shows g c =
-    second_fails HoldsRecords _ _ _ _ _ _ _ _ (both_read HoldsRecords _ _ _ _ _ _ _ (ledger_read _ _ _ _ c.in_ok-read_rollout.ensures.reads) (ledger_read _ _ _ _ c.in_ok-all.ensures.reads)) c.in_err-actions.ensures.reads _
-    c.from_residual-in_err-actions.ensures.0
 
 pub returns-clause-shows : goal.returns-clause-shows
 returns-clause-shows g c =
-    reads_as HoldsRecords _ _ _ _ _ _
-    (both_read HoldsRecords _ _ _ _ _ _ _ (both_read HoldsRecords _ _ _ _ _ _ _ (ledger_read _ _ _ _ c.in_ok-read_rollout.ensures.reads) (ledger_read _ _ _ _ c.in_ok-all.ensures.reads)) c.in_ok-actions.ensures.reads)
+    finds_as
+    (both_found (both_found (ledger_found _ c.in_ok-read_rollout.ensures.reads) (ledger_found _ c.in_ok-all.ensures.reads)) c.in_ok-actions.ensures.reads)
     (λ r is of. one_there stored_rollout (item_numbered r.rollouts c.args.number) (λ _. ActionsTableShown (actions_of_rollout r c.args.number)) _ (sym (ap is_some is.0.0) ∙ c.is_none.ensures ∙ ap not c.if-is_none.false)
     (λ x there. ap ActionsTableShown (is.1 of ∙ ap (map (listed_shown r)) (c.deref-2.ensures.value ∙ all_listed 4294967295 c.in_ok-count_of.field-0 _ c.in_ok-all.all.items is.0.1 (c.in_ok-count_of.ensures.0 ∙ ap length c.deref.ensures.value) c.in_ok-count_of.ensures.1) ∙ of_rollout_is r c.args.number)))

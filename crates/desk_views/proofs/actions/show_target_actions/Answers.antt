@@ -1,12 +1,11 @@
 use Rattle.std.proofs.Common.{sym, ap, ◌∙◌, not, map, take, drop, length}
 use Rattle.std.specs.Option.{is_some}
-use Rattle.sql_calls.proofs.Composing.{both_read, read_but_fails, reads_as, second_fails}
-use Rattle.desk_records.specs.Holds.{HoldsRecords}
+use Rattle.sql_calls.proofs.Composing.{both_found, finds_as}
 use Rattle.desk_records.specs.TargetRow.{stored_target}
 use Rattle.rollout_machine.specs.Objects.{actions_of_target, page_of}
 use Rattle.rollout_machine.specs.Replies.{ActionsShown}
 use Rattle.rollout_machine.specs.Verdicts.{target_of}
-use Rattle.desk_store.proofs.LedgersOfRecords.{ledger_read}
+use Rattle.desk_store.proofs.LedgersOfRecords.{ledger_found}
 use Rattle.desk_views.specs.Actions.{listed_shown}
 use Rattle.desk_views.proofs.ActionViews.{all_listed, none_there, of_target_is, one_there, page_is}
 use Rattle.desk_views.proofs.TargetViews.{id_found}
@@ -14,23 +13,13 @@ use Rattle.desk_views.proofs.actions.show_target_actions.Goals as goal
 
 pub returns-then-is_none-clause-shows : goal.returns-then-is_none-clause-shows
 returns-then-is_none-clause-shows g c =
-    reads_as HoldsRecords _ _ _ _ _ _ c.in_ok-read_target.ensures.reads
+    finds_as c.in_ok-read_target.ensures.reads
     (λ r is of. none_there stored_target (target_of r c.args.id) (λ x. ActionsShown (page_of c.args.page (actions_of_target r x.id))) (sym (ap is_some is) ∙ c.is_none.ensures ∙ ap not c.if-is_none.true))
-
-pub returns-in_err-all-clause-shows : goal.returns-in_err-all-clause-shows
-returns-in_err-all-clause-shows g c = second_fails HoldsRecords _ _ _ _ _ _ _ _ c.in_ok-read_target.ensures.reads (ledger_read _ _ _ _ c.in_err-all.ensures.reads) _ c.from_residual-in_err-all.ensures.0
-
-pub returns-in_err-total-clause-shows : goal.returns-in_err-total-clause-shows
-returns-in_err-total-clause-shows g c = read_but_fails HoldsRecords _ _ _ _ _ (both_read HoldsRecords _ _ _ _ _ _ _ c.in_ok-read_target.ensures.reads (ledger_read _ _ _ _ c.in_ok-all.ensures.reads)) _ c.from_residual-in_err-total.ensures.0
-
-pub returns-in_err-content-clause-shows : goal.returns-in_err-content-clause-shows
-returns-in_err-content-clause-shows g c =
-    second_fails HoldsRecords _ _ _ _ _ _ _ _ (both_read HoldsRecords _ _ _ _ _ _ _ c.in_ok-read_target.ensures.reads (ledger_read _ _ _ _ c.in_ok-all.ensures.reads)) c.in_err-content.ensures.reads _ c.from_residual-in_err-content.ensures.0
 
 pub returns-clause-shows : goal.returns-clause-shows
 returns-clause-shows g c =
-    reads_as HoldsRecords _ _ _ _ _ _
-    (both_read HoldsRecords _ _ _ _ _ _ _ (both_read HoldsRecords _ _ _ _ _ _ _ c.in_ok-read_target.ensures.reads (ledger_read _ _ _ _ c.in_ok-all.ensures.reads)) c.in_ok-content.ensures.reads)
+    finds_as
+    (both_found (both_found c.in_ok-read_target.ensures.reads (ledger_found _ c.in_ok-all.ensures.reads)) c.in_ok-content.ensures.reads)
     (λ r is of. one_there stored_target (target_of r c.args.id) (λ x. ActionsShown (page_of c.args.page (actions_of_target r x.id))) _ (sym (ap is_some is.0.0) ∙ c.is_none.ensures ∙ ap not c.if-is_none.false)
     (λ x there.
     let listed = all_listed 4294967295 c.in_ok-total.total _ c.in_ok-all.all.items is.0.1 (c.in_ok-total.ensures.0 ∙ ap length c.deref.ensures.value) c.in_ok-total.ensures.1 in

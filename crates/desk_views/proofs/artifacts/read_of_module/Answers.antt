@@ -1,19 +1,18 @@
 use Rattle.std.proofs.Common.{sym, ◌∙◌}
-use Rattle.sql_calls.proofs.Composing.{reads_as}
-use Rattle.desk_records.specs.Holds.{HoldsRecords}
+use Rattle.sql_calls.proofs.Composing.{finds_as}
 use Rattle.rollout_machine.specs.ByteStrings.{item_numbered}
 use Rattle.desk_views.proofs.ArtifactViews.{no_artifact, of_another, of_this}
 use Rattle.desk_views.proofs.artifacts.read_of_module.Goals as goal
 
 pub returns-in-None-clause-reads : goal.returns-in-None-clause-reads
-returns-in-None-clause-reads g c = reads_as HoldsRecords _ _ _ _ _ _ (rw c.in-None.is at c.in_ok-found.ensures.reads) (λ r is. no_artifact c.args.module_number (item_numbered r.artifacts c.args.number) is)
+returns-in-None-clause-reads g c = finds_as (rw c.in-None.is at c.in_ok-found.ensures.reads) (λ r is. no_artifact c.args.module_number (item_numbered r.artifacts c.args.number) is)
 
 pub returns-then-ne-clause-reads : goal.returns-then-ne-clause-reads
 returns-then-ne-clause-reads g c =
-    reads_as HoldsRecords _ _ _ _ _ _ (rw c.in-Some.is at c.in_ok-found.ensures.reads)
+    finds_as (rw c.in-Some.is at c.in_ok-found.ensures.reads)
     (λ r is. of_another c.args.module_number (item_numbered r.artifacts c.args.number) c.in-Some.found is (sym c.ne.ensures ∙ c.if-ne.true))
 
 pub returns-clause-reads : goal.returns-clause-reads
 returns-clause-reads g c =
-    reads_as HoldsRecords _ _ _ _ _ _ (rw c.in-Some.is at c.in_ok-found.ensures.reads)
+    finds_as (rw c.in-Some.is at c.in_ok-found.ensures.reads)
     (λ r is. of_this c.args.module_number (item_numbered r.artifacts c.args.number) c.in-Some.found is (sym c.ne.ensures ∙ c.if-ne.false))

@@ -3,13 +3,13 @@ use Rattle.sql_calls.specs.declared.fault.Fault.{Fault}
 use Rattle.desk_records.specs.Artifacts.{pieces_of_artifact}
 use Rattle.rollout_machine.specs.ByteStrings.{item_numbered}
 use Rattle.desk_views.proofs.ArtifactViews.{together}
-use Rattle.desk_store.specs.Changing.{ReadsIn, StaysIn}
+use Rattle.desk_store.specs.Changing.{FindsIn, StaysIn}
 use Rattle.desk_views.proofs.artifacts.read_pieces.Given as goal
 
 -- the bytes so far are those of the first pieces
 abbrev pub invariant-loop-place : goal.invariant-loop-place
 invariant-loop-place g l = record {
-  stays : StaysIn l.fn.change l.change (Ok (tt {0}));
-  reads : ReadsIn g.S.Store {E = Fault} l.fn.change l.change (Ok l.bytes.items)
+  stays : StaysIn g.S.Store l.fn.change l.change (Ok (tt {0}));
+  reads : FindsIn g.S.Store {E = Fault} l.fn.change l.change (Ok l.bytes.items)
       (λ r items. items ≡ together (take l.place (pieces_of_artifact (item_numbered r.artifacts l.number))));
 }

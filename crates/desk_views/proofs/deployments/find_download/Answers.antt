@@ -1,21 +1,14 @@
 use Rattle.std.proofs.Common.{◌∙◌, ap}
-use Rattle.sql_calls.proofs.Composing.{both_read, reads_as, second_fails}
-use Rattle.desk_records.specs.Holds.{HoldsRecords}
+use Rattle.sql_calls.proofs.Composing.{both_found, finds_as}
 use Rattle.desk_views.specs.Downloads.{named}
 use Rattle.desk_views.proofs.DeviceViews.{is_named, not_among, not_known}
 use Rattle.desk_views.proofs.deployments.find_download.Goals as goal
 
 pub returns-then-not-branch-clause-reads : goal.returns-then-not-branch-clause-reads
-returns-then-not-branch-clause-reads g c = reads_as HoldsRecords _ _ _ _ _ _ (rw c.if-not-branch.true at c.in_ok-knows_device.ensures.reads) (λ r is. not_known c.args.module_number c.args.filename.now r c.args.device.now is)
-
-pub returns-in_err-modules-clause-reads : goal.returns-in_err-modules-clause-reads
-returns-in_err-modules-clause-reads g c = second_fails HoldsRecords _ _ _ _ _ _ _ _ c.in_ok-knows_device.ensures.reads c.in_err-modules.ensures.reads _ c.from_residual-in_err-modules.ensures.0
+returns-then-not-branch-clause-reads g c = finds_as (rw c.if-not-branch.true at c.in_ok-knows_device.ensures.reads) (λ r is. not_known c.args.module_number c.args.filename.now r c.args.device.now is)
 
 pub returns-then-not-is_among-clause-reads : goal.returns-then-not-is_among-clause-reads
-returns-then-not-is_among-clause-reads g c = reads_as HoldsRecords _ _ _ _ _ _ (both_read HoldsRecords _ _ _ _ _ _ _ (rw c.if-not-branch.false at c.in_ok-knows_device.ensures.reads) c.in_ok-modules.ensures.reads) (λ r is. not_among c.args.module_number c.args.filename.now r c.args.device.now is.0 _ is.1 _ (rw c.deref.ensures.value at c.is_among.ensures) c.if-not-is_among.true)
-
-pub returns-in_err-artifacts-clause-reads : goal.returns-in_err-artifacts-clause-reads
-returns-in_err-artifacts-clause-reads g c = second_fails HoldsRecords _ _ _ _ _ _ _ _ (both_read HoldsRecords _ _ _ _ _ _ _ c.in_ok-knows_device.ensures.reads c.in_ok-modules.ensures.reads) c.in_err-artifacts.ensures.reads _ c.from_residual-in_err-artifacts.ensures.0
+returns-then-not-is_among-clause-reads g c = finds_as (both_found (rw c.if-not-branch.false at c.in_ok-knows_device.ensures.reads) c.in_ok-modules.ensures.reads) (λ r is. not_among c.args.module_number c.args.filename.now r c.args.device.now is.0 _ is.1 _ (rw c.deref.ensures.value at c.is_among.ensures) c.if-not-is_among.true)
 
 pub returns-clause-reads : goal.returns-clause-reads
-returns-clause-reads g c = reads_as HoldsRecords _ _ _ _ _ _ (both_read HoldsRecords _ _ _ _ _ _ _ (both_read HoldsRecords _ _ _ _ _ _ _ (rw c.if-not-branch.false at c.in_ok-knows_device.ensures.reads) c.in_ok-modules.ensures.reads) c.in_ok-artifacts.ensures.reads) (λ r is. c.named.ensures ∙ ap (named c.args.filename.now) (c.deref-2.ensures.value ∙ is.1) ∙ is_named c.args.module_number c.args.filename.now r c.args.device.now is.0.0 _ is.0.1 _ (rw c.deref.ensures.value at c.is_among.ensures) c.if-not-is_among.false)
+returns-clause-reads g c = finds_as (both_found (both_found (rw c.if-not-branch.false at c.in_ok-knows_device.ensures.reads) c.in_ok-modules.ensures.reads) c.in_ok-artifacts.ensures.reads) (λ r is. c.named.ensures ∙ ap (named c.args.filename.now) (c.deref-2.ensures.value ∙ is.1) ∙ is_named c.args.module_number c.args.filename.now r c.args.device.now is.0.0 _ is.0.1 _ (rw c.deref.ensures.value at c.is_among.ensures) c.if-not-is_among.false)

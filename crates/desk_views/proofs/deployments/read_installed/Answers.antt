@@ -1,9 +1,8 @@
 use Rattle.sql_calls.proofs.Composing.{known}
-use Rattle.desk_records.specs.Holds.{HoldsRecords}
 use Rattle.desk_views.proofs.deployments.read_installed.Goals as goal
 
 pub returns-then-offer-clause-reads : goal.returns-then-offer-clause-reads
-returns-then-offer-clause-reads g c = known HoldsRecords _ _ _ (λ r. rw c.if-offer.true c.new.ensures.items)
+returns-then-offer-clause-reads g c = known (λ r. rw c.if-offer.true c.new.ensures.items)
 
 pub returns-clause-reads : goal.returns-clause-reads
 returns-clause-reads g c = rw c.if-offer.false c.read_action_modules.ensures.reads

@@ -1,21 +1,17 @@
 use Rattle.std.proofs.Common.{ap, ◌∙◌, rules}
-use Rattle.sql_calls.proofs.Composing.{both_read, reads_as, second_fails}
-use Rattle.desk_records.specs.Holds.{HoldsRecords}
+use Rattle.sql_calls.proofs.Composing.{both_found, finds_as}
 use Rattle.rollout_machine.specs.Objects.{chunks_of}
 use Rattle.desk_views.proofs.DeviceViews.{chunks_grow}
 use Rattle.desk_views.proofs.TargetPages.{all_given}
 use Rattle.desk_views.proofs.deployments.read_module_chunks.Goals as goal
 
-pub returns-in_err-add_chunk-clause-reads : goal.returns-in_err-add_chunk-clause-reads
-returns-in_err-add_chunk-clause-reads g c = second_fails HoldsRecords _ _ _ _ _ _ _ _ c.loop-module_number.invariant.reads c.in_err-add_chunk.ensures.reads _ c.from_residual.ensures.0
-
 pub loop-module_number-preserved : goal.loop-module_number-preserved
 loop-module_number-preserved g c = record {
   stays = search rules;
-  reads = reads_as HoldsRecords _ _ _ _ _ _ (both_read HoldsRecords _ _ _ _ _ _ _ c.loop-module_number.invariant.reads c.in_ok-add_chunk.ensures.reads) (λ r is. chunks_grow r _ _ c.loop-module_number.yielded c.in-Some.module_number is.0 is.1);
+  reads = finds_as (both_found c.loop-module_number.invariant.reads c.in_ok-add_chunk.ensures.reads) (λ r is. chunks_grow r _ _ c.loop-module_number.yielded c.in-Some.module_number is.0 is.1);
 }
 
 pub returns-clause-reads : goal.returns-clause-reads
 returns-clause-reads g c =
     let all = all_given c.into_iter-module_number-iterator.result _ c.next.new.self _ _ c.into_iter-module_number-iterator.ensures.into_iter_gives.0 c.loop-module_number.yielded_by c.in-None.ensures.steps in
-    reads_as HoldsRecords _ _ _ _ _ _ c.loop-module_number.invariant.reads (λ r is. is ∙ ap (chunks_of r) all)
+    finds_as c.loop-module_number.invariant.reads (λ r is. is ∙ ap (chunks_of r) all)

@@ -1,18 +1,14 @@
 use Rattle.std.proofs.Common.{true}
-use Rattle.sql_calls.proofs.Composing.{both_read, reads_as, second_fails}
-use Rattle.desk_records.specs.Holds.{HoldsRecords}
-use Rattle.desk_store.proofs.LedgersOfRecords.{ledger_read}
+use Rattle.sql_calls.proofs.Composing.{both_found, finds_as}
+use Rattle.desk_store.proofs.LedgersOfRecords.{ledger_found}
 use Rattle.desk_views.proofs.DeviceViews.{not_offered, offered, turned_away}
 use Rattle.desk_views.proofs.devices.show_cancel.Goals as goal
 
 pub returns-then-not-branch-clause-reads : goal.returns-then-not-branch-clause-reads
-returns-then-not-branch-clause-reads g c = reads_as HoldsRecords _ _ _ _ _ _ (rw c.if-not-branch.true at c.in_ok-knows_device.ensures.reads) (λ r is. turned_away c.args.device.now r is _)
-
-pub returns-in_err-offer-clause-reads : goal.returns-in_err-offer-clause-reads
-returns-in_err-offer-clause-reads g c = second_fails HoldsRecords _ _ _ _ _ _ _ _ c.in_ok-knows_device.ensures.reads (ledger_read _ _ _ _ c.in_err-offer.ensures.reads) _ c.from_residual-in_err-offer.ensures.0
+returns-then-not-branch-clause-reads g c = finds_as (rw c.if-not-branch.true at c.in_ok-knows_device.ensures.reads) (λ r is. turned_away c.args.device.now r is _)
 
 pub returns-then-not-is_offer_of-clause-reads : goal.returns-then-not-is_offer_of-clause-reads
-returns-then-not-is_offer_of-clause-reads g c = reads_as HoldsRecords _ _ _ _ _ _ (both_read HoldsRecords _ _ _ _ _ _ _ (rw c.if-not-branch.false at c.in_ok-knows_device.ensures.reads) (ledger_read _ _ _ _ c.in_ok-offer.ensures.reads)) (λ r is. not_offered c.args.device.now r is.0 c.args.number true _ _ c.is_offer_of.ensures is.1 _ c.if-not-is_offer_of.true)
+returns-then-not-is_offer_of-clause-reads g c = finds_as (both_found (rw c.if-not-branch.false at c.in_ok-knows_device.ensures.reads) (ledger_found _ c.in_ok-offer.ensures.reads)) (λ r is. not_offered c.args.device.now r is.0 c.args.number true _ _ c.is_offer_of.ensures is.1 _ c.if-not-is_offer_of.true)
 
 pub returns-clause-reads : goal.returns-clause-reads
-returns-clause-reads g c = reads_as HoldsRecords _ _ _ _ _ _ (both_read HoldsRecords _ _ _ _ _ _ _ (rw c.if-not-branch.false at c.in_ok-knows_device.ensures.reads) (ledger_read _ _ _ _ c.in_ok-offer.ensures.reads)) (λ r is. offered c.args.device.now r is.0 c.args.number true _ _ c.is_offer_of.ensures is.1 _ c.if-not-is_offer_of.false)
+returns-clause-reads g c = finds_as (both_found (rw c.if-not-branch.false at c.in_ok-knows_device.ensures.reads) (ledger_found _ c.in_ok-offer.ensures.reads)) (λ r is. offered c.args.device.now r is.0 c.args.number true _ _ c.is_offer_of.ensures is.1 _ c.if-not-is_offer_of.false)

@@ -3,12 +3,12 @@ use Rattle.sql_calls.specs.declared.fault.Fault.{Fault}
 use Rattle.rollout_machine.specs.Answers.{targets_of}
 use Rattle.rollout_machine.specs.Objects.{targets_shown}
 use Rattle.rollout_machine.specs.Views.{shown_target}
-use Rattle.desk_store.specs.Changing.{ReadsIn, StaysIn}
+use Rattle.desk_store.specs.Changing.{FindsIn, StaysIn}
 use Rattle.desk_views.proofs.groups.read_targets.Given as goal
 
 -- the targets of the ids that were gone through
 abbrev pub invariant-loop-id : goal.invariant-loop-id
 invariant-loop-id g l = record {
-  stays : StaysIn l.fn.change l.change (Ok (tt {0}));
-  reads : ReadsIn g.S.Store {A = Unit {0}} {E = Fault} l.fn.change l.change (Ok tt) (λ r _. map shown_target l.content.items ≡ targets_shown r (targets_of r l.yielded));
+  stays : StaysIn g.S.Store l.fn.change l.change (Ok (tt {0}));
+  reads : FindsIn g.S.Store {A = Unit {0}} {E = Fault} l.fn.change l.change (Ok tt) (λ r _. map shown_target l.content.items ≡ targets_shown r (targets_of r l.yielded));
 }

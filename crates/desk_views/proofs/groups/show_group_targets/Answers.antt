@@ -1,40 +1,25 @@
 use Rattle.std.proofs.Common.{ap, ◌∙◌}
-use Rattle.sql_calls.proofs.Composing.{both_read, read_but_fails, read_fails, reads_as, second_fails}
-use Rattle.desk_records.specs.Holds.{HoldsRecords}
+use Rattle.sql_calls.proofs.Composing.{both_found, finds_as}
 use Rattle.rollout_machine.specs.Answers.{targets_of}
 use Rattle.rollout_machine.specs.ByteStrings.{item_numbered}
 use Rattle.rollout_machine.specs.Objects.{members_in, page_of, targets_shown}
 use Rattle.rollout_machine.specs.Replies.{TargetsShown}
 use Rattle.rollout_machine.specs.StateWords.{group_numbered}
-use Rattle.desk_store.proofs.LedgersOfRecords.{ledger_read}
+use Rattle.desk_store.proofs.LedgersOfRecords.{ledger_found}
 use Rattle.desk_views.proofs.GroupViews.{no_group, one_group}
 use Rattle.desk_views.proofs.ListLemmas.{groups_are}
 use Rattle.desk_views.proofs.MemberViews.{members_paged}
 use Rattle.desk_views.proofs.groups.show_group_targets.Goals as goal
 
-pub returns-in_err-found-clause-shows : goal.returns-in_err-found-clause-shows
-returns-in_err-found-clause-shows g c = read_fails HoldsRecords _ _ _ _ _ (ledger_read _ _ _ _ c.in_err-found.ensures.reads) _ c.from_residual.ensures.0
-
 pub returns-in-None-clause-shows : goal.returns-in-None-clause-shows
 returns-in-None-clause-shows g c =
-    reads_as HoldsRecords _ _ _ _ _ _ (rw c.in-None.is at (ledger_read _ _ _ _ c.in_ok-found.ensures.reads))
+    finds_as (rw c.in-None.is at (ledger_found _ c.in_ok-found.ensures.reads))
     (λ r is of. no_group (λ x f. TargetsShown (page_of c.args.page (targets_shown r (targets_of r (members_in f x.members))))) (item_numbered r.rollouts c.args.number) c.args.group (is ∙ ap (group_numbered c.args.group) (groups_are r of c.args.number)))
-
-pub returns-in_err-total-clause-shows : goal.returns-in_err-total-clause-shows
-returns-in_err-total-clause-shows g c = read_but_fails HoldsRecords _ _ _ _ _ (ledger_read _ _ _ _ c.in_ok-found.ensures.reads) _ c.from_residual-in_err-total.ensures.0
-
-pub returns-in_err-members-clause-shows : goal.returns-in_err-members-clause-shows
-returns-in_err-members-clause-shows g c = second_fails HoldsRecords _ _ _ _ _ _ _ _ (ledger_read _ _ _ _ c.in_ok-found.ensures.reads) (ledger_read _ _ _ _ c.in_err-members.ensures.reads) _ c.from_residual-in_err-members.ensures.0
-
-pub returns-in_err-content-clause-shows : goal.returns-in_err-content-clause-shows
-returns-in_err-content-clause-shows g c =
-    second_fails HoldsRecords _ _ _ _ _ _ _ _ (both_read HoldsRecords _ _ _ _ _ _ _ (ledger_read _ _ _ _ c.in_ok-found.ensures.reads) (ledger_read _ _ _ _ c.in_ok-members.ensures.reads)) c.in_err-content.ensures.reads _
-    c.from_residual-in_err-content.ensures.0
 
 pub returns-clause-shows : goal.returns-clause-shows
 returns-clause-shows g c =
-    reads_as HoldsRecords _ _ _ _ _ _
-    (both_read HoldsRecords _ _ _ _ _ _ _ (both_read HoldsRecords _ _ _ _ _ _ _ (rw c.in-Some.is at (ledger_read _ _ _ _ c.in_ok-found.ensures.reads)) (ledger_read _ _ _ _ c.in_ok-members.ensures.reads)) c.in_ok-content.ensures.reads)
+    finds_as
+    (both_found (both_found (rw c.in-Some.is at (ledger_found _ c.in_ok-found.ensures.reads)) (ledger_found _ c.in_ok-members.ensures.reads)) c.in_ok-content.ensures.reads)
     (λ r is of. one_group (λ x f. TargetsShown (page_of c.args.page (targets_shown r (targets_of r (members_in f x.members))))) (item_numbered r.rollouts c.args.number) c.args.group c.in-Some.found _
     (is.0.0 ∙ ap (group_numbered c.args.group) (groups_are r of c.args.number))
     (λ x there in_it. ap TargetsShown (members_paged r of c.args.number c.args.group c.args.page c.members_on.result c.in-Some.found c.in_ok-total.total c.in_ok-members.members.items c.in_ok-content.content.items c.in_ok-total.ensures

@@ -1,6 +1,5 @@
 use Rattle.std.proofs.Common.{ap}
-use Rattle.sql_calls.proofs.Composing.{read_but_fails, reads_as}
-use Rattle.desk_records.specs.Holds.{HoldsRecords}
+use Rattle.sql_calls.proofs.Composing.{finds_as}
 use Rattle.rollout_machine.specs.ByteStrings.{item_numbered}
 use Rattle.rollout_machine.specs.Objects.{groups_shown, page_of}
 use Rattle.rollout_machine.specs.Replies.{GroupsShown}
@@ -10,12 +9,9 @@ use Rattle.desk_views.proofs.groups.show_groups.Goals as goal
 
 pub returns-in-None-clause-shows : goal.returns-in-None-clause-shows
 returns-in-None-clause-shows g c =
-    reads_as HoldsRecords _ _ _ _ _ _ (rw c.in-None.is at c.in_ok-seen.ensures.reads) (λ r is of. none_replied (λ x. GroupsShown (page_of c.args.page (groups_shown x x.groups))) (item_numbered r.rollouts c.args.number) (is of))
-
-pub returns-in_err-shown-clause-shows : goal.returns-in_err-shown-clause-shows
-returns-in_err-shown-clause-shows g c = read_but_fails HoldsRecords _ _ _ _ _ c.in_ok-seen.ensures.reads _ c.from_residual-in_err-shown.ensures.0
+    finds_as (rw c.in-None.is at c.in_ok-seen.ensures.reads) (λ r is of. none_replied (λ x. GroupsShown (page_of c.args.page (groups_shown x x.groups))) (item_numbered r.rollouts c.args.number) (is of))
 
 pub returns-clause-shows : goal.returns-clause-shows
 returns-clause-shows g c =
-    reads_as HoldsRecords _ _ _ _ _ _ (rw c.in-Some.is at c.in_ok-seen.ensures.reads)
+    finds_as (rw c.in-Some.is at c.in_ok-seen.ensures.reads)
     (λ r is of. one_replied (λ x. GroupsShown (page_of c.args.page (groups_shown x x.groups))) (item_numbered r.rollouts c.args.number) c.in-Some.seen _ (is of) (λ x it. ap GroupsShown (groups_paged c.args.page x _ (c.in_ok-shown.ensures x it))))

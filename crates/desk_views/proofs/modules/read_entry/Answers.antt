@@ -1,13 +1,9 @@
 use Rattle.std.proofs.Common.{Some, sym}
-use Rattle.sql_calls.proofs.Composing.{read_in_vain, reads_as}
-use Rattle.desk_records.specs.Holds.{HoldsRecords}
+use Rattle.sql_calls.proofs.Composing.{finds_as}
 use Rattle.desk_views.proofs.ModuleViews.{entry_is}
 use Rattle.desk_views.proofs.PageLemmas.{same_number}
 use Rattle.desk_views.proofs.modules.read_entry.Goals as goal
 
 pub returns-in-Some-2-clause-reads : goal.returns-in-Some-2-clause-reads
 returns-in-Some-2-clause-reads g c =
-    reads_as HoldsRecords _ _ _ _ _ _ (rw c.in-Some-2.is at c.in_ok-shown.ensures.reads) (λ r is. entry_is c.in-Some.number r (Some c.in-Some-2.shown) c.args.number (same_number _ _ (sym c.in-Some.ensures)) is)
-
-pub returns-in-None-clause-reads : goal.returns-in-None-clause-reads
-returns-in-None-clause-reads g c = read_in_vain HoldsRecords _ _ _ _ _ c.in_ok-shown.ensures.reads _
+    finds_as (rw c.in-Some-2.is at c.in_ok-shown.ensures.reads) (λ r is. entry_is c.in-Some.number r (Some c.in-Some-2.shown) c.args.number (same_number _ _ (sym c.in-Some.ensures)) is)

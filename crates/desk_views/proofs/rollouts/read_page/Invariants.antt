@@ -1,13 +1,13 @@
 use Rattle.std.proofs.Common.{◌≡◌, Ok, drop, take}
 use Rattle.sql_calls.specs.declared.fault.Fault.{Fault}
 use Rattle.rollout_machine.specs.Objects.{rollouts_shown}
-use Rattle.desk_views.specs.Showing.{ReadsAtListsIn}
+use Rattle.desk_views.specs.Showing.{FindsAtListsIn}
 use Rattle.desk_store.specs.Changing.{StaysIn}
 use Rattle.desk_views.proofs.rollouts.read_page.Given as goal
 
 -- the entries so far are the first of the page
 abbrev pub invariant-loop-place : goal.invariant-loop-place
 invariant-loop-place g l = record {
-  stays : StaysIn l.fn.change l.change (Ok (tt {0}));
-  reads : ReadsAtListsIn g.S.Store {E = Fault} l.fn.change l.change (Ok l.content.items) (λ r items. items ≡ take l.place (drop l.page.offset (rollouts_shown r.rollouts)));
+  stays : StaysIn g.S.Store l.fn.change l.change (Ok (tt {0}));
+  reads : FindsAtListsIn g.S.Store {E = Fault} l.fn.change l.change (Ok l.content.items) (λ r items. items ≡ take l.place (drop l.page.offset (rollouts_shown r.rollouts)));
 }

@@ -1,6 +1,5 @@
 use Rattle.std.proofs.Common.{ap}
-use Rattle.sql_calls.proofs.Composing.{reads_as}
-use Rattle.desk_records.specs.Holds.{HoldsRecords}
+use Rattle.sql_calls.proofs.Composing.{finds_as}
 use Rattle.rollout_machine.specs.ByteStrings.{item_numbered}
 use Rattle.rollout_machine.specs.Objects.{rollout_shown}
 use Rattle.rollout_machine.specs.Replies.{RolloutShown}
@@ -9,9 +8,9 @@ use Rattle.desk_views.proofs.rollouts.show_rollout.Goals as goal
 
 pub returns-in-Some-clause-shows : goal.returns-in-Some-clause-shows
 returns-in-Some-clause-shows g c =
-    reads_as HoldsRecords _ _ _ _ _ _ (rw c.in-Some.is at c.in_ok-seen.ensures.reads)
+    finds_as (rw c.in-Some.is at c.in_ok-seen.ensures.reads)
     (λ r is of. one_replied (λ x. RolloutShown (rollout_shown x)) (item_numbered r.rollouts c.args.number) c.in-Some.seen _ (is of) (λ x it. ap RolloutShown (c.shown.ensures x it)))
 
 pub returns-in-None-clause-shows : goal.returns-in-None-clause-shows
 returns-in-None-clause-shows g c =
-    reads_as HoldsRecords _ _ _ _ _ _ (rw c.in-None.is at c.in_ok-seen.ensures.reads) (λ r is of. none_replied (λ x. RolloutShown (rollout_shown x)) (item_numbered r.rollouts c.args.number) (is of))
+    finds_as (rw c.in-None.is at c.in_ok-seen.ensures.reads) (λ r is of. none_replied (λ x. RolloutShown (rollout_shown x)) (item_numbered r.rollouts c.args.number) (is of))

@@ -1,12 +1,12 @@
 use Rattle.std.proofs.Common.{◌≡◌, Ok, drop, take}
 use Rattle.sql_calls.specs.declared.fault.Fault.{Fault}
 use Rattle.rollout_machine.specs.Objects.{numbered, set_shown}
-use Rattle.desk_store.specs.Changing.{ReadsIn, StaysIn}
+use Rattle.desk_store.specs.Changing.{FindsIn, StaysIn}
 use Rattle.desk_views.proofs.sets.read_page.Given as goal
 
 -- the entries so far are the first of the page
 abbrev pub invariant-loop-place : goal.invariant-loop-place
 invariant-loop-place g l = record {
-  stays : StaysIn l.fn.change l.change (Ok (tt {0}));
-  reads : ReadsIn g.S.Store {E = Fault} l.fn.change l.change (Ok l.content.items) (λ r items. items ≡ take l.place (drop l.page.offset (numbered set_shown 1 r.sets)));
+  stays : StaysIn g.S.Store l.fn.change l.change (Ok (tt {0}));
+  reads : FindsIn g.S.Store {E = Fault} l.fn.change l.change (Ok l.content.items) (λ r items. items ≡ take l.place (drop l.page.offset (numbered set_shown 1 r.sets)));
 }

@@ -1,16 +1,14 @@
+use Rattle.sql_calls.proofs.Composing.{found_if, known}
 use Rattle.std.proofs.Common.{◌++◌, ◌∷◌, [], false, true, ap, ◌∙◌, refl, rules, sym}
-use Rattle.sql_calls.proofs.Composing.{known}
-use Rattle.desk_records.specs.Holds.{HoldsRecords}
 use Rattle.desk_views.specs.Targets.{worded}
-use Rattle.desk_views.proofs.DeviceViews.{read_if}
 use Rattle.desk_views.proofs.TargetPages.{page_with}
 use Rattle.desk_views.proofs.target_pages.add.Goals as goal
 
 pub returns-then-not-is_on-clause-reads : goal.returns-then-not-is_on-clause-reads
 returns-then-not-is_on-clause-reads g c =
-    known HoldsRecords _ _ _ (λ r all was. page_with c.args.page c.args.shown.now c.args.shown.now.content all (worded r c.args.target) was false (sym c.if-not-is_on.true ∙ c.is_on.ensures) c.in-Some.total (search rules) refl)
+    known (λ r all was. page_with c.args.page c.args.shown.now c.args.shown.now.content all (worded r c.args.target) was false (sym c.if-not-is_on.true ∙ c.is_on.ensures) c.in-Some.total (search rules) refl)
 
 pub returns-clause-reads : goal.returns-clause-reads
 returns-clause-reads g c =
-    read_if HoldsRecords _ _ _ _ _ _ c.in_ok-entry.ensures.reads c.push.ensures
+    found_if c.in_ok-entry.ensures.reads _ c.push.ensures
     (λ r y said got all was. page_with c.args.page c.args.shown.now c.push.new.content all (worded r c.args.target) was true (sym c.if-not-is_on.false ∙ c.is_on.ensures) c.in-Some.total (search rules) (got ∙ ap (λ s. c.args.shown.now.content.items ++ s ∷ []) said))

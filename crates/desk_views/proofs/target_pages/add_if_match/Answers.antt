@@ -1,19 +1,15 @@
 use Rattle.std.proofs.Common.{ap, ◌∙◌}
-use Rattle.sql_calls.proofs.Composing.{both_read, reads_as, second_fails}
-use Rattle.desk_records.specs.Holds.{HoldsRecords}
+use Rattle.sql_calls.proofs.Composing.{both_found, finds_as}
 use Rattle.rollout_machine.specs.Objects.{page_of}
 use Rattle.desk_views.proofs.TargetPages.{match_added, match_left}
 use Rattle.desk_views.proofs.target_pages.add_if_match.Goals as goal
 
 pub returns-then-not-matches-clause-reads : goal.returns-then-not-matches-clause-reads
 returns-then-not-matches-clause-reads g c =
-    reads_as HoldsRecords _ _ _ _ _ _ c.in_ok-target.ensures.reads
+    finds_as c.in_ok-target.ensures.reads
     (λ r is f tree all was. was ∙ ap (page_of c.args.page) (match_left r f c.args.filter.now c.in_ok-target.target _ _ c.matches-matches.ensures.computed tree is all c.if-not-matches.true))
-
-pub returns-in_err-add-clause-reads : goal.returns-in_err-add-clause-reads
-returns-in_err-add-clause-reads g c = second_fails HoldsRecords _ _ _ _ _ _ _ _ c.in_ok-target.ensures.reads c.in_err-add.ensures.reads _ c.from_residual-in_err-add.ensures.0
 
 pub returns-clause-reads : goal.returns-clause-reads
 returns-clause-reads g c =
-    reads_as HoldsRecords _ _ _ _ _ _ (both_read HoldsRecords _ _ _ _ _ _ _ c.in_ok-target.ensures.reads c.in_ok-add.ensures.reads)
+    finds_as (both_found c.in_ok-target.ensures.reads c.in_ok-add.ensures.reads)
     (λ r is f tree all was. is.1 all was ∙ ap (page_of c.args.page) (match_added r f c.args.filter.now c.in_ok-target.target _ _ c.matches-matches.ensures.computed tree is.0 all c.if-not-matches.false))

@@ -5,14 +5,14 @@ use Rattle.rollout_machine.specs.Views.{listed}
 use Rattle.rollout_model.specs.declared.shown_target.ShownTarget.{ShownTarget}
 use Rattle.target_filter.specs.Grammar.{Tree}
 use Rattle.target_filter.specs.Profile.{filter_of}
-use Rattle.desk_store.specs.Changing.{ReadsIn, StaysIn}
+use Rattle.desk_store.specs.Changing.{FindsIn, StaysIn}
 use Rattle.desk_views.specs.Targets.{matching_shown, target_listed}
 use Rattle.desk_views.proofs.target_pages.add_matching.Given as goal
 
 -- those that match of the ones that were gone through are added
 abbrev pub invariant-loop-entry : goal.invariant-loop-entry
 invariant-loop-entry g l = record {
-  stays : StaysIn l.fn.change l.change (Ok (tt {0}));
-  reads : ReadsIn g.S.Store {A = Unit {0}} {E = Fault} l.fn.change l.change (Ok tt)
+  stays : StaysIn g.S.Store l.fn.change l.change (Ok (tt {0}));
+  reads : FindsIn g.S.Store {A = Unit {0}} {E = Fault} l.fn.change l.change (Ok tt)
       (λ r _. (f : Tree) → filter_of l.filter ≡ Some f → (all : List ShownTarget) → listed l.fn.shown ≡ page_of l.page all → listed l.shown ≡ page_of l.page (all ++ matching_shown r f (map (target_listed r) l.yielded)));
 }

@@ -1,13 +1,13 @@
 use Rattle.std.proofs.Common.{◌≡◌, Ok, map}
 use Rattle.sql_calls.specs.declared.fault.Fault.{Fault}
 use Rattle.desk_views.specs.Targets.{target_listed, worded}
-use Rattle.desk_store.specs.Changing.{ReadsIn, StaysIn}
+use Rattle.desk_store.specs.Changing.{FindsIn, StaysIn}
 use Rattle.desk_views.proofs.target_pages.read_entries.Given as goal
 
 -- the content so far are those that were gone through
 abbrev pub invariant-loop-entry : goal.invariant-loop-entry
 invariant-loop-entry g l = record {
-  stays : StaysIn l.fn.change l.change (Ok (tt {0}));
-  reads : ReadsIn g.S.Store {E = Fault} l.fn.change l.change (Ok l.content.items)
+  stays : StaysIn g.S.Store l.fn.change l.change (Ok (tt {0}));
+  reads : FindsIn g.S.Store {E = Fault} l.fn.change l.change (Ok l.content.items)
       (λ r items. items ≡ map (worded r) (map (target_listed r) l.yielded));
 }

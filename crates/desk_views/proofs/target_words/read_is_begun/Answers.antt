@@ -1,15 +1,11 @@
 use Rattle.std.proofs.Common.{ap}
-use Rattle.sql_calls.proofs.Composing.{read_fails, reads_as}
-use Rattle.desk_records.specs.Holds.{HoldsRecords}
-use Rattle.desk_store.proofs.LedgersOfRecords.{ledger_read}
+use Rattle.sql_calls.proofs.Composing.{finds_as}
+use Rattle.desk_store.proofs.LedgersOfRecords.{ledger_found}
 use Rattle.rollout_machine.specs.StateWords.{group_is_started}
 use Rattle.desk_views.proofs.target_words.read_is_begun.Goals as goal
 
 pub returns-in-Some-clause-reads : goal.returns-in-Some-clause-reads
-returns-in-Some-clause-reads g c = reads_as HoldsRecords _ _ _ _ _ _ (ledger_read _ _ _ _ (rw c.in-Some.is at c.in_ok-group.ensures.reads)) (λ r is. ap group_is_started is)
+returns-in-Some-clause-reads g c = finds_as (ledger_found _ (rw c.in-Some.is at c.in_ok-group.ensures.reads)) (λ r is. ap group_is_started is)
 
 pub returns-in-None-clause-reads : goal.returns-in-None-clause-reads
-returns-in-None-clause-reads g c = reads_as HoldsRecords _ _ _ _ _ _ (ledger_read _ _ _ _ (rw c.in-None.is at c.in_ok-group.ensures.reads)) (λ r is. ap group_is_started is)
-
-pub returns-in_err-group-clause-reads : goal.returns-in_err-group-clause-reads
-returns-in_err-group-clause-reads g c = read_fails HoldsRecords _ _ _ _ _ (ledger_read _ _ _ _ c.in_err-group.ensures.reads) _ c.from_residual.ensures.0
+returns-in-None-clause-reads g c = finds_as (ledger_found _ (rw c.in-None.is at c.in_ok-group.ensures.reads)) (λ r is. ap group_is_started is)

@@ -1,7 +1,6 @@
 use Rattle.std.proofs.Common.{◌∙◌}
-use Rattle.sql_calls.proofs.Composing.{reads_as}
-use Rattle.desk_records.specs.Holds.{HoldsRecords}
+use Rattle.sql_calls.proofs.Composing.{finds_as}
 use Rattle.desk_views.proofs.target_words.read_target_word.Goals as goal
 
 pub returns-clause-reads : goal.returns-clause-reads
-returns-clause-reads g c = reads_as HoldsRecords _ _ _ _ _ _ c.in_ok-status.ensures.reads (λ r is. c.target_word.ensures.word ∙ is)
+returns-clause-reads g c = finds_as c.in_ok-status.ensures.reads (λ r is. c.target_word.ensures.word ∙ is)

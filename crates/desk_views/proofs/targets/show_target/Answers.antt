@@ -1,11 +1,10 @@
 use Rattle.std.proofs.Common.{Some, None}
-use Rattle.sql_calls.proofs.Composing.{reads_as}
-use Rattle.desk_records.specs.Holds.{HoldsRecords}
+use Rattle.sql_calls.proofs.Composing.{finds_as}
 use Rattle.desk_views.proofs.TargetViews.{replied}
 use Rattle.desk_views.proofs.targets.show_target.Goals as goal
 
 pub returns-in-Some-clause-reads : goal.returns-in-Some-clause-reads
-returns-in-Some-clause-reads g c = reads_as HoldsRecords _ _ _ _ _ _ (rw c.in-Some.is at c.in_ok-shown.ensures.reads) (λ r is. replied r c.args.id (Some c.in-Some.shown) is)
+returns-in-Some-clause-reads g c = finds_as (rw c.in-Some.is at c.in_ok-shown.ensures.reads) (λ r is. replied r c.args.id (Some c.in-Some.shown) is)
 
 pub returns-in-None-clause-reads : goal.returns-in-None-clause-reads
-returns-in-None-clause-reads g c = reads_as HoldsRecords _ _ _ _ _ _ (rw c.in-None.is at c.in_ok-shown.ensures.reads) (λ r is. replied r c.args.id None is)
+returns-in-None-clause-reads g c = finds_as (rw c.in-None.is at c.in_ok-shown.ensures.reads) (λ r is. replied r c.args.id None is)

@@ -1,8 +1,7 @@
 use Rattle.std.proofs.Common.{ap, ◌∙◌}
-use Rattle.sql_calls.proofs.Composing.{reads_as}
-use Rattle.desk_records.specs.Holds.{HoldsRecords}
+use Rattle.sql_calls.proofs.Composing.{finds_as}
 use Rattle.rollout_machine.specs.StateWords.{TargetWord}
 use Rattle.desk_views.proofs.targets.with_word.Goals as goal
 
 pub returns-clause-reads : goal.returns-clause-reads
-returns-clause-reads g c = reads_as HoldsRecords _ _ _ _ _ _ c.in_ok-word.ensures.reads (λ r is. c.shown_as.ensures ∙ ap (λ (w : TargetWord). record { id = c.args.target.id; name = c.args.target.name; tags = c.args.target.tags; attributes = c.args.target.attributes; word = w }) is)
+returns-clause-reads g c = finds_as c.in_ok-word.ensures.reads (λ r is. c.shown_as.ensures ∙ ap (λ (w : TargetWord). record { id = c.args.target.id; name = c.args.target.name; tags = c.args.target.tags; attributes = c.args.target.attributes; word = w }) is)

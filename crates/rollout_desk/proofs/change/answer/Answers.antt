@@ -1,45 +1,44 @@
-use Rattle.desk_records.specs.Holds.{HoldsRecords}
 use Rattle.desk_views.proofs.ListLemmas.{at_lists}
 use Rattle.rollout_desk.proofs.change.answer.Goals as goal
 
 pub returns-in-Modules-clause-shows : goal.returns-in-Modules-clause-shows
-returns-in-Modules-clause-shows g c = rw c.in-Modules.is (at_lists HoldsRecords _ _ _ _ c.show_modules.ensures.reads)
+returns-in-Modules-clause-shows g c = rw c.in-Modules.is (at_lists _ c.show_modules.ensures.reads)
 
 pub returns-in-Module-clause-shows : goal.returns-in-Module-clause-shows
-returns-in-Module-clause-shows g c = rw c.in-Module.is (at_lists HoldsRecords _ _ _ _ c.show_module.ensures.reads)
+returns-in-Module-clause-shows g c = rw c.in-Module.is (at_lists _ c.show_module.ensures.reads)
 
 pub returns-in-Artifacts-clause-shows : goal.returns-in-Artifacts-clause-shows
-returns-in-Artifacts-clause-shows g c = rw c.in-Artifacts.is (at_lists HoldsRecords _ _ _ _ c.show_artifacts.ensures.reads)
+returns-in-Artifacts-clause-shows g c = rw c.in-Artifacts.is (at_lists _ c.show_artifacts.ensures.reads)
 
 pub returns-in-Artifact-clause-shows : goal.returns-in-Artifact-clause-shows
-returns-in-Artifact-clause-shows g c = rw c.in-Artifact.is (at_lists HoldsRecords _ _ _ _ c.show_artifact.ensures.reads)
+returns-in-Artifact-clause-shows g c = rw c.in-Artifact.is (at_lists _ c.show_artifact.ensures.reads)
 
 pub returns-in-Contents-clause-shows : goal.returns-in-Contents-clause-shows
-returns-in-Contents-clause-shows g c = rw c.in-Contents.is (at_lists HoldsRecords _ _ _ _ c.show_contents.ensures.reads)
+returns-in-Contents-clause-shows g c = rw c.in-Contents.is (at_lists _ c.show_contents.ensures.reads)
 
 pub returns-in-Sets-clause-shows : goal.returns-in-Sets-clause-shows
-returns-in-Sets-clause-shows g c = rw c.in-Sets.is (at_lists HoldsRecords _ _ _ _ c.show_sets.ensures.reads)
+returns-in-Sets-clause-shows g c = rw c.in-Sets.is (at_lists _ c.show_sets.ensures.reads)
 
 pub returns-in-Set-clause-shows : goal.returns-in-Set-clause-shows
-returns-in-Set-clause-shows g c = rw c.in-Set.is (at_lists HoldsRecords _ _ _ _ c.show_set.ensures.reads)
+returns-in-Set-clause-shows g c = rw c.in-Set.is (at_lists _ c.show_set.ensures.reads)
 
 pub returns-in-Targets-clause-shows : goal.returns-in-Targets-clause-shows
-returns-in-Targets-clause-shows g c = rw c.in-Targets.is (at_lists HoldsRecords _ _ _ _ c.show_targets.ensures.reads)
+returns-in-Targets-clause-shows g c = rw c.in-Targets.is (at_lists _ c.show_targets.ensures.reads)
 
 pub returns-in-Target-clause-shows : goal.returns-in-Target-clause-shows
-returns-in-Target-clause-shows g c = rw c.in-Target.is (at_lists HoldsRecords _ _ _ _ c.show_target.ensures.reads)
+returns-in-Target-clause-shows g c = rw c.in-Target.is (at_lists _ c.show_target.ensures.reads)
 
 pub returns-in-Poll-clause-shows : goal.returns-in-Poll-clause-shows
-returns-in-Poll-clause-shows g c = rw c.in-Poll.is (at_lists HoldsRecords _ _ _ _ c.show_poll.ensures.reads)
+returns-in-Poll-clause-shows g c = rw c.in-Poll.is (at_lists _ c.show_poll.ensures.reads)
 
 pub returns-in-Deployment-clause-shows : goal.returns-in-Deployment-clause-shows
-returns-in-Deployment-clause-shows g c = rw c.in-Deployment.is (at_lists HoldsRecords _ _ _ _ c.show_deployment.ensures.reads)
+returns-in-Deployment-clause-shows g c = rw c.in-Deployment.is (at_lists _ c.show_deployment.ensures.reads)
 
 pub returns-in-CancelOf-clause-shows : goal.returns-in-CancelOf-clause-shows
-returns-in-CancelOf-clause-shows g c = rw c.in-CancelOf.is (at_lists HoldsRecords _ _ _ _ c.show_cancel.ensures.reads)
+returns-in-CancelOf-clause-shows g c = rw c.in-CancelOf.is (at_lists _ c.show_cancel.ensures.reads)
 
 pub returns-in-Download-clause-shows : goal.returns-in-Download-clause-shows
-returns-in-Download-clause-shows g c = rw c.in-Download.is (at_lists HoldsRecords _ _ _ _ c.show_download.ensures.reads)
+returns-in-Download-clause-shows g c = rw c.in-Download.is (at_lists _ c.show_download.ensures.reads)
 
 pub returns-in-Actions-clause-shows : goal.returns-in-Actions-clause-shows
 returns-in-Actions-clause-shows g c = rw c.in-Actions.is c.show_target_actions.ensures.shows

@@ -1,7 +1,7 @@
 use Rattle.std.proofs.Common.{◌≡◌, subst, rules}
 use Rattle.sqlite.specs.Held.{state}
 use Rattle.sql_calls.specs.Standing.{Keeps}
-use Rattle.desk_records.specs.Holds.{HoldsRecords}
+use Rattle.desk_records.specs.Holds.{HoldsLedger, HoldsRecords}
 use Rattle.rollout_machine.specs.Requests.{Do}
 use Rattle.rollout_machine.specs.Views.{command_of, reply_of}
 use Rattle.rollout_desk.specs.Steps.{Handles}
@@ -10,23 +10,23 @@ use Rattle.rollout_desk.proofs.change.run_command.Goals as goal
 
 pub returns-in-Err-clause-handles : goal.returns-in-Err-clause-handles
 returns-in-Err-clause-handles g c =
-    let kept : Keeps HoldsRecords (state g.S.Store c.args.store.now.calls.conn) (state g.S.Store c.begin.follows.lender-at-none.calls.conn) = search rules in
-    unbegun HoldsRecords _ _ _ _ kept (fault_fails _ _ c.reply_of_fault.ensures)
+    let kept : Keeps HoldsLedger (state g.S.Store c.args.store.now.calls.conn) (state g.S.Store c.begin.follows.lender-at-none.calls.conn) = search rules in
+    unbegun _ _ _ _ kept (fault_fails _ _ c.reply_of_fault.ensures)
 
 pub returns-in-Ok-Accepted-clause-handles : goal.returns-in-Ok-Accepted-clause-handles
 returns-in-Ok-Accepted-clause-handles g c =
     let same : c.commit.new.change.0 ≡ c.store-in-Ok-Accepted-1.given.0 = search rules in
     subst (λ h. Handles HoldsRecords (state g.S.Store c.args.store.now.calls.conn) (state g.S.Store h.calls.conn) (Do (command_of c.args.command.now)) (reply_of c.commit.result)) same
-    (accepted HoldsRecords _ _ c.in-Ok.ensures.begun _ _ _ c.command_is_well_formed.ensures c.in-Ok-Accepted.reply (rw c.in-Ok-Accepted.field-0-is at c.in-Ok-Accepted.ensures.steps) _ c.commit.ensures.ends)
+    (accepted _ _ c.in-Ok.ensures.begun _ _ _ c.command_is_well_formed.ensures c.in-Ok-Accepted.reply c.in-Ok-Accepted.ensures.stays.frame (rw c.in-Ok-Accepted.field-0-is at c.in-Ok-Accepted.ensures.steps) _ c.commit.ensures.ends)
 
 pub returns-in-Ok-Refused-clause-handles : goal.returns-in-Ok-Refused-clause-handles
 returns-in-Ok-Refused-clause-handles g c =
     let same : c.give_up.new.change.0 ≡ c.store-in-Ok-Refused-1.given.0 = search rules in
     subst (λ h. Handles HoldsRecords (state g.S.Store c.args.store.now.calls.conn) (state g.S.Store h.calls.conn) (Do (command_of c.args.command.now)) (reply_of c.give_up.result)) same
-    (refused HoldsRecords _ _ c.in-Ok.ensures.begun _ _ _ c.in-Ok-Refused.refusal (rw c.in-Ok-Refused.field-0-is at c.in-Ok-Refused.ensures.steps) _ c.give_up.ensures.ends)
+    (refused _ _ c.in-Ok.ensures.begun _ _ _ c.in-Ok-Refused.refusal c.in-Ok-Refused.ensures.stays.frame (rw c.in-Ok-Refused.field-0-is at c.in-Ok-Refused.ensures.steps) _ c.give_up.ensures.ends)
 
 pub returns-in-Err-step-clause-handles : goal.returns-in-Err-step-clause-handles
 returns-in-Err-step-clause-handles g c =
     let same : c.give_up-in-Err-step.new.change.0 ≡ c.store-in-Err-step-1.given.0 = search rules in
     subst (λ h. Handles HoldsRecords (state g.S.Store c.args.store.now.calls.conn) (state g.S.Store h.calls.conn) (Do (command_of c.args.command.now)) (reply_of c.give_up-in-Err-step.result)) same
-    (broken HoldsRecords _ _ c.in-Ok.ensures.begun _ _ _ c.in-Err-step.fault c.in-Err-step.ensures.steps _ (fault_fails _ _ c.reply_of_fault-in-Err-step.ensures) _ c.give_up-in-Err-step.ensures.ends)
+    (broken _ _ c.in-Ok.ensures.begun _ _ _ _ c.in-Err-step.ensures.stays.frame c.in-Err-step.ensures.steps.wears (fault_fails _ _ c.reply_of_fault-in-Err-step.ensures) _ c.give_up-in-Err-step.ensures.ends)

@@ -1,7 +1,7 @@
 use Rattle.std.proofs.Common.{◌≡◌, subst, rules}
 use Rattle.sqlite.specs.Held.{state}
 use Rattle.sql_calls.specs.Standing.{Keeps}
-use Rattle.desk_records.specs.Holds.{HoldsRecords}
+use Rattle.desk_records.specs.Holds.{HoldsLedger, HoldsRecords}
 use Rattle.rollout_machine.specs.Requests.{Ask}
 use Rattle.rollout_machine.specs.Views.{query_of, reply_of}
 use Rattle.rollout_desk.specs.Steps.{Handles}
@@ -10,17 +10,17 @@ use Rattle.rollout_desk.proofs.change.run_query.Goals as goal
 
 pub returns-in-Err-clause-handles : goal.returns-in-Err-clause-handles
 returns-in-Err-clause-handles g c =
-    let kept : Keeps HoldsRecords (state g.S.Store c.args.store.now.calls.conn) (state g.S.Store c.begin.follows.lender-at-none.calls.conn) = search rules in
-    unbegun HoldsRecords _ _ _ _ kept (fault_fails _ _ c.reply_of_fault.ensures)
+    let kept : Keeps HoldsLedger (state g.S.Store c.args.store.now.calls.conn) (state g.S.Store c.begin.follows.lender-at-none.calls.conn) = search rules in
+    unbegun _ _ _ _ kept (fault_fails _ _ c.reply_of_fault.ensures)
 
 pub returns-in-Ok-answer-clause-handles : goal.returns-in-Ok-answer-clause-handles
 returns-in-Ok-answer-clause-handles g c =
     let same : c.give_up.new.change.0 ≡ c.store-in-Ok-answer-1.given.0 = search rules in
     subst (λ h. Handles HoldsRecords (state g.S.Store c.args.store.now.calls.conn) (state g.S.Store h.calls.conn) (Ask (query_of c.args.query.now)) (reply_of c.give_up.result)) same
-    (shown HoldsRecords _ _ c.in-Ok.ensures.begun _ _ _ c.in-Ok-answer.reply c.in-Ok-answer.ensures.shows _ c.give_up.ensures.ends)
+    (shown _ _ c.in-Ok.ensures.begun _ _ _ c.in-Ok-answer.reply c.in-Ok-answer.ensures.stays.frame c.in-Ok-answer.ensures.shows _ c.give_up.ensures.ends)
 
 pub returns-in-Err-answer-clause-handles : goal.returns-in-Err-answer-clause-handles
 returns-in-Err-answer-clause-handles g c =
     let same : c.give_up-in-Err-answer.new.change.0 ≡ c.store-in-Err-answer-1.given.0 = search rules in
     subst (λ h. Handles HoldsRecords (state g.S.Store c.args.store.now.calls.conn) (state g.S.Store h.calls.conn) (Ask (query_of c.args.query.now)) (reply_of c.give_up-in-Err-answer.result)) same
-    (unshown HoldsRecords _ _ c.in-Ok.ensures.begun _ _ _ c.in-Err-answer.fault c.in-Err-answer.ensures.shows _ (fault_fails _ _ c.reply_of_fault-in-Err-answer.ensures) _ c.give_up-in-Err-answer.ensures.ends)
+    (unshown _ _ c.in-Ok.ensures.begun _ _ _ _ c.in-Err-answer.ensures.stays.frame c.in-Err-answer.ensures.shows.wears (fault_fails _ _ c.reply_of_fault-in-Err-answer.ensures) _ c.give_up-in-Err-answer.ensures.ends)

@@ -2,7 +2,7 @@ use Rattle.std.proofs.Common.{◌≡◌, Some, Ok, map}
 use Rattle.sql_calls.specs.declared.fault.Fault.{Fault}
 use Rattle.target_filter.specs.Grammar.{Tree}
 use Rattle.target_filter.specs.Profile.{filter_of}
-use Rattle.desk_store.specs.Changing.{ReadsIn, StaysIn}
+use Rattle.desk_store.specs.Changing.{FindsIn, StaysIn}
 use Rattle.desk_views.specs.Targets.{target_listed}
 use Rattle.rollout_desk.specs.Creations.{ids_matching}
 use Rattle.rollout_desk.proofs.creation.matching.Given as goal
@@ -10,7 +10,7 @@ use Rattle.rollout_desk.proofs.creation.matching.Given as goal
 -- the members so far are those that match of the ones that were gone through
 abbrev pub invariant-loop-entry : goal.invariant-loop-entry
 invariant-loop-entry g l = record {
-  stays : StaysIn l.fn.change l.change (Ok (tt {0}));
-  reads : ReadsIn g.S.Store {E = Fault} l.fn.change l.change (Ok l.members.items)
+  stays : StaysIn g.S.Store l.fn.change l.change (Ok (tt {0}));
+  reads : FindsIn g.S.Store {E = Fault} l.fn.change l.change (Ok l.members.items)
       (λ r items. (f : Tree) → filter_of l.filter ≡ Some f → items ≡ ids_matching f (map (target_listed r) l.yielded));
 }

@@ -1,31 +1,16 @@
+use Rattle.sql_calls.proofs.Composing.{both_found, finds_as}
+use Rattle.desk_store.proofs.LedgersOfRecords.{ledger_found}
 use Rattle.std.proofs.Common.{◌∙◌, subst, ◌≤◌, ap}
 use Rattle.std.specs.Prelude.{length, nat_lt}
-use Rattle.sql_calls.proofs.Composing.{both_read, reads_as, second_fails}
-use Rattle.desk_records.specs.Holds.{HoldsRecords}
-use Rattle.desk_store.proofs.LedgersOfRecords.{ledger_read}
 use Rattle.rollout_desk.proofs.CreationLemmas.{set_missing}
 use Rattle.rollout_desk.proofs.creation.read_view.Goals as goal
 
-pub returns-in_err-same_name-clause-reads : goal.returns-in_err-same_name-clause-reads
-returns-in_err-same_name-clause-reads g c = second_fails HoldsRecords _ _ _ _ _ _ _ _ c.in_ok-last_set.ensures.reads (ledger_read _ _ _ _ c.in_err-same_name.ensures.reads) _ c.from_residual-in_err-same_name.ensures.0
-
-pub returns-in_err-count-clause-reads : goal.returns-in_err-count-clause-reads
-returns-in_err-count-clause-reads g c =
-    second_fails HoldsRecords _ _ _ _ _ _ _ _ (both_read HoldsRecords _ _ _ _ _ _ _ c.in_ok-last_set.ensures.reads (ledger_read _ _ _ _ c.in_ok-same_name.ensures.reads))
-    (ledger_read _ _ _ _ c.in_err-count.ensures.reads) _ c.from_residual-in_err-count.ensures.0
-
-pub returns-in_err-approval-clause-reads : goal.returns-in_err-approval-clause-reads
-returns-in_err-approval-clause-reads g c =
-    second_fails HoldsRecords _ _ _ _ _ _ _ _
-    (both_read HoldsRecords _ _ _ _ _ _ _ (both_read HoldsRecords _ _ _ _ _ _ _ c.in_ok-last_set.ensures.reads (ledger_read _ _ _ _ c.in_ok-same_name.ensures.reads)) (ledger_read _ _ _ _ c.in_ok-count.ensures.reads))
-    (ledger_read _ _ _ _ c.in_err-approval.ensures.reads) _ c.from_residual-in_err-approval.ensures.0
-
 pub returns-clause-reads : goal.returns-clause-reads
 returns-clause-reads g c =
-    reads_as HoldsRecords _ _ _ _ _ _
-    (both_read HoldsRecords _ _ _ _ _ _ _
-    (both_read HoldsRecords _ _ _ _ _ _ _ (both_read HoldsRecords _ _ _ _ _ _ _ c.in_ok-last_set.ensures.reads (ledger_read _ _ _ _ c.in_ok-same_name.ensures.reads)) (ledger_read _ _ _ _ c.in_ok-count.ensures.reads))
-    (ledger_read _ _ _ _ c.in_ok-approval.ensures.reads))
+    finds_as
+    (both_found
+    (both_found (both_found c.in_ok-last_set.ensures.reads (ledger_found _ c.in_ok-same_name.ensures.reads)) (ledger_found _ c.in_ok-count.ensures.reads))
+    (ledger_found _ c.in_ok-approval.ensures.reads))
     (λ r is chosen. record {
       bad_filter = chosen.bad_filter;
       misses_set = ap (λ n. nat_lt c.in_ok-last_set.last_set n) c.get.ensures.value ∙ set_missing r c.args.plan.now.set_number c.in_ok-last_set.last_set (subst (λ n. 1 ≤ n) c.get.ensures.value c.get.ensures.least) is.0.0.0;

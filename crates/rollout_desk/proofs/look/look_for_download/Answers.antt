@@ -1,24 +1,24 @@
 use Rattle.std.proofs.Common.{◌≡◌, subst, rules}
 use Rattle.sqlite.specs.Held.{state}
 use Rattle.sql_calls.specs.Standing.{Keeps}
-use Rattle.desk_records.specs.Holds.{HoldsRecords}
+use Rattle.desk_records.specs.Holds.{HoldsLedger, HoldsRecords}
 use Rattle.rollout_desk.specs.Looks.{FindsDownload}
 use Rattle.rollout_desk.proofs.DownloadLemmas.{looked_for, looked_in_vain, not_looked}
 use Rattle.rollout_desk.proofs.look.look_for_download.Goals as goal
 
 pub returns-in-Err-clause-finds : goal.returns-in-Err-clause-finds
 returns-in-Err-clause-finds g c =
-    let kept : Keeps HoldsRecords (state g.S.Store c.args.store.now.calls.conn) (state g.S.Store c.begin.follows.lender-at-none.calls.conn) = search rules in
-    not_looked HoldsRecords _ _ _ _ _ _ _ kept c.refusal_of.ensures
+    let kept : Keeps HoldsLedger (state g.S.Store c.args.store.now.calls.conn) (state g.S.Store c.begin.follows.lender-at-none.calls.conn) = search rules in
+    not_looked _ _ _ _ _ _ _ kept c.refusal_of.ensures
 
 pub returns-in-Ok-find_download-clause-finds : goal.returns-in-Ok-find_download-clause-finds
 returns-in-Ok-find_download-clause-finds g c =
     let same : c.give_up.new.change.0 ≡ c.store-in-Ok-find_download-1.given.0 = search rules in
     subst (λ h. FindsDownload HoldsRecords (state g.S.Store c.args.store.now.calls.conn) (state g.S.Store h.calls.conn) c.args.device.now c.args.module_number c.args.filename.now c.give_up.result) same
-    (looked_for HoldsRecords _ _ _ _ _ c.in-Ok.ensures.begun _ _ c.in-Ok-find_download.found _ c.in-Ok-find_download.ensures.reads c.give_up.ensures.ends)
+    (looked_for _ _ _ _ _ c.in-Ok.ensures.begun _ _ c.in-Ok-find_download.found _ c.in-Ok-find_download.ensures.stays.frame c.in-Ok-find_download.ensures.reads c.give_up.ensures.ends)
 
 pub returns-in-Err-find_download-clause-finds : goal.returns-in-Err-find_download-clause-finds
 returns-in-Err-find_download-clause-finds g c =
     let same : c.give_up-in-Err-find_download.new.change.0 ≡ c.store-in-Err-find_download-1.given.0 = search rules in
     subst (λ h. FindsDownload HoldsRecords (state g.S.Store c.args.store.now.calls.conn) (state g.S.Store h.calls.conn) c.args.device.now c.args.module_number c.args.filename.now c.give_up-in-Err-find_download.result) same
-    (looked_in_vain HoldsRecords _ _ _ _ _ c.in-Ok.ensures.begun _ _ c.in-Err-find_download.fault c.in-Err-find_download.fault _ _ c.in-Err-find_download.ensures.reads c.refusal_of-in-Err-find_download.ensures c.give_up-in-Err-find_download.ensures.ends)
+    (looked_in_vain _ _ _ _ _ c.in-Ok.ensures.begun _ _ c.in-Err-find_download.fault _ _ c.in-Err-find_download.ensures.stays.frame c.in-Err-find_download.ensures.reads.wears c.refusal_of-in-Err-find_download.ensures c.give_up-in-Err-find_download.ensures.ends)

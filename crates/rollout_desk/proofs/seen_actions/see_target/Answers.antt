@@ -1,19 +1,15 @@
+use Rattle.sql_calls.proofs.Composing.{both_found, finds_as}
+use Rattle.desk_store.proofs.LedgersOfRecords.{ledger_found}
 use Rattle.std.proofs.Common.{None, cond, ap, ◌∙◌}
-use Rattle.sql_calls.proofs.Composing.{both_read, reads_as, second_fails}
-use Rattle.desk_records.specs.Holds.{HoldsRecords}
-use Rattle.desk_store.proofs.LedgersOfRecords.{ledger_read}
 use Rattle.rollout_desk.specs.SeenActions.{only_of}
 use Rattle.rollout_desk.proofs.seen_actions.see_target.Goals as goal
 
-pub returns-in_err-seen-clause-reads : goal.returns-in_err-seen-clause-reads
-returns-in_err-seen-clause-reads g c = second_fails HoldsRecords _ _ _ _ _ _ _ _ c.in_ok-lacks.ensures.reads (ledger_read _ _ _ _ c.in_err-seen.ensures.reads) _ c.from_residual-in_err-seen.ensures.0
-
 pub returns-then-lacks-clause-reads : goal.returns-then-lacks-clause-reads
 returns-then-lacks-clause-reads g c =
-    reads_as HoldsRecords _ _ _ _ _ _ (both_read HoldsRecords _ _ _ _ _ _ _ (rw c.if-lacks.true at c.in_ok-lacks.ensures.reads) (ledger_read _ _ _ _ c.in_ok-seen.ensures.reads))
+    finds_as (both_found (rw c.if-lacks.true at c.in_ok-lacks.ensures.reads) (ledger_found _ c.in_ok-seen.ensures.reads))
     (λ r is. record { found = c.in_ok-seen.seen; sees = is.1; action = ap (λ b. cond b None (only_of c.args.id.now c.in_ok-seen.seen)) is.0 })
 
 pub returns-clause-reads : goal.returns-clause-reads
 returns-clause-reads g c =
-    reads_as HoldsRecords _ _ _ _ _ _ (both_read HoldsRecords _ _ _ _ _ _ _ (rw c.if-lacks.false at c.in_ok-lacks.ensures.reads) (ledger_read _ _ _ _ c.in_ok-seen.ensures.reads))
+    finds_as (both_found (rw c.if-lacks.false at c.in_ok-lacks.ensures.reads) (ledger_found _ c.in_ok-seen.ensures.reads))
     (λ r is. record { found = c.in_ok-seen.seen; sees = is.1; action = c.only_of.ensures ∙ ap (λ b. cond b None (only_of c.args.id.now c.in_ok-seen.seen)) is.0 })

@@ -1,41 +1,28 @@
+use Rattle.desk_store.proofs.LedgersOfRecords.{ledger_made}
+use Rattle.rollout_desk.proofs.ComposeLemmas.{accepted_at, refused_at}
 use Rattle.std.proofs.Common.{Ok, ◌∙◌}
 use Rattle.desk_records.specs.Holds.{HoldsLedger, HoldsRecords, ledger_of}
 use Rattle.rollout_machine.specs.Records.{records}
 use Rattle.rollout_desk.specs.Standings.{WritesSaid, said_by}
-use Rattle.rollout_desk.proofs.ComposeLemmas.{accepted_at, refused_at, unread, unwritten_at, writes_all}
 use Rattle.rollout_desk.proofs.StandingLemmas.{none_there, not_there, said_reply, said_written, seen_there}
-use Rattle.rollout_desk.proofs.WriteLemmas.{all_of_records}
 use Rattle.rollout_desk.proofs.standing.say.Goals as goal
-
-pub returns-in_err-found-clause-steps : goal.returns-in_err-found-clause-steps
-returns-in_err-found-clause-steps g c = unread HoldsRecords (said_by c.args.said c.args.number) _ _ _ _ c.in_err-found.ensures.reads _ c.from_residual.ensures.0
 
 pub returns-in_default-clause-steps : goal.returns-in_default-clause-steps
 returns-in_default-clause-steps g c =
-    refused_at HoldsRecords (said_by c.args.said c.args.number) _ _ _ _ _ (rw c.in_default.is at c.in_ok-found.ensures.reads) (λ h valid sees. not_there c.args.said (records h) c.args.number (none_there h valid c.args.number sees))
+    refused_at (rw c.in_default.is at c.in_ok-found.ensures.reads) (λ h valid sees. not_there c.args.said (records h) c.args.number (none_there h valid c.args.number sees))
 
 pub returns-in-Some-refusal_of-clause-steps : goal.returns-in-Some-refusal_of-clause-steps
 returns-in-Some-refusal_of-clause-steps g c =
-    refused_at HoldsRecords (said_by c.args.said c.args.number) _ _ _ _ _ (rw c.in-Some.is at c.in_ok-found.ensures.reads)
+    refused_at (rw c.in-Some.is at c.in_ok-found.ensures.reads)
     (λ h valid sees. let it = seen_there h valid c.args.number c.in-Some.seen sees in c.refusal_of.ensures h c.args.number it.rollout it.at ∙ c.in-Some-refusal_of.is)
-
-pub returns-in_err-write_said-clause-steps : goal.returns-in_err-write_said-clause-steps
-returns-in_err-write_said-clause-steps g c =
-    let said = c.args.said in
-    let number = c.args.number in
-    let seen = c.in-Some.seen in
-    unwritten_at HoldsRecords (said_by said number) _ _ _ _ _ (rw c.in-Some.is at c.in_ok-found.ensures.reads)
-    (λ r next. WritesSaid said number seen (ledger_of r) (ledger_of next))
-    (λ h valid sees. let it = seen_there h valid number seen sees in said_written said h number seen c.number_is_well_formed.ensures it (c.refusal_of.ensures h number it.rollout it.at ∙ c.in_default-refusal_of.is))
-    _ (all_of_records _ _ _ _ (writes_all HoldsLedger _ _ _ _ c.in_err-write_said.ensures.writes)) _ c.from_residual-in_err-write_said.ensures.0
 
 pub returns-clause-steps : goal.returns-clause-steps
 returns-clause-steps g c =
     let said = c.args.said in
     let number = c.args.number in
     let seen = c.in-Some.seen in
-    accepted_at HoldsRecords (said_by said number) _ _ _ _ _ (rw c.in-Some.is at c.in_ok-found.ensures.reads)
+    accepted_at (rw c.in-Some.is at c.in_ok-found.ensures.reads)
     (λ r next. WritesSaid said number seen (ledger_of r) (ledger_of next))
     (λ h valid sees. let it = seen_there h valid number seen sees in said_written said h number seen c.number_is_well_formed.ensures it (c.refusal_of.ensures h number it.rollout it.at ∙ c.in_default-refusal_of.is))
-    (all_of_records _ _ _ (Ok tt) (writes_all HoldsLedger _ _ _ (Ok tt) c.in_ok-write_said.ensures.writes))
+    (ledger_made (Ok tt) c.in_ok-write_said.ensures.writes)
     _ (λ h valid sees. let it = seen_there h valid number seen sees in (c.refusal_of.ensures h number it.rollout it.at ∙ c.in_default-refusal_of.is, said_reply said _ number))

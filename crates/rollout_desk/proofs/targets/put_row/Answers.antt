@@ -1,43 +1,25 @@
+use Rattle.sql_calls.proofs.Composing.{both_found, found_held}
 use Rattle.std.proofs.Common.{◌≡◌, ◌≤◌, None, Some, refl, arith}
-use Rattle.sql_calls.proofs.Composing.{both_read, read_held}
-use Rattle.desk_records.specs.Holds.{HoldsRecords}
-use Rattle.rollout_model.specs.declared.refusal.Refusal.TheVariants.{Quota}
 use Rattle.rollout_desk.specs.Imports.{PutsOver}
-use Rattle.rollout_desk.proofs.PutLemmas.{room_kept, room_taken, room_unread, row_put, row_refused, row_unwritten, too_many}
+use Rattle.rollout_desk.proofs.PutLemmas.{room_kept, room_taken, row_put, row_refused, too_many}
 use Rattle.rollout_desk.proofs.targets.put_row.Goals as goal
-
-pub returns-in_err-change_row-in-Some-clause-puts : goal.returns-in_err-change_row-in-Some-clause-puts
-returns-in_err-change_row-in-Some-clause-puts g c =
-    let row = c.args.row.now in
-    row_unwritten HoldsRecords row c.args.left _ _ _ _ _ (rw c.in-Some.is at c.in_ok-found.ensures.reads)
-    (PutsOver (Some c.in-Some.stored) row) (λ r is. (is, refl)) _ c.in_err-change_row-in-Some.ensures.writes _ c.from_residual-in_err-change_row-in-Some.ensures.0
 
 pub returns-in-Some-clause-puts : goal.returns-in-Some-clause-puts
 returns-in-Some-clause-puts g c =
     let row = c.args.row.now in
-    row_put HoldsRecords row c.args.left _ _ _ _ _ (read_held HoldsRecords _ _ _ _ _ (λ db r holds. holds.sorted) (rw c.in-Some.is at c.in_ok-found.ensures.reads))
+    row_put (found_held (λ db r holds. holds.sorted) (rw c.in-Some.is at c.in_ok-found.ensures.reads))
     (PutsOver (Some c.in-Some.stored) row) (λ r is. (is.1, refl)) _ c.in_ok-change_row-in-Some.ensures.writes (λ r is room. room_kept row c.args.left r c.in-Some.stored is.0 is.1 room)
-
-pub returns-in_err-room-in-None-clause-puts : goal.returns-in_err-room-in-None-clause-puts
-returns-in_err-room-in-None-clause-puts g c =
-    room_unread HoldsRecords c.args.row.now c.args.left _ _ _ _ _ _ _ c.in_ok-found.ensures.reads c.in_err-room-in-None.ensures.reads _ c.from_residual-in_err-room-in-None.ensures.0
 
 pub returns-then-room-eq0-clause-puts : goal.returns-then-room-eq0-clause-puts
 returns-then-room-eq0-clause-puts g c =
     let row = c.args.row.now in
     let none : c.in_ok-room-in-None.room ≡ 0 = omega (arith, c.if-room-eq0.true) in
-    row_refused HoldsRecords row c.args.left _ _ _ _ Quota (both_read HoldsRecords _ _ _ _ _ _ _ (rw c.in-None.is at c.in_ok-found.ensures.reads) c.in_ok-room-in-None.ensures.reads)
+    row_refused (both_found (rw c.in-None.is at c.in_ok-found.ensures.reads) c.in_ok-room-in-None.ensures.reads)
     (λ r is room. (refl, too_many row r c.in_ok-room-in-None.room none is.0 (is.1 room)))
-
-pub returns-in_err-add_row-in-None-clause-puts : goal.returns-in_err-add_row-in-None-clause-puts
-returns-in_err-add_row-in-None-clause-puts g c =
-    let row = c.args.row.now in
-    row_unwritten HoldsRecords row c.args.left _ _ _ _ _ (both_read HoldsRecords _ _ _ _ _ _ _ (rw c.in-None.is at c.in_ok-found.ensures.reads) c.in_ok-room-in-None.ensures.reads)
-    (PutsOver None row) (λ r is. (is.0, refl)) _ c.in_err-add_row-in-None.ensures.writes _ c.from_residual-in_err-add_row-in-None.ensures.0
 
 pub returns-clause-puts : goal.returns-clause-puts
 returns-clause-puts g c =
     let row = c.args.row.now in
     let some : 1 ≤ c.in_ok-room-in-None.room = omega (arith, c.if-room-eq0.false) in
-    row_put HoldsRecords row c.args.left _ _ _ _ _ (both_read HoldsRecords _ _ _ _ _ _ _ (rw c.in-None.is at c.in_ok-found.ensures.reads) c.in_ok-room-in-None.ensures.reads)
+    row_put (both_found (rw c.in-None.is at c.in_ok-found.ensures.reads) c.in_ok-room-in-None.ensures.reads)
     (PutsOver None row) (λ r is. (is.0, refl)) _ c.in_ok-add_row-in-None.ensures.writes (λ r is room. room_taken row r c.in_ok-room-in-None.room some is.0 (is.1 room))

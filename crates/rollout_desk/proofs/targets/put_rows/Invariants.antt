@@ -1,5 +1,4 @@
 use Rattle.std.proofs.Common.{take, Ok}
-use Rattle.desk_records.specs.Holds.{HoldsRecords}
 use Rattle.desk_store.specs.Changing.{seen_in, StaysIn}
 use Rattle.rollout_desk.proofs.PutLemmas.{PutsSoFar}
 use Rattle.rollout_desk.proofs.targets.put_rows.Given as goal
@@ -7,6 +6,6 @@ use Rattle.rollout_desk.proofs.targets.put_rows.Given as goal
 -- the rows before this index are put
 abbrev pub invariant-loop-row : goal.invariant-loop-row
 invariant-loop-row g l = record {
-  stays : StaysIn l.fn.change l.change (Ok (tt {0}));
-  puts : PutsSoFar HoldsRecords (seen_in g.S.Store l.fn.change) (seen_in g.S.Store l.change) (take l.row-index l.rows) l.left;
+  stays : StaysIn g.S.Store l.fn.change l.change (Ok (tt {0}));
+  puts : PutsSoFar (seen_in g.S.Store l.fn.change) (seen_in g.S.Store l.change) (take l.row-index l.rows) l.left;
 }

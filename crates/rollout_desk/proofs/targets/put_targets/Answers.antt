@@ -11,5 +11,5 @@ pub returns-in-None-clause-steps : goal.returns-in-None-clause-steps
 returns-in-None-clause-steps g c =
     let put = rw (c.in-None.is, c.as_slice-rows.ensures) at c.in_ok-refusal.ensures.puts in record {
       wears = put.wears;
-      steps = λ h kept valid was. let it = put.puts h kept valid was in (it.0, λ clean. (it.1 clean, ap TargetsPut (rw c.as_slice-rows.ensures at c.in-Some.ensures.some)));
+      steps = λ h valid was. let it = put.puts h valid was in (it.0, λ clean. (it.1 clean, ap TargetsPut (rw c.as_slice-rows.ensures at c.in-Some.ensures.some)));
     }

@@ -2,11 +2,14 @@ use Rattle.sqlite.specs.Held.{state}
 use Rattle.sql_calls.specs.Calls.{RunsText}
 use Rattle.desk_records.specs.declared.action_texts.TheConstants.{SET_ACTION}
 use Rattle.desk_records.proofs.LedgerWrites.{acted_params}
-use Rattle.desk_store.proofs.WriteCalls.{action_changed}
+use Rattle.desk_store.proofs.WriteCalls.{action_changed, knows_set_action}
 use Rattle.desk_store.proofs.change.OpenChange.change_action.Goals as goal
 
 pub returns-clause-writes : goal.returns-clause-writes
 returns-clause-writes g c =
-    let ran : RunsText (state g.S.Store c.args.self.now.store.now.calls.conn) (state g.S.Store c.run.new.self.conn) SET_ACTION.now (acted_params c.args.number c.args.canceling c.args.outcome (record { notes = c.args.notes; entries = c.args.entries })) c.run.result =
+    let ran : RunsText (state g.S.Store c.args.self.now.store.now.calls.conn) (state g.S.Store c.run.new.self.store.now.calls.conn) SET_ACTION.now (acted_params c.args.number c.args.canceling c.args.outcome (record { notes = c.args.notes; entries = c.args.entries })) c.run.result =
     rw (c.params-to_sql.ensures, c.params-to_sql-2.ensures, c.params-to_sql-3.ensures, c.params-to_sql-4.ensures, c.params-to_sql-5.ensures, c.get.ensures.value, c.flag_code-canceling_code.ensures, c.code_of_outcome-outcome_code.ensures) at c.run.ensures.runs in
     action_changed c.args.number c.args.canceling c.args.outcome (record { notes = c.args.notes; entries = c.args.entries }) _ _ c.run.result ran
+
+pub run-requires : goal.run-requires
+run-requires g c = knows_set_action

@@ -2,11 +2,14 @@ use Rattle.sqlite.specs.Held.{state}
 use Rattle.sql_calls.specs.Calls.{RunsText}
 use Rattle.desk_records.specs.declared.action_texts.TheConstants.{SET_OFFER}
 use Rattle.desk_records.proofs.OfferWrites.{offered_params}
-use Rattle.desk_store.proofs.WriteCalls.{offer_changed}
+use Rattle.desk_store.proofs.WriteCalls.{knows_set_offer, offer_changed}
 use Rattle.desk_store.proofs.change.OpenChange.change_offer.Goals as goal
 
 pub returns-clause-writes : goal.returns-clause-writes
 returns-clause-writes g c =
-    let ran : RunsText (state g.S.Store c.args.self.now.store.now.calls.conn) (state g.S.Store c.run.new.self.conn) SET_OFFER.now (offered_params c.args.id.now c.args.offer) c.run.result =
+    let ran : RunsText (state g.S.Store c.args.self.now.store.now.calls.conn) (state g.S.Store c.run.new.self.store.now.calls.conn) SET_OFFER.now (offered_params c.args.id.now c.args.offer) c.run.result =
     rw (c.params-to_sql.ensures, c.params-to_sql-2.ensures, c.params-to_sql-3.ensures, c.as_str.ensures.value, c.get.ensures.value, c.flag_code-canceling.ensures) at c.run.ensures.runs in
     offer_changed c.args.id.now c.args.offer _ _ c.run.result ran
+
+pub run-requires : goal.run-requires
+run-requires g c = knows_set_offer

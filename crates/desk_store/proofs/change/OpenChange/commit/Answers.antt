@@ -1,9 +1,9 @@
 use Rattle.sql_calls.proofs.Ends.{commit_is}
-use Rattle.sql_calls.proofs.TypedCalls.{commits}
+use Rattle.sql_calls.proofs.FrameEnds.{commits}
 use Rattle.std.proofs.Common.{codes}
-use Rattle.desk_records.specs.Holds.{HoldsRecords}
+use Rattle.desk_records.specs.Holds.{HoldsLedger}
 use Rattle.desk_store.proofs.EndLemmas.{commits_as_store}
 use Rattle.desk_store.proofs.change.OpenChange.commit.Goals as goal
 
 pub returns-clause-commits : goal.returns-clause-commits
-returns-clause-commits g c = rw c.finished.ensures (commits_as_store HoldsRecords _ _ c.commit.result (commits HoldsRecords (codes "COMMIT") _ _ (commit_is _) c.commit.result c.commit.ensures.runs (g.met.S.Store.settled c.commit.new.self.conn.store)))
+returns-clause-commits g c = rw c.finished.ensures (commits_as_store _ _ c.commit.result (commits HoldsLedger (codes "COMMIT") _ _ (commit_is _) c.commit.result c.commit.ensures.runs (g.met.S.Store.settled c.commit.new.self.conn.store)))

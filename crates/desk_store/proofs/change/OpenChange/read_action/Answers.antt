@@ -2,17 +2,15 @@ use Rattle.std.proofs.Common.{[], ◌∷◌, pos, subst, ◌≤◌, Ok}
 use Rattle.sqlite_value.specs.declared.value.Value.TheVariants.{Int}
 use Rattle.sqlite.specs.Held.{state}
 use Rattle.sql_calls.specs.Calls.{TakesFirst}
-use Rattle.sql_calls.proofs.TypedCalls.{takes_err}
 use Rattle.desk_records.specs.declared.action_texts.TheConstants.{GET_ACTION}
-use Rattle.desk_records.specs.Holds.{HoldsLedger}
-use Rattle.desk_store.proofs.ActionCalls.{getting, action_read}
+use Rattle.desk_store.proofs.ActionCalls.{action_read, getting}
 use Rattle.desk_store.proofs.change.OpenChange.read_action.Goals as goal
-
-pub returns-in_err-row-clause-reads : goal.returns-in_err-row-clause-reads
-returns-in_err-row-clause-reads g c = takes_err HoldsLedger _ _ _ _ _ getting _ c.in_err-row.ensures.takes c.from_residual.result c.from_residual.ensures.0
 
 pub returns-clause-reads : goal.returns-clause-reads
 returns-clause-reads g c =
-    let it : TakesFirst (state g.S.Store c.args.self.now.store.now.calls.conn) (state g.S.Store c.first.new.self.conn) GET_ACTION.now (Int (pos c.args.number) ∷ []) (Ok c.in_ok-row.row) =
+    let it : TakesFirst (state g.S.Store c.args.self.now.store.now.calls.conn) (state g.S.Store c.first.new.self.store.now.calls.conn) GET_ACTION.now (Int (pos c.args.number) ∷ []) (Ok c.in_ok-row.row) =
     rw (c.params-to_sql.ensures, c.get.ensures.value) at c.in_ok-row.ensures.takes in
     action_read c.args.number (subst (λ n. 1 ≤ n) c.get.ensures.value c.get.ensures.least) _ _ c.in_ok-row.row it c.read_optional.result c.read_optional.ensures
+
+pub first-requires : goal.first-requires
+first-requires g c = getting

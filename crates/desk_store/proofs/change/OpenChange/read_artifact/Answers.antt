@@ -2,17 +2,15 @@ use Rattle.std.proofs.Common.{[], ◌∷◌, Ok, pos, subst, ◌≤◌}
 use Rattle.sqlite_value.specs.declared.value.Value.TheVariants.{Int}
 use Rattle.sqlite.specs.Held.{state}
 use Rattle.sql_calls.specs.Calls.{TakesFirst}
-use Rattle.sql_calls.proofs.TypedCalls.{takes_err}
 use Rattle.desk_records.specs.declared.artifact_texts.TheConstants.{GET_ARTIFACT}
-use Rattle.desk_records.specs.Holds.{HoldsRecords}
 use Rattle.desk_store.proofs.ArtifactCalls.{artifact_read, getting}
 use Rattle.desk_store.proofs.change.OpenChange.read_artifact.Goals as goal
 
-pub returns-in_err-row-clause-reads : goal.returns-in_err-row-clause-reads
-returns-in_err-row-clause-reads g c = takes_err HoldsRecords _ _ _ _ _ getting _ c.in_err-row.ensures.takes c.from_residual.result c.from_residual.ensures.0
-
 pub returns-clause-reads : goal.returns-clause-reads
 returns-clause-reads g c =
-    let taken : TakesFirst (state g.S.Store c.args.self.now.store.now.calls.conn) (state g.S.Store c.first.new.self.conn) GET_ARTIFACT.now (Int (pos c.args.number) ∷ []) (Ok c.in_ok-row.row) =
+    let taken : TakesFirst (state g.S.Store c.args.self.now.store.now.calls.conn) (state g.S.Store c.first.new.self.store.now.calls.conn) GET_ARTIFACT.now (Int (pos c.args.number) ∷ []) (Ok c.in_ok-row.row) =
     rw (c.params-to_sql.ensures, c.get.ensures.value) at c.in_ok-row.ensures.takes in
     artifact_read c.args.number (subst (λ n. 1 ≤ n) c.get.ensures.value c.get.ensures.least) _ _ c.in_ok-row.row taken c.read_optional.result c.read_optional.ensures
+
+pub first-requires : goal.first-requires
+first-requires g c = getting

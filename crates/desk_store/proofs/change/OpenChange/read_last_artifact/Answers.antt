@@ -1,10 +1,8 @@
-use Rattle.sql_calls.proofs.TypedCalls.{takes_err}
-use Rattle.desk_records.specs.Holds.{HoldsRecords}
 use Rattle.desk_store.proofs.ArtifactCalls.{ending, last_read}
 use Rattle.desk_store.proofs.change.OpenChange.read_last_artifact.Goals as goal
 
-pub returns-in_err-row-clause-reads : goal.returns-in_err-row-clause-reads
-returns-in_err-row-clause-reads g c = takes_err HoldsRecords _ _ _ _ _ ending _ c.in_err-row.ensures.takes c.from_residual.result c.from_residual.ensures.0
-
 pub returns-clause-reads : goal.returns-clause-reads
 returns-clause-reads g c = last_read _ _ c.in_ok-row.row c.in_ok-row.ensures.takes c.last_number.result c.last_number.ensures
+
+pub first-requires : goal.first-requires
+first-requires g c = ending

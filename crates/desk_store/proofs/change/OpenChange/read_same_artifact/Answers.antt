@@ -1,18 +1,16 @@
 use Rattle.std.proofs.Common.{Ok}
 use Rattle.sqlite.specs.Held.{state}
 use Rattle.sql_calls.specs.Calls.{TakesFirst}
-use Rattle.sql_calls.proofs.TypedCalls.{takes_err}
 use Rattle.desk_records.specs.declared.artifact_texts.TheConstants.{FIND_ARTIFACT}
 use Rattle.desk_records.specs.Artifacts.{file_of}
-use Rattle.desk_records.specs.Holds.{HoldsRecords}
 use Rattle.desk_store.proofs.ArtifactCalls.{finding, found}
 use Rattle.desk_store.proofs.change.OpenChange.read_same_artifact.Goals as goal
 
-pub returns-in_err-row-clause-reads : goal.returns-in_err-row-clause-reads
-returns-in_err-row-clause-reads g c = takes_err HoldsRecords _ _ _ _ _ finding _ c.in_err-row.ensures.takes c.from_residual.result c.from_residual.ensures.0
-
 pub returns-clause-reads : goal.returns-clause-reads
 returns-clause-reads g c =
-    let taken : TakesFirst (state g.S.Store c.args.self.now.store.now.calls.conn) (state g.S.Store c.first.new.self.conn) FIND_ARTIFACT.now (file_of c.args.module_number c.args.filename.now) (Ok c.in_ok-row.row) =
+    let taken : TakesFirst (state g.S.Store c.args.self.now.store.now.calls.conn) (state g.S.Store c.first.new.self.store.now.calls.conn) FIND_ARTIFACT.now (file_of c.args.module_number c.args.filename.now) (Ok c.in_ok-row.row) =
     rw (c.params-to_sql.ensures, c.params-to_sql-2.ensures, c.get.ensures.value, c.as_str.ensures.value) at c.in_ok-row.ensures.takes in
     rw c.is_some.ensures (found c.args.module_number c.args.filename.now _ _ c.in_ok-row.row taken)
+
+pub first-requires : goal.first-requires
+first-requires g c = finding

@@ -4,13 +4,13 @@ use Rattle.sqlite.specs.Held.{state}
 use Rattle.sql_calls.specs.Calls.{RunsText}
 use Rattle.desk_records.specs.declared.artifact_texts.TheConstants.{PUT_ARTIFACT}
 use Rattle.desk_records.specs.Artifacts.{told_of, artifact_filed}
-use Rattle.desk_store.proofs.ArtifactCalls.{artifact_written}
+use Rattle.desk_store.proofs.ArtifactCalls.{artifact_written, putting}
 use Rattle.desk_store.proofs.change.OpenChange.write_artifact.Goals as goal
 
 pub returns-clause-writes : goal.returns-clause-writes
 returns-clause-writes g c =
     let told = artifact_filed c.args.module_number c.args.filename.now c.args.size c.args.digest.now in
-    let ran : RunsText (state g.S.Store c.args.self.now.store.now.calls.conn) (state g.S.Store c.run.new.self.conn) PUT_ARTIFACT.now (Int (pos c.args.number) ∷ told_of told) c.run.result =
+    let ran : RunsText (state g.S.Store c.args.self.now.store.now.calls.conn) (state g.S.Store c.run.new.self.store.now.calls.conn) PUT_ARTIFACT.now (Int (pos c.args.number) ∷ told_of told) c.run.result =
     rw (
       c.params-to_sql.ensures,
       c.params-to_sql-2.ensures,
@@ -24,3 +24,6 @@ returns-clause-writes g c =
       c.as_bytes.ensures.value,
     ) at c.run.ensures.runs in
     artifact_written c.args.number c.args.module_number c.args.filename.now c.args.size c.args.digest.now _ _ c.run.result ran
+
+pub run-requires : goal.run-requires
+run-requires g c = putting

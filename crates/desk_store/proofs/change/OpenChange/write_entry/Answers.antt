@@ -2,11 +2,14 @@ use Rattle.sqlite.specs.Held.{state}
 use Rattle.sql_calls.specs.Calls.{RunsText}
 use Rattle.desk_records.specs.declared.action_texts.TheConstants.{PUT_FEEDBACK}
 use Rattle.desk_records.proofs.PartWrites.{entry_params}
-use Rattle.desk_store.proofs.WriteCalls.{entry_written}
+use Rattle.desk_store.proofs.WriteCalls.{entry_written, knows_put_feedback}
 use Rattle.desk_store.proofs.change.OpenChange.write_entry.Goals as goal
 
 pub returns-clause-writes : goal.returns-clause-writes
 returns-clause-writes g c =
-    let ran : RunsText (state g.S.Store c.args.self.now.store.now.calls.conn) (state g.S.Store c.run.new.self.conn) PUT_FEEDBACK.now (entry_params c.args.number c.args.sequence c.args.kind c.args.word c.args.details.now) c.run.result =
+    let ran : RunsText (state g.S.Store c.args.self.now.store.now.calls.conn) (state g.S.Store c.run.new.self.store.now.calls.conn) PUT_FEEDBACK.now (entry_params c.args.number c.args.sequence c.args.kind c.args.word c.args.details.now) c.run.result =
     rw (c.params-to_sql.ensures, c.params-to_sql-2.ensures, c.params-to_sql-3.ensures, c.params-to_sql-4.ensures, c.params-to_sql-5.ensures, c.get.ensures.value) at c.run.ensures.runs in
     entry_written c.args.number c.args.sequence c.args.kind c.args.word c.args.details.now _ _ c.run.result ran
+
+pub run-requires : goal.run-requires
+run-requires g c = knows_put_feedback

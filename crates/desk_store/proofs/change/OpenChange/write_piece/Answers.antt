@@ -2,11 +2,14 @@ use Rattle.sqlite.specs.Held.{state}
 use Rattle.sql_calls.specs.Calls.{RunsText}
 use Rattle.desk_records.specs.declared.artifact_texts.TheConstants.{PUT_PIECE}
 use Rattle.desk_records.specs.Artifacts.{piece_row}
-use Rattle.desk_store.proofs.ArtifactCalls.{piece_written}
+use Rattle.desk_store.proofs.ArtifactCalls.{piece_written, placing}
 use Rattle.desk_store.proofs.change.OpenChange.write_piece.Goals as goal
 
 pub returns-clause-writes : goal.returns-clause-writes
 returns-clause-writes g c =
-    let ran : RunsText (state g.S.Store c.args.self.now.store.now.calls.conn) (state g.S.Store c.run.new.self.conn) PUT_PIECE.now (piece_row c.args.number c.args.sequence c.args.bytes.now) c.run.result =
+    let ran : RunsText (state g.S.Store c.args.self.now.store.now.calls.conn) (state g.S.Store c.run.new.self.store.now.calls.conn) PUT_PIECE.now (piece_row c.args.number c.args.sequence c.args.bytes.now) c.run.result =
     rw (c.params-to_sql.ensures, c.params-to_sql-2.ensures, c.params-to_sql-3.ensures, c.get.ensures.value) at c.run.ensures.runs in
     piece_written c.args.number c.args.sequence c.args.bytes.now _ _ c.run.result ran
+
+pub run-requires : goal.run-requires
+run-requires g c = placing

@@ -1,6 +1,5 @@
 use Rattle.std.proofs.Common.{◌≤◌, rules}
 use Rattle.sqlite.specs.Held.{state}
-use Rattle.desk_records.specs.Holds.{HoldsRecords}
 use Rattle.contents_handler.specs.Downloads.{next_length}
 use Rattle.rollout_desk.proofs.DownloadLemmas.{handed, own_piece}
 use Rattle.rollout_desk.proofs.desk.Desk.next_piece.Goals as goal
@@ -8,10 +7,10 @@ use Rattle.rollout_desk.proofs.desk.Desk.next_piece.Goals as goal
 pub returns-in-Ok-clause-hands : goal.returns-in-Ok-clause-hands
 returns-in-Ok-clause-hands g c =
     let more : 1 ≤ next_length c.args.download.now = search rules in
-    handed HoldsRecords c.args.self.now.stopped (state g.S.Store c.args.self.now.store.calls.conn) (state g.S.Store c.read_piece-found.new.store.calls.conn) c.args.download.now
+    handed c.args.self.now.stopped (state g.S.Store c.args.self.now.store.calls.conn) (state g.S.Store c.read_piece-found.new.store.calls.conn) c.args.download.now
     c.read_piece-found.result c.in-Ok.piece c.read_piece-found.ensures.looks c.in-Ok.ensures.0 more c.if-self.false
 
 pub returns-in-Ok-clause-own : goal.returns-in-Ok-clause-own
 returns-in-Ok-clause-own g c =
-    own_piece HoldsRecords c.args.self.now.stopped (state g.S.Store c.args.self.now.store.calls.conn) (state g.S.Store c.read_piece-found.new.store.calls.conn) c.args.download.now
+    own_piece c.args.self.now.stopped (state g.S.Store c.args.self.now.store.calls.conn) (state g.S.Store c.read_piece-found.new.store.calls.conn) c.args.download.now
     c.read_piece-found.result c.in-Ok.piece c.read_piece-found.ensures.looks c.in-Ok.ensures.0 c.if-self.false

@@ -1,0 +1,45 @@
+//! The three statements that typed calls are made of.
+
+ghost use Rattle.std.specs.Prelude.{◌≡◌};
+ghost use Rattle.sqlite.specs.Values.{bound};
+ghost use Rattle.sql_calls.specs.Calls.{AsksText, RunsText, TakesFirst, counts, row_in, rows_in};
+ghost use Rattle.sql_calls.specs.Means.{Knows, KnowsWrite};
+ghost use Rattle.desk_records.specs.Holds.{HoldsLedger};
+ghost use Rattle.desk_store.specs.Changing.{StaysIn, seen_in};
+
+use crate::change::OpenChange;
+use sql_calls::Fault;
+use sqlite::types::ValueRef;
+use sqlite::{Alter, Row};
+
+impl<'a, S: Alter> OpenChange<'a, S> {
+    /// Runs one query, and takes its first row, if there is one.
+    pub(crate) fn first(&mut self, sql: &str, params: &[ValueRef<'_>]) -> Result<Option<Row>, Fault>
+        requires { Knows HoldsLedger sql.now }
+        ensures stays { StaysIn S.Store self.old self.new result }
+        ensures takes { TakesFirst (seen_in S.Store self.old) (seen_in S.Store self.new) sql.now (bound params.now) result }
+        ensures work { self.new.store.now.calls.work ≡ counts self.old.store.now.calls.work (row_in result) }
+    {
+        self.store.calls.first(sql, params)
+    }
+
+    /// Runs one query, and takes all its rows.
+    pub(crate) fn ask(&mut self, sql: &str, params: &[ValueRef<'_>]) -> Result<Vec<Row>, Fault>
+        requires { Knows HoldsLedger sql.now }
+        ensures stays { StaysIn S.Store self.old self.new result }
+        ensures asks { AsksText (seen_in S.Store self.old) (seen_in S.Store self.new) sql.now (bound params.now) result }
+        ensures work { self.new.store.now.calls.work ≡ counts self.old.store.now.calls.work (rows_in result) }
+    {
+        self.store.calls.ask(sql, params)
+    }
+
+    /// Runs one statement that writes rows.
+    pub(crate) fn run(&mut self, sql: &str, params: &[ValueRef<'_>]) -> Result<(), Fault>
+        requires { KnowsWrite HoldsLedger sql.now }
+        ensures stays { StaysIn S.Store self.old self.new result }
+        ensures runs { RunsText (seen_in S.Store self.old) (seen_in S.Store self.new) sql.now (bound params.now) result }
+        ensures work { self.new.store.now.calls.work ≡ counts self.old.store.now.calls.work 0 }
+    {
+        self.store.calls.run(sql, params)
+    }
+}
