@@ -1,4 +1,6 @@
 pub mod Steps
+pub mod IsPlace
+pub mod EachText
 pub mod Places
 pub mod Tables
 pub mod MakeLemmas

@@ -38,14 +38,15 @@ use Rattle.sql_calls.proofs.Inserts.{Inserted, inserts, uncounted, given_rows}
 use Rattle.sql_calls.proofs.NumberedRows.{cast_int, cast_null}
 use Rattle.rollout_machine.specs.RecordSteps.{no_records}
 use Rattle.rollout_machine.proofs.Answering.{made_records}
-use Rattle.desk_records.specs.Schema.{Place, Desk, Modules, Sets, SetModules, Artifacts, Pieces, Targets, TargetTags, TargetAttributes, OfRollouts, Rollouts, Members, Groups, Actions, Feedbacks, Offers, places, table_at, name_of, desk_table, offer_table}
+use Rattle.desk_records.specs.Schema.{Place, Desk, Offers, places, table_at, name_of, desk_table, offer_table}
 use Rattle.sql_calls.specs.Keyed.{IsHeldBy}
-use Rattle.desk_records.specs.Holds.{Spot, IsHeld, desk_row, ledger_of}
+use Rattle.desk_records.specs.Holds.{AreRowsOf, Content, Offered, Ordered, Spot, IsHeld, Unordered, content_of, desk_row, ledger_of}
 use Rattle.desk_records.proofs.Meaning.{desk_terms}
 use Rattle.desk_opening.specs.Places.{create_text_of}
 use Rattle.desk_opening.specs.Making.{HoldsStage, Partly, Whole, IsEmptyTable, first_records}
-use Rattle.desk_records.proofs.Places.{each_place}
-use Rattle.desk_opening.proofs.Places.{is_place, HaveNamesApart}
+use Rattle.desk_records.proofs.EachPlace.{each_place}
+use Rattle.desk_records.proofs.Places.{place_or_other, same_elsewhere, same_places}
+use Rattle.desk_opening.proofs.Places.{is_place, HaveNamesApart, names_apart}
 
 -- ---- the tree of a table is low
 
@@ -87,8 +88,12 @@ plain_at [] k h = refl
 plain_at (o ∷ orders) zero h = h.0
 plain_at (o ∷ orders) (suc k) h = plain_at orders k h.1
 
+all_plain : {X : Type 0} (xs : List X) → AreInPlainOrder (map (λ x. plain) xs)
+all_plain [] = tt
+all_plain (x ∷ xs) = (refl, all_plain xs)
+
 plain_orders : (t : Place) → AreInPlainOrder (table_at t 0).orders
-plain_orders = each_place (λ t. AreInPlainOrder (table_at t 0).orders) (tt, ((refl, tt), ((refl, tt), ((refl, (refl, tt)), ((refl, tt), ((refl, tt), ((refl, tt), ((refl, tt), ((refl, tt), ((refl, tt), ((refl, tt), ((refl, (refl, (refl, tt))), ((refl, (refl, tt)), ((refl, tt), ((refl, tt), tt)))))))))))))))
+plain_orders t = subst AreInPlainOrder (sym (same_places (λ k. (table_at k 0).orders) (λ k. map (λ u. plain) (table_at k 0).uniques) refl t)) (all_plain (table_at t 0).uniques)
 
 first_plain : (first_key plain).collation ≡ Binary
 unfolding first_key
@@ -182,6 +187,28 @@ in_another s desk other m n here there apart same =
     let names : name_of other ≡ name_of desk = ap (λ (t : Table). t.name) tables in
     true≢false (sym (same_itself (name_of desk)) ∙ ap (same_name (name_of desk)) (sym names) ∙ apart)
 
+-- the names of all other tables are apart from that of `desk`
+beside_desk : (t : Place) → t ≢ Desk → HaveNamesApart Desk t
+beside_desk = each_place (λ t. t ≢ Desk → HaveNamesApart Desk t) ((λ other. absurd (other refl)), all_kept (HaveNamesApart Desk) (λ t. t ≢ Desk → HaveNamesApart Desk t) (λ t apart other. apart) (drop 1 places) names_apart.0)
+
+none_held : (rows : List Row) → rows ≡ [] → IsHeldBy rows []
+none_held rows empty = subst (λ l. IsHeldBy l []) (sym empty) (record { order = []; rising = tt; same = IsPermutation-same [] [] refl })
+
+-- the content that is of the same kind and tells of nothing
+abbrev nothing : Content → Content
+nothing (Ordered wanted) = Ordered []
+nothing (Unordered wanted) = Unordered []
+nothing (Offered offers) = Offered (λ id. None)
+
+no_rows : (c : Content) (rows : List Row) → rows ≡ [] → AreRowsOf (nothing c) rows
+no_rows (Ordered wanted) rows empty = empty
+no_rows (Unordered wanted) rows empty = none_held rows empty
+no_rows (Offered offers) rows empty = record { listed = []; held = none_held rows empty; its = λ id. refl }
+
+-- of no records every table but `desk` holds nothing
+nothing_held : (approval : Bool) (t : Place) → t ≢ Desk → content_of (ledger_of (no_records approval)) t ≡ nothing (content_of (ledger_of (no_records approval)) t)
+nothing_held approval = same_elsewhere (content_of (ledger_of (no_records approval))) (λ t. nothing (content_of (ledger_of (no_records approval)) t)) (λ t. t ≢ Desk) (Desk ∷ []) refl ((λ other. absurd (other refl)), tt)
+
 module _ (approval : Bool) (old new : State) (text : List ℕ) (count : ℕ) (was : HoldsStage old.now (Partly places [])) (w : Writes old new None (Insert was.1.0.at (Values desk_terms 5)) text (Int (if approval then pos 1 else pos 0) ∷ []) count) where
   abbrev here : Schema
   here = old.now.schema
@@ -201,37 +228,22 @@ module _ (approval : Bool) (old new : State) (text : List ℕ) (count : ℕ) (wa
   found_at : (t : Place) → find (λ (x : Table). x.tree == (at_place t).tree) here.tables ≡ Some (table_at t (at_place t).tree)
   found_at t = (at_place t).stands.found
 
-  stay_empty : (t : Place) → HaveNamesApart Desk t → new.now.trees (at_place t).tree ≡ []
-  stay_empty t apart =
+  stay_empty : (t : Place) → t ≢ Desk → new.now.trees (at_place t).tree ≡ []
+  stay_empty t other =
       let e = at_place t in
       let kept : e.tree ≢ was.1.0.tree → new.now.trees e.tree ≡ old.now.trees e.tree =
       all-slice_get (λ (x : Table). HasNoForeignKey here x.tree → x.tree ≢ was.1.0.tree → new.now.trees x.tree ≡ old.now.trees x.tree) here.tables e.at (table_at t e.tree) e.stands.got made.applies.tables e.stands.keyless in
-      kept (in_another here Desk t was.1.0.tree e.tree was.1.0.stands.found (found_at t) apart) ∙ e.empty
-
-  no_parts : (t : Place) → HaveNamesApart Desk t → IsHeldBy (new.now.trees (at_place t).tree) []
-  no_parts t apart = subst (λ l. IsHeldBy l []) (sym (stay_empty t apart)) (record { order = []; rising = tt; same = IsPermutation-same [] [] refl })
+      kept (in_another here Desk t was.1.0.tree e.tree was.1.0.stands.found (found_at t) (beside_desk t other)) ∙ e.empty
 
   rows : (t : Place) → IsHeld (ledger_of (no_records approval)) t (new.now.trees (spot_of t).tree)
-  unfolding same_name
-  rows Desk = desk_rows
-  rows Modules = stay_empty Modules refl
-  rows Sets = stay_empty Sets refl
-  rows SetModules = no_parts SetModules refl
-  rows Artifacts = stay_empty Artifacts refl
-  rows Pieces = no_parts Pieces refl
-  rows Targets = no_parts Targets refl
-  rows TargetTags = no_parts TargetTags refl
-  rows TargetAttributes = no_parts TargetAttributes refl
-  rows (OfRollouts Rollouts) = stay_empty (OfRollouts Rollouts) refl
-  rows (OfRollouts Members) = no_parts (OfRollouts Members) refl
-  rows (OfRollouts Groups) = no_parts (OfRollouts Groups) refl
-  rows (OfRollouts Actions) = stay_empty (OfRollouts Actions) refl
-  rows (OfRollouts Feedbacks) = no_parts (OfRollouts Feedbacks) refl
-  rows (OfRollouts Offers) = record { listed = []; held = no_parts (OfRollouts Offers) refl; its = λ id. refl }
+  rows t = elim (place_or_other t Desk) [
+    | inl is ↦ subst (λ x. IsHeld (ledger_of (no_records approval)) x (new.now.trees (spot_of x).tree)) (sym is) desk_rows
+    | inr other ↦ subst (λ c. AreRowsOf c (new.now.trees (spot_of t).tree)) (sym (nothing_held approval t other)) (no_rows (content_of (ledger_of (no_records approval)) t) (new.now.trees (spot_of t).tree) (stay_empty t other))
+  ]
 
-  keyed : ComparesBytes new.now.schema (offer_table (spot_of (OfRollouts Offers)).tree) 1
+  keyed : ComparesBytes new.now.schema (offer_table (spot_of Offers).tree) 1
   keyed index there guarding on =
-      let e = at_place (OfRollouts Offers) in
+      let e = at_place Offers in
       let was_there : Has here.indexes index = subst (λ (x : Schema). Has x.indexes index) made.schema_is there in
       ap (λ (o : Order). (first_key o).collation) (e.plainly index was_there (eqb-true index.table e.tree (and_parts _ _ guarding).1)) ∙ first_plain
 

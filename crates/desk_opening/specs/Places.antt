@@ -1,12 +1,8 @@
+-- Written by tools/meanings from src/table_texts.rt of desk_records. What it makes is proved; the tool is not trusted.
 -- The tables of a desk as the code names them, and the text that makes each.
 use Rattle.std.specs.Prelude.{ℕ, List}
-use Rattle.desk_records.specs.Schema.{Place, Desk, Modules, Sets, SetModules, Artifacts, Pieces, Targets, TargetTags, TargetAttributes, OfRollouts, Rollouts, Members, Groups, Actions, Feedbacks, Offers}
-use Rattle.desk_records.specs.declared.texts.TheConstants.{CREATE_DESK, CREATE_MODULE}
-use Rattle.desk_records.specs.declared.set_texts.TheConstants.{CREATE_SET, CREATE_SET_MODULE}
-use Rattle.desk_records.specs.declared.artifact_texts.TheConstants.{CREATE_ARTIFACT, CREATE_PIECE}
-use Rattle.desk_records.specs.declared.target_texts.TheConstants.{CREATE_TARGET, CREATE_TARGET_TAG, CREATE_TARGET_ATTRIBUTE}
-use Rattle.desk_records.specs.declared.rollout_texts.TheConstants.{CREATE_ROLLOUT, CREATE_MEMBER, CREATE_ROLLOUT_GROUP}
-use Rattle.desk_records.specs.declared.action_texts.TheConstants.{CREATE_ACTION, CREATE_FEEDBACK, CREATE_OFFER}
+use Rattle.desk_records.specs.Schema.{Place, Desk, Modules, Sets, SetModules, Artifacts, Pieces, Targets, TargetTags, TargetAttributes, Rollouts, Members, Groups, Actions, Feedbacks, Offers}
+use Rattle.desk_records.specs.declared.table_texts.TheConstants.{CREATE_DESK, CREATE_MODULE, CREATE_SET, CREATE_SET_MODULE, CREATE_ARTIFACT, CREATE_PIECE, CREATE_TARGET, CREATE_TARGET_TAG, CREATE_TARGET_ATTRIBUTE, CREATE_ROLLOUT, CREATE_MEMBER, CREATE_ROLLOUT_GROUP, CREATE_ACTION, CREATE_FEEDBACK, CREATE_OFFER}
 use Rattle.desk_opening.specs.declared.desk_table.DeskTable.{DeskTable}
 use Rattle.desk_opening.specs.declared.desk_table.DeskTable.TheVariants as table
 
@@ -20,12 +16,12 @@ place_of table.Pieces = Pieces
 place_of table.Targets = Targets
 place_of table.TargetTags = TargetTags
 place_of table.TargetAttributes = TargetAttributes
-place_of table.Rollouts = OfRollouts Rollouts
-place_of table.Members = OfRollouts Members
-place_of table.Groups = OfRollouts Groups
-place_of table.Actions = OfRollouts Actions
-place_of table.Feedbacks = OfRollouts Feedbacks
-place_of table.Offers = OfRollouts Offers
+place_of table.Rollouts = Rollouts
+place_of table.Members = Members
+place_of table.Groups = Groups
+place_of table.Actions = Actions
+place_of table.Feedbacks = Feedbacks
+place_of table.Offers = Offers
 
 abbrev pub create_text_of : Place → List ℕ
 create_text_of Desk = CREATE_DESK.now
@@ -37,9 +33,9 @@ create_text_of Pieces = CREATE_PIECE.now
 create_text_of Targets = CREATE_TARGET.now
 create_text_of TargetTags = CREATE_TARGET_TAG.now
 create_text_of TargetAttributes = CREATE_TARGET_ATTRIBUTE.now
-create_text_of (OfRollouts Rollouts) = CREATE_ROLLOUT.now
-create_text_of (OfRollouts Members) = CREATE_MEMBER.now
-create_text_of (OfRollouts Groups) = CREATE_ROLLOUT_GROUP.now
-create_text_of (OfRollouts Actions) = CREATE_ACTION.now
-create_text_of (OfRollouts Feedbacks) = CREATE_FEEDBACK.now
-create_text_of (OfRollouts Offers) = CREATE_OFFER.now
+create_text_of Rollouts = CREATE_ROLLOUT.now
+create_text_of Members = CREATE_MEMBER.now
+create_text_of Groups = CREATE_ROLLOUT_GROUP.now
+create_text_of Actions = CREATE_ACTION.now
+create_text_of Feedbacks = CREATE_FEEDBACK.now
+create_text_of Offers = CREATE_OFFER.now

@@ -1,4 +1,4 @@
--- Written by tools/meanings.
+-- Written by tools/meanings. What it makes is proved; the tool is not trusted.
 -- What the texts of src/action_texts.rt mean, wherever their tables stand.
 use Rattle.std.proofs.Common.{refl, List, [], ◌∷◌, ℕ, codes, pos, true, false}
 use Rattle.sqlite.specs.declared.types.Value.TheVariants.{Null, Int}
@@ -9,32 +9,20 @@ use Rattle.sqlite.specs.Source.TheVariants.{Values}
 use Rattle.sqlite.specs.Query.{Query, inner, counted, end}
 use Rattle.sqlite.specs.Term.{Term, lit, col}
 use Rattle.sqlite_tied.specs.Compute.{everything}
-use Rattle.sqlite_resolve.specs.Compile.{first, new_rows, is_reserved}
+use Rattle.sqlite_resolve.specs.Compile.{first, new_rows}
 use Rattle.sqlite_resolve.specs.Expr.{combine}
 use Rattle.sqlite_resolve.specs.Select.{named, paging}
 use Rattle.sqlite_resolve.specs.Write.{updated, deleted}
 use Rattle.sql_front.specs.Stands.{Stands}
 use Rattle.sql_front.proofs.Texts.{Queries, queries_known}
 use Rattle.sql_front.proofs.TextsWithin.{QueriesWithin, queries_known_within}
-use Rattle.sql_front.proofs.Write.{Adds, Makes, adds_known}
+use Rattle.sql_front.proofs.Write.{Adds, adds_known}
 use Rattle.sql_front.proofs.Change.{Updates, Removes, updates_known, removes_known}
 use Rattle.sql_calls.specs.Means.{Means}
 use Rattle.sql_calls.proofs.Selects.{simple, by}
-use Rattle.desk_records.specs.declared.action_texts.TheConstants.{CREATE_ACTION, CREATE_FEEDBACK, CREATE_OFFER, LAST_ACTION, GET_ACTION, LIST_ACTIONS, LIST_TARGET_ACTIONS, PUT_ACTION, SET_ACTION, PUT_FEEDBACK, LIST_ENTRIES, GET_OFFER, SET_OFFER, DROP_OFFER, NEXT_OFFER}
-use Rattle.desk_records.specs.Schema.{action_table, feedback_table, offer_table, group_table}
+use Rattle.desk_records.specs.declared.action_texts.TheConstants.{LAST_ACTION, GET_ACTION, LIST_ACTIONS, LIST_TARGET_ACTIONS, PUT_ACTION, SET_ACTION, PUT_FEEDBACK, LIST_ENTRIES, GET_OFFER, SET_OFFER, DROP_OFFER, NEXT_OFFER}
+use Rattle.desk_records.specs.Schema.{group_table, action_table, feedback_table, offer_table}
 use Rattle.desk_records.proofs.MeaningWords.{means_of, is_equal, is_least, is_most, at_key}
-
-pub create_action_makes : Makes CREATE_ACTION.now (codes "action") (action_table 0)
-unfolding first is_reserved everything
-create_action_makes = record { parsed = _; made = _; read = refl; statement = refl; named = refl; unreserved = refl; defined = refl; whole = refl }
-
-pub create_feedback_makes : Makes CREATE_FEEDBACK.now (codes "feedback") (feedback_table 0)
-unfolding first is_reserved everything
-create_feedback_makes = record { parsed = _; made = _; read = refl; statement = refl; named = refl; unreserved = refl; defined = refl; whole = refl }
-
-pub create_offer_makes : Makes CREATE_OFFER.now (codes "offer") (offer_table 0)
-unfolding first is_reserved everything
-create_offer_makes = record { parsed = _; made = _; read = refl; statement = refl; named = refl; unreserved = refl; defined = refl; whole = refl }
 
 abbrev pub last_action_query : ℕ → Query
 last_action_query tree = by (simple tree [] (col 1 0 ∷ [])) ((col 1 0, record { descending = true; collation = Binary }) ∷ []) (lit (Int (pos 1))) (lit (Int (pos 0)))

@@ -30,7 +30,7 @@ use Rattle.desk_records.specs.Modules.{IsLastRow}
 use Rattle.desk_records.specs.Offers.{is_to, offer_row}
 use Rattle.desk_records.specs.RolloutRow.{actions_of, actions_for, listed_where, stored_action}
 use Rattle.desk_records.specs.Rollouts.{flag}
-use Rattle.desk_records.specs.Schema.{OfRollouts, Actions, Offers, offer_table}
+use Rattle.desk_records.specs.Schema.{Actions, Offers, offer_table}
 use Rattle.desk_records.proofs.ActionMeaning.{last_action_query, action_columns, listed_columns, list_actions_query, list_target_actions_query, of_rollout, of_actor, of_controller, offer_columns}
 use Rattle.desk_records.proofs.Comparisons.{and_true, numbers_equal, words_equal}
 use Rattle.desk_records.proofs.MeaningWords.{at_key}
@@ -47,7 +47,7 @@ told_listed it = Int (pos it.action.rollout) ∷ Int (pos it.action.position) �
 
 module _ (db : Database) (l : Ledger) (holds : HoldsLedger db l) (names : List (List ℕ)) where
   abbrev tree : ℕ
-  tree = (holds.spot (OfRollouts Actions)).tree
+  tree = (holds.spot Actions).tree
 
   abbrev xs : List (ActionRecord × Tally)
   xs = zip l.records.actions l.tallies
@@ -57,12 +57,12 @@ module _ (db : Database) (l : Ledger) (holds : HoldsLedger db l) (names : List (
 
   -- the last number
   pub lasts_action : (last : Option Row) → ShowsFirst (Select (record { lets = []; body = last_action_query tree }) names) db [] last → IsLastRow (length xs) last
-  lasts_action = lasts row tree db xs (holds.rows (OfRollouts Actions)) names (λ n x. refl)
+  lasts_action = lasts row tree db xs (holds.rows Actions) names (λ n x. refl)
 
   -- an action by its number
   pub gets_action : (number : ℕ) → 1 ≤ number → (found : Option Row) → ShowsFirst (Select (record { lets = []; body = simple tree (at_key 0 0 ∷ []) action_columns }) names) db (Int (pos number) ∷ []) found
       → found ≡ option_map (λ it. shown_action (stored_action l.records.rollouts it)) (item_numbered xs number)
-  gets_action = gets row tree db xs (holds.rows (OfRollouts Actions)) names (λ n x. refl) (at_key 0 0 ∷ []) action_columns (passes_number row (λ n x. refl))
+  gets_action = gets row tree db xs (holds.rows Actions) names (λ n x. refl) (at_key 0 0 ∷ []) action_columns (passes_number row (λ n x. refl))
 
   -- those that pass, a page of them in the order of their numbers
   module _ (given : Value) (test : List Term) (wanted : ActionRecord × Tally → Bool) (limit offset : ℕ) where
@@ -85,7 +85,7 @@ module _ (db : Database) (l : Ledger) (holds : HoldsLedger db l) (names : List (
         → rows ≡ map told_listed (take limit (drop offset (listed_where wanted l.records.rollouts 1 xs)))
     lists_where is rows shows =
         let all = listed_where wanted l.records.rollouts 1 xs in
-        numbered_in_order row (λ n x. refl) tree test listed_columns (col 0 1) (col 0 2) params db.trees xs (holds.rows (OfRollouts Actions)) rows (shows.answer Null)
+        numbered_in_order row (λ n x. refl) tree test listed_columns (col 0 1) (col 0 2) params db.trees xs (holds.rows Actions) rows (shows.answer Null)
         ∙ ap (λ more. take limit (drop offset more)) (its_actions is 1 xs) ∙ ap (take limit) (drop-map told_listed offset all) ∙ take-map told_listed limit (drop offset all)
 
   -- those of a rollout
@@ -129,13 +129,13 @@ module _ (db : Database) (l : Ledger) (holds : HoldsLedger db l) (names : List (
   first_offer_row (Some o) = refl
 
   -- the offer of a target
-  pub gets_offer : (found : Option Row) → ShowsFirst (Select (record { lets = []; body = simple (holds.spot (OfRollouts Offers)).tree of_controller offer_columns }) names) db query_params found → found ≡ option_map told_offer (l.offers id)
+  pub gets_offer : (found : Option Row) → ShowsFirst (Select (record { lets = []; body = simple (holds.spot Offers).tree of_controller offer_columns }) names) db query_params found → found ≡ option_map told_offer (l.offers id)
   gets_offer found shown =
-      let spot = holds.spot (OfRollouts Offers) in
-      let held = holds.rows (OfRollouts Offers) in
+      let spot = holds.spot Offers in
+      let held = holds.rows Offers in
       let table = offer_table spot.tree in
       first_row (Select (record { lets = []; body = simple spot.tree of_controller offer_columns }) names) db query_params _ (λ rows shows. ap (λ (r : List Row). slice_get r 0)
       (reads_key db.schema table (1 ∷ []) of_controller query_params (λ i x. refl) (0 ∷ []) (offer_keyed query_params) offer_columns (λ i x. refl) db.trees (map offer_row held.listed)
-      (keys_apart db.schema db.trees spot.at table 0 (1 ∷ []) holds.sound (holds.stands (OfRollouts Offers)).got refl refl) held.held rows (shows.answer Null)
+      (keys_apart db.schema db.trees spot.at table 0 (1 ∷ []) holds.sound (holds.stands Offers).got refl refl) held.held rows (shows.answer Null)
       ∙ ap (map (on_content (shown_of offer_columns query_params))) (its_offers _ id (names_offer id []) held.listed ∙ ap (map offer_row) (held.its id)))
       ∙ first_offer_row (l.offers id)) found shown

@@ -1,4 +1,4 @@
--- Written by tools/meanings.
+-- Written by tools/meanings. What it makes is proved; the tool is not trusted.
 -- What the texts of src/artifact_texts.rt mean, wherever their tables stand.
 use Rattle.std.proofs.Common.{refl, List, [], ◌∷◌, ℕ, codes, pos, negsuc, true, false}
 use Rattle.sqlite.specs.declared.types.Value.TheVariants.{Null, Int}
@@ -9,25 +9,17 @@ use Rattle.sqlite.specs.Source.TheVariants.{Values}
 use Rattle.sqlite.specs.Query.{Query}
 use Rattle.sqlite.specs.Term.{Term, lit, col}
 use Rattle.sqlite_tied.specs.Compute.{everything}
-use Rattle.sqlite_resolve.specs.Compile.{first, new_rows, is_reserved}
+use Rattle.sqlite_resolve.specs.Compile.{first, new_rows}
 use Rattle.sqlite_resolve.specs.Expr.{combine}
 use Rattle.sqlite_resolve.specs.Select.{named, paging}
 use Rattle.sql_front.specs.Stands.{Stands}
 use Rattle.sql_front.proofs.Texts.{Queries, queries_known}
-use Rattle.sql_front.proofs.Write.{Adds, Makes, adds_known}
+use Rattle.sql_front.proofs.Write.{Adds, adds_known}
 use Rattle.sql_calls.specs.Means.{Means}
 use Rattle.sql_calls.proofs.Selects.{simple, by}
-use Rattle.desk_records.specs.declared.artifact_texts.TheConstants.{CREATE_ARTIFACT, CREATE_PIECE, FIND_ARTIFACT, LAST_ARTIFACT, GET_ARTIFACT, LIST_ARTIFACTS, GET_PIECE, PUT_ARTIFACT, PUT_PIECE}
+use Rattle.desk_records.specs.declared.artifact_texts.TheConstants.{FIND_ARTIFACT, LAST_ARTIFACT, GET_ARTIFACT, LIST_ARTIFACTS, GET_PIECE, PUT_ARTIFACT, PUT_PIECE}
 use Rattle.desk_records.specs.Schema.{artifact_table, piece_table}
 use Rattle.desk_records.proofs.MeaningWords.{means_of, at_key}
-
-pub create_artifact_makes : Makes CREATE_ARTIFACT.now (codes "artifact") (artifact_table 0)
-unfolding first is_reserved everything
-create_artifact_makes = record { parsed = _; made = _; read = refl; statement = refl; named = refl; unreserved = refl; defined = refl; whole = refl }
-
-pub create_piece_makes : Makes CREATE_PIECE.now (codes "piece") (piece_table 0)
-unfolding first is_reserved everything
-create_piece_makes = record { parsed = _; made = _; read = refl; statement = refl; named = refl; unreserved = refl; defined = refl; whole = refl }
 
 abbrev pub same_file : List Term
 same_file = at_key 2 0 ∷ at_key 3 1 ∷ []

@@ -1,5 +1,5 @@
 -- The statements on artifacts and their pieces, in records.
-use Rattle.std.proofs.Common.{◌≡◌, ◌≢◌, ◌≤◌, ◌++◌, ℕ, ◌+◌, pos, List, [], ◌∷◌, length, Option, None, option_map, refl, sym, ap, subst, ◌∙◌}
+use Rattle.std.proofs.Common.{◌≡◌, ◌≤◌, ◌++◌, ℕ, ◌+◌, pos, List, [], ◌∷◌, length, Option, None, option_map, refl, sym, ap, subst, ◌∙◌}
 use Rattle.std.specs.List.{list_any}
 use Rattle.std.specs.Option.{is_some}
 use Rattle.sqlite_value.specs.declared.value.Value.TheVariants.{Int, Blob}
@@ -18,10 +18,10 @@ use Rattle.rollout_machine.specs.ByteStrings.{item_numbered}
 use Rattle.rollout_machine.specs.Objects.{artifacts_shown}
 use Rattle.rollout_machine.specs.Records.{Records}
 use Rattle.desk_records.specs.Modules.{IsLastRow}
-use Rattle.desk_records.specs.Schema.{Place, Desk, Modules, Sets, SetModules, Artifacts, Pieces, Targets, TargetTags, TargetAttributes, OfRollouts, artifact_table, piece_table}
+use Rattle.desk_records.specs.Schema.{Artifacts, Pieces, artifact_table, piece_table}
 use Rattle.desk_records.specs.Artifacts.{told_of, artifact_row, piece_row, pieces_from, is_same_artifact, file_of, shown_rows, piece_numbered, artifact_filed, with_artifact, and_piece, AddsPiece}
-use Rattle.desk_records.specs.Holds.{HoldsRecords, IsHeld, ledger_of}
-use Rattle.desk_records.proofs.HoldsAfter.{holds_after, rollouts_kept}
+use Rattle.desk_records.specs.Holds.{HoldsRecords, ledger_of, Ordered, Unordered}
+use Rattle.desk_records.proofs.HoldsAfter.{ChangesOnly, holds_after, records_differ}
 use Rattle.desk_records.proofs.MeaningWords.{at_key}
 use Rattle.desk_records.proofs.ArtifactMeaning.{same_file, last_artifact_query, told_columns, artifacts_query, artifact_terms, at_piece, piece_terms}
 use Rattle.desk_records.proofs.Artifacts as lists
@@ -58,19 +58,10 @@ adds_artifact m filename size digest number old new text count now holds next w 
     let spot = holds.spot Artifacts in
     let made = inserts old.now.schema spot.at (artifact_table spot.tree) artifact_terms 6 (holds.stands Artifacts).got old new refl text (Int (pos number) ∷ told_of (artifact_filed m filename size digest)) count w in
     let table = lists.artifact_added m filename size digest number spot.tree old.now.schema old.now new.now now.artifacts (holds.rows Artifacts) next made in
-    holds_after Artifacts now (with_artifact now m filename size digest) old.now new.now holds made.schema_is w.sound table made.applies.tables only holds.sorted
+    holds_after Artifacts now (with_artifact now m filename size digest) old.now new.now holds (record { schema = made.schema_is; sound = w.sound; others = made.applies.tables }) table only holds.sorted
   where
-    only : (t : Place) → t ≢ Artifacts → (rows : List Row) → IsHeld (ledger_of now) t rows → IsHeld (ledger_of (with_artifact now m filename size digest)) t rows
-    only Desk apart rows held = held
-    only Modules apart rows held = held
-    only Sets apart rows held = held
-    only SetModules apart rows held = held
-    only Artifacts apart rows held = absurd (apart refl)
-    only Pieces apart rows held = subst (IsHeldBy rows) (sym (lists.no_pieces m filename size digest 1 now.artifacts)) held
-    only Targets apart rows held = held
-    only TargetTags apart rows held = held
-    only TargetAttributes apart rows held = held
-    only (OfRollouts t) apart rows held = rollouts_kept now (with_artifact now m filename size digest) refl refl t rows held
+    only : ChangesOnly Artifacts (ledger_of now) (ledger_of (with_artifact now m filename size digest))
+    only = records_differ Artifacts now (with_artifact now m filename size digest) refl refl (Artifacts ∷ Pieces ∷ []) refl ((λ apart. absurd (apart refl)), ((λ apart. ap Unordered (lists.no_pieces m filename size digest 1 now.artifacts)), tt))
 
 pub adds_piece : (number sequence : ℕ) (bytes : Bytes) (old new : State) (text : List ℕ) (count : ℕ) (now next : Records) (holds : HoldsRecords old.now now) → AddsPiece number sequence bytes now next
     → (w : Writes old new None (Insert (holds.spot Pieces).at (Values piece_terms 4)) text (piece_row number sequence bytes) count) → HoldsRecords new.now next
@@ -81,16 +72,7 @@ adds_piece number sequence bytes old new text count now next holds change w =
     let were : IsHeldBy (old.now.trees spot.tree) (pieces_from 1 (change.before ++ change.artifact ∷ [])) = subst (λ artifacts. IsHeldBy (old.now.trees spot.tree) (pieces_from 1 artifacts)) change.last (holds.rows Pieces) in
     let table = lists.piece_added number sequence bytes spot.tree old.now.schema old.now new.now change.before change.artifact were change.number_is change.sequence_least change.so_far change.bytes_least change.bytes_limit made in
     subst (HoldsRecords new.now) (sym change.next_is)
-    (holds_after Pieces now after old.now new.now holds made.schema_is w.sound table made.applies.tables only holds.sorted)
+    (holds_after Pieces now after old.now new.now holds (record { schema = made.schema_is; sound = w.sound; others = made.applies.tables }) table only holds.sorted)
   where
-    only : (t : Place) → t ≢ Pieces → (rows : List Row) → IsHeld (ledger_of now) t rows → IsHeld (ledger_of (record now { artifacts = change.before ++ and_piece change.artifact bytes ∷ [] })) t rows
-    only Desk apart rows held = held
-    only Modules apart rows held = held
-    only Sets apart rows held = held
-    only SetModules apart rows held = held
-    only Artifacts apart rows held = held ∙ ap (rows_from artifact_row 1) change.last ∙ sym (lists.same_artifacts 1 change.before change.artifact bytes)
-    only Pieces apart rows held = absurd (apart refl)
-    only Targets apart rows held = held
-    only TargetTags apart rows held = held
-    only TargetAttributes apart rows held = held
-    only (OfRollouts t) apart rows held = rollouts_kept now (record now { artifacts = change.before ++ and_piece change.artifact bytes ∷ [] }) refl refl t rows held
+    only : ChangesOnly Pieces (ledger_of now) (ledger_of (record now { artifacts = change.before ++ and_piece change.artifact bytes ∷ [] }))
+    only = records_differ Pieces now (record now { artifacts = change.before ++ and_piece change.artifact bytes ∷ [] }) refl refl (Artifacts ∷ Pieces ∷ []) refl ((λ apart. ap Ordered (lists.same_artifacts 1 change.before change.artifact bytes ∙ ap (rows_from artifact_row 1) (sym change.last))), ((λ apart. absurd (apart refl)), tt))

@@ -1,5 +1,5 @@
 -- The statements on attributes of targets, in records.
-use Rattle.std.proofs.Common.{◌≡◌, ◌≢◌, ◌∷◌, ◌&&◌, ℕ, pos, negsuc, List, [], Bool, true, false, cond, map, filter, flat_map, Option, Some, None, refl, sym, ap, subst, ◌∙◌, codes}
+use Rattle.std.proofs.Common.{◌≡◌, ◌∷◌, ◌&&◌, ℕ, pos, negsuc, List, [], Bool, true, false, cond, map, filter, flat_map, Option, Some, None, refl, sym, ap, subst, ◌∙◌, codes}
 use Rattle.std.proofs.lemmas.Bool.{and_parts}
 use Rattle.sqlite_value.specs.declared.value.Value.TheVariants.{Null, Int, Text}
 use Rattle.sqlite_value.specs.Order.{Row}
@@ -25,10 +25,10 @@ use Rattle.rollout_machine.specs.Commands.{Bytes, Attribute}
 use Rattle.rollout_machine.specs.Records.{Records}
 use Rattle.rollout_machine.specs.Targets.{Target}
 use Rattle.rollout_machine.specs.Verdicts.{target_of}
-use Rattle.desk_records.specs.Schema.{Place, Desk, Modules, Sets, SetModules, Artifacts, Pieces, Targets, TargetTags, TargetAttributes, OfRollouts, target_attribute_table}
+use Rattle.desk_records.specs.Schema.{Targets, TargetTags, TargetAttributes, target_attribute_table}
 use Rattle.desk_records.specs.Targets.{target_row, tag_rows, attribute_rows, in_byte_order, ids_of, keys_of, is_sorted, attributes_of, attributed, with_changed, AddsAttribute, SetsAttribute}
-use Rattle.desk_records.specs.Holds.{HoldsRecords, IsHeld, ledger_of}
-use Rattle.desk_records.proofs.HoldsAfter.{holds_after, rollouts_kept}
+use Rattle.desk_records.specs.Holds.{HoldsRecords, ledger_of, Unordered}
+use Rattle.desk_records.proofs.HoldsAfter.{ChangesOnly, holds_after, records_differ}
 use Rattle.desk_records.proofs.TargetMeaning.{of_target, attributes_query, attribute_terms, of_attribute, new_value, set_attribute_query}
 use Rattle.desk_records.proofs.Comparisons.{words_equal, and_true}
 use Rattle.desk_records.proofs.ByteOrder.{sorted_from}
@@ -82,17 +82,9 @@ module _ (db : Database) (now : Records) (holds : HoldsRecords db now) (names : 
 -- ---- what is written
 
 -- a change of attributes alone leaves the other tables
-only_attributes : (now : Records) (id : Bytes) (a : Attribute) (t : Place) → t ≢ TargetAttributes → (rows : List Row) → IsHeld (ledger_of now) t rows → IsHeld (ledger_of (with_changed now id (attributed a))) t rows
-only_attributes now id a Desk apart rows held = held
-only_attributes now id a Modules apart rows held = held
-only_attributes now id a Sets apart rows held = held
-only_attributes now id a SetModules apart rows held = held
-only_attributes now id a Artifacts apart rows held = held
-only_attributes now id a Pieces apart rows held = held
-only_attributes now id a Targets apart rows held = subst (IsHeldBy rows) (sym (changed_map id (attributed a) target_row (λ t. refl) now.targets)) held
-only_attributes now id a TargetTags apart rows held = subst (IsHeldBy rows) (sym (changed_rows id (attributed a) tag_rows (λ t. refl) now.targets)) held
-only_attributes now id a TargetAttributes apart rows held = absurd (apart refl)
-only_attributes now id a (OfRollouts t) apart rows held = rollouts_kept now (with_changed now id (attributed a)) refl refl t rows held
+only_attributes : (now : Records) (id : Bytes) (a : Attribute) → ChangesOnly TargetAttributes (ledger_of now) (ledger_of (with_changed now id (attributed a)))
+only_attributes now id a = records_differ TargetAttributes now (with_changed now id (attributed a)) refl refl (Targets ∷ TargetTags ∷ TargetAttributes ∷ []) refl
+    ((λ apart. ap Unordered (changed_map id (attributed a) target_row (λ t. refl) now.targets)), ((λ apart. ap Unordered (changed_rows id (attributed a) tag_rows (λ t. refl) now.targets)), ((λ apart. absurd (apart refl)), tt)))
 
 keeps_sorted : (a : Attribute) (t : Target) → is_sorted t ≡ true → is_sorted (attributed a t) ≡ true
 keeps_sorted a t sorted = let parts = and_parts (in_byte_order t.tags) (in_byte_order (keys_of t.attributes)) sorted in rw (parts.0) (in_order_with_attribute a t.attributes parts.1)
@@ -106,7 +98,7 @@ adds_attribute id a old new text count now next holds change done =
     let more = adds_row old.now.schema table (1 ∷ 2 ∷ []) (attribute_row id a) attribute_terms 4 (attribute_row id a) refl old.now new.now (flat_map attribute_rows now.targets) (holds.rows TargetAttributes) made in
     let rows = held_as _ _ _ more (attribute_is_more id a now.targets (sorted_from (ids_of now.targets) (ids_sorted old.now now holds)) change.is_there change.is_new) in
     subst (HoldsRecords new.now) (sym change.next_is)
-    (holds_after TargetAttributes now (with_changed now id (attributed a)) old.now new.now holds made.schema_is done.sound rows made.applies.tables (only_attributes now id a) (changed_sorted id (attributed a) (λ t. refl) (keeps_sorted a) now.targets holds.sorted)
+    (holds_after TargetAttributes now (with_changed now id (attributed a)) old.now new.now holds (record { schema = made.schema_is; sound = done.sound; others = made.applies.tables }) rows (only_attributes now id a) (changed_sorted id (attributed a) (λ t. refl) (keeps_sorted a) now.targets holds.sorted)
     )
 
 both_fixed : (params r : Row) → passes of_attribute params r ≡ true → agree plain (1 ∷ 2 ∷ []) r (0 ∷ 1 ∷ []) params ≡ true
@@ -128,5 +120,5 @@ sets_attribute id a old new text count now next holds change done =
     let is = attribute_is_set id a (on_content (passes of_attribute params)) (λ x. cast_all table.columns (on_content (shown_of new_value params) x)) (names_attribute id a) (λ i b. refl) now.targets
     (sorted_from (ids_of now.targets) (ids_sorted old.now now holds)) (each_sorted old.now now holds) change.is_there in
     subst (HoldsRecords new.now) (sym change.next_is)
-    (holds_after TargetAttributes now (with_changed now id (attributed a)) old.now new.now holds made.schema_is done.sound (subst (IsHeldBy (new.now.trees spot.tree)) is set) made.applies.tables (only_attributes now id a)
+    (holds_after TargetAttributes now (with_changed now id (attributed a)) old.now new.now holds (record { schema = made.schema_is; sound = done.sound; others = made.applies.tables }) (subst (IsHeldBy (new.now.trees spot.tree)) is set) (only_attributes now id a)
     (changed_sorted id (attributed a) (λ t. refl) (keeps_sorted a) now.targets holds.sorted))

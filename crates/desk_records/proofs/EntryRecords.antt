@@ -15,7 +15,7 @@ use Rattle.rollout_machine.specs.ByteStrings.{item_numbered}
 use Rattle.rollout_machine.specs.declared.records.ActionRecord.{ActionRecord}
 use Rattle.desk_records.specs.Actions.{history_of, told_entry}
 use Rattle.desk_records.specs.Holds.{HoldsLedger, Ledger}
-use Rattle.desk_records.specs.Schema.{OfRollouts, Feedbacks}
+use Rattle.desk_records.specs.Schema.{Feedbacks}
 use Rattle.desk_records.proofs.ActionMeaning.{entry_columns, list_entries_query, of_action}
 use Rattle.desk_records.proofs.Comparisons.{and_true, numbers_equal}
 use Rattle.desk_records.proofs.PartReads.{all_shown, reads_parts}
@@ -26,13 +26,13 @@ same n = grind (arith, nat_tests)
 module _ (db : Database) (l : Ledger) (holds : HoldsLedger db l) (names : List (List ℕ)) where
   -- a page of it in its order
   pub lists_entries : (number limit offset : ℕ) → 1 ≤ number → (rows : List Row)
-      → Shows (Select (record { lets = []; body = list_entries_query (holds.spot (OfRollouts Feedbacks)).tree }) names) db (Int (pos number) ∷ Int (pos limit) ∷ Int (pos offset) ∷ []) rows
+      → Shows (Select (record { lets = []; body = list_entries_query (holds.spot Feedbacks).tree }) names) db (Int (pos number) ∷ Int (pos limit) ∷ Int (pos offset) ∷ []) rows
       → rows ≡ map told_entry (take limit (drop offset (history_of (item_numbered l.records.actions number))))
   lists_entries number limit offset least rows shows =
       let params = Int (pos number) ∷ Int (pos limit) ∷ Int (pos offset) ∷ [] in
       let all = history_of (item_numbered l.records.actions number) in
-      reads_parts told_entry (λ (a : ActionRecord). a.history) (holds.spot (OfRollouts Feedbacks)).tree of_action entry_columns (col 0 1) (col 0 2) params false number least (λ id x. refl) (λ id x. refl) (λ n place e apart. and_true _ ∙ numbers_equal n number ∙ apart)
-      db.trees l.records.actions (holds.rows (OfRollouts Feedbacks)) rows (shows.answer Null)
+      reads_parts told_entry (λ (a : ActionRecord). a.history) (holds.spot Feedbacks).tree of_action entry_columns (col 0 1) (col 0 2) params false number least (λ id x. refl) (λ id x. refl) (λ n place e apart. and_true _ ∙ numbers_equal n number ∙ apart)
+      db.trees l.records.actions (holds.rows Feedbacks) rows (shows.answer Null)
       ∙ ap (λ more. take limit (drop offset more)) (all_shown told_entry told_entry number of_action entry_columns params (λ place e. and_true _ ∙ numbers_equal number number ∙ same number) entry_shown 1 all)
       ∙ ap (take limit) (drop-map told_entry offset all) ∙ take-map told_entry limit (drop offset all)
     where

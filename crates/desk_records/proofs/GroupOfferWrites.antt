@@ -24,7 +24,7 @@ use Rattle.offer_laws.specs.GroupOffers.{group_offers, member_of, offers_from, p
 use Rattle.desk_records.specs.Actions.{Tally, action_row}
 use Rattle.desk_records.specs.Holds.{HoldsLedger, Ledger}
 use Rattle.desk_records.specs.LedgerSteps.{OffersGroup}
-use Rattle.desk_records.specs.Schema.{OfRollouts, Actions, Offers, offer_table}
+use Rattle.desk_records.specs.Schema.{Actions, Offers, offer_table}
 use Rattle.desk_records.proofs.Comparisons.{numbers_at_least, numbers_at_most, numbers_equal}
 use Rattle.desk_records.proofs.GroupOffersMeaning.{in_group, group_columns, group_query, taking_query, put_group_offers_command}
 use Rattle.desk_records.proofs.OfferPuts.{puts_all, source_of}
@@ -32,12 +32,12 @@ use Rattle.desk_records.proofs.OfferWrites.{offers_after}
 
 -- ---- the key
 
-key_of : (db : Database) (l : Ledger) (holds : HoldsLedger db l) → HasKeyIndex db.schema (offer_table (holds.spot (OfRollouts Offers)).tree) 1
-key_of db l holds = key_index db.schema db.trees (holds.spot (OfRollouts Offers)).at (offer_table (holds.spot (OfRollouts Offers)).tree) 0 1 holds.sound (holds.stands (OfRollouts Offers)).got refl
+key_of : (db : Database) (l : Ledger) (holds : HoldsLedger db l) → HasKeyIndex db.schema (offer_table (holds.spot Offers).tree) 1
+key_of db l holds = key_index db.schema db.trees (holds.spot Offers).at (offer_table (holds.spot Offers).tree) 0 1 holds.sound (holds.stands Offers).got refl
 
 -- the statement's target is the key
-pub offers_keyed : (db : Database) (l : Ledger) (holds : HoldsLedger db l) → key_at db.schema (offer_table (holds.spot (OfRollouts Offers)).tree) (1 ∷ []) ≡ Ok (1 ∷ [])
-offers_keyed db l holds = let key = key_of db l holds in key_found db.schema (offer_table (holds.spot (OfRollouts Offers)).tree) 1 refl key.index key.listed key.unique key.its key.columns
+pub offers_keyed : (db : Database) (l : Ledger) (holds : HoldsLedger db l) → key_at db.schema (offer_table (holds.spot Offers).tree) (1 ∷ []) ≡ Ok (1 ∷ [])
+offers_keyed db l holds = let key = key_of db l holds in key_found db.schema (offer_table (holds.spot Offers).tree) 1 refl key.index key.listed key.unique key.its key.columns
 
 -- ---- the rows of the source
 
@@ -82,11 +82,11 @@ module _ (rs : Records) (number : ℕ) (bounds : Bounds) where
 -- ---- the statement
 
 pub offers_group : (number : ℕ) (bounds : Bounds) (old new : State) (text : List ℕ) (count : ℕ) (l next : Ledger) (holds : HoldsLedger old.now l) → OffersGroup number bounds l next
-    → (w : Writes old new None (put_group_offers_command (holds.spot (OfRollouts Offers)).at (holds.spot (OfRollouts Offers)).tree (holds.spot (OfRollouts Actions)).tree) text (group_params number bounds) count) → HoldsLedger new.now next
+    → (w : Writes old new None (put_group_offers_command (holds.spot Offers).at (holds.spot Offers).tree (holds.spot Actions).tree) text (group_params number bounds) count) → HoldsLedger new.now next
 offers_group number bounds old new text count l next holds change w =
-    let spot = holds.spot (OfRollouts Offers) in
-    let stands = holds.stands (OfRollouts Offers) in
-    let from = (holds.spot (OfRollouts Actions)).tree in
+    let spot = holds.spot Offers in
+    let stands = holds.stands Offers in
+    let from = (holds.spot Actions).tree in
     let table = offer_table spot.tree in
     let params = group_params number bounds in
     let zs = zip l.records.actions l.tallies in
@@ -94,9 +94,9 @@ offers_group number bounds old new text count l next holds change w =
     let made = upserts_from old.now.schema spot.at table (Queried (record { lets = []; body = group_query from })) (Some (1 ∷ [])) (Some (record { lets = []; body = taking_query spot.tree })) stands.got stands.keyless old new refl text params count w in
     let answer = uncollated from in_group group_columns _ (lit (Int _)) (lit (Int (pos 0))) _ _ params made.sources (made.is_source.answer Null) in
     let sources : made.sources ≡ map source_of (group_offers l.records number bounds) =
-    numbered_in_order (action_row l.records.rollouts) (λ n x. refl) from in_group group_columns (lit (Int _)) (lit (Int (pos 0))) params old.now.trees zs (holds.rows (OfRollouts Actions)) made.sources answer
+    numbered_in_order (action_row l.records.rollouts) (λ n x. refl) from in_group group_columns (lit (Int _)) (lit (Int (pos 0))) params old.now.trees zs (holds.rows Actions) made.sources answer
     ∙ shows_offers l.records number bounds 1 l.records.actions l.tallies change.tallied in
-    let held = puts_all old.now.schema spot.tree key _ _ _ (group_offers l.records number bounds) l.offers old.now.trees new.now.trees (holds.rows (OfRollouts Offers))
+    let held = puts_all old.now.schema spot.tree key _ _ _ (group_offers l.records number bounds) l.offers old.now.trees new.now.trees (holds.rows Offers)
     (subst (λ rs. PutsEach old.now.schema table params (Some (1 ∷ [])) (Some (record { lets = []; body = taking_query spot.tree })) rs old.now.trees new.now.trees) sources made.puts) in
     let others = all_from _ old.now.schema.tables (λ s listed free apart. each_keeps old.now.schema table params (Some (1 ∷ [])) (Some (record { lets = []; body = taking_query spot.tree })) made.sources old.now.trees new.now.trees made.puts s listed free apart) in
     subst (HoldsLedger new.now) (sym change.next_is) (offers_after l (put_offers l.offers (group_offers l.records number bounds)) old.now new.now holds (record { schema = made.schema_is; sound = w.sound; others = others }) held)

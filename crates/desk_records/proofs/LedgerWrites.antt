@@ -12,7 +12,7 @@ use Rattle.sqlite.specs.State.{State, Writes}
 use Rattle.sqlite.specs.Table.{Table}
 use Rattle.sqlite_rules.specs.Cast.{cast_all}
 use Rattle.sqlite_trees.specs.Tree.{put_row, rowid}
-use Rattle.sql_calls.specs.Keyed.{rows_from, IsHeldBy}
+use Rattle.sql_calls.specs.Keyed.{rows_from}
 use Rattle.sql_calls.proofs.Inserts.{inserts}
 use Rattle.sql_calls.proofs.NumberedRows.{put_next, cast_int, cast_null}
 use Rattle.sql_calls.proofs.NumberedTables.{has_number, sets_at}
@@ -24,13 +24,13 @@ use Rattle.rollout_machine.specs.declared.records.ActionRecord.{ActionRecord}
 use Rattle.rollout_machine.specs.declared.records.RolloutRecord.{RolloutRecord}
 use Rattle.rollout_model.specs.declared.approval.Approval.{Approval}
 use Rattle.desk_records.specs.Actions.{Tally, action_row, entry_row, outcome_code}
-use Rattle.desk_records.specs.Holds.{HoldsLedger, IsHeldOfRollouts, Ledger}
+use Rattle.desk_records.specs.Holds.{HoldsLedger, Ledger, Ordered, Unordered}
 use Rattle.desk_records.specs.LedgerSteps.{AddsRollout, AddsAction, SetsRollout, SetsAction, acted, created, no_tally, scheduled, turned, with_actions, with_rollouts}
 use Rattle.desk_records.specs.Parts.{parts_from}
 use Rattle.desk_records.specs.Rollouts.{approval_code, flag, group_row, groups_from, member_row, members_from, rollout_row}
-use Rattle.desk_records.specs.Schema.{OfRollouts, RolloutPlace, Rollouts, Members, Groups, Actions, Feedbacks, Offers, action_table, rollout_table}
+use Rattle.desk_records.specs.Schema.{Place, Rollouts, Members, Groups, Actions, Feedbacks, action_table, rollout_table}
 use Rattle.desk_records.proofs.ActionMeaning.{action_terms, action_values, set_action_query}
-use Rattle.desk_records.proofs.HoldsAfter.{ledger_after}
+use Rattle.desk_records.proofs.HoldsAfter.{ChangesOnly, contents_differ, ledger_after}
 use Rattle.desk_records.proofs.LedgerLists.{actions_stay, actors_of_more, actors_stay, first_of, length_zip, parts_stay, zip_more, zip_set}
 use Rattle.desk_records.proofs.MeaningWords.{at_key}
 use Rattle.desk_records.proofs.NumberedReads.{passes_number}
@@ -40,28 +40,19 @@ use Rattle.desk_records.proofs.RolloutMeaning.{rollout_terms, rollout_values, se
 -- ---- what stays
 
 -- other rollouts, where the rows of all tables but one don't tell of it
-pub rollouts_differ : (l : Ledger) (ys : List RolloutRecord) (k : RolloutPlace) → (Rollouts ≢ k → rows_from rollout_row 1 ys ≡ rows_from rollout_row 1 l.records.rollouts) → (Members ≢ k → members_from 1 ys ≡ members_from 1 l.records.rollouts)
+pub rollouts_differ : (l : Ledger) (ys : List RolloutRecord) (k : Place) → (Rollouts ≢ k → rows_from rollout_row 1 ys ≡ rows_from rollout_row 1 l.records.rollouts) → (Members ≢ k → members_from 1 ys ≡ members_from 1 l.records.rollouts)
     → (Groups ≢ k → groups_from 1 ys ≡ groups_from 1 l.records.rollouts) → rows_from (action_row ys) 1 (zip l.records.actions l.tallies) ≡ rows_from (action_row l.records.rollouts) 1 (zip l.records.actions l.tallies)
-    → (t : RolloutPlace) → t ≢ k → (rows : List Row) → IsHeldOfRollouts l t rows → IsHeldOfRollouts (with_rollouts l ys) t rows
-rollouts_differ l ys k rollouts members groups actors Rollouts apart rows held = held ∙ sym (rollouts apart)
-rollouts_differ l ys k rollouts members groups actors Members apart rows held = subst (IsHeldBy rows) (sym (members apart)) held
-rollouts_differ l ys k rollouts members groups actors Groups apart rows held = subst (IsHeldBy rows) (sym (groups apart)) held
-rollouts_differ l ys k rollouts members groups actors Actions apart rows held = held ∙ sym actors
-rollouts_differ l ys k rollouts members groups actors Feedbacks apart rows held = held
-rollouts_differ l ys k rollouts members groups actors Offers apart rows held = held
+    → ChangesOnly k l (with_rollouts l ys)
+rollouts_differ l ys k rollouts members groups actors = contents_differ k l (with_rollouts l ys) (Rollouts ∷ Members ∷ Groups ∷ Actions ∷ []) refl
+    ((λ apart. ap Ordered (rollouts apart)), ((λ apart. ap Unordered (members apart)), ((λ apart. ap Unordered (groups apart)), ((λ apart. ap Ordered actors), tt))))
 
 abbrev pub histories_from : ℕ → List ActionRecord → List Row
 histories_from n as' = parts_from entry_row (λ (a : ActionRecord). a.history) n as'
 
 -- other actions
-pub actions_differ : (l : Ledger) (as' : List ActionRecord) (ts : List Tally) (k : RolloutPlace) → (Actions ≢ k → rows_from (action_row l.records.rollouts) 1 (zip as' ts) ≡ rows_from (action_row l.records.rollouts) 1 (zip l.records.actions l.tallies))
-    → (Feedbacks ≢ k → histories_from 1 as' ≡ histories_from 1 l.records.actions) → (t : RolloutPlace) → t ≢ k → (rows : List Row) → IsHeldOfRollouts l t rows → IsHeldOfRollouts (with_actions l as' ts) t rows
-actions_differ l as' ts k actions histories Rollouts apart rows held = held
-actions_differ l as' ts k actions histories Members apart rows held = held
-actions_differ l as' ts k actions histories Groups apart rows held = held
-actions_differ l as' ts k actions histories Actions apart rows held = held ∙ sym (actions apart)
-actions_differ l as' ts k actions histories Feedbacks apart rows held = subst (IsHeldBy rows) (sym (histories apart)) held
-actions_differ l as' ts k actions histories Offers apart rows held = held
+pub actions_differ : (l : Ledger) (as' : List ActionRecord) (ts : List Tally) (k : Place) → (Actions ≢ k → rows_from (action_row l.records.rollouts) 1 (zip as' ts) ≡ rows_from (action_row l.records.rollouts) 1 (zip l.records.actions l.tallies))
+    → (Feedbacks ≢ k → histories_from 1 as' ≡ histories_from 1 l.records.actions) → ChangesOnly k l (with_actions l as' ts)
+actions_differ l as' ts k actions histories = contents_differ k l (with_actions l as' ts) (Actions ∷ Feedbacks ∷ []) refl ((λ apart. ap Ordered (actions apart)), ((λ apart. ap Unordered (histories apart)), tt))
 
 -- ---- UPDATE .. WHERE number = ?1, of a row that is there
 
@@ -80,19 +71,18 @@ abbrev pub created_params : ℕ → RolloutPlan → Approval → Row
 created_params number plan approval = Int (pos number) ∷ Text plan.name ∷ Int (pos plan.set_number) ∷ Text plan.filter_text ∷ Int (pos plan.groups) ∷ Int (pos plan.success) ∷ Int (pos plan.error) ∷ Int (pos (approval_code approval)) ∷ []
 
 pub adds_rollout : (number : ℕ) (plan : RolloutPlan) (approval : Approval) (old new : State) (text : List ℕ) (count : ℕ) (l next : Ledger) (holds : HoldsLedger old.now l) → AddsRollout number plan approval l next
-    → (w : Writes old new None (Insert (holds.spot (OfRollouts Rollouts)).at (Values rollout_terms 11)) text (created_params number plan approval) count) → HoldsLedger new.now next
+    → (w : Writes old new None (Insert (holds.spot Rollouts).at (Values rollout_terms 11)) text (created_params number plan approval) count) → HoldsLedger new.now next
 adds_rollout number plan approval old new text count l next holds change w =
-    let spot = holds.spot (OfRollouts Rollouts) in
+    let spot = holds.spot Rollouts in
     let xs = l.records.rollouts in
     let x = created number plan approval in
-    let made = inserts old.now.schema spot.at (rollout_table spot.tree) rollout_terms 11 (holds.stands (OfRollouts Rollouts)).got old new refl text (created_params number plan approval) count w in
+    let made = inserts old.now.schema spot.at (rollout_table spot.tree) rollout_terms 11 (holds.stands Rollouts).got old new refl text (created_params number plan approval) count w in
     let at : number ≡ 1 + length xs = omega (arith, change.number_is) in
     let table : new.now.trees spot.tree ≡ rows_from rollout_row 1 (xs ++ x ∷ []) =
-    made.applies.rows ∙ rw (cast_int number, cast_null, cast_int plan.set_number, cast_int plan.groups, cast_int plan.success, cast_int plan.error, cast_int (approval_code approval), cast_int 0, holds.rows (OfRollouts Rollouts))
+    made.applies.rows ∙ rw (cast_int number, cast_null, cast_int plan.set_number, cast_int plan.groups, cast_int plan.success, cast_int plan.error, cast_int (approval_code approval), cast_int 0, holds.rows Rollouts)
     (ap (λ m. put_row (rollout_row m x) (rows_from rollout_row 1 xs)) at ∙ put_next rollout_row (λ n x. refl) 1 xs x) in
     subst (HoldsLedger new.now) (sym change.next_is) (ledger_after Rollouts l (with_rollouts l (xs ++ x ∷ [])) old.now new.now holds (record { schema = made.schema_is; sound = w.sound; others = made.applies.tables }) table
-    (record { approval = refl; modules = refl; artifacts = refl; sets = refl; targets = refl })
-    (rollouts_differ l (xs ++ x ∷ []) Rollouts (λ apart. absurd (apart refl)) (λ apart. no_parts member_row (λ (y : RolloutRecord). y.members) x refl 1 xs) (λ apart. no_parts group_row (λ (y : RolloutRecord). y.groups) x refl 1 xs) (actions_stay xs (xs ++ x ∷ []) (actors_of_more x refl xs) 1 _)))
+    (rollouts_differ l (xs ++ x ∷ []) Rollouts (λ apart. absurd (apart refl)) (λ apart. no_parts member_row (λ (y : RolloutRecord). y.members) x refl 1 xs) (λ apart. no_parts group_row (λ (y : RolloutRecord). y.groups) x refl 1 xs) (actions_stay xs (xs ++ x ∷ []) (actors_of_more x refl xs) 1 _)) holds.sorted)
 
 -- ---- a rollout's approval, started and paused
 
@@ -100,11 +90,11 @@ abbrev pub turned_params : ℕ → Approval → Bool → Bool → Row
 turned_params number approval started paused = Int (pos number) ∷ Int (pos (approval_code approval)) ∷ Int (pos (flag started)) ∷ Int (pos (flag paused)) ∷ []
 
 pub sets_rollout : (number : ℕ) (approval : Approval) (started paused : Bool) (old new : State) (text : List ℕ) (count : ℕ) (l next : Ledger) (holds : HoldsLedger old.now l) → SetsRollout number approval started paused l next
-    → (w : Writes old new None (Update (holds.spot (OfRollouts Rollouts)).at (record { lets = []; body = set_rollout_query (holds.spot (OfRollouts Rollouts)).tree })) text (turned_params number approval started paused) count) → HoldsLedger new.now next
+    → (w : Writes old new None (Update (holds.spot Rollouts).at (record { lets = []; body = set_rollout_query (holds.spot Rollouts).tree })) text (turned_params number approval started paused) count) → HoldsLedger new.now next
 sets_rollout zero approval started paused old new text count l next holds change w = absurd (let none = change.is_there in cc)
 sets_rollout (suc k) approval started paused old new text count l next holds change w =
-    let spot = holds.spot (OfRollouts Rollouts) in
-    let stands = holds.stands (OfRollouts Rollouts) in
+    let spot = holds.spot Rollouts in
+    let stands = holds.stands Rollouts in
     let xs = l.records.rollouts in
     let x = change.rollout in
     let y = turned approval started paused x in
@@ -112,11 +102,10 @@ sets_rollout (suc k) approval started paused old new text count l next holds cha
     let table : new.now.trees spot.tree ≡ rows_from rollout_row 1 (set xs k y) =
     numbered_set rollout_row (λ n x. refl) k (rollout_table spot.tree) rollout_values _ old.now new.now xs x y change.is_there
     (λ n. rw (cast_null, cast_int x.plan.set_number, cast_int x.plan.groups, cast_int x.plan.success, cast_int x.plan.error, cast_int (approval_code approval), cast_int (flag started), cast_int (flag paused)) refl)
-    (holds.rows (OfRollouts Rollouts)) made in
+    (holds.rows Rollouts) made in
     subst (HoldsLedger new.now) (sym change.next_is) (ledger_after Rollouts l (with_rollouts l (set xs k y)) old.now new.now holds (record { schema = made.schema_is; sound = w.sound; others = made.applies.tables }) table
-    (record { approval = refl; modules = refl; artifacts = refl; sets = refl; targets = refl })
     (rollouts_differ l (set xs k y) Rollouts (λ apart. absurd (apart refl)) (λ apart. parts_stay x y member_row (λ (z : RolloutRecord). z.members) refl 1 k xs change.is_there)
-    (λ apart. parts_stay x y group_row (λ (z : RolloutRecord). z.groups) refl 1 k xs change.is_there) (actions_stay xs (set xs k y) (actors_stay x y refl k xs change.is_there) 1 _)))
+    (λ apart. parts_stay x y group_row (λ (z : RolloutRecord). z.groups) refl 1 k xs change.is_there) (actions_stay xs (set xs k y) (actors_stay x y refl k xs change.is_there) 1 _)) holds.sorted)
 
 -- ---- a new action
 
@@ -124,20 +113,20 @@ abbrev pub scheduled_params : ℕ → ℕ → ℕ → Bytes → Row
 scheduled_params number rollout place id = Int (pos number) ∷ Int (pos rollout) ∷ Int (pos place) ∷ Text id ∷ []
 
 pub adds_action : (number rollout place : ℕ) (id : Bytes) (old new : State) (text : List ℕ) (count : ℕ) (l next : Ledger) (holds : HoldsLedger old.now l) → AddsAction number rollout place id l next
-    → (w : Writes old new None (Insert (holds.spot (OfRollouts Actions)).at (Values action_terms 9)) text (scheduled_params number rollout place id) count) → HoldsLedger new.now next
+    → (w : Writes old new None (Insert (holds.spot Actions).at (Values action_terms 9)) text (scheduled_params number rollout place id) count) → HoldsLedger new.now next
 adds_action number rollout place id old new text count l next holds change w =
-    let spot = holds.spot (OfRollouts Actions) in
+    let spot = holds.spot Actions in
     let row = action_row l.records.rollouts in
     let zs = zip l.records.actions l.tallies in
     let a = scheduled rollout place in
-    let made = inserts old.now.schema spot.at (action_table spot.tree) action_terms 9 (holds.stands (OfRollouts Actions)).got old new refl text (scheduled_params number rollout place id) count w in
+    let made = inserts old.now.schema spot.at (action_table spot.tree) action_terms 9 (holds.stands Actions).got old new refl text (scheduled_params number rollout place id) count w in
     let at : number ≡ 1 + length zs = omega (arith, change.number_is, length_zip l.records.actions l.tallies change.tallied) in
     let table : new.now.trees spot.tree ≡ rows_from row 1 (zip (l.records.actions ++ a ∷ []) (l.tallies ++ no_tally ∷ [])) =
-    made.applies.rows ∙ rw (cast_int number, cast_null, cast_int rollout, cast_int place, cast_int 0, holds.rows (OfRollouts Actions), change.id_is)
+    made.applies.rows ∙ rw (cast_int number, cast_null, cast_int rollout, cast_int place, cast_int 0, holds.rows Actions, change.id_is)
     (ap (λ m. put_row (row m (a, no_tally)) (rows_from row 1 zs)) at ∙ put_next row (λ n x. refl) 1 zs (a, no_tally)) ∙ ap (rows_from row 1) (sym (zip_more l.records.actions l.tallies a no_tally change.tallied)) in
     subst (HoldsLedger new.now) (sym change.next_is) (ledger_after Actions l (with_actions l (l.records.actions ++ a ∷ []) (l.tallies ++ no_tally ∷ [])) old.now new.now holds
-    (record { schema = made.schema_is; sound = w.sound; others = made.applies.tables }) table (record { approval = refl; modules = refl; artifacts = refl; sets = refl; targets = refl })
-    (actions_differ l (l.records.actions ++ a ∷ []) (l.tallies ++ no_tally ∷ []) Actions (λ apart. absurd (apart refl)) (λ apart. no_parts entry_row (λ (b : ActionRecord). b.history) a refl 1 l.records.actions)))
+    (record { schema = made.schema_is; sound = w.sound; others = made.applies.tables }) table
+    (actions_differ l (l.records.actions ++ a ∷ []) (l.tallies ++ no_tally ∷ []) Actions (λ apart. absurd (apart refl)) (λ apart. no_parts entry_row (λ (b : ActionRecord). b.history) a refl 1 l.records.actions)) holds.sorted)
 
 -- ---- an action's cancel, outcome and numbers
 
@@ -145,11 +134,11 @@ abbrev pub acted_params : ℕ → Bool → Option Outcome → Tally → Row
 acted_params number canceling outcome tally = Int (pos number) ∷ Int (pos (flag canceling)) ∷ Int (pos (outcome_code outcome)) ∷ Int (pos tally.notes) ∷ Int (pos tally.entries) ∷ []
 
 pub sets_action : (number : ℕ) (canceling : Bool) (outcome : Option Outcome) (tally : Tally) (old new : State) (text : List ℕ) (count : ℕ) (l next : Ledger) (holds : HoldsLedger old.now l) → SetsAction number canceling outcome tally l next
-    → (w : Writes old new None (Update (holds.spot (OfRollouts Actions)).at (record { lets = []; body = set_action_query (holds.spot (OfRollouts Actions)).tree })) text (acted_params number canceling outcome tally) count) → HoldsLedger new.now next
+    → (w : Writes old new None (Update (holds.spot Actions).at (record { lets = []; body = set_action_query (holds.spot Actions).tree })) text (acted_params number canceling outcome tally) count) → HoldsLedger new.now next
 sets_action zero canceling outcome tally old new text count l next holds change w = absurd (let none = change.is_there in cc)
 sets_action (suc k) canceling outcome tally old new text count l next holds change w =
-    let spot = holds.spot (OfRollouts Actions) in
-    let stands = holds.stands (OfRollouts Actions) in
+    let spot = holds.spot Actions in
+    let stands = holds.stands Actions in
     let row = action_row l.records.rollouts in
     let as' = l.records.actions in
     let it = change.action in
@@ -157,8 +146,8 @@ sets_action (suc k) canceling outcome tally old new text count l next holds chan
     let made = updates old.now.schema spot.at (action_table spot.tree) (record { lets = []; body = set_action_query spot.tree }) stands.got stands.keyless old new refl text (acted_params (suc k) canceling outcome tally) count w in
     let table : new.now.trees spot.tree ≡ rows_from row 1 (zip (set as' k a) (set l.tallies k tally)) =
     numbered_set row (λ n x. refl) k (action_table spot.tree) action_values _ old.now new.now (zip as' l.tallies) it (a, tally) change.is_there
-    (λ n. rw (cast_null, cast_int it.0.rollout, cast_int it.0.position, cast_int (flag canceling), cast_int (outcome_code outcome), cast_int tally.notes, cast_int tally.entries) refl) (holds.rows (OfRollouts Actions)) made
+    (λ n. rw (cast_null, cast_int it.0.rollout, cast_int it.0.position, cast_int (flag canceling), cast_int (outcome_code outcome), cast_int tally.notes, cast_int tally.entries) refl) (holds.rows Actions) made
     ∙ ap (rows_from row 1) (sym (zip_set as' l.tallies k a tally)) in
     subst (HoldsLedger new.now) (sym change.next_is) (ledger_after Actions l (with_actions l (set as' k a) (set l.tallies k tally)) old.now new.now holds
-    (record { schema = made.schema_is; sound = w.sound; others = made.applies.tables }) table (record { approval = refl; modules = refl; artifacts = refl; sets = refl; targets = refl })
-    (actions_differ l (set as' k a) (set l.tallies k tally) Actions (λ apart. absurd (apart refl)) (λ apart. parts_stay it.0 a entry_row (λ (b : ActionRecord). b.history) refl 1 k as' (first_of as' l.tallies k it change.is_there))))
+    (record { schema = made.schema_is; sound = w.sound; others = made.applies.tables }) table
+    (actions_differ l (set as' k a) (set l.tallies k tally) Actions (λ apart. absurd (apart refl)) (λ apart. parts_stay it.0 a entry_row (λ (b : ActionRecord). b.history) refl 1 k as' (first_of as' l.tallies k it change.is_there))) holds.sorted)

@@ -1,4 +1,5 @@
 pub mod MeaningWords
+pub mod TableMeaning
 pub mod Meaning
 pub mod SetMeaning
 pub mod ArtifactMeaning
@@ -14,6 +15,7 @@ mod Parts
 mod PieceLists
 mod PartReads
 pub mod Sets
+pub mod EachPlace
 pub mod Places
 pub mod HoldsAfter
 mod RowLemmas

@@ -1,4 +1,4 @@
--- Written by tools/meanings.
+-- Written by tools/meanings. What it makes is proved; the tool is not trusted.
 -- What the texts of src/texts.rt mean, wherever their tables stand.
 use Rattle.std.proofs.Common.{refl, List, [], ◌∷◌, ℕ, codes, pos, true}
 use Rattle.sqlite.specs.declared.types.Value.TheVariants.{Null, Int, Text}
@@ -9,25 +9,17 @@ use Rattle.sqlite.specs.Source.TheVariants.{Values}
 use Rattle.sqlite.specs.Query.{Query}
 use Rattle.sqlite.specs.Term.{Term, lit, col}
 use Rattle.sqlite_tied.specs.Compute.{everything}
-use Rattle.sqlite_resolve.specs.Compile.{first, new_rows, is_reserved}
+use Rattle.sqlite_resolve.specs.Compile.{first, new_rows}
 use Rattle.sqlite_resolve.specs.Expr.{combine}
 use Rattle.sqlite_resolve.specs.Select.{named, paging}
 use Rattle.sql_front.specs.Stands.{Stands}
 use Rattle.sql_front.proofs.Texts.{Queries, queries_known}
-use Rattle.sql_front.proofs.Write.{Adds, Makes, adds_known}
+use Rattle.sql_front.proofs.Write.{Adds, adds_known}
 use Rattle.sql_calls.specs.Means.{Means}
 use Rattle.sql_calls.proofs.Selects.{simple, by}
-use Rattle.desk_records.specs.declared.texts.TheConstants.{CREATE_DESK, CREATE_MODULE, PUT_DESK, GET_DESK, FIND_MODULE, LAST_MODULE, GET_MODULE, PUT_MODULE}
+use Rattle.desk_records.specs.declared.texts.TheConstants.{PUT_DESK, GET_DESK, FIND_MODULE, LAST_MODULE, GET_MODULE, PUT_MODULE}
 use Rattle.desk_records.specs.Schema.{desk_table, module_table}
 use Rattle.desk_records.proofs.MeaningWords.{means_of, is_equal, at_key}
-
-pub create_desk_makes : Makes CREATE_DESK.now (codes "desk") (desk_table 0)
-unfolding first is_reserved everything
-create_desk_makes = record { parsed = _; made = _; read = refl; statement = refl; named = refl; unreserved = refl; defined = refl; whole = refl }
-
-pub create_module_makes : Makes CREATE_MODULE.now (codes "module") (module_table 0)
-unfolding first is_reserved everything
-create_module_makes = record { parsed = _; made = _; read = refl; statement = refl; named = refl; unreserved = refl; defined = refl; whole = refl }
 
 abbrev pub desk_terms : List Term
 desk_terms = lit (Int (pos 1)) ∷ lit Null ∷ lit (Text (codes "fwdesk")) ∷ lit (Int (pos 1)) ∷ col 0 0 ∷ []

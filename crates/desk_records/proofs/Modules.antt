@@ -1,5 +1,5 @@
 -- The statements on modules, in records.
-use Rattle.std.proofs.Common.{◌≡◌, ◌≢◌, ◌≤◌, ℕ, ◌+◌, pos, List, [], ◌∷◌, ◌++◌, length, None, Option, option_map, refl, ◌∙◌, arith}
+use Rattle.std.proofs.Common.{◌≡◌, ◌≤◌, ℕ, ◌+◌, pos, List, [], ◌∷◌, ◌++◌, length, None, Option, option_map, refl, ◌∙◌, arith}
 use Rattle.std.specs.List.{list_any}
 use Rattle.std.specs.Option.{is_some}
 use Rattle.sqlite_value.specs.declared.value.Value.TheVariants.{Int}
@@ -20,9 +20,9 @@ use Rattle.rollout_machine.specs.Commands.{ModuleLabel}
 use Rattle.rollout_machine.specs.ByteStrings.{same_bytes, item_numbered}
 use Rattle.rollout_machine.specs.Records.{Records}
 use Rattle.desk_records.specs.Modules.{words_of, with_module, is_same, IsLastRow}
-use Rattle.desk_records.specs.Schema.{Place, Desk, Modules, Sets, SetModules, Artifacts, Pieces, Targets, TargetTags, TargetAttributes, OfRollouts, module_table}
-use Rattle.desk_records.specs.Holds.{HoldsRecords, IsHeld, ledger_of, module_row}
-use Rattle.desk_records.proofs.HoldsAfter.{holds_after, rollouts_kept}
+use Rattle.desk_records.specs.Schema.{Modules, module_table}
+use Rattle.desk_records.specs.Holds.{HoldsRecords, ledger_of, module_row}
+use Rattle.desk_records.proofs.HoldsAfter.{ChangesOnly, holds_after, records_differ}
 use Rattle.desk_records.proofs.Comparisons.{judged, words_equal, and_true}
 use Rattle.desk_records.proofs.NumberedReads.{finds, lasts, gets}
 use Rattle.desk_records.proofs.MeaningWords.{at_key}
@@ -64,16 +64,7 @@ adds_module label number old new text count now holds next w =
     let made = inserts old.now.schema spot.at (module_table spot.tree) module_terms 5 (holds.stands Modules).got old new refl text params count w in
     let at : number ≡ 1 + length now.modules = omega (arith, next) in
     let table : new.now.trees spot.tree ≡ rows_from module_row 1 (now.modules ++ label ∷ []) = made.applies.rows ∙ rw (cast_int number, cast_null, holds.rows Modules, at) (put_next module_row (λ n x. refl) 1 now.modules label) in
-    holds_after Modules now (with_module now label) old.now new.now holds made.schema_is w.sound table made.applies.tables only holds.sorted
+    holds_after Modules now (with_module now label) old.now new.now holds (record { schema = made.schema_is; sound = w.sound; others = made.applies.tables }) table only holds.sorted
   where
-    only : (t : Place) → t ≢ Modules → (rows : List Row) → IsHeld (ledger_of now) t rows → IsHeld (ledger_of (with_module now label)) t rows
-    only Desk apart rows held = held
-    only Modules apart rows held = absurd (apart refl)
-    only Sets apart rows held = held
-    only SetModules apart rows held = held
-    only Artifacts apart rows held = held
-    only Pieces apart rows held = held
-    only Targets apart rows held = held
-    only TargetTags apart rows held = held
-    only TargetAttributes apart rows held = held
-    only (OfRollouts t) apart rows held = rollouts_kept now (with_module now label) refl refl t rows held
+    only : ChangesOnly Modules (ledger_of now) (ledger_of (with_module now label))
+    only = records_differ Modules now (with_module now label) refl refl (Modules ∷ []) refl ((λ apart. absurd (apart refl)), tt)

@@ -25,7 +25,7 @@ use Rattle.desk_records.specs.Holds.{HoldsLedger, Ledger}
 use Rattle.desk_records.specs.NextOffers.{any_starts, is_next, next_offer, next_offer_from, starts_at}
 use Rattle.desk_records.specs.Parts.{parts_from, parts_of}
 use Rattle.desk_records.specs.Rollouts.{flag, group_row, groups_from}
-use Rattle.desk_records.specs.Schema.{OfRollouts, Actions, Groups}
+use Rattle.desk_records.specs.Schema.{Actions, Groups}
 use Rattle.desk_records.proofs.ActionRecords.{told_offer}
 use Rattle.desk_records.proofs.Comparisons.{and_true, numbers_equal, numbers_at_least, numbers_at_most, words_equal}
 use Rattle.desk_records.proofs.ActionMeaning.{next_action, next_columns, next_group, next_offer_query}
@@ -78,10 +78,10 @@ is_started false = refl
 
 module _ (db : Database) (l : Ledger) (holds : HoldsLedger db l) (names : List (List ℕ)) (id : Bytes) where
   abbrev tree : ℕ
-  tree = (holds.spot (OfRollouts Actions)).tree
+  tree = (holds.spot Actions).tree
 
   abbrev other : ℕ
-  other = (holds.spot (OfRollouts Groups)).tree
+  other = (holds.spot Groups).tree
 
   abbrev rollouts : List RolloutRecord
   rollouts = l.records.rollouts
@@ -103,7 +103,7 @@ module _ (db : Database) (l : Ledger) (holds : HoldsLedger db l) (names : List (
 
   any_beside : (n : ℕ) (it : ActionRecord × Tally) → list_any (is_beside next_group params (row n it)) (db.trees other) ≡ any_starts rollouts it.0
   any_beside n it =
-      held_any (is_beside next_group params (row n it)) (λ v x. refl) (db.trees other) (groups_from 1 rollouts) (holds.rows (OfRollouts Groups))
+      held_any (is_beside next_group params (row n it)) (λ v x. refl) (db.trees other) (groups_from 1 rollouts) (holds.rows Groups)
       ∙ any_numbered group_row (λ (x : RolloutRecord). x.groups) (on_content (is_beside next_group params (row n it))) it.0.rollout (starts_at it.0.position) (beside_it n it) rollouts
 
   abbrev passes : Row → Bool
@@ -136,5 +136,5 @@ module _ (db : Database) (l : Ledger) (holds : HoldsLedger db l) (names : List (
   pub gets_next_offer : length l.tallies ≡ length l.records.actions → (found : Option Row) → ShowsFirst (Select (record { lets = []; body = next_offer_query tree other }) names) db params found → found ≡ option_map told_offer (next_offer l.records id)
   gets_next_offer tallied found shown =
       first_row (Select (record { lets = []; body = next_offer_query tree other }) names) db params _ (λ rows shows. ap (λ (r : List Row). slice_get r 0)
-      (within_in_order row (λ n x. refl) tree other next_group next_action next_columns (lit (Int (pos 1))) (lit (Int (pos 0))) params db.trees (zip l.records.actions l.tallies) (holds.rows (OfRollouts Actions)) rows (shows.answer Null))
+      (within_in_order row (λ n x. refl) tree other next_group next_action next_columns (lit (Int (pos 1))) (lit (Int (pos 0))) params db.trees (zip l.records.actions l.tallies) (holds.rows Actions) rows (shows.answer Null))
       ∙ first_of (map show (filter passes (rows_from row 1 (zip l.records.actions l.tallies)))) ∙ first_next 1 l.records.actions l.tallies tallied) found shown

@@ -1,5 +1,5 @@
 -- The statements on offers that write, in ledgers.
-use Rattle.std.proofs.Common.{◌≡◌, ◌≢◌, ◌&&◌, ℕ, pos, List, [], ◌∷◌, Bool, true, false, not, cond, map, filter, Option, Some, None, refl, sym, ap, ap₂, subst, ◌∙◌, arith, nat_eq}
+use Rattle.std.proofs.Common.{◌≡◌, ◌&&◌, ℕ, pos, List, [], ◌∷◌, Bool, true, false, not, cond, map, filter, Option, Some, None, refl, sym, ap, ap₂, subst, ◌∙◌, arith, nat_eq}
 use Rattle.std.proofs.lemmas.Bool.Decides.{nat_tests}
 use Rattle.sqlite_value.specs.declared.value.Value.TheVariants.{Null, Int, Text}
 use Rattle.sqlite_value.specs.Order.{Row}
@@ -18,14 +18,14 @@ use Rattle.rollout_machine.specs.Commands.{Bytes}
 use Rattle.rollout_machine.specs.Kinds.{TargetOffer, offer_to}
 use Rattle.rollout_machine.proofs.TargetTies.{same_true}
 use Rattle.rollout_model.specs.declared.rollout.Offer.{Offer}
-use Rattle.desk_records.specs.Holds.{HoldsLedger, IsHeldOfRollouts, Ledger}
+use Rattle.desk_records.specs.Holds.{HoldsLedger, Ledger}
 use Rattle.desk_records.specs.LedgerSteps.{SetsOffer, with_offer}
 use Rattle.desk_records.specs.Offers.{HoldsOffers, is_to, offer_row}
 use Rattle.desk_records.specs.Rollouts.{flag}
-use Rattle.desk_records.specs.Schema.{OfRollouts, RolloutPlace, Rollouts, Members, Groups, Actions, Feedbacks, Offers, offer_table}
+use Rattle.desk_records.specs.Schema.{Offers, offer_table}
 use Rattle.desk_records.proofs.ActionMeaning.{drop_offer_query, of_controller, offer_values, set_offer_query}
 use Rattle.desk_records.proofs.ActionRecords.{names_offer, offer_keyed}
-use Rattle.desk_records.proofs.HoldsAfter.{Leaves, ledger_after}
+use Rattle.desk_records.proofs.HoldsAfter.{Leaves, contents_differ, ledger_after}
 
 -- ---- the offers of one id, in lists
 
@@ -124,31 +124,23 @@ rows_set id o p g is becomes (it ∷ listed) = ap₂ ◌∷◌ (rw (is it) (go (
 -- ---- the statements
 
 -- the rows of offers change, and nothing else
-pub offers_after : (l : Ledger) (offers : Bytes → Option Offer) (old new : Database) (holds : HoldsLedger old l) → Leaves old new (holds.spot (OfRollouts Offers)).tree → HoldsOffers (new.trees (holds.spot (OfRollouts Offers)).tree) offers
+pub offers_after : (l : Ledger) (offers : Bytes → Option Offer) (old new : Database) (holds : HoldsLedger old l) → Leaves old new (holds.spot Offers).tree → HoldsOffers (new.trees (holds.spot Offers).tree) offers
     → HoldsLedger new (record l { offers = offers })
-offers_after l offers old new holds left held = ledger_after Offers l (record l { offers = offers }) old new holds left held (record { approval = refl; modules = refl; artifacts = refl; sets = refl; targets = refl }) same
-  where
-    same : (t : RolloutPlace) → t ≢ Offers → (rows : List Row) → IsHeldOfRollouts l t rows → IsHeldOfRollouts (record l { offers = offers }) t rows
-    same Rollouts apart rows held = held
-    same Members apart rows held = held
-    same Groups apart rows held = held
-    same Actions apart rows held = held
-    same Feedbacks apart rows held = held
-    same Offers apart rows held = absurd (apart refl)
+offers_after l offers old new holds left held = ledger_after Offers l (record l { offers = offers }) old new holds left held (contents_differ Offers l (record l { offers = offers }) (Offers ∷ []) refl ((λ apart. absurd (apart refl)), tt)) holds.sorted
 
 abbrev pub offered_params : Bytes → Offer → Row
 offered_params id o = Text id ∷ Int (pos o.action) ∷ Int (pos (flag o.canceling)) ∷ []
 
 pub sets_offer : (id : Bytes) (o : Offer) (old new : State) (text : List ℕ) (count : ℕ) (l next : Ledger) (holds : HoldsLedger old.now l) → SetsOffer id o l next
-    → (w : Writes old new None (Update (holds.spot (OfRollouts Offers)).at (record { lets = []; body = set_offer_query (holds.spot (OfRollouts Offers)).tree })) text (offered_params id o) count) → HoldsLedger new.now next
+    → (w : Writes old new None (Update (holds.spot Offers).at (record { lets = []; body = set_offer_query (holds.spot Offers).tree })) text (offered_params id o) count) → HoldsLedger new.now next
 sets_offer id o old new text count l next holds change w =
-    let spot = holds.spot (OfRollouts Offers) in
-    let had = holds.rows (OfRollouts Offers) in
+    let spot = holds.spot Offers in
+    let had = holds.rows Offers in
     let table = offer_table spot.tree in
     let params = offered_params id o in
-    let made = updates old.now.schema spot.at table (record { lets = []; body = set_offer_query spot.tree }) (holds.stands (OfRollouts Offers)).got (holds.stands (OfRollouts Offers)).keyless old new refl text params count w in
+    let made = updates old.now.schema spot.at table (record { lets = []; body = set_offer_query spot.tree }) (holds.stands Offers).got (holds.stands Offers).keyless old new refl text params count w in
     let set = changes_key old.now.schema table (1 ∷ []) of_controller params (λ i x. refl) (0 ∷ []) (offer_keyed params) offer_values (λ i x. refl) old.now new.now (map offer_row had.listed)
-    (keys_apart old.now.schema old.now.trees spot.at table 0 (1 ∷ []) holds.sound (holds.stands (OfRollouts Offers)).got refl refl) had.held made in
+    (keys_apart old.now.schema old.now.trees spot.at table 0 (1 ∷ []) holds.sound (holds.stands Offers).got refl refl) had.held made in
     let is = rows_set id o (on_content (passes of_controller params)) (λ x. cast_all table.columns (on_content (shown_of offer_values params) x)) (names_offer id (Int (pos o.action) ∷ Int (pos (flag o.canceling)) ∷ []))
     (λ it. rw (cast_int o.action, cast_int (flag o.canceling)) refl) had.listed in
     subst (HoldsLedger new.now) (sym change.next_is) (offers_after l (with_offer l id (Some o)).offers old.now new.now holds (record { schema = made.schema_is; sound = w.sound; others = made.applies.tables }) (record {
@@ -158,12 +150,12 @@ sets_offer id o old new text count l next holds change w =
     }))
 
 pub drops_offer : (id : Bytes) (old new : State) (text : List ℕ) (count : ℕ) (l : Ledger) (holds : HoldsLedger old.now l)
-    → (w : Writes old new None (Delete (holds.spot (OfRollouts Offers)).at (record { lets = []; body = drop_offer_query (holds.spot (OfRollouts Offers)).tree })) text (Text id ∷ []) count) → HoldsLedger new.now (with_offer l id None)
+    → (w : Writes old new None (Delete (holds.spot Offers).at (record { lets = []; body = drop_offer_query (holds.spot Offers).tree })) text (Text id ∷ []) count) → HoldsLedger new.now (with_offer l id None)
 drops_offer id old new text count l holds w =
-    let spot = holds.spot (OfRollouts Offers) in
-    let had = holds.rows (OfRollouts Offers) in
+    let spot = holds.spot Offers in
+    let had = holds.rows Offers in
     let table = offer_table spot.tree in
-    let made = deletes old.now.schema spot.at table (record { lets = []; body = drop_offer_query spot.tree }) (holds.stands (OfRollouts Offers)).got (holds.stands (OfRollouts Offers)).keyless old new refl text (Text id ∷ []) count w in
+    let made = deletes old.now.schema spot.at table (record { lets = []; body = drop_offer_query spot.tree }) (holds.stands Offers).got (holds.stands Offers).keyless old new refl text (Text id ∷ []) count w in
     let left = drops old.now.schema table (1 ∷ []) of_controller (Text id ∷ []) (λ i x. refl) old.now new.now (map offer_row had.listed) had.held made in
     offers_after l (with_offer l id None).offers old.now new.now holds (record { schema = made.schema_is; sound = w.sound; others = made.applies.tables }) (record {
       listed = filter (not_to id) had.listed;
@@ -171,6 +163,6 @@ drops_offer id old new text count l holds w =
       its = λ t. its_left id t had.listed ∙ ends t (same_bytes id t) (had.its t);
     })
   where
-    ends : (t : Bytes) (b : Bool) → filter (is_to t) (holds.rows (OfRollouts Offers)).listed ≡ offer_to t (l.offers t) → cond b [] (filter (is_to t) (holds.rows (OfRollouts Offers)).listed) ≡ offer_to t (cond b None (l.offers t))
+    ends : (t : Bytes) (b : Bool) → filter (is_to t) (holds.rows Offers).listed ≡ offer_to t (l.offers t) → cond b [] (filter (is_to t) (holds.rows Offers).listed) ≡ offer_to t (cond b None (l.offers t))
     ends t true e = refl
     ends t false e = e

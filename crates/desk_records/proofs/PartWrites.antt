@@ -25,7 +25,7 @@ use Rattle.desk_records.specs.Actions.{entry_row}
 use Rattle.desk_records.specs.Holds.{HoldsLedger, Ledger}
 use Rattle.desk_records.specs.LedgerSteps.{AddsMember, AddsGroup, SetsGroup, AddsEntry, and_member, and_group, and_entry, counted, cut_group, with_actions, with_groups, with_rollouts}
 use Rattle.desk_records.specs.Rollouts.{flag, group_row, groups_from, member_row, members_from, rollout_row, told_group}
-use Rattle.desk_records.specs.Schema.{OfRollouts, Members, Groups, Feedbacks, feedback_table, group_table, member_table}
+use Rattle.desk_records.specs.Schema.{Members, Groups, Feedbacks, feedback_table, group_table, member_table}
 use Rattle.desk_records.proofs.ActionMeaning.{feedback_terms}
 use Rattle.desk_records.proofs.Comparisons.{and_true, numbers_equal}
 use Rattle.desk_records.proofs.HoldsAfter.{Leaves, ledger_after}
@@ -36,51 +36,50 @@ use Rattle.desk_records.proofs.RolloutMeaning.{group_terms, group_values, member
 -- ---- a new member
 
 pub adds_member : (number place : ℕ) (id : Bytes) (old new : State) (text : List ℕ) (count : ℕ) (l next : Ledger) (holds : HoldsLedger old.now l) → AddsMember number place id l next
-    → (w : Writes old new None (Insert (holds.spot (OfRollouts Members)).at (Values member_terms 4)) text (member_row number place id) count) → HoldsLedger new.now next
+    → (w : Writes old new None (Insert (holds.spot Members).at (Values member_terms 4)) text (member_row number place id) count) → HoldsLedger new.now next
 adds_member zero place id old new text count l next holds change w = absurd (let none = change.is_there in cc)
 adds_member (suc k) place id old new text count l next holds change w =
-    let spot = holds.spot (OfRollouts Members) in
+    let spot = holds.spot Members in
     let table = member_table spot.tree in
     let xs = l.records.rollouts in
     let x = change.rollout in
     let y = and_member x id in
     let given = member_row (suc k) place id in
-    let made = inserts old.now.schema spot.at table member_terms 4 (holds.stands (OfRollouts Members)).got old new refl text given count w in
-    let more = adds_row old.now.schema table (1 ∷ 2 ∷ []) given member_terms 4 given refl old.now new.now (members_from 1 xs) (holds.rows (OfRollouts Members)) made in
+    let made = inserts old.now.schema spot.at table member_terms 4 (holds.stands Members).got old new refl text given count w in
+    let more = adds_row old.now.schema table (1 ∷ 2 ∷ []) given member_terms 4 given refl old.now new.now (members_from 1 xs) (holds.rows Members) made in
     let cast : cast_all table.columns given ≡ given = rw (cast_int (suc k), cast_int place) refl in
     let held = part_held member_row (λ (z : RolloutRecord). z.members) x y id refl k place xs (new.now.trees spot.tree) change.is_there change.place_is (subst (λ r. IsHeldBy (new.now.trees spot.tree) (r ∷ members_from 1 xs)) cast more) in
     subst (HoldsLedger new.now) (sym change.next_is) (ledger_after Members l (with_rollouts l (set xs k y)) old.now new.now holds (record { schema = made.schema_is; sound = w.sound; others = made.applies.tables }) held
-    (record { approval = refl; modules = refl; artifacts = refl; sets = refl; targets = refl })
     (rollouts_differ l (set xs k y) Members (λ apart. rows_stay x y rollout_row (λ n. refl) 1 k xs change.is_there) (λ apart. absurd (apart refl))
-    (λ apart. parts_stay x y group_row (λ (z : RolloutRecord). z.groups) refl 1 k xs change.is_there) (actions_of_others xs k y 1 l.records.actions l.tallies change.unacted)))
+    (λ apart. parts_stay x y group_row (λ (z : RolloutRecord). z.groups) refl 1 k xs change.is_there) (actions_of_others xs k y 1 l.records.actions l.tallies change.unacted)) holds.sorted)
 
 -- ---- groups
 
 -- of a change of groups alone
-groups_change : (k : ℕ) (gs : List GroupRecord) (old new : Database) (l : Ledger) (holds : HoldsLedger old l) (x : RolloutRecord) → slice_get l.records.rollouts k ≡ Some x → Leaves old new (holds.spot (OfRollouts Groups)).tree
-    → IsHeldBy (new.trees (holds.spot (OfRollouts Groups)).tree) (groups_from 1 (set l.records.rollouts k (with_groups x gs))) → HoldsLedger new (with_rollouts l (set l.records.rollouts k (with_groups x gs)))
+groups_change : (k : ℕ) (gs : List GroupRecord) (old new : Database) (l : Ledger) (holds : HoldsLedger old l) (x : RolloutRecord) → slice_get l.records.rollouts k ≡ Some x → Leaves old new (holds.spot Groups).tree
+    → IsHeldBy (new.trees (holds.spot Groups).tree) (groups_from 1 (set l.records.rollouts k (with_groups x gs))) → HoldsLedger new (with_rollouts l (set l.records.rollouts k (with_groups x gs)))
 groups_change k gs old new l holds x there left held =
     let xs = l.records.rollouts in
     let y = with_groups x gs in
-    ledger_after Groups l (with_rollouts l (set xs k y)) old new holds left held (record { approval = refl; modules = refl; artifacts = refl; sets = refl; targets = refl })
+    ledger_after Groups l (with_rollouts l (set xs k y)) old new holds left held
     (rollouts_differ l (set xs k y) Groups (λ apart. rows_stay x y rollout_row (λ n. refl) 1 k xs there) (λ apart. parts_stay x y member_row (λ (z : RolloutRecord). z.members) refl 1 k xs there)
-    (λ apart. absurd (apart refl)) (actions_stay xs (set xs k y) (actors_stay x y refl k xs there) 1 _))
+    (λ apart. absurd (apart refl)) (actions_stay xs (set xs k y) (actors_stay x y refl k xs there) 1 _)) holds.sorted
 
 abbrev pub cut_params : ℕ → ℕ → Bounds → Row
 cut_params number group bounds = Int (pos number) ∷ Int (pos group) ∷ Int (pos bounds.first) ∷ Int (pos bounds.last) ∷ []
 
 pub adds_group : (number group : ℕ) (bounds : Bounds) (old new : State) (text : List ℕ) (count : ℕ) (l next : Ledger) (holds : HoldsLedger old.now l) → AddsGroup number group bounds l next
-    → (w : Writes old new None (Insert (holds.spot (OfRollouts Groups)).at (Values group_terms 9)) text (cut_params number group bounds) count) → HoldsLedger new.now next
+    → (w : Writes old new None (Insert (holds.spot Groups).at (Values group_terms 9)) text (cut_params number group bounds) count) → HoldsLedger new.now next
 adds_group zero group bounds old new text count l next holds change w = absurd (let none = change.is_there in cc)
 adds_group (suc k) group bounds old new text count l next holds change w =
-    let spot = holds.spot (OfRollouts Groups) in
+    let spot = holds.spot Groups in
     let table = group_table spot.tree in
     let xs = l.records.rollouts in
     let x = change.rollout in
     let g = cut_group group bounds in
     let row = group_row (suc k) group g in
-    let made = inserts old.now.schema spot.at table group_terms 9 (holds.stands (OfRollouts Groups)).got old new refl text (cut_params (suc k) group bounds) count w in
-    let more = adds_row old.now.schema table (1 ∷ 2 ∷ []) (cut_params (suc k) group bounds) group_terms 9 row refl old.now new.now (groups_from 1 xs) (holds.rows (OfRollouts Groups)) made in
+    let made = inserts old.now.schema spot.at table group_terms 9 (holds.stands Groups).got old new refl text (cut_params (suc k) group bounds) count w in
+    let more = adds_row old.now.schema table (1 ∷ 2 ∷ []) (cut_params (suc k) group bounds) group_terms 9 row refl old.now new.now (groups_from 1 xs) (holds.rows Groups) made in
     let cast : cast_all table.columns row ≡ row = rw (cast_int (suc k), cast_int group, cast_int bounds.first, cast_int bounds.last, cast_int 0) refl in
     let held = part_held group_row (λ (z : RolloutRecord). z.groups) x (and_group x g) g refl k group xs (new.now.trees spot.tree) change.is_there change.group_is (subst (λ r. IsHeldBy (new.now.trees spot.tree) (r ∷ groups_from 1 xs)) cast more) in
     subst (HoldsLedger new.now) (sym change.next_is) (groups_change k (x.groups ++ g ∷ []) old.now new.now l holds x change.is_there (record { schema = made.schema_is; sound = w.sound; others = made.applies.tables }) held)
@@ -93,12 +92,12 @@ unfolding first_key
 group_keyed given r h = h
 
 pub sets_group : (number group : ℕ) (started : Bool) (ok bad gone : ℕ) (old new : State) (text : List ℕ) (count : ℕ) (l next : Ledger) (holds : HoldsLedger old.now l) → SetsGroup number group started ok bad gone l next
-    → (w : Writes old new None (Update (holds.spot (OfRollouts Groups)).at (record { lets = []; body = set_group_query (holds.spot (OfRollouts Groups)).tree })) text (counted_params number group started ok bad gone) count) → HoldsLedger new.now next
+    → (w : Writes old new None (Update (holds.spot Groups).at (record { lets = []; body = set_group_query (holds.spot Groups).tree })) text (counted_params number group started ok bad gone) count) → HoldsLedger new.now next
 sets_group zero group started ok bad gone old new text count l next holds change w = absurd (let none = change.is_there in cc)
 sets_group (suc k) zero started ok bad gone old new text count l next holds change w = absurd (let none = change.is_its in cc)
 sets_group (suc k) (suc j) started ok bad gone old new text count l next holds change w =
-    let spot = holds.spot (OfRollouts Groups) in
-    let stands = holds.stands (OfRollouts Groups) in
+    let spot = holds.spot Groups in
+    let stands = holds.stands Groups in
     let table = group_table spot.tree in
     let xs = l.records.rollouts in
     let x = change.rollout in
@@ -108,7 +107,7 @@ sets_group (suc k) (suc j) started ok bad gone old new text count l next holds c
     let values = λ (row : Row). cast_all table.columns (on_content (shown_of group_values params) row) in
     let made = updates old.now.schema spot.at table (record { lets = []; body = set_group_query spot.tree }) stands.got stands.keyless old new refl text params count w in
     let changed_rows = changes_key old.now.schema table (1 ∷ 2 ∷ []) of_group params (λ i r. refl) (0 ∷ 1 ∷ []) (group_keyed params) group_values (λ i r. refl) old.now new.now (groups_from 1 xs)
-    (keys_apart old.now.schema old.now.trees spot.at table 0 (1 ∷ 2 ∷ []) holds.sound stands.got refl refl) (holds.rows (OfRollouts Groups)) made in
+    (keys_apart old.now.schema old.now.trees spot.at table 0 (1 ∷ 2 ∷ []) holds.sound stands.got refl refl) (holds.rows Groups) made in
     let is = part_set told_group (λ (z : RolloutRecord). z.groups) (on_content (passes of_group params)) values x (with_groups x (set x.groups j after)) (suc k) (suc j) g after named
     (λ n m. rw (cast_int n, cast_int m, cast_int g.bounds.first, cast_int g.bounds.last, cast_int (flag started), cast_int ok, cast_int bad, cast_int gone) refl) 1 k j xs (omega arith) (omega arith) change.is_there change.is_its refl in
     subst (HoldsLedger new.now) (sym change.next_is) (groups_change k (set x.groups j after) old.now new.now l holds x change.is_there (record { schema = made.schema_is; sound = w.sound; others = made.applies.tables })
@@ -123,20 +122,19 @@ abbrev pub entry_params : ℕ → ℕ → ℕ → ℕ → Bytes → Row
 entry_params number sequence kind word details = Int (pos number) ∷ Int (pos sequence) ∷ Int (pos kind) ∷ Int (pos word) ∷ Text details ∷ []
 
 pub adds_entry : (number sequence kind word : ℕ) (details : Bytes) (old new : State) (text : List ℕ) (count : ℕ) (l next : Ledger) (holds : HoldsLedger old.now l) → AddsEntry number sequence kind word details l next
-    → (w : Writes old new None (Insert (holds.spot (OfRollouts Feedbacks)).at (Values feedback_terms 6)) text (entry_params number sequence kind word details) count) → HoldsLedger new.now next
+    → (w : Writes old new None (Insert (holds.spot Feedbacks).at (Values feedback_terms 6)) text (entry_params number sequence kind word details) count) → HoldsLedger new.now next
 adds_entry zero sequence kind word details old new text count l next holds change w = absurd (let none = change.is_there in cc)
 adds_entry (suc k) sequence kind word details old new text count l next holds change w =
-    let spot = holds.spot (OfRollouts Feedbacks) in
+    let spot = holds.spot Feedbacks in
     let table = feedback_table spot.tree in
     let as' = l.records.actions in
     let a = change.action in
     let after = and_entry a change.entry in
     let given = entry_params (suc k) sequence kind word details in
-    let made = inserts old.now.schema spot.at table feedback_terms 6 (holds.stands (OfRollouts Feedbacks)).got old new refl text given count w in
-    let more = adds_row old.now.schema table (1 ∷ 2 ∷ []) given feedback_terms 6 given refl old.now new.now (histories_from 1 as') (holds.rows (OfRollouts Feedbacks)) made in
+    let made = inserts old.now.schema spot.at table feedback_terms 6 (holds.stands Feedbacks).got old new refl text given count w in
+    let more = adds_row old.now.schema table (1 ∷ 2 ∷ []) given feedback_terms 6 given refl old.now new.now (histories_from 1 as') (holds.rows Feedbacks) made in
     let cast : cast_all table.columns given ≡ given = rw (cast_int (suc k), cast_int sequence, cast_int kind, cast_int word) refl in
     let row : cast_all table.columns given ≡ entry_row (suc k) sequence change.entry = cast ∙ ap (λ told. Int (pos (suc k)) ∷ Int (pos sequence) ∷ told) (sym change.told) in
     let held = part_held entry_row (λ (z : ActionRecord). z.history) a after change.entry refl k sequence as' (new.now.trees spot.tree) change.is_there change.sequence_is (subst (λ r. IsHeldBy (new.now.trees spot.tree) (r ∷ histories_from 1 as')) row more) in
     subst (HoldsLedger new.now) (sym change.next_is) (ledger_after Feedbacks l (with_actions l (set as' k after) l.tallies) old.now new.now holds (record { schema = made.schema_is; sound = w.sound; others = made.applies.tables }) held
-    (record { approval = refl; modules = refl; artifacts = refl; sets = refl; targets = refl })
-    (actions_differ l (set as' k after) l.tallies Feedbacks (λ apart. acts_stay l.records.rollouts a after (λ n t. refl) 1 k as' l.tallies change.is_there) (λ apart. absurd (apart refl))))
+    (actions_differ l (set as' k after) l.tallies Feedbacks (λ apart. acts_stay l.records.rollouts a after (λ n t. refl) 1 k as' l.tallies change.is_there) (λ apart. absurd (apart refl))) holds.sorted)

@@ -1,29 +1,55 @@
--- The places of the schema, one by one.
-use Rattle.std.proofs.Common.{◌≡◌, List, ℕ, Option, Some, refl, bytes_eq, find}
-use Rattle.std.specs.List.{AllByRecursion}
-use Rattle.desk_records.specs.Schema.{Place, Desk, Modules, Sets, SetModules, Artifacts, Pieces, Targets, TargetTags, TargetAttributes, OfRollouts, Rollouts, Members, Groups, Actions, Feedbacks, Offers, places, name_of}
+-- What is known of every place at once.
+use Rattle.std.proofs.Common.{◌≡◌, ◌≢◌, ◌⊎◌, inl, inr, ℕ, Bool, true, false, cond, List, [], ◌∷◌, map, Option, Some, find, bytes_eq, refl, sym, ap, subst, ◌∙◌}
+use Rattle.std.specs.List.{AllByRecursion, list_any}
+use Rattle.std.proofs.lemmas.Bool.{or_cases, cases_Bool, true≢false}
+use Rattle.std.proofs.lemmas.Slice.Eq.{bytes_eq-Decides}
+use Rattle.desk_records.specs.Schema.{Place, places, name_of}
+use Rattle.desk_records.proofs.EachPlace.{each_place}
 
--- what holds of all places in the list holds of each place
-abbrev pub each_place : (P : Place → Type 0) → AllByRecursion P places → (t : Place) → P t
-each_place P all Desk = all.0
-each_place P all Modules = all.1.0
-each_place P all Sets = all.1.1.0
-each_place P all SetModules = all.1.1.1.0
-each_place P all Artifacts = all.1.1.1.1.0
-each_place P all Pieces = all.1.1.1.1.1.0
-each_place P all Targets = all.1.1.1.1.1.1.0
-each_place P all TargetTags = all.1.1.1.1.1.1.1.0
-each_place P all TargetAttributes = all.1.1.1.1.1.1.1.1.0
-each_place P all (OfRollouts Rollouts) = all.1.1.1.1.1.1.1.1.1.0
-each_place P all (OfRollouts Members) = all.1.1.1.1.1.1.1.1.1.1.0
-each_place P all (OfRollouts Groups) = all.1.1.1.1.1.1.1.1.1.1.1.0
-each_place P all (OfRollouts Actions) = all.1.1.1.1.1.1.1.1.1.1.1.1.0
-each_place P all (OfRollouts Feedbacks) = all.1.1.1.1.1.1.1.1.1.1.1.1.1.0
-each_place P all (OfRollouts Offers) = all.1.1.1.1.1.1.1.1.1.1.1.1.1.1.0
+each_same : {X : Type 0} (f g : Place → X) (ts : List Place) → map f ts ≡ map g ts → AllByRecursion (λ t. f t ≡ g t) ts
+each_same f g [] same = tt
+each_same f g (t ∷ ts) same = (cc, each_same f g ts cc)
+
+-- what computes to the same at each place is the same at every place
+pub same_places : {X : Type 0} (f g : Place → X) → map f places ≡ map g places → (t : Place) → f t ≡ g t
+same_places f g same = each_place (λ t. f t ≡ g t) (each_same f g places same)
+
+-- ---- a place is known by its name
 
 pub place_named : List ℕ → Option Place
 place_named name = find (λ t. bytes_eq name (name_of t)) places
 
 pub is_named : (t : Place) → place_named (name_of t) ≡ Some t
 unfolding place_named
-is_named = each_place (λ t. place_named (name_of t) ≡ Some t) (refl, (refl, (refl, (refl, (refl, (refl, (refl, (refl, (refl, (refl, (refl, (refl, (refl, (refl, (refl, tt)))))))))))))))
+is_named = same_places (λ t. place_named (name_of t)) Some refl
+
+one_named : (t k : Place) → bytes_eq (name_of t) (name_of k) ≡ true → t ≡ k
+one_named t k same =
+    let named : Some t ≡ Some k = sym (is_named t) ∙ ap place_named ((bytes_eq-Decides (name_of t) (name_of k)).0 same) ∙ is_named k in
+    cc
+
+pub place_or_other : (t k : Place) → (t ≡ k) ⊎ (t ≢ k)
+place_or_other t k = elim (cases_Bool (bytes_eq (name_of t) (name_of k))) [
+  | inl same ↦ inl (one_named t k same)
+  | inr other ↦ inr (λ is. true≢false (sym ((bytes_eq-Decides (name_of t) (name_of k)).1 (ap name_of is)) ∙ other))
+]
+
+-- ---- what is the same at all places but some
+
+abbrev pub is_among : List Place → Place → Bool
+is_among ks t = list_any (λ k. bytes_eq (name_of t) (name_of k)) ks
+
+among : (Q : Place → Type 0) (ks : List Place) (t : Place) → AllByRecursion Q ks → is_among ks t ≡ true → Q t
+among Q [] t all here = absurd (true≢false (sym here))
+among Q (k ∷ ks) t all there = elim (or_cases (bytes_eq (name_of t) (name_of k)) (is_among ks t) there) [
+  | inl here ↦ subst Q (sym (one_named t k here)) all.0
+  | inr later ↦ among Q ks t all.1 later
+]
+
+-- What computes to the same at each place but some, and is proved to be the same at those, is the same at every place.
+pub same_elsewhere : {X : Type 0} (f g : Place → X) (P : Place → Type 0) (some : List Place) → map f places ≡ map (λ t. cond (is_among some t) (f t) (g t)) places → AllByRecursion (λ t. P t → f t ≡ g t) some → (t : Place) → P t → f t ≡ g t
+same_elsewhere f g P some same proved t holds = same_places f (λ t. cond (is_among some t) (f t) (g t)) same t ∙ go (is_among some t) refl
+  where
+    go : (b : Bool) → is_among some t ≡ b → cond b (f t) (g t) ≡ g t
+    go true there = among (λ t. P t → f t ≡ g t) some t proved there holds
+    go false elsewhere = refl

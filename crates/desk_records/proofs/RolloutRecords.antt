@@ -24,7 +24,7 @@ use Rattle.rollout_machine.specs.StateWords.{group_numbered, group_holding}
 use Rattle.rollout_machine.specs.declared.records.GroupRecord.{GroupRecord}
 use Rattle.rollout_machine.specs.declared.records.RolloutRecord.{RolloutRecord}
 use Rattle.desk_records.specs.Modules.{IsLastRow}
-use Rattle.desk_records.specs.Schema.{OfRollouts, Rollouts, Groups, Members}
+use Rattle.desk_records.specs.Schema.{Rollouts, Groups, Members}
 use Rattle.desk_records.specs.Parts.{parts_of}
 use Rattle.desk_records.specs.Rollouts.{flag, is_called, rollout_row, told_rollout, group_row, told_group, numbered_from, groups_of, last_started_group, members_of}
 use Rattle.desk_records.specs.Holds.{HoldsLedger, Ledger}
@@ -40,27 +40,27 @@ same n = grind (arith, nat_tests)
 
 module _ (db : Database) (l : Ledger) (holds : HoldsLedger db l) (names : List (List ℕ)) where
   abbrev tree : ℕ
-  tree = (holds.spot (OfRollouts Rollouts)).tree
+  tree = (holds.spot Rollouts).tree
 
   abbrev xs : List RolloutRecord
   xs = l.records.rollouts
 
   -- whether a name is taken
   pub finds_rollout : (name : Bytes) (row : Option Row) → ShowsFirst (Select (record { lets = []; body = simple tree same_name (col 1 0 ∷ []) }) names) db (Text name ∷ []) row → is_some row ≡ list_any (is_called name) xs
-  finds_rollout name = finds rollout_row tree db xs (holds.rows (OfRollouts Rollouts)) names same_name (col 1 0 ∷ []) (Text name ∷ []) (is_called name) (λ n x. and_true _ ∙ words_equal x.plan.name name)
+  finds_rollout name = finds rollout_row tree db xs (holds.rows Rollouts) names same_name (col 1 0 ∷ []) (Text name ∷ []) (is_called name) (λ n x. and_true _ ∙ words_equal x.plan.name name)
 
   -- the last number
   pub lasts_rollout : (row : Option Row) → ShowsFirst (Select (record { lets = []; body = last_rollout_query tree }) names) db [] row → IsLastRow (length xs) row
-  lasts_rollout = lasts rollout_row tree db xs (holds.rows (OfRollouts Rollouts)) names (λ n x. refl)
+  lasts_rollout = lasts rollout_row tree db xs (holds.rows Rollouts) names (λ n x. refl)
 
   -- a rollout by its number
   pub gets_rollout : (number : ℕ) → 1 ≤ number → (row : Option Row) → ShowsFirst (Select (record { lets = []; body = simple tree (at_key 0 0 ∷ []) rollout_columns }) names) db (Int (pos number) ∷ []) row
       → row ≡ option_map told_rollout (item_numbered xs number)
-  gets_rollout = gets rollout_row tree db xs (holds.rows (OfRollouts Rollouts)) names (λ n x. refl) (at_key 0 0 ∷ []) rollout_columns (passes_number rollout_row (λ n x. refl))
+  gets_rollout = gets rollout_row tree db xs (holds.rows Rollouts) names (λ n x. refl) (at_key 0 0 ∷ []) rollout_columns (passes_number rollout_row (λ n x. refl))
 
   -- those of a page
   pub lists_rollouts : (limit offset : ℕ) (rows : List Row) → Shows (Select (record { lets = []; body = list_rollouts_query tree }) names) db (Int (pos limit) ∷ Int (pos offset) ∷ []) rows → rows ≡ map told_rollout (take limit (drop offset xs))
-  lists_rollouts limit offset rows shows = pages rollout_row (λ n x. refl) told_rollout rollout_columns limit offset (λ n x. refl) tree db.trees xs (holds.rows (OfRollouts Rollouts)) rows (shows.answer Null)
+  lists_rollouts limit offset rows shows = pages rollout_row (λ n x. refl) told_rollout rollout_columns limit offset (λ n x. refl) tree db.trees xs (holds.rows Rollouts) rows (shows.answer Null)
 
 -- ---- groups
 
@@ -148,7 +148,7 @@ last_is gs = go (last_of (numbered_from 1 gs)) (is_last 1 gs)
 
 module _ (db : Database) (l : Ledger) (holds : HoldsLedger db l) (names : List (List ℕ)) where
   abbrev at : ℕ
-  at = (holds.spot (OfRollouts Groups)).tree
+  at = (holds.spot Groups).tree
 
   abbrev found : ℕ → List GroupRecord
   found number = groups_of (item_numbered l.records.rollouts number)
@@ -158,7 +158,7 @@ module _ (db : Database) (l : Ledger) (holds : HoldsLedger db l) (names : List (
   lists_groups number least rows shows =
       let params = Int (pos number) ∷ [] in
       reads_parts told_group (λ (x : RolloutRecord). x.groups) at of_rollout group_columns (lit (Int (negsuc 0))) (lit (Int (pos 0))) params false number least (λ id x. refl) (λ id x. refl) (λ n place g apart. and_true _ ∙ numbers_equal n number ∙ apart)
-      db.trees l.records.rollouts (holds.rows (OfRollouts Groups)) rows (shows.answer Null)
+      db.trees l.records.rollouts (holds.rows Groups) rows (shows.answer Null)
       ∙ shown_groups number of_rollout params (λ g. true) (λ place g. and_true _ ∙ numbers_equal number number ∙ same number) 1 (parts_of (λ (x : RolloutRecord). x.groups) (item_numbered l.records.rollouts number))
       ∙ ap (map shown_group) (all_kept _)
 
@@ -169,7 +169,7 @@ module _ (db : Database) (l : Ledger) (holds : HoldsLedger db l) (names : List (
       let params = Int (pos number) ∷ Int (pos place) ∷ [] in
       first_row (Select (record { lets = []; body = get_group_query at }) names) db params _ (λ rows shows. ap (λ (l : List Row). slice_get l 0)
       (reads_parts told_group (λ (x : RolloutRecord). x.groups) at of_group group_columns (lit (Int (negsuc 0))) (lit (Int (pos 0))) params false number least (λ id x. refl) (λ id x. refl) (λ n k g apart. is_group n k g ∙ ap (λ b. b && nat_eq k place) apart)
-      db.trees l.records.rollouts (holds.rows (OfRollouts Groups)) rows (shows.answer Null)
+      db.trees l.records.rollouts (holds.rows Groups) rows (shows.answer Null)
       ∙ shown_groups number of_group params (λ g. nat_eq g.number place) (λ k g. is_group number k g ∙ ap (λ b. b && nat_eq k place) (same number)) 1 (parts_of (λ (x : RolloutRecord). x.groups) (item_numbered l.records.rollouts number)))
       ∙ first_kept (λ g. nat_eq g.number place) (found number)) row shown
     where
@@ -183,7 +183,7 @@ module _ (db : Database) (l : Ledger) (holds : HoldsLedger db l) (names : List (
       let params = Int (pos number) ∷ Int (pos place) ∷ [] in
       first_row (Select (record { lets = []; body = holding_group_query at }) names) db params _ (λ rows shows. ap (λ (l : List Row). slice_get l 0)
       (reads_parts told_group (λ (x : RolloutRecord). x.groups) at holding group_columns (lit (Int (negsuc 0))) (lit (Int (pos 0))) params false number least (λ id x. refl) (λ id x. refl) (λ n k g apart. is_holding n k g ∙ ap (λ b. b && holds_position place g.bounds) apart)
-      db.trees l.records.rollouts (holds.rows (OfRollouts Groups)) rows (shows.answer Null)
+      db.trees l.records.rollouts (holds.rows Groups) rows (shows.answer Null)
       ∙ shown_groups number holding params (λ g. holds_position place g.bounds) (λ k g. is_holding number k g ∙ ap (λ b. b && holds_position place g.bounds) (same number)) 1 (parts_of (λ (x : RolloutRecord). x.groups) (item_numbered l.records.rollouts number)))
       ∙ first_kept (λ g. holds_position place g.bounds) (found number)) row shown
     where
@@ -198,7 +198,7 @@ module _ (db : Database) (l : Ledger) (holds : HoldsLedger db l) (names : List (
       let kept = filter (λ (g : GroupRecord). g.started) (found number) in
       first_row (Select (record { lets = []; body = last_started_query at }) names) db params _ (λ rows shows. ap (λ (l : List Row). slice_get l 0)
       (reads_parts told_group (λ (x : RolloutRecord). x.groups) at started_in group_columns (lit (Int (pos 1))) (lit (Int (pos 0))) params true number least (λ id x. refl) (λ id x. refl) (λ n k g apart. is_started n k g ∙ ap (λ b. b && g.started) apart)
-      db.trees l.records.rollouts (holds.rows (OfRollouts Groups)) rows (shows.answer Null))
+      db.trees l.records.rollouts (holds.rows Groups) rows (shows.answer Null))
       ∙ first_taken _
       ∙ ap (λ (l : List Row). slice_get (reverse l) 0) (shown_groups number started_in params (λ g. g.started) (λ k g. is_started number k g ∙ ap (λ b. b && g.started) (same number)) 1 its)
       ∙ ap (λ (l : List Row). slice_get l 0) (sym (map_reverse shown_group kept)) ∙ slice_get-map shown_group (reverse kept) 0 ∙ ap (option_map shown_group) (last_is its)) row shown
@@ -215,13 +215,13 @@ module _ (db : Database) (l : Ledger) (holds : HoldsLedger db l) (names : List (
 module _ (db : Database) (l : Ledger) (holds : HoldsLedger db l) (names : List (List ℕ)) where
   -- a page of them in the order of their places
   pub lists_members : (number limit offset : ℕ) → 1 ≤ number → (rows : List Row)
-      → Shows (Select (record { lets = []; body = list_members_query (holds.spot (OfRollouts Members)).tree }) names) db (Int (pos number) ∷ Int (pos limit) ∷ Int (pos offset) ∷ []) rows
+      → Shows (Select (record { lets = []; body = list_members_query (holds.spot Members).tree }) names) db (Int (pos number) ∷ Int (pos limit) ∷ Int (pos offset) ∷ []) rows
       → rows ≡ map (λ (id : Bytes). Text id ∷ []) (take limit (drop offset (members_of (item_numbered l.records.rollouts number))))
   lists_members number limit offset least rows shows =
       let params = Int (pos number) ∷ Int (pos limit) ∷ Int (pos offset) ∷ [] in
       let told = λ (id : Bytes). Text id ∷ [] in
       let all = members_of (item_numbered l.records.rollouts number) in
-      reads_parts told (λ (x : RolloutRecord). x.members) (holds.spot (OfRollouts Members)).tree of_rollout member_columns (col 0 1) (col 0 2) params false number least (λ id x. refl) (λ id x. refl) (λ n place id apart. and_true _ ∙ numbers_equal n number ∙ apart)
-      db.trees l.records.rollouts (holds.rows (OfRollouts Members)) rows (shows.answer Null)
+      reads_parts told (λ (x : RolloutRecord). x.members) (holds.spot Members).tree of_rollout member_columns (col 0 1) (col 0 2) params false number least (λ id x. refl) (λ id x. refl) (λ n place id apart. and_true _ ∙ numbers_equal n number ∙ apart)
+      db.trees l.records.rollouts (holds.rows Members) rows (shows.answer Null)
       ∙ ap (λ more. take limit (drop offset more)) (all_shown told told number of_rollout member_columns params (λ place id. and_true _ ∙ numbers_equal number number ∙ same number) (λ place id. refl) 1 all)
       ∙ ap (take limit) (drop-map told offset all) ∙ take-map told limit (drop offset all)

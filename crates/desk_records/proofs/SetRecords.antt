@@ -1,5 +1,5 @@
 -- The statements on distribution sets, in records.
-use Rattle.std.proofs.Common.{◌≡◌, ◌≢◌, ◌≤◌, ◌++◌, ℕ, ◌+◌, pos, List, [], ◌∷◌, length, Option, None, option_map, refl, sym, ap, subst, ◌∙◌}
+use Rattle.std.proofs.Common.{◌≡◌, ◌≤◌, ◌++◌, ℕ, ◌+◌, pos, List, [], ◌∷◌, length, Option, None, option_map, refl, sym, ap, subst, ◌∙◌}
 use Rattle.std.specs.List.{list_any}
 use Rattle.std.specs.Option.{is_some}
 use Rattle.sqlite_value.specs.declared.value.Value.TheVariants.{Int}
@@ -19,10 +19,10 @@ use Rattle.rollout_machine.specs.Objects.{modules_of_set}
 use Rattle.rollout_machine.specs.Records.{Records}
 use Rattle.rollout_machine.specs.Verdicts.{is_named_by_set}
 use Rattle.desk_records.specs.Modules.{IsLastRow}
-use Rattle.desk_records.specs.Schema.{Place, Desk, Modules, Sets, SetModules, Artifacts, Pieces, Targets, TargetTags, TargetAttributes, OfRollouts, set_table, set_module_table}
+use Rattle.desk_records.specs.Schema.{Sets, SetModules, set_table, set_module_table}
 use Rattle.desk_records.specs.Sets.{set_row, place_row, places_from, is_same_set, names_of, module_rows, with_set, and_module, AddsSetModule}
-use Rattle.desk_records.specs.Holds.{HoldsRecords, IsHeld, ledger_of}
-use Rattle.desk_records.proofs.HoldsAfter.{holds_after, rollouts_kept}
+use Rattle.desk_records.specs.Holds.{HoldsRecords, ledger_of, Ordered, Unordered}
+use Rattle.desk_records.proofs.HoldsAfter.{ChangesOnly, holds_after, records_differ}
 use Rattle.desk_records.proofs.MeaningWords.{at_key}
 use Rattle.desk_records.proofs.SetMeaning.{same_names, last_set_query, name_columns, set_terms, set_modules_query, locked_query, set_module_terms}
 use Rattle.desk_records.proofs.Sets as lists
@@ -57,19 +57,10 @@ adds_set name version number old new text count now holds next w =
     let spot = holds.spot Sets in
     let made = inserts old.now.schema spot.at (set_table spot.tree) set_terms 4 (holds.stands Sets).got old new refl text (Int (pos number) ∷ names_of name version) count w in
     let table = lists.set_added name version number spot.tree old.now.schema old.now new.now now.sets (holds.rows Sets) next made in
-    holds_after Sets now (with_set now name version) old.now new.now holds made.schema_is w.sound table made.applies.tables only holds.sorted
+    holds_after Sets now (with_set now name version) old.now new.now holds (record { schema = made.schema_is; sound = w.sound; others = made.applies.tables }) table only holds.sorted
   where
-    only : (t : Place) → t ≢ Sets → (rows : List Row) → IsHeld (ledger_of now) t rows → IsHeld (ledger_of (with_set now name version)) t rows
-    only Desk apart rows held = held
-    only Modules apart rows held = held
-    only Sets apart rows held = absurd (apart refl)
-    only SetModules apart rows held = subst (IsHeldBy rows) (sym (lists.no_places name version 1 now.sets)) held
-    only Artifacts apart rows held = held
-    only Pieces apart rows held = held
-    only Targets apart rows held = held
-    only TargetTags apart rows held = held
-    only TargetAttributes apart rows held = held
-    only (OfRollouts t) apart rows held = rollouts_kept now (with_set now name version) refl refl t rows held
+    only : ChangesOnly Sets (ledger_of now) (ledger_of (with_set now name version))
+    only = records_differ Sets now (with_set now name version) refl refl (Sets ∷ SetModules ∷ []) refl ((λ apart. absurd (apart refl)), ((λ apart. ap Unordered (lists.no_places name version 1 now.sets)), tt))
 
 pub adds_set_module : (number place m : ℕ) (old new : State) (text : List ℕ) (count : ℕ) (now next : Records) (holds : HoldsRecords old.now now) → AddsSetModule number place m now next
     → (w : Writes old new None (Insert (holds.spot SetModules).at (Values set_module_terms 4)) text (place_row number place m) count) → HoldsRecords new.now next
@@ -80,16 +71,7 @@ adds_set_module number place m old new text count now next holds change w =
     let were : IsHeldBy (old.now.trees spot.tree) (places_from 1 (change.before ++ change.set ∷ [])) = subst (λ sets. IsHeldBy (old.now.trees spot.tree) (places_from 1 sets)) change.last (holds.rows SetModules) in
     let table = lists.set_module_added number place m spot.tree old.now.schema old.now new.now change.before change.set were change.number_is change.place_is made in
     subst (HoldsRecords new.now) (sym change.next_is)
-    (holds_after SetModules now after old.now new.now holds made.schema_is w.sound table made.applies.tables only holds.sorted)
+    (holds_after SetModules now after old.now new.now holds (record { schema = made.schema_is; sound = w.sound; others = made.applies.tables }) table only holds.sorted)
   where
-    only : (t : Place) → t ≢ SetModules → (rows : List Row) → IsHeld (ledger_of now) t rows → IsHeld (ledger_of (record now { sets = change.before ++ and_module change.set m ∷ [] })) t rows
-    only Desk apart rows held = held
-    only Modules apart rows held = held
-    only Sets apart rows held = held ∙ ap (rows_from set_row 1) change.last ∙ sym (lists.same_sets 1 change.before change.set m)
-    only SetModules apart rows held = absurd (apart refl)
-    only Artifacts apart rows held = held
-    only Pieces apart rows held = held
-    only Targets apart rows held = held
-    only TargetTags apart rows held = held
-    only TargetAttributes apart rows held = held
-    only (OfRollouts t) apart rows held = rollouts_kept now (record now { sets = change.before ++ and_module change.set m ∷ [] }) refl refl t rows held
+    only : ChangesOnly SetModules (ledger_of now) (ledger_of (record now { sets = change.before ++ and_module change.set m ∷ [] }))
+    only = records_differ SetModules now (record now { sets = change.before ++ and_module change.set m ∷ [] }) refl refl (Sets ∷ SetModules ∷ []) refl ((λ apart. ap Ordered (lists.same_sets 1 change.before change.set m ∙ ap (rows_from set_row 1) (sym change.last))), ((λ apart. absurd (apart refl)), tt))

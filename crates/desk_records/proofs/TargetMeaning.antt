@@ -1,4 +1,4 @@
--- Written by tools/meanings.
+-- Written by tools/meanings. What it makes is proved; the tool is not trusted.
 -- What the texts of src/target_texts.rt mean, wherever their tables stand.
 use Rattle.std.proofs.Common.{refl, List, [], ◌∷◌, ℕ, codes, pos, negsuc, false}
 use Rattle.sqlite.specs.declared.types.Value.TheVariants.{Null, Int}
@@ -9,32 +9,20 @@ use Rattle.sqlite.specs.Source.TheVariants.{Values}
 use Rattle.sqlite.specs.Query.{Query}
 use Rattle.sqlite.specs.Term.{Term, lit, col}
 use Rattle.sqlite_tied.specs.Compute.{everything}
-use Rattle.sqlite_resolve.specs.Compile.{first, new_rows, is_reserved}
+use Rattle.sqlite_resolve.specs.Compile.{first, new_rows}
 use Rattle.sqlite_resolve.specs.Expr.{combine}
 use Rattle.sqlite_resolve.specs.Select.{named, paging}
 use Rattle.sqlite_resolve.specs.Write.{updated, deleted}
 use Rattle.sql_front.specs.Stands.{Stands}
 use Rattle.sql_front.proofs.Texts.{Queries, queries_known}
-use Rattle.sql_front.proofs.Write.{Adds, Makes, adds_known}
+use Rattle.sql_front.proofs.Write.{Adds, adds_known}
 use Rattle.sql_front.proofs.Change.{Updates, Removes, updates_known, removes_known}
 use Rattle.sql_calls.specs.Means.{Means}
 use Rattle.sql_calls.proofs.Selects.{simple, by}
 use Rattle.sql_calls.proofs.Counts.{count_query}
-use Rattle.desk_records.specs.declared.target_texts.TheConstants.{CREATE_TARGET, CREATE_TARGET_TAG, CREATE_TARGET_ATTRIBUTE, GET_TARGET, COUNT_TARGETS, LIST_TARGETS, LIST_TARGET_TAGS, PUT_TARGET, SET_TARGET, PUT_TARGET_TAG, DROP_TARGET_TAG, LIST_TARGET_ATTRIBUTES, PUT_TARGET_ATTRIBUTE, SET_TARGET_ATTRIBUTE}
+use Rattle.desk_records.specs.declared.target_texts.TheConstants.{GET_TARGET, COUNT_TARGETS, LIST_TARGETS, LIST_TARGET_TAGS, PUT_TARGET, SET_TARGET, PUT_TARGET_TAG, DROP_TARGET_TAG, LIST_TARGET_ATTRIBUTES, PUT_TARGET_ATTRIBUTE, SET_TARGET_ATTRIBUTE}
 use Rattle.desk_records.specs.Schema.{target_table, target_tag_table, target_attribute_table}
 use Rattle.desk_records.proofs.MeaningWords.{means_of, at_key}
-
-pub create_target_makes : Makes CREATE_TARGET.now (codes "target") (target_table 0)
-unfolding first is_reserved everything
-create_target_makes = record { parsed = _; made = _; read = refl; statement = refl; named = refl; unreserved = refl; defined = refl; whole = refl }
-
-pub create_target_tag_makes : Makes CREATE_TARGET_TAG.now (codes "target_tag") (target_tag_table 0)
-unfolding first is_reserved everything
-create_target_tag_makes = record { parsed = _; made = _; read = refl; statement = refl; named = refl; unreserved = refl; defined = refl; whole = refl }
-
-pub create_target_attribute_makes : Makes CREATE_TARGET_ATTRIBUTE.now (codes "target_attribute") (target_attribute_table 0)
-unfolding first is_reserved everything
-create_target_attribute_makes = record { parsed = _; made = _; read = refl; statement = refl; named = refl; unreserved = refl; defined = refl; whole = refl }
 
 abbrev pub of_target : List Term
 of_target = at_key 1 0 ∷ []

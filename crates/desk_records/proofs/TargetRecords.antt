@@ -1,5 +1,5 @@
 -- The statements on targets and their tags, in records.
-use Rattle.std.proofs.Common.{◌≡◌, ◌≢◌, ◌∷◌, ◌&&◌, ℕ, min, pos, negsuc, List, [], Bool, true, false, cond, not, map, filter, take, drop, flat_map, length, slice_get, Option, Some, None, option_map, refl, sym, ap, ap₂, subst, ◌∙◌, codes, IsPermutation}
+use Rattle.std.proofs.Common.{◌≡◌, ◌∷◌, ◌&&◌, ℕ, min, pos, negsuc, List, [], Bool, true, false, cond, not, map, filter, take, drop, flat_map, length, slice_get, Option, Some, None, option_map, refl, sym, ap, ap₂, subst, ◌∙◌, codes, IsPermutation}
 use Rattle.std.specs.List.{list_all}
 use Rattle.std.proofs.lemmas.Bool.{and_parts}
 use Rattle.std.proofs.lemmas.List.{length-map, take-map, drop-map}
@@ -33,10 +33,10 @@ use Rattle.rollout_machine.specs.RecordSteps.{change_target}
 use Rattle.rollout_machine.specs.Records.{Records}
 use Rattle.rollout_machine.specs.Targets.{Target}
 use Rattle.rollout_machine.specs.Verdicts.{tags_of, target_of}
-use Rattle.desk_records.specs.Schema.{Place, Desk, Modules, Sets, SetModules, Artifacts, Pieces, Targets, TargetTags, TargetAttributes, OfRollouts, target_table, target_tag_table}
+use Rattle.desk_records.specs.Schema.{Targets, TargetTags, TargetAttributes, target_table, target_tag_table}
 use Rattle.desk_records.specs.Targets.{target_row, tag_rows, attribute_rows, in_byte_order, ids_of, keys_of, is_sorted, renamed, tagged, untagged, with_target, with_changed, AddsTarget, AddsTag}
-use Rattle.desk_records.specs.Holds.{HoldsRecords, IsHeld, ledger_of}
-use Rattle.desk_records.proofs.HoldsAfter.{holds_after, rollouts_kept}
+use Rattle.desk_records.specs.Holds.{HoldsRecords, IsHeld, ledger_of, Unordered}
+use Rattle.desk_records.proofs.HoldsAfter.{ChangesOnly, holds_after, records_differ}
 use Rattle.desk_records.proofs.TargetMeaning.{of_target, target_columns, target_terms, new_values, set_target_query, targets_query, tags_query, tag_terms, of_tag, drop_tag_query}
 use Rattle.desk_records.proofs.Comparisons.{words_equal, and_true}
 use Rattle.desk_records.proofs.ByteOrder.{sorted_from, in_order_with, in_order_without}
@@ -168,23 +168,14 @@ adds_target id name digest old new text count now next holds change w =
     let more = adds_row old.now.schema (target_table spot.tree) (1 ∷ []) params target_terms 4 params refl old.now new.now (map target_row now.targets) (holds.rows Targets) made in
     let table : IsHeld (ledger_of (with_target now id name digest)) Targets (new.now.trees spot.tree) = held_as _ _ _ more (IsPermutation-map target_row _ _ (put_is_more row now.targets change.is_new)) in
     subst (HoldsRecords new.now) (sym change.next_is)
-    (holds_after Targets now (with_target now id name digest) old.now new.now holds made.schema_is w.sound table made.applies.tables only (put_sorted row refl now.targets change.is_new holds.sorted)
+    (holds_after Targets now (with_target now id name digest) old.now new.now holds (record { schema = made.schema_is; sound = w.sound; others = made.applies.tables }) table only (put_sorted row refl now.targets change.is_new holds.sorted)
     )
   where
     row : TargetRow
     row = record { id = id; name = name; digest = digest; tags = [] }
 
-    only : (t : Place) → t ≢ Targets → (rows : List Row) → IsHeld (ledger_of now) t rows → IsHeld (ledger_of (with_target now id name digest)) t rows
-    only Desk apart rows held = held
-    only Modules apart rows held = held
-    only Sets apart rows held = held
-    only SetModules apart rows held = held
-    only Artifacts apart rows held = held
-    only Pieces apart rows held = held
-    only Targets apart rows held = absurd (apart refl)
-    only TargetTags apart rows held = subst (IsHeldBy rows) (sym (put_rows row tag_rows refl now.targets change.is_new)) held
-    only TargetAttributes apart rows held = subst (IsHeldBy rows) (sym (put_rows row attribute_rows refl now.targets change.is_new)) held
-    only (OfRollouts t) apart rows held = rollouts_kept now (with_target now id name digest) refl refl t rows held
+    only : ChangesOnly Targets (ledger_of now) (ledger_of (with_target now id name digest))
+    only = records_differ Targets now (with_target now id name digest) refl refl (Targets ∷ TargetTags ∷ TargetAttributes ∷ []) refl ((λ apart. absurd (apart refl)), ((λ apart. ap Unordered (put_rows row tag_rows refl now.targets change.is_new)), ((λ apart. ap Unordered (put_rows row attribute_rows refl now.targets change.is_new)), tt)))
 
 -- ---- another name and digest
 
@@ -206,35 +197,18 @@ sets_target id name digest old new text count now holds w =
     let set = changes_key old.now.schema table (1 ∷ []) of_target params (λ i x. refl) (0 ∷ []) (first_fixed params) new_values (λ i x. refl) old.now new.now (map target_row now.targets)
     (keys_apart old.now.schema old.now.trees spot.at table 0 (1 ∷ []) holds.sound (holds.stands Targets).got refl refl) (holds.rows Targets) made in
     let is = changed_targets (on_content (passes of_target params)) (λ x. cast_all table.columns (on_content (shown_of new_values params) x)) id (renamed name digest) (λ t. names_it id t.id (Text t.name ∷ Blob t.digest ∷ []) (Text name ∷ Blob digest ∷ [])) (λ t. refl) now.targets in
-    holds_after Targets now (with_changed now id (renamed name digest)) old.now new.now holds made.schema_is w.sound (subst (IsHeldBy (new.now.trees spot.tree)) is set) made.applies.tables only
+    holds_after Targets now (with_changed now id (renamed name digest)) old.now new.now holds (record { schema = made.schema_is; sound = w.sound; others = made.applies.tables }) (subst (IsHeldBy (new.now.trees spot.tree)) is set) only
     (changed_sorted id (renamed name digest) (λ t. refl) (λ t sorted. sorted) now.targets holds.sorted)
   where
-    only : (t : Place) → t ≢ Targets → (rows : List Row) → IsHeld (ledger_of now) t rows → IsHeld (ledger_of (with_changed now id (renamed name digest))) t rows
-    only Desk apart rows held = held
-    only Modules apart rows held = held
-    only Sets apart rows held = held
-    only SetModules apart rows held = held
-    only Artifacts apart rows held = held
-    only Pieces apart rows held = held
-    only Targets apart rows held = absurd (apart refl)
-    only TargetTags apart rows held = subst (IsHeldBy rows) (sym (changed_rows id (renamed name digest) tag_rows (λ t. refl) now.targets)) held
-    only TargetAttributes apart rows held = subst (IsHeldBy rows) (sym (changed_rows id (renamed name digest) attribute_rows (λ t. refl) now.targets)) held
-    only (OfRollouts t) apart rows held = rollouts_kept now (with_changed now id (renamed name digest)) refl refl t rows held
+    only : ChangesOnly Targets (ledger_of now) (ledger_of (with_changed now id (renamed name digest)))
+    only = records_differ Targets now (with_changed now id (renamed name digest)) refl refl (Targets ∷ TargetTags ∷ TargetAttributes ∷ []) refl ((λ apart. absurd (apart refl)), ((λ apart. ap Unordered (changed_rows id (renamed name digest) tag_rows (λ t. refl) now.targets)), ((λ apart. ap Unordered (changed_rows id (renamed name digest) attribute_rows (λ t. refl) now.targets)), tt)))
 
 -- ---- tags
 
 -- a change of tags alone leaves the other tables
-only_tags : (now : Records) (id : Bytes) (tags : List Bytes → List Bytes) (t : Place) → t ≢ TargetTags → (rows : List Row) → IsHeld (ledger_of now) t rows → IsHeld (ledger_of (with_changed now id (λ (it : Target). record it { tags = tags it.tags }))) t rows
-only_tags now id tags Desk apart rows held = held
-only_tags now id tags Modules apart rows held = held
-only_tags now id tags Sets apart rows held = held
-only_tags now id tags SetModules apart rows held = held
-only_tags now id tags Artifacts apart rows held = held
-only_tags now id tags Pieces apart rows held = held
-only_tags now id tags Targets apart rows held = subst (IsHeldBy rows) (sym (changed_map id (λ (it : Target). record it { tags = tags it.tags }) target_row (λ t. refl) now.targets)) held
-only_tags now id tags TargetTags apart rows held = absurd (apart refl)
-only_tags now id tags TargetAttributes apart rows held = subst (IsHeldBy rows) (sym (changed_rows id (λ (it : Target). record it { tags = tags it.tags }) attribute_rows (λ t. refl) now.targets)) held
-only_tags now id tags (OfRollouts t) apart rows held = rollouts_kept now (with_changed now id (λ (it : Target). record it { tags = tags it.tags })) refl refl t rows held
+only_tags : (now : Records) (id : Bytes) (tags : List Bytes → List Bytes) → ChangesOnly TargetTags (ledger_of now) (ledger_of (with_changed now id (λ (it : Target). record it { tags = tags it.tags })))
+only_tags now id tags = records_differ TargetTags now (with_changed now id (λ (it : Target). record it { tags = tags it.tags })) refl refl (Targets ∷ TargetTags ∷ TargetAttributes ∷ []) refl
+    ((λ apart. ap Unordered (changed_map id (λ (it : Target). record it { tags = tags it.tags }) target_row (λ t. refl) now.targets)), ((λ apart. absurd (apart refl)), ((λ apart. ap Unordered (changed_rows id (λ (it : Target). record it { tags = tags it.tags }) attribute_rows (λ t. refl) now.targets)), tt)))
 
 tags_keep : (tags : List Bytes → List Bytes) → ((ws : List Bytes) → in_byte_order ws ≡ true → in_byte_order (tags ws) ≡ true) → (t : Target) → is_sorted t ≡ true → is_sorted (record t { tags = tags t.tags }) ≡ true
 tags_keep tags keeps t sorted = let parts = and_parts (in_byte_order t.tags) (in_byte_order (keys_of t.attributes)) sorted in rw (keeps t.tags parts.0) parts.1
@@ -247,7 +221,7 @@ adds_tag id w old new text count now next holds change done =
     let more = adds_row old.now.schema (target_tag_table spot.tree) (1 ∷ 2 ∷ []) (tag_row id w) tag_terms 3 (tag_row id w) refl old.now new.now (flat_map tag_rows now.targets) (holds.rows TargetTags) made in
     let table : IsHeld (ledger_of (with_changed now id (tagged w))) TargetTags (new.now.trees spot.tree) = held_as _ _ _ more (tag_is_more id w now.targets (sorted_from (ids_of now.targets) (ids_sorted old.now now holds)) change.is_there change.is_new) in
     subst (HoldsRecords new.now) (sym change.next_is)
-    (holds_after TargetTags now (with_changed now id (tagged w)) old.now new.now holds made.schema_is done.sound table made.applies.tables (only_tags now id (with_word w))
+    (holds_after TargetTags now (with_changed now id (tagged w)) old.now new.now holds (record { schema = made.schema_is; sound = done.sound; others = made.applies.tables }) table (only_tags now id (with_word w))
     (changed_sorted id (tagged w) (λ t. refl) (tags_keep (with_word w) (in_order_with w)) now.targets holds.sorted))
 
 names_tag : (id w i v : Bytes) → not (passes of_tag (tag_row id w) (Null ∷ tag_row i v)) ≡ not (same_bytes i id && same_bytes v w)
@@ -261,5 +235,5 @@ drops_tag id w old new text count now holds done =
     let made = deletes old.now.schema spot.at table (record { lets = []; body = drop_tag_query spot.tree }) (holds.stands TargetTags).got (holds.stands TargetTags).keyless old new refl text (tag_row id w) count done in
     let left = drops old.now.schema table (1 ∷ 2 ∷ []) of_tag (tag_row id w) (λ i x. refl) old.now new.now (flat_map tag_rows now.targets) (holds.rows TargetTags) made in
     let is = tag_is_less id w (λ x. not (passes of_tag (tag_row id w) (Null ∷ x))) (names_tag id w) now.targets in
-    holds_after TargetTags now (with_changed now id (untagged w)) old.now new.now holds made.schema_is done.sound (subst (IsHeldBy (new.now.trees spot.tree)) is left) made.applies.tables (only_tags now id (without_word w))
+    holds_after TargetTags now (with_changed now id (untagged w)) old.now new.now holds (record { schema = made.schema_is; sound = done.sound; others = made.applies.tables }) (subst (IsHeldBy (new.now.trees spot.tree)) is left) (only_tags now id (without_word w))
     (changed_sorted id (untagged w) (λ t. refl) (tags_keep (without_word w) (in_order_without w)) now.targets holds.sorted)

@@ -12,7 +12,7 @@ use Rattle.rollout_machine.specs.Commands.{Bytes, ModuleLabel}
 use Rattle.rollout_machine.specs.Offers.{offer}
 use Rattle.rollout_machine.specs.Records.{Records}
 use Rattle.rollout_machine.specs.declared.records.ActionRecord.{ActionRecord}
-use Rattle.desk_records.specs.Schema.{Place, Desk, Modules, Sets, SetModules, Artifacts, Pieces, Targets, TargetTags, TargetAttributes, OfRollouts, RolloutPlace, Rollouts, Members, Groups, Actions, Feedbacks, Offers, offer_table, table_at, name_of}
+use Rattle.desk_records.specs.Schema.{Place, Desk, Modules, Sets, SetModules, Artifacts, Pieces, Targets, TargetTags, TargetAttributes, Rollouts, Members, Groups, Actions, Feedbacks, Offers, offer_table, table_at, name_of}
 use Rattle.desk_records.specs.Actions.{Tally, tally_of, action_row, entry_row}
 use Rattle.desk_records.specs.Artifacts.{artifact_row, pieces_from}
 use Rattle.desk_records.specs.Offers.{HoldsOffers}
@@ -38,34 +38,37 @@ pub record Ledger : Type 0 where
 abbrev pub ledger_of : Records → Ledger
 ledger_of r = record { records = r; tallies = map tally_of r.actions; offers = offer r }
 
--- the same approval, modules, artifacts, sets and targets
-pub record IsBeside (l next : Ledger) : Type 0 where
-  pub approval : next.records.approval ≡ l.records.approval
-  pub modules : next.records.modules ≡ l.records.modules
-  pub artifacts : next.records.artifacts ≡ l.records.artifacts
-  pub sets : next.records.sets ≡ l.records.sets
-  pub targets : next.records.targets ≡ l.records.targets
+-- What the rows of a table are: these in this order, these in any order, or those of offers.
+pub data Content : Type 0 where
+  Ordered : List Row → Content
+  Unordered : List Row → Content
+  Offered : (Bytes → Option Offer) → Content
 
--- The rows of a place: numbered ones in the order of their numbers, all others in any order.
-abbrev pub IsHeldOfRollouts : Ledger → RolloutPlace → List Row → Type 0
-IsHeldOfRollouts l Rollouts rows = rows ≡ rows_from rollout_row 1 l.records.rollouts
-IsHeldOfRollouts l Members rows = IsHeldBy rows (members_from 1 l.records.rollouts)
-IsHeldOfRollouts l Groups rows = IsHeldBy rows (groups_from 1 l.records.rollouts)
-IsHeldOfRollouts l Actions rows = rows ≡ rows_from (action_row l.records.rollouts) 1 (zip l.records.actions l.tallies)
-IsHeldOfRollouts l Feedbacks rows = IsHeldBy rows (parts_from entry_row (λ (a : ActionRecord). a.history) 1 l.records.actions)
-IsHeldOfRollouts l Offers rows = HoldsOffers rows l.offers
+abbrev pub AreRowsOf : Content → List Row → Type 0
+AreRowsOf (Ordered wanted) rows = rows ≡ wanted
+AreRowsOf (Unordered wanted) rows = IsHeldBy rows wanted
+AreRowsOf (Offered offers) rows = HoldsOffers rows offers
+
+-- What each table holds: numbered rows in the order of their numbers, all others in any order.
+abbrev pub content_of : Ledger → Place → Content
+content_of l Desk = Ordered (desk_row l.records.approval ∷ [])
+content_of l Modules = Ordered (rows_from module_row 1 l.records.modules)
+content_of l Sets = Ordered (rows_from set_row 1 l.records.sets)
+content_of l SetModules = Unordered (places_from 1 l.records.sets)
+content_of l Artifacts = Ordered (rows_from artifact_row 1 l.records.artifacts)
+content_of l Pieces = Unordered (pieces_from 1 l.records.artifacts)
+content_of l Targets = Unordered (map target_row l.records.targets)
+content_of l TargetTags = Unordered (flat_map tag_rows l.records.targets)
+content_of l TargetAttributes = Unordered (flat_map attribute_rows l.records.targets)
+content_of l Rollouts = Ordered (rows_from rollout_row 1 l.records.rollouts)
+content_of l Members = Unordered (members_from 1 l.records.rollouts)
+content_of l Groups = Unordered (groups_from 1 l.records.rollouts)
+content_of l Actions = Ordered (rows_from (action_row l.records.rollouts) 1 (zip l.records.actions l.tallies))
+content_of l Feedbacks = Unordered (parts_from entry_row (λ (a : ActionRecord). a.history) 1 l.records.actions)
+content_of l Offers = Offered l.offers
 
 abbrev pub IsHeld : Ledger → Place → List Row → Type 0
-IsHeld l Desk rows = rows ≡ desk_row l.records.approval ∷ []
-IsHeld l Modules rows = rows ≡ rows_from module_row 1 l.records.modules
-IsHeld l Sets rows = rows ≡ rows_from set_row 1 l.records.sets
-IsHeld l SetModules rows = IsHeldBy rows (places_from 1 l.records.sets)
-IsHeld l Artifacts rows = rows ≡ rows_from artifact_row 1 l.records.artifacts
-IsHeld l Pieces rows = IsHeldBy rows (pieces_from 1 l.records.artifacts)
-IsHeld l Targets rows = IsHeldBy rows (map target_row l.records.targets)
-IsHeld l TargetTags rows = IsHeldBy rows (flat_map tag_rows l.records.targets)
-IsHeld l TargetAttributes rows = IsHeldBy rows (flat_map attribute_rows l.records.targets)
-IsHeld l (OfRollouts t) rows = IsHeldOfRollouts l t rows
+IsHeld l t rows = AreRowsOf (content_of l t) rows
 
 -- where a table stands: its place among all tables of the database, and its tree
 pub record Spot : Type 0 where
@@ -79,7 +82,7 @@ pub record HoldsLedger (db : Database) (l : Ledger) : Type 0 where
   pub stands : (t : Place) → Stands db.schema (name_of t) (spot t).at (table_at t (spot t).tree)
   pub rows : (t : Place) → IsHeld l t (db.trees (spot t).tree)
   pub sorted : are_sorted l.records.targets ≡ true
-  pub keyed : ComparesBytes db.schema (offer_table (spot (OfRollouts Offers)).tree) 1
+  pub keyed : ComparesBytes db.schema (offer_table (spot Offers).tree) 1
 
 -- the tables hold the records, and all that follows from them
 abbrev pub HoldsRecords : Database → Records → Type 0

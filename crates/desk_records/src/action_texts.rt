@@ -1,17 +1,5 @@
 //! The texts of actions, their history and offers.
 
-/// The k-th action that was made has number k; a member of a rollout has one.
-pub const CREATE_ACTION: &str =
-    "CREATE TABLE action (number INTEGER PRIMARY KEY, rollout INTEGER NOT NULL, place INTEGER NOT NULL, controller TEXT NOT NULL, canceling INTEGER NOT NULL, outcome INTEGER NOT NULL, notes INTEGER NOT NULL, entries INTEGER NOT NULL, UNIQUE (rollout, place), UNIQUE (controller, number)) STRICT";
-
-/// The history of the actions, by places in a sequence from 1.
-pub const CREATE_FEEDBACK: &str =
-    "CREATE TABLE feedback (action INTEGER NOT NULL, sequence INTEGER NOT NULL, kind INTEGER NOT NULL, word INTEGER NOT NULL, details TEXT NOT NULL, PRIMARY KEY (action, sequence)) STRICT";
-
-/// What each target is offered now.
-pub const CREATE_OFFER: &str =
-    "CREATE TABLE offer (controller TEXT NOT NULL PRIMARY KEY, action INTEGER NOT NULL, kind INTEGER NOT NULL) STRICT";
-
 /// The last number, which is how many actions there are.
 pub const LAST_ACTION: &str = "SELECT number FROM action ORDER BY number DESC LIMIT 1";
 

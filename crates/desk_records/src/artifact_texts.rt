@@ -1,13 +1,5 @@
 //! The texts of artifacts.
 
-/// The k-th artifact that was added has number k; its digest is 32 bytes.
-pub const CREATE_ARTIFACT: &str =
-    "CREATE TABLE artifact (number INTEGER PRIMARY KEY, module INTEGER NOT NULL, filename TEXT NOT NULL, size INTEGER NOT NULL, sha256 BLOB NOT NULL, UNIQUE (module, filename)) STRICT";
-
-/// The contents of the artifacts in pieces, each at its place in the sequence, from 1.
-pub const CREATE_PIECE: &str =
-    "CREATE TABLE piece (artifact INTEGER NOT NULL, sequence INTEGER NOT NULL, bytes BLOB NOT NULL, PRIMARY KEY (artifact, sequence)) STRICT";
-
 /// The artifact of a module and a filename.
 pub const FIND_ARTIFACT: &str = "SELECT number FROM artifact WHERE module = ?1 AND filename = ?2";
 

@@ -1,17 +1,5 @@
 //! The texts of rollouts, their members and groups.
 
-/// The k-th rollout that was created has number k; no two have the same name.
-pub const CREATE_ROLLOUT: &str =
-    "CREATE TABLE rollout (number INTEGER PRIMARY KEY, name TEXT NOT NULL UNIQUE, dset INTEGER NOT NULL, filter_text TEXT NOT NULL, groups INTEGER NOT NULL, success INTEGER NOT NULL, error INTEGER NOT NULL, approval INTEGER NOT NULL, started INTEGER NOT NULL, paused INTEGER NOT NULL) STRICT";
-
-/// The members of the rollouts, by their places from 1.
-pub const CREATE_MEMBER: &str =
-    "CREATE TABLE member (rollout INTEGER NOT NULL, place INTEGER NOT NULL, controller TEXT NOT NULL, PRIMARY KEY (rollout, place)) STRICT";
-
-/// The groups of the rollouts. The last place of each finds the group of a member, and among those that aren't started the next one.
-pub const CREATE_ROLLOUT_GROUP: &str =
-    "CREATE TABLE rollout_group (rollout INTEGER NOT NULL, number INTEGER NOT NULL, first_place INTEGER NOT NULL, last_place INTEGER NOT NULL, started INTEGER NOT NULL, ok INTEGER NOT NULL, bad INTEGER NOT NULL, gone INTEGER NOT NULL, PRIMARY KEY (rollout, number), UNIQUE (rollout, last_place), UNIQUE (rollout, started, last_place)) STRICT";
-
 /// The rollout of a name.
 pub const FIND_ROLLOUT: &str = "SELECT number FROM rollout WHERE name = ?1";
 

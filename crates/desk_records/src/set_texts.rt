@@ -1,13 +1,5 @@
 //! The texts of distribution sets.
 
-/// The k-th set that was added has number k.
-pub const CREATE_SET: &str =
-    "CREATE TABLE dset (number INTEGER PRIMARY KEY, name TEXT NOT NULL, version TEXT NOT NULL, UNIQUE (name, version)) STRICT";
-
-/// The modules of the sets, each at its place, from 1; no module stands twice in a set.
-pub const CREATE_SET_MODULE: &str =
-    "CREATE TABLE set_module (dset INTEGER NOT NULL, place INTEGER NOT NULL, module INTEGER NOT NULL, PRIMARY KEY (dset, place), UNIQUE (module, dset)) STRICT";
-
 /// The set of a name and a version.
 pub const FIND_SET: &str = "SELECT number FROM dset WHERE name = ?1 AND version = ?2";
 

@@ -1,16 +1,5 @@
 //! The texts of targets.
 
-pub const CREATE_TARGET: &str =
-    "CREATE TABLE target (controller TEXT NOT NULL PRIMARY KEY, name TEXT NOT NULL, digest BLOB NOT NULL) STRICT";
-
-/// The tags of the targets; no tag stands twice at a target.
-pub const CREATE_TARGET_TAG: &str =
-    "CREATE TABLE target_tag (controller TEXT NOT NULL, tag TEXT NOT NULL, PRIMARY KEY (controller, tag)) STRICT";
-
-/// The attributes of the targets; no key stands twice at a target.
-pub const CREATE_TARGET_ATTRIBUTE: &str =
-    "CREATE TABLE target_attribute (controller TEXT NOT NULL, key TEXT NOT NULL, value TEXT NOT NULL, PRIMARY KEY (controller, key)) STRICT";
-
 pub const GET_TARGET: &str = "SELECT name, digest FROM target WHERE controller = ?1";
 
 /// How many targets there are.

@@ -1,12 +1,4 @@
-//! The texts of the schema, version 1, and of the statements.
-
-/// One row, of number 1.
-pub const CREATE_DESK: &str =
-    "CREATE TABLE desk (id INTEGER PRIMARY KEY, format TEXT NOT NULL, version INTEGER NOT NULL, approval INTEGER NOT NULL) STRICT";
-
-/// The k-th module that was added has number k.
-pub const CREATE_MODULE: &str =
-    "CREATE TABLE module (number INTEGER PRIMARY KEY, name TEXT NOT NULL, type TEXT NOT NULL, version TEXT NOT NULL, UNIQUE (name, type, version)) STRICT";
+//! The texts of the row of `desk`, and of modules.
 
 /// The row of `desk`; its parameter is whether rollouts wait for approval.
 pub const PUT_DESK: &str =

@@ -27,7 +27,7 @@ use Rattle.desk_records.specs.EntryRow.{IsEntryRow, keeps_details}
 use Rattle.desk_records.specs.Holds.{HoldsLedger, HoldsRecords, Ledger, ledger_of}
 use Rattle.desk_records.specs.Modules.{IsLastRow}
 use Rattle.desk_records.specs.RolloutRow.{IsActionRow, IsListedActionRow, IsOfferRow, actions_for, actions_of, stored_action}
-use Rattle.desk_records.specs.Schema.{OfRollouts, Actions, Feedbacks, Offers}
+use Rattle.desk_records.specs.Schema.{Actions, Feedbacks, Offers}
 use Rattle.desk_records.proofs.MeaningWords.{at_key}
 use Rattle.desk_records.proofs.ActionMeaning.{last_action_query, action_columns, action_names, listed_names, list_actions_query, list_target_actions_query, list_entries_query, entry_names, of_controller, offer_columns, last_action_is, get_action_is, list_actions_is, list_target_actions_is, list_entries_is, get_offer_is}
 use Rattle.desk_records.proofs.ActionRecords.{shown_action, told_listed, lasts_action, gets_action, lists_actions, lists_target_actions, told_offer, gets_offer}
@@ -41,22 +41,22 @@ use Rattle.desk_store.proofs.ReadLemmas.{asks_all, takes_one}
 -- ---- what the texts mean where a ledger is held
 
 abbrev pub ending : Knows HoldsLedger LAST_ACTION.now
-ending = ledger_knows (OfRollouts Actions) LAST_ACTION.now (λ at tree. Select (record { lets = []; body = last_action_query tree }) (codes "number" ∷ [])) last_action_is
+ending = ledger_knows Actions LAST_ACTION.now (λ at tree. Select (record { lets = []; body = last_action_query tree }) (codes "number" ∷ [])) last_action_is
 
 abbrev pub getting : Knows HoldsLedger GET_ACTION.now
-getting = ledger_knows (OfRollouts Actions) GET_ACTION.now (λ at tree. Select (record { lets = []; body = simple tree (at_key 0 0 ∷ []) action_columns }) action_names) get_action_is
+getting = ledger_knows Actions GET_ACTION.now (λ at tree. Select (record { lets = []; body = simple tree (at_key 0 0 ∷ []) action_columns }) action_names) get_action_is
 
 abbrev pub listing : Knows HoldsLedger LIST_ACTIONS.now
-listing = ledger_knows (OfRollouts Actions) LIST_ACTIONS.now (λ at tree. Select (record { lets = []; body = list_actions_query tree }) listed_names) list_actions_is
+listing = ledger_knows Actions LIST_ACTIONS.now (λ at tree. Select (record { lets = []; body = list_actions_query tree }) listed_names) list_actions_is
 
 abbrev pub listing_targets : Knows HoldsLedger LIST_TARGET_ACTIONS.now
-listing_targets = ledger_knows (OfRollouts Actions) LIST_TARGET_ACTIONS.now (λ at tree. Select (record { lets = []; body = list_target_actions_query tree }) listed_names) list_target_actions_is
+listing_targets = ledger_knows Actions LIST_TARGET_ACTIONS.now (λ at tree. Select (record { lets = []; body = list_target_actions_query tree }) listed_names) list_target_actions_is
 
 abbrev pub listing_entries : Knows HoldsLedger LIST_ENTRIES.now
-listing_entries = ledger_knows (OfRollouts Feedbacks) LIST_ENTRIES.now (λ at tree. Select (record { lets = []; body = list_entries_query tree }) entry_names) list_entries_is
+listing_entries = ledger_knows Feedbacks LIST_ENTRIES.now (λ at tree. Select (record { lets = []; body = list_entries_query tree }) entry_names) list_entries_is
 
 abbrev pub offered : Knows HoldsLedger GET_OFFER.now
-offered = ledger_knows (OfRollouts Offers) GET_OFFER.now (λ at tree. Select (record { lets = []; body = simple tree of_controller offer_columns }) (codes "action" ∷ codes "kind" ∷ [])) get_offer_is
+offered = ledger_knows Offers GET_OFFER.now (λ at tree. Select (record { lets = []; body = simple tree of_controller offer_columns }) (codes "action" ∷ codes "kind" ∷ [])) get_offer_is
 
 -- ---- actions
 

@@ -10,16 +10,16 @@ use Rattle.rollout_machine.specs.declared.bounds.Bounds.{Bounds}
 use Rattle.desk_records.specs.declared.action_texts.TheConstants.{PUT_GROUP_OFFERS}
 use Rattle.desk_records.specs.Holds.{HoldsLedger, HoldsRecords, Ledger, ledger_of}
 use Rattle.desk_records.specs.LedgerSteps.{OffersGroup}
-use Rattle.desk_records.specs.Schema.{OfRollouts, Actions, Offers}
+use Rattle.desk_records.specs.Schema.{Actions, Offers}
 use Rattle.desk_records.proofs.GroupOffersMeaning.{put_group_offers_command, put_group_offers_is}
 use Rattle.desk_records.proofs.GroupOfferWrites.{group_params, offers_group, offers_keyed}
 
 abbrev pub knows_put_group_offers : KnowsWrite HoldsLedger PUT_GROUP_OFFERS.now
 knows_put_group_offers = record {
   knows = λ db l holds. record {
-    command = put_group_offers_command (holds.spot (OfRollouts Offers)).at (holds.spot (OfRollouts Offers)).tree (holds.spot (OfRollouts Actions)).tree;
-    means = put_group_offers_is db.schema (holds.spot (OfRollouts Offers)).at (holds.spot (OfRollouts Offers)).tree (holds.spot (OfRollouts Actions)).at (holds.spot (OfRollouts Actions)).tree
-        (holds.stands (OfRollouts Offers)) (holds.stands (OfRollouts Actions)) (offers_keyed db l holds);
+    command = put_group_offers_command (holds.spot Offers).at (holds.spot Offers).tree (holds.spot Actions).tree;
+    means = put_group_offers_is db.schema (holds.spot Offers).at (holds.spot Offers).tree (holds.spot Actions).at (holds.spot Actions).tree
+        (holds.stands Offers) (holds.stands Actions) (offers_keyed db l holds);
   };
   rows = λ db l holds. refl;
 }

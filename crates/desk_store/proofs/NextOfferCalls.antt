@@ -21,7 +21,7 @@ use Rattle.desk_records.specs.declared.action_texts.TheConstants.{NEXT_OFFER}
 use Rattle.desk_records.specs.Holds.{HoldsLedger, HoldsRecords, Ledger, ledger_of}
 use Rattle.desk_records.specs.NextOffers.{next_offer}
 use Rattle.desk_records.specs.RolloutRow.{IsOfferRow}
-use Rattle.desk_records.specs.Schema.{Place, OfRollouts, Actions, Groups, name_of, table_at}
+use Rattle.desk_records.specs.Schema.{Place, Actions, Groups, name_of, table_at}
 use Rattle.desk_records.proofs.ActionMeaning.{next_offer_query, next_offer_is}
 use Rattle.desk_records.proofs.ActionRecords.{told_offer}
 use Rattle.desk_records.proofs.NextOfferRecords.{gets_next_offer}
@@ -35,7 +35,7 @@ ledger_knows_two t u sql command means db l holds =
     record { command = command (holds.spot t).tree (holds.spot u).tree; means = means db.schema (holds.spot t).at (holds.spot t).tree (holds.spot u).at (holds.spot u).tree (holds.stands t) (holds.stands u) }
 
 abbrev pub next : Knows HoldsLedger NEXT_OFFER.now
-next = ledger_knows_two (OfRollouts Actions) (OfRollouts Groups) NEXT_OFFER.now (λ tree other. Select (record { lets = []; body = next_offer_query tree other }) (codes "number" ∷ codes "canceling" ∷ [])) next_offer_is
+next = ledger_knows_two Actions Groups NEXT_OFFER.now (λ tree other. Select (record { lets = []; body = next_offer_query tree other }) (codes "number" ∷ codes "canceling" ∷ [])) next_offer_is
 
 pub next_offer_read : (id : Bytes) (old new : State) (row : Option Row) → TakesFirst old new NEXT_OFFER.now (Text id ∷ []) (Ok row) → (out : Result (Option Offer) Fault) → IfOk out (λ found. IsReadAs IsOfferRow found row)
     → Finds HoldsLedger (λ (l : Ledger). l) old new out (λ l found. length l.tallies ≡ length l.records.actions → found ≡ next_offer l.records id)

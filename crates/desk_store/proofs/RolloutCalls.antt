@@ -30,7 +30,7 @@ use Rattle.desk_records.specs.Holds.{HoldsLedger, HoldsRecords, Ledger, ledger_o
 use Rattle.desk_records.specs.Modules.{IsLastRow}
 use Rattle.desk_records.specs.RolloutRow.{IsRolloutRow, IsGroupRow, stored_rollout}
 use Rattle.desk_records.specs.Rollouts.{is_called, groups_of, last_started_group, members_of}
-use Rattle.desk_records.specs.Schema.{Desk, OfRollouts, Rollouts, Groups, Members}
+use Rattle.desk_records.specs.Schema.{Desk, Rollouts, Groups, Members}
 use Rattle.desk_records.specs.Codes.{flag_in}
 use Rattle.desk_records.proofs.DeskRecords.{gets_desk, told_desk}
 use Rattle.desk_records.proofs.Meaning.{desk_query, get_desk_is}
@@ -46,31 +46,31 @@ use Rattle.desk_store.proofs.ReadLemmas.{asks_all, takes_one}
 -- ---- what the texts mean where a ledger is held
 
 abbrev pub finding : Knows HoldsLedger FIND_ROLLOUT.now
-finding = ledger_knows (OfRollouts Rollouts) FIND_ROLLOUT.now (λ at tree. Select (record { lets = []; body = simple tree same_name (col 1 0 ∷ []) }) (codes "number" ∷ [])) find_rollout_is
+finding = ledger_knows Rollouts FIND_ROLLOUT.now (λ at tree. Select (record { lets = []; body = simple tree same_name (col 1 0 ∷ []) }) (codes "number" ∷ [])) find_rollout_is
 
 abbrev pub ending : Knows HoldsLedger LAST_ROLLOUT.now
-ending = ledger_knows (OfRollouts Rollouts) LAST_ROLLOUT.now (λ at tree. Select (record { lets = []; body = last_rollout_query tree }) (codes "number" ∷ [])) last_rollout_is
+ending = ledger_knows Rollouts LAST_ROLLOUT.now (λ at tree. Select (record { lets = []; body = last_rollout_query tree }) (codes "number" ∷ [])) last_rollout_is
 
 abbrev pub getting : Knows HoldsLedger GET_ROLLOUT.now
-getting = ledger_knows (OfRollouts Rollouts) GET_ROLLOUT.now (λ at tree. Select (record { lets = []; body = simple tree (at_key 0 0 ∷ []) rollout_columns }) rollout_names) get_rollout_is
+getting = ledger_knows Rollouts GET_ROLLOUT.now (λ at tree. Select (record { lets = []; body = simple tree (at_key 0 0 ∷ []) rollout_columns }) rollout_names) get_rollout_is
 
 abbrev pub paging : Knows HoldsLedger LIST_ROLLOUTS.now
-paging = ledger_knows (OfRollouts Rollouts) LIST_ROLLOUTS.now (λ at tree. Select (record { lets = []; body = list_rollouts_query tree }) rollout_names) list_rollouts_is
+paging = ledger_knows Rollouts LIST_ROLLOUTS.now (λ at tree. Select (record { lets = []; body = list_rollouts_query tree }) rollout_names) list_rollouts_is
 
 abbrev pub listing : Knows HoldsLedger LIST_GROUPS.now
-listing = ledger_knows (OfRollouts Groups) LIST_GROUPS.now (λ at tree. Select (record { lets = []; body = list_groups_query tree }) group_names) list_groups_is
+listing = ledger_knows Groups LIST_GROUPS.now (λ at tree. Select (record { lets = []; body = list_groups_query tree }) group_names) list_groups_is
 
 abbrev pub getting_group : Knows HoldsLedger GET_GROUP.now
-getting_group = ledger_knows (OfRollouts Groups) GET_GROUP.now (λ at tree. Select (record { lets = []; body = get_group_query tree }) group_names) get_group_is
+getting_group = ledger_knows Groups GET_GROUP.now (λ at tree. Select (record { lets = []; body = get_group_query tree }) group_names) get_group_is
 
 abbrev pub holding_group : Knows HoldsLedger HOLDING_GROUP.now
-holding_group = ledger_knows (OfRollouts Groups) HOLDING_GROUP.now (λ at tree. Select (record { lets = []; body = holding_group_query tree }) group_names) holding_group_is
+holding_group = ledger_knows Groups HOLDING_GROUP.now (λ at tree. Select (record { lets = []; body = holding_group_query tree }) group_names) holding_group_is
 
 abbrev pub last_started : Knows HoldsLedger LAST_STARTED.now
-last_started = ledger_knows (OfRollouts Groups) LAST_STARTED.now (λ at tree. Select (record { lets = []; body = last_started_query tree }) group_names) last_started_is
+last_started = ledger_knows Groups LAST_STARTED.now (λ at tree. Select (record { lets = []; body = last_started_query tree }) group_names) last_started_is
 
 abbrev pub listing_members : Knows HoldsLedger LIST_MEMBERS.now
-listing_members = ledger_knows (OfRollouts Members) LIST_MEMBERS.now (λ at tree. Select (record { lets = []; body = list_members_query tree }) (codes "controller" ∷ [])) list_members_is
+listing_members = ledger_knows Members LIST_MEMBERS.now (λ at tree. Select (record { lets = []; body = list_members_query tree }) (codes "controller" ∷ [])) list_members_is
 
 abbrev pub getting_desk : Knows HoldsLedger GET_DESK.now
 getting_desk = ledger_knows Desk GET_DESK.now (λ at tree. Select (record { lets = []; body = desk_query tree }) (codes "format" ∷ codes "version" ∷ codes "approval" ∷ [])) get_desk_is

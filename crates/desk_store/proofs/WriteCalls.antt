@@ -20,7 +20,7 @@ use Rattle.desk_records.specs.Actions.{Tally}
 use Rattle.desk_records.specs.Holds.{HoldsLedger, HoldsRecords, Ledger, ledger_of}
 use Rattle.desk_records.specs.LedgerSteps.{AddsRollout, SetsRollout, AddsMember, AddsGroup, SetsGroup, AddsAction, SetsAction, AddsEntry, SetsOffer, with_offer}
 use Rattle.desk_records.specs.Rollouts.{member_row}
-use Rattle.desk_records.specs.Schema.{OfRollouts, Rollouts, Members, Groups, Actions, Feedbacks, Offers}
+use Rattle.desk_records.specs.Schema.{Rollouts, Members, Groups, Actions, Feedbacks, Offers}
 use Rattle.desk_records.proofs.ActionMeaning.{feedback_terms, put_feedback_is, action_terms, set_action_query, set_offer_query, drop_offer_query, put_action_is, set_action_is, set_offer_is, drop_offer_is}
 use Rattle.desk_records.proofs.LedgerWrites.{created_params, turned_params, scheduled_params, acted_params, adds_rollout, sets_rollout, adds_action, sets_action}
 use Rattle.desk_records.proofs.OfferWrites.{offered_params, sets_offer, drops_offer}
@@ -29,61 +29,61 @@ use Rattle.desk_records.proofs.RolloutMeaning.{rollout_terms, set_rollout_query,
 use Rattle.desk_store.proofs.Known.{ledger_knows, ledger_writes}
 
 abbrev pub knows_put_rollout : KnowsWrite HoldsLedger PUT_ROLLOUT.now
-knows_put_rollout = ledger_writes (OfRollouts Rollouts) PUT_ROLLOUT.now (λ at tree. Insert at (Values rollout_terms 11)) put_rollout_is (λ at tree. refl)
+knows_put_rollout = ledger_writes Rollouts PUT_ROLLOUT.now (λ at tree. Insert at (Values rollout_terms 11)) put_rollout_is (λ at tree. refl)
 
 pub rollout_written : (number : ℕ) (plan : RolloutPlan) (approval : Approval) (old new : State) (out : Result (Unit {0}) Fault) → RunsText old new PUT_ROLLOUT.now (created_params number plan approval) out → Makes HoldsLedger (λ (l : Ledger). l) old new out (AddsRollout number plan approval)
 rollout_written number plan approval old new out h = run_makes HoldsLedger (λ (l : Ledger). l) PUT_ROLLOUT.now (created_params number plan approval) old new (AddsRollout number plan approval) knows_put_rollout.knows out h (λ now next change holds count w. (w, adds_rollout number plan approval old new _ count now next holds change w))
 
 abbrev pub knows_set_rollout : KnowsWrite HoldsLedger SET_ROLLOUT.now
-knows_set_rollout = ledger_writes (OfRollouts Rollouts) SET_ROLLOUT.now (λ at tree. Update at (record { lets = []; body = set_rollout_query tree })) set_rollout_is (λ at tree. refl)
+knows_set_rollout = ledger_writes Rollouts SET_ROLLOUT.now (λ at tree. Update at (record { lets = []; body = set_rollout_query tree })) set_rollout_is (λ at tree. refl)
 
 pub rollout_changed : (number : ℕ) (approval : Approval) (started paused : Bool) (old new : State) (out : Result (Unit {0}) Fault) → RunsText old new SET_ROLLOUT.now (turned_params number approval started paused) out → Makes HoldsLedger (λ (l : Ledger). l) old new out (SetsRollout number approval started paused)
 rollout_changed number approval started paused old new out h = run_makes HoldsLedger (λ (l : Ledger). l) SET_ROLLOUT.now (turned_params number approval started paused) old new (SetsRollout number approval started paused) knows_set_rollout.knows out h (λ now next change holds count w. (w, sets_rollout number approval started paused old new _ count now next holds change w))
 
 abbrev pub knows_put_member : KnowsWrite HoldsLedger PUT_MEMBER.now
-knows_put_member = ledger_writes (OfRollouts Members) PUT_MEMBER.now (λ at tree. Insert at (Values member_terms 4)) put_member_is (λ at tree. refl)
+knows_put_member = ledger_writes Members PUT_MEMBER.now (λ at tree. Insert at (Values member_terms 4)) put_member_is (λ at tree. refl)
 
 pub member_written : (number place : ℕ) (id : Bytes) (old new : State) (out : Result (Unit {0}) Fault) → RunsText old new PUT_MEMBER.now (member_row number place id) out → Makes HoldsLedger (λ (l : Ledger). l) old new out (AddsMember number place id)
 member_written number place id old new out h = run_makes HoldsLedger (λ (l : Ledger). l) PUT_MEMBER.now (member_row number place id) old new (AddsMember number place id) knows_put_member.knows out h (λ now next change holds count w. (w, adds_member number place id old new _ count now next holds change w))
 
 abbrev pub knows_put_group : KnowsWrite HoldsLedger PUT_GROUP.now
-knows_put_group = ledger_writes (OfRollouts Groups) PUT_GROUP.now (λ at tree. Insert at (Values group_terms 9)) put_group_is (λ at tree. refl)
+knows_put_group = ledger_writes Groups PUT_GROUP.now (λ at tree. Insert at (Values group_terms 9)) put_group_is (λ at tree. refl)
 
 pub group_written : (number group : ℕ) (bounds : Bounds) (old new : State) (out : Result (Unit {0}) Fault) → RunsText old new PUT_GROUP.now (cut_params number group bounds) out → Makes HoldsLedger (λ (l : Ledger). l) old new out (AddsGroup number group bounds)
 group_written number group bounds old new out h = run_makes HoldsLedger (λ (l : Ledger). l) PUT_GROUP.now (cut_params number group bounds) old new (AddsGroup number group bounds) knows_put_group.knows out h (λ now next change holds count w. (w, adds_group number group bounds old new _ count now next holds change w))
 
 abbrev pub knows_set_group : KnowsWrite HoldsLedger SET_GROUP.now
-knows_set_group = ledger_writes (OfRollouts Groups) SET_GROUP.now (λ at tree. Update at (record { lets = []; body = set_group_query tree })) set_group_is (λ at tree. refl)
+knows_set_group = ledger_writes Groups SET_GROUP.now (λ at tree. Update at (record { lets = []; body = set_group_query tree })) set_group_is (λ at tree. refl)
 
 pub group_changed : (number group : ℕ) (started : Bool) (ok bad gone : ℕ) (old new : State) (out : Result (Unit {0}) Fault) → RunsText old new SET_GROUP.now (counted_params number group started ok bad gone) out → Makes HoldsLedger (λ (l : Ledger). l) old new out (SetsGroup number group started ok bad gone)
 group_changed number group started ok bad gone old new out h = run_makes HoldsLedger (λ (l : Ledger). l) SET_GROUP.now (counted_params number group started ok bad gone) old new (SetsGroup number group started ok bad gone) knows_set_group.knows out h (λ now next change holds count w. (w, sets_group number group started ok bad gone old new _ count now next holds change w))
 
 abbrev pub knows_put_action : KnowsWrite HoldsLedger PUT_ACTION.now
-knows_put_action = ledger_writes (OfRollouts Actions) PUT_ACTION.now (λ at tree. Insert at (Values action_terms 9)) put_action_is (λ at tree. refl)
+knows_put_action = ledger_writes Actions PUT_ACTION.now (λ at tree. Insert at (Values action_terms 9)) put_action_is (λ at tree. refl)
 
 pub action_written : (number rollout place : ℕ) (id : Bytes) (old new : State) (out : Result (Unit {0}) Fault) → RunsText old new PUT_ACTION.now (scheduled_params number rollout place id) out → Makes HoldsLedger (λ (l : Ledger). l) old new out (AddsAction number rollout place id)
 action_written number rollout place id old new out h = run_makes HoldsLedger (λ (l : Ledger). l) PUT_ACTION.now (scheduled_params number rollout place id) old new (AddsAction number rollout place id) knows_put_action.knows out h (λ now next change holds count w. (w, adds_action number rollout place id old new _ count now next holds change w))
 
 abbrev pub knows_set_action : KnowsWrite HoldsLedger SET_ACTION.now
-knows_set_action = ledger_writes (OfRollouts Actions) SET_ACTION.now (λ at tree. Update at (record { lets = []; body = set_action_query tree })) set_action_is (λ at tree. refl)
+knows_set_action = ledger_writes Actions SET_ACTION.now (λ at tree. Update at (record { lets = []; body = set_action_query tree })) set_action_is (λ at tree. refl)
 
 pub action_changed : (number : ℕ) (canceling : Bool) (outcome : Option Outcome) (tally : Tally) (old new : State) (out : Result (Unit {0}) Fault) → RunsText old new SET_ACTION.now (acted_params number canceling outcome tally) out → Makes HoldsLedger (λ (l : Ledger). l) old new out (SetsAction number canceling outcome tally)
 action_changed number canceling outcome tally old new out h = run_makes HoldsLedger (λ (l : Ledger). l) SET_ACTION.now (acted_params number canceling outcome tally) old new (SetsAction number canceling outcome tally) knows_set_action.knows out h (λ now next change holds count w. (w, sets_action number canceling outcome tally old new _ count now next holds change w))
 
 abbrev pub knows_set_offer : KnowsWrite HoldsLedger SET_OFFER.now
-knows_set_offer = ledger_writes (OfRollouts Offers) SET_OFFER.now (λ at tree. Update at (record { lets = []; body = set_offer_query tree })) set_offer_is (λ at tree. refl)
+knows_set_offer = ledger_writes Offers SET_OFFER.now (λ at tree. Update at (record { lets = []; body = set_offer_query tree })) set_offer_is (λ at tree. refl)
 
 pub offer_changed : (id : Bytes) (o : Offer) (old new : State) (out : Result (Unit {0}) Fault) → RunsText old new SET_OFFER.now (offered_params id o) out → Makes HoldsLedger (λ (l : Ledger). l) old new out (SetsOffer id o)
 offer_changed id o old new out h = run_makes HoldsLedger (λ (l : Ledger). l) SET_OFFER.now (offered_params id o) old new (SetsOffer id o) knows_set_offer.knows out h (λ now next change holds count w. (w, sets_offer id o old new _ count now next holds change w))
 
 abbrev pub knows_drop_offer : KnowsWrite HoldsLedger DROP_OFFER.now
-knows_drop_offer = ledger_writes (OfRollouts Offers) DROP_OFFER.now (λ at tree. Delete at (record { lets = []; body = drop_offer_query tree })) drop_offer_is (λ at tree. refl)
+knows_drop_offer = ledger_writes Offers DROP_OFFER.now (λ at tree. Delete at (record { lets = []; body = drop_offer_query tree })) drop_offer_is (λ at tree. refl)
 
 pub offer_dropped : (id : Bytes) (old new : State) (out : Result (Unit {0}) Fault) → RunsText old new DROP_OFFER.now (Text id ∷ []) out → Makes HoldsLedger (λ (l : Ledger). l) old new out (λ l next. next ≡ with_offer l id None)
 offer_dropped id old new out h = run_makes HoldsLedger (λ (l : Ledger). l) DROP_OFFER.now (Text id ∷ []) old new (λ l next. next ≡ with_offer l id None) knows_drop_offer.knows out h (λ now next change holds count w. (w, subst (HoldsLedger new.now) (sym change) (drops_offer id old new _ count now holds w)))
 
 abbrev pub knows_put_feedback : KnowsWrite HoldsLedger PUT_FEEDBACK.now
-knows_put_feedback = ledger_writes (OfRollouts Feedbacks) PUT_FEEDBACK.now (λ at tree. Insert at (Values feedback_terms 6)) put_feedback_is (λ at tree. refl)
+knows_put_feedback = ledger_writes Feedbacks PUT_FEEDBACK.now (λ at tree. Insert at (Values feedback_terms 6)) put_feedback_is (λ at tree. refl)
 
 pub entry_written : (number sequence kind word : ℕ) (details : Bytes) (old new : State) (out : Result (Unit {0}) Fault) → RunsText old new PUT_FEEDBACK.now (entry_params number sequence kind word details) out
     → Makes HoldsLedger (λ (l : Ledger). l) old new out (AddsEntry number sequence kind word details)

@@ -1,0 +1,34 @@
+-- Written by tools/meanings from src/table_texts.rt of desk_records. What it makes is proved; the tool is not trusted.
+-- What is known of each table by computing its text.
+use Rattle.std.proofs.Common.{List, [], ◌∷◌, refl}
+use Rattle.sqlite_tied.specs.Compute.{everything}
+use Rattle.sqlite_schema.specs.Names.{same_name}
+use Rattle.sqlite_resolve.specs.Compile.{table_defined_by, first, table_in}
+use Rattle.desk_records.specs.Schema.{Place, Desk, Modules, Sets, SetModules, Artifacts, Pieces, Targets, TargetTags, TargetAttributes, Rollouts, Members, Groups, Actions, Feedbacks, Offers}
+use Rattle.desk_records.proofs.TableMeaning.{create_desk_makes, create_module_makes, create_set_makes, create_set_module_makes, create_artifact_makes, create_piece_makes, create_target_makes, create_target_tag_makes, create_target_attribute_makes, create_rollout_makes, create_member_makes, create_rollout_group_makes, create_action_makes, create_feedback_makes, create_offer_makes}
+use Rattle.desk_opening.specs.declared.desk_table.DeskTable.{DeskTable}
+use Rattle.desk_opening.specs.declared.desk_table.DeskTable.TheVariants as table
+use Rattle.desk_opening.proofs.IsPlace.{IsPlace, bare_of}
+
+pub is_place : (t : Place) → IsPlace t
+unfolding first table_defined_by table_in same_name everything
+is_place Desk = record { makes = create_desk_makes; whole = refl; defined = refl; bare = bare_of (refl, (refl, (refl, (refl, tt)))); unindexed = λ rest. refl; unsequenced = refl }
+is_place Modules = record { makes = create_module_makes; whole = refl; defined = refl; bare = bare_of (refl, (refl, (refl, (refl, tt)))); unindexed = λ rest. refl; unsequenced = refl }
+is_place Sets = record { makes = create_set_makes; whole = refl; defined = refl; bare = bare_of (refl, (refl, (refl, tt))); unindexed = λ rest. refl; unsequenced = refl }
+is_place SetModules = record { makes = create_set_module_makes; whole = refl; defined = refl; bare = bare_of (refl, (refl, (refl, tt))); unindexed = λ rest. refl; unsequenced = refl }
+is_place Artifacts = record { makes = create_artifact_makes; whole = refl; defined = refl; bare = bare_of (refl, (refl, (refl, (refl, (refl, tt))))); unindexed = λ rest. refl; unsequenced = refl }
+is_place Pieces = record { makes = create_piece_makes; whole = refl; defined = refl; bare = bare_of (refl, (refl, (refl, tt))); unindexed = λ rest. refl; unsequenced = refl }
+is_place Targets = record { makes = create_target_makes; whole = refl; defined = refl; bare = bare_of (refl, (refl, (refl, tt))); unindexed = λ rest. refl; unsequenced = refl }
+is_place TargetTags = record { makes = create_target_tag_makes; whole = refl; defined = refl; bare = bare_of (refl, (refl, tt)); unindexed = λ rest. refl; unsequenced = refl }
+is_place TargetAttributes = record { makes = create_target_attribute_makes; whole = refl; defined = refl; bare = bare_of (refl, (refl, (refl, tt))); unindexed = λ rest. refl; unsequenced = refl }
+is_place Rollouts = record { makes = create_rollout_makes; whole = refl; defined = refl; bare = bare_of (refl, (refl, (refl, (refl, (refl, (refl, (refl, (refl, (refl, (refl, tt)))))))))); unindexed = λ rest. refl; unsequenced = refl }
+is_place Members = record { makes = create_member_makes; whole = refl; defined = refl; bare = bare_of (refl, (refl, (refl, tt))); unindexed = λ rest. refl; unsequenced = refl }
+is_place Groups = record { makes = create_rollout_group_makes; whole = refl; defined = refl; bare = bare_of (refl, (refl, (refl, (refl, (refl, (refl, (refl, (refl, tt)))))))); unindexed = λ rest. refl; unsequenced = refl }
+is_place Actions = record { makes = create_action_makes; whole = refl; defined = refl; bare = bare_of (refl, (refl, (refl, (refl, (refl, (refl, (refl, (refl, tt)))))))); unindexed = λ rest. refl; unsequenced = refl }
+is_place Feedbacks = record { makes = create_feedback_makes; whole = refl; defined = refl; bare = bare_of (refl, (refl, (refl, (refl, (refl, tt))))); unindexed = λ rest. refl; unsequenced = refl }
+is_place Offers = record { makes = create_offer_makes; whole = refl; defined = refl; bare = bare_of (refl, (refl, (refl, tt))); unindexed = λ rest. refl; unsequenced = refl }
+
+-- the tables of the code
+abbrev pub all_tables : List DeskTable
+all_tables = table.Desk ∷ table.Modules ∷ table.Sets ∷ table.SetModules ∷ table.Artifacts ∷ table.Pieces ∷ table.Targets ∷ table.TargetTags
+    ∷ table.TargetAttributes ∷ table.Rollouts ∷ table.Members ∷ table.Groups ∷ table.Actions ∷ table.Feedbacks ∷ table.Offers ∷ []
