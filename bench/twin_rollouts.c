@@ -10,7 +10,7 @@ typedef struct { Text name, filter; int64_t set, groups, success, error; } Plan;
 
 static sqlite3_stmt *find_rollout, *last_rollout, *get_rollout, *add_rollout, *change_rollout, *last_set, *get_desk;
 static sqlite3_stmt *put_member, *list_members, *put_group, *get_group, *list_groups, *find_group, *last_group, *change_group;
-static sqlite3_stmt *last_action, *put_action, *list_actions, *put_actions, *list_places, *put_group_offers, *list_member_places;
+static sqlite3_stmt *last_action, *put_action, *list_actions, *put_actions, *list_places, *put_group_offers;
 static Text members[TARGET_LIMIT];
 static int member_count;
 
@@ -24,7 +24,7 @@ void prepare_rollouts(void) {
     last_set = prepared("SELECT number FROM dset ORDER BY number DESC LIMIT 1");
     get_desk = prepared("SELECT approval FROM desk WHERE id = 1");
     put_member = prepared("INSERT INTO member (rollout, place, controller) VALUES (?1, ?2, ?3)");
-    list_members = prepared("SELECT controller FROM member WHERE rollout = ?1 ORDER BY place LIMIT ?2 OFFSET ?3");
+    list_members = prepared("SELECT controller FROM member WHERE rollout = ?1 AND place > ?2 ORDER BY place LIMIT ?3");
     put_group = prepared("INSERT INTO rollout_group (rollout, number, first_place, last_place, started, ok, bad, gone) VALUES (?1, ?2, ?3, ?4, 0, 0, 0, 0)");
     get_group = prepared("SELECT number, first_place, last_place, started, ok, bad, gone FROM rollout_group WHERE rollout = ?1 AND number = ?2");
     list_groups = prepared("SELECT number, first_place, last_place, started, ok, bad, gone FROM rollout_group WHERE rollout = ?1 ORDER BY number");
@@ -40,7 +40,6 @@ void prepare_rollouts(void) {
     put_actions = prepared(
         "INSERT INTO action (number, rollout, place, controller, canceling, outcome, notes, entries) SELECT ?1 + place, rollout, place, controller, 0, 0, 0, 0 FROM member WHERE rollout = ?2 ORDER BY place");
     list_places = prepared("SELECT place, controller, canceling, outcome, number FROM action WHERE rollout = ?1 AND place BETWEEN ?2 AND ?3 ORDER BY place");
-    list_member_places = prepared("SELECT controller FROM member WHERE rollout = ?1 AND place BETWEEN ?2 AND ?3 ORDER BY place");
     put_group_offers = prepared(
         "INSERT INTO offer (controller, action, kind) SELECT controller, number, 0 FROM action WHERE rollout = ?1 AND place BETWEEN ?2 AND ?3 ORDER BY number ON CONFLICT (controller) DO UPDATE SET action = excluded.action, kind = excluded.kind WHERE excluded.action < offer.action");
 }
@@ -224,7 +223,7 @@ void answer_create(const char *body, size_t len) {
 // ---- starting
 
 static void read_members(int64_t rollout) {
-    bind_numbers(list_members, 3, (int64_t[]){rollout, TARGET_LIMIT, 0});
+    bind_numbers(list_members, 3, (int64_t[]){rollout, 0, TARGET_LIMIT});
     for (member_count = 0; row_of(list_members);) read_column(list_members, 0, &members[member_count++]);
     sqlite3_reset(list_members);
 }
@@ -273,18 +272,16 @@ void answer_group_targets(int64_t rollout, int64_t number, const char *query) {
     int64_t total = size_of(&group), left = total - page.offset, before = group.first - 1 + page.offset;
     if (left < 0) left = 0;
     if (left > page.limit) left = page.limit;
-    sqlite3_stmt *statement = at_once ? list_member_places : list_members;
-    if (at_once) bind_numbers(statement, 3, (int64_t[]){rollout, before + 1, before + left});
-    else bind_numbers(statement, 3, (int64_t[]){rollout, left, before});
+    bind_numbers(list_members, 3, (int64_t[]){rollout, before, left});
     size_t size = (size_t)sprintf(body, "{\"content\":[");
-    while (row_of(statement)) {
-        read_column(statement, 0, &target.id);
+    while (row_of(list_members)) {
+        read_column(list_members, 0, &target.id);
         if (!find_target(&target.id, &target.name, digest)) die("target");
         fill_target(&target);
         if (shown++) body[size++] = ',';
         size += put_target_object(body + size, &target);
     }
-    sqlite3_reset(statement);
+    sqlite3_reset(list_members);
     size += (size_t)sprintf(body + size, "],\"size\":%d,\"total\":%lld}", shown, (long long)total);
     reply("200 OK", body, size);
 }
@@ -342,20 +339,23 @@ static size_t put_action_line(char *to, sqlite3_stmt *statement, int number_colu
                            action_word(sqlite3_column_int64(statement, first + 2), group->started, sqlite3_column_int64(statement, first + 1)));
 }
 
-// The lines of the actions, the group of each by a statement of its own.
+// The lines of the actions, each with the group in memory that has its place.
 static size_t put_actions_one_by_one(char *to, int64_t rollout) {
-    Group group;
+    static Group groups[GROUP_LIMIT];
     size_t size = 0;
     bind_numbers(list_actions, 3, (int64_t[]){rollout, UINT32_MAX, 0});
+    int count = read_groups(rollout, groups);
     while (row_of(list_actions)) {
-        if (!holding_group(rollout, sqlite3_column_int64(list_actions, 1), &group)) die("group");
-        size += put_action_line(to + size, list_actions, 7, 2, &group);
+        int at = 0;
+        while (at < count && groups[at].last < sqlite3_column_int64(list_actions, 1)) at++;
+        if (at == count) die("group");
+        size += put_action_line(to + size, list_actions, 7, 2, &groups[at]);
     }
     sqlite3_reset(list_actions);
     return size;
 }
 
-// The lines of the actions, the groups in memory.
+// The lines of the actions in the order of their places, and so of the groups.
 static size_t put_actions_at_once(char *to, int64_t rollout) {
     static Group groups[GROUP_LIMIT];
     size_t size = 0;

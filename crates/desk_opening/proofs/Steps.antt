@@ -38,18 +38,22 @@ module _ (sql : List ℕ) (params : Row) (old new : State) (now kept : Stage) (w
 
     pub step : Changes new next kept
     step = record {
-      sees = record { sees = λ clean.
-          let before : HasCleanDisk old = omega (arith, clean, h.survives.clean) in
-          let done = ran clean before in
-          record { mode = done.1.shown.mode ∙ (was.sees.sees before).mode; is_open = done.1.shown.is_open; now_holds = done.2 } };
-      spoiled = record { spoiled = λ clean.
-          let before : HasCleanDisk old = omega (arith, clean, h.survives.clean) in
-          let first = was.sees.sees before in
-          let done = ran clean before in
-          let committed = done.1.shown.committed_is in
-          record {
-            ended = λ out. absurd (both_ways _ out (done.1.shown.mode ∙ first.mode));
-            kept_holds = λ _. subst (λ d. HoldsStage d kept) (sym (rw first.mode at committed)) ((was.spoiled.spoiled before).kept_holds first.is_open);
-            crash = kept_inside clean h.survives;
-          } };
+      sees = record {
+        sees = λ clean.
+            let before : HasCleanDisk old = omega (arith, clean, h.survives.clean) in
+            let done = ran clean before in
+            record { mode = done.1.shown.mode ∙ (was.sees.sees before).mode; is_open = done.1.shown.is_open; now_holds = done.2 };
+      };
+      spoiled = record {
+        spoiled = λ clean.
+            let before : HasCleanDisk old = omega (arith, clean, h.survives.clean) in
+            let first = was.sees.sees before in
+            let done = ran clean before in
+            let committed = done.1.shown.committed_is in
+            record {
+              ended = λ out. absurd (both_ways _ out (done.1.shown.mode ∙ first.mode));
+              kept_holds = λ _. subst (λ d. HoldsStage d kept) (sym (rw first.mode at committed)) ((was.spoiled.spoiled before).kept_holds first.is_open);
+              crash = kept_inside clean h.survives;
+            };
+      };
     }

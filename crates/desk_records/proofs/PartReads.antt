@@ -1,6 +1,7 @@
 -- What is read of the parts of one numbered record, in the order of their places.
-use Rattle.std.proofs.Common.{◌≡◌, ◌<◌, ◌≤◌, ℕ, zero, suc, ◌+◌, pos, List, [], ◌∷◌, ◌++◌, map, filter, slice_get, Bool, true, false, cond, reverse, refl, sym, ap, subst, ◌∙◌, arith, Less, IsPermutation, nat_eq}
+use Rattle.std.proofs.Common.{◌≡◌, ◌<◌, ◌≤◌, ℕ, zero, suc, ◌+◌, ◌-◌, pos, List, [], ◌∷◌, ◌++◌, map, filter, drop, slice_get, Bool, true, false, cond, reverse, refl, sym, ap, subst, ◌∙◌, arith, Less, IsPermutation, nat_eq, nat_lt}
 use Rattle.std.specs.List.{AllByRecursion}
+use Rattle.std.proofs.Math.Seq.{drop-nil}
 use Rattle.std.proofs.lemmas.Int.{ints}
 use Rattle.std.proofs.lemmas.Bool.Decides.{nat_tests}
 use Rattle.std.proofs.lemmas.Grind.{reverse_onto}
@@ -112,3 +113,15 @@ pub all_shown : {Y : Type 0} (rest told : Y → Row) (number : ℕ) (test shows 
     → map (on_content (shown_of shows params)) (filter (on_content (passes test params)) (rows_from (part_row rest number) place ys)) ≡ map told ys
 all_shown rest told number test shows params all is place [] = refl
 all_shown rest told number test shows params all is place (y ∷ ys) = rw (all place y, is place y) (ap (λ more. told y ∷ more) (all_shown rest told number test shows params all is (place + 1) ys))
+
+-- of the parts after so many, of which some are left before the first that passes
+pub later_shown : {Y : Type 0} (rest told : Y → Row) (number : ℕ) (test shows : List Term) (params : Row) (offset : ℕ) → ((place : ℕ) (y : Y) → on_content (passes test params) (part_row rest number place y) ≡ nat_lt offset place)
+    → ((place : ℕ) (y : Y) → on_content (shown_of shows params) (part_row rest number place y) ≡ told y) → (before left : ℕ) → left ≡ offset - before → (ys : List Y)
+    → map (on_content (shown_of shows params)) (filter (on_content (passes test params)) (rows_from (part_row rest number) (before + 1) ys)) ≡ map told (drop left ys)
+later_shown rest told number test shows params offset past is before left so_many [] = sym (ap (map told) (drop-nil left))
+later_shown rest told number test shows params offset past is before zero none (y ∷ ys) =
+    let kept : nat_lt offset (before + 1) ≡ true = grind (arith, nat_tests, none) in
+    rw (past (before + 1) y, kept, is (before + 1) y) (ap (λ more. told y ∷ more) (later_shown rest told number test shows params offset past is (before + 1) zero (omega (arith, none)) ys))
+later_shown rest told number test shows params offset past is before (suc left) so_many (y ∷ ys) =
+    let skipped : nat_lt offset (before + 1) ≡ false = grind (arith, nat_tests, so_many) in
+    rw (past (before + 1) y, skipped) (later_shown rest told number test shows params offset past is (before + 1) left (omega (arith, so_many)) ys)

@@ -21,7 +21,7 @@ use Rattle.sql_calls.specs.Means.{Means}
 use Rattle.sql_calls.proofs.Selects.{simple, by}
 use Rattle.desk_records.specs.declared.rollout_texts.TheConstants.{FIND_ROLLOUT, LAST_ROLLOUT, GET_ROLLOUT, LIST_ROLLOUTS, LIST_MEMBERS, LIST_GROUPS, GET_GROUP, HOLDING_GROUP, LAST_STARTED, PUT_ROLLOUT, SET_ROLLOUT, PUT_MEMBER, PUT_GROUP, SET_GROUP}
 use Rattle.desk_records.specs.Schema.{rollout_table, member_table, group_table}
-use Rattle.desk_records.proofs.MeaningWords.{means_of, is_equal, at_key, at_least, at_most}
+use Rattle.desk_records.proofs.MeaningWords.{means_of, is_equal, at_key, past, at_least, at_most}
 
 abbrev pub same_name : List Term
 same_name = at_key 2 0 ∷ []
@@ -126,14 +126,14 @@ list_rollouts_queries tree = record {
 pub list_rollouts_is : (s : Schema) (at tree : ℕ) → Stands s (codes "rollout") at (rollout_table tree) → Means s LIST_ROLLOUTS.now (Select (record { lets = []; body = list_rollouts_query tree }) rollout_names)
 list_rollouts_is s at tree stands = means_of s LIST_ROLLOUTS.now _ (queries_known _ _ _ _ _ (list_rollouts_queries tree) s at stands) refl refl
 
-abbrev pub of_rollout : List Term
-of_rollout = at_key 1 0 ∷ []
+abbrev pub after_place : List Term
+after_place = at_key 1 0 ∷ past 2 1 ∷ []
 
 abbrev pub member_columns : List Term
 member_columns = col 1 3 ∷ []
 
 abbrev pub list_members_query : ℕ → Query
-list_members_query tree = by (simple tree of_rollout member_columns) ((col 1 2, record { descending = false; collation = Binary }) ∷ []) (col 0 1) (col 0 2)
+list_members_query tree = by (simple tree after_place member_columns) ((col 1 2, record { descending = false; collation = Binary }) ∷ []) (col 0 2) (lit (Int (pos 0)))
 
 list_members_queries : (tree : ℕ) → Queries LIST_MEMBERS.now (codes "member") (member_table tree) (list_members_query tree) (codes "controller" ∷ [])
 unfolding first combine named paging everything
@@ -144,7 +144,7 @@ list_members_queries tree = record {
   shown = _;
   read = refl;
   selects = record { statement = refl; formats = refl; with = refl; others = refl };
-  one = record { source = _; from = refl; table = refl; alias = refl; on = refl; using = refl; is_inner = refl; group = refl; having = refl; shown = (tt, tt); filter = ((refl, λ cx how x y. refl), tt, tt); sorts = (tt, tt) };
+  one = record { source = _; from = refl; table = refl; alias = refl; on = refl; using = refl; is_inner = refl; group = refl; having = refl; shown = (tt, tt); filter = ((refl, λ cx how x y. refl), ((refl, λ cx how x y. refl), tt, tt), ((refl, λ cx how x y. refl), tt, tt)); sorts = (tt, tt) };
   paged = λ s. refl;
   named_alone = refl;
   known = refl;
@@ -159,6 +159,9 @@ list_members_is s at tree stands = means_of s LIST_MEMBERS.now _ (queries_known 
 
 abbrev pub group_names : List (List ℕ)
 group_names = codes "number" ∷ codes "first_place" ∷ codes "last_place" ∷ codes "started" ∷ codes "ok" ∷ codes "bad" ∷ codes "gone" ∷ []
+
+abbrev pub of_rollout : List Term
+of_rollout = at_key 1 0 ∷ []
 
 abbrev pub group_columns : List Term
 group_columns = col 1 2 ∷ col 1 3 ∷ col 1 4 ∷ col 1 5 ∷ col 1 6 ∷ col 1 7 ∷ col 1 8 ∷ []

@@ -1,9 +1,9 @@
 -- What is read of rollouts and groups, where a ledger is held.
-use Rattle.std.proofs.Common.{◌≡◌, ◌≤◌, ◌&&◌, ℕ, ◌+◌, pos, negsuc, List, [], ◌∷◌, map, filter, take, drop, find, length, slice_get, Bool, true, false, cond, ◌++◌, reverse, Option, Some, None, option_map, refl, sym, ap, subst, ◌∙◌, arith, nat_eq, nat_le}
+use Rattle.std.proofs.Common.{◌≡◌, ◌≤◌, ◌&&◌, ℕ, ◌+◌, pos, negsuc, List, [], ◌∷◌, map, filter, take, drop, find, length, slice_get, Bool, true, false, cond, ◌++◌, reverse, Option, Some, None, option_map, refl, sym, ap, subst, ◌∙◌, arith, nat_eq, nat_le, nat_lt}
 use Rattle.std.specs.List.{list_any}
 use Rattle.std.specs.Option.{is_some, option_or}
 use Rattle.std.proofs.lemmas.Grind.{reverse_onto}
-use Rattle.std.proofs.lemmas.List.{take-map, drop-map}
+use Rattle.std.proofs.lemmas.List.{take-map}
 use Rattle.std.proofs.lemmas.Option.{slice_get-map}
 use Rattle.std.proofs.lemmas.Bool.Decides.{nat_tests}
 use Rattle.sqlite_value.specs.declared.value.Value.TheVariants.{Null, Int, Text}
@@ -26,13 +26,13 @@ use Rattle.rollout_machine.specs.declared.records.RolloutRecord.{RolloutRecord}
 use Rattle.desk_records.specs.Modules.{IsLastRow}
 use Rattle.desk_records.specs.Schema.{Rollouts, Groups, Members}
 use Rattle.desk_records.specs.Parts.{parts_of}
-use Rattle.desk_records.specs.Rollouts.{flag, is_called, rollout_row, told_rollout, group_row, told_group, numbered_from, groups_of, last_started_group, members_of}
+use Rattle.desk_records.specs.Rollouts.{flag, is_called, rollout_row, told_rollout, group_row, told_group, numbered_from, groups_of, last_started_group, member_row, members_of}
 use Rattle.desk_records.specs.Holds.{HoldsLedger, Ledger}
-use Rattle.desk_records.proofs.Comparisons.{and_true, numbers_equal, numbers_at_least, numbers_at_most, words_equal}
+use Rattle.desk_records.proofs.Comparisons.{and_true, numbers_above, numbers_equal, numbers_at_least, numbers_at_most, words_equal}
 use Rattle.desk_records.proofs.MeaningWords.{at_key}
-use Rattle.desk_records.proofs.RolloutMeaning.{same_name, last_rollout_query, rollout_columns, list_rollouts_query, of_rollout, group_columns, list_groups_query, of_group, get_group_query, holding, holding_group_query, started_in, last_started_query, list_members_query, member_columns}
+use Rattle.desk_records.proofs.RolloutMeaning.{same_name, last_rollout_query, rollout_columns, list_rollouts_query, of_rollout, group_columns, list_groups_query, of_group, get_group_query, holding, holding_group_query, started_in, last_started_query, after_place, list_members_query, member_columns}
 use Rattle.desk_records.proofs.NumberedReads.{finds, gets, lasts, pages, passes_number}
-use Rattle.desk_records.proofs.PartReads.{all_shown, map_reverse, reads_parts}
+use Rattle.desk_records.proofs.PartReads.{later_shown, map_reverse, reads_parts}
 use Rattle.desk_records.proofs.TargetRecords.{first_row}
 
 same : (n : ℕ) → nat_eq n n ≡ true
@@ -214,14 +214,17 @@ module _ (db : Database) (l : Ledger) (holds : HoldsLedger db l) (names : List (
 
 module _ (db : Database) (l : Ledger) (holds : HoldsLedger db l) (names : List (List ℕ)) where
   -- a page of them in the order of their places
-  pub lists_members : (number limit offset : ℕ) → 1 ≤ number → (rows : List Row)
-      → Shows (Select (record { lets = []; body = list_members_query (holds.spot Members).tree }) names) db (Int (pos number) ∷ Int (pos limit) ∷ Int (pos offset) ∷ []) rows
+  pub lists_members : (number offset limit : ℕ) → 1 ≤ number → (rows : List Row)
+      → Shows (Select (record { lets = []; body = list_members_query (holds.spot Members).tree }) names) db (Int (pos number) ∷ Int (pos offset) ∷ Int (pos limit) ∷ []) rows
       → rows ≡ map (λ (id : Bytes). Text id ∷ []) (take limit (drop offset (members_of (item_numbered l.records.rollouts number))))
-  lists_members number limit offset least rows shows =
-      let params = Int (pos number) ∷ Int (pos limit) ∷ Int (pos offset) ∷ [] in
+  lists_members number offset limit least rows shows =
+      let params = Int (pos number) ∷ Int (pos offset) ∷ Int (pos limit) ∷ [] in
       let told = λ (id : Bytes). Text id ∷ [] in
       let all = members_of (item_numbered l.records.rollouts number) in
-      reads_parts told (λ (x : RolloutRecord). x.members) (holds.spot Members).tree of_rollout member_columns (col 0 1) (col 0 2) params false number least (λ id x. refl) (λ id x. refl) (λ n place id apart. and_true _ ∙ numbers_equal n number ∙ apart)
+      reads_parts told (λ (x : RolloutRecord). x.members) (holds.spot Members).tree after_place member_columns (col 0 2) (lit (Int (pos 0))) params false number least (λ id x. refl) (λ id x. refl) (λ n place id apart. is_after n place id ∙ ap (λ b. b && nat_lt offset place) apart)
       db.trees l.records.rollouts (holds.rows Members) rows (shows.answer Null)
-      ∙ ap (λ more. take limit (drop offset more)) (all_shown told told number of_rollout member_columns params (λ place id. and_true _ ∙ numbers_equal number number ∙ same number) (λ place id. refl) 1 all)
-      ∙ ap (take limit) (drop-map told offset all) ∙ take-map told limit (drop offset all)
+      ∙ ap (take limit) (later_shown told told number after_place member_columns params offset (λ place id. is_after number place id ∙ ap (λ b. b && nat_lt offset place) (same number)) (λ place id. refl) 0 offset (omega arith) all)
+      ∙ take-map told limit (drop offset all)
+    where
+      is_after : (n place : ℕ) (id : Bytes) → on_content (passes after_place (Int (pos number) ∷ Int (pos offset) ∷ Int (pos limit) ∷ [])) (member_row n place id) ≡ (nat_eq n number && nat_lt offset place)
+      is_after n place id = rw (numbers_equal n number, numbers_above place offset, and_true (nat_lt offset place)) refl

@@ -13,9 +13,10 @@ pub const GET_ROLLOUT: &str =
 pub const LIST_ROLLOUTS: &str =
     "SELECT name, dset, filter_text, groups, success, error, approval, started, paused FROM rollout ORDER BY number LIMIT ?1 OFFSET ?2";
 
-/// The members of a rollout, in the order of their places: at most as many as the second parameter, after as many as the third.
+/// The members of a rollout after a place, in the order of their places: at most as many as the third parameter. A place says how many members
+/// come up to it, so no row before the first of them is read.
 pub const LIST_MEMBERS: &str =
-    "SELECT controller FROM member WHERE rollout = ?1 ORDER BY place LIMIT ?2 OFFSET ?3";
+    "SELECT controller FROM member WHERE rollout = ?1 AND place > ?2 ORDER BY place LIMIT ?3";
 
 /// The groups of a rollout, in the order of their numbers.
 pub const LIST_GROUPS: &str =

@@ -121,11 +121,11 @@ rollouts_read limit offset old new rows =
 one_member : (a b : Bytes) → column (Text b ∷ []) 0 ≡ Text a → a ≡ b
 one_member a b h = let same : Text b ≡ Text a = h in cc
 
-pub members_read : (number limit offset : ℕ) → 1 ≤ number → (old new : State) (rows : Vec Row Global) → AsksText old new LIST_MEMBERS.now (Int (pos number) ∷ Int (pos limit) ∷ Int (pos offset) ∷ []) (Ok rows) → (out : Result (Vec (Word TargetKind) Global) Fault)
+pub members_read : (number offset limit : ℕ) → 1 ≤ number → (old new : State) (rows : Vec Row Global) → AsksText old new LIST_MEMBERS.now (Int (pos number) ∷ Int (pos offset) ∷ Int (pos limit) ∷ []) (Ok rows) → (out : Result (Vec (Word TargetKind) Global) Fault)
     → IfOk out (λ found. AreReadAs (λ row id. column row 0 ≡ Text id) rows.items found.items) → Finds HoldsLedger (λ (l : Ledger). l) old new out (λ l found. found.items ≡ take limit (drop offset (members_of (item_numbered l.records.rollouts number))))
-members_read number limit offset least old new rows =
-    asks_all (λ (l : Ledger). l) vec_items (λ row id. column row 0 ≡ Text id) (λ id. Text id ∷ []) one_member LIST_MEMBERS.now (Int (pos number) ∷ Int (pos limit) ∷ Int (pos offset) ∷ []) old new listing_members (λ l. take limit (drop offset (members_of (item_numbered l.records.rollouts number)))) rows
-    (λ db l holds shown. lists_members db l holds (codes "controller" ∷ []) number limit offset least rows.items shown)
+members_read number offset limit least old new rows =
+    asks_all (λ (l : Ledger). l) vec_items (λ row id. column row 0 ≡ Text id) (λ id. Text id ∷ []) one_member LIST_MEMBERS.now (Int (pos number) ∷ Int (pos offset) ∷ Int (pos limit) ∷ []) old new listing_members (λ l. take limit (drop offset (members_of (item_numbered l.records.rollouts number)))) rows
+    (λ db l holds shown. lists_members db l holds (codes "controller" ∷ []) number offset limit least rows.items shown)
 
 -- ---- groups
 

@@ -96,10 +96,7 @@ impl<'a, S: Alter> OpenChange<'a, S> {
         ensures work { self.new.store.now.calls.work.statements ≤ self.old.store.now.calls.work.statements + 1 }
     {
         let alloc = self.store.alloc;
-        let rows = self.ask(
-            LIST_ACTIONS,
-            params![number.get(), page.limit, page.offset],
-        )?;
+        let rows = self.ask(LIST_ACTIONS, params![number.get(), page.limit, page.offset])?;
         read_all(alloc, &rows)
     }
 
@@ -129,10 +126,7 @@ impl<'a, S: Alter> OpenChange<'a, S> {
         ensures work { self.new.store.now.calls.work.statements ≤ self.old.store.now.calls.work.statements + 1 }
     {
         let alloc = self.store.alloc;
-        let rows = self.ask(
-            LIST_ENTRIES,
-            params![number.get(), page.limit, page.offset],
-        )?;
+        let rows = self.ask(LIST_ENTRIES, params![number.get(), page.limit, page.offset])?;
         read_all(alloc, &rows)
     }
 

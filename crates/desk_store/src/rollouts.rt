@@ -119,10 +119,7 @@ impl<'a, S: Alter> OpenChange<'a, S> {
         ensures work { self.new.store.now.calls.work.statements ≤ self.old.store.now.calls.work.statements + 1 }
     {
         let alloc = self.store.alloc;
-        let rows = self.ask(
-            LIST_MEMBERS,
-            params![number.get(), page.limit, page.offset],
-        )?;
+        let rows = self.ask(LIST_MEMBERS, params![number.get(), page.offset, page.limit])?;
         read_all(alloc, &rows)
     }
 

@@ -1,6 +1,7 @@
 -- From actions that were read to what is shown of them.
 use Rattle.std.proofs.Common.{◌≡◌, ◌<◌, ℕ, zero, suc, ◌+◌, nat_eq, Bool, true, false, not, cond, List, [], ◌∷◌, ◌++◌, map, get_or, length, take, drop, Option, Some, None, inl, inr, refl, sym, ap, ◌∙◌, add-one, arith}
 use Rattle.std.proofs.lemmas.Bool.{cases_lt}
+use Rattle.std.proofs.lemmas.Bool.Decides.{nat_tests}
 use Rattle.std.proofs.lemmas.List.{length-map, length-take-le, map-append, take_all, take_more}
 use Rattle.std.specs.List.{zip}
 use Rattle.std.specs.Option.{is_some, option_map}
@@ -14,6 +15,7 @@ use Rattle.rollout_machine.specs.Replies.{ActionShown, Refused, Reply, ShownActi
 use Rattle.rollout_machine.specs.Requests.{Page}
 use Rattle.rollout_machine.specs.StateWords.{group_holding, group_is_started, is_for, is_started_in, member_at, number_of_group}
 use Rattle.rollout_machine.specs.declared.records.ActionRecord.{ActionRecord}
+use Rattle.rollout_machine.specs.declared.records.GroupRecord.{GroupRecord}
 use Rattle.rollout_machine.specs.declared.records.RolloutRecord.{RolloutRecord}
 use Rattle.rollout_model.specs.declared.refusal.Refusal.TheVariants.{NotFound}
 use Rattle.campaign_core.specs.StatusWords.{action_word_from}
@@ -22,7 +24,7 @@ use Rattle.desk_records.specs.Parts.{parts_of}
 use Rattle.desk_records.specs.RolloutRow.{actions_for, actions_of, listed_where, stored_action}
 use Rattle.desk_records.specs.declared.rollout_row.ListedAction.{ListedAction}
 use Rattle.desk_records.specs.declared.rollout_row.StoredAction.{StoredAction}
-use Rattle.desk_views.specs.Actions.{listed_shown, stored_in}
+use Rattle.desk_views.specs.Actions.{listed_shown, shown_among, stored_in}
 use Rattle.desk_views.proofs.ArtifactViews.{turned}
 use Rattle.desk_views.proofs.GroupViews.{part_mapped}
 
@@ -49,20 +51,26 @@ listed_is r k a = go (item_numbered r.rollouts a.rollout) where
   go (Some x) = refl
 
 -- of the actions that pass
-where_is : (r : Records) (p : ActionRecord → Bool) (n : ℕ) (as' : List ActionRecord) → map (listed_shown r) (listed_where (λ it. p it.0) r.rollouts n (map with_tally as')) ≡ actions_where p r n as'
-where_is r p n [] = refl
-where_is r p n (a ∷ as') = go (p a) (ap (λ k. map (listed_shown r) (listed_where (λ it. p it.0) r.rollouts k (map with_tally as'))) (add-one n) ∙ where_is r p (suc n) as') where
-  go : (b : Bool) → map (listed_shown r) (listed_where (λ it. p it.0) r.rollouts (n + 1) (map with_tally as')) ≡ actions_where p r (suc n) as'
-      → map (listed_shown r) (cond b (record { number = n; action = stored_action r.rollouts (with_tally a) } ∷ listed_where (λ it. p it.0) r.rollouts (n + 1) (map with_tally as')) (listed_where (λ it. p it.0) r.rollouts (n + 1) (map with_tally as')))
+where_is : (r : Records) (f : ListedAction → ShownAction) (p : ActionRecord → Bool) → ((k : ℕ) (a : ActionRecord) → p a ≡ true → f (record { number = k; action = stored_in r a }) ≡ action_shown r k a) → (n : ℕ) (as' : List ActionRecord)
+    → map f (listed_where (λ it. p it.0) r.rollouts n (map with_tally as')) ≡ actions_where p r n as'
+where_is r f p each n [] = refl
+where_is r f p each n (a ∷ as') = go (p a) refl (ap (λ k. map f (listed_where (λ it. p it.0) r.rollouts k (map with_tally as'))) (add-one n) ∙ where_is r f p each (suc n) as') where
+  go : (b : Bool) → p a ≡ b → map f (listed_where (λ it. p it.0) r.rollouts (n + 1) (map with_tally as')) ≡ actions_where p r (suc n) as'
+      → map f (cond b (record { number = n; action = stored_action r.rollouts (with_tally a) } ∷ listed_where (λ it. p it.0) r.rollouts (n + 1) (map with_tally as')) (listed_where (λ it. p it.0) r.rollouts (n + 1) (map with_tally as')))
       ≡ cond b (action_shown r n a ∷ actions_where p r (suc n) as') (actions_where p r (suc n) as')
-  go true rest = λ i. listed_is r n a i ∷ rest i
-  go false rest = rest
+  go true passes rest = λ i. each n a passes i ∷ rest i
+  go false fails rest = rest
 
 pub of_target_is : (r : Records) (id : Bytes) → map (listed_shown r) (actions_for r.rollouts id 1 (zip r.actions (map tally_of r.actions))) ≡ actions_of_target r id
-of_target_is r id = ap (λ l. map (listed_shown r) (actions_for r.rollouts id 1 l)) (tallied r.actions) ∙ where_is r (is_for r id) 1 r.actions
+of_target_is r id = ap (λ l. map (listed_shown r) (actions_for r.rollouts id 1 l)) (tallied r.actions) ∙ where_is r (listed_shown r) (is_for r id) (λ k a passes. listed_is r k a) 1 r.actions
 
-pub of_rollout_is : (r : Records) (number : ℕ) → map (listed_shown r) (actions_of r.rollouts number 1 (zip r.actions (map tally_of r.actions))) ≡ actions_of_rollout r number
-of_rollout_is r number = ap (λ l. map (listed_shown r) (actions_of r.rollouts number 1 l)) (tallied r.actions) ∙ where_is r (λ a. nat_eq a.rollout number) 1 r.actions
+pub of_rollout_is : (r : Records) (number : ℕ) (groups : List GroupRecord) → groups ≡ parts_of (λ (x : RolloutRecord). x.groups) (item_numbered r.rollouts number)
+    → map (shown_among groups) (actions_of r.rollouts number 1 (zip r.actions (map tally_of r.actions))) ≡ actions_of_rollout r number
+of_rollout_is r number groups its = ap (λ l. map (shown_among groups) (actions_of r.rollouts number 1 l)) (tallied r.actions) ∙ where_is r (shown_among groups) (λ a. nat_eq a.rollout number) each 1 r.actions where
+  each : (k : ℕ) (a : ActionRecord) → nat_eq a.rollout number ≡ true → shown_among groups (record { number = k; action = stored_in r a }) ≡ action_shown r k a
+  each k a same =
+      let of : number ≡ a.rollout = grind (arith, nat_tests, same) in
+      ap (λ (gs : List GroupRecord). shown_among gs (record { number = k; action = stored_in r a })) (its ∙ ap (λ n. parts_of (λ (x : RolloutRecord). x.groups) (item_numbered r.rollouts n)) of) ∙ listed_is r k a
 
 -- ---- an action of a target
 

@@ -29,9 +29,13 @@ shown_in it group = record {
   word = action_word_from (record { outcome = it.action.outcome; started = group_is_started group; canceling = it.action.canceling });
 }
 
+-- among the groups of its rollout
+abbrev pub shown_among : List GroupRecord → ListedAction → ShownAction
+shown_among groups it = shown_in it (group_holding it.action.position groups)
+
 -- in these records
 abbrev pub listed_shown : Records → ListedAction → ShownAction
-listed_shown r it = shown_in it (group_holding it.action.position (parts_of (λ (x : RolloutRecord). x.groups) (item_numbered r.rollouts it.action.rollout)))
+listed_shown r it = shown_among (parts_of (λ (x : RolloutRecord). x.groups) (item_numbered r.rollouts it.action.rollout)) it
 
 -- what was reported of an action that is there
 abbrev pub history_of : Option ActionRecord → List HistoryEntry

@@ -1,12 +1,14 @@
 //! Actions of targets and of rollouts, and their histories.
 
-ghost use Rattle.std.specs.Prelude.{◌≡◌, ◌<◌, ◌+◌, length, map, take, drop, IfOk};
+ghost use Rattle.std.specs.Prelude.{◌≡◌, ◌≤◌, ◌<◌, ◌+◌, length, map, take, drop, option_copied, IfOk};
 ghost use Rattle.std.specs.Option.{option_map};
 ghost use Rattle.rollout_machine.specs.Answers.{action_of_target};
 ghost use Rattle.rollout_machine.specs.ByteStrings.{item_numbered};
+ghost use Rattle.rollout_machine.specs.Groups.{holds_position};
 ghost use Rattle.rollout_machine.specs.Objects.{entry_shown, numbered};
+ghost use Rattle.rollout_machine.specs.StateWords.{group_holding};
 ghost use Rattle.rollout_machine.specs.Requests.{ShowAction, ShowActionsTable, ShowHistory, ShowTargetActions};
-ghost use Rattle.desk_views.specs.Actions.{history_of, listed_shown, shown_in, stored_in};
+ghost use Rattle.desk_views.specs.Actions.{history_of, listed_shown, shown_among, shown_in, stored_in};
 ghost use Rattle.desk_views.specs.Showing.{FindsAtListsIn, ShowsIn};
 ghost use Rattle.desk_store.specs.Changing.{FindsIn, StaysIn};
 
@@ -54,13 +56,15 @@ pub fn show_actions_table<S: Alter>(
 ) -> Result<Reply, Fault>
     ensures stays { StaysIn S.Store change.old change.new result }
     ensures shows { ShowsIn S.Store change.old change.new (ShowActionsTable number) result }
+    ensures work { change.new.store.now.calls.work.statements ≤ change.old.store.now.calls.work.statements + 3 }
 {
     if change.read_rollout(number)?.is_none() {
         return Ok(Reply::Refused(Refusal::NotFound));
     }
     let all = change.read_actions(number, WHOLE)?;
     count_of(&all)?;
-    let actions = read_all_shown(alloc, change, &all)?;
+    let groups = change.read_groups(number)?;
+    let actions = all_shown_among(alloc, &groups, &all)?;
     Ok(Reply::ActionsTable(actions))
 }
 
@@ -185,6 +189,38 @@ fn read_all_shown<S: Alter>(
         }
     }
     Ok(all)
+}
+
+/// Actions of one rollout that were listed, as they are shown among its groups.
+fn all_shown_among(
+    alloc: Global,
+    groups: &[GroupRecord],
+    listed: &[ListedAction],
+) -> Result<Vec<Action>, Fault>
+    ensures { IfOk result (λ all. all.items ≡ map (shown_among groups.now) listed.now) }
+{
+    let mut all = Vec::new(alloc);
+    for one in listed {
+        let group = group_holding(groups, one.action.position);
+        match all.push(shown_in(*one, group.copied())) {
+            Ok(()) => {}
+            Err(_) => return Err(Fault::Memory),
+        }
+    }
+    Ok(all)
+}
+
+/// The first of the groups that has a place.
+fn group_holding(groups: &[GroupRecord], place: u32) -> Option<&GroupRecord>
+    ensures { option_copied result ≡ group_holding place groups.now }
+{
+    groups.iter().find(|group| holds_position(group, place))
+}
+
+fn holds_position(group: &GroupRecord, place: u32) -> bool
+    ensures { result ≡ holds_position place group.now.bounds }
+{
+    group.bounds.first <= place && place <= group.bounds.last
 }
 
 /// An action that was listed, as it is shown: its group tells whether it is started.

@@ -61,9 +61,11 @@ module _ {R Q : Type 0} {Holds : Database → R → Type 0} {of : Q → R} where
       → (out : Result B F) → Makes Holds of b c out D → Makes Holds of a c out W
   makes_then first parts (Ok y) second = record {
     wears = omega (arith, first.wears, second.wears);
-    makes = λ now next was change. record { sees = λ clean.
-        let it = parts now next (change clean) in
-        (second.makes it.0 next (first.makes now it.0 was (λ known. it.1)) (λ known. it.2)).sees clean };
+    makes = λ now next was change. record {
+      sees = λ clean.
+          let it = parts now next (change clean) in
+          (second.makes it.0 next (first.makes now it.0 was (λ known. it.1)) (λ known. it.2)).sees clean;
+    };
   }
   makes_then first parts (Err e) second = record { wears = omega (arith, first.wears, second.wears); makes = tt }
 

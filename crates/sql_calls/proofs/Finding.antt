@@ -36,10 +36,12 @@ module _ {R Q : Type 0} (Holds : Database → R → Type 0) (of : Q → R) (sql 
     ask_finds rows h (Ok a) answers = record {
       wears = h.survives.clean;
       finds = λ now was. (
-        record { sees = λ clean.
-            let first = was.sees (omega (arith, clean, h.survives.clean)) in
-            let k = knows old.now (of now) first.now_holds in
-            sees_still (of now) first (unchanged_by sql k.command params old new k.means rows.items (h.answers clean)) },
+        record {
+          sees = λ clean.
+              let first = was.sees (omega (arith, clean, h.survives.clean)) in
+              let k = knows old.now (of now) first.now_holds in
+              sees_still (of now) first (unchanged_by sql k.command params old new k.means rows.items (h.answers clean));
+        },
         λ clean.
             let first = was.sees (omega (arith, clean, h.survives.clean)) in
             let k = knows old.now (of now) first.now_holds in
@@ -69,10 +71,12 @@ module _ {R Q : Type 0} (Holds : Database → R → Type 0) (of : Q → R) (sql 
   run_makes Change knows (Err e) h effect = record { wears = h.survives.clean; makes = tt }
   run_makes Change knows (Ok _) h effect = record {
     wears = h.survives.clean;
-    makes = λ now next was is. record { sees = λ clean.
-        let first = was.sees (omega (arith, clean, h.survives.clean)) in
-        let k = knows old.now (of now) first.now_holds in
-        let done = h.runs clean in
-        let ran = effect now next (is clean) first.now_holds done.0 (runs_plain sql k.command params old new k.means done.0 done.1) in
-        record { mode = ran.0.shown.mode ∙ first.mode; is_open = ran.0.shown.is_open; now_holds = ran.1 } };
+    makes = λ now next was is. record {
+      sees = λ clean.
+          let first = was.sees (omega (arith, clean, h.survives.clean)) in
+          let k = knows old.now (of now) first.now_holds in
+          let done = h.runs clean in
+          let ran = effect now next (is clean) first.now_holds done.0 (runs_plain sql k.command params old new k.means done.0 done.1) in
+          record { mode = ran.0.shown.mode ∙ first.mode; is_open = ran.0.shown.is_open; now_holds = ran.1 };
+    };
   }

@@ -26,27 +26,31 @@ module _ {R : Type 0} (Holds : Database → R → Type 0) (sql : List ℕ) (old 
 
   module _ (means : Means old.now.schema sql Begin) where
     begun_sees : (r : R) → Rests Holds old r → RunsText old new sql [] (Ok tt) → Sees Holds new r
-    begun_sees r was h = record { sees = λ clean.
-        let first = was (omega (arith, h.survives.clean, clean)) in
-        let done = h.runs clean in
-        let shown = (runs_plain sql Begin [] old new means done.0 done.1).1 in
-        record {
-          mode = shown.mode;
-          is_open = shown.is_open;
-          now_holds = subst (λ d. Holds d r) (sym (shown.now_is ∙ first.held.ended first.mode shown.was_open)) (first.held.kept_holds shown.was_open);
-        } }
-
-    begun_opens : (r : R) → Rests Holds old r → RunsText old new sql [] (Ok tt) → Opens Holds new r
-    begun_opens r was h = record {
-      spoiled = record { spoiled = λ clean.
+    begun_sees r was h = record {
+      sees = λ clean.
           let first = was (omega (arith, h.survives.clean, clean)) in
           let done = h.runs clean in
           let shown = (runs_plain sql Begin [] old new means done.0 done.1).1 in
           record {
-            ended = λ out. absurd (both_ways _ out shown.mode);
-            kept_holds = λ _. subst (λ d. Holds d r) (sym shown.committed_is) (first.held.kept_holds shown.was_open);
-            crash = λ db left. first.held.crash db (crash_kept old new _ clean (λ db. never_commits_idle sql Begin old new means db refl) h.survives db left);
-          } };
+            mode = shown.mode;
+            is_open = shown.is_open;
+            now_holds = subst (λ d. Holds d r) (sym (shown.now_is ∙ first.held.ended first.mode shown.was_open)) (first.held.kept_holds shown.was_open);
+          };
+    }
+
+    begun_opens : (r : R) → Rests Holds old r → RunsText old new sql [] (Ok tt) → Opens Holds new r
+    begun_opens r was h = record {
+      spoiled = record {
+        spoiled = λ clean.
+            let first = was (omega (arith, h.survives.clean, clean)) in
+            let done = h.runs clean in
+            let shown = (runs_plain sql Begin [] old new means done.0 done.1).1 in
+            record {
+              ended = λ out. absurd (both_ways _ out shown.mode);
+              kept_holds = λ _. subst (λ d. Holds d r) (sym shown.committed_is) (first.held.kept_holds shown.was_open);
+              crash = λ db left. first.held.crash db (crash_kept old new _ clean (λ db. never_commits_idle sql Begin old new means db refl) h.survives db left);
+            };
+      };
       inside = λ clean.
           let first = was (omega (arith, h.survives.clean, clean)) in
           let done = h.runs clean in
@@ -58,28 +62,31 @@ module _ {R : Type 0} (Holds : Database → R → Type 0) (sql : List ℕ) (old 
     begins h = record { wears = h.survives.clean; opens = λ r was. begun_opens r was h; sees = λ r was. begun_sees r was h }
 
     pub fails_to_begin : (fault : Fault) → RunsText old new sql [] (Err fault) → Keeps Holds old new
-    fails_to_begin fault h = record { wears = h.survives.clean; rests = λ r was clean.
-        let first = was (omega (arith, h.survives.clean, clean)) in
-        let crash = λ (db : Trees) (left : new.may_leave db). first.held.crash db (crash_kept old new _ clean (λ db. never_commits_idle sql Begin old new means db refl) h.survives db left) in
-        let failed = h.runs clean in
-        elim (refused sql [] old new failed.0 failed.2) [
-          | inl same ↦ record {
-            mode = same.0.mode ∙ first.mode;
-            held = record {
-              ended = λ _ _. same.0.now_is ∙ first.held.ended first.mode same.0.was_open ∙ sym same.0.committed_is;
-              kept_holds = λ _. subst (λ d. Holds d r) (sym same.0.committed_is) (first.held.kept_holds same.0.was_open);
-              crash = crash;
-            };
-          }
-          | inr back ↦ record {
-            mode = back.autocommit;
-            held = record {
-              ended = λ _ on. (back.undone on).0 ∙ sym (back.undone on).1;
-              kept_holds = λ on. subst (λ d. Holds d r) (sym (back.undone on).1) (first.held.kept_holds (back.was_open on));
-              crash = crash;
-            };
-          }
-        ] }
+    fails_to_begin fault h = record {
+      wears = h.survives.clean;
+      rests = λ r was clean.
+          let first = was (omega (arith, h.survives.clean, clean)) in
+          let crash = λ (db : Trees) (left : new.may_leave db). first.held.crash db (crash_kept old new _ clean (λ db. never_commits_idle sql Begin old new means db refl) h.survives db left) in
+          let failed = h.runs clean in
+          elim (refused sql [] old new failed.0 failed.2) [
+            | inl same ↦ record {
+              mode = same.0.mode ∙ first.mode;
+              held = record {
+                ended = λ _ _. same.0.now_is ∙ first.held.ended first.mode same.0.was_open ∙ sym same.0.committed_is;
+                kept_holds = λ _. subst (λ d. Holds d r) (sym same.0.committed_is) (first.held.kept_holds same.0.was_open);
+                crash = crash;
+              };
+            }
+            | inr back ↦ record {
+              mode = back.autocommit;
+              held = record {
+                ended = λ _ on. (back.undone on).0 ∙ sym (back.undone on).1;
+                kept_holds = λ on. subst (λ d. Holds d r) (sym (back.undone on).1) (first.held.kept_holds (back.was_open on));
+                crash = crash;
+              };
+            }
+          ];
+    }
 
   -- ---- it is committed
 
@@ -109,10 +116,12 @@ module _ {R : Type 0} (Holds : Database → R → Type 0) (sql : List ℕ) (old 
     not_committed now kept was held fault h clean =
         let before : HasCleanDisk old = omega (arith, h.survives.clean, clean) in
         let first = was.sees before in
-        record { crash = λ db left. elim (h.survives.crash clean db left) [
-          | inl it ↦ inl ((held.spoiled before).crash db it)
-          | inr made ↦ inr (subst (λ t. HoldIn Holds t now) (sym (commits_now db first.mode made)) (old.now.schema, first.now_holds))
-        ] }
+        record {
+          crash = λ db left. elim (h.survives.crash clean db left) [
+            | inl it ↦ inl ((held.spoiled before).crash db it)
+            | inr made ↦ inr (subst (λ t. HoldIn Holds t now) (sym (commits_now db first.mode made)) (old.now.schema, first.now_holds))
+          ];
+        }
 
     pub commits : (out : Result (Unit {0}) Fault) → RunsText old new sql [] out → IsSettled new → Commits Holds old new out
     commits (Ok _) h settled = record { wears = h.survives.clean; commits = λ now was. committed_rests now was h settled }

@@ -87,23 +87,27 @@ module _ {R : Type 0} (Holds : Database → R → Type 0) where
 
     goes_on : (kept : R) → Opens Holds old kept → (survives : Survives old new (CommitsShowing sql params old)) → (IsInside old → IsSpoiled Holds old kept → HasCleanDisk new → IsUnchanged old new) → Opens Holds new kept
     goes_on kept opens survives same = record {
-      spoiled = record { spoiled = λ clean.
-          let before : HasCleanDisk old = omega (arith, clean, survives.clean) in
-          let was = opens.inside before in
-          let held = opens.spoiled.spoiled before in
-          let it = same was held clean in
-          still_kept old new kept was held (shown_kept kept clean survives was) (it.0.mode ∙ was.mode) it.0.committed_is };
+      spoiled = record {
+        spoiled = λ clean.
+            let before : HasCleanDisk old = omega (arith, clean, survives.clean) in
+            let was = opens.inside before in
+            let held = opens.spoiled.spoiled before in
+            let it = same was held clean in
+            still_kept old new kept was held (shown_kept kept clean survives was) (it.0.mode ∙ was.mode) it.0.committed_is;
+      };
       inside = λ clean.
           let before : HasCleanDisk old = omega (arith, clean, survives.clean) in
           stays_inside_it old new (opens.inside before) (same (opens.inside before) (opens.spoiled.spoiled before) clean);
     }
 
     breaks_off : (kept : R) → Opens Holds old kept → (survives : Survives old new (CommitsShowing sql params old)) → (IsInside old → IsSpoiled Holds old kept → HasCleanDisk new → Leaves old new) → Spoiled Holds new kept
-    breaks_off kept opens survives leaves = record { spoiled = λ clean.
-        let before : HasCleanDisk old = omega (arith, clean, survives.clean) in
-        let was = opens.inside before in
-        let held = opens.spoiled.spoiled before in
-        spoiled_by old new kept was held (shown_kept kept clean survives was) (leaves was held clean) }
+    breaks_off kept opens survives leaves = record {
+      spoiled = λ clean.
+          let before : HasCleanDisk old = omega (arith, clean, survives.clean) in
+          let was = opens.inside before in
+          let held = opens.spoiled.spoiled before in
+          spoiled_by old new kept was held (shown_kept kept clean survives was) (leaves was held clean);
+    }
 
     pub ask_frames : (out : Result (Vec Row Global) Fault) → AsksText old new sql params out → FrameTo Holds old new out
     ask_frames (Ok rows) h = λ kept opens. goes_on kept opens h.survives (λ was held clean. unchanged_by sql (known kept was held).command params old new (known kept was held).means rows.items (h.answers clean))
@@ -134,12 +138,14 @@ module _ {R : Type 0} (Holds : Database → R → Type 0) where
 
     pub run_frames : (out : Result (Unit {0}) Fault) → RunsText old new sql params out → FrameTo Holds old new out
     run_frames (Ok _) h = λ kept opens. record {
-      spoiled = record { spoiled = λ clean.
-          let before : HasCleanDisk old = omega (arith, clean, h.survives.clean) in
-          let was = opens.inside before in
-          let held = opens.spoiled.spoiled before in
-          let w = (wrote kept was held h clean).1 in
-          still_kept old new kept was held (run_kept kept clean h.survives was held) (w.shown.mode ∙ was.mode) (rw was.mode at w.shown.committed_is) };
+      spoiled = record {
+        spoiled = λ clean.
+            let before : HasCleanDisk old = omega (arith, clean, h.survives.clean) in
+            let was = opens.inside before in
+            let held = opens.spoiled.spoiled before in
+            let w = (wrote kept was held h clean).1 in
+            still_kept old new kept was held (run_kept kept clean h.survives was held) (w.shown.mode ∙ was.mode) (rw was.mode at w.shown.committed_is);
+      };
       inside = λ clean.
           let before : HasCleanDisk old = omega (arith, clean, h.survives.clean) in
           let was = opens.inside before in
@@ -152,9 +158,11 @@ module _ {R : Type 0} (Holds : Database → R → Type 0) where
             fits = same_schema old new (known_write kept was held).command (statement_of sql (understood old.now.schema sql)) params it.0 (write.rows old.committed kept (held.kept_holds was.is_open)) it.1 ∙ was.fits ∙ sym (ap schema_of committed);
           };
     }
-    run_frames (Err fault) h = λ kept opens. record { spoiled = λ clean.
-        let before : HasCleanDisk old = omega (arith, clean, h.survives.clean) in
-        let was = opens.inside before in
-        let held = opens.spoiled.spoiled before in
-        let failed = h.runs clean in
-        spoiled_by old new kept was held (run_kept kept clean h.survives was held) (refused sql params old new failed.0 failed.2) }
+    run_frames (Err fault) h = λ kept opens. record {
+      spoiled = λ clean.
+          let before : HasCleanDisk old = omega (arith, clean, h.survives.clean) in
+          let was = opens.inside before in
+          let held = opens.spoiled.spoiled before in
+          let failed = h.runs clean in
+          spoiled_by old new kept was held (run_kept kept clean h.survives was held) (refused sql params old new failed.0 failed.2);
+    }

@@ -6,8 +6,9 @@ use Rattle.rollout_machine.specs.ByteStrings.{item_numbered}
 use Rattle.rollout_machine.specs.Objects.{actions_of_rollout}
 use Rattle.rollout_machine.specs.Replies.{ActionsTableShown}
 use Rattle.desk_store.proofs.LedgersOfRecords.{ledger_found}
-use Rattle.desk_views.specs.Actions.{listed_shown}
+use Rattle.desk_views.specs.Actions.{shown_among}
 use Rattle.desk_views.proofs.ActionViews.{all_listed, none_there, of_rollout_is, one_there}
+use Rattle.desk_views.proofs.ListLemmas.{groups_are}
 use Rattle.desk_views.proofs.actions.show_actions_table.Goals as goal
 
 pub returns-then-is_none-clause-shows : goal.returns-then-is_none-clause-shows
@@ -18,6 +19,9 @@ returns-then-is_none-clause-shows g c =
 pub returns-clause-shows : goal.returns-clause-shows
 returns-clause-shows g c =
     finds_as
-    (both_found (both_found (ledger_found _ c.in_ok-read_rollout.ensures.reads) (ledger_found _ c.in_ok-all.ensures.reads)) c.in_ok-actions.ensures.reads)
+    (both_found (both_found (ledger_found _ c.in_ok-read_rollout.ensures.reads) (ledger_found _ c.in_ok-all.ensures.reads)) (ledger_found _ c.in_ok-groups.ensures.reads))
     (λ r is of. one_there stored_rollout (item_numbered r.rollouts c.args.number) (λ _. ActionsTableShown (actions_of_rollout r c.args.number)) _ (sym (ap is_some is.0.0) ∙ c.is_none.ensures ∙ ap not c.if-is_none.false)
-    (λ x there. ap ActionsTableShown (is.1 of ∙ ap (map (listed_shown r)) (c.deref-2.ensures.value ∙ all_listed 4294967295 c.in_ok-count_of.field-0 _ c.in_ok-all.all.items is.0.1 (c.in_ok-count_of.ensures.0 ∙ ap length c.deref.ensures.value) c.in_ok-count_of.ensures.1) ∙ of_rollout_is r c.args.number)))
+    (λ x there.
+    let all = all_listed 4294967295 c.in_ok-count_of.field-0 _ c.in_ok-all.all.items is.0.1 (c.in_ok-count_of.ensures.0 ∙ ap length c.deref.ensures.value) c.in_ok-count_of.ensures.1 in
+    let shown = rw (c.deref-2.ensures.value, c.deref-3.ensures.value) at c.in_ok-actions.ensures in
+    ap ActionsTableShown (shown ∙ ap (map (shown_among c.in_ok-groups.groups.items)) all ∙ of_rollout_is r c.args.number c.in_ok-groups.groups.items (is.1 ∙ groups_are r of c.args.number))))
