@@ -16,6 +16,8 @@ use Rattle.rollout_model.specs.declared.refusal.Refusal.{Refusal}
 use Rattle.rollout_model.specs.declared.refusal.Refusal.TheVariants.{NoMemory, StoreFailed}
 use Rattle.rollout_model.specs.declared.request.Reply.{Reply}
 use Rattle.contents_handler.specs.declared.download.Download.{Download}
+use Rattle.contents_handler.specs.declared.answered.Answered.{Answered}
+use Rattle.contents_handler.specs.declared.answered.Answered.TheVariants as answered
 
 -- how many bytes were handed out: whole pieces, or all there are
 abbrev pub sent : Download → ℕ
@@ -38,10 +40,20 @@ pub record BeginsAt {File : Type 0} (h : CommandList) (new : DeskState File) (as
   pub sends : Sends h p contents
   pub start : sent p ≡ 0
 
+-- of contents, what is said of their download
+abbrev pub IfContents : Answered → (Download → Type 0) → Type 0
+IfContents (answered.Contents p) Is = Is p
+IfContents (answered.Reply r) Is = Unit {0}
+
+-- of a reply, what is said of it
+abbrev pub IfReply : Answered → (Reply → Type 0) → Type 0
+IfReply (answered.Contents p) Is = Unit {0}
+IfReply (answered.Reply r) Is = Is r
+
 -- a download begins, or what was asked is answered as ever
-abbrev pub Begins : {File : Type 0} → DeskState File → DeskState File → Asked → Result Download Reply → Type 0
-Begins old new asked (Ok p) = (h : CommandList) → new.is_clean → StandsFor old h → BeginsAt h new asked p
-Begins old new asked (Err r) = Applies old new asked (reply_of r)
+abbrev pub Begins : {File : Type 0} → DeskState File → DeskState File → Asked → Answered → Type 0
+Begins old new asked (answered.Contents p) = (h : CommandList) → new.is_clean → StandsFor old h → BeginsAt h new asked p
+Begins old new asked (answered.Reply r) = Applies old new asked (reply_of r)
 
 -- the next piece of the contents is handed out; with it, what was handed out so far is a first part of the contents
 pub record HandsOut (contents : Bytes) (p q : Download) (piece : Bytes) : Type 0 where

@@ -1,15 +1,14 @@
 -- At the front of the bytes stands one message, one fault or neither, and more bytes leave it there.
 use Rattle.std.proofs.Common.{◌≡◌, ℕ, ◌+◌, ◌<◌, ◌≤◌, ◌⊎◌, List, [], ◌∷◌, ◌++◌, length, map, take, drop, refl, sym, ap, ◌∙◌, subst, arith, append_assoc, inl, inr, Result, Ok, Err, Option, Some, None, append-nil}
 use Rattle.std.proofs.lemmas.List.{length-append, take_at, drop_at, take-append-drop, length-take-le}
-use Rattle.std.specs.Prelude.{IfErr, codes, nat_lt}
+use Rattle.std.specs.Prelude.{◌^◌, codes, nat_lt}
 use Rattle.std.specs.Str.Parse.{digits_value}
-use Rattle.std.proofs.lemmas.Bool.{cond_both}
-use Rattle.std.proofs.lemmas.Result.{IfErr-at_err}
+use Rattle.std.proofs.lemmas.Bool.{cond_both, ltb-false}
 use Rattle.httparse.proofs.GrammarLemmas.{request_unique}
-use Rattle.rollout_model.specs.Limits.{field_limit, body_length_limit}
+use Rattle.rollout_model.specs.Limits.{head_length_limit, field_limit, body_length_limit}
 use Rattle.http_wire.specs.Faults.{WireFault}
 use Rattle.http_wire.specs.Faults.{TooLarge, BadHead, BadLength, HeadTooLarge, BadCoding}
-use Rattle.http_wire.specs.Regions.{HasRegion, HasFewFields, line_ends}
+use Rattle.http_wire.specs.Regions.{HasRegion, HasNoRegion, HasFewFields, line_ends}
 use Rattle.http_wire.specs.Heads.{FieldLine, HeadParts, SpellsHead, NameAndValue, name_and_value}
 use Rattle.http_wire.specs.BodyLengths.{body_length, is_digits, length_of, length_by, unless_coded}
 use Rattle.http_wire.specs.Fields.{fields_named}
@@ -17,6 +16,8 @@ use Rattle.http_wire.specs.Messages.{WireMessage, IsHeadWith, IsMessage, IsBadRe
 use Rattle.http_wire.specs.Streams.{Begins, HasMessages, EndsAs}
 use Rattle.http_wire.specs.declared.message.Message.{Message}
 use Rattle.http_wire.specs.Inbox.{message_of, Answers, HandsOut}
+use Rattle.http_wire.specs.Fronts.{IsUndecidedBelow, StandsFirst}
+use Rattle.http_wire.specs.declared.message.NoMessage.TheVariants.{Wants}
 use Rattle.http_wire.specs.Faults.{End}
 use Rattle.http_wire.specs.Faults.{Input, Cut, Fault}
 use Rattle.http_wire.proofs.RegionLemmas.{region_unique, region_append, no_region_append}
@@ -65,7 +66,7 @@ good_is_not_bad region m t fs n good TooLarge bad = err_is_not_ok region m t fs 
 good_is_not_bad region m t fs n good BadLength bad = err_is_not_ok region m t fs n good BadLength bad
 good_is_not_bad region m t fs n good BadCoding bad = err_is_not_ok region m t fs n good BadCoding bad
 
--- ---- the faults of a length
+-- ---- the length of a body, or its fault
 
 abbrev IsBodyFault : WireFault → Type 0
 IsBodyFault HeadTooLarge = ⊥
@@ -74,36 +75,42 @@ IsBodyFault TooLarge = Unit {0}
 IsBodyFault BadLength = Unit {0}
 IsBodyFault BadCoding = Unit {0}
 
-length_faults : (text : List ℕ) → IfErr (length_of text) IsBodyFault
-length_faults text =
-    let P : Result ℕ WireFault → Type 0 = λ r. IfErr r IsBodyFault in
-    cond_both (is_digits text) _ _ P (λ _. cond_both (nat_lt body_length_limit (digits_value 10 text)) _ _ P (λ _. tt) (λ _. tt)) (λ _. tt)
+abbrev IsOfBody : Result ℕ WireFault → Type 0
+IsOfBody (Ok n) = n ≤ body_length_limit
+IsOfBody (Err f) = IsBodyFault f
 
-by_faults : (fs : List NameAndValue) → IfErr (length_by fs) IsBodyFault
-by_faults [] = tt
-by_faults (f ∷ []) = length_faults f.1
-by_faults (f ∷ g ∷ fs) = tt
+length_of_body : (text : List ℕ) → IsOfBody (length_of text)
+length_of_body text =
+    cond_both (is_digits text) _ _ IsOfBody
+    (λ _. cond_both (nat_lt body_length_limit (digits_value 10 text)) _ _ IsOfBody (λ _. tt) (λ within. ltb-false _ _ within))
+    (λ _. tt)
 
-coded_faults : (fs : List NameAndValue) (r : Result ℕ WireFault) → IfErr r IsBodyFault → IfErr (unless_coded fs r) IsBodyFault
-coded_faults [] r h = h
-coded_faults (f ∷ fs) r h = tt
+by_of_body : (fs : List NameAndValue) → IsOfBody (length_by fs)
+by_of_body [] = omega arith
+by_of_body (f ∷ []) = length_of_body f.1
+by_of_body (f ∷ g ∷ fs) = tt
 
-body_faults : (fields : List NameAndValue) → IfErr (body_length fields) IsBodyFault
+unless_of_body : (fs : List NameAndValue) (r : Result ℕ WireFault) → IsOfBody r → IsOfBody (unless_coded fs r)
+unless_of_body [] r h = h
+unless_of_body (f ∷ fs) r h = tt
+
+of_body : (fields : List NameAndValue) (r : Result ℕ WireFault) → body_length fields ≡ r → IsOfBody r
 unfolding body_length
-body_faults fields = coded_faults (fields_named (codes "transfer-encoding") fields) _ (by_faults (fields_named (codes "content-length") fields))
+of_body fields r is =
+    subst IsOfBody is (unless_of_body (fields_named (codes "transfer-encoding") fields) _ (by_of_body (fields_named (codes "content-length") fields)))
 
 pub body_fault : (region m t : List ℕ) (fs : List NameAndValue) (f : WireFault) → IsHeadWith region m t fs → body_length fs ≡ Err f → IsBadRegion region f
-body_fault region m t fs HeadTooLarge head err = absurd (IfErr-at_err IsBodyFault err (body_faults fs))
-body_fault region m t fs BadHead head err = absurd (IfErr-at_err IsBodyFault err (body_faults fs))
+body_fault region m t fs HeadTooLarge head err = absurd (of_body fs _ err)
+body_fault region m t fs BadHead head err = absurd (of_body fs _ err)
 body_fault region m t fs TooLarge head err = (m, t, fs, head, err)
 body_fault region m t fs BadLength head err = (m, t, fs, head, err)
 body_fault region m t fs BadCoding head err = (m, t, fs, head, err)
 
 -- ---- what stands at the front
 
-pub missing_body : (bytes region after m t : List ℕ) (fs : List NameAndValue) (n : ℕ) → HasRegion bytes region after → IsGood region m t fs n
+short_body : (bytes region after m t : List ℕ) (fs : List NameAndValue) (n : ℕ) → HasRegion bytes region after → IsGood region m t fs n
     → length after < n → IsUndecided bytes
-missing_body bytes region after m t fs n has good short = record {
+short_body bytes region after m t fs n has good short = record {
   no_message = λ r rest message.
       let same = region_unique bytes region message.region after _ has message.has in
       let head : IsHeadWith region r.method r.target r.fields = subst (λ (x : List ℕ). IsHeadWith x r.method r.target r.fields) (sym same.0) message.head in
@@ -118,6 +125,41 @@ missing_body bytes region after m t fs n has good short = record {
     | inr long ↦ long.0 _ _ has
   ];
 }
+
+-- a head and its body have so many bytes
+pub fits : (bytes region after m t : List ℕ) (fs : List NameAndValue) (n : ℕ) → HasRegion bytes region after → IsGood region m t fs n
+    → length region + n < 2 ^ 64
+fits bytes region after m t fs n has good = omega (arith, has.limit, of_body fs _ good.body)
+
+-- until all of the body is there
+pub missing_body : (bytes region after m t : List ℕ) (fs : List NameAndValue) (n : ℕ) → HasRegion bytes region after → IsGood region m t fs n
+    → length after < n → StandsFirst bytes (Err (Wants (length region + n)))
+missing_body bytes region after m t fs n has good short = (
+  omega (arith, short, ap length has.split, length-append region after),
+  λ more few. short_body (bytes ++ more) region (after ++ more) m t fs n (region_append bytes region after more has) good
+      (omega (arith, few, ap length has.split, length-append bytes more, length-append region after, length-append after more)),
+)
+
+-- one more byte at least where a head may still end
+pub missing_head : (bytes : List ℕ) → HasNoRegion bytes → length bytes < head_length_limit → StandsFirst bytes (Err (Wants (length bytes + 1)))
+missing_head bytes none short = (omega arith, λ more few. subst IsUndecided (sym (append_nothing bytes more (omega (arith, few, length-append bytes more)))) undecided)
+  where
+    undecided : IsUndecided bytes
+    undecided = record {
+      no_message = λ m rest message. none _ _ message.has;
+      no_fault = λ f fault. elim fault [
+        | inl bad ↦ none _ _ bad.2
+        | inr long ↦ omega (arith, short, long.1)
+      ];
+    }
+
+    append_nothing : (a b : List ℕ) → length b ≡ 0 → a ++ b ≡ a
+    append_nothing a [] e = append-nil a
+    append_nothing a (x ∷ b) e = absurd (omega (arith, e))
+
+pub undecided_yet : (wanted : ℕ) (bytes : List ℕ) → IsUndecidedBelow wanted bytes → length bytes < wanted → IsUndecided bytes
+undecided_yet wanted bytes below few =
+    subst IsUndecided (append-nil bytes) (below [] (omega (arith, few, ap length (append-nil bytes))))
 
 pub whole_message : (bytes region after m t : List ℕ) (fs : List NameAndValue) (n : ℕ) → HasRegion bytes region after → IsGood region m t fs n
     → n ≤ length after → IsMessage bytes (record { method = m; target = t; fields = fs; body = take n after }) (drop n after)

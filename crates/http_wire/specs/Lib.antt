@@ -10,3 +10,4 @@ pub mod Inbox
 pub mod Replies
 pub mod Watched
 pub mod Parse
+pub mod Fronts

@@ -4,7 +4,7 @@ ghost use Rattle.std.specs.Borrow.{sem};
 ghost use Rattle.std.specs.Io.BufRead.{Rests};
 
 use crate::fault::WireFault;
-use crate::message::{Message, read_front};
+use crate::message::{Message, NoMessage, read_front};
 use rollout_model::Refusal;
 use std::alloc::Global;
 use std::marker::Model;
@@ -14,16 +14,19 @@ use std::marker::Model;
 pub struct Inbox {
     bytes: Vec<u8>,
     start: usize,
+    /// Neither a message nor a fault stands at `start` in fewer bytes than that. So a head isn't read again with each piece of its body.
+    wanted: usize,
 }
 
 impl Model for Inbox {
     ghost use Rattle.std.specs.Prelude.{ℕ, ◌≤◌, List, drop, vec_len};
+    ghost use Rattle.http_wire.specs.Fronts.{IsUndecidedBelow};
 
     ghost Value = { List ℕ };
 
     ghost view = { λ inbox. drop inbox.start inbox.bytes.items };
 
-    ghost invariant = { λ inbox. inbox.start ≤ vec_len inbox.bytes };
+    ghost invariant = { λ inbox. (inbox.start ≤ vec_len inbox.bytes) × IsUndecidedBelow inbox.wanted (drop inbox.start inbox.bytes.items) };
 }
 
 impl Inbox {
@@ -40,6 +43,7 @@ impl Inbox {
         Inbox {
             bytes: Vec::new(alloc),
             start: 0,
+            wanted: 0,
         }
     }
 
@@ -74,12 +78,19 @@ impl Inbox {
         ensures* after_borrow { sem 𝓛 (Rests the_row self.entry (λ left. HandsOut self.old result left)) }
     {
         let at = self.start;
+        if self.bytes.len() - at < self.wanted {
+            return None;
+        }
         match read_front(&self.bytes[at..]) {
-            None => None,
-            Some(Err(fault)) => Some(Err(fault)),
-            Some(Ok((message, len))) => {
+            Ok((message, len)) => {
                 self.start = at + len;
+                self.wanted = 0;
                 Some(Ok(message))
+            }
+            Err(NoMessage::AtFault(fault)) => Some(Err(fault)),
+            Err(NoMessage::Wants(len)) => {
+                self.wanted = len;
+                None
             }
         }
     }

@@ -1,9 +1,9 @@
 //! A message whose parts are borrowed.
-ghost use Rattle.std.specs.Prelude.{◌≡◌, ◌<◌, ◌≤◌, Ok, length, take, drop, map, All, IfOk, IfErr, IfSome, IfNone};
+ghost use Rattle.std.specs.Prelude.{◌≡◌, ◌≤◌, Ok, length, take, map, All, IfOk, IfErr};
 ghost use Rattle.httparse.specs.Spans.{IsHeaderWithin};
-ghost use Rattle.http_wire.specs.Regions.{HasRegion};
 ghost use Rattle.http_wire.specs.BodyLengths.{body_length};
-ghost use Rattle.http_wire.specs.Messages.{IsHeadWith, IsBadRegion, IsMessage, IsFault, IsUndecided};
+ghost use Rattle.http_wire.specs.Messages.{IsHeadWith, IsBadRegion};
+ghost use Rattle.http_wire.specs.Fronts.{StandsFirst};
 ghost use Rattle.http_wire.specs.Inbox.{field_view, message_of};
 ghost use Rattle.http_wire.specs.Parse.{fields_at};
 
@@ -111,31 +111,37 @@ fn read_region(region: &[u8]) -> Result<(Message<'_>, usize), WireFault>
     Ok((message, body_len))
 }
 
-/// What stands at the front of the bytes: a message and the bytes that it takes, a fault, or neither.
-pub(crate) fn read_front(bytes: &[u8]) -> Option<Result<(Message<'_>, usize), WireFault>>
-    ensures none { IfNone result (IsUndecided bytes.now) }
-    ensures fault { IfSome result (λ r. IfErr r (IsFault bytes.now)) }
-    ensures len { IfSome result (λ r. IfOk r (λ m. m.1 ≤ length bytes.now)) }
-    ensures message { IfSome result (λ r. IfOk r (λ m. IsMessage bytes.now (message_of m.0) (drop m.1 bytes.now))) }
+/// Why no message stands at the front of the bytes.
+#[derive(Clone, Copy)]
+pub(crate) enum NoMessage {
+    AtFault(WireFault),
+    /// Too few bytes are there: neither a message nor a fault stands in fewer than so many.
+    Wants(usize),
+}
+
+/// The message at the front of the bytes, and how many bytes it takes.
+pub(crate) fn read_front(bytes: &[u8]) -> Result<(Message<'_>, usize), NoMessage>
+    ensures { StandsFirst bytes.now result }
 {
     let Some(head_len) = region_len(bytes) else {
         if bytes.len() < HEAD_LENGTH_LIMIT {
-            return None;
+            return Err(NoMessage::Wants(bytes.len() + 1));
         }
-        return Some(Err(WireFault::HeadTooLarge));
+        return Err(NoMessage::AtFault(WireFault::HeadTooLarge));
     };
     let (region, after) = bytes.split_at(head_len);
     match read_region(region) {
-        Err(fault) => Some(Err(fault)),
+        Err(fault) => Err(NoMessage::AtFault(fault)),
         Ok((head, body_len)) => {
+            let len = head_len + body_len;
             if after.len() < body_len {
-                return None;
+                return Err(NoMessage::Wants(len));
             }
             let message = Message {
                 body: &after[..body_len],
                 ..head
             };
-            Some(Ok((message, head_len + body_len)))
+            Ok((message, len))
         }
     }
 }

@@ -5,7 +5,7 @@ ghost use Rattle.http_wire.specs.Messages.{WireMessage};
 ghost use Rattle.http_wire.specs.Streams.{HasMessages};
 
 use crate::fault::WireFault;
-use crate::message::read_front;
+use crate::message::{NoMessage, read_front};
 
 /// How a stream ends after its whole messages.
 #[derive(Clone, Copy)]
@@ -34,18 +34,18 @@ pub fn reading_of(stream: &[u8]) -> Reading
     let mut rest = stream;
     while !rest.is_empty() {
         match read_front(rest) {
-            None => return Reading {
-                messages,
-                end: End::Cut,
-            },
-            Some(Err(fault)) => return Reading {
-                messages,
-                end: End::Fault(fault),
-            },
-            Some(Ok((_, len))) => {
+            Ok((_, len)) => {
                 messages += 1;
                 rest = rest.split_at(len).1;
             }
+            Err(NoMessage::AtFault(fault)) => return Reading {
+                messages,
+                end: End::Fault(fault),
+            },
+            Err(NoMessage::Wants(_)) => return Reading {
+                messages,
+                end: End::Cut,
+            },
         }
     }
     Reading {

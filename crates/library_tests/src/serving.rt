@@ -3,7 +3,7 @@
 ghost use Rattle.std.specs.Prelude.{◌≢◌, IfErr};
 ghost use Rattle.rollout_model.specs.declared.refusal.Refusal.TheVariants.{StoreFailed};
 
-use contents_handler::{ContentsHandler, Download};
+use contents_handler::{Answered, ContentsHandler, Download};
 use http_wire::Watched;
 use rollout_machine::Handler;
 use rollout_model::{Command, Module, ModuleLabel, ModuleNo, Query, Refusal, Reply, Request};
@@ -62,8 +62,8 @@ impl Handler for Shelf {
 }
 
 impl ContentsHandler for Shelf {
-    fn begin_download(&mut self, _query: &Query) -> Result<Download, Reply> {
-        Err(Reply::Refused(Refusal::NotFound))
+    fn begin_download(&mut self, _query: &Query) -> Answered {
+        Answered::Reply(Reply::Refused(Refusal::NotFound))
     }
 
     fn next_piece(&mut self, _download: &mut Download) -> Result<Option<Vec<u8>>, Refusal> {

@@ -28,9 +28,9 @@ use Rattle.rollout_model.specs.declared.refusal.Refusal.TheVariants.{NoMemory, N
 use Rattle.rollout_model.specs.declared.request.Reply as model
 use Rattle.rollout_model.specs.declared.request.Reply.TheVariants as reply
 use Rattle.rollout_desk.specs.Desks.{desk_state_at}
-use Rattle.contents_handler.specs.Downloads.{sent, next_length, BeginsAt, Begins, HandsPieces}
+use Rattle.contents_handler.specs.Downloads.{sent, next_length, BeginsAt, HandsPieces}
 use Rattle.contents_handler.specs.declared.download.Download.{Download}
-use Rattle.rollout_desk.specs.Downloads.{artifact_in, BeginsOffered, HandsItsArtifact, IsNextOf, RefusesContents, DownloadsGoOn}
+use Rattle.rollout_desk.specs.Downloads.{artifact_in, Begins, BeginsOffered, HandsItsArtifact, IsNextOf, RefusesContents, DownloadsGoOn}
 use Rattle.rollout_desk.specs.Looks.{EndsLook, FindsDownload, Looks, bytes_of}
 use Rattle.rollout_desk.specs.Steps.{Handles, refusal_of_fault}
 use Rattle.rollout_machine.specs.StoreFailures.{is_store}

@@ -2,7 +2,8 @@
 use Rattle.std.specs.Prelude.{◌≡◌, ◌⊎◌, ℕ, ◌*◌, take, drop, Vec, Option, Some, None, Result, Ok, Err}
 use Rattle.std.specs.declared.alloc.Global.{Global}
 use Rattle.std.specs.Option.{option_map}
-use Rattle.contents_handler.specs.Downloads.{Sends}
+use Rattle.contents_handler.specs.Downloads.{Sends, Begins as BeginsAnswered}
+use Rattle.contents_handler.specs.declared.answered.Answered.TheVariants as answered
 use Rattle.contents_handler.specs.declared.download.Download.{Download}
 use Rattle.rollout_machine.specs.ByteStrings.{item_numbered}
 use Rattle.rollout_machine.specs.CommandList.{CommandList, ◌▸◌}
@@ -10,7 +11,7 @@ use Rattle.rollout_machine.specs.Commands.{Bytes, Command}
 use Rattle.rollout_machine.specs.Records.{ArtifactRecord, records}
 use Rattle.rollout_machine.specs.Replies as answers
 use Rattle.rollout_machine.specs.Replies.{Refused}
-use Rattle.rollout_machine.specs.Requests.{Query, ShowContents, Download as DownloadOf}
+use Rattle.rollout_machine.specs.Requests.{Asked, Query, ShowContents, Download as DownloadOf}
 use Rattle.rollout_machine.specs.Standing.{DeskState, StandsFor, IsInDoubt}
 use Rattle.rollout_model.specs.Limits.{piece_length}
 use Rattle.rollout_model.specs.declared.artifact.Artifact.{Artifact}
@@ -24,6 +25,11 @@ use Rattle.rollout_desk.specs.Promises.{DownloadsItsOffer}
 abbrev pub artifact_in : Reply → Result Artifact Reply
 artifact_in (reply.Artifact a) = Ok a
 artifact_in r = Err r
+
+-- a download begins, or else what was asked is answered by a reply
+abbrev pub Begins : {File : Type 0} → DeskState File → DeskState File → Asked → Result Download Reply → Type 0
+Begins old new asked (Ok p) = BeginsAnswered old new asked (answered.Contents p)
+Begins old new asked (Err r) = BeginsAnswered old new asked (answered.Reply r)
 
 -- a device's download that begins is of what the device is offered as a deployment
 abbrev pub BeginsOffered : CommandList → Query → Download → Type 0

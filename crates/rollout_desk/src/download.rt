@@ -7,8 +7,8 @@ ghost use Rattle.rollout_machine.specs.Standing.{StaysStopped};
 ghost use Rattle.rollout_machine.specs.Views.{query_of, reply_of};
 ghost use Rattle.rollout_model.specs.declared.refusal.Refusal.TheVariants.{Stopped, StoreFailed};
 ghost use Rattle.rollout_desk.specs.DeskStates.{desk_state};
-ghost use Rattle.contents_handler.specs.Downloads.{Begins, HandsPieces, KeepsCount};
-ghost use Rattle.rollout_desk.specs.Downloads.{BeginsOffered, HandsItsArtifact, IsInterruption, RefusesContents, DownloadsGoOn, artifact_in};
+ghost use Rattle.contents_handler.specs.Downloads.{HandsPieces, KeepsCount};
+ghost use Rattle.rollout_desk.specs.Downloads.{Begins, BeginsOffered, HandsItsArtifact, IsInterruption, RefusesContents, DownloadsGoOn, artifact_in};
 ghost use Rattle.rollout_desk.specs.Promises.{IsPromised};
 ghost use Rattle.rollout_desk.specs.Working.{TellsFailures, replies_store, tells_store};
 

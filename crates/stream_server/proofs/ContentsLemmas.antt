@@ -8,6 +8,7 @@ use Rattle.std.proofs.KnownBytes.{Appends-nil, Appends-trans}
 use Rattle.std.proofs.lemmas.Bool.{false≢true}
 use Rattle.contents_handler.specs.Downloads.{Begins, HandsPieces, Sends, sent}
 use Rattle.contents_handler.specs.declared.download.Download.{Download}
+use Rattle.contents_handler.specs.declared.answered.Answered.TheVariants.{Contents}
 use Rattle.http_wire.specs.Messages.{WireMessage}
 use Rattle.http_wire.specs.Replies.{reason}
 use Rattle.rollout_model.specs.declared.refusal.Refusal.{Refusal}
@@ -65,7 +66,7 @@ module _ (File : Type 0) (interface : Interface) (new : DeskState File) (m : Wir
       (w.0, w.3, broken_one File C h new m (ContentsShown contents) None w.0 w.1 serve_fault.Memory may (same ∙ w.2) (w.4, begun_or_not contents w.0))
 
 pub serves_download : {File : Type 0} (interface : Interface) (old begun new : DeskState File) (m : WireMessage) (d : Download) (a b : Option (List ℕ)) (fault : Option ServeFault)
-    → (begun.is_clean → old.is_clean) → Begins old begun (reading interface m) (Ok d) → old.is_stopped ≡ false
+    → (begun.is_clean → old.is_clean) → Begins old begun (reading interface m) (Contents d) → old.is_stopped ≡ false
     → (new.is_clean → begun.is_clean) → SendsContents begun new a b d fault → Serves interface old new a b (m ∷ []) fault
 serves_download interface old begun new m d a b fault clean_before begins runs clean_after sends = record {
   clean = λ clean. clean_before (clean_after clean);

@@ -1,4 +1,5 @@
 pub mod AskLemmas
+pub mod RouteLemmas
 pub mod RunLemmas
 pub mod PartLemmas
 pub mod MessageLemmas

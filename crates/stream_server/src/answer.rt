@@ -1,7 +1,7 @@
 //! Answers to messages.
 
 ghost use Rattle.std.specs.Prelude.{◌≡◌, ◌≢◌, ℕ, ◌+◌, ◌<◌, ◌^◌, ◌-◌, ◌∷◌, [], List, length, min, true, false, IfOk, IfErr};
-ghost use Rattle.contents_handler.specs.Downloads.{Begins};
+ghost use Rattle.contents_handler.specs.Downloads.{Begins, IfContents, IfReply};
 ghost use Rattle.http_wire.specs.Messages.{WireMessage};
 ghost use Rattle.http_wire.specs.Inbox.{message_of};
 ghost use Rattle.http_wire.specs.Watched.{inner_of, has_failed};
@@ -18,47 +18,43 @@ use crate::ServeFault;
 use crate::download::send_contents;
 use crate::reply::write_reply;
 use crate::routes::Routes;
-use contents_handler::{ContentsHandler, Download};
+use contents_handler::{Answered, ContentsHandler};
 use http_wire::{Inbox, Message, Watched, WireFault};
 use rollout_machine::says_store_failed;
 use rollout_model::{Refusal, Reply, Request};
 use std::alloc::Global;
 use std::io::Write;
 
-/// What the desk answers to a request: a download that begins, or a reply.
-fn ask_request<D: ContentsHandler>(desk: &mut D, request: &Request) -> Result<Download, Reply>
+/// What the desk answers to a request.
+fn ask_request<D: ContentsHandler>(desk: &mut D, request: &Request) -> Answered
     ensures clean { (D.state desk.new).is_clean → (D.state desk.old).is_clean }
     ensures begins { Begins (D.state desk.old) (D.state desk.new) (Asks (request_of request.now)) result }
-    ensures runs { IfOk result (λ _. (D.state desk.old).is_stopped ≡ false) }
-    ensures stops { IfErr result (λ reply. reply_of reply ≡ Refused StoreFailed → (D.state desk.new).is_stopped ≡ true) }
+    ensures runs { IfContents result (λ _. (D.state desk.old).is_stopped ≡ false) }
+    ensures stops { IfReply result (λ reply. reply_of reply ≡ Refused StoreFailed → (D.state desk.new).is_stopped ≡ true) }
     ensures stopped { (D.state desk.old).is_stopped ≡ true
-        → IfErr result (λ reply. reply_of reply ≡ Refused Stopped) × StaysStopped (D.state desk.old) (D.state desk.new) }
+        → IfReply result (λ reply. reply_of reply ≡ Refused Stopped) × StaysStopped (D.state desk.old) (D.state desk.new) }
 {
     match request {
         Request::Ask(query) => desk.begin_download(query),
-        Request::Do(_) => Err(desk.handle(request)),
+        Request::Do(_) => Answered::Reply(desk.handle(request)),
     }
 }
 
 /// What the desk answers to a message.
-fn ask<D: ContentsHandler>(
-    desk: &mut D,
-    routes: &Routes,
-    message: &Message<'_>,
-) -> Result<Download, Reply>
+fn ask<D: ContentsHandler>(desk: &mut D, routes: &Routes, message: &Message<'_>) -> Answered
     ensures clean { (D.state desk.new).is_clean → (D.state desk.old).is_clean }
     ensures begins { Begins (D.state desk.old) (D.state desk.new) (reading routes.now.interface (message_of message.now)) result }
-    ensures runs { IfOk result (λ _. (D.state desk.old).is_stopped ≡ false) }
-    ensures stops { IfErr result (λ reply. reply_of reply ≡ Refused StoreFailed → (D.state desk.new).is_stopped ≡ true) }
+    ensures runs { IfContents result (λ _. (D.state desk.old).is_stopped ≡ false) }
+    ensures stops { IfReply result (λ reply. reply_of reply ≡ Refused StoreFailed → (D.state desk.new).is_stopped ≡ true) }
     ensures stopped { (D.state desk.old).is_stopped ≡ true
-        → IfErr result (λ reply. reply_of reply ≡ Refused Stopped) × StaysStopped (D.state desk.old) (D.state desk.new) }
+        → IfReply result (λ reply. reply_of reply ≡ Refused Stopped) × StaysStopped (D.state desk.old) (D.state desk.new) }
 {
     if desk.is_stopped() {
-        return Err(Reply::Refused(Refusal::Stopped));
+        return Answered::Reply(Reply::Refused(Refusal::Stopped));
     }
     match routes.read(message) {
         Ok(request) => ask_request(desk, &request),
-        Err(refusal) => Err(Reply::Refused(refusal)),
+        Err(refusal) => Answered::Reply(Reply::Refused(refusal)),
     }
 }
 
@@ -96,8 +92,8 @@ fn answer_one<W: Write, D: ContentsHandler>(
     ensures stops { IfErr result (λ fault. fault ≡ ServeFault.Store → (D.state desk.new).is_stopped ≡ true) }
 {
     match ask(desk, routes, message) {
-        Ok(download) => send_contents(alloc, desk, writer, download),
-        Err(reply) => give_reply(alloc, writer, message, &reply),
+        Answered::Contents(download) => send_contents(alloc, desk, writer, download),
+        Answered::Reply(reply) => give_reply(alloc, writer, message, &reply),
     }
 }
 

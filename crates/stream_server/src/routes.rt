@@ -1,20 +1,33 @@
 //! What a message asks.
 
-ghost use Rattle.std.specs.Prelude.{◌≡◌, ◌≢◌, ◌⊎◌, IfOk, IfErr};
+ghost use Rattle.std.specs.Prelude.{◌≡◌, ◌≢◌, ◌⊎◌, true, false, None, IfOk, IfErr};
 ghost use Rattle.http_wire.specs.Inbox.{message_of};
 ghost use Rattle.rollout_model.specs.declared.refusal.Refusal.TheVariants.{NoMemory, StoreFailed};
 ghost use Rattle.rollout_machine.specs.Requests.{Rejected, Asks};
 ghost use Rattle.rollout_machine.specs.Views.{request_of};
 ghost use Rattle.http_wire.specs.Targets.{path_of};
 ghost use Rattle.ddi_api.specs.Table.{device_call};
+ghost use Rattle.mgmt_api.specs.Table.{manage_route};
 ghost use Rattle.stream_server.specs.Interfaces.{reading, reading_by};
 
 use crate::Interface;
 use ddi_api::{DeviceRoutes, read_device};
 use http_wire::Message;
 use mgmt_api::{ManageRoutes, read_manage};
+use request_target::segment_at;
 use rollout_model::{Refusal, Request};
 use std::alloc::Global;
+
+/// Whether a path may be a device's: each of theirs begins by one word, and none of management does.
+fn begins_as_devices(path: &[u8]) -> bool
+    ensures devices { result ≡ true → manage_route path.now ≡ None }
+    ensures others { result ≡ false → device_call path.now ≡ None }
+{
+    match segment_at(path, 1) {
+        Some(word) => word == b"DEFAULT".as_slice(),
+        None => false,
+    }
+}
 
 /// The routes of an interface.
 #[derive(Drop)]
@@ -39,15 +52,16 @@ impl Routes {
         })
     }
 
-    /// What a message asks where both interfaces are served.
+    /// What a message asks where both interfaces are served. Only the router of one is asked.
     fn read_either(&self, message: &Message<'_>) -> Result<Request, Refusal>
         ensures ok { IfOk result (λ request. reading_by (device_call (path_of (message_of message.now).target)) (message_of message.now) ≡ Asks (request_of request)) }
         ensures err { IfErr result (λ refusal. (refusal ≡ NoMemory) ⊎ (reading_by (device_call (path_of (message_of message.now).target)) (message_of message.now) ≡ Rejected refusal)) }
         ensures no_store { IfErr result (λ refusal. refusal ≢ StoreFailed) }
     {
-        match self.devices.find(message.path()) {
-            Some(_) => read_device(&self.devices, message),
-            None => read_manage(&self.manage, message),
+        if begins_as_devices(message.path()) {
+            read_device(&self.devices, message)
+        } else {
+            read_manage(&self.manage, message)
         }
     }
 

@@ -1,23 +1,33 @@
-use Rattle.std.proofs.Common.{◌≡◌, ◌+◌, drop, inl, ap, ◌∙◌}
+use Rattle.std.proofs.Common.{◌≡◌, ◌+◌, drop, inl, ap, ◌∙◌, arith}
 use Rattle.std.proofs.lemmas.List.{drop-drop}
 use Rattle.http_wire.specs.Regions.{HasRegion}
-use Rattle.http_wire.proofs.MessageLemmas.{missing_body, whole_message}
+use Rattle.http_wire.proofs.MessageLemmas.{fits, missing_head, missing_body, whole_message}
 use Rattle.http_wire.proofs.message.read_front.Goals as goal
 
-pub returns-then-after-body_len-clause-none : goal.returns-then-after-body_len-clause-none
-returns-then-after-body_len-clause-none c =
-    let has : HasRegion c.args.bytes.now c.split_at.result.0.now c.split_at.result.1.now = rw (c.split_at.ensures.front, c.split_at.ensures.back) c.in-Some.ensures.found in
-    missing_body _ _ _ _ _ _ c.in-Ok.body_len has (record { head = c.in-Ok.ensures.head; body = c.in-Ok.ensures.body }) c.if-after-body_len.true
+pub returns-then-bytes-lt-HEAD_LENGTH_LIMIT : goal.returns-then-bytes-lt-HEAD_LENGTH_LIMIT
+returns-then-bytes-lt-HEAD_LENGTH_LIMIT c = missing_head c.args.bytes.now c.in_default.ensures.none c.if-bytes-lt-HEAD_LENGTH_LIMIT.true
 
-pub returns-in-Err-clause-fault : goal.returns-in-Err-clause-fault
-returns-in-Err-clause-fault c =
+pub overflow_add-len : goal.overflow_add-len
+overflow_add-len c =
+    let has : HasRegion c.args.bytes.now c.split_at.result.0.now c.split_at.result.1.now = rw (c.split_at.ensures.front, c.split_at.ensures.back) c.in-Some.ensures.found in
+    let small = fits _ _ _ _ _ _ c.in-Ok.body_len has (record { head = c.in-Ok.ensures.head; body = c.in-Ok.ensures.body }) in
+    omega (arith, small, c.split_at.ensures.front_len)
+
+pub returns-then-after-body_len : goal.returns-then-after-body_len
+returns-then-after-body_len c =
+    let has : HasRegion c.args.bytes.now c.split_at.result.0.now c.split_at.result.1.now = rw (c.split_at.ensures.front, c.split_at.ensures.back) c.in-Some.ensures.found in
+    let missing = missing_body _ _ _ _ _ _ c.in-Ok.body_len has (record { head = c.in-Ok.ensures.head; body = c.in-Ok.ensures.body }) c.if-after-body_len.true in
+    rw c.split_at.ensures.front_len at missing
+
+pub returns-in-Err : goal.returns-in-Err
+returns-in-Err c =
     let has : HasRegion c.args.bytes.now c.split_at.result.0.now c.split_at.result.1.now = rw (c.split_at.ensures.front, c.split_at.ensures.back) c.in-Some.ensures.found in
     inl (c.split_at.result.0.now, c.split_at.result.1.now, has, c.in-Err.ensures.fault)
 
-pub returns-else-after-body_len-clause-message : goal.returns-else-after-body_len-clause-message
-returns-else-after-body_len-clause-message c =
+pub returns-else-after-body_len : goal.returns-else-after-body_len
+returns-else-after-body_len c =
     let has : HasRegion c.args.bytes.now c.split_at.result.0.now c.split_at.result.1.now = rw (c.split_at.ensures.front, c.split_at.ensures.back) c.in-Some.ensures.found in
     let whole = whole_message _ _ _ _ _ _ c.in-Ok.body_len has (record { head = c.in-Ok.ensures.head; body = c.in-Ok.ensures.body }) c.if-after-body_len.false in
     let rest : drop c.in-Ok.body_len c.split_at.result.1.now ≡ drop (c.in-Some.head_len + c.in-Ok.body_len) c.args.bytes.now =
     ap (drop c.in-Ok.body_len) c.split_at.ensures.back ∙ drop-drop c.in-Ok.body_len c.in-Some.head_len c.args.bytes.now in
-    rw rest at whole
+    (omega (arith, c.split_at.ensures.back_len, c.split_at.ensures.front_len, c.if-after-body_len.false, c.in-Some.ensures.within), rw rest at whole)

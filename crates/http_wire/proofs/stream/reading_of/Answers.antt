@@ -1,9 +1,9 @@
-use Rattle.std.proofs.Common.{◌≡◌, ℕ, ◌+◌, ◌≤◌, List, [], ◌∷◌, ◌++◌, length, sym, subst, arith}
+use Rattle.std.proofs.Common.{◌≡◌, ℕ, ◌+◌, ◌<◌, ◌≤◌, List, [], ◌∷◌, ◌++◌, length, arith, rules}
 use Rattle.std.proofs.lemmas.List.{length-append}
 use Rattle.http_wire.specs.Messages.{WireMessage, IsMessage}
 use Rattle.http_wire.specs.Streams.{Begins}
 use Rattle.http_wire.specs.Inbox.{message_of}
-use Rattle.http_wire.proofs.MessageLemmas.{begins_push, message_shorter}
+use Rattle.http_wire.proofs.MessageLemmas.{begins_push, message_shorter, undecided_yet}
 use Rattle.http_wire.proofs.stream.reading_of.Goals as goal
 
 -- one more message, and how many there are
@@ -21,8 +21,14 @@ step stream rest after m count total before message =
 
 pub loop-rest-preserved : goal.loop-rest-preserved
 loop-rest-preserved c =
-    let message = rw c.in-Some-Ok.field-0-is at c.in-Some-Ok.ensures.message in
-    let at : IsMessage c.loop-rest.rest.now (message_of c.in-Some-Ok.field-0-0-0) c.split_at.result.1.now = subst (λ (x : List ℕ). IsMessage c.loop-rest.rest.now (message_of c.in-Some-Ok.field-0-0-0) x) (sym c.split_at.ensures.back) message in
+    let at : IsMessage c.loop-rest.rest.now (message_of c.in-Ok.field-0-0) c.split_at.result.1.now = rw (← c.split_at.ensures.back) at c.in-Ok.ensures.1 in
     let before : Step c.args.stream.now c.loop-rest.rest.now c.loop-rest.messages (length c.args.stream.now) = record { so_far = c.loop-rest.invariant.so_far; few = c.loop-rest.invariant.few } in
     let after = step _ _ _ _ _ _ before at in
     record { so_far = after.so_far; few = after.few }
+
+pub returns-in-Err-Wants : goal.returns-in-Err-Wants
+returns-in-Err-Wants c =
+    let is_left : 0 < length c.loop-rest.rest.now = search rules in
+    let first = rw c.in-Err-Wants.field-0-is at c.in-Err-Wants.ensures in
+    let undecided = undecided_yet _ _ first.1 first.0 in
+    (c.loop-rest.invariant.so_far.0, (c.loop-rest.rest.now, c.loop-rest.invariant.so_far.1, (is_left, undecided)), c.loop-rest.invariant.so_far.2)

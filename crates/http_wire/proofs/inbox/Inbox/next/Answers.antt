@@ -1,7 +1,7 @@
-use Rattle.std.proofs.Common.{◌≡◌, ℕ, ◌+◌, ◌-◌, List, length, take, drop, sym, ap, refl, ◌∙◌, subst, Some, None, Ok, Err}
-use Rattle.std.proofs.lemmas.List.{drop-drop, take_rest}
+use Rattle.std.proofs.Common.{◌≡◌, ℕ, ◌+◌, ◌-◌, ◌<◌, List, length, take, drop, sym, ap, refl, ◌∙◌, subst, Some, None, Ok, Err, arith}
+use Rattle.std.proofs.lemmas.List.{drop-drop, take_rest, length-drop}
 use Rattle.http_wire.specs.Messages.{WireMessage, IsMessage, IsFault, IsUndecided}
-use Rattle.http_wire.proofs.MessageLemmas.{hands_out}
+use Rattle.http_wire.proofs.MessageLemmas.{hands_out, undecided_yet}
 use Rattle.http_wire.proofs.inbox.Inbox.next.Goals as goal
 
 -- the bytes from a place on are what is not yet handed out
@@ -17,19 +17,27 @@ moved_on shown items value start len m same view message =
     ap (drop len) (whole ∙ sym view) ∙ drop-drop len start items in
     subst (λ (r : List ℕ). IsMessage value m r) rest (subst (λ (b : List ℕ). IsMessage b m (drop len (take (length shown - start) (drop start shown)))) whole message)
 
-pub returns-in-None : goal.returns-in-None
-returns-in-None c =
-    let whole = unread c.deref.result.now c.self.inside.bytes.items c.args.self.now c.self.inside.start c.deref.ensures.value c.self.view_is in
-    ((refl, λ _. tt, hands_out _ _ None (subst IsUndecided whole c.in-None.ensures.none, c.self.view_is)), record { after_borrow = tt })
+pub returns-then-len-at : goal.returns-then-len-at
+returns-then-len-at c =
+    let left = drop c.self.inside.start c.self.inside.bytes.items in
+    let few : length left < c.self.inside.wanted = omega (arith, c.if-len-at.true, c.len.ensures, length-drop c.self.inside.start c.self.inside.bytes.items) in
+    let undecided = subst IsUndecided c.self.view_is (undecided_yet c.self.inside.wanted left c.self.invariant.1 few) in
+    ((refl, λ _. tt, hands_out _ _ None (undecided, c.self.view_is)), record { after_borrow = tt })
 
-pub returns-in-Some-Err : goal.returns-in-Some-Err
-returns-in-Some-Err c =
-    let fault = rw c.in-Some-Err.field-0-is at c.in-Some-Err.ensures.fault in
+pub returns-in-Err-Wants : goal.returns-in-Err-Wants
+returns-in-Err-Wants c =
+    let first = rw c.in-Err-Wants.field-0-is at c.in-Err-Wants.ensures in
     let whole = unread c.deref.result.now c.self.inside.bytes.items c.args.self.now c.self.inside.start c.deref.ensures.value c.self.view_is in
-    ((refl, λ _. tt, hands_out _ _ (Some (Err c.in-Some-Err.fault)) (subst (λ (b : List ℕ). IsFault b c.in-Some-Err.fault) whole fault, c.self.view_is)), record { after_borrow = tt })
+    let undecided = subst IsUndecided whole (undecided_yet _ _ first.1 first.0) in
+    ((refl, λ _. tt, hands_out _ _ None (undecided, c.self.view_is)), record { after_borrow = tt })
 
-pub returns-in-Some-Ok : goal.returns-in-Some-Ok
-returns-in-Some-Ok c =
-    let message = rw c.in-Some-Ok.field-0-is at c.in-Some-Ok.ensures.message in
-    let at = moved_on c.deref.result.now c.self.inside.bytes.items c.args.self.now c.self.inside.start c.in-Some-Ok.len _ c.deref.ensures.value c.self.view_is message in
-    ((refl, λ _. tt, hands_out _ _ (Some (Ok c.in-Some-Ok.message)) at), record { after_borrow = tt })
+pub returns-in-Err-AtFault : goal.returns-in-Err-AtFault
+returns-in-Err-AtFault c =
+    let fault = rw c.in-Err-AtFault.field-0-is at c.in-Err-AtFault.ensures in
+    let whole = unread c.deref.result.now c.self.inside.bytes.items c.args.self.now c.self.inside.start c.deref.ensures.value c.self.view_is in
+    ((refl, λ _. tt, hands_out _ _ (Some (Err c.in-Err-AtFault.fault)) (subst (λ (b : List ℕ). IsFault b c.in-Err-AtFault.fault) whole fault, c.self.view_is)), record { after_borrow = tt })
+
+pub returns-in-Ok : goal.returns-in-Ok
+returns-in-Ok c =
+    let at = moved_on c.deref.result.now c.self.inside.bytes.items c.args.self.now c.self.inside.start c.in-Ok.len _ c.deref.ensures.value c.self.view_is c.in-Ok.ensures.1 in
+    ((refl, λ _. tt, hands_out _ _ (Some (Ok c.in-Ok.message)) at), record { after_borrow = tt })
