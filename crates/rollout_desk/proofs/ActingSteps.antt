@@ -31,7 +31,7 @@ use Rattle.rollout_desk.specs.ActionSteps.{Acts, ActsBy, MayAct, action_change_o
 use Rattle.rollout_desk.specs.Entries.{TellsEntries}
 use Rattle.rollout_desk.specs.SeenActions.{IsSeen, MaySee, SeesReport, SeesTarget, action_view_seen, cancel_view_seen, only_of, only_started, report_view_seen, reported_seen, seen_if}
 use Rattle.rollout_desk.specs.Steps.{Steps}
-use Rattle.rollout_desk.specs.declared.entries.Told.{Told}
+use Rattle.rollout_desk.specs.declared.entries.NewEntry.{NewEntry}
 use Rattle.rollout_desk.specs.declared.seen_actions.SeenAction.{SeenAction}
 use Rattle.rollout_desk.specs.declared.seen_actions.SeenReport.{SeenReport}
 use Rattle.rollout_desk.specs.declared.step.Step.{Step}
@@ -63,7 +63,7 @@ started_too (Some t) s is = go t.own.started refl is
 
 -- ---- what is made of it
 
-module _ (h : CommandList) (c : Command) (valid : IsValid h) (formed : IsWellFormed c) (accepted : check (records h) c ≡ None) (k : ℕ) (told : Option Told) (entries : List HistoryEntry) (tells : TellsEntries entries told) where
+module _ (h : CommandList) (c : Command) (valid : IsValid h) (formed : IsWellFormed c) (accepted : check (records h) c ≡ None) (k : ℕ) (told : Option NewEntry) (entries : List HistoryEntry) (tells : TellsEntries entries told) where
   acts_on : (s : SeenAction) → IsSeen (ledger_of (records h)) k s → actor c ≡ Some s.action.target → is_none s.action.outcome ≡ true → s.own.started ≡ true → (gives : Option Outcome) (canceling : Bool)
       → ChangesAction (change_by (action_view_seen s) gives canceling) entries k (records h) (step_records (records h) c) → Acts s (change_by (action_view_seen s) gives canceling) told (ledger_of (records h)) (ledger_of (step_records (records h) c))
   acts_on s sees by unended begun gives canceling leads = go (known h k s sees)
@@ -103,7 +103,7 @@ module _ (h : CommandList) (c : Command) (valid : IsValid h) (formed : IsWellFor
 
 -- ---- reports
 
-module _ (seen : SeenReport) (accepted : RolloutChange) (told : Told) where
+module _ (seen : SeenReport) (accepted : RolloutChange) (told : NewEntry) where
   module _ (report : Report DeploymentWord) (formed : IsWellFormed (Feedback report)) (decides : Decides (view.Feedback (report_view_seen seen)) (Feedback report) (Ok accepted))
       (makes : (o : Option ActionChange) × (accepted ≡ change.Feedback o) × MakesReport (report_view_seen seen) (outcome_of_deployment report.word) (λ canceling. canceling) o) (tells : TellsEntries (DeploymentEntry report.word report.details ∷ []) (Some told)) where
     pub feedback_accepted : (h : CommandList) → IsValid h → SeesReport report.credential report.action (records h) seen → check (records h) (Feedback report) ≡ None

@@ -9,7 +9,7 @@ use Rattle.rollout_machine.specs.CommandList.{CommandList, ◌▸◌, followed_b
 use Rattle.rollout_machine.specs.Commands.{Command}
 use Rattle.rollout_machine.specs.RecordSteps.{step_records}
 use Rattle.rollout_machine.specs.Records.{Records}
-use Rattle.rollout_machine.specs.Repeats.{calm, IsTraceless}
+use Rattle.rollout_machine.specs.Repeats.{without_repeats, IsTraceless}
 use Rattle.rollout_machine.specs.Replies.{Reply}
 use Rattle.rollout_machine.specs.Requests.{Asked, Asks, Request, one}
 use Rattle.rollout_machine.specs.Standing.{StandsFor, IsInDoubt}
@@ -24,9 +24,9 @@ use Rattle.rollout_desk.proofs.RunLemmas.{followed_append}
 -- ---- answers
 
 -- what may be answered at a list may be at the list without its repeats
-may_answer : (h : CommandList) (asked : Asked) (reply : Reply) (accepted : Option Command) → IsValid h → MayAnswer h asked reply accepted → MayAnswer (calm h) asked reply accepted
+may_answer : (h : CommandList) (asked : Asked) (reply : Reply) (accepted : Option Command) → IsValid h → MayAnswer h asked reply accepted → MayAnswer (without_repeats h) asked reply accepted
 may_answer h asked reply accepted valid may =
-    let same : answer h asked ≡ answer (calm h) asked = (repeats_leave_no_trace h valid).answers asked in
+    let same : answer h asked ≡ answer (without_repeats h) asked = (repeats_leave_no_trace h valid).answers asked in
     elim may [
       | inl none ↦ inl none
       | inr other ↦ elim other [
@@ -58,26 +58,26 @@ last_once h (x ∷ xs) last is valid =
 -- ---- what the desk stands for
 
 module _ (Holds : Database → Records → Type 0) (stopped : Bool) (s : State) where
-  holds_calm : (file : Trees) (h : CommandList) → HoldsList Holds file h → HoldsList Holds file (calm h)
+  holds_calm : (file : Trees) (h : CommandList) → HoldsList Holds file h → HoldsList Holds file (without_repeats h)
   holds_calm file h holds = let it : IsTraceless h = repeats_leave_no_trace h holds.0 in (it.valid, subst (HoldIn Holds file) it.same holds.1)
 
   -- with one more command after it
-  holds_more : (file : Trees) (h : CommandList) (accepted : Option Command) → HoldsList Holds file (followed_by h (one accepted)) → HoldsList Holds file (followed_by (calm h) (one accepted))
+  holds_more : (file : Trees) (h : CommandList) (accepted : Option Command) → HoldsList Holds file (followed_by h (one accepted)) → HoldsList Holds file (followed_by (without_repeats h) (one accepted))
   holds_more file h None holds = holds_calm file h holds
   holds_more file h (Some c) holds =
       let valid = holds.0 in
       let it : IsTraceless h = repeats_leave_no_trace h valid.0 in
       let here = sym (it.verdicts c) ∙ valid.2 in (
         (it.valid, valid.1, here),
-        subst (HoldIn Holds file) (records_step h c valid.0 valid.2 ∙ ap (λ (rs : Records). step_records rs c) it.same ∙ sym (records_step (calm h) c it.valid here)) holds.1,
+        subst (HoldIn Holds file) (records_step h c valid.0 valid.2 ∙ ap (λ (rs : Records). step_records rs c) it.same ∙ sym (records_step (without_repeats h) c it.valid here)) holds.1,
       )
 
-  stands_calm : (h : CommandList) → StandsFor (desk_state_at Holds stopped s) h → StandsFor (desk_state_at Holds stopped s) (calm h)
+  stands_calm : (h : CommandList) → StandsFor (desk_state_at Holds stopped s) h → StandsFor (desk_state_at Holds stopped s) (without_repeats h)
   stands_calm h standing =
       let it : IsTraceless h = repeats_leave_no_trace h standing.valid in
       record { runs = standing.runs; valid = it.valid; shows = subst (IsAtRest Holds s) it.same standing.shows; crash = λ file left. holds_calm file h (standing.crash file left) }
 
-  doubt_calm : (h : CommandList) (accepted : Option Command) → IsInDoubt (desk_state_at Holds stopped s) h accepted → IsInDoubt (desk_state_at Holds stopped s) (calm h) accepted
+  doubt_calm : (h : CommandList) (accepted : Option Command) → IsInDoubt (desk_state_at Holds stopped s) h accepted → IsInDoubt (desk_state_at Holds stopped s) (without_repeats h) accepted
   doubt_calm h accepted doubt = record {
     stopped = doubt.stopped;
     crash = λ file left. elim (doubt.crash file left) [ inl it ↦ inl (holds_calm file h it) | inr it ↦ inr (holds_more file h accepted it) ];

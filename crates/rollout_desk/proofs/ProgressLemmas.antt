@@ -27,7 +27,7 @@ use Rattle.rollout_model.specs.Rules.{is_number}
 use Rattle.rollout_model.specs.declared.refusal.Refusal.TheVariants.{NotFound}
 use Rattle.campaign_core.specs.RolloutChecks.{BothOrNone, IsResumeView, IsTriggerView}
 use Rattle.campaign_core.proofs.RolloutLemmas.{number_is}
-use Rattle.offer_laws.specs.GroupOffers.{sought}
+use Rattle.offer_laws.specs.GroupOffers.{offers_before_start}
 use Rattle.desk_records.specs.Holds.{Ledger, ledger_of}
 use Rattle.desk_records.specs.LedgerSteps.{set_numbered, turned, with_groups, with_rollouts}
 use Rattle.desk_views.specs.Rollouts.{IsSeenOf}
@@ -191,7 +191,7 @@ gone_formed : (going : Going) (r : ℕ) → is_number r ≡ true → IsWellForme
 gone_formed Resumed r is = is
 gone_formed Triggered r is = is
 
-gone_calm : (going : Going) (h : CommandList) (r : ℕ) (t : Bytes) → offer (records h) t ≡ sought h (gone_by going r) t
+gone_calm : (going : Going) (h : CommandList) (r : ℕ) (t : Bytes) → offer (records h) t ≡ offers_before_start h (gone_by going r) t
 gone_calm Resumed h r t = refl
 gone_calm Triggered h r t = refl
 

@@ -22,7 +22,7 @@ use Rattle.campaign_core.specs.RolloutChecks.{AreSound, BothOrNone, Decides, IsS
 use Rattle.campaign_core.specs.declared.rollout_checks.RolloutChange.{RolloutChange}
 use Rattle.campaign_core.specs.declared.rollout_checks.RolloutCommandView.{RolloutCommandView}
 use Rattle.campaign_core.proofs.ItemLemmas.{IsFound, found}
-use Rattle.offer_laws.specs.GroupOffers.{sought}
+use Rattle.offer_laws.specs.GroupOffers.{offers_before_start}
 use Rattle.desk_records.specs.Holds.{ledger_of}
 use Rattle.desk_records.specs.LedgerSteps.{turned}
 use Rattle.desk_views.specs.Rollouts.{IsSeenOf}
@@ -93,7 +93,7 @@ said_formed Approved r is = is
 said_formed Denied r is = is
 said_formed Paused r is = is
 
-said_calm : (said : Said) (h : CommandList) (r : ℕ) (t : Bytes) → offer (records h) t ≡ sought h (said_by said r) t
+said_calm : (said : Said) (h : CommandList) (r : ℕ) (t : Bytes) → offer (records h) t ≡ offers_before_start h (said_by said r) t
 said_calm Approved h r t = refl
 said_calm Denied h r t = refl
 said_calm Paused h r t = refl

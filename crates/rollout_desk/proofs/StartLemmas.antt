@@ -31,7 +31,8 @@ use Rattle.desk_records.specs.Rollouts.{members_of}
 use Rattle.desk_views.specs.declared.rollouts.SeenRollout.{SeenRollout}
 use Rattle.rollout_desk.specs.GroupStarts.{StartsGroup, started}
 use Rattle.rollout_desk.specs.Starts.{AddsActions, ReadsMembers, StartsWhole, new_for}
-use Rattle.rollout_desk.proofs.LedgerEnds.{changed_at, ends_with_group, rollout_of, set_is_there, set_twice}
+use Rattle.rollout_desk.proofs.ItemSteps.{set_twice}
+use Rattle.rollout_desk.proofs.LedgerEnds.{changed_at, ends_with_group, rollout_of, set_is_there}
 use Rattle.rollout_desk.proofs.StandingLemmas.{Found}
 
 -- ---- what is read
@@ -212,7 +213,7 @@ starts_whole h valid r seen g last count members number found accepted first siz
         λ i. record x { approval = sym found.at.is_seen.approval i; started = true; paused = sym found.at.is_seen.paused i; groups = gs i }
 
     rolls : change_rollout r begin_rollout rs.rollouts ≡ set_numbered (set_numbered rs.rollouts r y) r z
-    rolls = changed_at h valid r begin_rollout x z there begins ∙ sym (set_twice rs.rollouts r y z)
+    rolls = changed_at h valid r begin_rollout x z there begins ∙ sym (set_twice r rs.rollouts y z)
 
     acts : rs.actions ++ new_actions (item_numbered rs.rollouts r) ≡ rs.actions ++ new_for r (length members)
     acts =

@@ -16,13 +16,13 @@ use Rattle.desk_records.specs.declared.rollout_row.StoredAction.{StoredAction}
 use Rattle.rollout_desk.specs.ActionSteps.{Acts, ActsBy, Follows, MayAct, TellsAction, WritesTold, action_change_of, canceling_by, entries_by, notes_by, outcome_by, stays_offered, tally_by, with_entries}
 use Rattle.rollout_desk.specs.Entries.{TellsEntries}
 use Rattle.rollout_desk.specs.Offering.{MayReoffer, Reoffers}
-use Rattle.rollout_desk.specs.declared.entries.Told.{Told}
+use Rattle.rollout_desk.specs.declared.entries.NewEntry.{NewEntry}
 use Rattle.rollout_desk.specs.declared.seen_actions.SeenAction.{SeenAction}
 use Rattle.rollout_desk.proofs.ItemSteps.{append_none, set_same, set_twice, zip_at, zip_set}
 
 -- ---- the history
 
-pub told_adds : (k place : ℕ) (told : Told) (l next : Ledger) → WritesTold k place (Some told) l next → AddsEntry k place told.kind told.word (string_bytes told.details) l next
+pub told_adds : (k place : ℕ) (told : NewEntry) (l next : Ledger) → WritesTold k place (Some told) l next → AddsEntry k place told.kind told.word (string_bytes told.details) l next
 told_adds k place told l next w = go w.entries w.tells w.next_is
   where
     go : (entries : List HistoryEntry) → TellsEntries entries (Some told) → next ≡ with_actions l (set_numbered l.records.actions k (with_entries entries w.action)) l.tallies → AddsEntry k place told.kind told.word (string_bytes told.details) l next
@@ -47,7 +47,7 @@ acted_with : (entries : List HistoryEntry) (had : Option Outcome) (after : Actio
 acted_with entries had (StaysOpen canceling) a is = λ i. record { rollout = a.rollout; position = a.position; canceling = canceling; outcome = sym is i; history = a.history ++ entries }
 acted_with entries had (Ends e) a is = refl
 
-pub telling_parts : (seen : SeenAction) (after : ActionChange) (told : Option Told) (l next : Ledger) → TellsAction seen after told l next
+pub telling_parts : (seen : SeenAction) (after : ActionChange) (told : Option NewEntry) (l next : Ledger) → TellsAction seen after told l next
     → Then (WritesTold seen.number (entries_by told seen.action.entries) told)
     (SetsAction seen.number (canceling_by after) (outcome_by seen.action.outcome after) (record { notes = notes_by told seen.action.notes; entries = entries_by told seen.action.entries })) l next
 telling_parts seen after told l next w = (
@@ -78,11 +78,11 @@ telling_parts seen after told l next w = (
 
 -- ---- all of it
 
-pub acting_parts : (seen : SeenAction) (after : ActionChange) (told : Option Told) (l next : Ledger) → Acts seen after told l next
+pub acting_parts : (seen : SeenAction) (after : ActionChange) (told : Option NewEntry) (l next : Ledger) → Acts seen after told l next
     → Then (Then (TellsAction seen after told) (MayReoffer (stays_offered seen.action.canceling after) seen.action.target)) (Follows seen after) l next
 acting_parts seen after told l next w = (w.offered, (w.acted, w.tells, w.offers), w.follows)
 
-pub acts_after : (seen : Option SeenAction) (accepted : RolloutChange) (after : Option ActionChange) (told : Option Told) (l next : Ledger) → action_change_of accepted ≡ Some after → ActsBy seen accepted told l next → MayAct seen after told l next
+pub acts_after : (seen : Option SeenAction) (accepted : RolloutChange) (after : Option ActionChange) (told : Option NewEntry) (l next : Ledger) → action_change_of accepted ≡ Some after → ActsBy seen accepted told l next → MayAct seen after told l next
 acts_after seen accepted after told l next is w =
     let both : Some w.after ≡ Some after = sym w.is_its ∙ is in
     subst (λ (o : Option ActionChange). MayAct seen o told l next) (let same : w.after ≡ after = cc in same) w.acts

@@ -11,7 +11,7 @@ ghost use Rattle.desk_store.specs.Changing.{MakesLedger, StaysIn};
 ghost use Rattle.rollout_desk.specs.Changing.{StepsIn};
 
 use crate::endings::follow_ending;
-use crate::entries::{Told, more_if, one_more, tell_cancel, tell_deployment};
+use crate::entries::{NewEntry, more_if, one_more, tell_cancel, tell_deployment};
 use crate::offering::offer_anew;
 use crate::seen_actions::{SeenAction, cancel_view, report_view, see_report, see_target};
 use crate::step::Step;
@@ -45,7 +45,7 @@ fn outcome_by(seen: &SeenAction, after: &ActionChange) -> Option<Outcome>
 }
 
 /// How many notes there are with what was told.
-fn notes_with(notes: u32, told: &Option<Told>) -> Result<u32, Fault>
+fn notes_with(notes: u32, told: &Option<NewEntry>) -> Result<u32, Fault>
     ensures { IfOk result (λ more. more ≡ notes_by told.now notes) }
 {
     match told {
@@ -55,7 +55,7 @@ fn notes_with(notes: u32, told: &Option<Told>) -> Result<u32, Fault>
 }
 
 /// How many entries there are with what was told.
-fn entries_with(entries: u32, told: &Option<Told>) -> Result<u32, Fault>
+fn entries_with(entries: u32, told: &Option<NewEntry>) -> Result<u32, Fault>
     ensures { IfOk result (λ more. more ≡ entries_by told.now entries) }
 {
     match told {
@@ -69,7 +69,7 @@ fn write_told<S: Alter>(
     change: &mut OpenChange<'_, S>,
     seen: &SeenAction,
     place: u32,
-    told: &Option<Told>,
+    told: &Option<NewEntry>,
 ) -> Result<(), Fault>
     ensures stays { StaysIn S.Store change.old change.new result }
     ensures writes { MakesLedger S.Store change.old change.new result (WritesTold seen.now.number place told.now) }
@@ -92,7 +92,7 @@ fn tell_action<S: Alter>(
     change: &mut OpenChange<'_, S>,
     seen: &SeenAction,
     after: &ActionChange,
-    told: &Option<Told>,
+    told: &Option<NewEntry>,
 ) -> Result<(), Fault>
     ensures stays { StaysIn S.Store change.old change.new result }
     ensures writes { MakesLedger S.Store change.old change.new result (TellsAction seen.now after.now told.now) }
@@ -159,7 +159,7 @@ fn act<S: Alter>(
     change: &mut OpenChange<'_, S>,
     seen: &SeenAction,
     after: &ActionChange,
-    told: &Option<Told>,
+    told: &Option<NewEntry>,
 ) -> Result<(), Fault>
     ensures stays { StaysIn S.Store change.old change.new result }
     ensures writes { MakesLedger S.Store change.old change.new result (Acts seen.now after.now told.now) }
@@ -175,7 +175,7 @@ fn may_act<S: Alter>(
     change: &mut OpenChange<'_, S>,
     seen: &Option<SeenAction>,
     after: &Option<ActionChange>,
-    told: &Option<Told>,
+    told: &Option<NewEntry>,
 ) -> Result<(), Fault>
     ensures stays { StaysIn S.Store change.old change.new result }
     ensures writes { MakesLedger S.Store change.old change.new result (MayAct seen.now after.now told.now) }
@@ -207,7 +207,7 @@ fn act_by<S: Alter>(
     change: &mut OpenChange<'_, S>,
     seen: &Option<SeenAction>,
     accepted: &RolloutChange,
-    told: &Option<Told>,
+    told: &Option<NewEntry>,
 ) -> Result<(), Fault>
     ensures stays { StaysIn S.Store change.old change.new result }
     ensures writes { MakesLedger S.Store change.old change.new result (ActsBy seen.now accepted.now told.now) }

@@ -9,7 +9,7 @@ use Rattle.rollout_machine.specs.CommandList.{CommandList, ◌▸◌, Make}
 use Rattle.rollout_machine.specs.Commands.{Report, DeploymentWord, Command, Feedback, Outcome, CancelWord, Bytes, PutTargets, TargetRow, CancelFeedback}
 use Rattle.rollout_machine.specs.RecordSteps.{step_records}
 use Rattle.rollout_machine.specs.Records.{rollouts_in, rollout_in, action_in, needs_approval, modules, artifacts, sets, records}
-use Rattle.rollout_machine.specs.Repeats.{calm, is_doubled, same_rows, same_row, IsTraceless, same_words, has_outcome, RepeatsLeaveNoTrace, is_repeat}
+use Rattle.rollout_machine.specs.Repeats.{without_repeats, is_doubled, same_rows, same_row, IsTraceless, same_words, has_outcome, RepeatsLeaveNoTrace, is_repeat}
 use Rattle.rollout_machine.specs.Rollouts.{rollouts}
 use Rattle.rollout_machine.specs.Targets.{target_in, last_row_of, tags_in, target_ids, targets, attributes_in, Target, last_row_for, tags_by_row}
 use Rattle.rollout_machine.specs.Validity.{IsValid}
@@ -209,16 +209,16 @@ pub repeats_leave_no_trace : RepeatsLeaveNoTrace
 repeats_leave_no_trace (Make approval) v = record { valid = tt; same = refl; verdicts = λ c. refl; answers = λ asked. refl }
 repeats_leave_no_trace (h ▸ c) v = go (is_repeat h c) (is_doubled h c) refl refl (repeats_leave_no_trace h v.0)
   where
-    traceless : (k : CommandList) → calm (h ▸ c) ≡ k → IsValid k → records (h ▸ c) ≡ records k → IsTraceless (h ▸ c)
-    traceless k e w s = record { valid = subst IsValid (sym e) w; same = s ∙ sym (ap records e); verdicts = λ d. ap (λ rs. check rs d) (s ∙ sym (ap records e)); answers = same_answers (h ▸ c) (calm (h ▸ c)) v (subst IsValid (sym e) w) (s ∙ sym (ap records e)) }
+    traceless : (k : CommandList) → without_repeats (h ▸ c) ≡ k → IsValid k → records (h ▸ c) ≡ records k → IsTraceless (h ▸ c)
+    traceless k e w s = record { valid = subst IsValid (sym e) w; same = s ∙ sym (ap records e); verdicts = λ d. ap (λ rs. check rs d) (s ∙ sym (ap records e)); answers = same_answers (h ▸ c) (without_repeats (h ▸ c)) v (subst IsValid (sym e) w) (s ∙ sym (ap records e)) }
 
     test : (a b : Bool) (x y : CommandList) → is_repeat h c ≡ a → is_doubled h c ≡ b → cond (is_repeat h c || is_doubled h c) x y ≡ cond (a || b) x y
     test a b x y e f = rw (e, f) refl
 
     go : (a b : Bool) → is_repeat h c ≡ a → is_doubled h c ≡ b → IsTraceless h → IsTraceless (h ▸ c)
-    go true b e f ih = traceless (calm h) (test true b (calm h) (calm h ▸ c) e f) ih.valid (repeat_same h c v.0 v.2 e ∙ ih.same)
-    go false true e f ih = traceless (calm h) (test false true (calm h) (calm h ▸ c) e f) ih.valid (doubled_same h c v.0 v.2 f ∙ ih.same)
+    go true b e f ih = traceless (without_repeats h) (test true b (without_repeats h) (without_repeats h ▸ c) e f) ih.valid (repeat_same h c v.0 v.2 e ∙ ih.same)
+    go false true e f ih = traceless (without_repeats h) (test false true (without_repeats h) (without_repeats h ▸ c) e f) ih.valid (doubled_same h c v.0 v.2 f ∙ ih.same)
     go false false e f ih =
-        let here : verdict (calm h) c ≡ None = sym (ih.verdicts c) ∙ v.2 in
-        traceless (calm h ▸ c) (test false false (calm h) (calm h ▸ c) e f) (ih.valid, v.1, here)
-        (records_step h c v.0 v.2 ∙ ap (λ rs. step_records rs c) ih.same ∙ sym (records_step (calm h) c ih.valid here))
+        let here : verdict (without_repeats h) c ≡ None = sym (ih.verdicts c) ∙ v.2 in
+        traceless (without_repeats h ▸ c) (test false false (without_repeats h) (without_repeats h ▸ c) e f) (ih.valid, v.1, here)
+        (records_step h c v.0 v.2 ∙ ap (λ rs. step_records rs c) ih.same ∙ sym (records_step (without_repeats h) c ih.valid here))

@@ -52,16 +52,16 @@ abbrev pub is_doubled : CommandList → Command → Bool
 is_doubled h c = both_same (imported_last h) (imported c)
 
 -- the list without its repeats and doubled imports
-abbrev pub calm : CommandList → CommandList
-calm (Make approval) = Make approval
-calm (h ▸ c) = cond (is_repeat h c || is_doubled h c) (calm h) (calm h ▸ c)
+abbrev pub without_repeats : CommandList → CommandList
+without_repeats (Make approval) = Make approval
+without_repeats (h ▸ c) = cond (is_repeat h c || is_doubled h c) (without_repeats h) (without_repeats h ▸ c)
 
 -- repeats and doubled imports leave no trace: in the records, and so in the verdict on every command and in every answer
 pub record IsTraceless (h : CommandList) : Type 0 where
-  pub valid : IsValid (calm h)
-  pub same : records h ≡ records (calm h)
-  pub verdicts : (c : Command) → verdict h c ≡ verdict (calm h) c
-  pub answers : (asked : Asked) → answer h asked ≡ answer (calm h) asked
+  pub valid : IsValid (without_repeats h)
+  pub same : records h ≡ records (without_repeats h)
+  pub verdicts : (c : Command) → verdict h c ≡ verdict (without_repeats h) c
+  pub answers : (asked : Asked) → answer h asked ≡ answer (without_repeats h) asked
 
 abbrev pub RepeatsLeaveNoTrace : Type 0
 RepeatsLeaveNoTrace = (h : CommandList) → IsValid h → IsTraceless h

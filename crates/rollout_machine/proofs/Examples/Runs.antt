@@ -6,7 +6,7 @@ use Rattle.rollout_machine.specs.Commands.{Cancel, Command, PutTargets, CreateRo
 use Rattle.rollout_machine.specs.Kinds.{derived}
 use Rattle.rollout_machine.specs.RecordSteps.{step_records}
 use Rattle.rollout_machine.specs.Records.{records}
-use Rattle.rollout_machine.specs.Repeats.{calm}
+use Rattle.rollout_machine.specs.Repeats.{without_repeats}
 use Rattle.rollout_machine.specs.StateWords.{RunningRollout, PausedRollout}
 use Rattle.rollout_machine.proofs.Examples.Fleet.{device, row_for, plan_for, everyone, set_up, rolled_out, by, succeeds, fails, history_of, shown, offered}
 
@@ -61,5 +61,5 @@ derived_kinds : derived (run_of (rolled_out everyone 3 50 100 ++ succeeds 1 1 �
 }
 derived_kinds = refl
 
-calm_list : calm (history_of (PutTargets fleet ∷ rolled_out (only 1) 1 50 100 ++ succeeds 1 1 ∷ succeeds 1 1 ∷ fails 1 1 ∷ [])) ≡ history_of (rolled_out (only 1) 1 50 100 ++ succeeds 1 1 ∷ [])
+calm_list : without_repeats (history_of (PutTargets fleet ∷ rolled_out (only 1) 1 50 100 ++ succeeds 1 1 ∷ succeeds 1 1 ∷ fails 1 1 ∷ [])) ≡ history_of (rolled_out (only 1) 1 50 100 ++ succeeds 1 1 ∷ [])
 calm_list = refl
