@@ -32,7 +32,13 @@ def cons(head, items, width=140):
 
 
 def used(place, words):
-    return f"use {place}.{{{', '.join(words)}}}"
+    """An import, on as many lines as it needs."""
+    lines = [[]]
+    for word in words:
+        if lines[-1] and len(f"use {place}.{{{', '.join([*lines[-1], word])}}}") > 150:
+            lines.append([])
+        lines[-1].append(word)
+    return "\n".join(f"use {place}.{{{', '.join(line)}}}" for line in lines)
 
 
 def columns_of(table):

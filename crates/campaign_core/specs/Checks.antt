@@ -1,9 +1,11 @@
 -- What the verdict on a command rests on, what its change is, and that both are those of the records and of a command list.
-use Rattle.std.specs.Prelude.{◌≡◌, ◌+◌, ℕ, Bool, ◌&&◌, ◌||◌, not, nat_eq, nat_le, nat_lt, List, [], ◌∷◌, ◌++◌, map, filter, length, Option, Some, None, is_none, Result, Ok, Err, ⊤}
+use Rattle.std.specs.Prelude.{◌≡◌, ◌+◌, ℕ, Bool, ◌&&◌, ◌||◌, not, nat_eq, nat_le, nat_lt, List, [], ◌∷◌, ◌++◌, map, filter, length, Option, Some}
+use Rattle.std.specs.Prelude.{None, is_none, Result, Ok, Err, ⊤}
 use Rattle.std.specs.List.{list_any}
 use Rattle.rollout_machine.specs.ByteStrings.{contains_word, item_numbered, same_bytes, with_word, with_words, without_word}
 use Rattle.rollout_machine.specs.CommandList.{CommandList, ◌▸◌}
-use Rattle.rollout_machine.specs.Commands.{Attribute, Bytes, Command, Credential, AddArtifact, AddModule, AddSet, PutAttributes, PutTargets, Tag, Untag, ModuleLabel, SetLabel, TargetRow, Upload}
+use Rattle.rollout_machine.specs.Commands.{Attribute, Bytes, Command, Credential, AddArtifact, AddModule, AddSet, PutAttributes, PutTargets, Tag}
+use Rattle.rollout_machine.specs.Commands.{Untag, ModuleLabel, SetLabel, TargetRow, Upload}
 use Rattle.rollout_machine.specs.Digests.{digest_of}
 use Rattle.rollout_machine.specs.RecordSteps.{change_target, put_targets, step_records}
 use Rattle.rollout_machine.specs.Records.{ArtifactRecord, Records, records}
@@ -70,12 +72,21 @@ pub record IsArtifactView (v : ArtifactView) (u : Upload) (rs : Records) : Type 
 
 abbrev pub artifact_refusal : ArtifactView → Option Refusal
 artifact_refusal v =
-    first_refusal ((v.misses_module, NotFound) ∷ (v.locked, Locked) ∷ (v.same, Exists) ∷ (nat_le module_artifact_limit v.module_count || nat_le artifact_limit v.count, Quota) ∷ (v.wrong_digest, WrongDigest) ∷ [])
+    first_refusal ((v.misses_module, NotFound) ∷ (v.locked, Locked) ∷ (v.same, Exists)
+    ∷ (nat_le module_artifact_limit v.module_count || nat_le artifact_limit v.count, Quota) ∷ (v.wrong_digest, WrongDigest) ∷ [])
 
 -- the upload is put behind the artifacts that are there, with its size and digest, under the next number
 pub record AddsArtifact (a : NewArtifact) (u : Upload) (old new : Records) : Type 0 where
   pub next : a.number ≡ length old.artifacts + 1
-  pub added : new ≡ record old { artifacts = old.artifacts ++ record { module_number = u.module_number; filename = u.filename; size = a.size; digest = a.digest; contents = u.contents } ∷ [] }
+  pub added : new ≡ record old {
+    artifacts = old.artifacts ++ record {
+      module_number = u.module_number;
+      filename = u.filename;
+      size = a.size;
+      digest = a.digest;
+      contents = u.contents;
+    } ∷ [];
+  }
 
 -- ---- adding a distribution set
 
@@ -140,7 +151,10 @@ attributes_refusal v = first_refusal ((v.misses_device, Unauthorized) ∷ (nat_l
 
 -- the attributes of target t get the values that are given, where it is there
 abbrev pub GivesAttributes : List Attribute → Bytes → Records → Records → Type 0
-GivesAttributes given t old new = new ≡ record old { targets = change_target t (λ (u : Target). record u { attributes = with_attributes given u.attributes }) old.targets }
+GivesAttributes given t old new = new ≡ record old {
+  targets = change_target t
+      (λ (u : Target). record u { attributes = with_attributes given u.attributes }) old.targets;
+}
 
 -- ---- any command
 

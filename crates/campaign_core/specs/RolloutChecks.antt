@@ -1,12 +1,14 @@
 -- What the verdict on a command on rollouts rests on, what its change is, and that both are those of the records and of a command list.
-use Rattle.std.specs.Prelude.{◌≡◌, ◌+◌, ℕ, zero, suc, Bool, true, false, ◌&&◌, ◌||◌, not, cond, nat_le, nat_lt, List, [], ◌∷◌, ◌++◌, map, length, Option, Some, None, is_none, is_some, Result, Ok, Err, ⊤}
+use Rattle.std.specs.Prelude.{◌≡◌, ◌+◌, ℕ, zero, suc, Bool, true, false, ◌&&◌, ◌||◌, not, cond, nat_le, nat_lt, List, [], ◌∷◌, ◌++◌, map, length}
+use Rattle.std.specs.Prelude.{Option, Some, None, is_none, is_some, Result, Ok, Err, ⊤}
 use Rattle.std.specs.List.{list_any}
 use Rattle.std.specs.Option.{option_map}
 use Rattle.target_filter.specs.Profile.{filter_of}
 use Rattle.rollout_machine.specs.Actions.{HistoryEntry, DeploymentEntry, CancelEntry, outcome_of_cancel, outcome_of_deployment}
 use Rattle.rollout_machine.specs.ByteStrings.{item_numbered, same_bytes}
 use Rattle.rollout_machine.specs.CommandList.{CommandList, ◌▸◌}
-use Rattle.rollout_machine.specs.Commands.{Bytes, CancelWord, Command, Credential, DeploymentWord, RolloutPlan, RejectedCancel, Approve, Cancel, CancelFeedback, CreateRollout, Deny, Feedback, Pause, Resume, Start, TriggerNext}
+use Rattle.rollout_machine.specs.Commands.{Bytes, CancelWord, Command, Credential, DeploymentWord, RolloutPlan, RejectedCancel, Approve, Cancel}
+use Rattle.rollout_machine.specs.Commands.{CancelFeedback, CreateRollout, Deny, Feedback, Pause, Resume, Start, TriggerNext}
 use Rattle.rollout_machine.specs.Effects.{feedback_pauses, good_after, starts_next}
 use Rattle.rollout_machine.specs.Ranges.{each_from}
 use Rattle.rollout_machine.specs.RecordSteps.{begin_rollout, counted, is_same_action, last_started, new_actions, new_group, start_group, step_records, view_of}
@@ -16,7 +18,8 @@ use Rattle.rollout_machine.specs.declared.records.RolloutRecord.{RolloutRecord}
 use Rattle.rollout_machine.specs.Rollouts.{chosen}
 use Rattle.rollout_machine.specs.StateWords.{RolloutWord, group_number_of, has_started, is_for, rollout_word}
 use Rattle.rollout_machine.specs.Validity.{IsValid}
-use Rattle.rollout_machine.specs.Verdicts.{check, first_refusal, has_next, is_device_action, is_known, is_note, notes_of, on_action, same_outcome, target_of, verdict}
+use Rattle.rollout_machine.specs.Verdicts.{check, first_refusal, has_next, is_device_action, is_known, is_note, notes_of, on_action, same_outcome}
+use Rattle.rollout_machine.specs.Verdicts.{target_of, verdict}
 use Rattle.rollout_machine.specs.declared.outcome.Outcome.{Outcome}
 use Rattle.rollout_machine.specs.declared.outcome.Outcome.TheVariants.{Gone}
 use Rattle.rollout_machine.specs.declared.view.Effects.{Effects}
@@ -77,7 +80,8 @@ pub record IsPlanView (v : PlanView) (plan : RolloutPlan) (rs : Records) : Type 
   pub approval : v.approval ≡ rs.approval
 
 abbrev pub plan_refusal : PlanView → ℕ → Option Refusal
-plan_refusal v groups = first_refusal ((v.bad_filter, BadFilter) ∷ (v.misses_set, NotFound) ∷ (v.same_name, Exists) ∷ (nat_lt v.members groups, TooFewTargets) ∷ (nat_le rollout_limit v.count, Quota) ∷ [])
+plan_refusal v groups = first_refusal ((v.bad_filter, BadFilter) ∷ (v.misses_set, NotFound) ∷ (v.same_name, Exists)
+    ∷ (nat_lt v.members groups, TooFewTargets) ∷ (nat_le rollout_limit v.count, Quota) ∷ [])
 
 -- that of a new rollout, on a desk with approval or without
 abbrev pub approval_at : Bool → Approval
@@ -121,7 +125,10 @@ paused x = record x { paused = true }
 
 -- the rollout is started, with its first group, and an action for each member is put behind those that are there
 abbrev pub StartsRollout : ℕ → Records → Records → Type 0
-StartsRollout r old new = new ≡ record old { rollouts = change_numbered r begin_rollout old.rollouts; actions = old.actions ++ new_actions (item_numbered old.rollouts r) }
+StartsRollout r old new = new ≡ record old {
+  rollouts = change_numbered r begin_rollout old.rollouts;
+  actions = old.actions ++ new_actions (item_numbered old.rollouts r);
+}
 
 -- ---- going on
 
@@ -199,11 +206,13 @@ abbrev pub is_beyond : Bool → ReportedAction → Bool
 is_beyond note v = is_none v.action.outcome && (note && nat_le note_limit v.notes)
 
 abbrev pub feedback_refusal : DeploymentWord → ReportedAction → Option Refusal
-feedback_refusal word v = first_refusal ((gives_other (outcome_of_deployment word) v.action, ClosedAction) ∷ (is_beyond (is_note (DeploymentEntry word [])) v, Quota) ∷ [])
+feedback_refusal word v = first_refusal ((gives_other (outcome_of_deployment word) v.action, ClosedAction)
+    ∷ (is_beyond (is_note (DeploymentEntry word [])) v, Quota) ∷ [])
 
 abbrev pub cancel_feedback_refusal : CancelWord → ReportedAction → Option Refusal
 cancel_feedback_refusal word v =
-    first_refusal ((gives_other (outcome_of_cancel word) v.action, ClosedAction) ∷ (is_none v.action.outcome && not v.action.canceling, WrongState) ∷ (is_beyond (is_note (CancelEntry word [])) v, Quota) ∷ [])
+    first_refusal ((gives_other (outcome_of_cancel word) v.action, ClosedAction) ∷ (is_none v.action.outcome && not v.action.canceling, WrongState)
+    ∷ (is_beyond (is_note (CancelEntry word [])) v, Quota) ∷ [])
 
 -- what an outcome of the action does to its rollout
 abbrev pub effects_of : RolloutView → Outcome → Effects
@@ -233,7 +242,8 @@ MakesReport v gives canceling c = (a : ReportedAction) × (v.reported ≡ Some a
 
 -- so does an accepted cancel
 abbrev pub MakesCancel : Option CancelView → Bool → ActionChange → Type 0
-MakesCancel v force c = (a : CancelView) × (v ≡ Some a) × (cancel_refusal v force ≡ None) × (c ≡ change_by a.action (outcome_forced a.action.canceling force) true)
+MakesCancel v force c = (a : CancelView) × (v ≡ Some a) × (cancel_refusal v force ≡ None)
+    × (c ≡ change_by a.action (outcome_forced a.action.canceling force) true)
 
 abbrev pub action_with : ActionChange → ActionRecord → ActionRecord
 action_with (StaysOpen canceling) a = record a { canceling = canceling }
@@ -250,7 +260,10 @@ rollouts_with (Ends e) xs = change_numbered e.rollout (rollout_with e) xs
 -- action k is changed, and what was reported of it is put at the end of its history
 abbrev pub ChangesAction : ActionChange → List HistoryEntry → ℕ → Records → Records → Type 0
 ChangesAction c entries k old new =
-    new ≡ record old { rollouts = rollouts_with c old.rollouts; actions = change_numbered k (λ (a : ActionRecord). record (action_with c a) { history = a.history ++ entries }) old.actions }
+    new ≡ record old {
+      rollouts = rollouts_with c old.rollouts;
+      actions = change_numbered k (λ (a : ActionRecord). record (action_with c a) { history = a.history ++ entries }) old.actions;
+    }
 
 -- where there is no change, all stays
 abbrev pub MayChangeAction : Option ActionChange → List HistoryEntry → ℕ → Records → Records → Type 0

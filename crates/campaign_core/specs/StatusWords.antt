@@ -26,7 +26,8 @@ is_final g = nat_eq (g.ok + g.bad + g.gone) g.size
 
 abbrev pub group_word_from : Bool → GroupStatus → words.GroupWord
 group_word_from rollout_started g =
-    cond (not rollout_started) words.ReadyGroup (cond (not g.started) words.ScheduledGroup (cond (is_final g) words.FinishedGroup (cond (reaches g.bad g.size g.error) words.ErrorGroup words.RunningGroup)))
+    cond (not rollout_started) words.ReadyGroup (cond (not g.started) words.ScheduledGroup
+    (cond (is_final g) words.FinishedGroup (cond (reaches g.bad g.size g.error) words.ErrorGroup words.RunningGroup)))
 
 abbrev pub action_word_from : ActionStatus → words.ActionWord
 action_word_from a = elim a.outcome [
@@ -98,7 +99,8 @@ FollowsGroup rollout_started s word =
 
 -- The word is that of every action of this status.
 abbrev pub FollowsAction : ActionStatus → words.ActionWord → Type 0
-FollowsAction s word = (x : Rollout) (i : ℕ) (p : ActionPlace) (h : CommandList) → IsActionStatus s x i p h → word ≡ words.action_word (records.records h) (records.action_in h p)
+FollowsAction s word = (x : Rollout) (i : ℕ) (p : ActionPlace) (h : CommandList) → IsActionStatus s x i p h
+    → word ≡ words.action_word (records.records h) (records.action_in h p)
 
 -- The word is that of every target of this status.
 abbrev pub FollowsTarget : TargetStatus → words.TargetWord → Type 0

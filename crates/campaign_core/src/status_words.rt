@@ -3,7 +3,8 @@
 ghost use Rattle.std.specs.Prelude.{◌≡◌, ◌&&◌};
 ghost use Rattle.std.specs.List.{list_all};
 ghost use Rattle.rollout_machine.specs.StateWords.{word_from};
-ghost use Rattle.campaign_core.specs.StatusWords.{is_final, group_word_from, action_word_from, target_word_from, FollowsRollout, FollowsGroup, FollowsAction, FollowsTarget};
+ghost use Rattle.campaign_core.specs.StatusWords.{is_final, group_word_from, action_word_from, target_word_from, FollowsRollout, FollowsGroup};
+ghost use Rattle.campaign_core.specs.StatusWords.{FollowsAction, FollowsTarget};
 
 use crate::thresholds;
 use rollout_machine::Outcome;
@@ -138,7 +139,8 @@ fn first_target_word(target: &TargetStatus) -> TargetWord
 
 /// The state of a rollout with these groups. Takes no memory.
 pub fn rollout_word(rollout: &RolloutStatus, groups: &[GroupStatus]) -> RolloutWord
-    ensures word { result ≡ word_from rollout.now.approval rollout.now.started (list_all (λ group. group.started && is_final group) groups.now) rollout.now.paused }
+    ensures word { result ≡ word_from rollout.now.approval rollout.now.started
+        (list_all (λ group. group.started && is_final group) groups.now) rollout.now.paused }
     ensures follows { FollowsRollout rollout.now groups.now result }
 {
     first_rollout_word(rollout, are_over(groups))

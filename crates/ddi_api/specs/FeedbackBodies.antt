@@ -4,7 +4,8 @@ use Rattle.serde_json.specs.Data.{Data}
 use Rattle.serde_json.specs.Find.{get, as_str}
 use Rattle.rollout_model.specs.Rules.{detail_of, details_of}
 use Rattle.rollout_model.specs.declared.feedback.Report.{Report}
-use Rattle.rollout_machine.specs.Commands.{Credential, Proceeding, Scheduled, Resumed, DeploymentWord, Succeeded, Failed, Rejected, Noted, CancelWord, ClosedCancel, CanceledCancel, RejectedCancel, NotedCancel}
+use Rattle.rollout_machine.specs.Commands.{Credential, Proceeding, Scheduled, Resumed, DeploymentWord, Succeeded, Failed, Rejected, Noted, CancelWord}
+use Rattle.rollout_machine.specs.Commands.{ClosedCancel, CanceledCancel, RejectedCancel, NotedCancel}
 use Rattle.mgmt_objects.specs.Bodies.{body_data}
 use Rattle.mgmt_objects.specs.Traverse.{array_of}
 
@@ -69,7 +70,8 @@ new_report device action word details = record { credential = device; action = a
 
 -- what an object's `status` reports of an action
 abbrev pub report_of : {W : Type 0} → (List ℕ → List ℕ → Option W) → Credential → ℕ → Data → Option (Report W)
-report_of words device action status = option_and_then (λ word. option_map (λ details. new_report device action word details) (details_member status)) (word_member words status)
+report_of words device action status = option_and_then (λ word. option_map (λ details. new_report device action word details)
+    (details_member status)) (word_member words status)
 
 abbrev pub report_body : {W : Type 0} → (List ℕ → List ℕ → Option W) → Credential → ℕ → List ℕ → Option (Report W)
 report_body words device action bytes = option_and_then (report_of words device action) (option_and_then (get (codes "status")) (body_data bytes))

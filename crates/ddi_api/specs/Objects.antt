@@ -42,7 +42,8 @@ poll_data id offer = object (member (codes "_links") (object (offer_links id off
 
 -- the action that is to be canceled, its number as a text
 abbrev pub cancel_data : ℕ → Data
-cancel_data action = object (member (codes "cancelAction") (object (member (codes "stopId") (string (decimal action)) no_members)) (member (codes "id") (string (decimal action)) no_members))
+cancel_data action = object (member (codes "cancelAction") (object (member (codes "stopId") (string (decimal action)) no_members))
+    (member (codes "id") (string (decimal action)) no_members))
 
 abbrev pub download_data : List ℕ → ℕ → List ℕ → Data
 download_data id module_number filename = object (member (codes "download-http") (link_data (download_path id module_number filename)) no_members)
@@ -50,15 +51,19 @@ download_data id module_number filename = object (member (codes "download-http")
 -- an artifact of a module, as the device of this id downloads it
 abbrev pub artifact_data : List ℕ → ℕ → Artifact → Data
 artifact_data id module_number a =
-    object (member (codes "_links") (download_data id module_number a.filename) (member (codes "filename") (string a.filename) (member (codes "hashes") (hashes_data a) (member (codes "size") (whole a.size) no_members))))
+    object (member (codes "_links") (download_data id module_number a.filename)
+    (member (codes "filename") (string a.filename) (member (codes "hashes") (hashes_data a) (member (codes "size") (whole a.size) no_members))))
 
 abbrev pub chunk_data : List ℕ → Chunk → Data
 chunk_data id c =
-    object (member (codes "artifacts") (array (items_of (map (artifact_data id c.module_number) c.artifacts))) (member (codes "name") (string c.label.name) (member (codes "part") (string c.label.kind) (member (codes "version") (string c.label.version) no_members))))
+    object (member (codes "artifacts") (array (items_of (map (artifact_data id c.module_number) c.artifacts)))
+    (member (codes "name") (string c.label.name) (member (codes "part") (string c.label.kind)
+    (member (codes "version") (string c.label.version) no_members))))
 
 abbrev pub chunks_data : List Data → Data
 chunks_data chunks =
-    object (member (codes "chunks") (array (items_of chunks)) (member (codes "download") (string (codes "forced")) (member (codes "update") (string (codes "forced")) no_members)))
+    object (member (codes "chunks") (array (items_of chunks))
+    (member (codes "download") (string (codes "forced")) (member (codes "update") (string (codes "forced")) no_members)))
 
 -- what a device is to install, the action's number as a text
 abbrev pub deployment_object : ℕ → List Data → Data

@@ -61,4 +61,5 @@ IsReadersOwn refusal = (refusal ≡ NotFound) ⊎ (refusal ≡ BadMethod) ⊎ (r
 
 -- the request that is asked, or the refusal that it is rejected by; in place of either, want of memory
 abbrev pub ReadsRequest : Asked → Result RustRequest Refusal → Type 0
-ReadsRequest asked result = MatchResult result (λ request. asked ≡ Asks (request_of request)) (λ refusal. (refusal ≡ NoMemory) ⊎ ((asked ≡ Rejected refusal) × IsReadersOwn refusal))
+ReadsRequest asked result = MatchResult result (λ request. asked ≡ Asks (request_of request))
+    (λ refusal. (refusal ≡ NoMemory) ⊎ ((asked ≡ Rejected refusal) × IsReadersOwn refusal))

@@ -5,7 +5,8 @@ ghost use Rattle.serde_json.specs.Find.{get};
 ghost use Rattle.serde_json.specs.View.{view};
 ghost use Rattle.mgmt_objects.specs.Readings.{ReadsAs, ReadsBy};
 ghost use Rattle.mgmt_objects.specs.Traverse.{array_of, traverse};
-ghost use Rattle.ddi_api.specs.FeedbackBodies.{cancel_word, deployment_word, detail_in, details_member, finished_in, lines_if, report_body, report_of, string_member, word_member};
+ghost use Rattle.ddi_api.specs.FeedbackBodies.{cancel_word, deployment_word, detail_in, details_member, finished_in, lines_if, report_body};
+ghost use Rattle.ddi_api.specs.FeedbackBodies.{report_of, string_member, word_member};
 
 use mgmt_objects::read_value;
 use rollout_model::{

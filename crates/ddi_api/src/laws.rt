@@ -32,18 +32,36 @@ pub fn device_routes_are_apart()
 
 /// Whoever doesn't say who it is in the one form is told so, whatever else the path, the query and the body hold.
 pub fn unauthorized_comes_first()
-    ensures { (m : WireMessage) → (call : DeviceCall) → device_call (path_of m.target) ≡ Some call → bytes_eq m.method (method_of call) ≡ true → credential_of m ≡ None → device_reading m ≡ Rejected Unauthorized }
+    ensures { (m : WireMessage) → (call : DeviceCall) → device_call (path_of m.target) ≡ Some call → bytes_eq m.method (method_of call) ≡ true
+        → credential_of m ≡ None → device_reading m ≡ Rejected Unauthorized }
 {}
 
 /// A worked message asks for a poll.
 pub fn worked_poll()
-    ensures { device_reading (record { method = codes "GET"; target = codes "/DEFAULT/controller/v1/dev-01"; fields = (codes "AUTHORIZATION", codes "TargetToken tok-dev-01") ∷ []; body = [] }) ≡ Asks (Ask (Poll (record { id = codes "dev-01"; digest = digest_of (codes "tok-dev-01") }))) }
+    ensures { device_reading (record {
+      method = codes "GET";
+      target = codes "/DEFAULT/controller/v1/dev-01";
+      fields = (codes "AUTHORIZATION", codes "TargetToken tok-dev-01") ∷ [];
+      body = [];
+    })
+        ≡ Asks (Ask (Poll (record { id = codes "dev-01"; digest = digest_of (codes "tok-dev-01") }))) }
 {}
 
 /// Two fields of authorization say nothing, and an id that is no word is told nothing else.
 pub fn worked_strangers()
-    ensures twice { device_reading (record { method = codes "GET"; target = codes "/DEFAULT/controller/v1/dev-01?x=1"; fields = (codes "Authorization", codes "TargetToken tok-dev-01") ∷ (codes "authorization", codes "TargetToken tok-dev-01") ∷ []; body = [] }) ≡ Rejected Unauthorized }
-    ensures id { device_reading (record { method = codes "GET"; target = codes "/DEFAULT/controller/v1/dev%2001/deploymentBase/0"; fields = (codes "Authorization", codes "TargetToken tok-dev-01") ∷ []; body = [] }) ≡ Rejected Unauthorized }
+    ensures twice { device_reading (record {
+      method = codes "GET";
+      target = codes "/DEFAULT/controller/v1/dev-01?x=1";
+      fields = (codes "Authorization", codes "TargetToken tok-dev-01") ∷ (codes "authorization", codes "TargetToken tok-dev-01") ∷ [];
+      body = [];
+    })
+        ≡ Rejected Unauthorized }
+    ensures id { device_reading (record {
+      method = codes "GET";
+      target = codes "/DEFAULT/controller/v1/dev%2001/deploymentBase/0";
+      fields = (codes "Authorization", codes "TargetToken tok-dev-01") ∷ [];
+      body = [];
+    }) ≡ Rejected Unauthorized }
 {}
 
 /// The whole text of a poll where nothing is offered.
@@ -71,17 +89,22 @@ pub fn no_authorization()
 
 /// A worked body reports that a deployment succeeded, with one line.
 pub fn worked_feedback()
-    ensures { report_body deployment_word (record { id = codes "dev-01"; digest = [] }) 4 (codes "{\"status\":{\"execution\":\"closed\",\"result\":{\"finished\":\"success\"},\"details\":[\"done\"]}}") ≡ Some (new_report (record { id = codes "dev-01"; digest = [] }) 4 Succeeded (codes "done" ∷ [])) }
+    ensures { report_body deployment_word (record { id = codes "dev-01"; digest = [] }) 4
+        (codes "{\"status\":{\"execution\":\"closed\",\"result\":{\"finished\":\"success\"},\"details\":[\"done\"]}}")
+        ≡ Some (new_report (record { id = codes "dev-01"; digest = [] }) 4 Succeeded (codes "done" ∷ [])) }
 {}
 
 /// A worked body reports that a device goes on in spite of a cancel.
 pub fn worked_cancel_feedback()
-    ensures { report_body cancel_word (record { id = codes "dev-01"; digest = [] }) 4 (codes "{\"status\":{\"execution\":\"rejected\",\"result\":{\"finished\":\"none\"}}}") ≡ Some (new_report (record { id = codes "dev-01"; digest = [] }) 4 RejectedCancel []) }
+    ensures { report_body cancel_word (record { id = codes "dev-01"; digest = [] }) 4
+        (codes "{\"status\":{\"execution\":\"rejected\",\"result\":{\"finished\":\"none\"}}}")
+        ≡ Some (new_report (record { id = codes "dev-01"; digest = [] }) 4 RejectedCancel []) }
 {}
 
 /// Of equal keys the last one counts, and keys stand in byte order.
 pub fn worked_config()
-    ensures { config_body (codes "{\"mode\":\"merge\",\"data\":{\"os\":\"a\",\"hw\":\"2\",\"os\":\"b\"}}") ≡ Some (new_attribute (codes "hw") (codes "2") ∷ new_attribute (codes "os") (codes "b") ∷ []) }
+    ensures { config_body (codes "{\"mode\":\"merge\",\"data\":{\"os\":\"a\",\"hw\":\"2\",\"os\":\"b\"}}")
+        ≡ Some (new_attribute (codes "hw") (codes "2") ∷ new_attribute (codes "os") (codes "b") ∷ []) }
 {}
 
 /// The texts of all polls are their letters.

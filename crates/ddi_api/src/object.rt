@@ -7,7 +7,8 @@ ghost use Rattle.serde_json.specs.Written.{compact_text};
 ghost use Rattle.mgmt_objects.specs.ArtifactObjects.{hashes_data};
 ghost use Rattle.rollout_machine.specs.Views.{chunk, deployment};
 ghost use Rattle.ddi_api.specs.Letters.{offer_letters};
-ghost use Rattle.ddi_api.specs.Objects.{action_path, artifact_data, cancel_data, chunk_data, chunks_data, deployment_data, deployment_object, download_data, download_path, link_data, offer_kind, poll_data, shown_chunk};
+ghost use Rattle.ddi_api.specs.Objects.{action_path, artifact_data, cancel_data, chunk_data, chunks_data, deployment_data, deployment_object};
+ghost use Rattle.ddi_api.specs.Objects.{download_data, download_path, link_data, offer_kind, poll_data, shown_chunk};
 
 use artifact_pieces::digest_text;
 use itoa::Buffer;

@@ -1,5 +1,6 @@
 -- What a file of targets says: its rows, or the number of its first faulty record.
-use Rattle.std.specs.Prelude.{◌≡◌, ℕ, Bool, List, [], ◌∷◌, length, take, map, codes, nat_eq, Option, Some, None, is_none, unwrap_or, option_map, option_and_then, Result, Ok, Err, MatchResult, Vec, if◌then◌else◌, ⊤}
+use Rattle.std.specs.Prelude.{◌≡◌, ℕ, Bool, List, [], ◌∷◌, length, take, map, codes, nat_eq, Option, Some, None, is_none, unwrap_or, option_map}
+use Rattle.std.specs.Prelude.{option_and_then, Result, Ok, Err, MatchResult, Vec, if◌then◌else◌, ⊤}
 use Rattle.std.specs.List.{ends_with, find, range_with_len}
 use Rattle.std.specs.Option.{ok_or}
 use Rattle.std.specs.Cmp.Lexicographic.{pointwise}

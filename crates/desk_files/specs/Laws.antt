@@ -29,7 +29,8 @@ abbrev pub action_record : Action → Record
 action_record a = decimal a.number ∷ a.target ∷ decimal a.group ∷ action_text a.word ∷ []
 
 abbrev pub TablesAreCsv : Type 0
-TablesAreCsv = (actions : List Action) → All IsAction actions → table_text actions ≡ flat_map (row_text default_writer) (table_header ∷ map action_record actions)
+TablesAreCsv = (actions : List Action) → All IsAction actions
+    → table_text actions ≡ flat_map (row_text default_writer) (table_header ∷ map action_record actions)
 
 -- ---- the parts of worked texts
 

@@ -11,7 +11,8 @@ use Rattle.desk_files.specs.Counts.{counts_of, counts_text, total_counts}
 
 -- the first three lines
 abbrev pub heading : Rollout → List ℕ
-heading r = codes "rollout " ++ decimal r.number ++ codes " " ++ r.name ++ codes "\nstate " ++ rollout_text r.word ++ codes "\ngroup  size    ok   bad  gone  open state\n"
+heading r = codes "rollout " ++ decimal r.number ++ codes " " ++ r.name ++ codes "\nstate " ++ rollout_text r.word
+    ++ codes "\ngroup  size    ok   bad  gone  open state\n"
 
 abbrev pub group_line : Group → List ℕ
 group_line g = right 5 g.number ++ counts_text (counts_of g) ++ codes " " ++ group_text g.word ++ codes "\n"

@@ -23,7 +23,8 @@ new_row id name digest tags = record { id = id; name = name; digest = digest; ta
 
 abbrev pub row_of_fields : List ℕ → List ℕ → List ℕ → List ℕ → Option TargetRow
 row_of_fields id name token tags =
-    option_and_then (λ id. option_and_then (λ name. option_and_then (λ digest. option_map (λ tags. new_row id name digest tags) (tags_of tags)) (token_digest_of token)) (text_of name)) (word_of id)
+    option_and_then (λ id. option_and_then (λ name. option_and_then (λ digest. option_map (λ tags. new_row id name digest tags) (tags_of tags))
+    (token_digest_of token)) (text_of name)) (word_of id)
 
 -- the fields of a record
 abbrev pub Record : Type 0

@@ -36,7 +36,8 @@ fn parts(alloc: Global, field: &[u8]) -> Result<Vec<&[u8]>, AllocError>
 
 /// The parts as words, where each is one.
 fn read_words(alloc: Global, parts: &[&[u8]]) -> Result<Option<Vec<Word>>, AllocError>
-    ensures { IfOk result (λ words. MatchOption words (list_all is_word (map (λ part. part.now) parts.now) ≡ false) (λ words. words.items ≡ map (λ part. part.now) parts.now)) }
+    ensures { IfOk result (λ words. MatchOption words (list_all is_word (map (λ part. part.now) parts.now) ≡ false)
+        (λ words. words.items ≡ map (λ part. part.now) parts.now)) }
 {
     let mut words = Vec::new(alloc);
     for part in parts {

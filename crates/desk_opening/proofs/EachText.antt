@@ -4,8 +4,12 @@ use Rattle.std.proofs.Common.{List, [], ◌∷◌, refl}
 use Rattle.sqlite_tied.specs.Compute.{everything}
 use Rattle.sqlite_schema.specs.Names.{same_name}
 use Rattle.sqlite_resolve.specs.Compile.{table_defined_by, first, table_in}
-use Rattle.desk_records.specs.Schema.{Place, Desk, Modules, Sets, SetModules, Artifacts, Pieces, Targets, TargetTags, TargetAttributes, Rollouts, Members, Groups, Actions, Feedbacks, Offers}
-use Rattle.desk_records.proofs.TableMeaning.{create_desk_makes, create_module_makes, create_set_makes, create_set_module_makes, create_artifact_makes, create_piece_makes, create_target_makes, create_target_tag_makes, create_target_attribute_makes, create_rollout_makes, create_member_makes, create_rollout_group_makes, create_action_makes, create_feedback_makes, create_offer_makes}
+use Rattle.desk_records.specs.Schema.{Place, Desk, Modules, Sets, SetModules, Artifacts, Pieces, Targets, TargetTags, TargetAttributes, Rollouts}
+use Rattle.desk_records.specs.Schema.{Members, Groups, Actions, Feedbacks, Offers}
+use Rattle.desk_records.proofs.TableMeaning.{create_desk_makes, create_module_makes, create_set_makes, create_set_module_makes, create_artifact_makes}
+use Rattle.desk_records.proofs.TableMeaning.{create_piece_makes, create_target_makes, create_target_tag_makes, create_target_attribute_makes}
+use Rattle.desk_records.proofs.TableMeaning.{create_rollout_makes, create_member_makes, create_rollout_group_makes, create_action_makes}
+use Rattle.desk_records.proofs.TableMeaning.{create_feedback_makes, create_offer_makes}
 use Rattle.desk_opening.specs.declared.desk_table.DeskTable.{DeskTable}
 use Rattle.desk_opening.specs.declared.desk_table.DeskTable.TheVariants as table
 use Rattle.desk_opening.proofs.IsPlace.{IsPlace, bare_of}

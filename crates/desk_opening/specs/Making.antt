@@ -51,7 +51,8 @@ first_records approval = records (Make approval)
 
 abbrev pub MakesTo : {A E : Type 0} → State → State → Bool → Result A E → Type 0
 MakesTo old new approval (Ok _) = Rests HoldsStage old Free → Rests HoldsRecords new (first_records approval)
-MakesTo old new approval (Err e) = Rests HoldsStage old Free → HasCleanDisk new → (db : Trees) → new.may_leave db → LeavesNoDesk db ⊎ LeavesDesk db (first_records approval)
+MakesTo old new approval (Err e) = Rests HoldsStage old Free → HasCleanDisk new → (db : Trees) → new.may_leave db → LeavesNoDesk db
+    ⊎ LeavesDesk db (first_records approval)
 
 -- A new desk is there whole or not at all.
 pub record Makes {A E : Type 0} (old new : State) (approval : Bool) (result : Result A E) : Type 0 where

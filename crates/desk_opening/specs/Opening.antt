@@ -73,7 +73,8 @@ pub record LacksTables (db : Database) : Type 0 where
   pub row : HasRow db IsDeskRow
   pub lacks : ¬ HasDeskTables db.schema
 
--- The table `desk` is not there as the desk makes it, or has no row of number 1, or the other tables are not there. A later version may have other tables, so they are
+-- The table `desk` is not there as the desk makes it, or has no row of number 1, or the other tables are not there. A later version may
+-- have other tables, so they are
 -- asked for by this version alone.
 abbrev pub LacksDesk : Database → Type 0
 LacksDesk db = (¬ StandsSomewhere db.schema (desk_table 0)) ⊎ HasNoRow db ⊎ LacksTables db
@@ -119,7 +120,8 @@ IsKnownOpen s = HasCleanDisk s → IsTrue s.is_open
 
 abbrev pub OpensTo : {A E : Type 0} → State → State → Bool → Result A E → Type 0
 OpensTo old new approval (Ok _) = Rests HoldsStage old Free → Rests HoldsRecords new (first_records approval)
-OpensTo old new approval (Err e) = Rests HoldsStage old Free → HasCleanDisk new → (db : Trees) → new.may_leave db → LeavesNoDesk db ⊎ LeavesDesk db (first_records approval)
+OpensTo old new approval (Err e) = Rests HoldsStage old Free → HasCleanDisk new → (db : Trees) → new.may_leave db → LeavesNoDesk db
+    ⊎ LeavesDesk db (first_records approval)
 
 -- What is opened is a desk, or uses no name of one. What is refused as no desk is none, and what is refused as a later one says so.
 abbrev pub FindsTo : {A : Type 0} → Database → Result A OpenFault → Type 0

@@ -1,8 +1,12 @@
 -- Written by tools/meanings from src/table_texts.rt of desk_records. What it makes is proved; the tool is not trusted.
 -- The tables of a desk as the code names them, and the text that makes each.
 use Rattle.std.specs.Prelude.{ℕ, List}
-use Rattle.desk_records.specs.Schema.{Place, Desk, Modules, Sets, SetModules, Artifacts, Pieces, Targets, TargetTags, TargetAttributes, Rollouts, Members, Groups, Actions, Feedbacks, Offers}
-use Rattle.desk_records.specs.declared.table_texts.TheConstants.{CREATE_DESK, CREATE_MODULE, CREATE_SET, CREATE_SET_MODULE, CREATE_ARTIFACT, CREATE_PIECE, CREATE_TARGET, CREATE_TARGET_TAG, CREATE_TARGET_ATTRIBUTE, CREATE_ROLLOUT, CREATE_MEMBER, CREATE_ROLLOUT_GROUP, CREATE_ACTION, CREATE_FEEDBACK, CREATE_OFFER}
+use Rattle.desk_records.specs.Schema.{Place, Desk, Modules, Sets, SetModules, Artifacts, Pieces, Targets, TargetTags, TargetAttributes, Rollouts}
+use Rattle.desk_records.specs.Schema.{Members, Groups, Actions, Feedbacks, Offers}
+use Rattle.desk_records.specs.declared.table_texts.TheConstants.{CREATE_DESK, CREATE_MODULE, CREATE_SET, CREATE_SET_MODULE, CREATE_ARTIFACT}
+use Rattle.desk_records.specs.declared.table_texts.TheConstants.{CREATE_PIECE, CREATE_TARGET, CREATE_TARGET_TAG, CREATE_TARGET_ATTRIBUTE}
+use Rattle.desk_records.specs.declared.table_texts.TheConstants.{CREATE_ROLLOUT, CREATE_MEMBER, CREATE_ROLLOUT_GROUP, CREATE_ACTION, CREATE_FEEDBACK}
+use Rattle.desk_records.specs.declared.table_texts.TheConstants.{CREATE_OFFER}
 use Rattle.desk_opening.specs.declared.desk_table.DeskTable.{DeskTable}
 use Rattle.desk_opening.specs.declared.desk_table.DeskTable.TheVariants as table
 

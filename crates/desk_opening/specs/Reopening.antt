@@ -57,7 +57,8 @@ module _ (Holds : Image → Trees → Type 0) where
 abbrev pub IsOpenable : Trees → Type 0
 IsOpenable db = (schema : Schema) × IsSound schema db × (HasDesk (record { schema = schema; trees = db }) ⊎ LeavesFree schema desk_names)
 
--- Files that hold the records of a desk are opened to them. Empty or missing files, and those whose database uses no name of a desk, are opened to the records of a new one.
+-- Files that hold the records of a desk are opened to them. Empty or missing files, and those whose database uses no name of a desk, are
+-- opened to the records of a new one.
 -- No others are opened: neither a damaged file, nor one of another program, nor one with some of the tables.
 pub record Reopens (image : Image) (s : State) (approval : Bool) : Type 0 where
   pub finds : HasCleanDisk s → (db : Trees) × AreFoundIn image db × IsOpenable db
@@ -72,7 +73,8 @@ HasNewer db = (schema : Schema) × IsSound schema db × HasRow (record { schema 
 abbrev pub HoldsNoDesk : Trees → Type 0
 HoldsNoDesk db = (schema : Schema) × IsSound schema db × HasNoDesk (record { schema = schema; trees = db })
 
--- The database was opened, and this is what a crash leaves of its store. The records of a desk stay. Where there was none there is none, or the new one is whole.
+-- The database was opened, and this is what a crash leaves of its store. The records of a desk stay. Where there was none there is none, or
+-- the new one is whole.
 -- Either is refused for a failure alone, and never as no desk or a later version.
 pub record Refuses (image : Image) (may_leave : Trees → Type 0) (approval : Bool) (e : OpenFault) : Type 0 where
   pub newer : e ≡ NewerVersion → (db : Trees) × AreFoundIn image db × HasNewer db
@@ -92,11 +94,13 @@ module _ {D : Type 0} (g : disk.Ghosts D) where
   EachAfter Holds Finds (left.Unopened now) = (image : Image) → (state_of now).may_leave image → Holds image
   EachAfter Holds Finds (left.Store now) = (db : Trees) → recovers now db → Finds db
 
-  -- The database was not opened. Where each file that a crash might have left before held the records of a desk, each still does, and where each held none, each holds none.
+  -- The database was not opened. Where each file that a crash might have left before held the records of a desk, each still does, and where
+  -- each held none, each holds none.
   pub record Spares (before : Image → Type 0) (rest : Leftover D g) (e : OpenFault) : Type 0 where
     pub named : e ≢ NewerVersion
     pub foreign : e ≡ NotDesk → (image : Image) × before image × IsForeign image
-    pub holds : (r : Records) → ((image : Image) → before image → HoldsDesk HoldsPlain image r) → EachAfter (λ image. HoldsDesk HoldsPlain image r) (λ db. HoldIn HoldsRecords db r) rest
+    pub holds : (r : Records) → ((image : Image) → before image → HoldsDesk HoldsPlain image r)
+        → EachAfter (λ image. HoldsDesk HoldsPlain image r) (λ db. HoldIn HoldsRecords db r) rest
     pub makes : ((image : Image) → before image → HoldsNone HoldsPlain image) → EachAfter (HoldsNone HoldsDatabase) UsesNoName rest
 
 module _ {D : Type 0} {g : disk.Ghosts D} where

@@ -163,7 +163,8 @@ pub(crate) fn open_fault(fault: Fault) -> OpenFault
 /// Reads the row of `desk`, and judges it.
 fn check_row<S: Alter>(calls: &mut Calls<S>) -> Result<(), OpenFault>
     ensures keeps { Keeps (state S.Store calls.old.conn) (state S.Store calls.new.conn) result }
-    ensures tells { HasCleanDisk (state S.Store calls.new.conn) → StandsSomewhere (state S.Store calls.old.conn).now.schema (desk_table 0) → Tells (HasRow (state S.Store calls.old.conn).now) (HasNoRow (state S.Store calls.old.conn).now) result }
+    ensures tells { HasCleanDisk (state S.Store calls.new.conn) → StandsSomewhere (state S.Store calls.old.conn).now.schema (desk_table 0)
+        → Tells (HasRow (state S.Store calls.old.conn).now) (HasNoRow (state S.Store calls.old.conn).now) result }
 {
     match read_desk_row(calls) {
         Ok(Some(row)) => judge(&row),
@@ -172,7 +173,8 @@ fn check_row<S: Alter>(calls: &mut Calls<S>) -> Result<(), OpenFault>
     }
 }
 
-/// Takes a database as the desk that it holds. The row of `desk` is judged before the other tables are: a later version may have others. A connection that is refused is given back.
+/// Takes a database as the desk that it holds. The row of `desk` is judged before the other tables are: a later version may have others. A
+/// connection that is refused is given back.
 pub fn adopt<S: Alter + Drop>(
     alloc: Global,
     conn: Connection<S>,

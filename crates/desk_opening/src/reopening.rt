@@ -14,7 +14,8 @@ use sqlite::{Connection, Error, ErrorCode, FileFrom, FileStore, Files, Leftover,
 use sqlite_disk::Disk;
 use std::alloc::Global;
 
-/// Opens the desk that the files hold, or a new one where they hold no database, or one that uses no name of a desk. A fault comes with what is left of the files.
+/// Opens the desk that the files hold, or a new one where they hold no database, or one that uses no name of a desk. A fault comes with
+/// what is left of the files.
 pub fn reopen_files<D: Disk + Drop>(
     alloc: Global,
     files: Files<D>,
@@ -42,7 +43,8 @@ pub fn reopen_path<S: Start>(
 ) -> Result<Connection<FileStore<FileFrom<S>>>, (OpenFault, Option<Leftover<FileFrom<S>>>)>
     ensures reopened { IfOk result (λ conn. Reopens (image_at S.Start) (file_state conn) approval_if_new) }
     ensures plain { IfOk result (λ conn. BeginsPlain (image_at S.Start) approval_if_new conn) }
-    ensures refused { IfErr result (λ e. MatchOption e.1 (IsFailure e.0) (LeavesUnharmed (λ left. left ≡ image_at S.Start) (image_at S.Start) approval_if_new e.0)) }
+    ensures refused { IfErr result (λ e. MatchOption e.1 (IsFailure e.0)
+        (LeavesUnharmed (λ left. left ≡ image_at S.Start) (image_at S.Start) approval_if_new e.0)) }
 {
     match Connection::open_from(rt, path, false, start) {
         Ok(conn) => match open_desk_in(rt.alloc(), conn, approval_if_new) {

@@ -1,7 +1,8 @@
 -- Written by tools/meanings from src/table_texts.rt of desk_records. What it makes is proved; the tool is not trusted.
 -- The places of the schema, one by one.
 use Rattle.std.specs.List.{AllByRecursion}
-use Rattle.desk_records.specs.Schema.{Place, Desk, Modules, Sets, SetModules, Artifacts, Pieces, Targets, TargetTags, TargetAttributes, Rollouts, Members, Groups, Actions, Feedbacks, Offers, places}
+use Rattle.desk_records.specs.Schema.{Place, Desk, Modules, Sets, SetModules, Artifacts, Pieces, Targets, TargetTags, TargetAttributes, Rollouts}
+use Rattle.desk_records.specs.Schema.{Members, Groups, Actions, Feedbacks, Offers, places}
 
 -- what holds of all places in the list holds of each place
 abbrev pub each_place : (P : Place → Type 0) → AllByRecursion P places → (t : Place) → P t

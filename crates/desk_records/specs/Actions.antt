@@ -5,7 +5,8 @@ use Rattle.sqlite_value.specs.declared.value.Value.TheVariants.{Null, Int, Text}
 use Rattle.sqlite_value.specs.Order.{Row}
 use Rattle.rollout_machine.specs.Actions.{HistoryEntry, DeploymentEntry, CancelEntry}
 use Rattle.rollout_machine.specs.ByteStrings.{item_numbered}
-use Rattle.rollout_machine.specs.Commands.{Bytes, DeploymentWord, CancelWord, NoteWord, Proceeding, Scheduled, Resumed, Succeeded, Failed, Rejected, Noted, ClosedCancel, CanceledCancel, RejectedCancel, NotedCancel}
+use Rattle.rollout_machine.specs.Commands.{Bytes, DeploymentWord, CancelWord, NoteWord, Proceeding, Scheduled, Resumed, Succeeded, Failed, Rejected}
+use Rattle.rollout_machine.specs.Commands.{Noted, ClosedCancel, CanceledCancel, RejectedCancel, NotedCancel}
 use Rattle.rollout_machine.specs.StateWords.{member_at}
 use Rattle.rollout_machine.specs.Verdicts.{notes_of}
 use Rattle.rollout_machine.specs.declared.outcome.Outcome.{Outcome}
@@ -40,7 +41,8 @@ actor_of rollouts a = member_at (item_numbered rollouts a.rollout) a.position
 
 -- what is told of an action; its history lies in the other table
 abbrev pub told_action : List RolloutRecord → ActionRecord × Tally → Row
-told_action rollouts it = Int (pos it.0.rollout) ∷ Int (pos it.0.position) ∷ Text (actor_of rollouts it.0) ∷ Int (pos (flag it.0.canceling)) ∷ Int (pos (outcome_code it.0.outcome)) ∷ Int (pos it.1.notes) ∷ Int (pos it.1.entries) ∷ []
+told_action rollouts it = Int (pos it.0.rollout) ∷ Int (pos it.0.position) ∷ Text (actor_of rollouts it.0) ∷ Int (pos (flag it.0.canceling))
+    ∷ Int (pos (outcome_code it.0.outcome)) ∷ Int (pos it.1.notes) ∷ Int (pos it.1.entries) ∷ []
 
 abbrev pub action_row : List RolloutRecord → ℕ → ActionRecord × Tally → Row
 action_row rollouts n it = Int (pos n) ∷ Null ∷ told_action rollouts it

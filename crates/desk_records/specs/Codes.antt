@@ -20,7 +20,8 @@ approval_from n = if nat_eq n 0 then Some Waiting else (if nat_eq n 1 then Some 
 
 -- None in Some is open
 abbrev pub outcome_from : ℕ → Option (Option Outcome)
-outcome_from n = if nat_eq n 0 then Some None else (if nat_eq n 1 then Some (Some Good) else (if nat_eq n 2 then Some (Some Bad) else (if nat_eq n 3 then Some (Some Gone) else None)))
+outcome_from n = if nat_eq n 0 then Some None else (if nat_eq n 1 then Some (Some Good) else
+    (if nat_eq n 2 then Some (Some Bad) else (if nat_eq n 3 then Some (Some Gone) else None)))
 
 -- ---- a column
 

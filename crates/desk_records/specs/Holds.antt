@@ -12,7 +12,8 @@ use Rattle.rollout_machine.specs.Commands.{Bytes, ModuleLabel}
 use Rattle.rollout_machine.specs.Offers.{offer}
 use Rattle.rollout_machine.specs.Records.{Records}
 use Rattle.rollout_machine.specs.declared.records.ActionRecord.{ActionRecord}
-use Rattle.desk_records.specs.Schema.{Place, Desk, Modules, Sets, SetModules, Artifacts, Pieces, Targets, TargetTags, TargetAttributes, Rollouts, Members, Groups, Actions, Feedbacks, Offers, offer_table, table_at, name_of}
+use Rattle.desk_records.specs.Schema.{Place, Desk, Modules, Sets, SetModules, Artifacts, Pieces, Targets, TargetTags, TargetAttributes, Rollouts}
+use Rattle.desk_records.specs.Schema.{Members, Groups, Actions, Feedbacks, Offers, offer_table, table_at, name_of}
 use Rattle.desk_records.specs.Actions.{Tally, tally_of, action_row, entry_row}
 use Rattle.desk_records.specs.Artifacts.{artifact_row, pieces_from}
 use Rattle.desk_records.specs.Offers.{HoldsOffers}
@@ -75,7 +76,8 @@ pub record Spot : Type 0 where
   pub at : ℕ
   pub tree : ℕ
 
--- The tables of the schema stand somewhere among those of others, and hold the ledger. A unique index of others on the key of offers, if there is one, compares bytes as that of the desk does.
+-- The tables of the schema stand somewhere among those of others, and hold the ledger. A unique index of others on the key of offers, if
+-- there is one, compares bytes as that of the desk does.
 pub record HoldsLedger (db : Database) (l : Ledger) : Type 0 where
   pub sound : IsDatabase db
   pub spot : Place → Spot

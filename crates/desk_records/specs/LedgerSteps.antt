@@ -84,7 +84,8 @@ pub record SetsGroup (number group : ℕ) (started : Bool) (ok bad gone : ℕ) (
   pub is_there : item_numbered l.records.rollouts number ≡ Some rollout
   pub was : GroupRecord
   pub is_its : item_numbered rollout.groups group ≡ Some was
-  pub next_is : next ≡ with_rollouts l (set_numbered l.records.rollouts number (with_groups rollout (set_numbered rollout.groups group (counted started ok bad gone was))))
+  pub next_is : next ≡ with_rollouts l (set_numbered l.records.rollouts number
+      (with_groups rollout (set_numbered rollout.groups group (counted started ok bad gone was))))
 
 -- ---- actions
 

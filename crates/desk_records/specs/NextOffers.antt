@@ -28,7 +28,8 @@ is_next rollouts id a = same_bytes (actor_of rollouts a) id && (is_none a.outcom
 -- the first of these, numbered from k, to be canceled where it is canceling
 abbrev pub next_offer_from : List RolloutRecord → Bytes → ℕ → List ActionRecord → Option Offer
 next_offer_from rollouts id k [] = None
-next_offer_from rollouts id k (a ∷ more) = cond (is_next rollouts id a) (Some (record { action = k; canceling = a.canceling })) (next_offer_from rollouts id (suc k) more)
+next_offer_from rollouts id k (a ∷ more) = cond (is_next rollouts id a) (Some (record { action = k; canceling = a.canceling }))
+    (next_offer_from rollouts id (suc k) more)
 
 abbrev pub next_offer : Records → Bytes → Option Offer
 next_offer r id = next_offer_from r.rollouts id 1 r.actions

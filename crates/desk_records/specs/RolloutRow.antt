@@ -76,7 +76,11 @@ pub record IsRolloutRow (row : Row) (rollout : StoredRollout) : Type 0 where
 
 -- the first column of it that breaks its rule
 abbrev pub broken_rollout_column : Row → Option Column
-broken_rollout_column row = first_broken ((has_text (column row 0), rule.RolloutName) ∷ (is_some (number_in (column row 1)), rule.RolloutSet) ∷ (has_filter (column row 2), rule.RolloutFilter) ∷ (is_some (group_count_in (column row 3)), rule.RolloutGroups) ∷ (is_some (percentage_in (column row 4)), rule.RolloutSuccess) ∷ (is_some (percentage_in (column row 5)), rule.RolloutError) ∷ (is_some (approval_in (column row 6)), rule.RolloutApproval) ∷ (is_some (flag_in (column row 7)), rule.RolloutStarted) ∷ (is_some (flag_in (column row 8)), rule.RolloutPaused) ∷ [])
+broken_rollout_column row = first_broken ((has_text (column row 0), rule.RolloutName) ∷ (is_some (number_in (column row 1)), rule.RolloutSet)
+    ∷ (has_filter (column row 2), rule.RolloutFilter) ∷ (is_some (group_count_in (column row 3)), rule.RolloutGroups)
+    ∷ (is_some (percentage_in (column row 4)), rule.RolloutSuccess) ∷ (is_some (percentage_in (column row 5)), rule.RolloutError)
+    ∷ (is_some (approval_in (column row 6)), rule.RolloutApproval) ∷ (is_some (flag_in (column row 7)), rule.RolloutStarted)
+    ∷ (is_some (flag_in (column row 8)), rule.RolloutPaused) ∷ [])
 
 -- the row of number, first and last place, started and the counts
 pub record IsGroupRow (row : Row) (group : GroupRecord) : Type 0 where
@@ -90,7 +94,9 @@ pub record IsGroupRow (row : Row) (group : GroupRecord) : Type 0 where
 
 -- the first column of it that breaks its rule
 abbrev pub broken_group_column : Row → Option Column
-broken_group_column row = first_broken ((has_size (column row 0), rule.GroupNumber) ∷ (has_size (column row 1), rule.GroupFirst) ∷ (has_size (column row 2), rule.GroupLast) ∷ (is_some (flag_in (column row 3)), rule.GroupStarted) ∷ (has_size (column row 4), rule.GroupOk) ∷ (has_size (column row 5), rule.GroupBad) ∷ (has_size (column row 6), rule.GroupGone) ∷ [])
+broken_group_column row = first_broken ((has_size (column row 0), rule.GroupNumber) ∷ (has_size (column row 1), rule.GroupFirst)
+    ∷ (has_size (column row 2), rule.GroupLast) ∷ (is_some (flag_in (column row 3)), rule.GroupStarted) ∷ (has_size (column row 4), rule.GroupOk)
+    ∷ (has_size (column row 5), rule.GroupBad) ∷ (has_size (column row 6), rule.GroupGone) ∷ [])
 
 -- the row of an action without its number
 pub record IsActionRow (row : Row) (action : StoredAction) : Type 0 where
@@ -104,7 +110,10 @@ pub record IsActionRow (row : Row) (action : StoredAction) : Type 0 where
 
 -- the first column of it that breaks its rule
 abbrev pub broken_action_column : Row → Option Column
-broken_action_column row = first_broken ((is_some (number_in (column row 0)), rule.ActionRollout) ∷ (has_size (column row 1), rule.ActionPlace) ∷ (has_word (column row 2), rule.TargetId) ∷ (is_some (flag_in (column row 3)), rule.ActionCanceling) ∷ (is_some (outcome_in (column row 4)), rule.ActionOutcome) ∷ (has_size (column row 5), rule.ActionNotes) ∷ (has_size (column row 6), rule.ActionEntries) ∷ [])
+broken_action_column row = first_broken ((is_some (number_in (column row 0)), rule.ActionRollout) ∷ (has_size (column row 1), rule.ActionPlace)
+    ∷ (has_word (column row 2), rule.TargetId) ∷ (is_some (flag_in (column row 3)), rule.ActionCanceling)
+    ∷ (is_some (outcome_in (column row 4)), rule.ActionOutcome) ∷ (has_size (column row 5), rule.ActionNotes)
+    ∷ (has_size (column row 6), rule.ActionEntries) ∷ [])
 
 -- the row of an action with its number at the end
 pub record IsListedActionRow (row : Row) (listed : ListedAction) : Type 0 where

@@ -38,7 +38,8 @@ pub record IsTargetRow (row : Row) (target : StoredTarget) : Type 0 where
 
 -- the first column that breaks its rule
 abbrev pub broken_target_column : Row → Option Column
-broken_target_column row = if not (has_text (column row 0)) then Some rule.TargetName else (if not (has_digest (column row 1)) then Some rule.TargetDigest else None)
+broken_target_column row = if not (has_text (column row 0)) then Some rule.TargetName else
+    (if not (has_digest (column row 1)) then Some rule.TargetDigest else None)
 
 -- the row of id and name
 pub record IsListedTargetRow (row : Row) (target : ListedTarget) : Type 0 where
@@ -56,4 +57,5 @@ pub record IsAttributeRow (row : Row) (attribute : Attribute) : Type 0 where
 
 -- the first column of it that breaks its rule
 abbrev pub broken_attribute_column : Row → Option Column
-broken_attribute_column row = if not (has_word (column row 0)) then Some rule.AttributeKey else (if not (has_value (column row 1)) then Some rule.AttributeValue else None)
+broken_attribute_column row = if not (has_word (column row 0)) then Some rule.AttributeKey else
+    (if not (has_value (column row 1)) then Some rule.AttributeValue else None)

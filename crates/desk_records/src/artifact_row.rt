@@ -4,7 +4,8 @@ ghost use Rattle.std.specs.Prelude.{◌≡◌, ◌⊎◌, IfOk, IfErr, true, fal
 ghost use Rattle.sqlite_value.specs.Order.{column};
 ghost use Rattle.desk_records.specs.ModuleRow.{StoredText};
 ghost use Rattle.desk_records.specs.SetRow.{StoredNumber, has_number};
-ghost use Rattle.desk_records.specs.ArtifactRow.{IsStoredRow, IsArtifactRow, StoredBytes, small_number, has_filename, has_size, has_digest, has_bytes, broken_stored_column, broken_artifact_column};
+ghost use Rattle.desk_records.specs.ArtifactRow.{IsStoredRow, IsArtifactRow, StoredBytes, small_number, has_filename, has_size, has_digest};
+ghost use Rattle.desk_records.specs.ArtifactRow.{has_bytes, broken_stored_column, broken_artifact_column};
 
 use crate::module_row::{Column, RowFault, row_fault};
 use rollout_model::{Artifact, ArtifactNo, Digest, Filename, ModuleNo};

@@ -3,7 +3,9 @@
 ghost use Rattle.std.specs.Prelude.{◌≡◌, ◌⊎◌, IfOk, IfErr, true, false, Some};
 ghost use Rattle.sqlite_value.specs.Order.{column};
 ghost use Rattle.desk_records.specs.ModuleRow.{StoredText};
-ghost use Rattle.desk_records.specs.RolloutRow.{IsActionRow, IsGroupRow, IsListedActionRow, IsOfferRow, IsRolloutRow, broken_action_column, broken_group_column, broken_listed_action_column, broken_offer_column, broken_rollout_column, has_filter};
+ghost use Rattle.desk_records.specs.RolloutRow.{IsActionRow, IsGroupRow, IsListedActionRow, IsOfferRow, IsRolloutRow, broken_action_column};
+ghost use Rattle.desk_records.specs.RolloutRow.{broken_group_column, broken_listed_action_column, broken_offer_column, broken_rollout_column};
+ghost use Rattle.desk_records.specs.RolloutRow.{has_filter};
 
 use crate::artifact_row::number_at;
 use crate::codes::{approval_at, flag_at, group_count_at, numbered_at, outcome_at, percentage_at};

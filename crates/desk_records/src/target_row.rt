@@ -3,7 +3,8 @@
 ghost use Rattle.std.specs.Prelude.{◌≡◌, ◌⊎◌, IfOk, IfErr, true, false, Some};
 ghost use Rattle.sqlite_value.specs.Order.{column};
 ghost use Rattle.desk_records.specs.ModuleRow.{StoredText};
-ghost use Rattle.desk_records.specs.TargetRow.{IsAttributeRow, IsListedTargetRow, IsTargetRow, broken_attribute_column, broken_listed_column, broken_target_column, has_value, has_word};
+ghost use Rattle.desk_records.specs.TargetRow.{IsAttributeRow, IsListedTargetRow, IsTargetRow, broken_attribute_column, broken_listed_column};
+ghost use Rattle.desk_records.specs.TargetRow.{broken_target_column, has_value, has_word};
 
 use crate::artifact_row::digest_at;
 use crate::module_row::{Column, RowFault, row_fault, text_at};

@@ -23,7 +23,8 @@ file_line = codes "fault 6 file\n"
 -- ---- the order
 
 -- The desk answered what the file asks, and its answer is told.
-pub record Imports {File : Type 0} (file : List ℕ) (old new : DeskState File) (out out_new told told_new : Option (List ℕ)) (telling_fails failed_write writing_fails : Bool) (status : ℕ) : Type 0 where
+pub record Imports {File : Type 0} (file : List ℕ) (old new : DeskState File) (out out_new told told_new : Option (List ℕ))
+    (telling_fails failed_write writing_fails : Bool) (status : ℕ) : Type 0 where
   pub clean : new.is_clean → old.is_clean
   pub reply : Reply
   pub applies : Applies old new (asked_by_file file) reply
@@ -31,7 +32,8 @@ pub record Imports {File : Type 0} (file : List ℕ) (old new : DeskState File) 
   pub tells : TellsOutcome (outcome_of reply) out out_new told told_new telling_fails failed_write writing_fails status
 
 -- The file couldn't be read: the desk stays as it was, and that is told.
-pub record LacksFile {File : Type 0} (old new : DeskState File) (out out_new told told_new : Option (List ℕ)) (telling_fails failed_write writing_fails : Bool) (status : ℕ) : Type 0 where
+pub record LacksFile {File : Type 0} (old new : DeskState File) (out out_new told told_new : Option (List ℕ))
+    (telling_fails failed_write writing_fails : Bool) (status : ℕ) : Type 0 where
   pub clean : new.is_clean → old.is_clean
   pub stands : (h : CommandList) → StandsFor old h → StandsFor new h
   pub stays : old.is_stopped ≡ true → StaysStopped old new
@@ -41,6 +43,7 @@ pub record LacksFile {File : Type 0} (old new : DeskState File) (out out_new tol
   pub unfailed : writing_fails ≡ failed_write
 
 -- the order `import` was carried out over an opened desk
-abbrev pub CarriesOutImport : {File : Type 0} → Option (List ℕ) → DeskState File → DeskState File → Option (List ℕ) → Option (List ℕ) → Option (List ℕ) → Option (List ℕ) → Bool → Bool → Bool → ℕ → Type 0
+abbrev pub CarriesOutImport : {File : Type 0} → Option (List ℕ) → DeskState File → DeskState File → Option (List ℕ) → Option (List ℕ)
+    → Option (List ℕ) → Option (List ℕ) → Bool → Bool → Bool → ℕ → Type 0
 CarriesOutImport None old new = LacksFile old new
 CarriesOutImport (Some file) old new = Imports file old new

@@ -59,7 +59,8 @@ Reports old new telling_fails (Err fault) = Tells old new telling_fails (fault_l
 -- The order `run` was carried out over an opened desk: its interface was served with this outcome, which gives the status, the line that is told
 -- and the flags of input and output. After a failed store the desk is stopped, whatever it stood for.
 pub record CarriesOut {S : Type 0} (g : Ghosts S) (setup : Setup) (before after : Desk S)
-    (stream unread out out_new told told_new : Option (List ℕ)) (telling_fails failed_read reading_fails failed_write writing_fails : Bool) (status : ℕ) : Type 0 where
+    (stream unread out out_new told told_new : Option (List ℕ)) (telling_fails failed_read reading_fails failed_write writing_fails : Bool)
+    (status : ℕ) : Type 0 where
   pub interface : Interface
   pub named : interface ≡ setup.interface
   pub outcome : Result Served ServeFault

@@ -41,7 +41,8 @@ pub record Prints (text : List ℕ) (out out_new told told_new : Option (List �
   pub write_failed : FailsBy outcome Write failed_write writing_fails
 
 -- It was refused: that is told, or want of memory where its line can't be made.
-pub record Refuses (refusal : Refusal) (out out_new told told_new : Option (List ℕ)) (telling_fails failed_write writing_fails : Bool) (status : ℕ) : Type 0 where
+pub record Refuses (refusal : Refusal) (out out_new told told_new : Option (List ℕ)) (telling_fails failed_write writing_fails : Bool)
+    (status : ℕ) : Type 0 where
   pub status_is : status ≡ 1
   pub unwritten : Appends out out_new []
   pub tells : Tells told told_new telling_fails (refusal_line refusal) ⊎ Tells told told_new telling_fails (fault_line Memory)

@@ -73,7 +73,8 @@ fn import_given<W: Write, E: Write, D: Handler>(
     output: &mut Watched<W>,
     errors: &mut Watched<E>,
 ) -> u8
-    ensures { CarriesOutImport (option_map (λ s. s.now) file.entry) (D.state desk.old) (D.state desk.new) (W.contents (inner_of output.old)) (W.contents (inner_of output.new))
+    ensures { CarriesOutImport (option_map (λ s. s.now) file.entry) (D.state desk.old) (D.state desk.new) (W.contents (inner_of output.old))
+        (W.contents (inner_of output.new))
         (E.contents (inner_of errors.old)) (E.contents (inner_of errors.new)) (has_failed errors.new) (has_failed output.old) (has_failed output.new) result }
 {
     match file {

@@ -46,7 +46,8 @@ pub fn open_for<S: Start>(
     start: S,
 ) -> Result<Desk<FileStore<FileFrom<S>>>, OpenFault>
     ensures opened { IfOk result (λ desk. ReopensDesk (image_at S.Start) (desk_state over_files desk) (asks_approval order.now)) }
-    ensures refused { IfErr result (λ e. IsFailure e ⊎ LeftUnharmed ⟦<FileFrom<S> as Disk>⟧ (λ left. left ≡ image_at S.Start) (image_at S.Start) (asks_approval order.now) e) }
+    ensures refused { IfErr result (λ e. IsFailure e ⊎ LeftUnharmed ⟦<FileFrom<S> as Disk>⟧ (λ left. left ≡ image_at S.Start) (image_at S.Start)
+        (asks_approval order.now) e) }
 {
     Desk::reopen_path(rt, order.db(), start, order.approval())
 }

@@ -179,7 +179,8 @@ pub fn carry_out_on<E: Write, S: Alter>(
     ensures unopened { IfErr desk.old (λ fault. (result ≡ 1)
         × Tells (E.contents (inner_of errors.old)) (E.contents (inner_of errors.new)) (has_failed errors.new) (open_line fault)) }
     ensures carries_out { IfOk desk.old (λ before. IsOkAnd desk.new (λ after. CarriesOutOn setup.now.interface (is_some listener.entry) connections
-        (desk_state S.Store before) (desk_state S.Store after) (E.contents (inner_of errors.old)) (E.contents (inner_of errors.new)) (has_failed errors.new) result)) }
+        (desk_state S.Store before) (desk_state S.Store after) (E.contents (inner_of errors.old)) (E.contents (inner_of errors.new))
+        (has_failed errors.new) result)) }
 {
     match desk {
         Err(fault) => {

@@ -72,7 +72,8 @@ fn print_or_tell<W: Write, E: Write>(
 
 /// Tells that there was no memory for a text, of which nothing was written.
 fn tell_no_memory<E: Write>(errors: &mut Watched<E>) -> u8
-    ensures { (text : List ℕ) (out : Option (List ℕ)) (failed : Bool) → Prints text out out (E.contents (inner_of errors.old)) (E.contents (inner_of errors.new)) (has_failed errors.new) failed failed result }
+    ensures { (text : List ℕ) (out : Option (List ℕ)) (failed : Bool)
+        → Prints text out out (E.contents (inner_of errors.old)) (E.contents (inner_of errors.new)) (has_failed errors.new) failed failed result }
 {
     tell(errors, fault_line(ServeFault::Memory));
     FAILED
@@ -80,7 +81,8 @@ fn tell_no_memory<E: Write>(errors: &mut Watched<E>) -> u8
 
 /// Tells why it was refused.
 fn refuse<E: Write>(alloc: Global, refusal: Refusal, errors: &mut Watched<E>) -> u8
-    ensures { (out : Option (List ℕ)) (failed : Bool) → Refuses refusal out out (E.contents (inner_of errors.old)) (E.contents (inner_of errors.new)) (has_failed errors.new) failed failed result }
+    ensures { (out : Option (List ℕ)) (failed : Bool) → Refuses refusal out out (E.contents (inner_of errors.old)) (E.contents (inner_of errors.new))
+        (has_failed errors.new) failed failed result }
 {
     tell_refusal(alloc, errors, refusal);
     FAILED

@@ -14,4 +14,6 @@ use Rattle.desk_store.specs.contracts.store.DeskStore as desk
 module _ (S : RattleType) (g : store.Ghosts S.Denot) where
   -- the records stand as before, and nothing more is counted but the failure
   abbrev pub store_rests : MutBor (DeskStore S.Denot) → Result (OpenChange S.Denot) Fault → Fml
-  store_rests c r = RestsIfErr (desk.the_row S g) c (λ it. it.store.ghost_name) r (λ last. Keeps HoldsLedger (state g c.now.calls.conn) (state g last.calls.conn) × (last.calls.work ≡ c.now.calls.work) × Grows (failures_in r) c.now.calls last.calls)
+  store_rests c r = RestsIfErr (desk.the_row S g) c (λ it. it.store.ghost_name) r
+      (λ last. Keeps HoldsLedger (state g c.now.calls.conn) (state g last.calls.conn) × (last.calls.work ≡ c.now.calls.work)
+      × Grows (failures_in r) c.now.calls last.calls)

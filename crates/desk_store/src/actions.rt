@@ -77,7 +77,8 @@ impl<'a, S: Alter> OpenChange<'a, S> {
     /// The action of a number, without its history. A row that breaks a column's rule is a failed store.
     pub fn read_action(&mut self, number: ActionNo) -> Result<Option<StoredAction>, Fault>
         ensures stays { StaysIn S.Store self.old self.new result }
-        ensures reads { FindsLedger S.Store self.old self.new result (λ l found. found ≡ option_map (stored_action l.records.rollouts) (item_numbered (zip l.records.actions l.tallies) number)) }
+        ensures reads { FindsLedger S.Store self.old self.new result
+            (λ l found. found ≡ option_map (stored_action l.records.rollouts) (item_numbered (zip l.records.actions l.tallies) number)) }
         ensures work { AddsIn 1 1 self.old self.new }
     {
         let alloc = self.store.alloc;
@@ -92,7 +93,8 @@ impl<'a, S: Alter> OpenChange<'a, S> {
         page: Page,
     ) -> Result<Vec<ListedAction>, Fault>
         ensures stays { StaysIn S.Store self.old self.new result }
-        ensures reads { FindsLedger S.Store self.old self.new result (λ l found. found.items ≡ take page.limit (drop page.offset (actions_of l.records.rollouts number 1 (zip l.records.actions l.tallies)))) }
+        ensures reads { FindsLedger S.Store self.old self.new result
+            (λ l found. found.items ≡ take page.limit (drop page.offset (actions_of l.records.rollouts number 1 (zip l.records.actions l.tallies)))) }
         ensures work { self.new.store.now.calls.work.statements ≤ self.old.store.now.calls.work.statements + 1 }
     {
         let alloc = self.store.alloc;
@@ -107,7 +109,8 @@ impl<'a, S: Alter> OpenChange<'a, S> {
         page: Page,
     ) -> Result<Vec<ListedAction>, Fault>
         ensures stays { StaysIn S.Store self.old self.new result }
-        ensures reads { FindsLedger S.Store self.old self.new result (λ l found. found.items ≡ take page.limit (drop page.offset (actions_for l.records.rollouts id.now 1 (zip l.records.actions l.tallies)))) }
+        ensures reads { FindsLedger S.Store self.old self.new result
+            (λ l found. found.items ≡ take page.limit (drop page.offset (actions_for l.records.rollouts id.now 1 (zip l.records.actions l.tallies)))) }
         ensures work { self.new.store.now.calls.work.statements ≤ self.old.store.now.calls.work.statements + 1 }
     {
         let alloc = self.store.alloc;
@@ -122,7 +125,8 @@ impl<'a, S: Alter> OpenChange<'a, S> {
     pub fn read_entries(&mut self, number: ActionNo, page: Page) -> Result<Vec<HistoryEntry>, Fault>
         ensures stays { StaysIn S.Store self.old self.new result }
         ensures reads { FindsLedger S.Store self.old self.new result
-            (λ l found. list_all keeps_details (history_of (item_numbered l.records.actions number)) ≡ true → found.items ≡ take page.limit (drop page.offset (history_of (item_numbered l.records.actions number)))) }
+            (λ l found. list_all keeps_details (history_of (item_numbered l.records.actions number)) ≡ true
+            → found.items ≡ take page.limit (drop page.offset (history_of (item_numbered l.records.actions number)))) }
         ensures work { self.new.store.now.calls.work.statements ≤ self.old.store.now.calls.work.statements + 1 }
     {
         let alloc = self.store.alloc;
@@ -145,7 +149,8 @@ impl<'a, S: Alter> OpenChange<'a, S> {
     /// holds. A row that breaks a column's rule is a failed store.
     pub fn read_next_offer(&mut self, id: &ControllerId) -> Result<Option<Offer>, Fault>
         ensures stays { StaysIn S.Store self.old self.new result }
-        ensures reads { FindsLedger S.Store self.old self.new result (λ l found. length l.tallies ≡ length l.records.actions → found ≡ next_offer l.records id.now) }
+        ensures reads { FindsLedger S.Store self.old self.new result
+            (λ l found. length l.tallies ≡ length l.records.actions → found ≡ next_offer l.records id.now) }
         ensures work { AddsIn 1 1 self.old self.new }
     {
         let alloc = self.store.alloc;

@@ -100,7 +100,8 @@ impl<'a, S: Alter> OpenChange<'a, S> {
     /// The rollouts of a page, in the order of their numbers. A row that breaks a column's rule is a failed store.
     pub fn read_rollouts(&mut self, page: Page) -> Result<Vec<StoredRollout>, Fault>
         ensures stays { StaysIn S.Store self.old self.new result }
-        ensures reads { FindsLedger S.Store self.old self.new result (λ l found. found.items ≡ map stored_rollout (take page.limit (drop page.offset l.records.rollouts))) }
+        ensures reads { FindsLedger S.Store self.old self.new result
+            (λ l found. found.items ≡ map stored_rollout (take page.limit (drop page.offset l.records.rollouts))) }
         ensures work { self.new.store.now.calls.work.statements ≤ self.old.store.now.calls.work.statements + 1 }
     {
         let alloc = self.store.alloc;
@@ -108,14 +109,16 @@ impl<'a, S: Alter> OpenChange<'a, S> {
         read_all(alloc, &rows)
     }
 
-    /// The members of a rollout, a page of them in the order of their places; none where there is no such rollout. A row that breaks the column's rule is a failed store.
+    /// The members of a rollout, a page of them in the order of their places; none where there is no such rollout. A row that breaks the
+    /// column's rule is a failed store.
     pub fn read_members(
         &mut self,
         number: RolloutNo,
         page: Page,
     ) -> Result<Vec<ControllerId>, Fault>
         ensures stays { StaysIn S.Store self.old self.new result }
-        ensures reads { FindsLedger S.Store self.old self.new result (λ l found. found.items ≡ take page.limit (drop page.offset (members_of (item_numbered l.records.rollouts number)))) }
+        ensures reads { FindsLedger S.Store self.old self.new result
+            (λ l found. found.items ≡ take page.limit (drop page.offset (members_of (item_numbered l.records.rollouts number)))) }
         ensures work { self.new.store.now.calls.work.statements ≤ self.old.store.now.calls.work.statements + 1 }
     {
         let alloc = self.store.alloc;
@@ -123,7 +126,8 @@ impl<'a, S: Alter> OpenChange<'a, S> {
         read_all(alloc, &rows)
     }
 
-    /// The groups of a rollout, in the order of their numbers, which are counted from 1; none where there is no such rollout. A row that breaks a column's rule is a failed store.
+    /// The groups of a rollout, in the order of their numbers, which are counted from 1; none where there is no such rollout. A row that
+    /// breaks a column's rule is a failed store.
     pub fn read_groups(&mut self, number: RolloutNo) -> Result<Vec<GroupRecord>, Fault>
         ensures stays { StaysIn S.Store self.old self.new result }
         ensures reads { FindsLedger S.Store self.old self.new result (λ l groups. groups.items ≡ groups_of (item_numbered l.records.rollouts number)) }
@@ -141,7 +145,8 @@ impl<'a, S: Alter> OpenChange<'a, S> {
         group: u32,
     ) -> Result<Option<GroupRecord>, Fault>
         ensures stays { StaysIn S.Store self.old self.new result }
-        ensures reads { FindsLedger S.Store self.old self.new result (λ l found. found ≡ group_numbered group (groups_of (item_numbered l.records.rollouts number))) }
+        ensures reads { FindsLedger S.Store self.old self.new result
+            (λ l found. found ≡ group_numbered group (groups_of (item_numbered l.records.rollouts number))) }
         ensures work { AddsIn 1 1 self.old self.new }
     {
         let alloc = self.store.alloc;
@@ -156,7 +161,8 @@ impl<'a, S: Alter> OpenChange<'a, S> {
         place: u32,
     ) -> Result<Option<GroupRecord>, Fault>
         ensures stays { StaysIn S.Store self.old self.new result }
-        ensures reads { FindsLedger S.Store self.old self.new result (λ l found. found ≡ group_holding place (groups_of (item_numbered l.records.rollouts number))) }
+        ensures reads { FindsLedger S.Store self.old self.new result
+            (λ l found. found ≡ group_holding place (groups_of (item_numbered l.records.rollouts number))) }
         ensures work { AddsIn 1 1 self.old self.new }
     {
         let alloc = self.store.alloc;
@@ -167,7 +173,8 @@ impl<'a, S: Alter> OpenChange<'a, S> {
     /// The last group of a rollout that is started. A row that breaks a column's rule is a failed store.
     pub fn read_last_started(&mut self, number: RolloutNo) -> Result<Option<GroupRecord>, Fault>
         ensures stays { StaysIn S.Store self.old self.new result }
-        ensures reads { FindsLedger S.Store self.old self.new result (λ l found. found ≡ last_started_group (groups_of (item_numbered l.records.rollouts number))) }
+        ensures reads { FindsLedger S.Store self.old self.new result
+            (λ l found. found ≡ last_started_group (groups_of (item_numbered l.records.rollouts number))) }
         ensures work { AddsIn 1 1 self.old self.new }
     {
         let alloc = self.store.alloc;

@@ -23,4 +23,5 @@ named filename artifacts = or_not_found (find (λ (a : Artifact). same_bytes a.f
 -- the artifact whose contents a device gets, or why it doesn't
 abbrev pub downloadable : Records → Credential → ℕ → Bytes → Result Artifact Refusal
 downloadable r device m filename =
-    cond (is_known r device) (cond (list_any (λ n. nat_eq n m) (modules_offered r (offer r device.id))) (named filename (artifacts_shown m 1 r.artifacts)) (Err NotFound)) (Err Unauthorized)
+    cond (is_known r device) (cond (list_any (λ n. nat_eq n m) (modules_offered r (offer r device.id)))
+    (named filename (artifacts_shown m 1 r.artifacts)) (Err NotFound)) (Err Unauthorized)

@@ -12,7 +12,12 @@ use Rattle.desk_records.specs.declared.target_row.ListedTarget.{ListedTarget}
 
 -- a target that was listed, with the tags and attributes of its id
 abbrev pub target_listed : Records → ListedTarget → Target
-target_listed r listed = record { id = listed.id; name = listed.name; tags = tags_of (target_of r listed.id); attributes = attributes_of (target_of r listed.id) }
+target_listed r listed = record {
+  id = listed.id;
+  name = listed.name;
+  tags = tags_of (target_of r listed.id);
+  attributes = attributes_of (target_of r listed.id);
+}
 
 -- as it is shown, with the word that its actions say
 abbrev pub worded : Records → Target → ShownTarget

@@ -113,7 +113,8 @@ fn read_entries<S: Alter>(
     page: Page,
 ) -> Result<Vec<HistoryEntry>, Fault>
     ensures stays { StaysIn S.Store change.old change.new result }
-    ensures reads { FindsAtListsIn S.Store change.old change.new result (λ now found. found.items ≡ take page.limit (drop page.offset (history_of (item_numbered now.actions number)))) }
+    ensures reads { FindsAtListsIn S.Store change.old change.new result
+        (λ now found. found.items ≡ take page.limit (drop page.offset (history_of (item_numbered now.actions number)))) }
 {
     let entries = change.read_entries(number, page)?;
     Ok(entries)

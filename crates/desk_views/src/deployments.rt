@@ -161,7 +161,8 @@ pub fn show_download<S: Alter>(
     filename: &Filename,
 ) -> Result<Reply, Fault>
     ensures stays { StaysIn S.Store change.old change.new result }
-    ensures reads { FindsIn S.Store change.old change.new result (λ now reply. reply_of reply ≡ query_reply now (Download device.now module_number filename.now)) }
+    ensures reads { FindsIn S.Store change.old change.new result
+        (λ now reply. reply_of reply ≡ query_reply now (Download device.now module_number filename.now)) }
 {
     match find_download(alloc, change, device, module_number, filename)? {
         Ok(artifact) => {

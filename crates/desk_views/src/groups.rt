@@ -102,7 +102,8 @@ fn read_targets<S: Alter>(
     ids: Vec<ControllerId>,
 ) -> Result<Vec<ShownTarget>, Fault>
     ensures stays { StaysIn S.Store change.old change.new result }
-    ensures reads { FindsIn S.Store change.old change.new result (λ now content. map shown_target content.items ≡ targets_shown now (targets_of now ids.items)) }
+    ensures reads { FindsIn S.Store change.old change.new result
+        (λ now content. map shown_target content.items ≡ targets_shown now (targets_of now ids.items)) }
 {
     let mut content = Vec::new(alloc);
     for id in ids {

@@ -132,7 +132,14 @@ pub(crate) fn read_groups_of<S: Alter>(
 }
 
 fn seen_as(number: RolloutNo, stored: StoredRollout, groups: Vec<GroupRecord>) -> SeenRollout
-    ensures { result ≡ record { number = number; plan = stored.plan; approval = stored.approval; started = stored.started; paused = stored.paused; groups = groups } }
+    ensures { result ≡ record {
+      number = number;
+      plan = stored.plan;
+      approval = stored.approval;
+      started = stored.started;
+      paused = stored.paused;
+      groups = groups;
+    } }
 {
     let StoredRollout {
         plan,

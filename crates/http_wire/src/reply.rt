@@ -1,6 +1,7 @@
 //! The bytes of replies.
 ghost use Rattle.std.specs.Prelude.{◌≡◌, ◌≤◌, length, IfOk, IfErr};
-ghost use Rattle.http_wire.specs.Replies.{content_type_text, close_line, reason, status_line, reply_head, answer_text, refusal_body, refusal_text, TellsOf, Json};
+ghost use Rattle.http_wire.specs.Replies.{content_type_text, close_line, reason, status_line, reply_head, answer_text, refusal_body, refusal_text};
+ghost use Rattle.http_wire.specs.Replies.{TellsOf, Json};
 ghost use Rattle.rollout_model.specs.declared.Refusal.TheVariants.{NoMemory};
 ghost use Rattle.rollout_model.specs.Refusals.{refusal_row};
 

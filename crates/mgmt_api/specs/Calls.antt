@@ -1,9 +1,15 @@
 -- The calls: what a route is asked by a method.
 use Rattle.std.specs.Prelude.{ℕ, List, codes, bytes_eq, Option, Some, None, if◌then◌else◌}
 use Rattle.mgmt_api.specs.declared.routes.ManageRoute.{ManageRoute}
-use Rattle.mgmt_api.specs.declared.routes.ManageRoute.TheVariants.{Modules, Module, Artifacts, Artifact, Contents, Sets, Set, Targets, Target, TargetTag, TargetActions, Action, History, Rollouts, Rollout, Turned, Groups, Group, GroupTargets, Report, ActionsTable, Import}
+use Rattle.mgmt_api.specs.declared.routes.ManageRoute.TheVariants.{Modules, Module, Artifacts, Artifact, Contents, Sets, Set, Targets, Target}
+use Rattle.mgmt_api.specs.declared.routes.ManageRoute.TheVariants.{TargetTag, TargetActions, Action, History, Rollouts, Rollout, Turned, Groups}
+use Rattle.mgmt_api.specs.declared.routes.ManageRoute.TheVariants.{Group, GroupTargets, Report, ActionsTable, Import}
 use Rattle.mgmt_api.specs.declared.call.ManageCall.{ManageCall}
-use Rattle.mgmt_api.specs.declared.call.ManageCall.TheVariants.{ShowModules, AddModule, ShowModule, ShowArtifacts, AddArtifact, ShowArtifact, ShowContents, ShowSets, AddSet, ShowSet, ShowTargets, PutTargets, ShowTarget, Tag, Untag, ShowTargetActions, ShowAction, CancelAction, ShowHistory, ShowRollouts, CreateRollout, ShowRollout, TurnRollout, ShowGroups, ShowGroup, ShowGroupTargets, ShowReport, ShowActionsTable, Import as ImportCall}
+use Rattle.mgmt_api.specs.declared.call.ManageCall.TheVariants.{ShowModules, AddModule, ShowModule, ShowArtifacts, AddArtifact, ShowArtifact}
+use Rattle.mgmt_api.specs.declared.call.ManageCall.TheVariants.{ShowContents, ShowSets, AddSet, ShowSet, ShowTargets, PutTargets, ShowTarget, Tag}
+use Rattle.mgmt_api.specs.declared.call.ManageCall.TheVariants.{Untag, ShowTargetActions, ShowAction, CancelAction, ShowHistory, ShowRollouts}
+use Rattle.mgmt_api.specs.declared.call.ManageCall.TheVariants.{CreateRollout, ShowRollout, TurnRollout, ShowGroups, ShowGroup, ShowGroupTargets}
+use Rattle.mgmt_api.specs.declared.call.ManageCall.TheVariants.{ShowReport, ShowActionsTable, Import as ImportCall}
 
 -- the call of a route that has one method
 abbrev pub only_by : List ℕ → ManageCall → List ℕ → Option ManageCall

@@ -1,5 +1,6 @@
 -- What a message of the management interface asks.
-use Rattle.std.specs.Prelude.{◌≡◌, ◌⊎◌, ℕ, Bool, true, false, List, [], if◌then◌else◌, Option, Some, None, Result, Ok, Err, MatchResult, option_and_then, slice_get}
+use Rattle.std.specs.Prelude.{◌≡◌, ◌⊎◌, ℕ, Bool, true, false, List, [], if◌then◌else◌, Option, Some, None, Result, Ok, Err, MatchResult}
+use Rattle.std.specs.Prelude.{option_and_then, slice_get}
 use Rattle.std.specs.Option.{is_some}
 use Rattle.http_wire.specs.Messages.{WireMessage}
 use Rattle.http_wire.specs.Targets.{path_of, query_of}
@@ -9,7 +10,9 @@ use Rattle.rollout_model.specs.declared.request.Request.{Request as RustRequest}
 use Rattle.rollout_model.specs.declared.target_row.TargetRow.{TargetRow}
 use Rattle.rollout_model.specs.Rules.{number_of as item_number_of, word_of}
 use Rattle.rollout_machine.specs.Commands.{Command, AddModule, AddArtifact, AddSet, PutTargets, Tag, Untag, CreateRollout, Cancel}
-use Rattle.rollout_machine.specs.Requests.{Do, Ask, Query, Page, ShowModules, ShowModule, ShowArtifacts, ShowArtifact, ShowContents, ShowSets, ShowSet, ShowTargets, ShowTarget, ShowTargetActions, ShowAction, ShowHistory, ShowRollouts, ShowRollout, ShowGroups, ShowGroup, ShowGroupTargets, ShowReport, ShowActionsTable, Asked, Rejected, Asks}
+use Rattle.rollout_machine.specs.Requests.{Do, Ask, Query, Page, ShowModules, ShowModule, ShowArtifacts, ShowArtifact, ShowContents, ShowSets}
+use Rattle.rollout_machine.specs.Requests.{ShowSet, ShowTargets, ShowTarget, ShowTargetActions, ShowAction, ShowHistory, ShowRollouts, ShowRollout}
+use Rattle.rollout_machine.specs.Requests.{ShowGroups, ShowGroup, ShowGroupTargets, ShowReport, ShowActionsTable, Asked, Rejected, Asks}
 use Rattle.rollout_machine.specs.Views.{request_of}
 use Rattle.request_target.specs.Numbers.{number_of}
 use Rattle.request_target.specs.Queries.{query_pairs_of}
@@ -27,7 +30,18 @@ use Rattle.mgmt_api.specs.TargetQueries.{selection_asked}
 use Rattle.mgmt_api.specs.Turns.{turn_command}
 use Rattle.mgmt_api.specs.UploadQueries.{upload_asked}
 use Rattle.mgmt_api.specs.declared.call.ManageCall.{ManageCall}
-use Rattle.mgmt_api.specs.declared.call.ManageCall.TheVariants.{ShowModules as ShowModulesCall, AddModule as AddModuleCall, ShowModule as ShowModuleCall, ShowArtifacts as ShowArtifactsCall, AddArtifact as AddArtifactCall, ShowArtifact as ShowArtifactCall, ShowContents as ShowContentsCall, ShowSets as ShowSetsCall, AddSet as AddSetCall, ShowSet as ShowSetCall, ShowTargets as ShowTargetsCall, PutTargets as PutTargetsCall, ShowTarget as ShowTargetCall, Tag as TagCall, Untag as UntagCall, ShowTargetActions as ShowTargetActionsCall, ShowAction as ShowActionCall, CancelAction, ShowHistory as ShowHistoryCall, ShowRollouts as ShowRolloutsCall, CreateRollout as CreateRolloutCall, ShowRollout as ShowRolloutCall, TurnRollout, ShowGroups as ShowGroupsCall, ShowGroup as ShowGroupCall, ShowGroupTargets as ShowGroupTargetsCall, ShowReport as ShowReportCall, ShowActionsTable as ShowActionsTableCall, Import as ImportCall}
+use Rattle.mgmt_api.specs.declared.call.ManageCall.TheVariants.{ShowModules as ShowModulesCall, AddModule as AddModuleCall}
+use Rattle.mgmt_api.specs.declared.call.ManageCall.TheVariants.{ShowModule as ShowModuleCall, ShowArtifacts as ShowArtifactsCall}
+use Rattle.mgmt_api.specs.declared.call.ManageCall.TheVariants.{AddArtifact as AddArtifactCall, ShowArtifact as ShowArtifactCall}
+use Rattle.mgmt_api.specs.declared.call.ManageCall.TheVariants.{ShowContents as ShowContentsCall, ShowSets as ShowSetsCall, AddSet as AddSetCall}
+use Rattle.mgmt_api.specs.declared.call.ManageCall.TheVariants.{ShowSet as ShowSetCall, ShowTargets as ShowTargetsCall, PutTargets as PutTargetsCall}
+use Rattle.mgmt_api.specs.declared.call.ManageCall.TheVariants.{ShowTarget as ShowTargetCall, Tag as TagCall, Untag as UntagCall}
+use Rattle.mgmt_api.specs.declared.call.ManageCall.TheVariants.{ShowTargetActions as ShowTargetActionsCall, ShowAction as ShowActionCall}
+use Rattle.mgmt_api.specs.declared.call.ManageCall.TheVariants.{CancelAction, ShowHistory as ShowHistoryCall, ShowRollouts as ShowRolloutsCall}
+use Rattle.mgmt_api.specs.declared.call.ManageCall.TheVariants.{CreateRollout as CreateRolloutCall, ShowRollout as ShowRolloutCall, TurnRollout}
+use Rattle.mgmt_api.specs.declared.call.ManageCall.TheVariants.{ShowGroups as ShowGroupsCall, ShowGroup as ShowGroupCall}
+use Rattle.mgmt_api.specs.declared.call.ManageCall.TheVariants.{ShowGroupTargets as ShowGroupTargetsCall, ShowReport as ShowReportCall}
+use Rattle.mgmt_api.specs.declared.call.ManageCall.TheVariants.{ShowActionsTable as ShowActionsTableCall, Import as ImportCall}
 
 -- a part of a message that can't be read rejects it
 abbrev pub or_rejected : {A : Type 0} → Refusal → (A → Asked) → Option A → Asked
@@ -150,7 +164,8 @@ IsReadersOwn refusal = (refusal ≡ NotFound) ⊎ (refusal ≡ BadMethod) ⊎ (r
 
 -- the request that is asked, or the refusal that it is rejected by; in place of either, want of memory
 abbrev pub ReadsRequest : Asked → Result RustRequest Refusal → Type 0
-ReadsRequest asked result = MatchResult result (λ request. asked ≡ Asks (request_of request)) (λ refusal. (refusal ≡ NoMemory) ⊎ ((asked ≡ Rejected refusal) × IsReadersOwn refusal))
+ReadsRequest asked result = MatchResult result (λ request. asked ≡ Asks (request_of request))
+    (λ refusal. (refusal ≡ NoMemory) ⊎ ((asked ≡ Rejected refusal) × IsReadersOwn refusal))
 
 -- no query, or a bad request where there is one; in place of either, want of memory
 abbrev pub TakesNoQuery : WireMessage → Result (Unit {0}) Refusal → Type 0

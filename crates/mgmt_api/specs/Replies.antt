@@ -11,7 +11,10 @@ use Rattle.http_wire.specs.declared.reply.Answer.{Answer}
 use Rattle.rollout_model.specs.declared.refusal.Refusal.{Refusal}
 use Rattle.rollout_model.specs.declared.refusal.Refusal.TheVariants.{NoMemory}
 use Rattle.rollout_model.specs.Refusals.{refusal_row}
-use Rattle.rollout_machine.specs.Replies.{Reply, PageOf, Refused, Done, ModuleAdded, ModulesShown, ModuleShown, ArtifactAdded, ArtifactsShown, ArtifactShown, ContentsShown, SetAdded, SetsShown, SetShown, ShownTarget, TargetsPut, TargetsShown, TargetShown, RolloutAdded, ActionsShown, ActionShown, HistoryShown, RolloutsShown, RolloutShown, GroupsShown, GroupShown, ReportShown, ActionsTableShown}
+use Rattle.rollout_machine.specs.Replies.{Reply, PageOf, Refused, Done, ModuleAdded, ModulesShown, ModuleShown, ArtifactAdded, ArtifactsShown}
+use Rattle.rollout_machine.specs.Replies.{ArtifactShown, ContentsShown, SetAdded, SetsShown, SetShown, ShownTarget, TargetsPut, TargetsShown}
+use Rattle.rollout_machine.specs.Replies.{TargetShown, RolloutAdded, ActionsShown, ActionShown, HistoryShown, RolloutsShown, RolloutShown}
+use Rattle.rollout_machine.specs.Replies.{GroupsShown, GroupShown, ReportShown, ActionsTableShown}
 use Rattle.desk_files.specs.ActionTables.{table_text}
 use Rattle.desk_files.specs.Reports.{report_lines}
 use Rattle.mgmt_objects.specs.ActionObjects.{action_data, entry_data}
@@ -55,7 +58,12 @@ shown_target_data t = target_object t.id t.name t.tags t.attributes t.word
 -- a refusal by its row of the table, 201 where something was added, 200 otherwise; what devices alone are shown has no body
 -- here
 abbrev pub parts_of : Reply → ReplyParts
-parts_of (Refused refusal) = record { status = (refusal_row refusal).status; content_type = Json; ends = (refusal_row refusal).ends; body = refusal_body refusal }
+parts_of (Refused refusal) = record {
+  status = (refusal_row refusal).status;
+  content_type = Json;
+  ends = (refusal_row refusal).ends;
+  body = refusal_body refusal;
+}
 parts_of (ModuleAdded m) = json_reply 201 (compact_text (single (module_data m)))
 parts_of (ModuleShown m) = json_reply 200 (compact_text (module_data m))
 parts_of (ModulesShown page) = page_reply module_data page

@@ -4,7 +4,9 @@ use Rattle.matchit.specs.Rows.{RowsOf}
 use Rattle.matchit.specs.Router.{RouteOf}
 use Rattle.request_target.specs.Rows.{rows_with}
 use Rattle.mgmt_api.specs.declared.routes.ManageRoute.{ManageRoute}
-use Rattle.mgmt_api.specs.declared.routes.ManageRoute.TheVariants.{Modules, Module, Artifacts, Artifact, Contents, Sets, Set, Targets, Target, TargetTag, TargetActions, Action, History, Rollouts, Rollout, Turned, Groups, Group, GroupTargets, Report, ActionsTable, Import}
+use Rattle.mgmt_api.specs.declared.routes.ManageRoute.TheVariants.{Modules, Module, Artifacts, Artifact, Contents, Sets, Set, Targets, Target}
+use Rattle.mgmt_api.specs.declared.routes.ManageRoute.TheVariants.{TargetTag, TargetActions, Action, History, Rollouts, Rollout, Turned, Groups}
+use Rattle.mgmt_api.specs.declared.routes.ManageRoute.TheVariants.{Group, GroupTargets, Report, ActionsTable, Import}
 use Rattle.mgmt_api.specs.declared.turn.RolloutTurn.TheVariants.{Approve, Deny, Start, Pause, Resume, TriggerNext}
 
 -- where a file of targets is handed in

@@ -24,7 +24,8 @@ digest_expected pairs = digest_or_none (value_of (codes "sha256") pairs)
 -- what these pairs and this body upload to a module
 abbrev pub upload_of : ℕ → List ℕ → List Pair → Option Upload
 upload_of number body pairs =
-    option_and_then (λ filename. option_and_then (λ expected. option_map (λ contents. record { module_number = number; filename = filename; expected = expected; contents = contents })
+    option_and_then (λ filename. option_and_then (λ expected. option_map
+    (λ contents. record { module_number = number; filename = filename; expected = expected; contents = contents })
     (contents_of body)) (digest_expected pairs)) (filename_given pairs)
 
 -- a query that holds no other key, and none twice

@@ -22,5 +22,6 @@ pub fn refused_text()
 
 /// A worked reply, letter by letter.
 pub fn worked_module_added()
-    ensures { (parts_of (ModuleAdded (record { number = 1; locked = false; label = new_label (codes "app") (codes "os") (codes "1.0") }))).body ≡ codes "[{\"id\":1,\"locked\":false,\"name\":\"app\",\"type\":\"os\",\"version\":\"1.0\"}]" }
+    ensures { (parts_of (ModuleAdded (record { number = 1; locked = false; label = new_label (codes "app") (codes "os") (codes "1.0") }))).body
+        ≡ codes "[{\"id\":1,\"locked\":false,\"name\":\"app\",\"type\":\"os\",\"version\":\"1.0\"}]" }
 {}

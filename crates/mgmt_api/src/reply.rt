@@ -8,7 +8,8 @@ ghost use Rattle.rollout_machine.specs.Views.{listed, listed_targets, reply_of, 
 ghost use Rattle.http_wire.specs.Inbox.{message_of};
 ghost use Rattle.http_wire.specs.Replies.{answer_text};
 ghost use Rattle.mgmt_objects.specs.Pages.{single};
-ghost use Rattle.mgmt_api.specs.Replies.{Answers, Has, file_reply, is_import, parts_of, parts_to, put_status, reply_text, json_reply, octets_reply, page_reply, put_reply, shown_target_data};
+ghost use Rattle.mgmt_api.specs.Replies.{Answers, Has, file_reply, is_import, parts_of, parts_to, put_status, reply_text, json_reply, octets_reply};
+ghost use Rattle.mgmt_api.specs.Replies.{page_reply, put_reply, shown_target_data};
 
 use desk_files::{actions_csv, rollout_report};
 use http::StatusCode;
@@ -190,7 +191,8 @@ pub fn manage_reply_to(
     reply: &Reply,
 ) -> Result<Answer, Refusal>
     ensures parts { IfOk result (Has (parts_to (message_of message.now) (reply_of reply.now))) }
-    ensures text { IfOk result (λ answer. (parts_to (message_of message.now) (reply_of reply.now)).ends ≡ false → answer_text answer ≡ reply_text (message_of message.now) (reply_of reply.now)) }
+    ensures text { IfOk result (λ answer. (parts_to (message_of message.now) (reply_of reply.now)).ends ≡ false
+        → answer_text answer ≡ reply_text (message_of message.now) (reply_of reply.now)) }
     ensures memory { IfErr result (λ e. e ≡ NoMemory) }
 {
     answer_to(alloc, message, reply)

@@ -20,12 +20,15 @@ use Rattle.mgmt_objects.specs.TargetObjects.{word_data}
 
 -- an action, its members in byte order
 abbrev pub action_data : Action → Data
-action_data a = object (member (codes "group") (whole a.group) (member (codes "id") (whole a.number) (member (codes "rollout") (whole a.rollout) (member (codes "status") (string (action_text a.word)) (member (codes "target") (string a.target) no_members)))))
+action_data a = object (member (codes "group") (whole a.group)
+    (member (codes "id") (whole a.number) (member (codes "rollout") (whole a.rollout)
+    (member (codes "status") (string (action_text a.word)) (member (codes "target") (string a.target) no_members)))))
 
 -- its text, letter by letter
 abbrev pub action_letters : Action → List ℕ
 action_letters a =
-    concat (codes "{\"group\":" ∷ decimal a.group ∷ codes ",\"id\":" ∷ decimal a.number ∷ codes ",\"rollout\":" ∷ decimal a.rollout ∷ codes ",\"status\":" ∷ quoted (action_text a.word) ∷ codes ",\"target\":" ∷ quoted a.target ∷ codes "}" ∷ [])
+    concat (codes "{\"group\":" ∷ decimal a.group ∷ codes ",\"id\":" ∷ decimal a.number ∷ codes ",\"rollout\":" ∷ decimal a.rollout
+    ∷ codes ",\"status\":" ∷ quoted (action_text a.word) ∷ codes ",\"target\":" ∷ quoted a.target ∷ codes "}" ∷ [])
 
 -- ---- `execution` and `finished` of what a device reported
 
@@ -63,7 +66,9 @@ cancel_finished (cancel.Noted n) = codes "none"
 -- an entry by its parts, its members in byte order
 abbrev pub entry_object : List ℕ → List ℕ → List ℕ → ℕ → List (List ℕ) → Data
 entry_object kind execution finished number details =
-    object (member (codes "details") (array (items_of (map word_data details))) (member (codes "execution") (string execution) (member (codes "finished") (string finished) (member (codes "id") (whole number) (member (codes "kind") (string kind) no_members)))))
+    object (member (codes "details") (array (items_of (map word_data details)))
+    (member (codes "execution") (string execution) (member (codes "finished") (string finished)
+    (member (codes "id") (whole number) (member (codes "kind") (string kind) no_members)))))
 
 abbrev pub reported_data : ℕ → HistoryEntry → Data
 reported_data number (Deployment word details) = entry_object (codes "deployment") (deployment_execution word) (deployment_finished word) number details

@@ -11,4 +11,5 @@ hashes_data a = object (member (codes "sha256") (string (digest_digits a.digest)
 
 -- an artifact, its members in byte order
 abbrev pub artifact_data : Artifact → Data
-artifact_data a = object (member (codes "hashes") (hashes_data a) (member (codes "id") (whole a.number) (member (codes "providedFilename") (string a.filename) (member (codes "size") (whole a.size) no_members))))
+artifact_data a = object (member (codes "hashes") (hashes_data a)
+    (member (codes "id") (whole a.number) (member (codes "providedFilename") (string a.filename) (member (codes "size") (whole a.size) no_members))))

@@ -13,7 +13,8 @@ use Rattle.rollout_model.specs.declared.shown_target.ShownTarget.{ShownTarget}
 use Rattle.mgmt_objects.specs.ActionObjects.{entry_data, reported_data}
 use Rattle.mgmt_objects.specs.TargetObjects.{target_data, with_attributes, word_data}
 
-pub items_have_float-map : {A : Type 0} (show : A → Data) → ((x : A) → has_float (show x) ≡ false) → (xs : List A) → items_have_float (items_of (map show xs)) ≡ false
+pub items_have_float-map : {A : Type 0} (show : A → Data) → ((x : A) → has_float (show x) ≡ false) → (xs : List A)
+    → items_have_float (items_of (map show xs)) ≡ false
 items_have_float-map show none [] = refl
 items_have_float-map show none (x ∷ xs) = rw (none x, items_have_float-map show none xs) refl
 
@@ -22,7 +23,8 @@ or_parts false false none = (refl, refl)
 or_parts false true none = absurd (true≢false none)
 or_parts true b none = absurd (true≢false none)
 
-put_at : (o : Ordering) (k l text : List ℕ) (d : Data) (ms : Members) → (has_float d ≡ false) × (members_have_float ms ≡ false) → members_have_float (put k (string text) ms) ≡ false
+put_at : (o : Ordering) (k l text : List ℕ) (d : Data) (ms : Members) → (has_float d ≡ false) × (members_have_float ms ≡ false)
+    → members_have_float (put k (string text) ms) ≡ false
     → members_have_float (match_ordering o (member k (string text) (member l d ms)) (member l (string text) ms) (member l d (put k (string text) ms))) ≡ false
 put_at Less k l text d ms none later = rw (none.0, none.1) refl
 put_at Equal k l text d ms none later = none.1
@@ -34,7 +36,8 @@ members_have_float-put k text (member l d ms) none =
     let parts = or_parts (has_float d) (members_have_float ms) none in
     put_at (slice_cmp nat_cmp k l) k l text d ms parts (members_have_float-put k text ms parts.1)
 
-members_have_float-with : (ms : Members) (attributes : List Attribute) → members_have_float ms ≡ false → members_have_float (with_attributes ms attributes) ≡ false
+members_have_float-with : (ms : Members) (attributes : List Attribute) → members_have_float ms ≡ false
+    → members_have_float (with_attributes ms attributes) ≡ false
 members_have_float-with ms [] none = none
 members_have_float-with ms (a ∷ more) none = members_have_float-with (put a.key (string a.value) ms) more (members_have_float-put a.key a.value ms none)
 

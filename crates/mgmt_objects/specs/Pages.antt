@@ -13,4 +13,5 @@ single shown = array (item shown no_items)
 
 -- a page: what it shows, how many these are, and how many there are in all
 abbrev pub page_data : List Data → ℕ → Data
-page_data shown total = object (member (codes "content") (array (items_of shown)) (member (codes "size") (whole (length shown)) (member (codes "total") (whole total) no_members)))
+page_data shown total = object (member (codes "content") (array (items_of shown))
+    (member (codes "size") (whole (length shown)) (member (codes "total") (whole total) no_members)))

@@ -1,5 +1,6 @@
 -- The body that creates a rollout.
-use Rattle.std.specs.Prelude.{ℕ, ◌+◌, ◌-◌, ◌*◌, List, [], ◌∷◌, Bool, true, false, ◌&&◌, ◌==◌, nat_le, bytes_eq, codes, Option, Some, None, option_and_then, option_map, if◌then◌else◌}
+use Rattle.std.specs.Prelude.{ℕ, ◌+◌, ◌-◌, ◌*◌, List, [], ◌∷◌, Bool, true, false, ◌&&◌, ◌==◌, nat_le, bytes_eq, codes, Option, Some, None}
+use Rattle.std.specs.Prelude.{option_and_then, option_map, if◌then◌else◌}
 use Rattle.serde_json.specs.Data.{Data}
 use Rattle.serde_json.specs.Find.{get, as_number, as_u64}
 use Rattle.rollout_model.specs.Rules.{group_count_of, percentage_of}
@@ -52,13 +53,22 @@ abbrev pub groups_member : Data → Option ℕ
 groups_member d = option_and_then group_count_of (option_and_then as_u64 (option_and_then as_number (get (codes "amountGroups") d)))
 
 abbrev pub new_plan : List ℕ → ℕ → List ℕ → ℕ → ℕ → ℕ → RolloutPlan
-new_plan name set_number filter_text groups success error = record { name = name; set_number = set_number; filter_text = filter_text; groups = groups; success = success; error = error }
+new_plan name set_number filter_text groups success error = record {
+  name = name;
+  set_number = set_number;
+  filter_text = filter_text;
+  groups = groups;
+  success = success;
+  error = error;
+}
 
 -- an object's `name`, `distributionSetId`, `targetFilterQuery`, `amountGroups`, `successCondition` and `errorCondition`
 abbrev pub plan_members : Data → Option RolloutPlan
 plan_members d =
-    option_and_then (λ name. option_and_then (λ set_number. option_and_then (λ filter_text. option_and_then (λ groups. option_and_then (λ success. option_map (λ error. new_plan name set_number filter_text groups success error)
-    (threshold_member (codes "errorCondition") d)) (threshold_member (codes "successCondition") d)) (groups_member d)) (string_member (codes "targetFilterQuery") d)) (number_member (codes "distributionSetId") d)) (text_member (codes "name") d)
+    option_and_then (λ name. option_and_then (λ set_number. option_and_then
+    (λ filter_text. option_and_then (λ groups. option_and_then (λ success. option_map (λ error. new_plan name set_number filter_text groups success error)
+    (threshold_member (codes "errorCondition") d)) (threshold_member (codes "successCondition") d)) (groups_member d))
+    (string_member (codes "targetFilterQuery") d)) (number_member (codes "distributionSetId") d)) (text_member (codes "name") d)
 
 abbrev pub plan_of : Data → Option RolloutPlan
 plan_of d = if allows_actions d then plan_members d else None

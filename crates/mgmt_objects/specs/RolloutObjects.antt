@@ -10,18 +10,26 @@ use Rattle.mgmt_objects.specs.Pages.{whole}
 
 -- a rollout, its members in byte order
 abbrev pub rollout_data : Rollout → Data
-rollout_data r = object (member (codes "distributionSetId") (whole r.set_number) (member (codes "id") (whole r.number) (member (codes "name") (string r.name) (member (codes "status") (string (rollout_text r.word)) (member (codes "targetFilterQuery") (string r.filter_text) (member (codes "totalGroups") (whole r.groups) (member (codes "totalTargets") (whole r.targets) no_members)))))))
+rollout_data r = object (member (codes "distributionSetId") (whole r.set_number)
+    (member (codes "id") (whole r.number) (member (codes "name") (string r.name)
+    (member (codes "status") (string (rollout_text r.word)) (member (codes "targetFilterQuery") (string r.filter_text)
+    (member (codes "totalGroups") (whole r.groups) (member (codes "totalTargets") (whole r.targets) no_members)))))))
 
 -- a group, its members in byte order; its number is that in its rollout
 abbrev pub group_data : Group → Data
-group_data g = object (member (codes "bad") (whole g.bad) (member (codes "gone") (whole g.gone) (member (codes "id") (whole g.number) (member (codes "ok") (whole g.ok) (member (codes "size") (whole g.size) (member (codes "status") (string (group_text g.word)) no_members))))))
+group_data g = object (member (codes "bad") (whole g.bad) (member (codes "gone") (whole g.gone)
+    (member (codes "id") (whole g.number) (member (codes "ok") (whole g.ok)
+    (member (codes "size") (whole g.size) (member (codes "status") (string (group_text g.word)) no_members))))))
 
 -- the text of a rollout, letter by letter
 abbrev pub rollout_letters : Rollout → List ℕ
 rollout_letters r =
-    concat (codes "{\"distributionSetId\":" ∷ decimal r.set_number ∷ codes ",\"id\":" ∷ decimal r.number ∷ codes ",\"name\":" ∷ quoted r.name ∷ codes ",\"status\":" ∷ quoted (rollout_text r.word) ∷ codes ",\"targetFilterQuery\":" ∷ quoted r.filter_text ∷ codes ",\"totalGroups\":" ∷ decimal r.groups ∷ codes ",\"totalTargets\":" ∷ decimal r.targets ∷ codes "}" ∷ [])
+    concat (codes "{\"distributionSetId\":" ∷ decimal r.set_number ∷ codes ",\"id\":" ∷ decimal r.number ∷ codes ",\"name\":" ∷ quoted r.name
+    ∷ codes ",\"status\":" ∷ quoted (rollout_text r.word) ∷ codes ",\"targetFilterQuery\":" ∷ quoted r.filter_text ∷ codes ",\"totalGroups\":"
+    ∷ decimal r.groups ∷ codes ",\"totalTargets\":" ∷ decimal r.targets ∷ codes "}" ∷ [])
 
 -- the text of a group, letter by letter
 abbrev pub group_letters : Group → List ℕ
 group_letters g =
-    concat (codes "{\"bad\":" ∷ decimal g.bad ∷ codes ",\"gone\":" ∷ decimal g.gone ∷ codes ",\"id\":" ∷ decimal g.number ∷ codes ",\"ok\":" ∷ decimal g.ok ∷ codes ",\"size\":" ∷ decimal g.size ∷ codes ",\"status\":" ∷ quoted (group_text g.word) ∷ codes "}" ∷ [])
+    concat (codes "{\"bad\":" ∷ decimal g.bad ∷ codes ",\"gone\":" ∷ decimal g.gone ∷ codes ",\"id\":" ∷ decimal g.number ∷ codes ",\"ok\":"
+    ∷ decimal g.ok ∷ codes ",\"size\":" ∷ decimal g.size ∷ codes ",\"status\":" ∷ quoted (group_text g.word) ∷ codes "}" ∷ [])

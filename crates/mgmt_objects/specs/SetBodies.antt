@@ -24,7 +24,8 @@ new_set_label name version modules = record { name = name; version = version; mo
 
 -- an object's `name`, `version` and `modules`
 abbrev pub set_label_of : Data → Option SetLabel
-set_label_of d = option_and_then (λ name. option_and_then (λ version. option_map (λ modules. new_set_label name version modules) (modules_member d)) (text_member (codes "version") d)) (text_member (codes "name") d)
+set_label_of d = option_and_then (λ name. option_and_then (λ version. option_map (λ modules. new_set_label name version modules) (modules_member d))
+    (text_member (codes "version") d)) (text_member (codes "name") d)
 
 -- an array of exactly one such object
 abbrev pub set_body : List ℕ → Option SetLabel

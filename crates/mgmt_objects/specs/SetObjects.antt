@@ -11,4 +11,5 @@ named_module_data number = object (member (codes "id") (whole number) no_members
 
 -- a set, its members in byte order and its modules in its own
 abbrev pub set_data : DistributionSet → Data
-set_data s = object (member (codes "id") (whole s.number) (member (codes "modules") (array (items_of (map named_module_data s.label.modules))) (member (codes "name") (string s.label.name) (member (codes "version") (string s.label.version) no_members))))
+set_data s = object (member (codes "id") (whole s.number) (member (codes "modules") (array (items_of (map named_module_data s.label.modules)))
+    (member (codes "name") (string s.label.name) (member (codes "version") (string s.label.version) no_members))))

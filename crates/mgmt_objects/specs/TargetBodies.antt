@@ -41,7 +41,8 @@ new_row id name digest tags = record { id = id; name = name; digest = digest; ta
 -- an object's `controllerId`, `name`, `securityToken` and `tags`
 abbrev pub target_row_of : Data → Option TargetRow
 target_row_of d =
-    option_and_then (λ id. option_and_then (λ name. option_and_then (λ digest. option_map (λ tags. new_row id name digest tags) (tags_member d)) (token_digest_member (codes "securityToken") d)) (text_member (codes "name") d))
+    option_and_then (λ id. option_and_then (λ name. option_and_then (λ digest. option_map (λ tags. new_row id name digest tags) (tags_member d))
+    (token_digest_member (codes "securityToken") d)) (text_member (codes "name") d))
     (word_member (codes "controllerId") d)
 
 abbrev pub has_row_of : List ℕ → List TargetRow → Bool

@@ -22,7 +22,9 @@ word_data word = string word
 -- the object of a target by its parts, its members in byte order
 abbrev pub target_object : List ℕ → List ℕ → List (List ℕ) → List Attribute → TargetWord → Data
 target_object id name tags attributes word =
-    object (member (codes "attributes") (attributes_data attributes) (member (codes "controllerId") (string id) (member (codes "name") (string name) (member (codes "tags") (array (items_of (map word_data tags))) (member (codes "updateStatus") (string (target_text word)) no_members)))))
+    object (member (codes "attributes") (attributes_data attributes)
+    (member (codes "controllerId") (string id) (member (codes "name") (string name)
+    (member (codes "tags") (array (items_of (map word_data tags))) (member (codes "updateStatus") (string (target_text word)) no_members)))))
 
 abbrev pub target_data : ShownTarget → Data
 target_data t = target_object t.id t.name t.tags t.attributes t.word

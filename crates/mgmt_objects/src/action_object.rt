@@ -2,7 +2,8 @@
 
 ghost use Rattle.std.specs.Prelude.{◌≡◌, refl, IfOk};
 ghost use Rattle.serde_json.specs.View.{view};
-ghost use Rattle.mgmt_objects.specs.ActionObjects.{action_data, cancel_execution, cancel_finished, deployment_execution, deployment_finished, entry_data, entry_object, note_text};
+ghost use Rattle.mgmt_objects.specs.ActionObjects.{action_data, cancel_execution, cancel_finished, deployment_execution, deployment_finished};
+ghost use Rattle.mgmt_objects.specs.ActionObjects.{entry_data, entry_object, note_text};
 ghost use Rattle.mgmt_objects.specs.Floats.{entry_has_no_float};
 ghost use Rattle.mgmt_objects.specs.TargetObjects.{word_data};
 

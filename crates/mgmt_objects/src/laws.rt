@@ -37,17 +37,20 @@ pub fn module_text_letters()
 
 /// The text of a worked module in an array of its own.
 pub fn worked_module_text()
-    ensures { compact_text (single (module_data (record { number = 1; locked = false; label = new_label (codes "app") (codes "os") (codes "1.0") }))) ≡ codes "[{\"id\":1,\"locked\":false,\"name\":\"app\",\"type\":\"os\",\"version\":\"1.0\"}]" }
+    ensures { compact_text (single (module_data (record { number = 1; locked = false; label = new_label (codes "app") (codes "os") (codes "1.0") })))
+        ≡ codes "[{\"id\":1,\"locked\":false,\"name\":\"app\",\"type\":\"os\",\"version\":\"1.0\"}]" }
 {}
 
 /// A worked body names the distribution set that it spells.
 pub fn worked_set_body()
-    ensures { set_body (codes "[{\"name\":\"r1\",\"version\":\"1\",\"modules\":[{\"id\":2},{\"id\":1}]}]") ≡ Some (new_set_label (codes "r1") (codes "1") (2 ∷ 1 ∷ [])) }
+    ensures { set_body (codes "[{\"name\":\"r1\",\"version\":\"1\",\"modules\":[{\"id\":2},{\"id\":1}]}]")
+        ≡ Some (new_set_label (codes "r1") (codes "1") (2 ∷ 1 ∷ [])) }
 {}
 
 /// The text of a worked distribution set.
 pub fn worked_set_text()
-    ensures { compact_text (set_data (record { number = 1; label = new_set_label (codes "r1") (codes "1") (1 ∷ []) })) ≡ codes "{\"id\":1,\"modules\":[{\"id\":1}],\"name\":\"r1\",\"version\":\"1\"}" }
+    ensures { compact_text (set_data (record { number = 1; label = new_set_label (codes "r1") (codes "1") (1 ∷ []) }))
+        ≡ codes "{\"id\":1,\"modules\":[{\"id\":1}],\"name\":\"r1\",\"version\":\"1\"}" }
 {}
 
 /// The text of a worked artifact, whose digest is the same byte 32 times.
@@ -57,7 +60,8 @@ pub fn worked_artifact_text()
 
 /// A worked body puts the target that it spells, known by its token's digest alone.
 pub fn worked_targets_body()
-    ensures { targets_body (codes "[{\"controllerId\":\"dev-01\",\"name\":\"press\",\"securityToken\":\"tok-dev-01\",\"tags\":[\"lab\"]}]") ≡ Some (new_row (codes "dev-01") (codes "press") (digest_of (codes "tok-dev-01")) (codes "lab" ∷ []) ∷ []) }
+    ensures { targets_body (codes "[{\"controllerId\":\"dev-01\",\"name\":\"press\",\"securityToken\":\"tok-dev-01\",\"tags\":[\"lab\"]}]")
+        ≡ Some (new_row (codes "dev-01") (codes "press") (digest_of (codes "tok-dev-01")) (codes "lab" ∷ []) ∷ []) }
 {}
 
 /// The text of a worked target.
@@ -113,15 +117,18 @@ pub fn worked_rollout_text()
 
 /// The text of a worked group.
 pub fn worked_group_text()
-    ensures { compact_text (group_data (record { number = 1; size = 3; ok = 2; bad = 0; gone = 0; word = group.Running })) ≡ codes "{\"bad\":0,\"gone\":0,\"id\":1,\"ok\":2,\"size\":3,\"status\":\"running\"}" }
+    ensures { compact_text (group_data (record { number = 1; size = 3; ok = 2; bad = 0; gone = 0; word = group.Running }))
+        ≡ codes "{\"bad\":0,\"gone\":0,\"id\":1,\"ok\":2,\"size\":3,\"status\":\"running\"}" }
 {}
 
 /// The text of a worked action.
 pub fn worked_action_text()
-    ensures { compact_text (action_data (record { number = 1; rollout = 1; group = 1; target = codes "dev-01"; word = action.Running })) ≡ codes "{\"group\":1,\"id\":1,\"rollout\":1,\"status\":\"running\",\"target\":\"dev-01\"}" }
+    ensures { compact_text (action_data (record { number = 1; rollout = 1; group = 1; target = codes "dev-01"; word = action.Running }))
+        ≡ codes "{\"group\":1,\"id\":1,\"rollout\":1,\"status\":\"running\",\"target\":\"dev-01\"}" }
 {}
 
 /// The text of a worked entry of a history.
 pub fn worked_entry_text()
-    ensures { compact_text (entry_data (record { number = 2; entry = entry.Cancel cancel.Canceled (codes "ok" ∷ []) })) ≡ codes "{\"details\":[\"ok\"],\"execution\":\"canceled\",\"finished\":\"success\",\"id\":2,\"kind\":\"cancel\"}" }
+    ensures { compact_text (entry_data (record { number = 2; entry = entry.Cancel cancel.Canceled (codes "ok" ∷ []) }))
+        ≡ codes "{\"details\":[\"ok\"],\"execution\":\"canceled\",\"finished\":\"success\",\"id\":2,\"kind\":\"cancel\"}" }
 {}

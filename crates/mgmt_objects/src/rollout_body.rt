@@ -5,7 +5,8 @@ ghost use Rattle.serde_json.specs.Find.{get};
 ghost use Rattle.serde_json.specs.View.{view};
 ghost use Rattle.mgmt_objects.specs.Bodies.{number_member, string_member};
 ghost use Rattle.mgmt_objects.specs.Readings.{ReadsAs};
-ghost use Rattle.mgmt_objects.specs.RolloutBodies.{allows, allows_actions, groups_member, percent_after, percent_written, percentage_in, plan_members, plan_of, rollout_body, says, threshold_member, threshold_of};
+ghost use Rattle.mgmt_objects.specs.RolloutBodies.{allows, allows_actions, groups_member, percent_after, percent_written, percentage_in};
+ghost use Rattle.mgmt_objects.specs.RolloutBodies.{plan_members, plan_of, rollout_body, says, threshold_member, threshold_of};
 
 use crate::body::read_value;
 use crate::member::{read_number, read_text};

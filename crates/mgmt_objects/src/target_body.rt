@@ -3,7 +3,8 @@
 ghost use Rattle.std.specs.Prelude.{◌≡◌};
 ghost use Rattle.serde_json.specs.View.{view};
 ghost use Rattle.mgmt_objects.specs.Readings.{ReadsAs, ReadsBy};
-ghost use Rattle.mgmt_objects.specs.TargetBodies.{has_row_of, have_distinct_ids, posted_rows, tags_member, target_row_of, targets_body, token_digest_member, word_in, word_member, words_member};
+ghost use Rattle.mgmt_objects.specs.TargetBodies.{has_row_of, have_distinct_ids, posted_rows, tags_member, target_row_of, targets_body};
+ghost use Rattle.mgmt_objects.specs.TargetBodies.{token_digest_member, word_in, word_member, words_member};
 
 use crate::body::read_value;
 use crate::list::{Item, read_array};

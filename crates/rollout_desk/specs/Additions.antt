@@ -49,7 +49,8 @@ AddsWhole number label r next = (number ≡ length r.sets + 1) × (next ≡ reco
 
 -- neither the module nor the desk takes a further artifact
 abbrev pub is_full : ℕ → Records → Bool
-is_full m r = nat_le module_artifact_limit (length (filter (λ (a : ArtifactRecord). nat_eq a.module_number m) r.artifacts)) || nat_le artifact_limit (length r.artifacts)
+is_full m r = nat_le module_artifact_limit (length (filter (λ (a : ArtifactRecord). nat_eq a.module_number m) r.artifacts))
+    || nat_le artifact_limit (length r.artifacts)
 
 -- the command is accepted and this is the artifact, with the next number; or this refuses it
 abbrev pub ShowsNextArtifact : Upload → Records → Result Artifact Refusal → Type 0
@@ -67,8 +68,15 @@ pub record AddsContents (number before : ℕ) (bytes : Bytes) (r next : Records)
 
 -- an artifact of a module, with its contents
 abbrev pub artifact_kept : ℕ → Artifact → Bytes → ArtifactRecord
-artifact_kept m artifact contents = record { module_number = m; filename = artifact.filename; size = artifact.size; digest = artifact.digest; contents = contents }
+artifact_kept m artifact contents = record {
+  module_number = m;
+  filename = artifact.filename;
+  size = artifact.size;
+  digest = artifact.digest;
+  contents = contents;
+}
 
 -- the artifact has the next number
 abbrev pub AddsArtifact : ℕ → Artifact → Bytes → Records → Records → Type 0
-AddsArtifact m artifact contents r next = (artifact.number ≡ length r.artifacts + 1) × (next ≡ record r { artifacts = r.artifacts ++ artifact_kept m artifact contents ∷ [] })
+AddsArtifact m artifact contents r next = (artifact.number ≡ length r.artifacts + 1)
+    × (next ≡ record r { artifacts = r.artifacts ++ artifact_kept m artifact contents ∷ [] })

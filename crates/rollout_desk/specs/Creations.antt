@@ -38,7 +38,15 @@ abbrev pub IsWordOf : Approval → RolloutWord → Type 0
 IsWordOf approval word = (finished paused : Bool) → word ≡ word_from approval false finished paused
 
 abbrev pub shown_new : RolloutPlan → ℕ → RolloutWord → ℕ → Rollout
-shown_new plan number word members = record { number = number; name = plan.name; set_number = plan.set_number; filter_text = plan.filter_text; word = word; groups = plan.groups; targets = members }
+shown_new plan number word members = record {
+  number = number;
+  name = plan.name;
+  set_number = plan.set_number;
+  filter_text = plan.filter_text;
+  word = word;
+  groups = plan.groups;
+  targets = members;
+}
 
 -- with so many of the groups into which a number of members is cut, and with these of its members
 abbrev pub in_part : NewRollout → RolloutPlan → ℕ → ℕ → List Bytes → RolloutRecord

@@ -1,5 +1,6 @@
 -- What an import of targets reads and writes.
-use Rattle.std.specs.Prelude.{◌≡◌, ◌≤◌, ◌+◌, ℕ, true, false, not, List, [], ◌∷◌, map, filter, length, Option, Some, None, Result, Ok, Err, option_map, is_some, IfOk}
+use Rattle.std.specs.Prelude.{◌≡◌, ◌≤◌, ◌+◌, ℕ, true, false, not, List, [], ◌∷◌, map, filter, length, Option, Some, None, Result, Ok, Err, option_map}
+use Rattle.std.specs.Prelude.{is_some, IfOk}
 use Rattle.sqlite.specs.State.{State, HasCleanDisk}
 use Rattle.sql_calls.specs.Standing.{Wears, Sees}
 use Rattle.desk_records.specs.TargetRow.{stored_target}
@@ -94,8 +95,10 @@ with_row row r = step_records r (PutTargets (row ∷ []))
 
 -- One row is put, or it is of one target too many.
 abbrev pub PutsRowTo : State → State → TargetRow → Option ℕ → Result (Option ℕ) Refusal → Type 0
-PutsRowTo old new row left (Ok then) = (now : Records) → Sees HoldsLedger old (ledger_of now) → Sees HoldsLedger new (ledger_of (with_row row now)) × (HasCleanDisk new → HasRoom left now → HasRoom then (with_row row now))
-PutsRowTo old new row left (Err refusal) = (now : Records) → Sees HoldsLedger old (ledger_of now) → HasCleanDisk new → HasRoom left now → (refusal ≡ Quota) × IsTooMany row now
+PutsRowTo old new row left (Ok then) = (now : Records) → Sees HoldsLedger old (ledger_of now) → Sees HoldsLedger new (ledger_of (with_row row now))
+    × (HasCleanDisk new → HasRoom left now → HasRoom then (with_row row now))
+PutsRowTo old new row left (Err refusal) = (now : Records) → Sees HoldsLedger old (ledger_of now) → HasCleanDisk new → HasRoom left now
+    → (refusal ≡ Quota) × IsTooMany row now
 
 pub record PutsRow {E : Type 0} (old new : State) (row : TargetRow) (left : Option ℕ) (result : Result (Result (Option ℕ) Refusal) E) : Type 0 where
   pub wears : Wears old new
@@ -105,7 +108,8 @@ pub record PutsRow {E : Type 0} (old new : State) (row : TargetRow) (left : Opti
 abbrev pub PutsAllTo : State → State → List TargetRow → Option Refusal → Type 0
 PutsAllTo old new rows None = (h : CommandList) → IsValid h → Sees HoldsLedger old (ledger_of (records h))
     → Sees HoldsLedger new (ledger_of (step_records (records h) (PutTargets rows))) × (HasCleanDisk new → check (records h) (PutTargets rows) ≡ None)
-PutsAllTo old new rows (Some refusal) = (h : CommandList) → IsValid h → Sees HoldsLedger old (ledger_of (records h)) → HasCleanDisk new → check (records h) (PutTargets rows) ≡ Some refusal
+PutsAllTo old new rows (Some refusal) = (h : CommandList) → IsValid h → Sees HoldsLedger old (ledger_of (records h)) → HasCleanDisk new
+    → check (records h) (PutTargets rows) ≡ Some refusal
 
 pub record PutsAll {E : Type 0} (old new : State) (rows : List TargetRow) (result : Result (Option Refusal) E) : Type 0 where
   pub wears : Wears old new

@@ -44,9 +44,11 @@ module _ (Holds : Database → Records → Type 0) where
   -- The artifact that the device may download, at the list that the desk stands for; or the answer to its query is this refusal.
   abbrev pub FindsTo : State → State → Credential → ℕ → Bytes → Result Artifact Refusal → Type 0
   FindsTo old new device m filename (Ok a) =
-      (h : CommandList) → HasCleanDisk new → StandsFor (desk_state_at Holds false old) h → StandsFor (desk_state_at Holds false new) h × (Ok a ≡ downloadable (records h) device m filename)
+      (h : CommandList) → HasCleanDisk new → StandsFor (desk_state_at Holds false old) h → StandsFor (desk_state_at Holds false new) h
+      × (Ok a ≡ downloadable (records h) device m filename)
   FindsTo old new device m filename (Err refusal) =
-      (h : CommandList) → HasCleanDisk new → StandsFor (desk_state_at Holds false old) h → AppliesAt h (desk_state_at Holds (is_store refusal) new) (Asks (Ask (Download device m filename))) (Refused refusal)
+      (h : CommandList) → HasCleanDisk new → StandsFor (desk_state_at Holds false old) h
+      → AppliesAt h (desk_state_at Holds (is_store refusal) new) (Asks (Ask (Download device m filename))) (Refused refusal)
 
   pub record FindsDownload (old new : State) (device : Credential) (m : ℕ) (filename : Bytes) (result : Result Artifact Refusal) : Type 0 where
     pub wears : Wears old new

@@ -17,7 +17,8 @@ use Rattle.desk_opening.specs.Reopening.{HoldsNone, IsOpenable, LeavesUnharmed}
 use Rattle.rollout_desk.specs.DeskStates.{desk_state}
 use Rattle.rollout_desk.specs.declared.desk.Desk.{Desk}
 
--- Over files that hold a list the desk stands for that list, and over files that hold nothing, or a database that uses no name of a desk, for the list of a new one.
+-- Over files that hold a list the desk stands for that list, and over files that hold nothing, or a database that uses no name of a desk,
+-- for the list of a new one.
 -- No others are opened: neither a damaged file, nor one of another program, nor one with some of the tables.
 pub record ReopensDesk (image : Image) (desk : DeskState Trees) (approval : Bool) : Type 0 where
   pub finds : desk.is_clean → (db : Trees) × AreFoundIn image db × IsOpenable db
@@ -30,7 +31,8 @@ LeftUnharmed {D = D} g before image approval e = (rest : Leftover D g) × Leaves
 
 -- ---- given back
 
--- The files hold what a crash might have left of the desk, as they read and whatever a crash leaves of them, with the log and without it. So of a stopped desk too.
+-- The files hold what a crash might have left of the desk, as they read and whatever a crash leaves of them, with the log and without it.
+-- So of a stopped desk too.
 pub record GivesBack {D : Type 0} (g : disk.Ghosts D) (desk : DeskState Trees) (files : Files D) : Type 0 where
   pub file : Trees
   pub kept : desk.may_leave file

@@ -60,7 +60,8 @@ pub record DownloadsItsOffer (h : CommandList) (device : Credential) (m : ℕ) (
 pub record KeepsToOffers (h : CommandList) (query : Query) (reply : Reply) : Type 0 where
   pub names : (o : Offer) → offer_named reply ≡ Some o → NamesItsOffer h query o
   -- a device that polls and is told of no action has none that is open in a started group
-  pub withholds_none : (device : Credential) → query ≡ Poll device → reply ≡ PollShown device.id None → (k : ℕ) (p : ActionPlace) → IsOfferable h device.id k p → ⊥
+  pub withholds_none : (device : Credential) → query ≡ Poll device → reply ≡ PollShown device.id None → (k : ℕ) (p : ActionPlace)
+      → IsOfferable h device.id k p → ⊥
   pub hands_out : (device : Credential) (m : ℕ) (filename contents : Bytes) → query ≡ Download device m filename → reply ≡ ContentsShown contents
       → DownloadsItsOffer h device m filename contents
 
@@ -75,5 +76,6 @@ pub record Describes (a : ArtifactRecord) (contents : Bytes) : Type 0 where
 -- contents that are shown are of the artifact that was asked for, with the size and the digest that are told of it
 abbrev pub ShowsWhole : CommandList → Query → Reply → Type 0
 ShowsWhole h (ShowContents m k) (ContentsShown contents) = (a : ArtifactRecord) × (artifact_of_module (records h) m k ≡ Some a) × Describes a contents
-ShowsWhole h (Download device m filename) (ContentsShown contents) = (a : ArtifactRecord) × (artifact_named m filename (records h).artifacts ≡ Some a) × Describes a contents
+ShowsWhole h (Download device m filename) (ContentsShown contents) = (a : ArtifactRecord)
+    × (artifact_named m filename (records h).artifacts ≡ Some a) × Describes a contents
 ShowsWhole h _ _ = Unit {0}

@@ -34,8 +34,10 @@ refusal_of_fault Store = StoreFailed
 -- It is accepted, its records are written and its reply is made; or it is refused.
 abbrev pub StepsTo : State → State → Command → Step → Type 0
 StepsTo old new c (step.Accepted reply) = (h : CommandList) → IsValid h → Sees HoldsLedger old (ledger_of (records h))
-    → Sees HoldsLedger new (ledger_of (step_records (records h) c)) × (HasCleanDisk new → (check (records h) c ≡ None) × (reply_of reply ≡ command_reply c (step_records (records h) c)))
-StepsTo old new c (step.Refused refusal) = (h : CommandList) → IsValid h → Sees HoldsLedger old (ledger_of (records h)) → HasCleanDisk new → check (records h) c ≡ Some refusal
+    → Sees HoldsLedger new (ledger_of (step_records (records h) c))
+    × (HasCleanDisk new → (check (records h) c ≡ None) × (reply_of reply ≡ command_reply c (step_records (records h) c)))
+StepsTo old new c (step.Refused refusal) = (h : CommandList) → IsValid h → Sees HoldsLedger old (ledger_of (records h)) → HasCleanDisk new
+    → check (records h) c ≡ Some refusal
 
 -- What it leaves of the change where it fails, `StaysIn` of `desk_store` says.
 pub record Steps {E : Type 0} (old new : State) (c : Command) (result : Result Step E) : Type 0 where

@@ -115,7 +115,8 @@ fn answer<S: Alter>(
 
 /// Commits a change, and then gives the reply that was made.
 fn commit<S: Alter>(change: OpenChange<'_, S>, reply: Reply) -> Reply
-    ensures ends { EndsByCommit (state S.Store change.entry.store.now.calls.conn) (state S.Store change.exit.0.now.calls.conn) (reply_of reply) (reply_of result) }
+    ensures ends { EndsByCommit (state S.Store change.entry.store.now.calls.conn) (state S.Store change.exit.0.now.calls.conn) (reply_of reply)
+        (reply_of result) }
     ensures work { change.exit.0.now.calls.work ≡ change.entry.store.now.calls.work }
     ensures tells { TellsFailures (is_failed_store (reply_of result)) change.entry.store.now.calls change.exit.0.now.calls }
 {
@@ -127,7 +128,8 @@ fn commit<S: Alter>(change: OpenChange<'_, S>, reply: Reply) -> Reply
 
 /// Gives a change up, and then the reply that was made.
 fn give_up<S: Alter>(change: OpenChange<'_, S>, reply: Reply) -> Reply
-    ensures ends { EndsByRollback (state S.Store change.entry.store.now.calls.conn) (state S.Store change.exit.0.now.calls.conn) (reply_of reply) (reply_of result) }
+    ensures ends { EndsByRollback (state S.Store change.entry.store.now.calls.conn) (state S.Store change.exit.0.now.calls.conn) (reply_of reply)
+        (reply_of result) }
     ensures work { change.exit.0.now.calls.work ≡ change.entry.store.now.calls.work }
     ensures tells { TellsFailures (is_failed_store (reply_of result)) change.entry.store.now.calls change.exit.0.now.calls }
 {
@@ -143,7 +145,8 @@ pub(crate) fn run_command<S: Alter>(
     store: &mut DeskStore<S>,
     command: &Command,
 ) -> Reply
-    ensures handles { Handles HoldsRecords (state S.Store store.old.calls.conn) (state S.Store store.new.calls.conn) (Do (command_of command.now)) (reply_of result) }
+    ensures handles { Handles HoldsRecords (state S.Store store.old.calls.conn) (state S.Store store.new.calls.conn) (Do (command_of command.now))
+        (reply_of result) }
     ensures work { is_report (command_of command.now) ≡ true → Adds 14 24 store.old.calls.work store.new.calls.work }
     ensures tells { TellsFailures (is_failed_store (reply_of result)) store.old.calls store.new.calls }
 {
@@ -161,7 +164,8 @@ pub(crate) fn run_command<S: Alter>(
 
 /// Answers a query inside a transaction that changes nothing.
 pub(crate) fn run_query<S: Alter>(alloc: Global, store: &mut DeskStore<S>, query: &Query) -> Reply
-    ensures handles { Handles HoldsRecords (state S.Store store.old.calls.conn) (state S.Store store.new.calls.conn) (Ask (query_of query.now)) (reply_of result) }
+    ensures handles { Handles HoldsRecords (state S.Store store.old.calls.conn) (state S.Store store.new.calls.conn) (Ask (query_of query.now))
+        (reply_of result) }
     ensures tells { TellsFailures (is_failed_store (reply_of result)) store.old.calls store.new.calls }
 {
     let mut change = match store.begin() {

@@ -185,7 +185,8 @@ fn write_whole<S: Alter>(
     requires enough { plan.now.groups ≤ length members.now }
     requires few { length members.now ≤ 4294967295 }
     ensures stays { StaysIn S.Store change.old change.new result }
-    ensures writes { MakesLedger S.Store change.old change.new result (CreatesRollout (in_part created.now plan.now (length members.now) plan.now.groups members.now)) }
+    ensures writes { MakesLedger S.Store change.old change.new result
+        (CreatesRollout (in_part created.now plan.now (length members.now) plan.now.groups members.now)) }
 {
     let number = created.number;
     let size = members.len() as u32;

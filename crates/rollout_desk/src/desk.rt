@@ -55,7 +55,8 @@ impl<S: Alter> Desk<S> {
         ensures clean { (desk_state S.Store self.new).is_clean → (desk_state S.Store self.old).is_clean }
         ensures applies { Applies (desk_state S.Store self.old) (desk_state S.Store self.new) (Asks (Do (command_of command.now))) (reply_of result) }
         ensures stops { reply_of result ≡ Refused StoreFailed → (desk_state S.Store self.new).is_stopped ≡ true }
-        ensures stopped { (desk_state S.Store self.old).is_stopped ≡ true → (reply_of result ≡ Refused Stopped) × StaysStopped (desk_state S.Store self.old) (desk_state S.Store self.new) }
+        ensures stopped { (desk_state S.Store self.old).is_stopped ≡ true → (reply_of result ≡ Refused Stopped)
+            × StaysStopped (desk_state S.Store self.old) (desk_state S.Store self.new) }
         ensures bound { KeepsBound (command_of command.now) self.new.work }
         ensures counted { self.new.work ≡ since self.new.store.calls.work self.old.store.calls.work }
         ensures tells { TellsFailures (is_failed_store (reply_of result)) self.old.store.calls self.new.store.calls }
@@ -78,7 +79,8 @@ impl<S: Alter> Desk<S> {
         ensures offered { IsPromised (desk_state S.Store self.old) (desk_state S.Store self.new) (λ h. KeepsToOffers h (query_of query.now) (reply_of result)) }
         ensures whole { IsPromised (desk_state S.Store self.old) (desk_state S.Store self.new) (λ h. ShowsWhole h (query_of query.now) (reply_of result)) }
         ensures stops { reply_of result ≡ Refused StoreFailed → (desk_state S.Store self.new).is_stopped ≡ true }
-        ensures stopped { (desk_state S.Store self.old).is_stopped ≡ true → (reply_of result ≡ Refused Stopped) × StaysStopped (desk_state S.Store self.old) (desk_state S.Store self.new) }
+        ensures stopped { (desk_state S.Store self.old).is_stopped ≡ true → (reply_of result ≡ Refused Stopped)
+            × StaysStopped (desk_state S.Store self.old) (desk_state S.Store self.new) }
         ensures tells { TellsFailures (is_failed_store (reply_of result)) self.old.store.calls self.new.store.calls }
         ensures work { self.new.work ≡ self.old.work }
     {
@@ -95,7 +97,8 @@ impl<S: Alter> Desk<S> {
         ensures clean { (desk_state S.Store self.new).is_clean → (desk_state S.Store self.old).is_clean }
         ensures applies { Applies (desk_state S.Store self.old) (desk_state S.Store self.new) (Asks (request_of request.now)) (reply_of result) }
         ensures stops { reply_of result ≡ Refused StoreFailed → (desk_state S.Store self.new).is_stopped ≡ true }
-        ensures stopped { (desk_state S.Store self.old).is_stopped ≡ true → (reply_of result ≡ Refused Stopped) × StaysStopped (desk_state S.Store self.old) (desk_state S.Store self.new) }
+        ensures stopped { (desk_state S.Store self.old).is_stopped ≡ true → (reply_of result ≡ Refused Stopped)
+            × StaysStopped (desk_state S.Store self.old) (desk_state S.Store self.new) }
         ensures tells { TellsFailures (is_failed_store (reply_of result)) self.old.store.calls self.new.store.calls }
     {
         match request {

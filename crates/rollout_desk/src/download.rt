@@ -35,13 +35,16 @@ fn artifact_in(reply: Reply) -> Result<Artifact, Reply>
 }
 
 impl<S: Alter> Desk<S> {
-    /// Begins a download of the contents that a query asks for, of the management or of a device. Any other query, and one that is refused, is answered as `ask`
+    /// Begins a download of the contents that a query asks for, of the management or of a device. Any other query, and one that is refused,
+    /// is answered as `ask`
     /// answers it.
     pub fn download(&mut self, query: &Query) -> Result<Download, Reply>
         ensures clean { (desk_state S.Store self.new).is_clean → (desk_state S.Store self.old).is_clean }
         ensures begins { Begins (desk_state S.Store self.old) (desk_state S.Store self.new) (Asks (Ask (query_of query.now))) result }
-        ensures offered { IfOk result (λ p. IsPromised (desk_state S.Store self.old) (desk_state S.Store self.new) (λ h. BeginsOffered h (query_of query.now) p)) }
-        ensures refuses { IfErr result (λ reply. RefusesContents (desk_state S.Store self.old) (desk_state S.Store self.new) (query_of query.now) (reply_of reply)) }
+        ensures offered { IfOk result (λ p. IsPromised (desk_state S.Store self.old) (desk_state S.Store self.new)
+            (λ h. BeginsOffered h (query_of query.now) p)) }
+        ensures refuses { IfErr result (λ reply. RefusesContents (desk_state S.Store self.old) (desk_state S.Store self.new) (query_of query.now)
+            (reply_of reply)) }
         ensures runs { IfOk result (λ _. (desk_state S.Store self.old).is_stopped ≡ false) }
         ensures stops { IfErr result (λ reply. reply_of reply ≡ Refused StoreFailed → (desk_state S.Store self.new).is_stopped ≡ true) }
         ensures stopped { (desk_state S.Store self.old).is_stopped ≡ true
@@ -67,7 +70,8 @@ impl<S: Alter> Desk<S> {
     ) -> Result<Download, Reply>
         ensures clean { (desk_state S.Store self.new).is_clean → (desk_state S.Store self.old).is_clean }
         ensures begins { Begins (desk_state S.Store self.old) (desk_state S.Store self.new) (Asks (Ask (ShowContents module_number number))) result }
-        ensures refuses { IfErr result (λ reply. RefusesContents (desk_state S.Store self.old) (desk_state S.Store self.new) (ShowContents module_number number) (reply_of reply)) }
+        ensures refuses { IfErr result (λ reply. RefusesContents (desk_state S.Store self.old) (desk_state S.Store self.new)
+            (ShowContents module_number number) (reply_of reply)) }
         ensures runs { IfOk result (λ _. (desk_state S.Store self.old).is_stopped ≡ false) }
         ensures stops { IfErr result (λ reply. reply_of reply ≡ Refused StoreFailed → (desk_state S.Store self.new).is_stopped ≡ true) }
         ensures stopped { (desk_state S.Store self.old).is_stopped ≡ true
@@ -94,8 +98,10 @@ impl<S: Alter> Desk<S> {
         filename: &Filename,
     ) -> Result<Download, Reply>
         ensures clean { (desk_state S.Store self.new).is_clean → (desk_state S.Store self.old).is_clean }
-        ensures begins { Begins (desk_state S.Store self.old) (desk_state S.Store self.new) (Asks (Ask (DownloadOf device.now module_number filename.now))) result }
-        ensures refuses { IfErr result (λ reply. RefusesContents (desk_state S.Store self.old) (desk_state S.Store self.new) (DownloadOf device.now module_number filename.now) (reply_of reply)) }
+        ensures begins { Begins (desk_state S.Store self.old) (desk_state S.Store self.new)
+            (Asks (Ask (DownloadOf device.now module_number filename.now))) result }
+        ensures refuses { IfErr result (λ reply. RefusesContents (desk_state S.Store self.old) (desk_state S.Store self.new)
+            (DownloadOf device.now module_number filename.now) (reply_of reply)) }
         ensures runs { IfOk result (λ _. (desk_state S.Store self.old).is_stopped ≡ false) }
         ensures stops { IfErr result (λ reply. reply_of reply ≡ Refused StoreFailed → (desk_state S.Store self.new).is_stopped ≡ true) }
         ensures stopped { (desk_state S.Store self.old).is_stopped ≡ true
@@ -129,7 +135,8 @@ impl<S: Alter> Desk<S> {
         ensures counts { KeepsCount download.old download.new result }
         ensures interrupted { IfErr result IsInterruption }
         ensures stops { result ≡ Err Refusal.StoreFailed → (desk_state S.Store self.new).is_stopped ≡ true }
-        ensures stopped { (desk_state S.Store self.old).is_stopped ≡ true → (result ≡ Err Refusal.Stopped) × StaysStopped (desk_state S.Store self.old) (desk_state S.Store self.new) }
+        ensures stopped { (desk_state S.Store self.old).is_stopped ≡ true → (result ≡ Err Refusal.Stopped)
+            × StaysStopped (desk_state S.Store self.old) (desk_state S.Store self.new) }
         ensures tells { TellsFailures (tells_store result) self.old.store.calls self.new.store.calls }
         ensures work { self.new.work ≡ self.old.work }
     {

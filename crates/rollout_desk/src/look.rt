@@ -56,7 +56,8 @@ pub(crate) fn look_for_download<S: Alter>(
     module_number: ModuleNo,
     filename: &Filename,
 ) -> Result<Artifact, Refusal>
-    ensures finds { FindsDownload HoldsRecords (state S.Store store.old.calls.conn) (state S.Store store.new.calls.conn) device.now module_number filename.now result }
+    ensures finds { FindsDownload HoldsRecords (state S.Store store.old.calls.conn)
+        (state S.Store store.new.calls.conn) device.now module_number filename.now result }
     ensures tells { TellsFailures (tells_store result) store.old.calls store.new.calls }
 {
     let mut change = match store.begin() {

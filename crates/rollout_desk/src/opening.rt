@@ -23,7 +23,8 @@ use sqlite_disk::Disk;
 use std::alloc::Global;
 
 impl<D: Disk + Drop> Desk<FileStore<D>> {
-    /// Opens the desk that the files hold, or makes a new one where they hold no database, or one that uses no name of a desk. A fault comes with what is left of the files.
+    /// Opens the desk that the files hold, or makes a new one where they hold no database, or one that uses no name of a desk. A fault
+    /// comes with what is left of the files.
     pub fn reopen_over(
         alloc: Global,
         files: Files<D>,
@@ -73,21 +74,25 @@ impl<D: Disk + Drop> Desk<FileStore<D>> {
     }
 }
 
-/// A law: whatever a crash leaves of a desk's files, a desk that is reopened over it with success stands for the list that a file which the crash may leave holds. The old
-/// desk is given up for it, since `sqlite` tells only of a store that is given up how it numbers its tables; its files come back as they are, and commit nothing.
+/// A law: whatever a crash leaves of a desk's files, a desk that is reopened over it with success stands for the list that a file which the
+/// crash may leave holds. The old
+/// desk is given up for it, since `sqlite` tells only of a store that is given up how it numbers its tables; its files come back as they
+/// are, and commit nothing.
 pub fn goes_on_after_crash<D: Disk + Drop, S: Alter>(
     old: Desk<FileStore<D>>,
     new: &Desk<S>,
 ) -> Files<D>
     ensures before { AreClean D.Disk result.log result.db → GoesOnAfterCrash old (desk_state S.Store new.now) }
-    ensures after { AreClean D.Disk result.log result.db → GoesOnOver (outcomes D.Disk result.log result.db) (desk_state over_files old) (desk_state S.Store new.now) }
+    ensures after { AreClean D.Disk result.log result.db → GoesOnOver (outcomes D.Disk result.log result.db) (desk_state over_files old)
+        (desk_state S.Store new.now) }
 {
     let Desk { store, .. } = old;
     store.into_connection().into_store().close()
 }
 
 impl<S: Start> Desk<FileStore<FileFrom<S>>> {
-    /// The same for the file at a path, with its log beside it. A file that another process holds is refused as `Store`. Nothing is left where no file was opened.
+    /// The same for the file at a path, with its log beside it. A file that another process holds is refused as `Store`. Nothing is left
+    /// where no file was opened.
     pub fn reopen_at(
         rt: &HostRuntime,
         path: &str,
@@ -96,7 +101,8 @@ impl<S: Start> Desk<FileStore<FileFrom<S>>> {
     ) -> Result<Desk<FileStore<FileFrom<S>>>, (OpenFault, Option<Leftover<FileFrom<S>>>)>
         ensures reopened { IfOk result (λ desk. ReopensDesk (image_at S.Start) (desk_state over_files desk) approval_if_new) }
         ensures plain { IfOk result (λ desk. BeginsPlain (image_at S.Start) approval_if_new desk.store.calls.conn) }
-        ensures refused { IfErr result (λ e. MatchOption e.1 (IsFailure e.0) (LeavesUnharmed (λ left. left ≡ image_at S.Start) (image_at S.Start) approval_if_new e.0)) }
+        ensures refused { IfErr result (λ e. MatchOption e.1 (IsFailure e.0)
+            (LeavesUnharmed (λ left. left ≡ image_at S.Start) (image_at S.Start) approval_if_new e.0)) }
     {
         match reopen_path(rt, path, start, approval_if_new) {
             Ok(conn) => {
@@ -116,7 +122,8 @@ impl<S: Start> Desk<FileStore<FileFrom<S>>> {
     ) -> Result<Desk<FileStore<FileFrom<S>>>, OpenFault>
         ensures reopened { IfOk result (λ desk. ReopensDesk (image_at S.Start) (desk_state over_files desk) approval_if_new) }
         ensures plain { IfOk result (λ desk. BeginsPlain (image_at S.Start) approval_if_new desk.store.calls.conn) }
-        ensures refused { IfErr result (λ e. IsFailure e ⊎ LeftUnharmed ⟦<FileFrom<S> as Disk>⟧ (λ left. left ≡ image_at S.Start) (image_at S.Start) approval_if_new e) }
+        ensures refused { IfErr result (λ e. IsFailure e ⊎ LeftUnharmed ⟦<FileFrom<S> as Disk>⟧ (λ left. left ≡ image_at S.Start)
+            (image_at S.Start) approval_if_new e) }
     {
         match Desk::reopen_at(rt, path, start, approval_if_new) {
             Ok(desk) => Ok(desk),

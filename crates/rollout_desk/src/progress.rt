@@ -110,7 +110,8 @@ fn has_next(groups: &[GroupRecord]) -> bool
 
 /// Why a rollout can't go on so, if it can't.
 fn refusal_of(going: Going, seen: &SeenRollout, rollout: RolloutView) -> Option<Refusal>
-    ensures { ((h : CommandList) (r : _) (x : RolloutRecord) → IsSeenAt h r seen.now x → rollout ≡ view_of x (last_started x.groups)) → Judges (gone_by going) seen.now result }
+    ensures { ((h : CommandList) (r : _) (x : RolloutRecord) → IsSeenAt h r seen.now x → rollout ≡ view_of x (last_started x.groups))
+        → Judges (gone_by going) seen.now result }
 {
     let word = seen.word();
     match going {

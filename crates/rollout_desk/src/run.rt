@@ -26,7 +26,8 @@ impl<S: Alter> Desk<S> {
             (λ refusal. (refusal ≡ Refusal.NoMemory) × StandsFor (desk_state S.Store self.new) h) }
         ensures once { (h : CommandList) → (desk_state S.Store self.new).is_clean → StandsFor (desk_state S.Store self.old) h
             → IfOk result (λ replies. EndsOnce h (desk_state S.Store self.new) (map request_of requests.now) (map reply_of replies.items)) }
-        ensures stops { MatchResult result (λ replies. Contains (map reply_of replies.items) (Refused StoreFailed) → (desk_state S.Store self.new).is_stopped ≡ true)
+        ensures stops { MatchResult result (λ replies. Contains (map reply_of replies.items) (Refused StoreFailed)
+            → (desk_state S.Store self.new).is_stopped ≡ true)
             (λ refusal. refusal ≢ StoreFailed) }
         ensures stopped { (desk_state S.Store self.old).is_stopped ≡ true
             → (result ≡ Err Refusal.Stopped) × StaysStopped (desk_state S.Store self.old) (desk_state S.Store self.new) }

@@ -6,7 +6,8 @@ ghost use Rattle.rollout_machine.specs.RecordSteps.{view_from_group};
 ghost use Rattle.rollout_machine.specs.StateWords.{number_of_group, size_of_group};
 ghost use Rattle.desk_records.specs.Rollouts.{last_started_group};
 ghost use Rattle.desk_store.specs.Counting.{AddsIn};
-ghost use Rattle.rollout_desk.specs.SeenActions.{MaySee, SeesIn, SeesReport, SeesTarget, action_view_seen, cancel_view_seen, only_of, only_started, report_view_seen, rollout_seen};
+ghost use Rattle.rollout_desk.specs.SeenActions.{MaySee, SeesIn, SeesReport, SeesTarget, action_view_seen, cancel_view_seen, only_of, only_started};
+ghost use Rattle.rollout_desk.specs.SeenActions.{report_view_seen, rollout_seen};
 ghost use Rattle.desk_store.specs.Changing.{FindsIn, FindsLedger, StaysIn};
 
 use crate::entries::one_more;
@@ -99,7 +100,8 @@ fn rollout_view(
     own: &GroupRecord,
     last: Option<GroupRecord>,
 ) -> Result<RolloutView, Fault>
-    ensures { MatchResult result (λ view. (gs : List GroupRecord) → last ≡ last_started_group gs → view ≡ rollout_seen rollout.now own.now gs) (λ e. e ≡ Store) }
+    ensures { MatchResult result (λ view. (gs : List GroupRecord) → last ≡ last_started_group gs → view ≡ rollout_seen rollout.now own.now gs)
+        (λ e. e ≡ Store) }
 {
     let own = group_view(&rollout.plan, own.number, Some(*own))?;
     let last = group_view(&rollout.plan, number_of(last), last)?;

@@ -120,7 +120,8 @@ fn room_left<S: Alter>(change: &mut OpenChange<'_, S>, left: Option<u32>) -> Res
     Ok(TARGET_LIMIT.saturating_sub(count))
 }
 
-/// Puts one row: a new target, or the name, the digest and the tags of the one that is there. Gives how many more targets the desk takes then, where that is known;
+/// Puts one row: a new target, or the name, the digest and the tags of the one that is there. Gives how many more targets the desk takes
+/// then, where that is known;
 /// a new target is refused where it takes no more.
 fn put_row<S: Alter>(
     change: &mut OpenChange<'_, S>,
@@ -147,7 +148,8 @@ fn put_row<S: Alter>(
     }
 }
 
-/// Puts rows one after the other, up to the first one that is refused. Each row's target is read once; the targets are counted at the first new one alone, since
+/// Puts rows one after the other, up to the first one that is refused. Each row's target is read once; the targets are counted at the first
+/// new one alone, since
 /// that takes longer the more there are.
 fn put_rows<S: Alter>(
     change: &mut OpenChange<'_, S>,

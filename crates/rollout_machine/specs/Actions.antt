@@ -3,7 +3,8 @@ use Rattle.std.specs.Prelude.{ℕ, zero, suc, Bool, true, false, ◌&&◌, cond,
 use Rattle.std.specs.Option.{option_or}
 use Rattle.rollout_machine.specs.ByteStrings.{item_numbered}
 use Rattle.rollout_machine.specs.CommandList.{CommandList, Make, ◌▸◌}
-use Rattle.rollout_machine.specs.Commands.{Bytes, DeploymentWord, CancelWord, Succeeded, Failed, Rejected, Noted, ClosedCancel, CanceledCancel, RejectedCancel, NotedCancel, Command, Start, Cancel, Feedback, CancelFeedback, Outcome, Good, Bad, Gone}
+use Rattle.rollout_machine.specs.Commands.{Bytes, DeploymentWord, CancelWord, Succeeded, Failed, Rejected, Noted, ClosedCancel, CanceledCancel}
+use Rattle.rollout_machine.specs.Commands.{RejectedCancel, NotedCancel, Command, Start, Cancel, Feedback, CancelFeedback, Outcome, Good, Bad, Gone}
 use Rattle.rollout_machine.specs.Rollouts.{Rollout, rollout_at, size_of}
 -- an entry of an action's history
 pub use Rattle.rollout_model.specs.declared.feedback.HistoryEntry.{HistoryEntry}
@@ -76,7 +77,8 @@ cancel_standing_said _ = None
 -- the last among the action's cancels and its rejections of one is a cancel
 abbrev pub cancel_stands : CommandList → ℕ → ℕ → Bool
 cancel_stands (Make approval) r j = false
-cancel_stands (h ▸ c) r j = cond (is_on_action h c r j && is_some (cancel_standing_said c)) (elim (cancel_standing_said c) [ None ↦ false | Some b ↦ b ]) (cancel_stands h r j)
+cancel_stands (h ▸ c) r j = cond (is_on_action h c r j && is_some (cancel_standing_said c))
+    (elim (cancel_standing_said c) [ None ↦ false | Some b ↦ b ]) (cancel_stands h r j)
 
 -- the outcome by the first command on the action that gives one
 abbrev pub outcome : CommandList → ℕ → ℕ → Option Outcome

@@ -7,13 +7,21 @@ use Rattle.rollout_machine.specs.Commands.{Bytes, Credential, ModuleLabel, SetLa
 use Rattle.rollout_machine.specs.Filters.{matches}
 use Rattle.target_filter.specs.Profile.{filter_of}
 use Rattle.target_filter.specs.Grammar.{Tree}
-use Rattle.rollout_machine.specs.Objects.{actions_of_rollout, actions_of_target, action_shown, artifact_shown, artifacts_shown, deployment_shown, entry_shown, group_shown, groups_shown, members_in, module_shown, modules_of_action, modules_shown, numbered, page_of, report_of, rollout_shown, rollouts_shown, set_shown, target_shown, targets_shown}
+use Rattle.rollout_machine.specs.Objects.{actions_of_rollout, actions_of_target, action_shown, artifact_shown, artifacts_shown, deployment_shown}
+use Rattle.rollout_machine.specs.Objects.{entry_shown, group_shown, groups_shown, members_in, module_shown, modules_of_action, modules_shown}
+use Rattle.rollout_machine.specs.Objects.{numbered, page_of, report_of, rollout_shown, rollouts_shown, set_shown, target_shown, targets_shown}
 use Rattle.rollout_machine.specs.Offers.{Offer, offer}
 use Rattle.rollout_machine.specs.Records.{ArtifactRecord, GroupRecord, RolloutRecord, ActionRecord, Records, records}
 use Rattle.rollout_model.specs.declared.refusal.Refusal.{Refusal}
 use Rattle.rollout_model.specs.declared.refusal.Refusal.TheVariants.{Unauthorized, NotFound, BadFilter, NoMemory, StoreFailed}
-use Rattle.rollout_machine.specs.Replies.{Reply, Refused, Done, ModuleAdded, ArtifactAdded, SetAdded, TargetsPut, RolloutAdded, PollShown, DeploymentShown, CancelShown, ContentsShown, TargetsShown, TargetShown, ActionsShown, ActionShown, HistoryShown, ModulesShown, ModuleShown, ArtifactsShown, ArtifactShown, SetsShown, SetShown, RolloutsShown, RolloutShown, GroupsShown, GroupShown, ReportShown, ActionsTableShown}
-use Rattle.rollout_machine.specs.Requests.{Page, Query, Poll, ShowDeployment, ShowCancel, Download, ShowTargets, ShowTarget, ShowTargetActions, ShowAction, ShowHistory, ShowModules, ShowModule, ShowArtifacts, ShowArtifact, ShowContents, ShowSets, ShowSet, ShowRollouts, ShowRollout, ShowGroups, ShowGroup, ShowGroupTargets, ShowReport, ShowActionsTable, Do, Ask, Asked, Rejected, Asks}
+use Rattle.rollout_machine.specs.Replies.{Reply, Refused, Done, ModuleAdded, ArtifactAdded, SetAdded, TargetsPut, RolloutAdded, PollShown}
+use Rattle.rollout_machine.specs.Replies.{DeploymentShown, CancelShown, ContentsShown, TargetsShown, TargetShown, ActionsShown, ActionShown}
+use Rattle.rollout_machine.specs.Replies.{HistoryShown, ModulesShown, ModuleShown, ArtifactsShown, ArtifactShown, SetsShown, SetShown, RolloutsShown}
+use Rattle.rollout_machine.specs.Replies.{RolloutShown, GroupsShown, GroupShown, ReportShown, ActionsTableShown}
+use Rattle.rollout_machine.specs.Requests.{Page, Query, Poll, ShowDeployment, ShowCancel, Download, ShowTargets, ShowTarget, ShowTargetActions}
+use Rattle.rollout_machine.specs.Requests.{ShowAction, ShowHistory, ShowModules, ShowModule, ShowArtifacts, ShowArtifact, ShowContents, ShowSets}
+use Rattle.rollout_machine.specs.Requests.{ShowSet, ShowRollouts, ShowRollout, ShowGroups, ShowGroup, ShowGroupTargets, ShowReport, ShowActionsTable}
+use Rattle.rollout_machine.specs.Requests.{Do, Ask, Asked, Rejected, Asks}
 use Rattle.rollout_machine.specs.StateWords.{group_numbered, is_for}
 use Rattle.rollout_machine.specs.Targets.{Target}
 use Rattle.rollout_machine.specs.Verdicts.{is_known, target_of, verdict}
@@ -87,17 +95,20 @@ group_reply x i reply = if_found reply (group_numbered i x.groups)
 -- the answer to a query by the records
 abbrev pub query_reply : Records → Query → Reply
 query_reply rs (Poll device) = for_device rs device (PollShown device.id (offer rs device.id))
-query_reply rs (ShowDeployment device k) = for_device rs device (cond (is_offer_of k false (offer rs device.id)) (DeploymentShown (deployment_shown rs device.id k)) (Refused NotFound))
+query_reply rs (ShowDeployment device k) = for_device rs device
+    (cond (is_offer_of k false (offer rs device.id)) (DeploymentShown (deployment_shown rs device.id k)) (Refused NotFound))
 query_reply rs (ShowCancel device k) = for_device rs device (cond (is_offer_of k true (offer rs device.id)) (CancelShown k) (Refused NotFound))
 query_reply rs (Download device m filename) = for_device rs device (download rs device.id m filename)
 query_reply rs (ShowTargets filter_text page) = targets_reply rs page filter_text
 query_reply rs (ShowTarget t) = if_found (λ (x : Target). TargetShown (target_shown rs x)) (target_of rs t)
 query_reply rs (ShowTargetActions t page) = if_found (λ (x : Target). ActionsShown (page_of page (actions_of_target rs x.id))) (target_of rs t)
 query_reply rs (ShowAction t k) = if_found (λ (a : ActionRecord). ActionShown (action_shown rs k a)) (action_of_target rs t k)
-query_reply rs (ShowHistory t k page) = if_found (λ (a : ActionRecord). HistoryShown (page_of page (numbered entry_shown 1 a.history))) (action_of_target rs t k)
+query_reply rs (ShowHistory t k page) = if_found (λ (a : ActionRecord). HistoryShown (page_of page (numbered entry_shown 1 a.history)))
+    (action_of_target rs t k)
 query_reply rs (ShowModules page) = ModulesShown (page_of page (modules_shown rs))
 query_reply rs (ShowModule k) = if_found (λ (label : ModuleLabel). ModuleShown (module_shown rs k label)) (item_numbered rs.modules k)
-query_reply rs (ShowArtifacts m page) = if_found (λ (label : ModuleLabel). ArtifactsShown (page_of page (artifacts_shown m 1 rs.artifacts))) (item_numbered rs.modules m)
+query_reply rs (ShowArtifacts m page) = if_found (λ (label : ModuleLabel). ArtifactsShown (page_of page (artifacts_shown m 1 rs.artifacts)))
+    (item_numbered rs.modules m)
 query_reply rs (ShowArtifact m k) = if_found (λ (a : ArtifactRecord). ArtifactShown (artifact_shown k a)) (artifact_of_module rs m k)
 query_reply rs (ShowContents m k) = if_found (λ (a : ArtifactRecord). ContentsShown a.contents) (artifact_of_module rs m k)
 query_reply rs (ShowSets page) = SetsShown (page_of page (numbered set_shown 1 rs.sets))
@@ -107,7 +118,8 @@ query_reply rs (ShowRollout r) = if_found (λ (x : RolloutRecord). RolloutShown 
 query_reply rs (ShowGroups r page) = if_found (λ (x : RolloutRecord). GroupsShown (page_of page (groups_shown x x.groups))) (item_numbered rs.rollouts r)
 query_reply rs (ShowGroup r i) = if_found (λ (x : RolloutRecord). group_reply x i (λ g. GroupShown (group_shown x g))) (item_numbered rs.rollouts r)
 query_reply rs (ShowGroupTargets r i page) =
-    if_found (λ (x : RolloutRecord). group_reply x i (λ g. TargetsShown (page_of page (targets_shown rs (targets_of rs (members_in g x.members)))))) (item_numbered rs.rollouts r)
+    if_found (λ (x : RolloutRecord). group_reply x i (λ g. TargetsShown (page_of page (targets_shown rs (targets_of rs (members_in g x.members))))))
+    (item_numbered rs.rollouts r)
 query_reply rs (ShowReport r) = if_found (λ (x : RolloutRecord). ReportShown (report_of x)) (item_numbered rs.rollouts r)
 query_reply rs (ShowActionsTable r) = if_found (λ (x : RolloutRecord). ActionsTableShown (actions_of_rollout rs r)) (item_numbered rs.rollouts r)
 

@@ -1,6 +1,9 @@
 -- The rules that the parts of a command keep: those of the words and numbers, ranges, and the limits of lists.
-use Rattle.rollout_model.specs.Rules.{are_details, is_group_count, is_percentage, is_word, is_filename, is_text, is_value, is_byte, is_digest, is_module_list, is_number, is_tag_list}
-use Rattle.rollout_machine.specs.Commands.{AddArtifact, Cancel, CancelFeedback, RolloutPlan, Start, Command, Attribute, Pause, CreateRollout, SetLabel, PutTargets, Untag, Deny, Approve, AddModule, Feedback, PutAttributes, Tag, Resume, TriggerNext, TargetRow, AddSet, Upload, Bytes, Credential}
+use Rattle.rollout_model.specs.Rules.{are_details, is_group_count, is_percentage, is_word, is_filename, is_text, is_value, is_byte, is_digest}
+use Rattle.rollout_model.specs.Rules.{is_module_list, is_number, is_tag_list}
+use Rattle.rollout_machine.specs.Commands.{AddArtifact, Cancel, CancelFeedback, RolloutPlan, Start, Command, Attribute, Pause, CreateRollout}
+use Rattle.rollout_machine.specs.Commands.{SetLabel, PutTargets, Untag, Deny, Approve, AddModule, Feedback, PutAttributes, Tag, Resume, TriggerNext}
+use Rattle.rollout_machine.specs.Commands.{TargetRow, AddSet, Upload, Bytes, Credential}
 use Rattle.rollout_model.specs.Limits.{artifact_size_limit, attribute_limit}
 use Rattle.std.specs.Prelude.{◌≡◌, ℕ, Bool, true, ◌&&◌, nat_le, List, length, Option, Some, None}
 use Rattle.std.specs.List.{list_all}
@@ -22,14 +25,16 @@ is_digest_or_none None = true
 is_digest_or_none (Some d) = is_digest d
 
 abbrev pub is_upload : Upload → Bool
-is_upload u = is_number u.module_number && (is_filename u.filename && (is_digest_or_none u.expected && (nat_le (length u.contents) artifact_size_limit && list_all is_byte u.contents)))
+is_upload u = is_number u.module_number && (is_filename u.filename
+    && (is_digest_or_none u.expected && (nat_le (length u.contents) artifact_size_limit && list_all is_byte u.contents)))
 
 abbrev pub is_set_label : SetLabel → Bool
 is_set_label s = is_text s.name && (is_text s.version && is_module_list s.modules)
 
 -- the filter is any text: the verdict looks at it
 abbrev pub is_plan : RolloutPlan → Bool
-is_plan plan = is_group_count plan.groups && (is_percentage plan.success && (is_percentage plan.error && (is_text plan.name && (is_number plan.set_number && is_utf8 plan.filter_text))))
+is_plan plan = is_group_count plan.groups && (is_percentage plan.success
+    && (is_percentage plan.error && (is_text plan.name && (is_number plan.set_number && is_utf8 plan.filter_text))))
 
 -- ---- commands. An import has any number of rows and may name a target twice
 abbrev pub is_well_formed : Command → Bool

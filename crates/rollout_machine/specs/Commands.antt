@@ -12,7 +12,8 @@ pub use Rattle.rollout_model.specs.declared.feedback.NoteWord.TheVariants.{Proce
 pub use Rattle.rollout_model.specs.declared.feedback.DeploymentWord.{DeploymentWord}
 pub use Rattle.rollout_model.specs.declared.feedback.DeploymentWord.TheVariants.{Succeeded, Failed, Rejected, Noted}
 pub use Rattle.rollout_model.specs.declared.feedback.CancelWord.{CancelWord}
-pub use Rattle.rollout_model.specs.declared.feedback.CancelWord.TheVariants.{Closed as ClosedCancel, Canceled as CanceledCancel, Rejected as RejectedCancel, Noted as NotedCancel}
+pub use Rattle.rollout_model.specs.declared.feedback.CancelWord.TheVariants.{Closed as ClosedCancel, Canceled as CanceledCancel}
+pub use Rattle.rollout_model.specs.declared.feedback.CancelWord.TheVariants.{Rejected as RejectedCancel, Noted as NotedCancel}
 pub use Rattle.rollout_model.specs.declared.feedback.Report.{Report}
 pub use Rattle.rollout_machine.specs.declared.outcome.Outcome.{Outcome}
 pub use Rattle.rollout_machine.specs.declared.outcome.Outcome.TheVariants.{Good, Bad, Gone}

@@ -36,11 +36,27 @@ abbrev pub stored_group : GroupRecord → StoredGroup
 stored_group g = record { number = g.number; bounds = g.bounds; started = g.started }
 
 abbrev pub stored_rollout : RolloutRecord → StoredRollout
-stored_rollout x = record { number = x.number; plan = x.plan; members = x.members; approval = x.approval; started = x.started; paused = x.paused; groups = map stored_group x.groups }
+stored_rollout x = record {
+  number = x.number;
+  plan = x.plan;
+  members = x.members;
+  approval = x.approval;
+  started = x.started;
+  paused = x.paused;
+  groups = map stored_group x.groups;
+}
 
 -- the records without the counts of groups. They alone are what a desk of version 0 holds
 abbrev pub stored : Records → StoredRecords
-stored rs = record { approval = rs.approval; modules = rs.modules; artifacts = rs.artifacts; sets = rs.sets; targets = rs.targets; rollouts = map stored_rollout rs.rollouts; actions = rs.actions }
+stored rs = record {
+  approval = rs.approval;
+  modules = rs.modules;
+  artifacts = rs.artifacts;
+  sets = rs.sets;
+  targets = rs.targets;
+  rollouts = map stored_rollout rs.rollouts;
+  actions = rs.actions;
+}
 
 -- ---- the counts, found again in the actions
 
@@ -60,11 +76,27 @@ counted_group actions r g = record {
 }
 
 abbrev pub counted_rollout : List ActionRecord → StoredRollout → RolloutRecord
-counted_rollout actions x = record { number = x.number; plan = x.plan; members = x.members; approval = x.approval; started = x.started; paused = x.paused; groups = map (counted_group actions x.number) x.groups }
+counted_rollout actions x = record {
+  number = x.number;
+  plan = x.plan;
+  members = x.members;
+  approval = x.approval;
+  started = x.started;
+  paused = x.paused;
+  groups = map (counted_group actions x.number) x.groups;
+}
 
 -- the records by the stored kinds alone
 abbrev pub recounted : StoredRecords → Records
-recounted ss = record { approval = ss.approval; modules = ss.modules; artifacts = ss.artifacts; sets = ss.sets; targets = ss.targets; rollouts = map (counted_rollout ss.actions) ss.rollouts; actions = ss.actions }
+recounted ss = record {
+  approval = ss.approval;
+  modules = ss.modules;
+  artifacts = ss.artifacts;
+  sets = ss.sets;
+  targets = ss.targets;
+  rollouts = map (counted_rollout ss.actions) ss.rollouts;
+  actions = ss.actions;
+}
 
 -- ---- derived kinds: counts of groups, numbers of notes by action, offers by target
 

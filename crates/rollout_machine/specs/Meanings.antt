@@ -2,7 +2,8 @@
 use Rattle.rollout_machine.specs.Actions.{is_canceling, is_on_action, ActionPlace, outcome, action_of, action_place, cancel_standing_said}
 use Rattle.rollout_machine.specs.ByteStrings.{item_numbered, same_bytes, contains_word}
 use Rattle.rollout_machine.specs.CommandList.{Make, followed_by, ◌▸◌, CommandList}
-use Rattle.rollout_machine.specs.Commands.{CanceledCancel, Bad, Feedback, Start, CancelFeedback, Resume, Outcome, Pause, Gone, TriggerNext, Command, TargetRow, Failed, ClosedCancel, PutTargets, Succeeded, Good, Bytes, Cancel, Attribute, PutAttributes}
+use Rattle.rollout_machine.specs.Commands.{CanceledCancel, Bad, Feedback, Start, CancelFeedback, Resume, Outcome, Pause, Gone, TriggerNext, Command}
+use Rattle.rollout_machine.specs.Commands.{TargetRow, Failed, ClosedCancel, PutTargets, Succeeded, Good, Bytes, Cancel, Attribute, PutAttributes}
 use Rattle.rollout_machine.specs.Counts.{success_holds, error_holds}
 use Rattle.rollout_machine.specs.Effects.{IsInGroup}
 use Rattle.rollout_machine.specs.Offers.{Offer, offer}
@@ -131,7 +132,8 @@ pub record LastIsCancel (h : CommandList) (r j : ℕ) : Type 0 where
   pub last : NoneSpeaks (before ▸ Cancel target action force) rest r j
 
 abbrev pub CancelingIsLast : Type 0
-CancelingIsLast = (h : CommandList) (r j : ℕ) → (is_canceling h r j ≡ true → (outcome h r j ≡ None) × LastIsCancel h r j) × ((outcome h r j ≡ None) × LastIsCancel h r j → is_canceling h r j ≡ true)
+CancelingIsLast = (h : CommandList) (r j : ℕ) → (is_canceling h r j ≡ true → (outcome h r j ≡ None) × LastIsCancel h r j)
+    × ((outcome h r j ≡ None) × LastIsCancel h r j → is_canceling h r j ≡ true)
 
 -- ---- a pause begins: by the command, or by a group whose error condition begins to hold
 pub record ErrorBegins (x : Rollout) (r : ℕ) (before : CommandList) (c : Command) : Type 0 where

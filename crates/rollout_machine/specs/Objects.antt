@@ -4,7 +4,8 @@ use Rattle.rollout_machine.specs.Actions.{HistoryEntry}
 use Rattle.rollout_machine.specs.ByteStrings.{item_numbered}
 use Rattle.rollout_machine.specs.Commands.{Bytes, ModuleLabel, SetLabel}
 use Rattle.rollout_machine.specs.Records.{ArtifactRecord, GroupRecord, RolloutRecord, ActionRecord, Records}
-use Rattle.rollout_machine.specs.Replies.{Module, Artifact, DistributionSet, ShownTarget, ShownRollout, ShownGroup, ShownAction, ShownEntry, Chunk, Deployment, PageOf, Report}
+use Rattle.rollout_machine.specs.Replies.{Module, Artifact, DistributionSet, ShownTarget, ShownRollout, ShownGroup, ShownAction, ShownEntry, Chunk}
+use Rattle.rollout_machine.specs.Replies.{Deployment, PageOf, Report}
 use Rattle.rollout_machine.specs.Requests.{Page}
 use Rattle.rollout_machine.specs.StateWords.{action_word, group_number_of, group_word, is_for, member_at, rollout_word, size_of_group, target_word}
 use Rattle.rollout_machine.specs.Targets.{Target}

@@ -44,7 +44,8 @@ abbrev pub next_started : Rollout → ℕ → ℕ → (CommandList → Bool) →
 next_started x r i earlier (Make approval) = false
 next_started x r i earlier (h ▸ c) =
     next_started x r i earlier h
-    || (earlier (h ▸ c) && ((not (is_paused x r (h ▸ c)) && success_holds x r i (h ▸ c)) || (is_trigger_of r c && (earlier h && not (next_started x r i earlier h)))))
+    || (earlier (h ▸ c) && ((not (is_paused x r (h ▸ c)) && success_holds x r i (h ▸ c))
+    || (is_trigger_of r c && (earlier h && not (next_started x r i earlier h)))))
 
 -- group i of the rollout is started. There are no groups but 1 to the plan's number
 abbrev pub is_group_started : Rollout → ℕ → ℕ → CommandList → Bool

@@ -31,7 +31,8 @@ pub record StartsGroup (x : Rollout) (r i : ℕ) (h : CommandList) (c : Command)
 
 -- a command starts at most one group, of all groups of all rollouts
 abbrev pub OneGroupStarts : Type 0
-OneGroupStarts = (h : CommandList) (c : Command) (r i q j : ℕ) (x y : Rollout) → IsValid (h ▸ c) → rollout_at h r ≡ Some x → rollout_at h q ≡ Some y → StartsGroup x r i h c → StartsGroup y q j h c → (r ≡ q) × (i ≡ j)
+OneGroupStarts = (h : CommandList) (c : Command) (r i q j : ℕ) (x y : Rollout) → IsValid (h ▸ c) → rollout_at h r ≡ Some x → rollout_at h q ≡ Some y
+    → StartsGroup x r i h c → StartsGroup y q j h c → (r ≡ q) × (i ≡ j)
 
 -- the rollout that a command is on, itself or by one of its actions
 abbrev pub rollout_of : CommandList → Command → Option ℕ
@@ -45,11 +46,13 @@ rollout_of h c = option_map (λ (p : ActionPlace). p.rollout) (action_of h c)
 
 -- a command leaves all rollouts as they are but the one that it is on: their groups, counts, pauses and approvals
 abbrev pub OthersStay : Type 0
-OthersStay = (h : CommandList) (c : Command) (r : ℕ) (x : Rollout) → IsValid (h ▸ c) → rollout_at h r ≡ Some x → rollout_of h c ≢ Some r → rollout_in (h ▸ c) r x ≡ rollout_in h r x
+OthersStay = (h : CommandList) (c : Command) (r : ℕ) (x : Rollout) → IsValid (h ▸ c) → rollout_at h r ≡ Some x → rollout_of h c ≢ Some r
+    → rollout_in (h ▸ c) r x ≡ rollout_in h r x
 
 -- after a command no group is left to start: behind a started one with success the next is started, unless the rollout is paused
 abbrev pub NoGroupIsLeft : Type 0
-NoGroupIsLeft = (h : CommandList) (r i : ℕ) (x : Rollout) → 1 ≤ i → i < x.plan.groups → is_group_started x r i h ≡ true → is_paused x r h ≡ false → success_holds x r i h ≡ true → is_group_started x r (suc i) h ≡ true
+NoGroupIsLeft = (h : CommandList) (r i : ℕ) (x : Rollout) → 1 ≤ i → i < x.plan.groups → is_group_started x r i h ≡ true → is_paused x r h ≡ false
+    → success_holds x r i h ≡ true → is_group_started x r (suc i) h ≡ true
 
 -- ---- offers
 
@@ -62,7 +65,8 @@ named_action _ = None
 
 -- it is open, of a device's member, and its group is started
 abbrev pub NamedIsOfferable : Type 0
-NamedIsOfferable = (h : CommandList) (query : Query) (k : ℕ) → IsValid h → named_action (answer h (Asks (Ask query))).reply ≡ Some k → (t : Bytes) × (p : ActionPlace) × IsOfferable h t k p
+NamedIsOfferable = (h : CommandList) (query : Query) (k : ℕ) → IsValid h → named_action (answer h (Asks (Ask query))).reply ≡ Some k → (t : Bytes)
+    × (p : ActionPlace) × IsOfferable h t k p
 
 -- the artifact with these contents is of a module of the set that the target is offered as a deployment
 pub record IsDownloadable (h : CommandList) (t : Bytes) (m : ℕ) (filename contents : Bytes) : Type 0 where
@@ -75,7 +79,8 @@ pub record IsDownloadable (h : CommandList) (t : Bytes) (m : ℕ) (filename cont
   pub contents_are : artifact.contents ≡ contents
 
 abbrev pub DownloadsAreOffered : Type 0
-DownloadsAreOffered = (h : CommandList) (device : Credential) (m : ℕ) (filename contents : Bytes) → (answer h (Asks (Ask (Download device m filename)))).reply ≡ ContentsShown contents → IsDownloadable h device.id m filename contents
+DownloadsAreOffered = (h : CommandList) (device : Credential) (m : ℕ) (filename contents : Bytes)
+    → (answer h (Asks (Ask (Download device m filename)))).reply ≡ ContentsShown contents → IsDownloadable h device.id m filename contents
 
 -- ---- derived kinds
 
@@ -116,7 +121,8 @@ pub record BecomesOfferable (h : CommandList) (c : Command) (t : Bytes) (k : ℕ
 -- what can be offered to a target after a command: what could be before it and got no outcome, and its action in the group that the command starts
 abbrev pub OffersFollow : Type 0
 OffersFollow = (h : CommandList) (c : Command) (t : Bytes) (k : ℕ) (p : ActionPlace) → IsValid (h ▸ c)
-    → (IsOfferable (h ▸ c) t k p → StaysOfferable h c t k p ⊎ BecomesOfferable h c t k p) × (StaysOfferable h c t k p ⊎ BecomesOfferable h c t k p → IsOfferable (h ▸ c) t k p)
+    → (IsOfferable (h ▸ c) t k p → StaysOfferable h c t k p ⊎ BecomesOfferable h c t k p)
+    × (StaysOfferable h c t k p ⊎ BecomesOfferable h c t k p → IsOfferable (h ▸ c) t k p)
 
 -- an action has as many notes more as its feedback adds, and a closed one none
 abbrev pub NotesGrow : Type 0

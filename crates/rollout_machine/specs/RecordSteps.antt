@@ -3,7 +3,9 @@ use Rattle.std.specs.Prelude.{ℕ, suc, ◌+◌, Bool, true, false, ◌&&◌, �
 use Rattle.std.specs.Option.{option_or, unwrap_or}
 use Rattle.rollout_machine.specs.Actions.{ActionPlace, places_from, outcome_given, cancel_standing_said, entries_of}
 use Rattle.rollout_machine.specs.ByteStrings.{item_numbered, same_bytes, bytes_below, with_word, without_word, sorted_words}
-use Rattle.rollout_machine.specs.Commands.{Bytes, TargetRow, RolloutPlan, Command, AddModule, AddArtifact, AddSet, PutTargets, Tag, Untag, PutAttributes, CreateRollout, Approve, Deny, Start, Pause, Resume, TriggerNext, Cancel, Feedback, CancelFeedback, Outcome, Good, Bad, Gone}
+use Rattle.rollout_machine.specs.Commands.{Bytes, TargetRow, RolloutPlan, Command, AddModule, AddArtifact, AddSet, PutTargets, Tag, Untag}
+use Rattle.rollout_machine.specs.Commands.{PutAttributes, CreateRollout, Approve, Deny, Start, Pause, Resume, TriggerNext, Cancel, Feedback}
+use Rattle.rollout_machine.specs.Commands.{CancelFeedback, Outcome, Good, Bad, Gone}
 use Rattle.rollout_machine.specs.Counts.{is_outcome}
 use Rattle.rollout_machine.specs.Effects.{feedback_pauses, good_after, starts_next, next_if}
 use Rattle.target_filter.specs.Profile.{filter_of}
@@ -22,7 +24,8 @@ new_target row = record { id = row.id; name = row.name; digest = row.digest; tag
 
 abbrev pub put_target : TargetRow → List Target → List Target
 put_target row [] = new_target row ∷ []
-put_target row (t ∷ ts) = cond (same_bytes row.id t.id) (record (new_target row) { attributes = t.attributes } ∷ ts) (cond (bytes_below row.id t.id) (new_target row ∷ t ∷ ts) (t ∷ put_target row ts))
+put_target row (t ∷ ts) = cond (same_bytes row.id t.id) (record (new_target row) { attributes = t.attributes } ∷ ts)
+    (cond (bytes_below row.id t.id) (new_target row ∷ t ∷ ts) (t ∷ put_target row ts))
 
 abbrev pub put_targets : List TargetRow → List Target → List Target
 put_targets [] ts = ts
@@ -150,11 +153,20 @@ step_records rs (AddSet label) = record rs { sets = rs.sets ++ label ∷ [] }
 step_records rs (PutTargets rows) = record rs { targets = put_targets rows rs.targets }
 step_records rs (Tag u x) = record rs { targets = change_target u (λ (t : Target). record t { tags = with_word x t.tags }) rs.targets }
 step_records rs (Untag u x) = record rs { targets = change_target u (λ (t : Target). record t { tags = without_word x t.tags }) rs.targets }
-step_records rs (PutAttributes device attributes) = record rs { targets = change_target device.id (λ (t : Target). record t { attributes = with_attributes attributes t.attributes }) rs.targets }
-step_records rs (CreateRollout plan) = record rs { rollouts = rs.rollouts ++ new_rollout rs.approval (suc (length rs.rollouts)) plan (chosen (filter_of plan.filter_text) rs.targets) ∷ [] }
+step_records rs (PutAttributes device attributes) = record rs {
+  targets = change_target device.id
+      (λ (t : Target). record t { attributes = with_attributes attributes t.attributes }) rs.targets;
+}
+step_records rs (CreateRollout plan) = record rs {
+  rollouts = rs.rollouts
+      ++ new_rollout rs.approval (suc (length rs.rollouts)) plan (chosen (filter_of plan.filter_text) rs.targets) ∷ [];
+}
 step_records rs (Approve r) = record rs { rollouts = change_rollout r (λ (x : RolloutRecord). record x { approval = Given }) rs.rollouts }
 step_records rs (Deny r) = record rs { rollouts = change_rollout r (λ (x : RolloutRecord). record x { approval = Denied }) rs.rollouts }
-step_records rs (Start r) = record rs { rollouts = change_rollout r begin_rollout rs.rollouts; actions = rs.actions ++ new_actions (item_numbered rs.rollouts r) }
+step_records rs (Start r) = record rs {
+  rollouts = change_rollout r begin_rollout rs.rollouts;
+  actions = rs.actions ++ new_actions (item_numbered rs.rollouts r);
+}
 step_records rs (Pause r) = record rs { rollouts = change_rollout r (λ (x : RolloutRecord). record x { paused = true }) rs.rollouts }
 step_records rs (Resume r) = record rs { rollouts = change_rollout r resumed rs.rollouts }
 step_records rs (TriggerNext r) = record rs { rollouts = change_rollout r triggered rs.rollouts }

@@ -3,7 +3,8 @@ use Rattle.std.specs.Prelude.{ℕ, suc, Bool, true, false, cond, nat_eq, List, [
 use Rattle.std.specs.Option.{option_or}
 use Rattle.rollout_machine.specs.Actions.{ActionPlace, action_places, HistoryEntry, outcome, is_canceling, history}
 use Rattle.rollout_machine.specs.CommandList.{CommandList, Make, ◌▸◌}
-use Rattle.rollout_machine.specs.Commands.{Bytes, ModuleLabel, SetLabel, Upload, RolloutPlan, Command, AddModule, AddArtifact, AddSet, Approve, Deny, Outcome, Good, Bad, Gone}
+use Rattle.rollout_machine.specs.Commands.{Bytes, ModuleLabel, SetLabel, Upload, RolloutPlan, Command, AddModule, AddArtifact, AddSet, Approve, Deny}
+use Rattle.rollout_machine.specs.Commands.{Outcome, Good, Bad, Gone}
 use Rattle.rollout_machine.specs.Counts.{tally}
 use Rattle.rollout_machine.specs.Digests.{digest_of}
 use Rattle.rollout_machine.specs.Progress.{is_paused, is_group_started, is_rollout_started}
@@ -49,7 +50,13 @@ modules (Make approval) = []
 modules (h ▸ c) = modules h ++ added_modules c
 
 abbrev pub artifact_from : Upload → ArtifactRecord
-artifact_from u = record { module_number = u.module_number; filename = u.filename; size = length u.contents; digest = digest_of u.contents; contents = u.contents }
+artifact_from u = record {
+  module_number = u.module_number;
+  filename = u.filename;
+  size = length u.contents;
+  digest = digest_of u.contents;
+  contents = u.contents;
+}
 
 abbrev pub added_artifacts : Command → List ArtifactRecord
 added_artifacts (AddArtifact upload) = artifact_from upload ∷ []

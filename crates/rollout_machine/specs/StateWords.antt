@@ -9,11 +9,16 @@ use Rattle.rollout_machine.specs.Groups.{size_of_bounds, holds_position}
 use Rattle.rollout_machine.specs.Records.{Approval, Waiting, Denied, Given, GroupRecord, RolloutRecord, ActionRecord, Records}
 use Rattle.rollout_machine.specs.Rollouts.{error_at}
 pub use Rattle.rollout_model.specs.declared.rollout_word.RolloutWord.{RolloutWord}
-pub use Rattle.rollout_model.specs.declared.rollout_word.RolloutWord.TheVariants.{ApprovalDenied, WaitingForApproval, Ready as ReadyRollout, Finished as FinishedRollout, Paused as PausedRollout, Running as RunningRollout}
+pub use Rattle.rollout_model.specs.declared.rollout_word.RolloutWord.TheVariants.{ApprovalDenied, WaitingForApproval, Ready as ReadyRollout}
+pub use Rattle.rollout_model.specs.declared.rollout_word.RolloutWord.TheVariants.{Finished as FinishedRollout, Paused as PausedRollout}
+pub use Rattle.rollout_model.specs.declared.rollout_word.RolloutWord.TheVariants.{Running as RunningRollout}
 pub use Rattle.rollout_model.specs.declared.group_word.GroupWord.{GroupWord}
-pub use Rattle.rollout_model.specs.declared.group_word.GroupWord.TheVariants.{Ready as ReadyGroup, Scheduled as ScheduledGroup, Finished as FinishedGroup, Error as ErrorGroup, Running as RunningGroup}
+pub use Rattle.rollout_model.specs.declared.group_word.GroupWord.TheVariants.{Ready as ReadyGroup, Scheduled as ScheduledGroup}
+pub use Rattle.rollout_model.specs.declared.group_word.GroupWord.TheVariants.{Finished as FinishedGroup, Error as ErrorGroup, Running as RunningGroup}
 pub use Rattle.rollout_model.specs.declared.action_word.ActionWord.{ActionWord}
-pub use Rattle.rollout_model.specs.declared.action_word.ActionWord.TheVariants.{Finished as FinishedAction, Error as ErrorAction, Canceled as CanceledAction, Scheduled as ScheduledAction, Canceling as CancelingAction, Running as RunningAction}
+pub use Rattle.rollout_model.specs.declared.action_word.ActionWord.TheVariants.{Finished as FinishedAction, Error as ErrorAction}
+pub use Rattle.rollout_model.specs.declared.action_word.ActionWord.TheVariants.{Canceled as CanceledAction, Scheduled as ScheduledAction}
+pub use Rattle.rollout_model.specs.declared.action_word.ActionWord.TheVariants.{Canceling as CancelingAction, Running as RunningAction}
 pub use Rattle.rollout_model.specs.declared.target_word.TargetWord.{TargetWord}
 pub use Rattle.rollout_model.specs.declared.target_word.TargetWord.TheVariants.{Unknown, Pending, InSync, Error as InError}
 
@@ -37,7 +42,8 @@ rollout_word x = word_from x.approval x.started (is_finished x) x.paused
 
 abbrev pub group_word : RolloutRecord → GroupRecord → GroupWord
 group_word x g =
-    cond (not x.started) ReadyGroup (cond (not g.started) ScheduledGroup (cond (all_final g) FinishedGroup (cond (reaches g.bad (size_of_group g) (error_at x.plan g.number)) ErrorGroup RunningGroup)))
+    cond (not x.started) ReadyGroup (cond (not g.started) ScheduledGroup
+    (cond (all_final g) FinishedGroup (cond (reaches g.bad (size_of_group g) (error_at x.plan g.number)) ErrorGroup RunningGroup)))
 
 abbrev pub group_numbered : ℕ → List GroupRecord → Option GroupRecord
 group_numbered i gs = find (λ (g : GroupRecord). nat_eq g.number i) gs

@@ -1,17 +1,22 @@
 -- The verdict on a command: the first test of its row that holds.
-use Rattle.std.specs.Prelude.{ℕ, Bool, true, false, ◌&&◌, ◌||◌, not, cond, nat_eq, nat_lt, nat_le, List, [], ◌∷◌, ◌++◌, map, filter, length, Option, Some, None, is_none, is_some}
+use Rattle.std.specs.Prelude.{ℕ, Bool, true, false, ◌&&◌, ◌||◌, not, cond, nat_eq, nat_lt, nat_le, List, [], ◌∷◌, ◌++◌, map, filter, length, Option}
+use Rattle.std.specs.Prelude.{Some, None, is_none, is_some}
 use Rattle.std.specs.List.{list_any, find}
 use Rattle.rollout_machine.specs.Actions.{HistoryEntry, DeploymentEntry, CancelEntry, outcome_of_deployment, outcome_of_cancel}
 use Rattle.rollout_machine.specs.ByteStrings.{item_numbered, same_bytes, contains_word, with_words}
 use Rattle.rollout_machine.specs.CommandList.{CommandList}
-use Rattle.rollout_machine.specs.Commands.{Bytes, Credential, TargetRow, Attribute, ModuleLabel, SetLabel, Upload, RolloutPlan, NotedCancel, Command, AddModule, AddArtifact, AddSet, PutTargets, Tag, Untag, PutAttributes, CreateRollout, Approve, Deny, Start, Pause, Resume, TriggerNext, Cancel, Feedback, CancelFeedback, Outcome}
+use Rattle.rollout_machine.specs.Commands.{Bytes, Credential, TargetRow, Attribute, ModuleLabel, SetLabel, Upload, RolloutPlan, NotedCancel, Command}
+use Rattle.rollout_machine.specs.Commands.{AddModule, AddArtifact, AddSet, PutTargets, Tag, Untag, PutAttributes, CreateRollout, Approve, Deny, Start}
+use Rattle.rollout_machine.specs.Commands.{Pause, Resume, TriggerNext, Cancel, Feedback, CancelFeedback, Outcome}
 use Rattle.rollout_machine.specs.Counts.{is_outcome}
 use Rattle.rollout_machine.specs.Digests.{digest_of}
 use Rattle.target_filter.specs.Profile.{filter_of}
-use Rattle.rollout_model.specs.Limits.{rollout_limit, module_limit, set_limit, module_artifact_limit, artifact_limit, target_limit, tag_limit, attribute_limit, note_limit}
+use Rattle.rollout_model.specs.Limits.{rollout_limit, module_limit, set_limit, module_artifact_limit, artifact_limit, target_limit, tag_limit}
+use Rattle.rollout_model.specs.Limits.{attribute_limit, note_limit}
 use Rattle.rollout_machine.specs.Records.{ArtifactRecord, GroupRecord, RolloutRecord, ActionRecord, Records, records}
 use Rattle.rollout_model.specs.declared.refusal.Refusal.{Refusal}
-use Rattle.rollout_model.specs.declared.refusal.Refusal.TheVariants.{Unauthorized, NotFound, Exists, Locked, WrongState, ClosedAction, Quota, BadFilter, TooFewTargets, WrongDigest}
+use Rattle.rollout_model.specs.declared.refusal.Refusal.TheVariants.{Unauthorized, NotFound, Exists, Locked, WrongState, ClosedAction, Quota}
+use Rattle.rollout_model.specs.declared.refusal.Refusal.TheVariants.{BadFilter, TooFewTargets, WrongDigest}
 use Rattle.rollout_machine.specs.Rollouts.{chosen}
 use Rattle.rollout_machine.specs.StateWords.{rollout_word, has_started, is_for, WaitingForApproval, ReadyRollout, PausedRollout, RunningRollout, RolloutWord}
 use Rattle.rollout_machine.specs.Targets.{Target}
@@ -106,7 +111,11 @@ verdict_row rs (AddArtifact u) =
     (is_none (item_numbered rs.modules u.module_number), NotFound)
     ∷ (is_named_by_set rs.sets u.module_number, Locked)
     ∷ (list_any (λ (v : ArtifactRecord). nat_eq v.module_number u.module_number && same_bytes v.filename u.filename) rs.artifacts, Exists)
-    ∷ (nat_le module_artifact_limit (length (filter (λ (v : ArtifactRecord). nat_eq v.module_number u.module_number) rs.artifacts)) || nat_le artifact_limit (length rs.artifacts), Quota)
+    ∷ (
+      nat_le module_artifact_limit (length (filter (λ (v : ArtifactRecord). nat_eq v.module_number u.module_number) rs.artifacts))
+          || nat_le artifact_limit (length rs.artifacts),
+      Quota,
+    )
     ∷ (wrong_digest u, WrongDigest) ∷ []
 verdict_row rs (AddSet s) =
     (list_any (λ m. is_none (item_numbered rs.modules m)) s.modules, NotFound)
@@ -115,7 +124,11 @@ verdict_row rs (AddSet s) =
 verdict_row rs (PutTargets rows) =
     (nat_lt target_limit (length (with_words (map (λ (row : TargetRow). row.id) rows) (map (λ (t : Target). t.id) rs.targets))), Quota) ∷ []
 verdict_row rs (Tag t x) =
-    (is_none (target_of rs t), NotFound) ∷ (not (contains_word x (tags_of (target_of rs t))) && nat_le tag_limit (length (tags_of (target_of rs t))), Quota) ∷ []
+    (is_none (target_of rs t), NotFound) ∷ (
+      not (contains_word x (tags_of (target_of rs t)))
+          && nat_le tag_limit (length (tags_of (target_of rs t))),
+      Quota,
+    ) ∷ []
 verdict_row rs (Untag t x) = (is_none (target_of rs t), NotFound) ∷ []
 verdict_row rs (PutAttributes device attributes) =
     (not (is_known rs device), Unauthorized)
@@ -134,14 +147,29 @@ verdict_row rs (Cancel t k force) =
 verdict_row rs (Feedback report) =
     (not (is_known rs report.credential), Unauthorized)
     ∷ (not (is_device_action rs report.credential.id (item_numbered rs.actions report.action)), NotFound)
-    ∷ (on_action (λ a. is_some a.outcome && not (same_outcome (outcome_of_deployment report.word) a.outcome)) (item_numbered rs.actions report.action), ClosedAction)
-    ∷ (on_action (λ a. is_none a.outcome && (is_note (DeploymentEntry report.word report.details) && nat_le note_limit (notes_of a))) (item_numbered rs.actions report.action), Quota) ∷ []
+    ∷ (
+      on_action (λ a. is_some a.outcome && not (same_outcome (outcome_of_deployment report.word) a.outcome))
+          (item_numbered rs.actions report.action),
+      ClosedAction,
+    )
+    ∷ (
+      on_action (λ a. is_none a.outcome && (is_note (DeploymentEntry report.word report.details) && nat_le note_limit (notes_of a)))
+          (item_numbered rs.actions report.action),
+      Quota,
+    ) ∷ []
 verdict_row rs (CancelFeedback report) =
     (not (is_known rs report.credential), Unauthorized)
     ∷ (not (is_device_action rs report.credential.id (item_numbered rs.actions report.action)), NotFound)
-    ∷ (on_action (λ a. is_some a.outcome && not (same_outcome (outcome_of_cancel report.word) a.outcome)) (item_numbered rs.actions report.action), ClosedAction)
+    ∷ (
+      on_action (λ a. is_some a.outcome && not (same_outcome (outcome_of_cancel report.word) a.outcome)) (item_numbered rs.actions report.action),
+      ClosedAction,
+    )
     ∷ (on_action (λ a. is_none a.outcome && not a.canceling) (item_numbered rs.actions report.action), WrongState)
-    ∷ (on_action (λ a. is_none a.outcome && (is_note (CancelEntry report.word report.details) && nat_le note_limit (notes_of a))) (item_numbered rs.actions report.action), Quota) ∷ []
+    ∷ (
+      on_action (λ a. is_none a.outcome && (is_note (CancelEntry report.word report.details) && nat_le note_limit (notes_of a)))
+          (item_numbered rs.actions report.action),
+      Quota,
+    ) ∷ []
 
 -- the first refusal of the row that applies
 abbrev pub check : Records → Command → Option Refusal

@@ -13,9 +13,16 @@ use Rattle.rollout_model.specs.declared.request.Reply.TheVariants as shown
 use Rattle.rollout_model.specs.declared.rollout.Chunk.{Chunk as RustChunk}
 use Rattle.rollout_model.specs.declared.rollout.Deployment.{Deployment as RustDeployment}
 use Rattle.rollout_model.specs.declared.rollout.RolloutReport.{RolloutReport}
-use Rattle.rollout_machine.specs.Commands.{Command, AddModule, AddArtifact, AddSet, PutTargets, Tag, Untag, PutAttributes, CreateRollout, Approve, Deny, Start, Pause, Resume, TriggerNext, Cancel, Feedback, CancelFeedback}
-use Rattle.rollout_machine.specs.Replies.{PageOf, ShownTarget, Chunk, Deployment, Report, Reply, Done, ModuleAdded, ModulesShown, ModuleShown, ArtifactAdded, ArtifactsShown, ArtifactShown, ContentsShown, SetAdded, SetsShown, SetShown, TargetsPut, TargetsShown, TargetShown, RolloutAdded, PollShown, DeploymentShown, CancelShown, ActionsShown, ActionShown, HistoryShown, RolloutsShown, RolloutShown, GroupsShown, GroupShown, ReportShown, ActionsTableShown, Refused}
-use Rattle.rollout_machine.specs.Requests.{Query, ShowModules, ShowModule, ShowArtifacts, ShowArtifact, ShowContents, ShowSets, ShowSet, ShowTargets, ShowTarget, Poll, ShowDeployment, ShowCancel, Download, ShowTargetActions, ShowAction, ShowHistory, ShowRollouts, ShowRollout, ShowGroups, ShowGroup, ShowGroupTargets, ShowReport, ShowActionsTable, Request, Do, Ask}
+use Rattle.rollout_machine.specs.Commands.{Command, AddModule, AddArtifact, AddSet, PutTargets, Tag, Untag, PutAttributes, CreateRollout, Approve}
+use Rattle.rollout_machine.specs.Commands.{Deny, Start, Pause, Resume, TriggerNext, Cancel, Feedback, CancelFeedback}
+use Rattle.rollout_machine.specs.Replies.{PageOf, ShownTarget, Chunk, Deployment, Report, Reply, Done, ModuleAdded, ModulesShown, ModuleShown}
+use Rattle.rollout_machine.specs.Replies.{ArtifactAdded, ArtifactsShown, ArtifactShown, ContentsShown, SetAdded, SetsShown, SetShown, TargetsPut}
+use Rattle.rollout_machine.specs.Replies.{TargetsShown, TargetShown, RolloutAdded, PollShown, DeploymentShown, CancelShown, ActionsShown, ActionShown}
+use Rattle.rollout_machine.specs.Replies.{HistoryShown, RolloutsShown, RolloutShown, GroupsShown, GroupShown, ReportShown, ActionsTableShown, Refused}
+use Rattle.rollout_machine.specs.Requests.{Query, ShowModules, ShowModule, ShowArtifacts, ShowArtifact, ShowContents, ShowSets, ShowSet, ShowTargets}
+use Rattle.rollout_machine.specs.Requests.{ShowTarget, Poll, ShowDeployment, ShowCancel, Download, ShowTargetActions, ShowAction, ShowHistory}
+use Rattle.rollout_machine.specs.Requests.{ShowRollouts, ShowRollout, ShowGroups, ShowGroup, ShowGroupTargets, ShowReport, ShowActionsTable, Request}
+use Rattle.rollout_machine.specs.Requests.{Do, Ask}
 
 abbrev pub command_of : RustCommand → Command
 command_of (told.AddModule label) = AddModule label

@@ -1,7 +1,9 @@
 //! What the definitions of the machine mean: laws of all command lists.
 
-ghost use Rattle.rollout_machine.specs.Meanings.{NumbersActions, NumbersDiffer, RowIsLast, TagsAreSaid, OutcomeIsFirst, CancelingIsLast, PausedIs, FirstStartedIs, StartedIs, FinalIsAll, OfferIsLeast, TargetsAreNamed, ValueIsLast};
-ghost use Rattle.rollout_machine.specs.Promises.{OneGroupStarts, OthersStay, NoGroupIsLeft, NamedIsOfferable, DownloadsAreOffered, StoredSayAll, DerivedFollow, OffersStay, OffersFollow, NotesGrow};
+ghost use Rattle.rollout_machine.specs.Meanings.{NumbersActions, NumbersDiffer, RowIsLast, TagsAreSaid, OutcomeIsFirst, CancelingIsLast, PausedIs};
+ghost use Rattle.rollout_machine.specs.Meanings.{FirstStartedIs, StartedIs, FinalIsAll, OfferIsLeast, TargetsAreNamed, ValueIsLast};
+ghost use Rattle.rollout_machine.specs.Promises.{OneGroupStarts, OthersStay, NoGroupIsLeft, NamedIsOfferable, DownloadsAreOffered, StoredSayAll};
+ghost use Rattle.rollout_machine.specs.Promises.{DerivedFollow, OffersStay, OffersFollow, NotesGrow};
 ghost use Rattle.rollout_machine.specs.Repeats.{RepeatsLeaveNoTrace};
 ghost use Rattle.rollout_machine.specs.Validity.{StepsRecords};
 

@@ -1,7 +1,10 @@
 -- The table of refusals: number, name, status, and whether the connection ends.
 use Rattle.std.specs.Prelude.{ℕ, Bool, true, false, List, codes}
 pub use Rattle.rollout_model.specs.declared.refusal.Refusal.{Refusal}
-pub use Rattle.rollout_model.specs.declared.refusal.Refusal.TheVariants.{BadRequest, Unauthorized, NotFound, BadMethod, Exists, Locked, WrongState, ClosedAction, TooLarge, Quota, BadFilter, TooFewTargets, WrongDigest, BadImportLine, NoMemory, StoreFailed, Stopped, BadHead, BadLength, HeadTooLarge, BadCoding}
+pub use Rattle.rollout_model.specs.declared.refusal.Refusal.TheVariants.{BadRequest, Unauthorized, NotFound, BadMethod, Exists, Locked, WrongState}
+pub use Rattle.rollout_model.specs.declared.refusal.Refusal.TheVariants.{ClosedAction, TooLarge, Quota, BadFilter, TooFewTargets, WrongDigest}
+pub use Rattle.rollout_model.specs.declared.refusal.Refusal.TheVariants.{BadImportLine, NoMemory, StoreFailed, Stopped, BadHead, BadLength}
+pub use Rattle.rollout_model.specs.declared.refusal.Refusal.TheVariants.{HeadTooLarge, BadCoding}
 
 pub record RefusalRow : Type 0 where
   pub number : ℕ

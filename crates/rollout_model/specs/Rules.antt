@@ -1,5 +1,7 @@
 -- The rules of the short texts and the numbers: which letters, how long, in which range.
-use Rattle.rollout_model.specs.Limits.{word_length_limit, filename_length_limit, text_length_limit, detail_length_limit, detail_limit, digest_length, artifact_size_limit, group_limit, percentage_limit, number_limit, set_module_limit, tag_limit, token_length_least, token_length_limit}
+use Rattle.rollout_model.specs.Limits.{word_length_limit, filename_length_limit, text_length_limit, detail_length_limit, detail_limit, digest_length}
+use Rattle.rollout_model.specs.Limits.{artifact_size_limit, group_limit, percentage_limit, number_limit, set_module_limit, tag_limit}
+use Rattle.rollout_model.specs.Limits.{token_length_least, token_length_limit}
 use Rattle.std.specs.Prelude.{ℕ, Bool, true, ◌&&◌, ◌||◌, not, nat_eq, nat_le, List, [], ◌∷◌, length, codes, Option, Some, None, if◌then◌else◌}
 use Rattle.std.specs.List.{list_any, list_all}
 use Rattle.std.specs.Cmp.Lexicographic.{pointwise}

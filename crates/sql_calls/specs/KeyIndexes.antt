@@ -10,4 +10,5 @@ use Rattle.sqlite_rules.specs.Lists.{Has}
 
 -- each unique index of the table that stands on this column alone compares bytes
 abbrev pub ComparesBytes : Schema → Table → ℕ → Type 0
-ComparesBytes schema table c = (index : Index) → Has schema.indexes index → guards index table ≡ true → index.columns ≡ c ∷ [] → (first_key index.order).collation ≡ Binary
+ComparesBytes schema table c = (index : Index) → Has schema.indexes index → guards index table ≡ true → index.columns ≡ c ∷ []
+    → (first_key index.order).collation ≡ Binary

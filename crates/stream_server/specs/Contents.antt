@@ -36,4 +36,5 @@ WritesOut s h out out_new text (Some fault) = (part : List ℕ) × (left : List 
 -- head and contents of a download that begins, at any list
 abbrev pub SendsContents : {File : Type 0} → DeskState File → DeskState File → Option (List ℕ) → Option (List ℕ) → Download → Option ServeFault → Type 0
 SendsContents old new out out_new d fault =
-    (h : CommandList) (contents : Bytes) → new.is_clean → StandsFor old h → Sends h d contents → sent d ≡ 0 → WritesOut new h out out_new (contents_head d.size ++ contents) fault
+    (h : CommandList) (contents : Bytes) → new.is_clean → StandsFor old h → Sends h d contents → sent d ≡ 0
+    → WritesOut new h out out_new (contents_head d.size ++ contents) fault

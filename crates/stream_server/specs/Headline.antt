@@ -1,5 +1,6 @@
 -- What `serve` promises at every exit.
-use Rattle.std.specs.Prelude.{All, ◌≡◌, ◌≢◌, ℕ, ◌-◌, ◌^◌, ◌<◌, ◌≤◌, ◌⊎◌, min, Bool, true, false, List, [], ◌∷◌, ◌++◌, length, Option, Some, None, Result, Ok, Err}
+use Rattle.std.specs.Prelude.{All, ◌≡◌, ◌≢◌, ℕ, ◌-◌, ◌^◌, ◌<◌, ◌≤◌, ◌⊎◌, min, Bool, true, false, List, [], ◌∷◌, ◌++◌, length, Option, Some, None}
+use Rattle.std.specs.Prelude.{Result, Ok, Err}
 use Rattle.std.specs.Io.KnownBytes.{Appends, Consumes, IsAtEnd}
 use Rattle.http_wire.specs.declared.stream.End.{End}
 use Rattle.http_wire.specs.declared.stream.End.TheVariants.{Input, Cut, Fault}
@@ -143,7 +144,8 @@ Stops is_stopped (Ok served) = is_stopped ≡ false
 -- For a desk that stood for h and has the state s now: what was written begins the reply bytes of a run of the rollout
 -- machine on the stream's messages, and whatever a crash leaves holds h followed by a first part of the accepted
 -- commands that contains every acknowledged one.
-pub record Headline {File : Type 0} (interface : Interface) (h : CommandList) (s : DeskState File) (stream unread out out_new : Option (List ℕ)) (result : Result Served ServeFault) : Type 0 where
+pub record Headline {File : Type 0} (interface : Interface) (h : CommandList) (s : DeskState File) (stream unread out out_new : Option (List ℕ))
+    (result : Result Served ServeFault) : Type 0 where
   pub transcript : Transcript (IsRun (ByMachine interface) h) stream unread out out_new result
   -- the desk is stopped or stands for the list followed by the accepted commands
   pub desk : (s.is_stopped ≡ true) ⊎ StandsFor s (followed_by h (accepted_in transcript.run))
@@ -155,7 +157,8 @@ abbrev pub IsRefusedAsStopped : Exchange → Type 0
 IsRefusedAsStopped x = (x.reply ≡ Refused Stopped) × (x.accepted ≡ None)
 
 -- For a desk that was stopped: each message is refused as stopped, and the desk and what a crash may leave stay.
-pub record StoppedThroughout {File : Type 0} (old new : DeskState File) (stream unread out out_new : Option (List ℕ)) (result : Result Served ServeFault) : Type 0 where
+pub record StoppedThroughout {File : Type 0} (old new : DeskState File) (stream unread out out_new : Option (List ℕ))
+    (result : Result Served ServeFault) : Type 0 where
   pub transcript : Transcript (All IsRefusedAsStopped) stream unread out out_new result
   pub stays : StaysStopped old new
 

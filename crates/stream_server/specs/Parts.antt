@@ -74,7 +74,8 @@ CutsReply C s h serve_fault.Memory reply accepted part left =
     C.stands s (followed_by h (one accepted)) × ((part ≡ []) ⊎ BeginsDownload reply accepted part)
 
 -- it stopped within the exchange for the last message
-pub record Broken {File : Type 0} (C : Conduct File) (h : CommandList) (s : DeskState File) (ms : List WireMessage) (sent : List ℕ) (fault : ServeFault) : Type 0 where
+pub record Broken {File : Type 0} (C : Conduct File) (h : CommandList) (s : DeskState File) (ms : List WireMessage) (sent : List ℕ)
+    (fault : ServeFault) : Type 0 where
   pub before : List Exchange
   pub last : Exchange
   pub messages : messages_of (before ++ last ∷ []) ≡ ms
@@ -92,12 +93,14 @@ Comes C h s ms sent None = Whole C h s ms sent
 Comes C h s ms sent (Some fault) = Broken C h s ms sent fault
 
 -- these messages were answered, from any list
-abbrev pub Answers : {File : Type 0} → Conduct File → DeskState File → DeskState File → Option (List ℕ) → Option (List ℕ) → List WireMessage → Option ServeFault → Type 0
+abbrev pub Answers : {File : Type 0} → Conduct File → DeskState File → DeskState File → Option (List ℕ) → Option (List ℕ) → List WireMessage
+    → Option ServeFault → Type 0
 Answers C old new out out_new ms fault =
     (h : CommandList) → C.premise new → C.stands old h → (sent : List ℕ) × Appends out out_new sent × Comes C h new ms sent fault
 
 -- these messages were answered, by a desk that stands for a list or by a stopped one
-pub record Serves {File : Type 0} (interface : Interface) (old new : DeskState File) (out out_new : Option (List ℕ)) (ms : List WireMessage) (fault : Option ServeFault) : Type 0 where
+pub record Serves {File : Type 0} (interface : Interface) (old new : DeskState File) (out out_new : Option (List ℕ)) (ms : List WireMessage)
+    (fault : Option ServeFault) : Type 0 where
   pub clean : new.is_clean → old.is_clean
   pub by_machine : Answers (running File interface) old new out out_new ms fault
   pub by_stopped : Answers (stopped File) old new out out_new ms fault
@@ -135,7 +138,8 @@ GivesReply old new text reply failed (Some serve_fault.Store) = Appends old new 
 GivesReply old new text reply failed (Some fault) = SendsPart old new text reply failed fault
 
 -- what `serve` promises of a desk that stands for a list, and of a stopped one, as one record
-pub record ServesStream {File : Type 0} (interface : Interface) (old new : DeskState File) (stream unread out out_new : Option (List ℕ)) (result : Result Served ServeFault) : Type 0 where
+pub record ServesStream {File : Type 0} (interface : Interface) (old new : DeskState File) (stream unread out out_new : Option (List ℕ))
+    (result : Result Served ServeFault) : Type 0 where
   pub clean : new.is_clean → old.is_clean
   pub headline : (h : CommandList) → new.is_clean → StandsFor old h → Headline interface h new stream unread out out_new result
   pub stopped : old.is_stopped ≡ true → StoppedThroughout old new stream unread out out_new result

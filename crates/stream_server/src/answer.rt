@@ -65,7 +65,8 @@ fn give_reply<W: Write>(
     message: &Message<'_>,
     reply: &Reply,
 ) -> Result<(), ServeFault>
-    ensures gives { GivesReply (W.contents (inner_of writer.old)) (W.contents (inner_of writer.new)) (reply_text (message_of message.now) (reply_of reply.now)) (reply_of reply.now) (has_failed writer.new) (fault_of result) }
+    ensures gives { GivesReply (W.contents (inner_of writer.old)) (W.contents (inner_of writer.new))
+        (reply_text (message_of message.now) (reply_of reply.now)) (reply_of reply.now) (has_failed writer.new) (fault_of result) }
     ensures write_failed { FailsBy result ServeFault.Write (has_failed writer.old) (has_failed writer.new) }
     ensures reads_nothing { IfErr result (λ fault. fault ≢ ServeFault.Read) }
     ensures store { IfErr result (λ fault. fault ≡ ServeFault.Store → reply_of reply.now ≡ Refused StoreFailed) }
@@ -115,7 +116,8 @@ pub(crate) fn answer_all<W: Write, D: ContentsHandler>(
 ) -> Result<Stop, ServeFault>
     ensures serves { (ms : List WireMessage) × Takes inbox.old ms inbox.new
         × IfOk result (λ stop. stop.answered ≡ min (before + length ms) (2 ^ 64 - 1))
-        × Serves routes.now.interface (D.state desk.old) (D.state desk.new) (W.contents (inner_of writer.old)) (W.contents (inner_of writer.new)) ms (fault_of result) }
+        × Serves routes.now.interface (D.state desk.old) (D.state desk.new) (W.contents (inner_of writer.old)) (W.contents (inner_of writer.new)) ms
+        (fault_of result) }
     ensures end { IfOk result (λ stop. StopsAt inbox.new stop.fault) }
     ensures write_failed { FailsBy result ServeFault.Write (has_failed writer.old) (has_failed writer.new) }
     ensures reads_nothing { IfErr result (λ fault. fault ≢ ServeFault.Read) }

@@ -52,7 +52,8 @@ pub(crate) fn send_contents<W: Write, D: ContentsHandler>(
     download: Download,
 ) -> Result<(), ServeFault>
     ensures clean { (D.state desk.new).is_clean → (D.state desk.old).is_clean }
-    ensures sends { SendsContents (D.state desk.old) (D.state desk.new) (W.contents (inner_of writer.old)) (W.contents (inner_of writer.new)) download (fault_of result) }
+    ensures sends { SendsContents (D.state desk.old) (D.state desk.new) (W.contents (inner_of writer.old))
+        (W.contents (inner_of writer.new)) download (fault_of result) }
     ensures write_failed { FailsBy result ServeFault.Write (has_failed writer.old) (has_failed writer.new) }
     ensures reads_nothing { IfErr result (λ fault. fault ≢ ServeFault.Read) }
     ensures stops { IfErr result (λ fault. fault ≡ ServeFault.Store → (D.state desk.new).is_stopped ≡ true) }

@@ -41,7 +41,8 @@ pub(crate) fn write_refusal<W: Write>(
 ) -> Result<(), ServeFault>
     ensures ok { OnOk result (Appends (W.contents (inner_of writer.old)) (W.contents (inner_of writer.new)) (refusal_text refusal)) }
     ensures write_failed { FailsBy result ServeFault.Write (has_failed writer.old) (has_failed writer.new) }
-    ensures err { IfErr result (SendsPart (W.contents (inner_of writer.old)) (W.contents (inner_of writer.new)) (refusal_text refusal) (Refused refusal) (has_failed writer.new)) }
+    ensures err { IfErr result (SendsPart (W.contents (inner_of writer.old)) (W.contents (inner_of writer.new)) (refusal_text refusal)
+        (Refused refusal) (has_failed writer.new)) }
     ensures no_store { IfErr result (λ fault. fault ≢ ServeFault.Store) }
 {
     send(writer, refusal_bytes(refusal).as_bytes())
@@ -54,9 +55,11 @@ pub(crate) fn write_reply<W: Write>(
     message: &Message<'_>,
     reply: &Reply,
 ) -> Result<(), ServeFault>
-    ensures ok { OnOk result (Appends (W.contents (inner_of writer.old)) (W.contents (inner_of writer.new)) (reply_text (message_of message.now) (reply_of reply.now))) }
+    ensures ok { OnOk result (Appends (W.contents (inner_of writer.old)) (W.contents (inner_of writer.new))
+        (reply_text (message_of message.now) (reply_of reply.now))) }
     ensures write_failed { FailsBy result ServeFault.Write (has_failed writer.old) (has_failed writer.new) }
-    ensures err { IfErr result (SendsPart (W.contents (inner_of writer.old)) (W.contents (inner_of writer.new)) (reply_text (message_of message.now) (reply_of reply.now)) (reply_of reply.now) (has_failed writer.new)) }
+    ensures err { IfErr result (SendsPart (W.contents (inner_of writer.old)) (W.contents (inner_of writer.new))
+        (reply_text (message_of message.now) (reply_of reply.now)) (reply_of reply.now) (has_failed writer.new)) }
     ensures no_store { IfErr result (λ fault. fault ≢ ServeFault.Store) }
 {
     if let Reply::Refused(refusal) = reply {

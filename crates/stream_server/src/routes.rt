@@ -54,8 +54,10 @@ impl Routes {
 
     /// What a message asks where both interfaces are served. Only the router of one is asked.
     fn read_either(&self, message: &Message<'_>) -> Result<Request, Refusal>
-        ensures ok { IfOk result (λ request. reading_by (device_call (path_of (message_of message.now).target)) (message_of message.now) ≡ Asks (request_of request)) }
-        ensures err { IfErr result (λ refusal. (refusal ≡ NoMemory) ⊎ (reading_by (device_call (path_of (message_of message.now).target)) (message_of message.now) ≡ Rejected refusal)) }
+        ensures ok { IfOk result (λ request. reading_by (device_call (path_of (message_of message.now).target)) (message_of message.now)
+            ≡ Asks (request_of request)) }
+        ensures err { IfErr result (λ refusal. (refusal ≡ NoMemory)
+            ⊎ (reading_by (device_call (path_of (message_of message.now).target)) (message_of message.now) ≡ Rejected refusal)) }
         ensures no_store { IfErr result (λ refusal. refusal ≢ StoreFailed) }
     {
         if begins_as_devices(message.path()) {

@@ -45,7 +45,8 @@ pub(crate) fn serve_stream<R: Read, W: Write, D: ContentsHandler>(
     reader: &mut Watched<R>,
     writer: &mut Watched<W>,
 ) -> Result<Served, ServeFault>
-    ensures serves { ServesStream routes.now.interface (D.state desk.old) (D.state desk.new) (R.remaining (inner_of reader.old)) (R.remaining (inner_of reader.new))
+    ensures serves { ServesStream routes.now.interface (D.state desk.old) (D.state desk.new) (R.remaining (inner_of reader.old))
+        (R.remaining (inner_of reader.new))
         (W.contents (inner_of writer.old)) (W.contents (inner_of writer.new)) result }
     ensures read_failed { FailsBy result ServeFault.Read (has_failed reader.old) (has_failed reader.new) }
     ensures write_failed { FailsBy result ServeFault.Write (has_failed writer.old) (has_failed writer.new) }

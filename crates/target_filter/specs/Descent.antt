@@ -4,7 +4,8 @@ use Rattle.std.specs.List.{starts_with}
 use Rattle.std.specs.Option.{option_and_then, option_map}
 use Rattle.std.specs.Cmp.Lexicographic.{pointwise}
 use Rattle.rollout_model.specs.Rules.{is_word_letter}
-use Rattle.target_filter.specs.Grammar.{is_bare_byte, is_quotable_byte, Field, Id, Name, Tag, Attribute, Operator, Equal, NotEqual, Value, Bare, Quoted, Tree, Or, And, Group, Comparison}
+use Rattle.target_filter.specs.Grammar.{is_bare_byte, is_quotable_byte, Field, Id, Name, Tag, Attribute, Operator, Equal, NotEqual, Value, Bare}
+use Rattle.target_filter.specs.Grammar.{Quoted, Tree, Or, And, Group, Comparison}
 
 -- the bytes in front that pass the test, and what stands behind them
 abbrev pub front : (ℕ → Bool) → List ℕ → List ℕ
@@ -19,7 +20,8 @@ abbrev pub attribute_field : List ℕ → Option Field
 attribute_field name = cond (starts_with nat_eq name (codes "attribute.")) (Some (Attribute (drop 10 name))) None
 
 abbrev pub field_of_name : List ℕ → Option Field
-field_of_name name = cond (pointwise nat_eq name (codes "controllerid")) (Some Id) (cond (pointwise nat_eq name (codes "name")) (Some Name) (cond (pointwise nat_eq name (codes "tag")) (Some Tag) (attribute_field name)))
+field_of_name name = cond (pointwise nat_eq name (codes "controllerid")) (Some Id)
+    (cond (pointwise nat_eq name (codes "name")) (Some Name) (cond (pointwise nat_eq name (codes "tag")) (Some Tag) (attribute_field name)))
 
 abbrev pub operator_at : List ℕ → Option (Operator × List ℕ)
 operator_at [] = None
@@ -36,10 +38,12 @@ bare_value (b ∷ pattern) rest = Some (Bare (b ∷ pattern), rest)
 
 abbrev pub value_at : List ℕ → Option (Value × List ℕ)
 value_at [] = None
-value_at (b ∷ s) = cond (b == 34) (quoted_value (front is_quotable_byte s) (behind_front is_quotable_byte s)) (bare_value (front is_bare_byte (b ∷ s)) (behind_front is_bare_byte (b ∷ s)))
+value_at (b ∷ s) = cond (b == 34) (quoted_value (front is_quotable_byte s) (behind_front is_quotable_byte s))
+    (bare_value (front is_bare_byte (b ∷ s)) (behind_front is_bare_byte (b ∷ s)))
 
 abbrev pub comparison_at : List ℕ → Option (Tree × List ℕ)
-comparison_at s = option_and_then (λ f. option_and_then (λ (m : Operator × List ℕ). option_map (λ (v : Value × List ℕ). (Comparison f m.0 v.0, v.1)) (value_at m.1)) (operator_at (behind_front is_word_letter s))) (field_of_name (front is_word_letter s))
+comparison_at s = option_and_then (λ f. option_and_then (λ (m : Operator × List ℕ). option_map (λ (v : Value × List ℕ). (Comparison f m.0 v.0, v.1))
+    (value_at m.1)) (operator_at (behind_front is_word_letter s))) (field_of_name (front is_word_letter s))
 
 abbrev pub closed : Tree × List ℕ → Option (Tree × List ℕ)
 closed (t, []) = None

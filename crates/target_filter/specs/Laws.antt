@@ -22,7 +22,8 @@ ComputesNothingElse = (text : List ℕ) → (filter_of text ≡ None) ↔ (IsInP
 
 -- `!=` is the negation of `==`
 abbrev pub NegatesEqual : Type 0
-NegatesEqual = (field : Field) (value : Value) (target : Target) → holds (Comparison field NotEqual value) target ≡ not (holds (Comparison field Equal value) target)
+NegatesEqual = (field : Field) (value : Value) (target : Target)
+    → holds (Comparison field NotEqual value) target ≡ not (holds (Comparison field Equal value) target)
 
 -- the text is a filter, and each tree of it has this meaning
 abbrev pub Means : List ℕ → (Target → Bool) → Type 0

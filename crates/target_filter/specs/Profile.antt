@@ -19,7 +19,8 @@ IsInProfile text = (tree : Tree) × IsProfileFilter text tree
 
 -- IsProfileFilter as a test
 abbrev pub is_profile_filter : List ℕ → Tree → Bool
-is_profile_filter text tree = is_at OrLevel tree && pointwise nat_eq text (spelling tree) && nat_le (length text) filter_length_limit && nat_le (nesting tree) filter_depth_limit
+is_profile_filter text tree = is_at OrLevel tree && pointwise nat_eq text (spelling tree) && nat_le (length text) filter_length_limit
+    && nat_le (nesting tree) filter_depth_limit
 
 -- the tree of a text of the profile, else None: a tree is looked for by descent, and taken if it is the text's
 abbrev pub filter_of : List ℕ → Option Tree

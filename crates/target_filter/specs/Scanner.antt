@@ -1,5 +1,6 @@
 -- What a scanner knows behind a beginning of a text, a byte at a time.
-use Rattle.std.specs.Prelude.{◌≡◌, ◌⊎◌, ◌≤◌, ◌<◌, length, take, slice_index, ℕ, ◌+◌, ◌-◌, List, [], ◌∷◌, max, Bool, true, false, cond, nat_lt, ◌==◌, ◌&&◌, codes, Option, Some, None}
+use Rattle.std.specs.Prelude.{◌≡◌, ◌⊎◌, ◌≤◌, ◌<◌, length, take, slice_index, ℕ, ◌+◌, ◌-◌, List, [], ◌∷◌, max, Bool, true, false, cond, nat_lt, ◌==◌}
+use Rattle.std.specs.Prelude.{◌&&◌, codes, Option, Some, None}
 use Rattle.std.specs.Option.{option_and_then}
 use Rattle.rollout_model.specs.Limits.{word_length_limit}
 use Rattle.rollout_model.specs.Rules.{is_word_letter}
@@ -38,7 +39,9 @@ mode_of_name [] false = FieldName [] false
 mode_of_name (x ∷ xs) keyed = FieldName (x ∷ xs) keyed
 
 abbrev pub at_atom_start : ℕ → Move
-at_atom_start b = cond (b == 99) (Go (FieldName (codes "ontrollerid") false)) (cond (b == 110) (Go (FieldName (codes "ame") false)) (cond (b == 116) (Go (FieldName (codes "ag") false)) (cond (b == 97) (Go (FieldName (codes "ttribute.") true)) (cond (b == 40) Open Stop))))
+at_atom_start b = cond (b == 99) (Go (FieldName (codes "ontrollerid") false))
+    (cond (b == 110) (Go (FieldName (codes "ame") false)) (cond (b == 116) (Go (FieldName (codes "ag") false))
+    (cond (b == 97) (Go (FieldName (codes "ttribute.") true)) (cond (b == 40) Open Stop))))
 
 abbrev pub at_operator : ℕ → Move
 at_operator b = cond (b == 61) (Go Equals) (cond (b == 33) (Go Equals) Stop)

@@ -1,6 +1,7 @@
 //! Laws of the definitions, each proved as the contract of a function that does nothing.
 
-ghost use Rattle.target_filter.specs.Laws.{HasOneTree, MatchesByTest, ComputesFilters, ComputesNothingElse, NegatesEqual, BindsAndOnTheRight, BindsAndOnTheLeft};
+ghost use Rattle.target_filter.specs.Laws.{HasOneTree, MatchesByTest, ComputesFilters, ComputesNothingElse, NegatesEqual, BindsAndOnTheRight};
+ghost use Rattle.target_filter.specs.Laws.{BindsAndOnTheLeft};
 
 /// A text has one tree.
 pub fn one_tree()

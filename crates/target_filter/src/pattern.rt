@@ -9,7 +9,8 @@ ghost use Rattle.target_filter.specs.Greedy.{after, greedy};
 /// The place of the first star.
 fn star_at(pattern: &[u8]) -> Option<usize>
     ensures bound { MatchOption result (pieces pattern.now ≡ pattern.now ∷ []) (λ k. k < length pattern.now) }
-    ensures cut { MatchOption result (pieces pattern.now ≡ pattern.now ∷ []) (λ k. pieces pattern.now ≡ take k pattern.now ∷ pieces (drop (k + 1) pattern.now)) }
+    ensures cut { MatchOption result (pieces pattern.now ≡ pattern.now ∷ [])
+        (λ k. pieces pattern.now ≡ take k pattern.now ∷ pieces (drop (k + 1) pattern.now)) }
 {
     for (at, byte) in pattern.iter().enumerate() {
         if *byte == b'*' {

@@ -51,7 +51,8 @@ fn after_cancel_feedback(
     word: CancelWord,
 ) -> Result<Option<ActionChange>, Refusal>
     ensures { MatchResult result
-        (λ c. (cancel_feedback_refusal word reported.now ≡ None) × (c ≡ change_if_open reported.now.action (outcome_of_cancel word) (canceling_after word reported.now.action.canceling)))
+        (λ c. (cancel_feedback_refusal word reported.now ≡ None)
+        × (c ≡ change_if_open reported.now.action (outcome_of_cancel word) (canceling_after word reported.now.action.canceling)))
         (λ refusal. cancel_feedback_refusal word reported.now ≡ Some refusal) }
 {
     let action = reported.action;
@@ -75,7 +76,8 @@ pub fn cancel_feedback(
     report: &Report<CancelWord>,
 ) -> Result<RolloutChange, Refusal>
     ensures decides { Decides (seen.CancelFeedback view.now) (CancelFeedback report.now) result }
-    ensures makes { IfOk result (λ change. (c : _) × (change ≡ made.CancelFeedback c) × MakesReport view.now (outcome_of_cancel report.now.word) (canceling_after report.now.word) c) }
+    ensures makes { IfOk result (λ change. (c : _) × (change ≡ made.CancelFeedback c)
+        × MakesReport view.now (outcome_of_cancel report.now.word) (canceling_after report.now.word) c) }
 {
     let reported = reported_action(view)?;
     let change = after_cancel_feedback(&reported, report.word)?;

@@ -51,7 +51,8 @@ pub fn feedback(
     report: &Report<DeploymentWord>,
 ) -> Result<RolloutChange, Refusal>
     ensures decides { Decides (seen.Feedback view.now) (Feedback report.now) result }
-    ensures makes { IfOk result (λ change. (c : _) × (change ≡ made.Feedback c) × MakesReport view.now (outcome_of_deployment report.now.word) (λ canceling. canceling) c) }
+    ensures makes { IfOk result (λ change. (c : _) × (change ≡ made.Feedback c)
+        × MakesReport view.now (outcome_of_deployment report.now.word) (λ canceling. canceling) c) }
 {
     let reported = reported_action(view)?;
     let change = after_feedback(&reported, report.word)?;
