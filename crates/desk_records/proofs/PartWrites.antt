@@ -1,5 +1,5 @@
 -- The statements on members, groups and histories that write, in ledgers.
-use Rattle.std.proofs.Common.{◌≡◌, ◌∷◌, ◌++◌, ◌&&◌, ℕ, zero, suc, pos, List, [], Bool, true, set, slice_get, Some, None, refl, sym, ap, subst, ◌∙◌, arith, nat_eq}
+use Rattle.std.proofs.Common.{◌≡◌, ◌∷◌, ◌++◌, ◌&&◌, ℕ, zero, suc, pos, List, [], Bool, true, set, slice_get, string_bytes, Some, None, refl, sym, ap, subst, ◌∙◌, arith, nat_eq}
 use Rattle.sqlite_value.specs.declared.value.Value.TheVariants.{Int, Text}
 use Rattle.sqlite_value.specs.Keys.{plain, first_key}
 use Rattle.sqlite_value.specs.Order.{Row}
@@ -22,6 +22,7 @@ use Rattle.rollout_machine.specs.declared.records.ActionRecord.{ActionRecord}
 use Rattle.rollout_machine.specs.declared.records.GroupRecord.{GroupRecord}
 use Rattle.rollout_machine.specs.declared.records.RolloutRecord.{RolloutRecord}
 use Rattle.desk_records.specs.Actions.{entry_row}
+use Rattle.desk_records.specs.declared.new_entry.NewEntry.{NewEntry}
 use Rattle.desk_records.specs.Holds.{HoldsLedger, Ledger}
 use Rattle.desk_records.specs.LedgerSteps.{AddsMember, AddsGroup, SetsGroup, AddsEntry, and_member, and_group, and_entry, counted, cut_group, with_actions, with_groups, with_rollouts}
 use Rattle.desk_records.specs.Rollouts.{flag, group_row, groups_from, member_row, members_from, rollout_row, told_group}
@@ -118,23 +119,23 @@ sets_group (suc k) (suc j) started ok bad gone old new text count l next holds c
 
 -- ---- histories
 
-abbrev pub entry_params : ℕ → ℕ → ℕ → ℕ → Bytes → Row
-entry_params number sequence kind word details = Int (pos number) ∷ Int (pos sequence) ∷ Int (pos kind) ∷ Int (pos word) ∷ Text details ∷ []
+abbrev pub entry_params : ℕ → ℕ → NewEntry → Row
+entry_params number sequence entry = Int (pos number) ∷ Int (pos sequence) ∷ Int (pos entry.kind) ∷ Int (pos entry.word) ∷ Text (string_bytes entry.details) ∷ []
 
-pub adds_entry : (number sequence kind word : ℕ) (details : Bytes) (old new : State) (text : List ℕ) (count : ℕ) (l next : Ledger) (holds : HoldsLedger old.now l) → AddsEntry number sequence kind word details l next
-    → (w : Writes old new None (Insert (holds.spot Feedbacks).at (Values feedback_terms 6)) text (entry_params number sequence kind word details) count) → HoldsLedger new.now next
-adds_entry zero sequence kind word details old new text count l next holds change w = absurd (let none = change.is_there in cc)
-adds_entry (suc k) sequence kind word details old new text count l next holds change w =
+pub adds_entry : (number sequence : ℕ) (entry : NewEntry) (old new : State) (text : List ℕ) (count : ℕ) (l next : Ledger) (holds : HoldsLedger old.now l) → AddsEntry number sequence entry l next
+    → (w : Writes old new None (Insert (holds.spot Feedbacks).at (Values feedback_terms 6)) text (entry_params number sequence entry) count) → HoldsLedger new.now next
+adds_entry zero sequence entry old new text count l next holds change w = absurd (let none = change.is_there in cc)
+adds_entry (suc k) sequence entry old new text count l next holds change w =
     let spot = holds.spot Feedbacks in
     let table = feedback_table spot.tree in
     let as' = l.records.actions in
     let a = change.action in
     let after = and_entry a change.entry in
-    let given = entry_params (suc k) sequence kind word details in
+    let given = entry_params (suc k) sequence entry in
     let made = inserts old.now.schema spot.at table feedback_terms 6 (holds.stands Feedbacks).got old new refl text given count w in
     let more = adds_row old.now.schema table (1 ∷ 2 ∷ []) given feedback_terms 6 given refl old.now new.now (histories_from 1 as') (holds.rows Feedbacks) made in
-    let cast : cast_all table.columns given ≡ given = rw (cast_int (suc k), cast_int sequence, cast_int kind, cast_int word) refl in
-    let row : cast_all table.columns given ≡ entry_row (suc k) sequence change.entry = cast ∙ ap (λ told. Int (pos (suc k)) ∷ Int (pos sequence) ∷ told) (sym change.told) in
+    let cast : cast_all table.columns given ≡ given = rw (cast_int (suc k), cast_int sequence, cast_int entry.kind, cast_int entry.word) refl in
+    let row : cast_all table.columns given ≡ entry_row (suc k) sequence change.entry = cast ∙ ap (λ told. Int (pos (suc k)) ∷ Int (pos sequence) ∷ told) (sym change.told.row) in
     let held = part_held entry_row (λ (z : ActionRecord). z.history) a after change.entry refl k sequence as' (new.now.trees spot.tree) change.is_there change.sequence_is (subst (λ r. IsHeldBy (new.now.trees spot.tree) (r ∷ histories_from 1 as')) row more) in
     subst (HoldsLedger new.now) (sym change.next_is) (ledger_after Feedbacks l (with_actions l (set as' k after) l.tallies) old.now new.now holds (record { schema = made.schema_is; sound = w.sound; others = made.applies.tables }) held
     (actions_differ l (set as' k after) l.tallies Feedbacks (λ apart. acts_stay l.records.rollouts a after (λ n t. refl) 1 k as' l.tallies change.is_there) (λ apart. absurd (apart refl))) holds.sorted)

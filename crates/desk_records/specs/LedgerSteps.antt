@@ -1,7 +1,6 @@
 -- What statements make of a ledger.
-use Rattle.std.specs.Prelude.{◌≡◌, ℕ, zero, suc, ◌+◌, Bool, true, false, not, cond, nat_eq, List, [], ◌∷◌, ◌++◌, length, set, Option, Some, None, pos}
+use Rattle.std.specs.Prelude.{◌≡◌, ℕ, zero, suc, ◌+◌, Bool, true, false, not, cond, nat_eq, List, [], ◌∷◌, ◌++◌, length, set, Option, Some, None}
 use Rattle.std.specs.List.{list_all, zip}
-use Rattle.sqlite_value.specs.declared.value.Value.TheVariants.{Int, Text}
 use Rattle.rollout_machine.specs.ByteStrings.{item_numbered, same_bytes}
 use Rattle.rollout_machine.specs.Commands.{Bytes, RolloutPlan}
 use Rattle.rollout_machine.specs.Actions.{HistoryEntry}
@@ -13,7 +12,9 @@ use Rattle.rollout_machine.specs.declared.records.RolloutRecord.{RolloutRecord}
 use Rattle.rollout_model.specs.declared.approval.Approval.{Approval}
 use Rattle.rollout_model.specs.declared.rollout.Offer.{Offer}
 use Rattle.offer_laws.specs.GroupOffers.{group_offers, put_offers}
-use Rattle.desk_records.specs.Actions.{Tally, actor_of, told_entry}
+use Rattle.desk_records.specs.declared.new_entry.NewEntry.{NewEntry}
+use Rattle.desk_records.specs.Actions.{Tally, actor_of}
+use Rattle.desk_records.specs.NewEntries.{TellsEntry}
 use Rattle.desk_records.specs.Holds.{Ledger}
 
 -- another in place of the one of a number
@@ -115,13 +116,13 @@ pub record SetsAction (number : ℕ) (canceling : Bool) (outcome : Option Outcom
 abbrev pub and_entry : ActionRecord → HistoryEntry → ActionRecord
 and_entry a entry = record a { history = a.history ++ entry ∷ [] }
 
--- the action is there, the place is its history's next, and the row tells of the entry; the action's tally stays
-pub record AddsEntry (number sequence kind word : ℕ) (details : Bytes) (l next : Ledger) : Type 0 where
+-- the action is there, the place is its history's next, and what is written tells the entry; the action's tally stays
+pub record AddsEntry (number sequence : ℕ) (new : NewEntry) (l next : Ledger) : Type 0 where
   pub action : ActionRecord
   pub is_there : item_numbered l.records.actions number ≡ Some action
   pub sequence_is : sequence ≡ length action.history + 1
   pub entry : HistoryEntry
-  pub told : told_entry entry ≡ Int (pos kind) ∷ Int (pos word) ∷ Text details ∷ []
+  pub told : TellsEntry entry new
   pub next_is : next ≡ with_actions l (set_numbered l.records.actions number (and_entry action entry)) l.tallies
 
 -- ---- offers

@@ -11,6 +11,7 @@ pub mod ArtifactRow
 pub mod TargetRow
 pub mod Rollouts
 pub mod Actions
+pub mod NewEntries
 pub mod Offers
 pub mod Codes
 pub mod RolloutRow

@@ -8,6 +8,7 @@ mod codes;
 mod desk_row;
 mod entry_row;
 mod module_row;
+mod new_entry;
 mod rollout_row;
 mod rollout_texts;
 mod set_row;
@@ -17,42 +18,106 @@ mod target_row;
 mod target_texts;
 mod texts;
 
-pub use crate::action_texts::{
-    DROP_OFFER, GET_ACTION, GET_OFFER, LAST_ACTION, LIST_ACTIONS, LIST_ENTRIES,
-    LIST_TARGET_ACTIONS, NEXT_OFFER, PUT_ACTION, PUT_FEEDBACK, PUT_GROUP_OFFERS, SET_ACTION,
-    SET_OFFER,
-};
-pub use crate::artifact_row::{StoredArtifact, read_artifact, read_piece, read_stored_artifact};
-pub use crate::artifact_texts::{
-    FIND_ARTIFACT, GET_ARTIFACT, GET_PIECE, LAST_ARTIFACT, LIST_ARTIFACTS, PUT_ARTIFACT, PUT_PIECE,
-};
+pub use crate::action_texts::DROP_OFFER;
+pub use crate::action_texts::GET_ACTION;
+pub use crate::action_texts::GET_OFFER;
+pub use crate::action_texts::LAST_ACTION;
+pub use crate::action_texts::LIST_ACTIONS;
+pub use crate::action_texts::LIST_ENTRIES;
+pub use crate::action_texts::LIST_TARGET_ACTIONS;
+pub use crate::action_texts::NEXT_OFFER;
+pub use crate::action_texts::PUT_ACTION;
+pub use crate::action_texts::PUT_FEEDBACK;
+pub use crate::action_texts::PUT_GROUP_OFFERS;
+pub use crate::action_texts::SET_ACTION;
+pub use crate::action_texts::SET_OFFER;
+pub use crate::artifact_row::StoredArtifact;
+pub use crate::artifact_row::read_artifact;
+pub use crate::artifact_row::read_piece;
+pub use crate::artifact_row::read_stored_artifact;
+pub use crate::artifact_texts::FIND_ARTIFACT;
+pub use crate::artifact_texts::GET_ARTIFACT;
+pub use crate::artifact_texts::GET_PIECE;
+pub use crate::artifact_texts::LAST_ARTIFACT;
+pub use crate::artifact_texts::LIST_ARTIFACTS;
+pub use crate::artifact_texts::PUT_ARTIFACT;
+pub use crate::artifact_texts::PUT_PIECE;
 pub use crate::desk_row::read_approval;
 pub use crate::entry_row::read_entry;
-pub use crate::module_row::{Column, RowFault, read_module_label};
-pub use crate::rollout_row::{
-    ListedAction, StoredAction, StoredRollout, read_group, read_listed_action, read_offer,
-    read_stored_action, read_stored_rollout,
-};
-pub use crate::rollout_texts::{
-    FIND_ROLLOUT, GET_GROUP, GET_ROLLOUT, HOLDING_GROUP, LAST_ROLLOUT, LAST_STARTED, LIST_GROUPS,
-    LIST_MEMBERS, LIST_ROLLOUTS, PUT_GROUP, PUT_MEMBER, PUT_ROLLOUT, SET_GROUP, SET_ROLLOUT,
-};
-pub use crate::set_row::{SetName, read_set_module, read_set_name};
-pub use crate::set_texts::{
-    FIND_SET, GET_SET, LAST_SET, LIST_SET_MODULES, MODULE_LOCKED, PUT_SET, PUT_SET_MODULE,
-};
-pub use crate::table_texts::{
-    CREATE_ACTION, CREATE_ARTIFACT, CREATE_DESK, CREATE_FEEDBACK, CREATE_MEMBER, CREATE_MODULE,
-    CREATE_OFFER, CREATE_PIECE, CREATE_ROLLOUT, CREATE_ROLLOUT_GROUP, CREATE_SET,
-    CREATE_SET_MODULE, CREATE_TARGET, CREATE_TARGET_ATTRIBUTE, CREATE_TARGET_TAG,
-};
-pub use crate::target_row::{
-    ListedTarget, StoredTarget, read_attribute, read_listed_target, read_member,
-    read_stored_target, read_tag,
-};
-pub use crate::target_texts::{
-    COUNT_TARGETS, DROP_TARGET_TAG, GET_TARGET, LIST_TARGET_ATTRIBUTES, LIST_TARGET_TAGS,
-    LIST_TARGETS, PUT_TARGET, PUT_TARGET_ATTRIBUTE, PUT_TARGET_TAG, SET_TARGET,
-    SET_TARGET_ATTRIBUTE,
-};
-pub use crate::texts::{FIND_MODULE, GET_DESK, GET_MODULE, LAST_MODULE, PUT_DESK, PUT_MODULE};
+pub use crate::module_row::Column;
+pub use crate::module_row::RowFault;
+pub use crate::module_row::read_module_label;
+pub use crate::new_entry::NewEntry;
+pub use crate::new_entry::tell_cancel;
+pub use crate::new_entry::tell_deployment;
+pub use crate::rollout_row::ListedAction;
+pub use crate::rollout_row::StoredAction;
+pub use crate::rollout_row::StoredRollout;
+pub use crate::rollout_row::read_group;
+pub use crate::rollout_row::read_listed_action;
+pub use crate::rollout_row::read_offer;
+pub use crate::rollout_row::read_stored_action;
+pub use crate::rollout_row::read_stored_rollout;
+pub use crate::rollout_texts::FIND_ROLLOUT;
+pub use crate::rollout_texts::GET_GROUP;
+pub use crate::rollout_texts::GET_ROLLOUT;
+pub use crate::rollout_texts::HOLDING_GROUP;
+pub use crate::rollout_texts::LAST_ROLLOUT;
+pub use crate::rollout_texts::LAST_STARTED;
+pub use crate::rollout_texts::LIST_GROUPS;
+pub use crate::rollout_texts::LIST_MEMBERS;
+pub use crate::rollout_texts::LIST_ROLLOUTS;
+pub use crate::rollout_texts::PUT_GROUP;
+pub use crate::rollout_texts::PUT_MEMBER;
+pub use crate::rollout_texts::PUT_ROLLOUT;
+pub use crate::rollout_texts::SET_GROUP;
+pub use crate::rollout_texts::SET_ROLLOUT;
+pub use crate::set_row::SetName;
+pub use crate::set_row::read_set_module;
+pub use crate::set_row::read_set_name;
+pub use crate::set_texts::FIND_SET;
+pub use crate::set_texts::GET_SET;
+pub use crate::set_texts::LAST_SET;
+pub use crate::set_texts::LIST_SET_MODULES;
+pub use crate::set_texts::MODULE_LOCKED;
+pub use crate::set_texts::PUT_SET;
+pub use crate::set_texts::PUT_SET_MODULE;
+pub use crate::table_texts::CREATE_ACTION;
+pub use crate::table_texts::CREATE_ARTIFACT;
+pub use crate::table_texts::CREATE_DESK;
+pub use crate::table_texts::CREATE_FEEDBACK;
+pub use crate::table_texts::CREATE_MEMBER;
+pub use crate::table_texts::CREATE_MODULE;
+pub use crate::table_texts::CREATE_OFFER;
+pub use crate::table_texts::CREATE_PIECE;
+pub use crate::table_texts::CREATE_ROLLOUT;
+pub use crate::table_texts::CREATE_ROLLOUT_GROUP;
+pub use crate::table_texts::CREATE_SET;
+pub use crate::table_texts::CREATE_SET_MODULE;
+pub use crate::table_texts::CREATE_TARGET;
+pub use crate::table_texts::CREATE_TARGET_ATTRIBUTE;
+pub use crate::table_texts::CREATE_TARGET_TAG;
+pub use crate::target_row::ListedTarget;
+pub use crate::target_row::StoredTarget;
+pub use crate::target_row::read_attribute;
+pub use crate::target_row::read_listed_target;
+pub use crate::target_row::read_member;
+pub use crate::target_row::read_stored_target;
+pub use crate::target_row::read_tag;
+pub use crate::target_texts::COUNT_TARGETS;
+pub use crate::target_texts::DROP_TARGET_TAG;
+pub use crate::target_texts::GET_TARGET;
+pub use crate::target_texts::LIST_TARGET_ATTRIBUTES;
+pub use crate::target_texts::LIST_TARGET_TAGS;
+pub use crate::target_texts::LIST_TARGETS;
+pub use crate::target_texts::PUT_TARGET;
+pub use crate::target_texts::PUT_TARGET_ATTRIBUTE;
+pub use crate::target_texts::PUT_TARGET_TAG;
+pub use crate::target_texts::SET_TARGET;
+pub use crate::target_texts::SET_TARGET_ATTRIBUTE;
+pub use crate::texts::FIND_MODULE;
+pub use crate::texts::GET_DESK;
+pub use crate::texts::GET_MODULE;
+pub use crate::texts::LAST_MODULE;
+pub use crate::texts::PUT_DESK;
+pub use crate::texts::PUT_MODULE;

@@ -17,6 +17,7 @@ use Rattle.rollout_model.specs.declared.rollout.Offer.{Offer}
 use Rattle.desk_records.specs.declared.action_texts.TheConstants.{PUT_ACTION, SET_ACTION, PUT_FEEDBACK, SET_OFFER, DROP_OFFER}
 use Rattle.desk_records.specs.declared.rollout_texts.TheConstants.{PUT_ROLLOUT, SET_ROLLOUT, PUT_MEMBER, PUT_GROUP, SET_GROUP}
 use Rattle.desk_records.specs.Actions.{Tally}
+use Rattle.desk_records.specs.declared.new_entry.NewEntry.{NewEntry}
 use Rattle.desk_records.specs.Holds.{HoldsLedger, HoldsRecords, Ledger, ledger_of}
 use Rattle.desk_records.specs.LedgerSteps.{AddsRollout, SetsRollout, AddsMember, AddsGroup, SetsGroup, AddsAction, SetsAction, AddsEntry, SetsOffer, with_offer}
 use Rattle.desk_records.specs.Rollouts.{member_row}
@@ -85,7 +86,7 @@ offer_dropped id old new out h = run_makes HoldsLedger (λ (l : Ledger). l) DROP
 abbrev pub knows_put_feedback : KnowsWrite HoldsLedger PUT_FEEDBACK.now
 knows_put_feedback = ledger_writes Feedbacks PUT_FEEDBACK.now (λ at tree. Insert at (Values feedback_terms 6)) put_feedback_is (λ at tree. refl)
 
-pub entry_written : (number sequence kind word : ℕ) (details : Bytes) (old new : State) (out : Result (Unit {0}) Fault) → RunsText old new PUT_FEEDBACK.now (entry_params number sequence kind word details) out
-    → Makes HoldsLedger (λ (l : Ledger). l) old new out (AddsEntry number sequence kind word details)
-entry_written number sequence kind word details old new out h = run_makes HoldsLedger (λ (l : Ledger). l) PUT_FEEDBACK.now (entry_params number sequence kind word details) old new (AddsEntry number sequence kind word details) knows_put_feedback.knows out h
-    (λ now next change holds count w. (w, adds_entry number sequence kind word details old new _ count now next holds change w))
+pub entry_written : (number sequence : ℕ) (entry : NewEntry) (old new : State) (out : Result (Unit {0}) Fault) → RunsText old new PUT_FEEDBACK.now (entry_params number sequence entry) out
+    → Makes HoldsLedger (λ (l : Ledger). l) old new out (AddsEntry number sequence entry)
+entry_written number sequence entry old new out h = run_makes HoldsLedger (λ (l : Ledger). l) PUT_FEEDBACK.now (entry_params number sequence entry) old new (AddsEntry number sequence entry) knows_put_feedback.knows out h
+    (λ now next change holds count w. (w, adds_entry number sequence entry old new _ count now next holds change w))

@@ -18,8 +18,9 @@ use crate::from_row::FromRow;
 use crate::reading::{last_number, read_all, read_optional};
 use desk_records::{
     DROP_OFFER, GET_ACTION, GET_OFFER, LAST_ACTION, LIST_ACTIONS, LIST_ENTRIES,
-    LIST_TARGET_ACTIONS, ListedAction, NEXT_OFFER, PUT_ACTION, PUT_FEEDBACK, RowFault, SET_ACTION,
-    SET_OFFER, StoredAction, read_entry, read_listed_action, read_offer, read_stored_action,
+    LIST_TARGET_ACTIONS, ListedAction, NEXT_OFFER, NewEntry, PUT_ACTION, PUT_FEEDBACK, RowFault,
+    SET_ACTION, SET_OFFER, StoredAction, read_entry, read_listed_action, read_offer,
+    read_stored_action,
 };
 use rollout_machine::Outcome;
 use rollout_model::{ActionNo, ControllerId, HistoryEntry, Offer, Page, RolloutNo};
@@ -197,23 +198,26 @@ impl<'a, S: Alter> OpenChange<'a, S> {
         )
     }
 
-    /// Adds the entry of this kind, word and lines to the history of an action that is there, at its next place. Its numbers of notes and
-    /// entries stay.
+    /// Adds an entry to the history of an action that is there, at its next place. Its numbers of notes and entries stay.
     pub fn write_entry(
         &mut self,
         number: ActionNo,
         sequence: u32,
-        kind: u32,
-        word: u32,
-        details: &str,
+        entry: &NewEntry,
     ) -> Result<(), Fault>
         ensures stays { StaysIn S.Store self.old self.new result }
-        ensures writes { MakesLedger S.Store self.old self.new result (AddsEntry number sequence kind word details.now) }
+        ensures writes { MakesLedger S.Store self.old self.new result (AddsEntry number sequence entry.now) }
         ensures work { AddsIn 1 0 self.old self.new }
     {
         self.run(
             PUT_FEEDBACK,
-            params![number.get(), sequence, kind, word, details],
+            params![
+                number.get(),
+                sequence,
+                entry.kind,
+                entry.word,
+                entry.details.as_str()
+            ],
         )
     }
 

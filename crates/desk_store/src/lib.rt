@@ -18,6 +18,7 @@ mod targets;
 pub use crate::change::OpenChange;
 pub use crate::store::DeskStore;
 pub use desk_records::{
-    ListedAction, ListedTarget, SetName, StoredAction, StoredArtifact, StoredRollout, StoredTarget,
+    ListedAction, ListedTarget, NewEntry, SetName, StoredAction, StoredArtifact, StoredRollout,
+    StoredTarget, tell_cancel, tell_deployment,
 };
 pub use sql_calls::{Fault, Work};

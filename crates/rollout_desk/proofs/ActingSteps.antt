@@ -31,7 +31,7 @@ use Rattle.rollout_desk.specs.ActionSteps.{Acts, ActsBy, MayAct, action_change_o
 use Rattle.rollout_desk.specs.Entries.{TellsEntries}
 use Rattle.rollout_desk.specs.SeenActions.{IsSeen, MaySee, SeesReport, SeesTarget, action_view_seen, cancel_view_seen, only_of, only_started, report_view_seen, reported_seen, seen_if}
 use Rattle.rollout_desk.specs.Steps.{Steps}
-use Rattle.rollout_desk.specs.declared.entries.NewEntry.{NewEntry}
+use Rattle.desk_records.specs.declared.new_entry.NewEntry.{NewEntry}
 use Rattle.rollout_desk.specs.declared.seen_actions.SeenAction.{SeenAction}
 use Rattle.rollout_desk.specs.declared.seen_actions.SeenReport.{SeenReport}
 use Rattle.rollout_desk.specs.declared.step.Step.{Step}

@@ -1,7 +1,6 @@
 -- What is told of an action and what becomes of it, write by write.
 use Rattle.sql_calls.proofs.Composing.{Then}
 use Rattle.std.proofs.Common.{◌≡◌, ℕ, Bool, true, false, List, [], ◌∷◌, ◌++◌, Option, Some, None, refl, sym, ap, ◌∙◌, subst}
-use Rattle.std.specs.Prelude.{string_bytes}
 use Rattle.rollout_machine.specs.Actions.{HistoryEntry}
 use Rattle.rollout_machine.specs.Commands.{Bytes}
 use Rattle.rollout_machine.specs.declared.outcome.Outcome.{Outcome}
@@ -16,18 +15,18 @@ use Rattle.desk_records.specs.declared.rollout_row.StoredAction.{StoredAction}
 use Rattle.rollout_desk.specs.ActionSteps.{Acts, ActsBy, Follows, MayAct, TellsAction, WritesTold, action_change_of, canceling_by, entries_by, notes_by, outcome_by, stays_offered, tally_by, with_entries}
 use Rattle.rollout_desk.specs.Entries.{TellsEntries}
 use Rattle.rollout_desk.specs.Offering.{MayReoffer, Reoffers}
-use Rattle.rollout_desk.specs.declared.entries.NewEntry.{NewEntry}
+use Rattle.desk_records.specs.declared.new_entry.NewEntry.{NewEntry}
 use Rattle.rollout_desk.specs.declared.seen_actions.SeenAction.{SeenAction}
 use Rattle.rollout_desk.proofs.ItemSteps.{append_none, set_same, set_twice, zip_at, zip_set}
 
 -- ---- the history
 
-pub told_adds : (k place : ℕ) (told : NewEntry) (l next : Ledger) → WritesTold k place (Some told) l next → AddsEntry k place told.kind told.word (string_bytes told.details) l next
+pub told_adds : (k place : ℕ) (told : NewEntry) (l next : Ledger) → WritesTold k place (Some told) l next → AddsEntry k place told l next
 told_adds k place told l next w = go w.entries w.tells w.next_is
   where
-    go : (entries : List HistoryEntry) → TellsEntries entries (Some told) → next ≡ with_actions l (set_numbered l.records.actions k (with_entries entries w.action)) l.tallies → AddsEntry k place told.kind told.word (string_bytes told.details) l next
+    go : (entries : List HistoryEntry) → TellsEntries entries (Some told) → next ≡ with_actions l (set_numbered l.records.actions k (with_entries entries w.action)) l.tallies → AddsEntry k place told l next
     go [] tells is = absurd tells
-    go (entry ∷ []) tells is = record { action = w.action; is_there = w.is_there; sequence_is = w.place_is; entry = entry; told = tells.row; next_is = is }
+    go (entry ∷ []) tells is = record { action = w.action; is_there = w.is_there; sequence_is = w.place_is; entry = entry; told = tells; next_is = is }
     go (entry ∷ other ∷ more) tells is = absurd tells
 
 pub none_told : (k place : ℕ) (l next : Ledger) → WritesTold k place None l next → next ≡ l

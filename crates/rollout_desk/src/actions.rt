@@ -12,12 +12,12 @@ ghost use Rattle.desk_store.specs.Changing.{MakesLedger, StaysIn};
 ghost use Rattle.rollout_desk.specs.Changing.{StepsIn};
 
 use crate::endings::follow_ending;
-use crate::entries::{NewEntry, more_if, one_more, tell_cancel, tell_deployment};
+use crate::entries::{more_if, one_more};
 use crate::offering::offer_anew;
 use crate::seen_actions::{SeenAction, cancel_view, report_view, see_report, see_target};
 use crate::step::Step;
 use campaign_core::{ActionChange, RolloutChange, cancel, cancel_feedback, feedback};
-use desk_store::{Fault, OpenChange};
+use desk_store::{Fault, NewEntry, OpenChange, tell_cancel, tell_deployment};
 use rollout_machine::Outcome;
 use rollout_model::{
     ActionNo, Cancel, CancelWord, Credential, DeploymentWord, Details, Reply, Report,
@@ -77,13 +77,7 @@ fn write_told<S: Alter>(
     ensures work { AddsIn 1 0 change.old change.new }
 {
     match told {
-        Some(told) => change.write_entry(
-            seen.number,
-            place,
-            told.kind,
-            told.word,
-            told.details.as_str(),
-        ),
+        Some(told) => change.write_entry(seen.number, place, told),
         None => Ok(()),
     }
 }
