@@ -7,8 +7,7 @@ use Rattle.rollout_machine.proofs.Actions.{append_none}
 use Rattle.rollout_machine.specs.Actions.{HistoryEntry, cancel_standing_said, entries_of, outcome_given}
 use Rattle.rollout_machine.specs.ByteStrings.{item_numbered}
 use Rattle.rollout_machine.specs.Commands.{Bytes, Cancel, Command}
-use Rattle.rollout_machine.specs.Effects.{feedback_pauses, good_after, starts_next}
-use Rattle.rollout_machine.specs.RecordSteps.{action_after, change_rollout, counted, is_same_action, outcome_if_new, own_group, rollout_after, rollouts_after_outcome, start_group, step_action, view_of}
+use Rattle.rollout_machine.specs.RecordSteps.{action_after, change_rollout, counted, is_same_action, outcome_if_new, own_group, rollout_after, rollouts_after_outcome, step_action}
 use Rattle.rollout_machine.specs.Records.{Records}
 use Rattle.rollout_machine.specs.declared.records.ActionRecord.{ActionRecord}
 use Rattle.rollout_machine.specs.declared.records.RolloutRecord.{RolloutRecord}
@@ -16,10 +15,12 @@ use Rattle.rollout_machine.specs.StateWords.{group_number_of, has_started, is_fo
 use Rattle.rollout_machine.specs.Targets.{Target}
 use Rattle.rollout_machine.specs.Verdicts.{check, first_refusal, on_action, target_of}
 use Rattle.rollout_machine.specs.declared.outcome.Outcome.{Outcome}
-use Rattle.rollout_machine.specs.declared.view.RolloutView.{RolloutView}
+use Rattle.rollout_machine.specs.declared.view.Effects.{Effects}
 use Rattle.rollout_model.specs.declared.refusal.Refusal.{Refusal}
 use Rattle.rollout_model.specs.declared.refusal.Refusal.TheVariants.{ClosedAction, NotFound, WrongState}
-use Rattle.campaign_core.specs.RolloutChecks.{AreSound, BothOrNone, ChangesAction, Decides, IsActionView, IsCancelView, MakesCancel, MayChangeAction, action_for, action_with, cancel_refusal, change_by, change_if_open, change_numbered, ended_by, only_if, outcome_forced, rollout_with, rollouts_with}
+use Rattle.campaign_core.specs.OwnGroups.{OwnDecides, own_effects, own_view_of}
+use Rattle.campaign_core.specs.declared.own_group.OwnView.{OwnView}
+use Rattle.campaign_core.specs.RolloutChecks.{AreSound, BothOrNone, ChangesAction, Decides, IsActionView, IsCancelView, MakesCancel, MayChangeAction, action_for, action_with, cancel_refusal, change_by, change_if_open, change_numbered, ended_by, moved_by, only_if, outcome_forced, rollout_with, rollouts_with}
 use Rattle.campaign_core.specs.declared.rollout_checks.RolloutChange.TheVariants as change
 use Rattle.campaign_core.specs.declared.rollout_checks.RolloutCommandView.TheVariants as seen
 use Rattle.campaign_core.specs.declared.rollout_checks.actions.ActionChange.{ActionChange}
@@ -75,29 +76,33 @@ closed_after c a o had over =
 record HasRollout (v : ActionView) (a : ActionRecord) (rs : Records) : Type 0 where
   rollout : RolloutRecord
   there : item_numbered rs.rollouts a.rollout ≡ Some rollout
-  is : v.rollout ≡ view_of rollout (group_number_of rollout a)
+  is : v.rollout ≡ own_view_of rollout (group_number_of rollout a)
 
 has_rollout : (v : ActionView) (a : ActionRecord) (rs : Records) → IsActionView v a rs → HasRollout v a rs
 has_rollout v a rs is = go (item_numbered rs.rollouts a.rollout) refl is.rollout
   where
-    go : (o : Option RolloutRecord) → item_numbered rs.rollouts a.rollout ≡ o → Some v.rollout ≡ option_map (λ x. view_of x (group_number_of x a)) o → HasRollout v a rs
+    go : (o : Option RolloutRecord) → item_numbered rs.rollouts a.rollout ≡ o → Some v.rollout ≡ option_map (λ x. own_view_of x (group_number_of x a)) o → HasRollout v a rs
     go None d e = cc
     go (Some x) d e = record { rollout = x; there = d; is = cc }
 
-abbrev after_as : RolloutRecord → Outcome → RolloutView → ℕ → RolloutRecord
-after_as x o w i = record x { paused = feedback_pauses w o || x.paused; groups = map (start_group (starts_next w (w.paused || feedback_pauses w o) (good_after w o))) (map (counted o i) x.groups) }
+abbrev after_as : RolloutRecord → Outcome → Effects → ℕ → RolloutRecord
+after_as x o e i = moved_by e (record x { groups = map (counted o i) x.groups })
 
-rollout_ended : (v : ActionView) (o : Outcome) (x : RolloutRecord) (i : ℕ) → v.rollout ≡ view_of x i → rollout_after o i x ≡ rollout_with (ended_by v o) x
-rollout_ended v o x i is = ap (λ j. after_as x o (view_of x i) j) (sym (number_is x i)) ∙ ap (λ (w : RolloutView). after_as x o w w.own.number) (sym is)
+rollout_ended : (v : ActionView) (o : Outcome) (x : RolloutRecord) (a : ActionRecord) → OwnDecides x a → v.rollout ≡ own_view_of x (group_number_of x a) → rollout_after o (group_number_of x a) x ≡ rollout_with (ended_by v o) x
+rollout_ended v o x a decides is =
+    let i = group_number_of x a in
+    ap (λ e. after_as x o e i) (decides o ∙ ap (λ (w : OwnView). own_effects w o) (sym is))
+    ∙ ap (after_as x o (own_effects v.rollout o)) (sym (ap (λ (w : OwnView). w.own.number) is ∙ number_is x i))
 
-rollouts_ended : (rs : Records) → AreSound rs → (a : ActionRecord) (v : ActionView) → IsActionView v a rs → (gives : Option Outcome) (canceling : Bool) → rollouts_after_outcome gives rs.rollouts a ≡ rollouts_with (change_by v gives canceling) rs.rollouts
-rollouts_ended rs sound a v is None canceling = refl
-rollouts_ended rs sound a v is (Some o) canceling =
+rollouts_ended : (rs : Records) → AreSound rs → (k : ℕ) (a : ActionRecord) (v : ActionView) → item_numbered rs.actions k ≡ Some a → IsActionView v a rs → (gives : Option Outcome) (canceling : Bool)
+    → rollouts_after_outcome gives rs.rollouts a ≡ rollouts_with (change_by v gives canceling) rs.rollouts
+rollouts_ended rs sound k a v at is None canceling = refl
+rollouts_ended rs sound k a v at is (Some o) canceling =
     let it : HasRollout v a rs = has_rollout v a rs is in
     ap (λ q. change_rollout a.rollout (rollout_after o (own_group q a)) rs.rollouts) it.there
     ∙ rollouts_changed rs sound a.rollout (rollout_after o (group_number_of it.rollout a))
     ∙ changed_same (rollout_after o (group_number_of it.rollout a)) (rollout_with (ended_by v o)) a.rollout rs.rollouts
-    (λ y d. subst (λ z. rollout_after o (group_number_of it.rollout a) z ≡ rollout_with (ended_by v o) z) (same_item (item_numbered rs.rollouts a.rollout) it.rollout y it.there d) (rollout_ended v o it.rollout (group_number_of it.rollout a) it.is))
+    (λ y d. subst (λ z. rollout_after o (group_number_of it.rollout a) z ≡ rollout_with (ended_by v o) z) (same_item (item_numbered rs.rollouts a.rollout) it.rollout y it.there d) (rollout_ended v o it.rollout a (sound.own k a it.rollout at it.there) it.is))
     ∙ ap (λ r. change_numbered r (rollout_with (ended_by v o)) rs.rollouts) (sym is.number)
 
 -- ---- the step
@@ -111,7 +116,7 @@ pub acts : (rs : Records) → AreSound rs → (c : Command) (k : ℕ) (a : Actio
 acts rs sound c k a v gives canceling at was is given said =
     ap (step_action rs c) at
     ∙ both rs _ _ _ _
-    (ap (λ p. rollouts_after_outcome (outcome_if_new p (outcome_given c a.canceling)) rs.rollouts a) is_open ∙ ap (λ g. rollouts_after_outcome g rs.rollouts a) given ∙ rollouts_ended rs sound a v is gives canceling)
+    (ap (λ p. rollouts_after_outcome (outcome_if_new p (outcome_given c a.canceling)) rs.rollouts a) is_open ∙ ap (λ g. rollouts_after_outcome g rs.rollouts a) given ∙ rollouts_ended rs sound k a v at is gives canceling)
     (actions_changed rs sound k a (action_after c) at
     ∙ changed_same (action_after c) after k rs.actions (λ b d. subst (λ z. action_after c z ≡ after z) (same_item (item_numbered rs.actions k) a b at d) (open_after c a v gives canceling is_open given said)))
   where

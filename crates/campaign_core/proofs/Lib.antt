@@ -2,6 +2,8 @@ pub mod ActionLemmas
 pub mod CheckLemmas
 pub mod Examples
 pub mod ItemLemmas
+pub mod OwnGroups
+pub mod PlacedActions
 pub mod ReportLemmas
 mod RolloutExamples
 pub mod RolloutLemmas

@@ -56,7 +56,7 @@ abbrev group : GroupView
 group = record { number = 1; size = 3; ok = 0; bad = 0; success = 50; error = 50 }
 
 abbrev acted : (outcome : Option Outcome) (canceling : Bool) → ActionView
-acted o canceling = record { outcome = o; canceling = canceling; number = 1; rollout = record { paused = false; groups = 3; own = group; last = group } }
+acted o canceling = record { outcome = o; canceling = canceling; number = 1; rollout = record { paused = false; own = group; next_waits = true } }
 
 abbrev canceled : (outcome : Option Outcome) (started canceling : Bool) → Option CancelView
 canceled o started canceling = Some (record { started = started; action = acted o canceling })

@@ -1,12 +1,11 @@
 -- The records of accepted commands are sound, so a verdict over sound records is that at a command list.
-use Rattle.std.proofs.Common.{◌≡◌, ℕ, zero, suc, ◌+◌, true, false, ◌&&◌, List, [], ◌∷◌, refl, sym, ◌∙◌, ap, subst, arith, Option, Some, None, Result, Ok, Err}
+use Rattle.std.proofs.Common.{◌≡◌, ℕ, zero, suc, ◌+◌, true, false, ◌&&◌, List, [], ◌∷◌, sym, ◌∙◌, ap, subst, arith, Some, Result, Ok, Err}
 use Rattle.std.specs.Prelude.{is_none, nat_eq, slice_get}
 use Rattle.std.specs.Option.{option_map, unwrap_or}
 use Rattle.std.proofs.lemmas.Bool.{and_parts, eqb-true}
-use Rattle.rollout_machine.proofs.Actions.{numbered_map}
 use Rattle.rollout_machine.proofs.Distinct.{one_number}
 use Rattle.rollout_machine.proofs.Main.{records_step}
-use Rattle.rollout_machine.specs.Actions.{ActionPlace, action_place, action_places, cancel_stands}
+use Rattle.rollout_machine.specs.Actions.{ActionPlace, cancel_stands}
 use Rattle.rollout_machine.specs.ByteStrings.{item_numbered}
 use Rattle.rollout_machine.specs.CommandList.{CommandList}
 use Rattle.rollout_machine.specs.Commands.{Command}
@@ -18,6 +17,8 @@ use Rattle.rollout_machine.specs.Rollouts.{Rollout, rollouts}
 use Rattle.rollout_machine.specs.Validity.{IsValid}
 use Rattle.rollout_machine.specs.declared.outcome.Outcome.{Outcome}
 use Rattle.rollout_model.specs.declared.refusal.Refusal.{Refusal}
+use Rattle.campaign_core.proofs.OwnGroups.{own_group_decides}
+use Rattle.campaign_core.proofs.PlacedActions.{HasPlace, has_place}
 use Rattle.campaign_core.specs.RolloutChecks.{AreSound, Decides, Follows, LeadsTo}
 use Rattle.campaign_core.specs.declared.rollout_checks.RolloutChange.{RolloutChange}
 use Rattle.campaign_core.specs.declared.rollout_checks.RolloutCommandView.{RolloutCommandView}
@@ -32,20 +33,6 @@ number_at h a (suc i) (y ∷ ys) x e = let n : x.number ≡ suc a + i = number_a
 numbered_from : (h : CommandList) (r : ℕ) (xs : List Rollout) (x : RolloutRecord) → item_numbered (rollouts_in h 1 xs) r ≡ Some x → x.number ≡ r
 numbered_from h zero xs x e = cc
 numbered_from h (suc i) xs x e = let n : x.number ≡ 1 + i = number_at h 1 i xs x e in omega (arith, n)
-
--- the place of an action of a number
-record HasPlace (h : CommandList) (k : ℕ) (a : ActionRecord) : Type 0 where
-  place : ActionPlace
-  numbered : action_place h k ≡ Some place
-  is : a ≡ action_in h place
-
-has_place : (h : CommandList) (k : ℕ) (a : ActionRecord) → item_numbered (records h).actions k ≡ Some a → HasPlace h k a
-unfolding records
-has_place h k a e = go (action_place h k) refl (sym (numbered_map (action_in h) (action_places h) k) ∙ e)
-  where
-    go : (o : Option ActionPlace) → action_place h k ≡ o → option_map (action_in h) o ≡ Some a → HasPlace h k a
-    go None d e = cc
-    go (Some p) d e = record { place = p; numbered = d; is = cc }
 
 same_place : (p q : ActionPlace) → (nat_eq q.rollout p.rollout && nat_eq q.position p.position) ≡ true → p ≡ q
 same_place p q t =
@@ -74,6 +61,7 @@ records_are_sound h valid = record {
   numbered = numbers h;
   apart = λ j k a b d e t. places_apart h valid j k a b (has_place h j a d) (has_place h k b e) t;
   over = λ k a o d e. ended h k a o (has_place h k a d) e;
+  own = λ k a x d e. own_group_decides h k a x valid d e;
 }
 
 pub rollout_decision_follows : (v : RolloutCommandView) (c : Command) (result : Result RolloutChange Refusal) → Decides v c result → Follows v c result

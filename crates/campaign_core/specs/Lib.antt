@@ -1,3 +1,4 @@
 pub mod Checks
+pub mod OwnGroups
 pub mod RolloutChecks
 pub mod StatusWords

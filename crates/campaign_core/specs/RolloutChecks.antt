@@ -9,7 +9,6 @@ use Rattle.rollout_machine.specs.ByteStrings.{item_numbered, same_bytes}
 use Rattle.rollout_machine.specs.CommandList.{CommandList, ◌▸◌}
 use Rattle.rollout_machine.specs.Commands.{Bytes, CancelWord, Command, Credential, DeploymentWord, RolloutPlan, RejectedCancel, Approve, Cancel}
 use Rattle.rollout_machine.specs.Commands.{CancelFeedback, CreateRollout, Deny, Feedback, Pause, Resume, Start, TriggerNext}
-use Rattle.rollout_machine.specs.Effects.{feedback_pauses, good_after, starts_next}
 use Rattle.rollout_machine.specs.Ranges.{each_from}
 use Rattle.rollout_machine.specs.RecordSteps.{begin_rollout, counted, is_same_action, last_started, new_actions, new_group, start_group, step_records, view_of}
 use Rattle.rollout_machine.specs.Records.{Approval, Denied, Given, Records, Waiting, records}
@@ -23,7 +22,7 @@ use Rattle.rollout_machine.specs.Verdicts.{target_of, verdict}
 use Rattle.rollout_machine.specs.declared.outcome.Outcome.{Outcome}
 use Rattle.rollout_machine.specs.declared.outcome.Outcome.TheVariants.{Gone}
 use Rattle.rollout_machine.specs.declared.view.Effects.{Effects}
-use Rattle.rollout_machine.specs.declared.view.RolloutView.{RolloutView}
+use Rattle.campaign_core.specs.OwnGroups.{OwnDecides, effects_by, following, own_view_of}
 use Rattle.rollout_model.specs.Limits.{note_limit, rollout_limit}
 use Rattle.rollout_model.specs.declared.refusal.Refusal.{Refusal}
 use Rattle.rollout_model.specs.declared.refusal.Refusal.TheVariants.{BadFilter, ClosedAction, Exists, NotFound, Quota, TooFewTargets, Unauthorized, WrongState}
@@ -46,11 +45,13 @@ use Rattle.campaign_core.specs.declared.rollout_checks.standing.StandingView.{St
 
 -- ---- records and their items
 
--- What the records of accepted commands have: rollout k has number k, no two actions have one place, and none that has its outcome is canceling.
+-- What the records of accepted commands have: rollout k has number k, no two actions have one place, none that has its outcome is canceling, and
+-- what an outcome does to its rollout is told by the action's own group.
 pub record AreSound (rs : Records) : Type 0 where
   pub numbered : (r : ℕ) (x : RolloutRecord) → item_numbered rs.rollouts r ≡ Some x → x.number ≡ r
   pub apart : (j k : ℕ) (a b : ActionRecord) → item_numbered rs.actions j ≡ Some a → item_numbered rs.actions k ≡ Some b → is_same_action a b ≡ true → j ≡ k
   pub over : (k : ℕ) (a : ActionRecord) (o : Outcome) → item_numbered rs.actions k ≡ Some a → a.outcome ≡ Some o → a.canceling ≡ false
+  pub own : (k : ℕ) (a : ActionRecord) (x : RolloutRecord) → item_numbered rs.actions k ≡ Some a → item_numbered rs.rollouts a.rollout ≡ Some x → OwnDecides x a
 
 -- the items after the one of this number, counted from 1, was changed
 abbrev pub change_numbered : {X : Type 0} → ℕ → (X → X) → List X → List X
@@ -157,7 +158,7 @@ pub record IsActionView (v : ActionView) (a : ActionRecord) (rs : Records) : Typ
   pub outcome : v.outcome ≡ a.outcome
   pub canceling : v.canceling ≡ a.canceling
   pub number : v.number ≡ a.rollout
-  pub rollout : Some v.rollout ≡ option_map (λ x. view_of x (group_number_of x a)) (item_numbered rs.rollouts a.rollout)
+  pub rollout : Some v.rollout ≡ option_map (λ x. own_view_of x (group_number_of x a)) (item_numbered rs.rollouts a.rollout)
 
 pub record IsCancelView (v : CancelView) (a : ActionRecord) (rs : Records) : Type 0 where
   pub started : v.started ≡ has_started rs a
@@ -214,13 +215,9 @@ cancel_feedback_refusal word v =
     first_refusal ((gives_other (outcome_of_cancel word) v.action, ClosedAction) ∷ (is_none v.action.outcome && not v.action.canceling, WrongState)
     ∷ (is_beyond (is_note (CancelEntry word [])) v, Quota) ∷ [])
 
--- what an outcome of the action does to its rollout
-abbrev pub effects_of : RolloutView → Outcome → Effects
-effects_of v o = record { pauses = feedback_pauses v o; starts = starts_next v (v.paused || feedback_pauses v o) (good_after v o) }
-
 -- the action ends so, in its own group
 abbrev pub ended_by : ActionView → Outcome → Ending
-ended_by v o = record { rollout = v.number; group = v.rollout.own.number; outcome = o; effects = effects_of v.rollout o }
+ended_by v o = record { rollout = v.number; group = v.rollout.own.number; outcome = o; following = following v.rollout o }
 
 -- an open action gets an outcome, or stays open, canceling or not
 abbrev pub change_by : ActionView → Option Outcome → Bool → ActionChange
@@ -249,9 +246,9 @@ abbrev pub action_with : ActionChange → ActionRecord → ActionRecord
 action_with (StaysOpen canceling) a = record a { canceling = canceling }
 action_with (Ends e) a = record a { outcome = Some e.outcome; canceling = false }
 
--- the outcome is counted in its group, and its effects are there
+-- the outcome is counted in its group, and what follows is there
 abbrev pub rollout_with : Ending → RolloutRecord → RolloutRecord
-rollout_with e x = record x { paused = e.effects.pauses || x.paused; groups = map (start_group e.effects.starts) (map (counted e.outcome e.group) x.groups) }
+rollout_with e x = moved_by (effects_by e.group e.following) (record x { groups = map (counted e.outcome e.group) x.groups })
 
 abbrev pub rollouts_with : ActionChange → List RolloutRecord → List RolloutRecord
 rollouts_with (StaysOpen canceling) xs = xs

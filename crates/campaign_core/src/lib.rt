@@ -5,6 +5,7 @@
 mod checks;
 mod effects;
 mod groups;
+mod own_group;
 mod rollout_checks;
 mod status_words;
 mod thresholds;
@@ -13,8 +14,9 @@ pub use checks::{
     ArtifactView, AttributesView, Change, ImportView, ModuleView, NewArtifact, NewModule, NewSet,
     SetView, TagView, UntagView, View, check,
 };
-pub use effects::{after_feedback, after_resume, after_trigger};
+pub use effects::{after_resume, after_trigger};
 pub use groups::{cut_groups, group_bounds};
+pub use own_group::{Following, OwnView, after_feedback, own_group_decides};
 pub use rollout_checks::{
     ActionChange, ActionView, CancelView, Ending, NewRollout, PlanView, ReportView, ReportedAction,
     ResumeView, RolloutChange, RolloutCommandView, StandingView, TriggerView, approve, cancel,

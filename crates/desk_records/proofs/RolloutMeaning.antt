@@ -19,9 +19,9 @@ use Rattle.sql_front.proofs.Write.{Adds, adds_known}
 use Rattle.sql_front.proofs.Change.{Updates, updates_known}
 use Rattle.sql_calls.specs.Means.{Means}
 use Rattle.sql_calls.proofs.Selects.{simple, by}
-use Rattle.desk_records.specs.declared.rollout_texts.TheConstants.{FIND_ROLLOUT, LAST_ROLLOUT, GET_ROLLOUT, LIST_ROLLOUTS, LIST_MEMBERS, LIST_GROUPS, GET_GROUP, HOLDING_GROUP, LAST_STARTED, PUT_ROLLOUT, SET_ROLLOUT, PUT_MEMBER, PUT_GROUP, SET_GROUP}
+use Rattle.desk_records.specs.declared.rollout_texts.TheConstants.{FIND_ROLLOUT, LAST_ROLLOUT, GET_ROLLOUT, LIST_ROLLOUTS, LIST_MEMBERS, LIST_GROUPS, GET_GROUP, HOLDING_GROUP, GROUP_AND_NEXT, PUT_ROLLOUT, SET_ROLLOUT, PUT_MEMBER, PUT_GROUP, SET_GROUP}
 use Rattle.desk_records.specs.Schema.{rollout_table, member_table, group_table}
-use Rattle.desk_records.proofs.MeaningWords.{means_of, is_equal, at_key, past, at_least, at_most}
+use Rattle.desk_records.proofs.MeaningWords.{means_of, at_key, past, at_least, at_most}
 
 abbrev pub same_name : List Term
 same_name = at_key 2 0 ∷ []
@@ -247,15 +247,15 @@ holding_group_queries tree = record {
 pub holding_group_is : (s : Schema) (at tree : ℕ) → Stands s (codes "rollout_group") at (group_table tree) → Means s HOLDING_GROUP.now (Select (record { lets = []; body = holding_group_query tree }) group_names)
 holding_group_is s at tree stands = means_of s HOLDING_GROUP.now _ (queries_known _ _ _ _ _ (holding_group_queries tree) s at stands) refl refl
 
-abbrev pub started_in : List Term
-started_in = at_key 1 0 ∷ is_equal (col 1 5) (lit (Int (pos 1))) ∷ []
+abbrev pub reaching : List Term
+reaching = at_key 1 0 ∷ at_least 4 1 ∷ []
 
-abbrev pub last_started_query : ℕ → Query
-last_started_query tree = by (simple tree started_in group_columns) ((col 1 2, record { descending = true; collation = Binary }) ∷ []) (lit (Int (pos 1))) (lit (Int (pos 0)))
+abbrev pub group_and_next_query : ℕ → Query
+group_and_next_query tree = by (simple tree reaching group_columns) ((col 1 2, record { descending = false; collation = Binary }) ∷ []) (lit (Int (pos 2))) (lit (Int (pos 0)))
 
-last_started_queries : (tree : ℕ) → Queries LAST_STARTED.now (codes "rollout_group") (group_table tree) (last_started_query tree) group_names
+group_and_next_queries : (tree : ℕ) → Queries GROUP_AND_NEXT.now (codes "rollout_group") (group_table tree) (group_and_next_query tree) group_names
 unfolding first combine named paging everything
-last_started_queries tree = record {
+group_and_next_queries tree = record {
   parsed = _;
   select = _;
   page = _;
@@ -272,8 +272,8 @@ last_started_queries tree = record {
   fits = refl;
 }
 
-pub last_started_is : (s : Schema) (at tree : ℕ) → Stands s (codes "rollout_group") at (group_table tree) → Means s LAST_STARTED.now (Select (record { lets = []; body = last_started_query tree }) group_names)
-last_started_is s at tree stands = means_of s LAST_STARTED.now _ (queries_known _ _ _ _ _ (last_started_queries tree) s at stands) refl refl
+pub group_and_next_is : (s : Schema) (at tree : ℕ) → Stands s (codes "rollout_group") at (group_table tree) → Means s GROUP_AND_NEXT.now (Select (record { lets = []; body = group_and_next_query tree }) group_names)
+group_and_next_is s at tree stands = means_of s GROUP_AND_NEXT.now _ (queries_known _ _ _ _ _ (group_and_next_queries tree) s at stands) refl refl
 
 abbrev pub rollout_terms : List Term
 rollout_terms = col 0 0 ∷ lit Null ∷ col 0 1 ∷ col 0 2 ∷ col 0 3 ∷ col 0 4 ∷ col 0 5 ∷ col 0 6 ∷ col 0 7 ∷ lit (Int (pos 0)) ∷ lit (Int (pos 0)) ∷ []

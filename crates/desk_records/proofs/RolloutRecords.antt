@@ -2,7 +2,6 @@
 use Rattle.std.proofs.Common.{◌≡◌, ◌≤◌, ◌&&◌, ℕ, ◌+◌, pos, negsuc, List, [], ◌∷◌, map, filter, take, drop, find, length, slice_get, Bool, true, false, cond, ◌++◌, reverse, Option, Some, None, option_map, refl, sym, ap, subst, ◌∙◌, arith, nat_eq, nat_le, nat_lt}
 use Rattle.std.specs.List.{list_any}
 use Rattle.std.specs.Option.{is_some, option_or}
-use Rattle.std.proofs.lemmas.Grind.{reverse_onto}
 use Rattle.std.proofs.lemmas.List.{take-map}
 use Rattle.std.proofs.lemmas.Option.{slice_get-map}
 use Rattle.std.proofs.lemmas.Bool.Decides.{nat_tests}
@@ -11,7 +10,6 @@ use Rattle.sqlite_value.specs.Order.{Row}
 use Rattle.sqlite.specs.Term.{Term, lit, col}
 use Rattle.sqlite.specs.Command.TheVariants.{Select}
 use Rattle.sqlite.specs.Effect.{Database, Reads as Shows}
-use Rattle.sqlite_keyed.proofs.ListLemmas.{first_taken}
 use Rattle.sql_calls.specs.Keyed.{rows_from}
 use Rattle.sql_calls.proofs.Finding.{ShowsFirst}
 use Rattle.sql_calls.proofs.KeyedRows.{on_content}
@@ -19,20 +17,19 @@ use Rattle.sql_calls.proofs.Selects.{simple, passes, shown_of}
 use Rattle.rollout_machine.specs.ByteStrings.{item_numbered}
 use Rattle.rollout_machine.specs.Commands.{Bytes}
 use Rattle.rollout_machine.specs.Groups.{holds_position}
-use Rattle.rollout_machine.specs.RecordSteps.{last_started}
 use Rattle.rollout_machine.specs.StateWords.{group_numbered, group_holding}
 use Rattle.rollout_machine.specs.declared.records.GroupRecord.{GroupRecord}
 use Rattle.rollout_machine.specs.declared.records.RolloutRecord.{RolloutRecord}
 use Rattle.desk_records.specs.Modules.{IsLastRow}
 use Rattle.desk_records.specs.Schema.{Rollouts, Groups, Members}
 use Rattle.desk_records.specs.Parts.{parts_of}
-use Rattle.desk_records.specs.Rollouts.{flag, is_called, rollout_row, told_rollout, group_row, told_group, numbered_from, groups_of, last_started_group, member_row, members_of}
+use Rattle.desk_records.specs.Rollouts.{is_called, rollout_row, told_rollout, group_row, told_group, numbered_from, groups_of, member_row, members_of, that_reach}
 use Rattle.desk_records.specs.Holds.{HoldsLedger, Ledger}
 use Rattle.desk_records.proofs.Comparisons.{and_true, numbers_above, numbers_equal, numbers_at_least, numbers_at_most, words_equal}
 use Rattle.desk_records.proofs.MeaningWords.{at_key}
-use Rattle.desk_records.proofs.RolloutMeaning.{same_name, last_rollout_query, rollout_columns, list_rollouts_query, of_rollout, group_columns, list_groups_query, of_group, get_group_query, holding, holding_group_query, started_in, last_started_query, after_place, list_members_query, member_columns}
+use Rattle.desk_records.proofs.RolloutMeaning.{same_name, last_rollout_query, rollout_columns, list_rollouts_query, of_rollout, group_columns, list_groups_query, of_group, get_group_query, holding, holding_group_query, reaching, group_and_next_query, after_place, list_members_query, member_columns}
 use Rattle.desk_records.proofs.NumberedReads.{finds, gets, lasts, pages, passes_number}
-use Rattle.desk_records.proofs.PartReads.{later_shown, map_reverse, reads_parts}
+use Rattle.desk_records.proofs.PartReads.{later_shown, reads_parts}
 use Rattle.desk_records.proofs.TargetRecords.{first_row}
 
 same : (n : ℕ) → nat_eq n n ≡ true
@@ -91,61 +88,6 @@ first_kept wanted (g ∷ gs) = go (wanted g) (first_kept wanted gs)
     go true rest = refl
     go false rest = rest
 
--- the last of these groups that is started has this number, which is at least n, and there is no other of this number; or none is
-abbrev IsLastOf : ℕ → List GroupRecord → Option GroupRecord → Type 0
-IsLastOf n gs None = last_started gs ≡ 0
-IsLastOf n gs (Some g) = (last_started gs ≡ g.number) × (n ≤ g.number) × (group_numbered g.number gs ≡ Some g)
-
-abbrev last_of : List GroupRecord → Option GroupRecord
-last_of gs = slice_get (reverse (filter (λ (g : GroupRecord). g.started) gs)) 0
-
-first_or_last : {X : Type 0} (xs : List X) (x : X) → slice_get (xs ++ x ∷ []) 0 ≡ option_or (slice_get xs 0) (Some x)
-first_or_last [] x = refl
-first_or_last (y ∷ ys) x = refl
-
-no_other : {X : Type 0} (o : Option X) → o ≡ option_or o None
-no_other None = refl
-no_other (Some x) = refl
-
-last_of_more : (g : GroupRecord) (gs : List GroupRecord) → last_of (g ∷ gs) ≡ option_or (last_of gs) (cond g.started (Some g) None)
-last_of_more g gs = go g.started
-  where
-    go : (b : Bool) → slice_get (reverse (cond b (g ∷ filter (λ (g : GroupRecord). g.started) gs) (filter (λ (g : GroupRecord). g.started) gs))) 0 ≡ option_or (last_of gs) (cond b (Some g) None)
-    go true = ap (λ l. slice_get l 0) (reverse_onto (filter (λ (g : GroupRecord). g.started) gs) g []) ∙ first_or_last _ g
-    go false = no_other _
-
-is_last : (n : ℕ) (gs : List GroupRecord) → IsLastOf n (numbered_from n gs) (last_of (numbered_from n gs))
-is_last n [] = refl
-is_last n (g ∷ gs) = subst (IsLastOf n (x ∷ more)) (sym (last_of_more x more)) (go (last_of more) (is_last (n + 1) gs))
-  where
-    x : GroupRecord
-    x = record g { number = n }
-
-    more : List GroupRecord
-    more = numbered_from (n + 1) gs
-
-    here : (b : Bool) → g.started ≡ b → last_started more ≡ 0 → IsLastOf n (x ∷ more) (cond b (Some x) None)
-    here true is none = (rw (none, is) refl, omega arith, rw (same n) refl)
-    here false is none = rw (none, is) refl
-
-    go : (o : Option GroupRecord) → IsLastOf (n + 1) more o → IsLastOf n (x ∷ more) (option_or o (cond g.started (Some x) None))
-    go None none = here g.started refl none
-    go (Some y) is =
-        let some : nat_eq y.number 0 ≡ false = grind (arith, nat_tests, is.1) in
-        let other : nat_eq n y.number ≡ false = grind (arith, nat_tests, is.1) in
-        (rw (is.0, some) refl, omega (arith, is.1), rw other is.2)
-
-none_numbered : (n : ℕ) (gs : List GroupRecord) → 1 ≤ n → group_numbered 0 (numbered_from n gs) ≡ None
-none_numbered n [] least = refl
-none_numbered n (g ∷ gs) least = let other : nat_eq n 0 ≡ false = grind (arith, nat_tests, least) in rw other (none_numbered (n + 1) gs (omega (arith, least)))
-
-last_is : (gs : List GroupRecord) → last_of (numbered_from 1 gs) ≡ last_started_group (numbered_from 1 gs)
-last_is gs = go (last_of (numbered_from 1 gs)) (is_last 1 gs)
-  where
-    go : (o : Option GroupRecord) → IsLastOf 1 (numbered_from 1 gs) o → o ≡ last_started_group (numbered_from 1 gs)
-    go None none = sym (ap (λ n. group_numbered n (numbered_from 1 gs)) none ∙ none_numbered 1 gs (omega arith))
-    go (Some g) is = sym (ap (λ n. group_numbered n (numbered_from 1 gs)) is.0 ∙ is.2)
-
 module _ (db : Database) (l : Ledger) (holds : HoldsLedger db l) (names : List (List ℕ)) where
   abbrev at : ℕ
   at = (holds.spot Groups).tree
@@ -190,25 +132,18 @@ module _ (db : Database) (l : Ledger) (holds : HoldsLedger db l) (names : List (
       is_holding : (n k : ℕ) (g : GroupRecord) → on_content (passes holding (Int (pos number) ∷ Int (pos place) ∷ [])) (group_row n k g) ≡ (nat_eq n number && holds_position place g.bounds)
       is_holding n k g = rw (numbers_equal n number, numbers_at_most g.bounds.first place, numbers_at_least g.bounds.last place, and_true (nat_le place g.bounds.last)) refl
 
-  -- the last one that is started
-  pub lasts_started : (number : ℕ) → 1 ≤ number → (row : Option Row) → ShowsFirst (Select (record { lets = []; body = last_started_query at }) names) db (Int (pos number) ∷ []) row → row ≡ option_map shown_group (last_started_group (found number))
-  lasts_started number least row shown =
-      let params = Int (pos number) ∷ [] in
-      let its = parts_of (λ (x : RolloutRecord). x.groups) (item_numbered l.records.rollouts number) in
-      let kept = filter (λ (g : GroupRecord). g.started) (found number) in
-      first_row (Select (record { lets = []; body = last_started_query at }) names) db params _ (λ rows shows. ap (λ (l : List Row). slice_get l 0)
-      (reads_parts told_group (λ (x : RolloutRecord). x.groups) at started_in group_columns (lit (Int (pos 1))) (lit (Int (pos 0))) params true number least (λ id x. refl) (λ id x. refl) (λ n k g apart. is_started n k g ∙ ap (λ b. b && g.started) apart)
-      db.trees l.records.rollouts (holds.rows Groups) rows (shows.answer Null))
-      ∙ first_taken _
-      ∙ ap (λ (l : List Row). slice_get (reverse l) 0) (shown_groups number started_in params (λ g. g.started) (λ k g. is_started number k g ∙ ap (λ b. b && g.started) (same number)) 1 its)
-      ∙ ap (λ (l : List Row). slice_get l 0) (sym (map_reverse shown_group kept)) ∙ slice_get-map shown_group (reverse kept) 0 ∙ ap (option_map shown_group) (last_is its)) row shown
+  -- the first two groups that reach a place
+  pub gets_group_and_next : (number place : ℕ) → 1 ≤ number → (rows : List Row) → Shows (Select (record { lets = []; body = group_and_next_query at }) names) db (Int (pos number) ∷ Int (pos place) ∷ []) rows
+      → rows ≡ map shown_group (take 2 (that_reach place (found number)))
+  gets_group_and_next number place least rows shows =
+      let params = Int (pos number) ∷ Int (pos place) ∷ [] in
+      reads_parts told_group (λ (x : RolloutRecord). x.groups) at reaching group_columns (lit (Int (pos 2))) (lit (Int (pos 0))) params false number least (λ id x. refl) (λ id x. refl) (λ n k g apart. is_reaching n k g ∙ ap (λ b. b && nat_le place g.bounds.last) apart)
+      db.trees l.records.rollouts (holds.rows Groups) rows (shows.answer Null)
+      ∙ ap (take 2) (shown_groups number reaching params (λ g. nat_le place g.bounds.last) (λ k g. is_reaching number k g ∙ ap (λ b. b && nat_le place g.bounds.last) (same number)) 1 (parts_of (λ (x : RolloutRecord). x.groups) (item_numbered l.records.rollouts number)))
+      ∙ take-map shown_group 2 (that_reach place (found number))
     where
-      flagged : (b : Bool) → nat_eq (flag b) 1 ≡ b
-      flagged true = refl
-      flagged false = refl
-
-      is_started : (n k : ℕ) (g : GroupRecord) → on_content (passes started_in (Int (pos number) ∷ [])) (group_row n k g) ≡ (nat_eq n number && g.started)
-      is_started n k g = rw (numbers_equal n number, numbers_equal (flag g.started) 1, and_true (nat_eq (flag g.started) 1), flagged g.started) refl
+      is_reaching : (n k : ℕ) (g : GroupRecord) → on_content (passes reaching (Int (pos number) ∷ Int (pos place) ∷ [])) (group_row n k g) ≡ (nat_eq n number && nat_le place g.bounds.last)
+      is_reaching n k g = rw (numbers_equal n number, numbers_at_least g.bounds.last place, and_true (nat_le place g.bounds.last)) refl
 
 -- ---- members
 

@@ -1,11 +1,9 @@
 -- Rollouts in records and in rows.
-use Rattle.std.specs.Prelude.{ℕ, ◌+◌, Bool, if◌then◌else◌, List, ◌∷◌, [], Option, pos}
+use Rattle.std.specs.Prelude.{ℕ, ◌+◌, Bool, if◌then◌else◌, nat_le, List, ◌∷◌, [], filter, Option, pos}
 use Rattle.sqlite_value.specs.declared.value.Value.TheVariants.{Null, Int, Text}
 use Rattle.sqlite_value.specs.Order.{Row}
 use Rattle.rollout_machine.specs.ByteStrings.{same_bytes}
 use Rattle.rollout_machine.specs.Commands.{Bytes}
-use Rattle.rollout_machine.specs.RecordSteps.{last_started}
-use Rattle.rollout_machine.specs.StateWords.{group_numbered}
 use Rattle.rollout_machine.specs.declared.records.GroupRecord.{GroupRecord}
 use Rattle.rollout_machine.specs.declared.records.RolloutRecord.{RolloutRecord}
 use Rattle.rollout_model.specs.declared.approval.Approval.{Approval}
@@ -63,6 +61,6 @@ numbered_from n (g ∷ gs) = record g { number = n } ∷ numbered_from (n + 1) g
 abbrev pub groups_of : Option RolloutRecord → List GroupRecord
 groups_of found = numbered_from 1 (parts_of (λ (x : RolloutRecord). x.groups) found)
 
--- the last of the groups that is started
-abbrev pub last_started_group : List GroupRecord → Option GroupRecord
-last_started_group gs = group_numbered (last_started gs) gs
+-- those of the groups that reach a place
+abbrev pub that_reach : ℕ → List GroupRecord → List GroupRecord
+that_reach place gs = filter (λ (g : GroupRecord). nat_le place g.bounds.last) gs

@@ -63,7 +63,7 @@ pub use crate::rollout_texts::GET_GROUP;
 pub use crate::rollout_texts::GET_ROLLOUT;
 pub use crate::rollout_texts::HOLDING_GROUP;
 pub use crate::rollout_texts::LAST_ROLLOUT;
-pub use crate::rollout_texts::LAST_STARTED;
+pub use crate::rollout_texts::GROUP_AND_NEXT;
 pub use crate::rollout_texts::LIST_GROUPS;
 pub use crate::rollout_texts::LIST_MEMBERS;
 pub use crate::rollout_texts::LIST_ROLLOUTS;

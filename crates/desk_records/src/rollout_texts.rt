@@ -30,9 +30,9 @@ pub const GET_GROUP: &str =
 pub const HOLDING_GROUP: &str =
     "SELECT number, first_place, last_place, started, ok, bad, gone FROM rollout_group WHERE rollout = ?1 AND first_place <= ?2 AND last_place >= ?2 ORDER BY number";
 
-/// The last group of a rollout that is started.
-pub const LAST_STARTED: &str =
-    "SELECT number, first_place, last_place, started, ok, bad, gone FROM rollout_group WHERE rollout = ?1 AND started = 1 ORDER BY number DESC LIMIT 1";
+/// The group of a rollout that has a place, and the one behind it: the first two that reach so far.
+pub const GROUP_AND_NEXT: &str =
+    "SELECT number, first_place, last_place, started, ok, bad, gone FROM rollout_group WHERE rollout = ?1 AND last_place >= ?2 ORDER BY number LIMIT 2";
 
 /// A rollout that is neither started nor paused.
 pub const PUT_ROLLOUT: &str =

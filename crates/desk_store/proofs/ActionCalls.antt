@@ -9,11 +9,11 @@ use Rattle.sqlite.specs.Effect.{Database, Reads as Shows}
 use Rattle.sqlite.specs.State.{State}
 use Rattle.sql_calls.specs.declared.fault.Fault.{Fault}
 use Rattle.sql_calls.specs.Calls.{AsksText, TakesFirst}
-use Rattle.sql_calls.specs.Standing.{Finds, Makes}
-use Rattle.sql_calls.specs.Means.{Knows, KnowsWrite}
+use Rattle.sql_calls.specs.Standing.{Finds}
+use Rattle.sql_calls.specs.Means.{Knows}
 use Rattle.sql_calls.proofs.Finding.{ShowsFirst}
 use Rattle.sql_calls.proofs.Selects.{simple}
-use Rattle.sql_calls.proofs.Finding.{ask_finds, first_finds, run_makes}
+use Rattle.sql_calls.proofs.Finding.{ask_finds, first_finds}
 use Rattle.std.proofs.lemmas.Bool.{and_parts}
 use Rattle.rollout_machine.specs.Actions.{HistoryEntry}
 use Rattle.rollout_machine.specs.ByteStrings.{item_numbered}
@@ -24,7 +24,7 @@ use Rattle.desk_records.specs.declared.rollout_row.ListedAction.{ListedAction}
 use Rattle.desk_records.specs.declared.rollout_row.StoredAction.{StoredAction}
 use Rattle.desk_records.specs.Actions.{history_of}
 use Rattle.desk_records.specs.EntryRow.{IsEntryRow, keeps_details}
-use Rattle.desk_records.specs.Holds.{HoldsLedger, HoldsRecords, Ledger, ledger_of}
+use Rattle.desk_records.specs.Holds.{HoldsLedger, Ledger}
 use Rattle.desk_records.specs.Modules.{IsLastRow}
 use Rattle.desk_records.specs.RolloutRow.{IsActionRow, IsListedActionRow, IsOfferRow, actions_for, actions_of, stored_action}
 use Rattle.desk_records.specs.Schema.{Actions, Feedbacks, Offers}
@@ -33,7 +33,7 @@ use Rattle.desk_records.proofs.ActionMeaning.{last_action_query, action_columns,
 use Rattle.desk_records.proofs.ActionRecords.{shown_action, told_listed, lasts_action, gets_action, lists_actions, lists_target_actions, told_offer, gets_offer}
 use Rattle.desk_records.proofs.EntryRecords.{lists_entries}
 use Rattle.desk_store.specs.Rows.{AreReadAs, IsReadAs}
-use Rattle.desk_store.proofs.Known.{ledger_knows, ledger_writes}
+use Rattle.desk_store.proofs.Known.{ledger_knows}
 use Rattle.desk_store.proofs.LedgerReads.{both_mapped, one_action, one_listed, one_offer, same_entries}
 use Rattle.desk_store.proofs.ModuleCalls.{one_last}
 use Rattle.desk_store.proofs.ReadLemmas.{asks_all, takes_one}

@@ -16,7 +16,7 @@ use Rattle.sql_calls.specs.Standing.{Finds, Makes}
 use Rattle.sql_calls.specs.Means.{Knows, KnowsWrite}
 use Rattle.sql_calls.proofs.Finding.{ShowsFirst}
 use Rattle.sql_calls.proofs.Selects.{simple}
-use Rattle.sql_calls.proofs.Finding.{ask_finds, first_finds, run_makes}
+use Rattle.sql_calls.proofs.Finding.{first_finds, run_makes}
 use Rattle.rollout_machine.specs.ByteStrings.{item_numbered}
 use Rattle.rollout_machine.specs.Commands.{Bytes}
 use Rattle.rollout_machine.specs.Objects.{artifacts_shown}
@@ -25,7 +25,7 @@ use Rattle.rollout_model.specs.declared.artifact.Artifact.{Artifact}
 use Rattle.desk_records.specs.declared.artifact_texts.TheConstants.{FIND_ARTIFACT, LAST_ARTIFACT, GET_ARTIFACT, LIST_ARTIFACTS, GET_PIECE, PUT_ARTIFACT, PUT_PIECE}
 use Rattle.desk_records.specs.declared.artifact_row.StoredArtifact.{StoredArtifact}
 use Rattle.desk_records.specs.Schema.{Artifacts, Pieces}
-use Rattle.desk_records.specs.Holds.{HoldsLedger, HoldsRecords, Ledger, ledger_of}
+use Rattle.desk_records.specs.Holds.{HoldsLedger, HoldsRecords, ledger_of}
 use Rattle.desk_records.specs.Modules.{IsLastRow}
 use Rattle.desk_records.specs.Artifacts.{told_of, piece_row, is_same_artifact, file_of, piece_numbered, artifact_filed, with_artifact, AddsPiece}
 use Rattle.desk_records.specs.ArtifactRow.{IsStoredRow, IsArtifactRow, StoredBytes, stored}

@@ -10,13 +10,13 @@ use Rattle.sql_calls.specs.declared.fault.Fault.{Fault}
 use Rattle.sql_calls.specs.Calls.{RunsText, AsksText}
 use Rattle.sql_calls.specs.Standing.{Finds, Makes}
 use Rattle.sql_calls.specs.Means.{Knows, KnowsWrite}
-use Rattle.sql_calls.proofs.Finding.{ask_finds, first_finds, run_makes}
+use Rattle.sql_calls.proofs.Finding.{run_makes}
 use Rattle.rollout_machine.specs.Commands.{Bytes, Attribute}
 use Rattle.rollout_machine.specs.Records.{Records}
 use Rattle.rollout_machine.specs.Verdicts.{target_of}
 use Rattle.desk_records.specs.declared.target_texts.TheConstants.{LIST_TARGET_ATTRIBUTES, PUT_TARGET_ATTRIBUTE, SET_TARGET_ATTRIBUTE}
 use Rattle.desk_records.specs.Schema.{TargetAttributes}
-use Rattle.desk_records.specs.Holds.{HoldsLedger, HoldsRecords, Ledger, ledger_of}
+use Rattle.desk_records.specs.Holds.{HoldsLedger, ledger_of}
 use Rattle.desk_records.specs.TargetRow.{IsAttributeRow}
 use Rattle.desk_records.specs.Targets.{attributes_of, AddsAttribute, SetsAttribute}
 use Rattle.desk_records.proofs.Attributes.{attribute_row}

@@ -5,11 +5,6 @@ use Rattle.std.proofs.lemmas.Bool.{and_parts}
 use Rattle.std.specs.Option.{option_and_then}
 use Rattle.sqlite_value.specs.declared.value.Value.TheVariants.{Int, Text}
 use Rattle.sqlite_value.specs.Order.{Row}
-use Rattle.sqlite.specs.Command.{Command}
-use Rattle.sqlite.specs.Schema.{Schema}
-use Rattle.sql_calls.specs.Means.{Knows, KnowsWrite}
-use Rattle.sql_calls.specs.Means.{Means}
-use Rattle.sql_front.specs.Stands.{Stands}
 use Rattle.rollout_machine.specs.Actions.{HistoryEntry, DeploymentEntry, CancelEntry}
 use Rattle.rollout_machine.specs.Commands.{DeploymentWord, CancelWord, Proceeding, Scheduled, Resumed, Succeeded, Failed, Rejected, Noted, ClosedCancel, CanceledCancel, RejectedCancel, NotedCancel}
 use Rattle.rollout_machine.specs.declared.outcome.Outcome.{Outcome}
@@ -25,10 +20,8 @@ use Rattle.desk_records.specs.declared.rollout_row.StoredRollout.{StoredRollout}
 use Rattle.desk_records.specs.Actions.{cancel_code, deployment_code, lines_of, outcome_code, told_entry}
 use Rattle.desk_records.specs.EntryRow.{IsEntryRow, cancel_from, cancel_in, deployment_from, deployment_in, keeps_details}
 use Rattle.desk_records.specs.Codes.{coded_in, flag_of, approval_from, outcome_from, flag_in, approval_in, outcome_in}
-use Rattle.desk_records.specs.Holds.{HoldsLedger, HoldsRecords, Ledger, ledger_of}
 use Rattle.desk_records.specs.RolloutRow.{IsRolloutRow, IsGroupRow, IsActionRow, IsListedActionRow, IsOfferRow}
 use Rattle.desk_records.specs.Rollouts.{approval_code, flag}
-use Rattle.desk_records.specs.Schema.{Place, name_of, table_at}
 use Rattle.desk_records.proofs.RolloutRecords.{shown_group}
 use Rattle.desk_records.proofs.ActionRecords.{shown_action, told_listed, told_offer}
 use Rattle.desk_records.proofs.DetailLines.{same_details}

@@ -6,6 +6,7 @@ pub mod SetCalls
 pub mod ArtifactCalls
 pub mod TargetCalls
 pub mod AttributeCalls
+pub mod GroupPlaces
 pub mod LedgerReads
 pub mod RolloutCalls
 pub mod ActionCalls

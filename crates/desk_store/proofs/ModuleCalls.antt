@@ -16,14 +16,14 @@ use Rattle.sql_calls.specs.Standing.{Finds, Makes}
 use Rattle.sql_calls.specs.Means.{Knows, KnowsWrite}
 use Rattle.sql_calls.proofs.Finding.{ShowsFirst}
 use Rattle.sql_calls.proofs.Selects.{simple}
-use Rattle.sql_calls.proofs.Finding.{ask_finds, first_finds, run_makes}
+use Rattle.sql_calls.proofs.Finding.{first_finds, run_makes}
 use Rattle.rollout_machine.specs.ByteStrings.{item_numbered}
 use Rattle.rollout_machine.specs.Commands.{ModuleLabel}
 use Rattle.rollout_machine.specs.Records.{Records}
 use Rattle.desk_records.specs.declared.texts.TheConstants.{FIND_MODULE, LAST_MODULE, GET_MODULE, PUT_MODULE}
 use Rattle.desk_records.specs.ModuleRow.{IsLabelRow}
 use Rattle.desk_records.specs.Schema.{Modules}
-use Rattle.desk_records.specs.Holds.{HoldsLedger, HoldsRecords, Ledger, ledger_of}
+use Rattle.desk_records.specs.Holds.{HoldsLedger, HoldsRecords, ledger_of}
 use Rattle.desk_records.specs.Modules.{is_same, words_of, with_module, IsLastRow}
 use Rattle.desk_records.proofs.MeaningWords.{at_key}
 use Rattle.desk_records.proofs.Meaning.{same_label, label_columns, last_module_query, module_terms, find_module_is, last_module_is, get_module_is, put_module_is}

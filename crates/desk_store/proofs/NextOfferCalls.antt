@@ -10,15 +10,15 @@ use Rattle.sqlite.specs.State.{State}
 use Rattle.sql_front.specs.Stands.{Stands}
 use Rattle.sql_calls.specs.declared.fault.Fault.{Fault}
 use Rattle.sql_calls.specs.Calls.{TakesFirst}
-use Rattle.sql_calls.specs.Standing.{Finds, Makes}
-use Rattle.sql_calls.specs.Means.{Knows, KnowsWrite}
+use Rattle.sql_calls.specs.Standing.{Finds}
+use Rattle.sql_calls.specs.Means.{Knows}
 use Rattle.sql_calls.proofs.Finding.{ShowsFirst}
 use Rattle.sql_calls.specs.Means.{Means}
-use Rattle.sql_calls.proofs.Finding.{ask_finds, first_finds, run_makes}
+use Rattle.sql_calls.proofs.Finding.{first_finds}
 use Rattle.rollout_machine.specs.Commands.{Bytes}
 use Rattle.rollout_model.specs.declared.rollout.Offer.{Offer}
 use Rattle.desk_records.specs.declared.action_texts.TheConstants.{NEXT_OFFER}
-use Rattle.desk_records.specs.Holds.{HoldsLedger, HoldsRecords, Ledger, ledger_of}
+use Rattle.desk_records.specs.Holds.{HoldsLedger, Ledger}
 use Rattle.desk_records.specs.NextOffers.{next_offer}
 use Rattle.desk_records.specs.RolloutRow.{IsOfferRow}
 use Rattle.desk_records.specs.Schema.{Place, Actions, Groups, name_of, table_at}

@@ -1,5 +1,5 @@
 -- The calls on rollouts and groups.
-use Rattle.std.proofs.Common.{◌≡◌, ◌≤◌, ℕ, Bool, pos, take, drop, [], ◌∷◌, length, map, Option, Some, None, Ok, Err, Result, IfOk, option_map, Vec, vec_items, refl, sym, ap, subst, ◌∙◌, codes}
+use Rattle.std.proofs.Common.{◌≡◌, ◌<◌, ◌≤◌, ℕ, Bool, pos, take, drop, slice_get, arith, [], ◌∷◌, length, map, Option, Some, None, Ok, Err, Result, IfOk, option_map, Vec, vec_items, refl, sym, ap, subst, ◌∙◌, codes}
 use Rattle.std.specs.List.{list_any}
 use Rattle.std.specs.Option.{is_some}
 use Rattle.std.specs.declared.alloc.Global.{Global}
@@ -7,16 +7,18 @@ use Rattle.sqlite_value.specs.declared.value.Value.TheVariants.{Int, Text}
 use Rattle.sqlite_value.specs.Order.{Row, column}
 use Rattle.sqlite.specs.Command.TheVariants.{Select}
 use Rattle.sqlite.specs.Term.{col}
-use Rattle.sqlite.specs.Effect.{Database}
+use Rattle.sqlite.specs.Effect.{Database, Reads as Shows}
 use Rattle.sqlite.specs.State.{State}
+use Rattle.std.proofs.lemmas.Option.{slice_get-map}
+use Rattle.sqlite.proofs.MarkLemmas.{slice_get-take}
 use Rattle.sqlite_keyed.proofs.ListLemmas.{map-map}
 use Rattle.sql_calls.specs.declared.fault.Fault.{Fault}
-use Rattle.sql_calls.specs.Calls.{AsksText, TakesFirst}
-use Rattle.sql_calls.specs.Standing.{Finds, Makes}
-use Rattle.sql_calls.specs.Means.{Knows, KnowsWrite}
+use Rattle.sql_calls.specs.Calls.{AsksFew, AsksText, TakesFirst}
+use Rattle.sql_calls.specs.Standing.{Finds}
+use Rattle.sql_calls.specs.Means.{Knows}
 use Rattle.sql_calls.proofs.Finding.{ShowsFirst}
 use Rattle.sql_calls.proofs.Selects.{simple}
-use Rattle.sql_calls.proofs.Finding.{ask_finds, first_finds, run_makes}
+use Rattle.sql_calls.proofs.Finding.{few_finds, first_finds}
 use Rattle.rollout_machine.specs.ByteStrings.{item_numbered}
 use Rattle.rollout_machine.specs.Commands.{Bytes}
 use Rattle.rollout_machine.specs.StateWords.{group_numbered, group_holding}
@@ -24,24 +26,26 @@ use Rattle.rollout_machine.specs.declared.records.GroupRecord.{GroupRecord}
 use Rattle.rollout_model.specs.declared.word.TargetKind.{TargetKind}
 use Rattle.rollout_model.specs.declared.word.Word.{Word}
 use Rattle.desk_records.specs.declared.texts.TheConstants.{GET_DESK}
-use Rattle.desk_records.specs.declared.rollout_texts.TheConstants.{FIND_ROLLOUT, LAST_ROLLOUT, GET_ROLLOUT, LIST_ROLLOUTS, LIST_MEMBERS, LIST_GROUPS, GET_GROUP, HOLDING_GROUP, LAST_STARTED}
+use Rattle.desk_records.specs.declared.rollout_texts.TheConstants.{FIND_ROLLOUT, LAST_ROLLOUT, GET_ROLLOUT, LIST_ROLLOUTS, LIST_MEMBERS, LIST_GROUPS, GET_GROUP, HOLDING_GROUP, GROUP_AND_NEXT}
 use Rattle.desk_records.specs.declared.rollout_row.StoredRollout.{StoredRollout}
-use Rattle.desk_records.specs.Holds.{HoldsLedger, HoldsRecords, Ledger, ledger_of}
+use Rattle.desk_records.specs.Holds.{HoldsLedger, Ledger}
 use Rattle.desk_records.specs.Modules.{IsLastRow}
 use Rattle.desk_records.specs.RolloutRow.{IsRolloutRow, IsGroupRow, stored_rollout}
-use Rattle.desk_records.specs.Rollouts.{is_called, groups_of, last_started_group, members_of}
+use Rattle.desk_records.specs.Rollouts.{is_called, groups_of, members_of, that_reach}
 use Rattle.desk_records.specs.Schema.{Desk, Rollouts, Groups, Members}
 use Rattle.desk_records.specs.Codes.{flag_in}
 use Rattle.desk_records.proofs.DeskRecords.{gets_desk, told_desk}
 use Rattle.desk_records.proofs.Meaning.{desk_query, get_desk_is}
 use Rattle.desk_records.proofs.MeaningWords.{at_key}
-use Rattle.desk_records.proofs.RolloutMeaning.{same_name, last_rollout_query, rollout_columns, rollout_names, list_rollouts_query, group_names, list_groups_query, get_group_query, holding_group_query, last_started_query, find_rollout_is, last_rollout_is, get_rollout_is, list_rollouts_is, list_members_query, list_members_is, list_groups_is, get_group_is, holding_group_is, last_started_is}
-use Rattle.desk_records.proofs.RolloutRecords.{finds_rollout, lasts_rollout, gets_rollout, lists_rollouts, lists_members, shown_group, lists_groups, gets_group, holds_group, lasts_started}
+use Rattle.desk_records.proofs.RolloutMeaning.{same_name, last_rollout_query, rollout_columns, rollout_names, list_rollouts_query, group_names, list_groups_query, get_group_query, holding_group_query, group_and_next_query, find_rollout_is, last_rollout_is, get_rollout_is, list_rollouts_is, list_members_query, list_members_is, list_groups_is, get_group_is, holding_group_is, group_and_next_is}
+use Rattle.desk_records.proofs.RolloutRecords.{finds_rollout, lasts_rollout, gets_rollout, lists_rollouts, lists_members, shown_group, lists_groups, gets_group, gets_group_and_next, holds_group}
+use Rattle.desk_store.specs.GroupPairs.{group_and_next}
+use Rattle.desk_store.specs.declared.rollouts.GroupAndNext.{GroupAndNext}
 use Rattle.desk_store.specs.Rows.{AreReadAs, IsApproval, IsReadAs}
-use Rattle.desk_store.proofs.Known.{ledger_knows, ledger_writes}
+use Rattle.desk_store.proofs.Known.{ledger_knows}
 use Rattle.desk_store.proofs.LedgerReads.{both_mapped, kept_flag, shown_rollout, one_rollout, one_group}
 use Rattle.desk_store.proofs.ModuleCalls.{one_last}
-use Rattle.desk_store.proofs.ReadLemmas.{asks_all, takes_one}
+use Rattle.desk_store.proofs.ReadLemmas.{asks_all, one_read, takes_one}
 
 -- ---- what the texts mean where a ledger is held
 
@@ -66,8 +70,8 @@ getting_group = ledger_knows Groups GET_GROUP.now (λ at tree. Select (record { 
 abbrev pub holding_group : Knows HoldsLedger HOLDING_GROUP.now
 holding_group = ledger_knows Groups HOLDING_GROUP.now (λ at tree. Select (record { lets = []; body = holding_group_query tree }) group_names) holding_group_is
 
-abbrev pub last_started : Knows HoldsLedger LAST_STARTED.now
-last_started = ledger_knows Groups LAST_STARTED.now (λ at tree. Select (record { lets = []; body = last_started_query tree }) group_names) last_started_is
+abbrev pub group_and_next_known : Knows HoldsLedger GROUP_AND_NEXT.now
+group_and_next_known = ledger_knows Groups GROUP_AND_NEXT.now (λ at tree. Select (record { lets = []; body = group_and_next_query tree }) group_names) group_and_next_is
 
 abbrev pub listing_members : Knows HoldsLedger LIST_MEMBERS.now
 listing_members = ledger_knows Members LIST_MEMBERS.now (λ at tree. Select (record { lets = []; body = list_members_query tree }) (codes "controller" ∷ [])) list_members_is
@@ -147,8 +151,22 @@ holding_read number place least old new row =
     takes_one (λ (l : Ledger). l) IsGroupRow shown_group HOLDING_GROUP.now (Int (pos number) ∷ Int (pos place) ∷ []) old new holding_group (λ l. group_holding place (groups_of (item_numbered l.records.rollouts number))) ◌≡◌ refl (λ a b h. ap Some (one_group a b h)) (λ db l holds at given. tt) row
     (λ db l holds shown. holds_group db l holds group_names number place least row shown)
 
-pub last_started_read : (number : ℕ) → 1 ≤ number → (old new : State) (row : Option Row) → TakesFirst old new LAST_STARTED.now (Int (pos number) ∷ []) (Ok row) → (out : Result (Option GroupRecord) Fault) → IfOk out (λ found. IsReadAs IsGroupRow found row)
-    → Finds HoldsLedger (λ (l : Ledger). l) old new out (λ l found. found ≡ last_started_group (groups_of (item_numbered l.records.rollouts number)))
-last_started_read number least old new row =
-    takes_one (λ (l : Ledger). l) IsGroupRow shown_group LAST_STARTED.now (Int (pos number) ∷ []) old new last_started (λ l. last_started_group (groups_of (item_numbered l.records.rollouts number))) ◌≡◌ refl (λ a b h. ap Some (one_group a b h)) (λ db l holds at given. tt) row
-    (λ db l holds shown. lasts_started db l holds group_names number least row shown)
+-- the rows are those of the first two groups that reach the place
+pub group_and_next_read : (number place : ℕ) → 1 ≤ number → (old new : State) (rows : Vec Row Global) → AsksFew old new GROUP_AND_NEXT.now (Int (pos number) ∷ Int (pos place) ∷ []) 2 (Ok rows) → (out : Result GroupAndNext Fault)
+    → IfOk out (λ both. IsReadAs IsGroupRow both.group (slice_get rows.items 0) × IsReadAs IsGroupRow both.next (slice_get rows.items 1)) → Finds HoldsLedger (λ (l : Ledger). l) old new out (λ l found. found ≡ group_and_next place (groups_of (item_numbered l.records.rollouts number)))
+group_and_next_read number place least old new rows h out are =
+    few_finds HoldsLedger (λ (l : Ledger). l) GROUP_AND_NEXT.now (Int (pos number) ∷ Int (pos place) ∷ []) old new (λ l found. found ≡ group_and_next place (groups_of (item_numbered l.records.rollouts number))) group_and_next_known 2 rows h out (answers out are)
+  where
+    at : (l : Ledger) (i : ℕ) (found : Option GroupRecord) → i < 2 → rows.items ≡ map shown_group (take 2 (that_reach place (groups_of (item_numbered l.records.rollouts number)))) → IsReadAs IsGroupRow found (slice_get rows.items i)
+        → found ≡ slice_get (that_reach place (groups_of (item_numbered l.records.rollouts number))) i
+    at l i found within shown is =
+        let its = that_reach place (groups_of (item_numbered l.records.rollouts number)) in
+        one_read IsGroupRow shown_group ◌≡◌ refl (λ a b same. ap Some (one_group a b same)) found (slice_get (take 2 its) i) (slice_get rows.items i) is (ap (λ all. slice_get all i) shown ∙ slice_get-map shown_group (take 2 its) i)
+        ∙ slice_get-take 2 its i within
+
+    answers : (out : Result GroupAndNext Fault) → IfOk out (λ both. IsReadAs IsGroupRow both.group (slice_get rows.items 0) × IsReadAs IsGroupRow both.next (slice_get rows.items 1))
+        → IfOk out (λ both. (db : Database) (l : Ledger) (holds : HoldsLedger db l) → Shows (group_and_next_known db l holds).command db (Int (pos number) ∷ Int (pos place) ∷ []) rows.items → both ≡ group_and_next place (groups_of (item_numbered l.records.rollouts number)))
+    answers (Err e) are = tt
+    answers (Ok both) are = λ db l holds shown.
+        let all = gets_group_and_next db l holds group_names number place least rows.items shown in
+        λ i. record { group = at l 0 both.group (omega arith) all are.0 i; next = at l 1 both.next (omega arith) all are.1 i }

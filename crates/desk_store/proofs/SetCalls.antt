@@ -16,7 +16,7 @@ use Rattle.sql_calls.specs.Standing.{Finds, Makes}
 use Rattle.sql_calls.specs.Means.{Knows, KnowsWrite}
 use Rattle.sql_calls.proofs.Finding.{ShowsFirst}
 use Rattle.sql_calls.proofs.Selects.{simple}
-use Rattle.sql_calls.proofs.Finding.{ask_finds, first_finds, run_makes}
+use Rattle.sql_calls.proofs.Finding.{first_finds, run_makes}
 use Rattle.rollout_machine.specs.ByteStrings.{item_numbered}
 use Rattle.rollout_machine.specs.Commands.{Bytes, SetLabel}
 use Rattle.rollout_machine.specs.Objects.{modules_of_set}
@@ -27,7 +27,7 @@ use Rattle.rollout_machine.specs.Verdicts.{is_named_by_set}
 use Rattle.desk_records.specs.declared.set_texts.TheConstants.{FIND_SET, LAST_SET, GET_SET, LIST_SET_MODULES, MODULE_LOCKED, PUT_SET, PUT_SET_MODULE}
 use Rattle.desk_records.specs.declared.set_row.SetName.{SetName}
 use Rattle.desk_records.specs.Schema.{Sets, SetModules}
-use Rattle.desk_records.specs.Holds.{HoldsLedger, HoldsRecords, Ledger, ledger_of}
+use Rattle.desk_records.specs.Holds.{HoldsLedger, HoldsRecords, ledger_of}
 use Rattle.desk_records.specs.Modules.{IsLastRow}
 use Rattle.desk_records.specs.Sets.{place_row, is_same_set, names_of, with_set, AddsSetModule}
 use Rattle.desk_records.specs.SetRow.{IsSetNameRow, StoredNumber, called}

@@ -14,7 +14,7 @@ use Rattle.sql_calls.specs.Means.{Knows, KnowsWrite}
 use Rattle.sql_calls.proofs.Finding.{ShowsFirst}
 use Rattle.sql_calls.proofs.Counts.{count_query}
 use Rattle.sql_calls.proofs.Selects.{simple}
-use Rattle.sql_calls.proofs.Finding.{ask_finds, first_finds, run_makes}
+use Rattle.sql_calls.proofs.Finding.{first_finds, run_makes}
 use Rattle.rollout_machine.specs.Commands.{Bytes}
 use Rattle.rollout_machine.specs.Records.{Records}
 use Rattle.rollout_machine.specs.Targets.{Target}
@@ -25,7 +25,7 @@ use Rattle.desk_records.specs.declared.target_texts.TheConstants.{COUNT_TARGETS,
 use Rattle.desk_records.specs.declared.target_row.ListedTarget.{ListedTarget}
 use Rattle.desk_records.specs.declared.target_row.StoredTarget.{StoredTarget}
 use Rattle.desk_records.specs.Schema.{Targets, TargetTags}
-use Rattle.desk_records.specs.Holds.{HoldsLedger, HoldsRecords, Ledger, ledger_of}
+use Rattle.desk_records.specs.Holds.{HoldsLedger, HoldsRecords, ledger_of}
 use Rattle.desk_records.specs.ModuleRow.{StoredText}
 use Rattle.desk_records.specs.TargetRow.{IsTargetRow, IsListedTargetRow, listed_target, stored_target}
 use Rattle.desk_records.specs.Targets.{AddsTag, AddsTarget, renamed, untagged, with_changed}

@@ -6,9 +6,9 @@ use Rattle.sqlite.specs.Source.TheVariants.{Values}
 use Rattle.sqlite.specs.State.{State}
 use Rattle.sql_calls.specs.declared.fault.Fault.{Fault}
 use Rattle.sql_calls.specs.Calls.{RunsText}
-use Rattle.sql_calls.specs.Standing.{Finds, Makes}
-use Rattle.sql_calls.specs.Means.{Knows, KnowsWrite}
-use Rattle.sql_calls.proofs.Finding.{ask_finds, first_finds, run_makes}
+use Rattle.sql_calls.specs.Standing.{Makes}
+use Rattle.sql_calls.specs.Means.{KnowsWrite}
+use Rattle.sql_calls.proofs.Finding.{run_makes}
 use Rattle.rollout_machine.specs.Commands.{Bytes, RolloutPlan}
 use Rattle.rollout_machine.specs.declared.bounds.Bounds.{Bounds}
 use Rattle.rollout_machine.specs.declared.outcome.Outcome.{Outcome}
@@ -27,7 +27,7 @@ use Rattle.desk_records.proofs.LedgerWrites.{created_params, turned_params, sche
 use Rattle.desk_records.proofs.OfferWrites.{offered_params, sets_offer, drops_offer}
 use Rattle.desk_records.proofs.PartWrites.{entry_params, adds_entry, cut_params, counted_params, adds_member, adds_group, sets_group}
 use Rattle.desk_records.proofs.RolloutMeaning.{rollout_terms, set_rollout_query, member_terms, group_terms, set_group_query, put_rollout_is, set_rollout_is, put_member_is, put_group_is, set_group_is}
-use Rattle.desk_store.proofs.Known.{ledger_knows, ledger_writes}
+use Rattle.desk_store.proofs.Known.{ledger_writes}
 
 abbrev pub knows_put_rollout : KnowsWrite HoldsLedger PUT_ROLLOUT.now
 knows_put_rollout = ledger_writes Rollouts PUT_ROLLOUT.now (λ at tree. Insert at (Values rollout_terms 11)) put_rollout_is (λ at tree. refl)

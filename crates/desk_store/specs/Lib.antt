@@ -4,3 +4,4 @@ pub mod Counting
 pub mod Texts
 pub mod Lending
 pub mod Changing
+pub mod GroupPairs

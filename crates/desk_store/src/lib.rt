@@ -16,6 +16,7 @@ mod store;
 mod targets;
 
 pub use crate::change::OpenChange;
+pub use crate::rollouts::GroupAndNext;
 pub use crate::store::DeskStore;
 pub use desk_records::{
     ListedAction, ListedTarget, NewEntry, SetName, StoredAction, StoredArtifact, StoredRollout,

@@ -1,6 +1,6 @@
 //! What rows and results of statements come to.
 
-ghost use Rattle.std.specs.Prelude.{◌≡◌, ◌<◌, ◌^◌, IfOk};
+ghost use Rattle.std.specs.Prelude.{◌≡◌, ◌<◌, ◌^◌, IfOk, slice_get};
 ghost use Rattle.desk_records.specs.Modules.{IsLastRow};
 ghost use Rattle.desk_records.specs.TargetRow.{IsAttributeRow};
 ghost use Rattle.desk_store.specs.Rows.{AreReadAs, IsApproval, IsCount, IsReadAs};
@@ -34,6 +34,21 @@ pub(crate) fn read_optional<T: FromRow>(alloc: Global, row: Option<Row>) -> Resu
         return Ok(None);
     };
     let found = read_one::<T>(alloc, &row)?;
+    Ok(Some(found))
+}
+
+/// What the row at this place is read as, where there is one.
+pub(crate) fn read_at<T: FromRow>(
+    alloc: Global,
+    rows: &[Row],
+    at: usize,
+) -> Result<Option<T>, Fault>
+    ensures { IfOk result (λ found. IsReadAs T.is_row found (slice_get rows.now at)) }
+{
+    let Some(row) = rows.get(at) else {
+        return Ok(None);
+    };
+    let found = read_one::<T>(alloc, row)?;
     Ok(Some(found))
 }
 

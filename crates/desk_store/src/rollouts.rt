@@ -1,6 +1,6 @@
 //! Rollouts and their groups, in a change that is under way.
 
-ghost use Rattle.std.specs.Prelude.{◌≡◌, ◌≤◌, ◌+◌, length, map, take, drop};
+ghost use Rattle.std.specs.Prelude.{◌≡◌, ◌≤◌, ◌+◌, IfOk, length, map, slice_get, take, drop};
 ghost use Rattle.std.specs.List.{list_any};
 ghost use Rattle.std.specs.Option.{option_map};
 ghost use Rattle.sqlite_value.specs.Order.{column};
@@ -9,16 +9,18 @@ ghost use Rattle.rollout_machine.specs.StateWords.{group_holding, group_numbered
 ghost use Rattle.desk_records.specs.LedgerSteps.{AddsGroup, AddsMember, AddsRollout, SetsGroup, SetsRollout};
 ghost use Rattle.desk_records.specs.ModuleRow.{StoredText};
 ghost use Rattle.desk_records.specs.RolloutRow.{IsGroupRow, IsRolloutRow, stored_rollout};
-ghost use Rattle.desk_records.specs.Rollouts.{groups_of, is_called, last_started_group, members_of};
+ghost use Rattle.desk_records.specs.Rollouts.{groups_of, is_called, members_of};
 ghost use Rattle.desk_store.specs.Counting.{AddsIn};
+ghost use Rattle.desk_store.specs.GroupPairs.{group_and_next};
+ghost use Rattle.desk_store.specs.Rows.{IsReadAs};
 ghost use Rattle.desk_store.specs.Changing.{FindsLedger, MakesLedger, StaysIn};
 
 use crate::change::OpenChange;
 use crate::codes::{code_of_approval, flag_code};
 use crate::from_row::FromRow;
-use crate::reading::{approval_in, last_number, read_all, read_optional};
+use crate::reading::{approval_in, last_number, read_all, read_at, read_optional};
 use desk_records::{
-    FIND_ROLLOUT, GET_DESK, GET_GROUP, GET_ROLLOUT, HOLDING_GROUP, LAST_ROLLOUT, LAST_STARTED,
+    FIND_ROLLOUT, GET_DESK, GET_GROUP, GET_ROLLOUT, GROUP_AND_NEXT, HOLDING_GROUP, LAST_ROLLOUT,
     LIST_GROUPS, LIST_MEMBERS, LIST_ROLLOUTS, PUT_GROUP, PUT_MEMBER, PUT_ROLLOUT, RowFault,
     SET_GROUP, SET_ROLLOUT, StoredRollout, read_group, read_member, read_stored_rollout,
 };
@@ -27,6 +29,13 @@ use rollout_model::{Approval, ControllerId, Page, RolloutNo, RolloutPlan, Text};
 use sql_calls::Fault;
 use sqlite::{Alter, Row, params};
 use std::alloc::Global;
+
+/// The group of a rollout that has a place, and the one behind it.
+#[derive(Clone, Copy)]
+pub struct GroupAndNext {
+    pub group: Option<GroupRecord>,
+    pub next: Option<GroupRecord>,
+}
 
 /// Of plan, approval, started and paused.
 impl FromRow for StoredRollout {
@@ -53,6 +62,15 @@ impl FromRow for ControllerId {
     fn from_row(_alloc: Global, row: &Row) -> Result<Self, RowFault> {
         read_member(row)
     }
+}
+
+/// The group in the first row, and the next one in the second.
+fn read_both(alloc: Global, rows: &[Row]) -> Result<GroupAndNext, Fault>
+    ensures { IfOk result (λ both. IsReadAs IsGroupRow both.group (slice_get rows.now 0) × IsReadAs IsGroupRow both.next (slice_get rows.now 1)) }
+{
+    let group = read_at(alloc, rows, 0)?;
+    let next = read_at(alloc, rows, 1)?;
+    Ok(GroupAndNext { group, next })
 }
 
 impl<'a, S: Alter> OpenChange<'a, S> {
@@ -170,16 +188,21 @@ impl<'a, S: Alter> OpenChange<'a, S> {
         read_optional(alloc, row)
     }
 
-    /// The last group of a rollout that is started. A row that breaks a column's rule is a failed store.
-    pub fn read_last_started(&mut self, number: RolloutNo) -> Result<Option<GroupRecord>, Fault>
+    /// The group of a rollout that has a place, and the one behind it: the first two groups that reach the place. A row that breaks a
+    /// column's rule is a failed store.
+    pub fn read_group_and_next(
+        &mut self,
+        number: RolloutNo,
+        place: u32,
+    ) -> Result<GroupAndNext, Fault>
         ensures stays { StaysIn S.Store self.old self.new result }
         ensures reads { FindsLedger S.Store self.old self.new result
-            (λ l found. found ≡ last_started_group (groups_of (item_numbered l.records.rollouts number))) }
-        ensures work { AddsIn 1 1 self.old self.new }
+            (λ l found. found ≡ group_and_next place (groups_of (item_numbered l.records.rollouts number))) }
+        ensures work { AddsIn 1 2 self.old self.new }
     {
         let alloc = self.store.alloc;
-        let row = self.first(LAST_STARTED, params![number.get()])?;
-        read_optional(alloc, row)
+        let rows = self.few(GROUP_AND_NEXT, params![number.get(), place], 2)?;
+        read_both(alloc, &rows)
     }
 
     /// Adds the rollout of the next number, which is neither started nor paused and has no members and groups yet.

@@ -1,11 +1,12 @@
-//! The three statements that typed calls are made of.
+//! The statements that typed calls are made of.
 
 ghost use Rattle.std.specs.Prelude.{◌≡◌};
 ghost use Rattle.sqlite.specs.Values.{bound};
-ghost use Rattle.sql_calls.specs.Calls.{AsksText, RunsText, TakesFirst, counts, row_in, rows_in};
+ghost use Rattle.sql_calls.specs.Calls.{AsksFew, AsksText, RunsText, TakesFirst, counts, row_in, rows_in};
 ghost use Rattle.sql_calls.specs.Means.{Knows, KnowsWrite};
 ghost use Rattle.desk_records.specs.Holds.{HoldsLedger};
 ghost use Rattle.desk_store.specs.Changing.{StaysIn, seen_in};
+ghost use Rattle.desk_store.specs.Counting.{AddsIn};
 
 use crate::change::OpenChange;
 use sql_calls::Fault;
@@ -31,6 +32,21 @@ impl<'a, S: Alter> OpenChange<'a, S> {
         ensures work { self.new.store.now.calls.work ≡ counts self.old.store.now.calls.work (rows_in result) }
     {
         self.store.calls.ask(sql, params)
+    }
+
+    /// Runs one query that has at most so many rows, and takes them. More are a failed store.
+    pub(crate) fn few(
+        &mut self,
+        sql: &str,
+        params: &[ValueRef<'_>],
+        most: usize,
+    ) -> Result<Vec<Row>, Fault>
+        requires { Knows HoldsLedger sql.now }
+        ensures stays { StaysIn S.Store self.old self.new result }
+        ensures asks { AsksFew (seen_in S.Store self.old) (seen_in S.Store self.new) sql.now (bound params.now) most result }
+        ensures work { AddsIn 1 most self.old self.new }
+    {
+        self.store.calls.few(sql, params, most)
     }
 
     /// Runs one statement that writes rows.

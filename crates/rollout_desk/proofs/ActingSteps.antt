@@ -1,16 +1,14 @@
 -- Commands on actions, by what was seen of the action and what the rule of the command made of it.
-use Rattle.std.proofs.Common.{◌≡◌, ℕ, Bool, true, false, cond, ◌&&◌, ◌||◌, not, List, [], ◌∷◌, Option, Some, None, option_map, Result, Ok, Err, IsErr, refl, sym, ap, ◌∙◌, subst}
+use Rattle.std.proofs.Common.{◌≡◌, ℕ, Bool, true, false, cond, ◌&&◌, ◌||◌, not, List, [], ◌∷◌, Option, Some, None, option_map, Ok, refl, sym, ap, ◌∙◌, subst}
 use Rattle.std.specs.Prelude.{is_some}
 use Rattle.std.specs.Option.{is_none}
-use Rattle.sqlite.specs.Effect.{Database}
-use Rattle.sqlite.specs.State.{State}
 use Rattle.rollout_machine.specs.Actions.{CancelEntry, DeploymentEntry, HistoryEntry, outcome_of_cancel, outcome_of_deployment}
 use Rattle.rollout_machine.specs.ByteStrings.{same_bytes}
 use Rattle.rollout_machine.specs.CommandList.{CommandList}
 use Rattle.rollout_machine.specs.CommandRules.{IsWellFormed}
 use Rattle.rollout_machine.specs.Commands.{Bytes, Cancel, CancelFeedback, CancelWord, Command, DeploymentWord, Feedback, Report}
 use Rattle.rollout_machine.specs.RecordSteps.{step_records}
-use Rattle.rollout_machine.specs.Records.{Records, records}
+use Rattle.rollout_machine.specs.Records.{records}
 use Rattle.rollout_machine.specs.Validity.{IsValid}
 use Rattle.rollout_machine.specs.Verdicts.{check, first_refusal, target_of}
 use Rattle.rollout_machine.specs.declared.outcome.Outcome.{Outcome}
@@ -34,7 +32,6 @@ use Rattle.rollout_desk.specs.Steps.{Steps}
 use Rattle.desk_records.specs.declared.new_entry.NewEntry.{NewEntry}
 use Rattle.rollout_desk.specs.declared.seen_actions.SeenAction.{SeenAction}
 use Rattle.rollout_desk.specs.declared.seen_actions.SeenReport.{SeenReport}
-use Rattle.rollout_desk.specs.declared.step.Step.{Step}
 use Rattle.rollout_desk.proofs.ActingEnds.{acts}
 use Rattle.rollout_desk.proofs.KnownActions.{IsKnown, cancel_viewed, known, report_viewed, seen_at}
 
@@ -66,7 +63,7 @@ started_too (Some t) s is = go t.own.started refl is
 module _ (h : CommandList) (c : Command) (valid : IsValid h) (formed : IsWellFormed c) (accepted : check (records h) c ≡ None) (k : ℕ) (told : Option NewEntry) (entries : List HistoryEntry) (tells : TellsEntries entries told) where
   acts_on : (s : SeenAction) → IsSeen (ledger_of (records h)) k s → actor c ≡ Some s.action.target → is_none s.action.outcome ≡ true → s.own.started ≡ true → (gives : Option Outcome) (canceling : Bool)
       → ChangesAction (change_by (action_view_seen s) gives canceling) entries k (records h) (step_records (records h) c) → Acts s (change_by (action_view_seen s) gives canceling) told (ledger_of (records h)) (ledger_of (step_records (records h) c))
-  acts_on s sees by unended begun gives canceling leads = go (known h k s sees)
+  acts_on s sees by unended begun gives canceling leads = go (known h valid k s sees)
     where
       go : IsKnown (records h) k s → Acts s (change_by (action_view_seen s) gives canceling) told (ledger_of (records h)) (ledger_of (step_records (records h) c))
       go w = at s w.is by unended begun leads
@@ -107,11 +104,11 @@ module _ (seen : SeenReport) (accepted : RolloutChange) (told : NewEntry) where
   module _ (report : Report DeploymentWord) (formed : IsWellFormed (Feedback report)) (decides : Decides (view.Feedback (report_view_seen seen)) (Feedback report) (Ok accepted))
       (makes : (o : Option ActionChange) × (accepted ≡ change.Feedback o) × MakesReport (report_view_seen seen) (outcome_of_deployment report.word) (λ canceling. canceling) o) (tells : TellsEntries (DeploymentEntry report.word report.details ∷ []) (Some told)) where
     pub feedback_accepted : (h : CommandList) → IsValid h → SeesReport report.credential report.action (records h) seen → check (records h) (Feedback report) ≡ None
-    feedback_accepted h valid w = (decides (records h) (records_are_sound h valid) (report_viewed h report.action report.credential seen w)).0
+    feedback_accepted h valid w = (decides (records h) (records_are_sound h valid) (report_viewed h valid report.action report.credential seen w)).0
 
     pub feedback_acts : (h : CommandList) → IsValid h → SeesReport report.credential report.action (records h) seen → ActsBy seen.action accepted (Some told) (ledger_of (records h)) (ledger_of (step_records (records h) (Feedback report)))
     feedback_acts h valid w =
-        let it = decides (records h) (records_are_sound h valid) (report_viewed h report.action report.credential seen w) in
+        let it = decides (records h) (records_are_sound h valid) (report_viewed h valid report.action report.credential seen w) in
         let leads : MayChangeAction makes.0 (DeploymentEntry report.word report.details ∷ []) report.action (records h) (step_records (records h) (Feedback report)) = subst (λ o. LeadsTo o (Feedback report) (records h) (step_records (records h) (Feedback report))) makes.1 it.1 in
         record {
           after = makes.0;
@@ -122,11 +119,11 @@ module _ (seen : SeenReport) (accepted : RolloutChange) (told : NewEntry) where
   module _ (report : Report CancelWord) (formed : IsWellFormed (CancelFeedback report)) (decides : Decides (view.CancelFeedback (report_view_seen seen)) (CancelFeedback report) (Ok accepted))
       (makes : (o : Option ActionChange) × (accepted ≡ change.CancelFeedback o) × MakesReport (report_view_seen seen) (outcome_of_cancel report.word) (canceling_after report.word) o) (tells : TellsEntries (CancelEntry report.word report.details ∷ []) (Some told)) where
     pub cancel_feedback_accepted : (h : CommandList) → IsValid h → SeesReport report.credential report.action (records h) seen → check (records h) (CancelFeedback report) ≡ None
-    cancel_feedback_accepted h valid w = (decides (records h) (records_are_sound h valid) (report_viewed h report.action report.credential seen w)).0
+    cancel_feedback_accepted h valid w = (decides (records h) (records_are_sound h valid) (report_viewed h valid report.action report.credential seen w)).0
 
     pub cancel_feedback_acts : (h : CommandList) → IsValid h → SeesReport report.credential report.action (records h) seen → ActsBy seen.action accepted (Some told) (ledger_of (records h)) (ledger_of (step_records (records h) (CancelFeedback report)))
     cancel_feedback_acts h valid w =
-        let it = decides (records h) (records_are_sound h valid) (report_viewed h report.action report.credential seen w) in
+        let it = decides (records h) (records_are_sound h valid) (report_viewed h valid report.action report.credential seen w) in
         let leads : MayChangeAction makes.0 (CancelEntry report.word report.details ∷ []) report.action (records h) (step_records (records h) (CancelFeedback report)) = subst (λ o. LeadsTo o (CancelFeedback report) (records h) (step_records (records h) (CancelFeedback report))) makes.1 it.1 in
         record {
           after = makes.0;
@@ -157,11 +154,11 @@ open_of v force none = go v.action.outcome none
 module _ (id : Bytes) (k : ℕ) (force : Bool) (seen : Option SeenAction) (accepted : RolloutChange) (formed : IsWellFormed (Cancel id k force)) (decides : Decides (view.Cancel (option_map cancel_view_seen seen)) (Cancel id k force) (Ok accepted))
     (makes : (o : ActionChange) × (accepted ≡ change.Cancel o) × MakesCancel (option_map cancel_view_seen seen) force o) where
   pub cancel_accepted : (h : CommandList) → IsValid h → SeesTarget id k (records h) seen → check (records h) (Cancel id k force) ≡ None
-  cancel_accepted h valid w = (decides (records h) (records_are_sound h valid) (cancel_viewed h k id seen w)).0
+  cancel_accepted h valid w = (decides (records h) (records_are_sound h valid) (cancel_viewed h valid k id seen w)).0
 
   pub cancel_acts : (h : CommandList) → IsValid h → SeesTarget id k (records h) seen → ActsBy seen accepted None (ledger_of (records h)) (ledger_of (step_records (records h) (Cancel id k force)))
   cancel_acts h valid w =
-      let it = decides (records h) (records_are_sound h valid) (cancel_viewed h k id seen w) in
+      let it = decides (records h) (records_are_sound h valid) (cancel_viewed h valid k id seen w) in
       let unrefused : cancel_refusal (Some makes.2.0) force ≡ None = subst (λ v. cancel_refusal v force ≡ None) makes.2.1 makes.2.2 in
       let leads : ChangesAction makes.0 [] k (records h) (step_records (records h) (Cancel id k force)) = subst (λ o. LeadsTo o (Cancel id k force) (records h) (step_records (records h) (Cancel id k force))) makes.1 it.1 in
       record {

@@ -18,7 +18,6 @@ use Rattle.rollout_machine.specs.Records.{ArtifactRecord, Records, added_artifac
 use Rattle.rollout_machine.specs.Replies.{Reply, Refused, ArtifactShown, ContentsShown}
 use Rattle.rollout_machine.specs.Requests.{Ask, Asks, Download as DownloadOf, Query, Request, ShowArtifact, ShowContents, one}
 use Rattle.rollout_machine.specs.Standing.{DeskState, StandsFor, Applies}
-use Rattle.rollout_machine.specs.Validity.{IsValid}
 use Rattle.rollout_machine.specs.Views.{reply_of}
 use Rattle.rollout_machine.proofs.Answering.{query_answer}
 use Rattle.rollout_model.specs.Limits.{piece_length}

@@ -1,22 +1,16 @@
 -- What follows from the outcome of an action, write by write.
-use Rattle.sql_calls.proofs.Composing.{Then}
-use Rattle.std.proofs.Common.{◌≡◌, ◌+◌, ℕ, Bool, true, false, cond, nat_eq, Some, refl, sym, ap, ◌∙◌, subst}
+use Rattle.std.proofs.Common.{◌≡◌, ◌+◌, Bool, true, false, cond, nat_eq, Some, refl, sym, ap, ◌∙◌, subst}
 use Rattle.rollout_machine.specs.ByteStrings.{item_numbered}
 use Rattle.rollout_machine.specs.Counts.{is_outcome}
 use Rattle.rollout_machine.specs.RecordSteps.{counted}
-use Rattle.rollout_machine.specs.StateWords.{group_numbered}
 use Rattle.rollout_machine.specs.declared.outcome.Outcome.{Outcome}
 use Rattle.rollout_machine.specs.declared.outcome.Outcome.TheVariants.{Good, Bad, Gone}
 use Rattle.rollout_machine.specs.declared.records.GroupRecord.{GroupRecord}
 use Rattle.campaign_core.specs.declared.rollout_checks.actions.Ending.{Ending}
 use Rattle.desk_records.specs.Holds.{Ledger}
-use Rattle.desk_records.specs.LedgerSteps.{SetsGroup, SetsRollout, set_numbered, with_groups, with_rollouts, counted as set_counts}
-use Rattle.desk_records.specs.Rollouts.{groups_of}
-use Rattle.rollout_desk.specs.Endings.{CountsOutcome, FollowsOutcome, PausesIf, StartsNamed, StartsNumbered, paused_if, with_outcome, with_rollout}
-use Rattle.rollout_desk.specs.GroupStarts.{StartsGroup}
+use Rattle.desk_records.specs.LedgerSteps.{SetsGroup, SetsRollout, set_numbered, with_groups, counted as set_counts}
+use Rattle.rollout_desk.specs.Endings.{CountsOutcome, FollowsOutcome, FollowsSo, Pauses, with_outcome, with_rollout}
 use Rattle.rollout_desk.specs.declared.seen_actions.SeenAction.{SeenAction}
-use Rattle.rollout_desk.proofs.ItemSteps.{set_same, set_twice}
-use Rattle.rollout_desk.proofs.LedgerEnds.{set_is_there}
 
 -- ---- the counts
 
@@ -39,39 +33,15 @@ outcome_set seen o g l next is w = subst (λ (x : GroupRecord). SetsGroup seen.a
   next_is = w.next_is ∙ (λ i. with_rollout l seen.action.rollout (with_groups w.rollout (set_numbered w.rollout.groups (sym (counts_stay o seen.own).0 i) (sym (counts_stay o seen.own).1 i))));
 })
 
--- ---- the pause
+-- ---- what follows
 
-pub pause_set : (seen : SeenAction) (l next : Ledger) → PausesIf seen true l next → SetsRollout seen.action.rollout seen.approval seen.started true l next
+pub pause_set : (seen : SeenAction) (l next : Ledger) → Pauses seen l next → SetsRollout seen.action.rollout seen.approval seen.started true l next
 pause_set seen l next w = record {
   rollout = w.rollout;
   is_there = w.is_its;
   next_is = w.next_is ∙ (λ i. with_rollout l seen.action.rollout (record w.rollout { approval = sym w.approval i; started = sym w.started i; paused = true }));
 }
 
-pub none_paused : (seen : SeenAction) (l next : Ledger) → PausesIf seen false l next → next ≡ l
-none_paused seen l next w = w.next_is ∙ ap (with_rollouts l) (set_same seen.action.rollout l.records.rollouts w.rollout w.is_its)
-
--- ---- the start
-
-pub starts_its : (r n : ℕ) (group : GroupRecord) (l next : Ledger) → Some group ≡ group_numbered n (groups_of (item_numbered l.records.rollouts r)) → StartsNumbered r n l next → StartsGroup r group l next
-starts_its r n group l next is w = let both : Some w.group ≡ Some group = sym w.numbered ∙ sym is in subst (λ (g : GroupRecord). StartsGroup r g l next) (let same : w.group ≡ group = cc in same) w.starts
-
--- ---- one after the other
-
-pub ending_parts : (seen : SeenAction) (e : Ending) (l next : Ledger) → FollowsOutcome seen e l next
-    → Then (Then (CountsOutcome seen e.outcome) (PausesIf seen e.effects.pauses)) (StartsNamed seen.action.rollout e.effects.starts) l next
-ending_parts seen e l next w = (
-  with_rollout l seen.action.rollout (paused_if e.effects.pauses (with_outcome seen e.outcome w.rollout)),
-  (
-    with_rollout l seen.action.rollout (with_outcome seen e.outcome w.rollout),
-    record { rollout = w.rollout; is_its = w.is_its; own = w.own; next_is = refl },
-    record {
-      rollout = with_outcome seen e.outcome w.rollout;
-      is_its = set_is_there l.records.rollouts seen.action.rollout w.rollout (with_outcome seen e.outcome w.rollout) w.is_its;
-      approval = w.approval;
-      started = w.started;
-      next_is = ap (with_rollouts l) (sym (set_twice seen.action.rollout l.records.rollouts (with_outcome seen e.outcome w.rollout) (paused_if e.effects.pauses (with_outcome seen e.outcome w.rollout))));
-    },
-  ),
-  w.starts,
-)
+-- the count first
+pub ending_parts : (seen : SeenAction) (e : Ending) (l next : Ledger) → FollowsOutcome seen e l next → (mid : Ledger) × CountsOutcome seen e.outcome l mid × FollowsSo seen e.following mid next
+ending_parts seen e l next w = (with_rollout l seen.action.rollout (with_outcome seen e.outcome w.rollout), record { rollout = w.rollout; is_its = w.is_its; own = w.own; next_is = refl }, w.follows)

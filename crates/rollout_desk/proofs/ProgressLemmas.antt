@@ -1,6 +1,6 @@
 -- How a rollout goes on.
 use Rattle.std.proofs.Common.{◌≡◌, ◌≤◌, ◌<◌, ◌⊎◌, inl, inr, ℕ, zero, suc, ◌+◌, Bool, true, false, cond, ◌&&◌, ◌||◌, List, [], ◌∷◌, ◌++◌, map, length, get_or, set, Option, Some, None, refl, sym, ap, ◌∙◌, subst, arith}
-use Rattle.std.specs.Prelude.{IfSome, nat_eq, nat_lt, not, slice_get, take}
+use Rattle.std.specs.Prelude.{nat_eq, nat_lt, not, slice_get, take}
 use Rattle.std.specs.List.{list_any}
 use Rattle.std.proofs.lemmas.Bool.{eq-eqb, eqb-true, false≢true, ltb-true}
 use Rattle.std.proofs.lemmas.Bool.Decides.{nat_tests}
@@ -249,10 +249,6 @@ module _ (going : Going) (h : CommandList) (r : ℕ) (seen : SeenRollout) (numbe
 
 -- ---- the view
 
-pub first_place : (h : CommandList) (r : ℕ) (x : RolloutRecord) → item_numbered (records h).rollouts r ≡ Some x → (i : ℕ) (g : GroupRecord) → item_numbered x.groups i ≡ Some g → 1 ≤ g.bounds.first
-first_place h r x there zero g at = cc
-first_place h r x there (suc j) g at = (group_has 1 j x.groups g (numbered h r x there) at).1
-
 pub resume_view : (h : CommandList) (r : ℕ) (seen : SeenRollout) (x : RolloutRecord) (word : RolloutWord) (rollout : RolloutView) → ((x : RolloutRecord) → IsSeenOf seen x → word ≡ rollout_word x) → rollout ≡ view_of x (last_started x.groups) → IsSeenAt h r seen x
     → BothOrNone IsResumeView (Some (record { word = word; rollout = rollout })) (item_numbered (records h).rollouts r)
 resume_view h r seen x word rollout is so at = rw at.is_there (record { word = is x at.is_seen; rollout = so })
@@ -277,7 +273,7 @@ last_step gs d i last next below so_far then =
     then ∙ ap (λ n. cond (g.started && nat_lt 0 g.number) g.number n) so_far ∙ sym (last_more (take i gs) g) ∙ sym (ap last_started (take_more gs i d below))
 
 pub seen_view : (h : CommandList) (r : ℕ) (seen : SeenRollout) (x : RolloutRecord) → IsSeenAt h r seen x → (n groups : ℕ) (found : Option GroupRecord) (v : GroupView) → n ≡ last_started seen.groups.items → found ≡ item_numbered seen.groups.items n
-    → (IfSome found (λ g. 1 ≤ g.bounds.first) → v ≡ view_from_group seen.plan n found) → groups ≡ seen.plan.groups → record { paused = seen.paused; groups = groups; own = v; last = v } ≡ view_of x (last_started x.groups)
+    → v ≡ view_from_group seen.plan n found → groups ≡ seen.plan.groups → record { paused = seen.paused; groups = groups; own = v; last = v } ≡ view_of x (last_started x.groups)
 seen_view h r seen x at n groups found v last is view count = λ i. record { paused = s.paused i; groups = (count ∙ ap (λ (p : RolloutPlan). p.groups) s.plan) i; own = same i; last = same i }
   where
     s : IsSeenOf seen x
@@ -289,12 +285,8 @@ seen_view h r seen x at n groups found v last is view count = λ i. record { pau
     its : found ≡ item_numbered x.groups n
     its = is ∙ ap (λ gs. item_numbered gs n) s.groups
 
-    low : (o : Option GroupRecord) → o ≡ item_numbered x.groups n → IfSome o (λ g. 1 ≤ g.bounds.first)
-    low None e = tt
-    low (Some g) e = first_place h r x at.is_there n g (sym e)
-
     same : v ≡ group_view x (last_started x.groups)
-    same = view (low found its) ∙ (λ i. view_from_group (s.plan i) n ((its ∙ sym (groups_stand h r x at.is_there n)) i)) ∙ ap (group_view x) number
+    same = view ∙ (λ i. view_from_group (s.plan i) n ((its ∙ sym (groups_stand h r x at.is_there n)) i)) ∙ ap (group_view x) number
 
 -- what is written is the step
 pub gone_on : (going : Going) (h : CommandList) (r : ℕ) (seen : SeenRollout) (found : Found h r seen) → is_number r ≡ true → (v : RolloutView) → v ≡ view_of found.rollout (last_started found.rollout.groups) → (paused : Bool) → paused ≡ pause_left going seen.paused

@@ -15,7 +15,7 @@ use Rattle.rollout_machine.specs.StoreFailures.{is_store}
 use Rattle.rollout_model.specs.declared.artifact.Artifact.{Artifact}
 use Rattle.rollout_model.specs.declared.refusal.Refusal.{Refusal}
 use Rattle.rollout_model.specs.declared.refusal.Refusal.TheVariants.{NoMemory, StoreFailed}
-use Rattle.desk_records.specs.Holds.{HoldsLedger, Ledger, ledger_of}
+use Rattle.desk_records.specs.Holds.{HoldsLedger, Ledger}
 use Rattle.desk_views.specs.Downloads.{downloadable}
 use Rattle.rollout_desk.specs.Desks.{desk_state_at}
 

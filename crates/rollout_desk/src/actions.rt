@@ -140,7 +140,7 @@ fn follow<S: Alter>(
 ) -> Result<(), Fault>
     ensures stays { StaysIn S.Store change.old change.new result }
     ensures writes { MakesLedger S.Store change.old change.new result (Follows seen.now after.now) }
-    ensures work { AddsIn 5 1 change.old change.new }
+    ensures work { AddsIn 3 0 change.old change.new }
 {
     match after {
         ActionChange::StaysOpen { .. } => Ok(()),
@@ -158,7 +158,7 @@ fn act<S: Alter>(
 ) -> Result<(), Fault>
     ensures stays { StaysIn S.Store change.old change.new result }
     ensures writes { MakesLedger S.Store change.old change.new result (Acts seen.now after.now told.now) }
-    ensures work { AddsIn 9 2 change.old change.new }
+    ensures work { AddsIn 7 1 change.old change.new }
 {
     tell_action(change, seen, after, told)?;
     offer_next(change, seen, after)?;
@@ -174,7 +174,7 @@ fn may_act<S: Alter>(
 ) -> Result<(), Fault>
     ensures stays { StaysIn S.Store change.old change.new result }
     ensures writes { MakesLedger S.Store change.old change.new result (MayAct seen.now after.now told.now) }
-    ensures work { AddsIn 9 2 change.old change.new }
+    ensures work { AddsIn 7 1 change.old change.new }
 {
     let Some(after) = after else {
         return Ok(());
@@ -206,7 +206,7 @@ fn act_by<S: Alter>(
 ) -> Result<(), Fault>
     ensures stays { StaysIn S.Store change.old change.new result }
     ensures writes { MakesLedger S.Store change.old change.new result (ActsBy seen.now accepted.now told.now) }
-    ensures work { AddsIn 9 2 change.old change.new }
+    ensures work { AddsIn 7 1 change.old change.new }
 {
     let after = action_change(accepted)?;
     may_act(change, seen, &after, told)
@@ -238,7 +238,7 @@ pub(crate) fn take_feedback<S: Alter>(
 ) -> Result<Step, Fault>
     ensures stays { StaysIn S.Store change.old change.new result }
     ensures steps { StepsIn S.Store change.old change.new (Feedback report.now) result }
-    ensures work { AddsIn 14 24 change.old change.new }
+    ensures work { AddsIn 11 6 change.old change.new }
 {
     report_is_well_formed(&report.credential, report.action, &report.details);
     let seen = see_report(change, &report.credential, report.action)?;
@@ -259,7 +259,7 @@ pub(crate) fn take_cancel_feedback<S: Alter>(
 ) -> Result<Step, Fault>
     ensures stays { StaysIn S.Store change.old change.new result }
     ensures steps { StepsIn S.Store change.old change.new (CancelFeedback report.now) result }
-    ensures work { AddsIn 14 24 change.old change.new }
+    ensures work { AddsIn 11 6 change.old change.new }
 {
     report_is_well_formed(&report.credential, report.action, &report.details);
     let seen = see_report(change, &report.credential, report.action)?;

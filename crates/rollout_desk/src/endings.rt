@@ -3,17 +3,16 @@
 ghost use Rattle.std.specs.Prelude.{◌≡◌, MatchResult};
 ghost use Rattle.sql_calls.specs.declared.fault.Fault.TheVariants.{Store};
 ghost use Rattle.rollout_machine.specs.RecordSteps.{counted};
-ghost use Rattle.rollout_desk.specs.Endings.{CountsOutcome, FollowsOutcome, PausesIf, StartsNamed, StartsNumbered};
+ghost use Rattle.rollout_desk.specs.Endings.{CountsOutcome, FollowsOutcome, FollowsSo, StartsGroupOf};
 ghost use Rattle.desk_store.specs.Counting.{AddsIn};
 ghost use Rattle.desk_store.specs.Changing.{MakesLedger, StaysIn};
 
 use crate::entries::one_more;
 use crate::groups::start_group;
 use crate::seen_actions::SeenAction;
-use campaign_core::Ending;
+use campaign_core::{Ending, Following};
 use desk_store::{Fault, OpenChange};
 use rollout_machine::{GroupRecord, Outcome};
-use rollout_model::RolloutNo;
 use sqlite::Alter;
 
 /// The group with one more outcome. A count beyond all numbers is a failed store.
@@ -57,53 +56,34 @@ fn count_outcome<S: Alter>(
     )
 }
 
-/// Pauses the rollout of an action where that is to be.
-fn pause_if<S: Alter>(
-    change: &mut OpenChange<'_, S>,
-    seen: &SeenAction,
-    pauses: bool,
-) -> Result<(), Fault>
+/// Starts the group behind that of an action. Where it isn't there the store failed.
+fn start_next<S: Alter>(change: &mut OpenChange<'_, S>, seen: &SeenAction) -> Result<(), Fault>
     ensures stays { StaysIn S.Store change.old change.new result }
-    ensures writes { MakesLedger S.Store change.old change.new result (PausesIf seen.now pauses) }
-    ensures work { AddsIn 1 0 change.old change.new }
+    ensures writes { MakesLedger S.Store change.old change.new result (StartsGroupOf seen.now.action.rollout seen.now.next) }
+    ensures work { AddsIn 2 0 change.old change.new }
 {
-    if pauses {
-        change.change_rollout(seen.action.rollout, seen.approval, seen.started, true)
-    } else {
-        Ok(())
-    }
-}
-
-/// Starts the group of this number.
-fn start_numbered<S: Alter>(
-    change: &mut OpenChange<'_, S>,
-    rollout: RolloutNo,
-    number: u32,
-) -> Result<(), Fault>
-    ensures stays { StaysIn S.Store change.old change.new result }
-    ensures writes { MakesLedger S.Store change.old change.new result (StartsNumbered rollout number) }
-    ensures work { AddsIn 3 1 change.old change.new }
-{
-    let found = change.read_group(rollout, number)?;
-    match &found {
-        Some(group) => start_group(change, rollout, group),
+    match &seen.next {
+        Some(group) => start_group(change, seen.action.rollout, group),
         None => Err(Fault::Store),
     }
 }
 
-/// Starts the group of a rollout that is named, where one is.
-pub(crate) fn start_named<S: Alter>(
+/// Writes what follows an outcome beside its count: a pause of the rollout, or the start of its next group.
+fn write_following<S: Alter>(
     change: &mut OpenChange<'_, S>,
-    rollout: RolloutNo,
-    starts: Option<u32>,
+    seen: &SeenAction,
+    following: Following,
 ) -> Result<(), Fault>
     ensures stays { StaysIn S.Store change.old change.new result }
-    ensures writes { MakesLedger S.Store change.old change.new result (StartsNamed rollout starts) }
-    ensures work { AddsIn 3 1 change.old change.new }
+    ensures writes { MakesLedger S.Store change.old change.new result (FollowsSo seen.now following) }
+    ensures work { AddsIn 2 0 change.old change.new }
 {
-    match starts {
-        Some(number) => start_numbered(change, rollout, number),
-        None => Ok(()),
+    match following {
+        Following::Nothing => Ok(()),
+        Following::Pauses => {
+            change.change_rollout(seen.action.rollout, seen.approval, seen.started, true)
+        }
+        Following::StartsNext => start_next(change, seen),
     }
 }
 
@@ -115,9 +95,8 @@ pub(crate) fn follow_ending<S: Alter>(
 ) -> Result<(), Fault>
     ensures stays { StaysIn S.Store change.old change.new result }
     ensures writes { MakesLedger S.Store change.old change.new result (FollowsOutcome seen.now ending.now) }
-    ensures work { AddsIn 5 1 change.old change.new }
+    ensures work { AddsIn 3 0 change.old change.new }
 {
     count_outcome(change, seen, ending.outcome)?;
-    pause_if(change, seen, ending.effects.pauses)?;
-    start_named(change, seen.action.rollout, ending.effects.starts)
+    write_following(change, seen, ending.following)
 }

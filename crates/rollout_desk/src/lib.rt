@@ -11,6 +11,7 @@ mod desk;
 mod download;
 mod endings;
 mod entries;
+mod group_views;
 mod groups;
 mod handler;
 mod look;

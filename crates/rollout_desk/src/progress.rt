@@ -1,24 +1,26 @@
 //! How a rollout goes on: by a resume, and by a trigger of its next group.
 
-ghost use Rattle.std.specs.Prelude.{◌≡◌, ◌≤◌, ◌&&◌, IfSome, cond, nat_lt, not};
+ghost use Rattle.std.specs.Prelude.{◌≡◌, ◌&&◌, MatchResult, cond, nat_lt, not};
 ghost use Rattle.std.specs.List.{list_any};
+ghost use Rattle.sql_calls.specs.declared.fault.Fault.TheVariants.{Store};
 ghost use Rattle.rollout_machine.specs.ByteStrings.{item_numbered};
 ghost use Rattle.rollout_machine.specs.CommandList.{CommandList};
 ghost use Rattle.rollout_machine.specs.Commands.{Resume, TriggerNext};
-ghost use Rattle.rollout_machine.specs.RecordSteps.{last_started, view_from_group, view_of};
+ghost use Rattle.rollout_machine.specs.RecordSteps.{last_started, view_of};
 ghost use Rattle.rollout_machine.specs.declared.records.RolloutRecord.{RolloutRecord};
 ghost use Rattle.rollout_desk.specs.Standings.{GoesOn, IsSeenAt, Judges, StartsIf, gone_by, pause_left, starts_by};
 ghost use Rattle.desk_store.specs.Changing.{MakesLedger, StaysIn};
 ghost use Rattle.rollout_desk.specs.Changing.{StepsIn};
 
+use crate::group_views::group_view;
 use crate::groups::start_group;
 use crate::standing::{number_is_well_formed, refusal_in};
 use crate::step::Step;
 use campaign_core::{ResumeView, TriggerView, after_resume, after_trigger, resume, trigger};
 use desk_store::{Fault, OpenChange};
 use desk_views::{SeenRollout, read_seen_rollout};
-use rollout_machine::{GroupRecord, GroupView, RolloutView};
-use rollout_model::{Refusal, Reply, RolloutNo, RolloutPlan};
+use rollout_machine::{GroupRecord, RolloutView};
+use rollout_model::{Refusal, Reply, RolloutNo};
 use sqlite::Alter;
 
 /// What lets a rollout go on.
@@ -60,45 +62,20 @@ fn group_at(groups: &[GroupRecord], number: u32) -> Option<GroupRecord>
     groups.get(number as usize - 1).copied()
 }
 
-/// A group of this number as the rules see it, where its first place is at least 1. One that isn't there has no members.
-fn group_view(plan: &RolloutPlan, number: u32, group: Option<GroupRecord>) -> GroupView
-    ensures { IfSome group (λ g. 1 ≤ g.bounds.first) → result ≡ view_from_group plan.now number group }
-{
-    let success = plan.success.get();
-    let error = plan.error.get();
-    let (size, ok, bad) = match group {
-        Some(group) => {
-            let before = group.bounds.first.saturating_sub(1);
-            (
-                group.bounds.last.saturating_sub(before),
-                group.ok,
-                group.bad,
-            )
-        }
-        None => (0, 0, 0),
-    };
-    GroupView {
-        number,
-        size,
-        ok,
-        bad,
-        success,
-        error,
-    }
-}
-
 /// A rollout, seen from its last started group.
-fn rollout_view(seen: &SeenRollout) -> RolloutView
-    ensures { (h : CommandList) (r : _) (x : RolloutRecord) → IsSeenAt h r seen.now x → result ≡ view_of x (last_started x.groups) }
+fn rollout_view(seen: &SeenRollout) -> Result<RolloutView, Fault>
+    ensures { MatchResult result
+        (λ view. (h : CommandList) (r : _) (x : RolloutRecord) → IsSeenAt h r seen.now x → view ≡ view_of x (last_started x.groups))
+        (λ e. e ≡ Store) }
 {
     let number = last_started(&seen.groups);
-    let last = group_view(&seen.plan, number, group_at(&seen.groups, number));
-    RolloutView {
+    let last = group_view(&seen.plan, number, group_at(&seen.groups, number))?;
+    Ok(RolloutView {
         paused: seen.paused,
         groups: seen.plan.groups.get(),
         own: last,
         last,
-    }
+    })
 }
 
 /// Whether a group is left to start.
@@ -194,7 +171,7 @@ fn go_on<S: Alter>(
     let Some(seen) = found else {
         return Ok(Step::Refused(Refusal::NotFound));
     };
-    let rollout = rollout_view(&seen);
+    let rollout = rollout_view(&seen)?;
     if let Some(refusal) = refusal_of(going, &seen, rollout) {
         return Ok(Step::Refused(refusal));
     }

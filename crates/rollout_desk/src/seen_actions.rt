@@ -1,22 +1,20 @@
 //! An action as commands on it find it: with its group and its rollout.
 
-ghost use Rattle.std.specs.Prelude.{◌≡◌, List, option_map, MatchResult};
+ghost use Rattle.std.specs.Prelude.{◌≡◌, option_map, MatchResult};
 ghost use Rattle.sql_calls.specs.declared.fault.Fault.TheVariants.{Store};
-ghost use Rattle.rollout_machine.specs.RecordSteps.{view_from_group};
-ghost use Rattle.rollout_machine.specs.StateWords.{number_of_group, size_of_group};
-ghost use Rattle.desk_records.specs.Rollouts.{last_started_group};
+ghost use Rattle.campaign_core.specs.OwnGroups.{waits};
 ghost use Rattle.desk_store.specs.Counting.{AddsIn};
 ghost use Rattle.rollout_desk.specs.SeenActions.{MaySee, SeesIn, SeesReport, SeesTarget, action_view_seen, cancel_view_seen, only_of, only_started};
-ghost use Rattle.rollout_desk.specs.SeenActions.{report_view_seen, rollout_seen};
+ghost use Rattle.rollout_desk.specs.SeenActions.{own_seen, report_view_seen};
 ghost use Rattle.desk_store.specs.Changing.{FindsIn, FindsLedger, StaysIn};
 
-use crate::entries::one_more;
+use crate::group_views::group_view;
 use crate::tags::lacks_target;
-use campaign_core::{ActionView, CancelView, ReportView, ReportedAction};
+use campaign_core::{ActionView, CancelView, OwnView, ReportView, ReportedAction};
 use desk_store::{Fault, OpenChange, StoredAction, StoredRollout};
 use desk_views::knows_device;
-use rollout_machine::{GroupRecord, GroupView, RolloutView};
-use rollout_model::{ActionNo, Approval, ControllerId, Credential, RolloutPlan};
+use rollout_machine::GroupRecord;
+use rollout_model::{ActionNo, Approval, ControllerId, Credential};
 use sqlite::Alter;
 
 /// An action with its group and its rollout.
@@ -30,8 +28,10 @@ pub(crate) struct SeenAction {
     pub(crate) started: bool,
     /// Its group.
     pub(crate) own: GroupRecord,
+    /// The group behind that one.
+    pub(crate) next: Option<GroupRecord>,
     /// Its rollout, seen from its group.
-    pub(crate) rollout: RolloutView,
+    pub(crate) rollout: OwnView,
 }
 
 /// What a device's report finds.
@@ -43,73 +43,29 @@ pub(crate) struct SeenReport {
     pub(crate) action: Option<SeenAction>,
 }
 
-/// The number of the group, or 0.
-fn number_of(group: Option<GroupRecord>) -> u32
-    ensures { result ≡ number_of_group group }
+/// Whether the group is there and waits for its start.
+fn waits(group: &Option<GroupRecord>) -> bool
+    ensures { result ≡ waits group.now }
 {
     match group {
-        Some(group) => group.number,
-        None => 0,
+        Some(group) => !group.started,
+        None => false,
     }
 }
 
-/// How many members the group has. One that reaches beyond all numbers is a failed store.
-fn size_of(group: &GroupRecord) -> Result<u32, Fault>
-    ensures { MatchResult result (λ size. size ≡ size_of_group group.now) (λ e. e ≡ Store) }
-{
-    let end = one_more(group.bounds.last)?;
-    Ok(end.saturating_sub(group.bounds.first))
-}
-
-/// A group of this number as effects rest on it: one of no members where there is none.
-fn group_view(
-    plan: &RolloutPlan,
-    number: u32,
-    group: Option<GroupRecord>,
-) -> Result<GroupView, Fault>
-    ensures { MatchResult result (λ view. view ≡ view_from_group plan.now number group) (λ e. e ≡ Store) }
-{
-    let success = plan.success.get();
-    let error = plan.error.get();
-    match group {
-        Some(group) => {
-            let size = size_of(&group)?;
-            Ok(GroupView {
-                number,
-                size,
-                ok: group.ok,
-                bad: group.bad,
-                success,
-                error,
-            })
-        }
-        None => Ok(GroupView {
-            number,
-            size: 0,
-            ok: 0,
-            bad: 0,
-            success,
-            error,
-        }),
-    }
-}
-
-/// The rollout, seen from this one of its groups, where `last` is the last started one.
-fn rollout_view(
+/// The rollout, seen from this one of its groups, where `next` is the one behind it.
+fn own_view(
     rollout: &StoredRollout,
     own: &GroupRecord,
-    last: Option<GroupRecord>,
-) -> Result<RolloutView, Fault>
-    ensures { MatchResult result (λ view. (gs : List GroupRecord) → last ≡ last_started_group gs → view ≡ rollout_seen rollout.now own.now gs)
-        (λ e. e ≡ Store) }
+    next: &Option<GroupRecord>,
+) -> Result<OwnView, Fault>
+    ensures { MatchResult result (λ view. view ≡ own_seen rollout.now own.now next.now) (λ e. e ≡ Store) }
 {
-    let own = group_view(&rollout.plan, own.number, Some(*own))?;
-    let last = group_view(&rollout.plan, number_of(last), last)?;
-    Ok(RolloutView {
+    let view = group_view(&rollout.plan, own.number, Some(*own))?;
+    Ok(OwnView {
         paused: rollout.paused,
-        groups: rollout.plan.groups.get(),
-        own,
-        last,
+        own: view,
+        next_waits: own.started && waits(next),
     })
 }
 
@@ -121,20 +77,19 @@ fn see_in<S: Alter>(
 ) -> Result<SeenAction, Fault>
     ensures stays { StaysIn S.Store change.old change.new result }
     ensures reads { FindsLedger S.Store change.old change.new result (λ l seen. SeesIn l number action.now seen) }
-    ensures work { AddsIn 3 3 change.old change.new }
+    ensures work { AddsIn 2 3 change.old change.new }
 {
     let rollout = change.read_rollout(action.rollout)?.ok_or(Fault::Store)?;
-    let own = change
-        .read_holding_group(action.rollout, action.position)?
-        .ok_or(Fault::Store)?;
-    let last = change.read_last_started(action.rollout)?;
-    let view = rollout_view(&rollout, &own, last)?;
+    let found = change.read_group_and_next(action.rollout, action.position)?;
+    let own = found.group.ok_or(Fault::Store)?;
+    let view = own_view(&rollout, &own, &found.next)?;
     Ok(SeenAction {
         number,
         action: *action,
         approval: rollout.approval,
         started: rollout.started,
         own,
+        next: found.next,
         rollout: view,
     })
 }
@@ -146,7 +101,7 @@ fn see_action<S: Alter>(
 ) -> Result<Option<SeenAction>, Fault>
     ensures stays { StaysIn S.Store change.old change.new result }
     ensures reads { FindsLedger S.Store change.old change.new result (MaySee number) }
-    ensures work { AddsIn 4 4 change.old change.new }
+    ensures work { AddsIn 3 4 change.old change.new }
 {
     let found = change.read_action(number)?;
     match &found {
@@ -192,7 +147,7 @@ pub(crate) fn see_report<S: Alter>(
 ) -> Result<SeenReport, Fault>
     ensures stays { StaysIn S.Store change.old change.new result }
     ensures reads { FindsIn S.Store change.old change.new result (SeesReport device.now number) }
-    ensures work { AddsIn 5 5 change.old change.new }
+    ensures work { AddsIn 4 5 change.old change.new }
 {
     let knows = knows_device(change, device)?;
     let seen = see_action(change, number)?;
@@ -210,7 +165,7 @@ pub(crate) fn see_target<S: Alter>(
 ) -> Result<Option<SeenAction>, Fault>
     ensures stays { StaysIn S.Store change.old change.new result }
     ensures reads { FindsIn S.Store change.old change.new result (SeesTarget id.now number) }
-    ensures work { AddsIn 5 5 change.old change.new }
+    ensures work { AddsIn 4 5 change.old change.new }
 {
     let lacks = lacks_target(change, id)?;
     let seen = see_action(change, number)?;

@@ -1,5 +1,5 @@
 -- What one statement of a change answers, and what it makes of what the change sees.
-use Rattle.std.proofs.Common.{◌≡◌, ℕ, List, [], ◌∷◌, Vec, Option, Some, None, Result, Ok, Err, IfOk, sym, subst, ◌∙◌, arith}
+use Rattle.std.proofs.Common.{◌≡◌, ℕ, Bool, true, false, cond, nat_le, length, List, [], ◌∷◌, Vec, Option, Some, None, Result, Ok, Err, IfOk, sym, subst, ◌∙◌, arith}
 use Rattle.std.specs.declared.alloc.Global.{Global}
 use Rattle.sqlite.specs.Order.{Row}
 use Rattle.sqlite.specs.Command.{Command}
@@ -8,9 +8,10 @@ use Rattle.sqlite.specs.Listing.{understood}
 use Rattle.sqlite.specs.State.{State, IsUnchanged, Runs, Writes}
 use Rattle.sqlite.proofs.Callers.{EndsIn, statement_of}
 use Rattle.sql_calls.specs.declared.fault.Fault.{Fault}
-use Rattle.sql_calls.specs.Calls.{RunsText, AsksText, TakesFirst, TakesTo}
+use Rattle.sql_calls.specs.declared.fault.Fault.TheVariants.{Store}
+use Rattle.sql_calls.specs.Calls.{RunsText, AsksText, AsksFew, TakesFirst, TakesTo, few_of}
 use Rattle.sql_calls.specs.Means.{Known, Knows}
-use Rattle.sql_calls.specs.Standing.{Finds, IsSeeing, Makes, Sees}
+use Rattle.sql_calls.specs.Standing.{Finds, IsSeeing, Makes}
 use Rattle.sql_calls.proofs.Framing.{took}
 use Rattle.sql_calls.proofs.Leavings.{unchanged_by, first_shown, none_shown, shows_as, runs_plain}
 
@@ -24,6 +25,15 @@ took_row sql params old new (Some row) k last h =
     let shown = first_shown sql k.command params old new k.means last row h in
     (shown.0, shows_as sql k.command params old new k.means (row ∷ shown.0) shown.1)
 took_row sql params old new None k last h = shows_as sql k.command params old new k.means [] (none_shown sql k.command params old new k.means h)
+
+one_kept : (b : Bool) (answer : Result (Vec Row Global) Fault) (rows : Vec Row Global) → Ok rows ≡ cond b answer (Err Store) → answer ≡ Ok rows
+one_kept true answer rows e = sym e
+one_kept false answer rows e = absurd (cc)
+
+-- few rows are all of the answer
+few_kept : (most : ℕ) (rows : Vec Row Global) (answer : Result (Vec Row Global) Fault) → Ok rows ≡ few_of most answer → answer ≡ Ok rows
+few_kept most rows (Ok all) e = one_kept (nat_le (length all.items) most) (Ok all) rows e
+few_kept most rows (Err fault) e = absurd (cc)
 
 module _ {R Q : Type 0} (Holds : Database → R → Type 0) (of : Q → R) (sql : List ℕ) (params : Row) (old new : State) where
   sees_still : (now : R) → IsSeeing Holds old now → IsUnchanged old new → IsSeeing Holds new now
@@ -48,6 +58,10 @@ module _ {R Q : Type 0} (Holds : Database → R → Type 0) (of : Q → R) (sql 
             answers old.now now first.now_holds (shows_as sql k.command params old new k.means rows.items (h.answers clean)),
       );
     }
+
+    pub few_finds : (most : ℕ) (rows : Vec Row Global) → AsksFew old new sql params most (Ok rows) → (out : Result A E)
+        → IfOk out (λ a. (db : Database) (now : Q) (holds : Holds db (of now)) → Shows (knows db (of now) holds).command db params rows.items → Answer now a) → Finds Holds of old new out Answer
+    few_finds most rows h = ask_finds rows (subst (AsksText old new sql params) (few_kept most rows h.answer h.few) h.asks)
 
     pub first_finds : ((db : Database) (r : R) (holds : Holds db r) (at : Database) (given : Row) → EndsIn (knows db r holds).command at given)
         → (row : Option Row) → TakesFirst old new sql params (Ok row) → (out : Result A E)

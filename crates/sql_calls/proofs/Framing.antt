@@ -15,7 +15,7 @@ use Rattle.sqlite.specs.Listing.{understood}
 use Rattle.sqlite.specs.State.{State, HasCleanDisk, IsUnchanged, Survives, Runs, Writes, CommitsShowing, CommitsBy, mode_of}
 use Rattle.sqlite.proofs.Callers.{statement_of}
 use Rattle.sql_calls.specs.declared.fault.Fault.{Fault}
-use Rattle.sql_calls.specs.Calls.{RunsText, AsksText, TakesFirst, TakesTo}
+use Rattle.sql_calls.specs.Calls.{RunsText, AsksText, AsksFew, TakesFirst, TakesTo, few_of}
 use Rattle.sql_calls.specs.Means.{Means, Known, Knows, KnowsWrite, writes_rows}
 use Rattle.sql_calls.specs.Standing.{IsInside, IsSpoiled, Opens, Spoiled, FrameTo}
 use Rattle.sql_calls.proofs.Inserts.{went, same_value}
@@ -112,6 +112,13 @@ module _ {R : Type 0} (Holds : Database → R → Type 0) where
     pub ask_frames : (out : Result (Vec Row Global) Fault) → AsksText old new sql params out → FrameTo Holds old new out
     ask_frames (Ok rows) h = λ kept opens. goes_on kept opens h.survives (λ was held clean. unchanged_by sql (known kept was held).command params old new (known kept was held).means rows.items (h.answers clean))
     ask_frames (Err fault) h = λ kept opens. breaks_off kept opens h.survives (λ was held clean. let failed = h.answers clean in unanswered sql params old new failed.0 failed.2)
+
+    pub few_frames : (most : ℕ) (out : Result (Vec Row Global) Fault) → AsksFew old new sql params most out → FrameTo Holds old new out
+    few_frames most out h = subst (λ it. FrameTo Holds old new it) (sym h.few) (go h.answer (ask_frames h.answer h.asks))
+      where
+        go : (answer : Result (Vec Row Global) Fault) → FrameTo Holds old new answer → FrameTo Holds old new (few_of most answer)
+        go (Err fault) frame = frame
+        go (Ok rows) frame = vain Fault old new rows frame (few_of most (Ok rows))
 
     pub took : (row : Option Row) (k : Known old.now.schema sql) → TakesTo old new sql params (Ok row) → IsUnchanged old new
     took (Some row) k h = first_unchanged sql k.command params old new k.means row h

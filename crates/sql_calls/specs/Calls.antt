@@ -1,5 +1,5 @@
 -- What one call leaves of the connection, and what it adds to the work.
-use Rattle.std.specs.Prelude.{◌≡◌, ◌≤◌, ℕ, zero, suc, ◌+◌, ◌-◌, ◌^◌, min, List, length, Vec, Option, Some, None, Result, Ok, Err}
+use Rattle.std.specs.Prelude.{◌≡◌, ◌≤◌, ℕ, zero, suc, ◌+◌, ◌-◌, ◌^◌, min, cond, nat_le, List, length, Vec, Option, Some, None, Result, Ok, Err}
 use Rattle.std.specs.declared.alloc.Global.{Global}
 use Rattle.sqlite.specs.Order.{Row}
 use Rattle.sqlite.specs.declared.error.Error.{Error}
@@ -78,6 +78,17 @@ AsksTo old new sql params (Err fault) = (error : Error) × (fault ≡ fault_name
 pub record AsksText (old new : State) (sql : List ℕ) (params : Row) (result : Result (Vec Row Global) Fault) : Type 0 where
   pub answers : HasCleanDisk new → AsksTo old new sql params result
   pub survives : Survives old new (CommitsShowing sql params old)
+
+-- more than so many rows are a failed store
+abbrev pub few_of : ℕ → Result (Vec Row Global) Fault → Result (Vec Row Global) Fault
+few_of most (Ok rows) = cond (nat_le (length rows.items) most) (Ok rows) (Err Store)
+few_of most (Err fault) = Err fault
+
+-- a query that is to answer at most so many rows
+pub record AsksFew (old new : State) (sql : List ℕ) (params : Row) (most : ℕ) (result : Result (Vec Row Global) Fault) : Type 0 where
+  pub answer : Result (Vec Row Global) Fault
+  pub asks : AsksText old new sql params answer
+  pub few : result ≡ few_of most answer
 
 abbrev pub TakesTo : State → State → List ℕ → Row → Result (Option Row) Fault → Type 0
 TakesTo old new sql params (Ok (Some row)) = QueriesRow sql params old new (Ok row)

@@ -1,9 +1,10 @@
 //! The one owner of a connection.
 
-ghost use Rattle.std.specs.Prelude.{◌≡◌, not, []};
+ghost use Rattle.std.specs.Prelude.{◌≡◌, ◌≤◌, not, [], IfOk, length};
 ghost use Rattle.sqlite.specs.Held.{state};
 ghost use Rattle.sqlite.specs.Values.{bound};
-ghost use Rattle.sql_calls.specs.Calls.{RunsText, AsksText, TakesFirst, Grows, counts, no_work, since, rows_in, row_in, fails, failures_of, failures_in};
+ghost use Rattle.sql_calls.specs.Calls.{RunsText, AsksText, AsksFew, TakesFirst, Grows, counts, no_work, since, rows_in, row_in, few_of};
+ghost use Rattle.sql_calls.specs.Calls.{fails, failures_of, failures_in};
 
 use crate::fault::{Fault, fault_of};
 use sqlite::types::ValueRef;
@@ -108,17 +109,25 @@ impl<S: Alter> Calls<S> {
         ensures failures { self.new.failures ≡ fails (failures_in result) self.old.failures }
         ensures grows { Grows (failures_in result) self.old self.new }
     {
-        match ask_on(&mut self.conn, sql, params) {
-            Ok(rows) => {
-                self.count(rows.len() as u64);
-                Ok(rows)
-            }
-            Err(fault) => {
-                self.count(0);
-                self.failed(fault);
-                Err(fault)
-            }
-        }
+        let answer = ask_on(&mut self.conn, sql, params);
+        self.taken(answer)
+    }
+
+    /// Runs one query, and takes all its rows. More rows than `most` are a failed store, and none of them is counted.
+    pub fn few(
+        &mut self,
+        sql: &str,
+        params: &[ValueRef<'_>],
+        most: usize,
+    ) -> Result<Vec<Row>, Fault>
+        ensures asks { AsksFew (state S.Store self.old.conn) (state S.Store self.new.conn) sql.now (bound params.now) most result }
+        ensures few { IfOk result (λ rows. length rows.items ≤ most) }
+        ensures work { self.new.work ≡ counts self.old.work (rows_in result) }
+        ensures failures { self.new.failures ≡ fails (failures_in result) self.old.failures }
+        ensures grows { Grows (failures_in result) self.old self.new }
+    {
+        let answer = ask_on(&mut self.conn, sql, params);
+        self.taken(few_of(answer, most))
     }
 
     /// Runs one query, and takes its first row, if there is one.
@@ -190,6 +199,27 @@ impl<S: Alter> Calls<S> {
         }
     }
 
+    /// Counts a query by what it answered.
+    fn taken(&mut self, answer: Result<Vec<Row>, Fault>) -> Result<Vec<Row>, Fault>
+        ensures answer { result ≡ answer }
+        ensures work { self.new.work ≡ counts self.old.work (rows_in answer) }
+        ensures failures { self.new.failures ≡ fails (failures_in answer) self.old.failures }
+        ensures grows { Grows (failures_in answer) self.old self.new }
+        ensures conn { self.new.conn ≡ self.old.conn }
+    {
+        match answer {
+            Ok(rows) => {
+                self.count(rows.len() as u64);
+                Ok(rows)
+            }
+            Err(fault) => {
+                self.count(0);
+                self.failed(fault);
+                Err(fault)
+            }
+        }
+    }
+
     fn count(&mut self, rows: u64)
         ensures work { self.new.work ≡ counts self.old.work rows }
         ensures failures { self.new.failures ≡ self.old.failures }
@@ -235,6 +265,18 @@ fn ask_on<S: Alter>(
     match conn.query_all(sql, params) {
         Ok(rows) => Ok(rows),
         Err(error) => Err(fault_of(error)),
+    }
+}
+
+fn few_of(answer: Result<Vec<Row>, Fault>, most: usize) -> Result<Vec<Row>, Fault>
+    ensures few { result ≡ few_of most answer }
+    ensures at_most { IfOk result (λ rows. length rows.items ≤ most) }
+{
+    let rows = answer?;
+    if rows.len() <= most {
+        Ok(rows)
+    } else {
+        Err(Fault::Store)
     }
 }
 

@@ -7,8 +7,8 @@ ghost use Rattle.campaign_core.specs.declared.rollout_checks.RolloutCommandView.
 ghost use Rattle.campaign_core.specs.declared.rollout_checks.RolloutChange.TheVariants as made;
 
 use super::RolloutChange;
-use crate::effects::after_feedback;
-use rollout_machine::{Effects, Outcome, RolloutView};
+use crate::own_group::{Following, OwnView, after_feedback};
+use rollout_machine::Outcome;
 use rollout_model::{Cancel, Refusal, RolloutNo};
 
 /// An action and its rollout.
@@ -19,7 +19,7 @@ pub struct ActionView {
     /// Which rollout it is of.
     pub number: RolloutNo,
     /// That rollout, seen from the action's group.
-    pub rollout: RolloutView,
+    pub rollout: OwnView,
 }
 
 /// What the cancel of an action rests on.
@@ -37,7 +37,7 @@ pub struct Ending {
     /// The group that counts the outcome.
     pub group: u32,
     pub outcome: Outcome,
-    pub effects: Effects,
+    pub following: Following,
 }
 
 /// What becomes of an open action.
@@ -57,7 +57,7 @@ fn ending_by(view: &ActionView, outcome: Outcome) -> Ending
         rollout: view.number,
         group: view.rollout.own.number,
         outcome,
-        effects: after_feedback(&view.rollout, outcome),
+        following: after_feedback(&view.rollout, outcome),
     }
 }
 

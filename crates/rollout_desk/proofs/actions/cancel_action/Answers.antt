@@ -2,7 +2,6 @@ use Rattle.desk_store.proofs.LedgersOfRecords.{ledger_made}
 use Rattle.rollout_desk.proofs.ComposeLemmas.{accepted_at, refused_at}
 use Rattle.std.proofs.Common.{refl}
 use Rattle.campaign_core.proofs.SoundLemmas.{records_are_sound}
-use Rattle.rollout_machine.specs.Commands.{Cancel}
 use Rattle.rollout_machine.specs.Records.{records}
 use Rattle.rollout_desk.proofs.ActingSteps.{cancel_accepted, cancel_acts}
 use Rattle.rollout_desk.proofs.KnownActions.{cancel_viewed}
@@ -12,7 +11,7 @@ pub returns-in-Err-clause-steps : goal.returns-in-Err-clause-steps
 returns-in-Err-clause-steps g c =
     let a = c.args.asked.now in
     refused_at c.in_ok-seen.ensures.reads
-    (λ h valid w. (rw c.cancel_view.ensures at c.in-Err.ensures.decides) (records h) (records_are_sound h valid) (cancel_viewed h a.action a.target c.in_ok-seen.seen w))
+    (λ h valid w. (rw c.cancel_view.ensures at c.in-Err.ensures.decides) (records h) (records_are_sound h valid) (cancel_viewed h valid a.action a.target c.in_ok-seen.seen w))
 
 pub returns-clause-steps : goal.returns-clause-steps
 returns-clause-steps g c =

@@ -3,7 +3,6 @@ use Rattle.rollout_desk.proofs.ComposeLemmas.{accepted_at, refused_at}
 use Rattle.std.proofs.Common.{refl}
 use Rattle.campaign_core.proofs.SoundLemmas.{records_are_sound}
 use Rattle.rollout_machine.specs.Records.{records}
-use Rattle.rollout_machine.specs.Commands.{Feedback}
 use Rattle.rollout_desk.proofs.ActingSteps.{feedback_accepted, feedback_acts}
 use Rattle.rollout_desk.proofs.KnownActions.{report_viewed}
 use Rattle.rollout_desk.proofs.actions.take_feedback.Goals as goal
@@ -11,7 +10,7 @@ use Rattle.rollout_desk.proofs.actions.take_feedback.Goals as goal
 pub returns-in-Err-clause-steps : goal.returns-in-Err-clause-steps
 returns-in-Err-clause-steps g c =
     refused_at c.in_ok-seen.ensures.reads
-    (λ h valid w. (rw c.report_view.ensures at c.in-Err.ensures.decides) (records h) (records_are_sound h valid) (report_viewed h c.args.report.now.action c.args.report.now.credential c.in_ok-seen.seen w))
+    (λ h valid w. (rw c.report_view.ensures at c.in-Err.ensures.decides) (records h) (records_are_sound h valid) (report_viewed h valid c.args.report.now.action c.args.report.now.credential c.in_ok-seen.seen w))
 
 pub returns-clause-steps : goal.returns-clause-steps
 returns-clause-steps g c =

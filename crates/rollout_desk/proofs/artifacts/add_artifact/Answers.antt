@@ -1,5 +1,4 @@
 use Rattle.rollout_desk.proofs.ComposeLemmas.{accepted, refused}
-use Rattle.rollout_machine.specs.Commands.{AddArtifact}
 use Rattle.rollout_desk.proofs.ArtifactLemmas.{artifact_added, artifact_is_step}
 use Rattle.rollout_desk.proofs.artifacts.add_artifact.Goals as goal
 

@@ -1,7 +1,7 @@
 use Rattle.sql_calls.proofs.Composing.{makes_nothing, makes_then}
 use Rattle.std.proofs.Common.{take, subst, rules}
 use Rattle.rollout_desk.specs.Attributes.{GivesAttributes}
-use Rattle.rollout_desk.proofs.AttributeLemmas.{begun, more_attributes, no_attributes}
+use Rattle.rollout_desk.proofs.AttributeLemmas.{more_attributes, no_attributes}
 use Rattle.rollout_desk.proofs.PutLemmas.{one_more}
 use Rattle.rollout_desk.proofs.attributes.give_attributes.Goals as goal
 

@@ -1,7 +1,6 @@
 use Rattle.sql_calls.proofs.Composing.{both_found, found_held}
 use Rattle.rollout_desk.proofs.ComposeLemmas.{accepted, refused}
 use Rattle.std.proofs.Common.{◌≤◌, ◌<◌, ◌+◌, length, refl, ap, arith}
-use Rattle.rollout_machine.specs.Commands.{PutAttributes}
 use Rattle.rollout_desk.proofs.AttributeLemmas.{gives_all, not_too_many, too_many, unauthorized}
 use Rattle.rollout_desk.proofs.attributes.put_attributes.Goals as goal
 

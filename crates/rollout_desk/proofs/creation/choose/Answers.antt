@@ -1,4 +1,4 @@
-use Rattle.sql_calls.proofs.Composing.{finds_as, known}
+use Rattle.sql_calls.proofs.Composing.{finds_as}
 use Rattle.std.proofs.Common.{refl, sym, ap, ◌∙◌}
 use Rattle.target_filter.specs.Profile.{filter_of}
 use Rattle.rollout_desk.proofs.CreationLemmas.{by_filter}

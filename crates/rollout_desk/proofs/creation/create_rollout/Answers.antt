@@ -2,7 +2,6 @@ use Rattle.sql_calls.proofs.Composing.{both_found}
 use Rattle.desk_store.proofs.LedgersOfRecords.{ledger_made}
 use Rattle.rollout_desk.proofs.ComposeLemmas.{accepted_at, refused}
 use Rattle.std.proofs.Common.{sym, ap, ◌∙◌, length}
-use Rattle.rollout_machine.specs.Commands.{CreateRollout}
 use Rattle.campaign_core.specs.RolloutChecks.{plan_refusal}
 use Rattle.rollout_desk.proofs.CreationLemmas.{creates, judged, ready, shown_added}
 use Rattle.rollout_desk.proofs.creation.create_rollout.Goals as goal

@@ -1,7 +1,7 @@
 use Rattle.sql_calls.proofs.Composing.{makes_as, makes_then}
-use Rattle.std.proofs.Common.{◌≡◌, ◌+◌, [], arith, length, take, subst, sym, rules}
+use Rattle.std.proofs.Common.{◌≡◌, [], arith, length, subst, sym, rules}
 use Rattle.rollout_desk.specs.Creations.{CreatesRollout, in_part}
-use Rattle.rollout_desk.proofs.CreationLemmas.{also, begins, one_group, one_member}
+use Rattle.rollout_desk.proofs.CreationLemmas.{begins, one_group, one_member}
 use Rattle.rollout_desk.proofs.creation.write_whole.Goals as goal
 
 pub loop-i-init : goal.loop-i-init

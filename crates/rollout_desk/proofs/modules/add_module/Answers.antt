@@ -1,7 +1,5 @@
 use Rattle.sql_calls.proofs.Composing.{both_found}
 use Rattle.rollout_desk.proofs.ComposeLemmas.{accepted, refused}
-use Rattle.std.proofs.Common.{Ok, Err}
-use Rattle.rollout_machine.specs.Commands.{AddModule}
 use Rattle.rollout_desk.proofs.AdditionLemmas.{module_added, module_is_step}
 use Rattle.rollout_desk.proofs.modules.add_module.Goals as goal
 

@@ -6,5 +6,5 @@ use Rattle.rollout_desk.proofs.progress.rollout_view.Goals as goal
 
 pub returns : goal.returns
 returns c h r x at =
-    seen_view h r c.args.seen.now x at c.last_started-number.result c.get.result c.group_at.result c.group_view-last.result (c.last_started-number.ensures ∙ ap last_started c.deref.ensures.value)
-    (c.group_at.ensures ∙ ap (λ gs. item_numbered gs c.last_started-number.result) c.deref-2.ensures.value) c.group_view-last.ensures c.get.ensures.value
+    seen_view h r c.args.seen.now x at c.last_started-number.result c.get.result c.group_at.result c.in_ok-last.last (c.last_started-number.ensures ∙ ap last_started c.deref.ensures.value)
+    (c.group_at.ensures ∙ ap (λ gs. item_numbered gs c.last_started-number.result) c.deref-2.ensures.value) c.in_ok-last.ensures c.get.ensures.value

@@ -1,5 +1,4 @@
 use Rattle.rollout_desk.proofs.ComposeLemmas.{accepted, refused}
-use Rattle.rollout_machine.specs.Commands.{AddSet}
 use Rattle.rollout_desk.proofs.AdditionLemmas.{set_added, whole_is_step}
 use Rattle.rollout_desk.proofs.sets.add_set.Goals as goal
 

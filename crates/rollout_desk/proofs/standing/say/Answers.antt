@@ -1,9 +1,9 @@
 use Rattle.desk_store.proofs.LedgersOfRecords.{ledger_made}
 use Rattle.rollout_desk.proofs.ComposeLemmas.{accepted_at, refused_at}
 use Rattle.std.proofs.Common.{Ok, ◌∙◌}
-use Rattle.desk_records.specs.Holds.{HoldsLedger, HoldsRecords, ledger_of}
+use Rattle.desk_records.specs.Holds.{ledger_of}
 use Rattle.rollout_machine.specs.Records.{records}
-use Rattle.rollout_desk.specs.Standings.{WritesSaid, said_by}
+use Rattle.rollout_desk.specs.Standings.{WritesSaid}
 use Rattle.rollout_desk.proofs.StandingLemmas.{none_there, not_there, said_reply, said_written, seen_there}
 use Rattle.rollout_desk.proofs.standing.say.Goals as goal
 

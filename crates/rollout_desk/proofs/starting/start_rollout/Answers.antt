@@ -2,9 +2,8 @@ use Rattle.sql_calls.proofs.Composing.{both_found}
 use Rattle.desk_store.proofs.LedgersOfRecords.{ledger_found, ledger_made}
 use Rattle.rollout_desk.proofs.ComposeLemmas.{accepted_at, refused_at}
 use Rattle.std.proofs.Common.{Ok, refl, sym, ◌∙◌}
-use Rattle.rollout_machine.specs.Commands.{Start}
 use Rattle.rollout_machine.specs.Records.{records}
-use Rattle.desk_records.specs.Holds.{HoldsRecords, ledger_of}
+use Rattle.desk_records.specs.Holds.{ledger_of}
 use Rattle.rollout_desk.specs.Starts.{StartsWhole}
 use Rattle.rollout_desk.proofs.StandingLemmas.{none_there, seen_there}
 use Rattle.rollout_desk.proofs.StartLemmas.{not_there, starts_whole}

@@ -1,5 +1,5 @@
 use Rattle.sql_calls.proofs.Composing.{makes_nothing, makes_then}
-use Rattle.std.proofs.Common.{◌+◌, ◌∙◌, sym, length, rules}
+use Rattle.std.proofs.Common.{◌∙◌, sym, rules}
 use Rattle.rollout_desk.proofs.AdditionLemmas.{some_number}
 use Rattle.rollout_desk.proofs.StartLemmas.{no_action, one_action}
 use Rattle.rollout_desk.proofs.starting.write_actions.Goals as goal

@@ -1,7 +1,6 @@
 use Rattle.sql_calls.proofs.Composing.{both_found, found_held, makes_nothing}
 use Rattle.rollout_desk.proofs.ComposeLemmas.{accepted, refused}
-use Rattle.std.proofs.Common.{◌≡◌, Ok, refl, sym, ◌∙◌, arith}
-use Rattle.rollout_machine.specs.Commands.{Tag}
+use Rattle.std.proofs.Common.{◌≡◌, refl, sym, ◌∙◌, arith}
 use Rattle.sql_calls.specs.declared.fault.Fault.{Fault}
 use Rattle.rollout_desk.proofs.TagLemmas.{any_word}
 use Rattle.rollout_desk.proofs.TagStepLemmas.{had_accepted, had_is_step, no_target_to_tag, tag_accepted, tag_is_step, tags_full}

@@ -1,6 +1,5 @@
 use Rattle.rollout_desk.proofs.ComposeLemmas.{accepted, refused}
-use Rattle.std.proofs.Common.{Ok, refl}
-use Rattle.rollout_machine.specs.Commands.{Untag}
+use Rattle.std.proofs.Common.{refl}
 use Rattle.rollout_desk.proofs.TagStepLemmas.{no_target_to_untag, untag_accepted}
 use Rattle.rollout_desk.proofs.tags.untag_target.Goals as goal
 

@@ -1,7 +1,6 @@
 use Rattle.sql_calls.proofs.Composing.{makes_then}
 use Rattle.rollout_desk.proofs.ComposeLemmas.{in_order}
-use Rattle.std.proofs.Common.{Some, refl}
-use Rattle.desk_records.specs.Targets.{renamed, with_changed}
+use Rattle.std.proofs.Common.{Some}
 use Rattle.rollout_desk.specs.Imports.{PutsOver}
 use Rattle.rollout_desk.proofs.ImportLemmas.{changes_row_parts}
 use Rattle.rollout_desk.proofs.targets.change_row.Goals as goal

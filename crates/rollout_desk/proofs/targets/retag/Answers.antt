@@ -1,7 +1,6 @@
 use Rattle.sql_calls.proofs.Composing.{found_then_makes, makes_then}
 use Rattle.rollout_desk.proofs.ComposeLemmas.{in_order}
-use Rattle.std.proofs.Common.{◌≡◌, true, refl}
-use Rattle.std.specs.Prelude.{⊤}
+use Rattle.std.proofs.Common.{◌≡◌, true}
 use Rattle.desk_records.specs.Targets.{are_sorted}
 use Rattle.rollout_machine.specs.Verdicts.{tags_of, target_of}
 use Rattle.rollout_desk.specs.Imports.{Retags}

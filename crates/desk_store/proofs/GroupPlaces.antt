@@ -1,0 +1,63 @@
+-- The groups of a rollout that reach a member's place: the one that holds it, and all behind it.
+use Rattle.std.proofs.Common.{◌≡◌, ◌<◌, ◌≤◌, ℕ, zero, suc, ◌+◌, ◌-◌, List, [], ◌∷◌, drop, slice_get, refl, sym, ap, subst, ◌∙◌, arith}
+use Rattle.std.proofs.lemmas.Bool.{le-leb, lt-leb}
+use Rattle.rollout_machine.proofs.Cuts.{group_of, in_its_group, last_grows}
+use Rattle.rollout_machine.proofs.Ties.{find_holding}
+use Rattle.rollout_machine.specs.ByteStrings.{item_numbered}
+use Rattle.rollout_machine.specs.CommandList.{CommandList}
+use Rattle.rollout_machine.specs.Effects.{HasSoundPlan}
+use Rattle.rollout_machine.specs.Groups.{first_position, last_position}
+use Rattle.rollout_machine.specs.Ranges.{each_from}
+use Rattle.rollout_machine.specs.Records.{group_in, rollout_in}
+use Rattle.rollout_machine.specs.Rollouts.{Rollout, size_of}
+use Rattle.rollout_machine.specs.StateWords.{group_holding, number_of_group}
+use Rattle.rollout_machine.specs.declared.records.GroupRecord.{GroupRecord}
+use Rattle.desk_records.specs.Rollouts.{that_reach}
+use Rattle.desk_store.specs.GroupPairs.{group_and_next}
+use Rattle.desk_store.specs.declared.rollouts.GroupAndNext.{GroupAndNext}
+
+at_drop : {X : Type 0} (d i : ℕ) (xs : List X) (n : ℕ) → d + i ≡ n → slice_get (drop d xs) i ≡ slice_get xs n
+at_drop zero i xs n at = let same : i ≡ n = omega (arith, at) in ap (slice_get xs) same
+at_drop (suc d) i [] n at = refl
+at_drop (suc d) i (x ∷ xs) zero at = absurd (omega (arith, at))
+at_drop (suc d) i (x ∷ xs) (suc n) at = at_drop d i xs n (omega (arith, at))
+
+abbrev pair : List GroupRecord → ℕ → GroupAndNext
+pair gs i = record { group = item_numbered gs i; next = item_numbered gs (i + 1) }
+
+pair_of_rest : (gs : List GroupRecord) (j d : ℕ) → that_reach j gs ≡ drop d gs → group_and_next j gs ≡ pair gs (suc d)
+pair_of_rest gs j d reach =
+    ap (λ (rest : List GroupRecord). record { group = slice_get rest 0; next = slice_get rest 1 }) reach
+    ∙ (λ i. record { group = at_drop d 0 gs d (omega arith) i; next = (at_drop d 1 gs (d + 1) refl ∙ ap (item_numbered gs) behind) i })
+  where
+    behind : suc (d + 1) ≡ suc d + 1
+    behind = omega arith
+
+module _ (x : Rollout) (r : ℕ) (h : CommandList) (sound : HasSoundPlan x) where
+  abbrev ends : ℕ → ℕ
+  ends = last_position (size_of x) x.plan.groups
+
+  abbrev groups_from : ℕ → ℕ → List GroupRecord
+  groups_from = each_from (group_in x r h)
+
+  all_reach : (a n j : ℕ) → j ≤ ends a → that_reach j (groups_from a n) ≡ groups_from a n
+  all_reach a zero j within = refl
+  all_reach a (suc n) j within = rw (le-leb _ _ within) (ap (λ gs. group_in x r h a ∷ gs) (all_reach (suc a) n j (omega (arith, within, last_grows (size_of x) x.plan.groups a (suc a) sound.some_groups (omega arith)))))
+
+  rest_reach : (d a n g j : ℕ) → d ≤ n → a + d ≡ g → first_position (size_of x) x.plan.groups g ≤ j → j ≤ ends g → that_reach j (groups_from a n) ≡ drop d (groups_from a n)
+  rest_reach zero a n g j within at low high = all_reach a n j (subst (λ i. j ≤ ends i) (let same : g ≡ a = omega (arith, at) in same) high)
+  rest_reach (suc d) a zero g j within at low high = absurd (omega (arith, within))
+  rest_reach (suc d) a (suc n) g j within at low high =
+      let past : ends a < j = omega (arith, low, last_grows (size_of x) x.plan.groups a (g - 1) sound.some_groups (omega (arith, at))) in
+      rw (lt-leb _ _ past) (rest_reach d (suc a) n g j (omega (arith, within)) (omega (arith, at)) low high)
+
+  -- the two that are read are the group that holds the place, and the group of the next number
+  pub group_and_next_is : (j : ℕ) → 1 ≤ j → j ≤ size_of x
+      → group_and_next j (rollout_in h r x).groups ≡ record { group = item_numbered (rollout_in h r x).groups (number_of_group (group_holding j (rollout_in h r x).groups)); next = item_numbered (rollout_in h r x).groups (number_of_group (group_holding j (rollout_in h r x).groups) + 1) }
+  group_and_next_is j low high =
+      let g = group_of (size_of x) x.plan.groups j in
+      let place = in_its_group (size_of x) x.plan.groups j sound.some_groups sound.enough low high in
+      let found = find_holding x r h 1 x.plan.groups g j sound.some_groups place.2 (omega (arith, place.3)) place.0 place.1 in
+      let number : suc (g - 1) ≡ g = omega (arith, place.2) in
+      let reach = rest_reach (g - 1) 1 x.plan.groups g j (omega (arith, place.2, place.3)) (omega (arith, place.2)) place.0 place.1 in
+      pair_of_rest (groups_from 1 x.plan.groups) j (g - 1) reach ∙ ap (pair (groups_from 1 x.plan.groups)) (number ∙ sym (ap number_of_group found))

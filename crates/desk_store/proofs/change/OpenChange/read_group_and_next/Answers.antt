@@ -1,0 +1,16 @@
+use Rattle.std.proofs.Common.{[], ◌∷◌, pos, subst, ◌≤◌, Ok}
+use Rattle.sqlite_value.specs.declared.value.Value.TheVariants.{Int}
+use Rattle.sqlite.specs.Held.{state}
+use Rattle.sql_calls.specs.Calls.{AsksFew}
+use Rattle.desk_records.specs.declared.rollout_texts.TheConstants.{GROUP_AND_NEXT}
+use Rattle.desk_store.proofs.RolloutCalls.{group_and_next_known, group_and_next_read}
+use Rattle.desk_store.proofs.change.OpenChange.read_group_and_next.Goals as goal
+
+pub returns-clause-reads : goal.returns-clause-reads
+returns-clause-reads g c =
+    let it : AsksFew (state g.S.Store c.args.self.now.store.now.calls.conn) (state g.S.Store c.few.new.self.store.now.calls.conn) GROUP_AND_NEXT.now (Int (pos c.args.number) ∷ Int (pos c.args.place) ∷ []) 2 (Ok c.in_ok-rows.rows) =
+    rw (c.params-to_sql.ensures, c.params-to_sql-2.ensures, c.get.ensures.value) at c.in_ok-rows.ensures.asks in
+    group_and_next_read c.args.number c.args.place (subst (λ n. 1 ≤ n) c.get.ensures.value c.get.ensures.least) _ _ c.in_ok-rows.rows it c.read_both.result (rw c.deref.ensures.value at c.read_both.ensures)
+
+pub few-requires : goal.few-requires
+few-requires g c = group_and_next_known

@@ -1,0 +1,52 @@
+//! Groups as the rules of rollouts rest on them.
+
+ghost use Rattle.std.specs.Prelude.{◌≡◌, MatchResult};
+ghost use Rattle.sql_calls.specs.declared.fault.Fault.TheVariants.{Store};
+ghost use Rattle.rollout_machine.specs.RecordSteps.{view_from_group};
+ghost use Rattle.rollout_machine.specs.StateWords.{size_of_group};
+
+use crate::entries::one_more;
+use desk_store::Fault;
+use rollout_machine::{GroupRecord, GroupView};
+use rollout_model::RolloutPlan;
+
+/// How many members the group has. One that reaches beyond all numbers is a failed store.
+fn size_of(group: &GroupRecord) -> Result<u32, Fault>
+    ensures { MatchResult result (λ size. size ≡ size_of_group group.now) (λ e. e ≡ Store) }
+{
+    let end = one_more(group.bounds.last)?;
+    Ok(end.saturating_sub(group.bounds.first))
+}
+
+/// A group of this number as the rules rest on it: one of no members where there is none.
+pub(crate) fn group_view(
+    plan: &RolloutPlan,
+    number: u32,
+    group: Option<GroupRecord>,
+) -> Result<GroupView, Fault>
+    ensures { MatchResult result (λ view. view ≡ view_from_group plan.now number group) (λ e. e ≡ Store) }
+{
+    let success = plan.success.get();
+    let error = plan.error.get();
+    match group {
+        Some(group) => {
+            let size = size_of(&group)?;
+            Ok(GroupView {
+                number,
+                size,
+                ok: group.ok,
+                bad: group.bad,
+                success,
+                error,
+            })
+        }
+        None => Ok(GroupView {
+            number,
+            size: 0,
+            ok: 0,
+            bad: 0,
+            success,
+            error,
+        }),
+    }
+}
