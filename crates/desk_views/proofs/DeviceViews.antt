@@ -1,26 +1,15 @@
 -- From typed reads to what a device is shown.
-use Rattle.std.proofs.Common.{◌≡◌, ℕ, zero, suc, ◌+◌, Bool, true, false, cond, ◌&&◌, ◌||◌, nat_eq, List, [], ◌∷◌, ◌++◌, map, find, Option, Some, None, Result, Ok, Err, refl, sym, ap, subst, ◌∙◌, arith, append_assoc, append-nil}
-use Rattle.std.proofs.lemmas.Bool.{or_parts, and_parts}
+use Rattle.std.proofs.Common.{◌≡◌, ℕ, zero, suc, ◌+◌, Bool, true, false, cond, ◌&&◌, nat_eq, List, [], ◌∷◌, ◌++◌, map, find, Option, Some, None, Result, Ok, Err, refl, sym, ap, subst, ◌∙◌, arith, append_assoc, append-nil}
 use Rattle.std.proofs.lemmas.List.{map-append}
-use Rattle.std.specs.Cmp.Lexicographic.{pointwise}
 use Rattle.std.specs.List.{list_any, zip}
 use Rattle.std.specs.Option.{option_map}
-use Rattle.std.specs.Prelude.{IfOk, slice_get}
-use Rattle.sqlite.specs.Effect.{Database}
-use Rattle.sqlite.specs.State.{State}
-use Rattle.desk_records.proofs.ByteOrder.{same_sym, sorted_from}
-use Rattle.desk_records.proofs.Targets.{has_id}
+use Rattle.std.specs.Prelude.{slice_get}
 use Rattle.desk_records.specs.Actions.{tally_of}
 use Rattle.desk_records.specs.RolloutRow.{stored_action, stored_rollout}
-use Rattle.desk_records.specs.TargetRow.{stored_target}
-use Rattle.desk_records.specs.Targets.{are_sorted, ids_of, in_byte_order}
 use Rattle.desk_records.specs.declared.rollout_row.StoredAction.{StoredAction}
 use Rattle.desk_records.specs.declared.rollout_row.StoredRollout.{StoredRollout}
-use Rattle.desk_records.specs.declared.target_row.StoredTarget.{StoredTarget}
-use Rattle.rollout_machine.proofs.Imports.{IsSorted, not_above}
-use Rattle.rollout_machine.proofs.TargetTies.{same_true}
 use Rattle.rollout_machine.specs.Answers.{artifact_named, for_device, if_found, is_offer_of, modules_offered, query_reply}
-use Rattle.rollout_machine.specs.ByteStrings.{contains_word, item_numbered, same_bytes}
+use Rattle.rollout_machine.specs.ByteStrings.{item_numbered, same_bytes}
 use Rattle.rollout_machine.specs.Commands.{Bytes, Credential}
 use Rattle.rollout_machine.specs.Objects.{artifact_shown, artifacts_shown, chunks_of, chunks_of_module, modules_of_action, modules_of_rollout, modules_of_set}
 use Rattle.rollout_machine.specs.Offers.{Offer, offer}
@@ -28,10 +17,9 @@ use Rattle.rollout_machine.specs.Records.{ArtifactRecord, Records}
 use Rattle.rollout_machine.specs.declared.records.ActionRecord.{ActionRecord}
 use Rattle.rollout_machine.specs.declared.records.RolloutRecord.{RolloutRecord}
 use Rattle.rollout_machine.specs.Replies as shown
-use Rattle.rollout_machine.specs.Replies.{Artifact, Chunk, ContentsShown, Refused}
+use Rattle.rollout_machine.specs.Replies.{Artifact, ContentsShown, Refused}
 use Rattle.rollout_machine.specs.Requests.{Download}
-use Rattle.rollout_machine.specs.Targets.{Target}
-use Rattle.rollout_machine.specs.Verdicts.{is_known, target_of}
+use Rattle.rollout_machine.specs.Verdicts.{is_known}
 use Rattle.rollout_machine.specs.Views.{chunk}
 use Rattle.rollout_model.specs.declared.refusal.Refusal.{Refusal}
 use Rattle.rollout_model.specs.declared.refusal.Refusal.TheVariants.{NotFound, Unauthorized}
@@ -41,52 +29,7 @@ use Rattle.desk_views.specs.Downloads.{downloadable, named, or_not_found}
 
 -- ---- the device
 
--- its id and its token's digest are those of the target
-abbrev is_of : Credential → Target → Bool
-is_of device x = same_bytes x.id device.id && same_bytes x.digest device.digest
-
-pub same_pointwise : (xs ys : Bytes) → pointwise nat_eq xs ys ≡ same_bytes xs ys
-same_pointwise [] [] = refl
-same_pointwise [] (y ∷ ys) = refl
-same_pointwise (x ∷ xs) [] = refl
-same_pointwise (x ∷ xs) (y ∷ ys) = ap (λ b. nat_eq x y && b) (same_pointwise xs ys)
-
 module _ (device : Credential) where
-  none_known : (ts : List Target) → contains_word device.id (ids_of ts) ≡ false → list_any (is_of device) ts ≡ false
-  none_known [] none = refl
-  none_known (t ∷ ts) none =
-      let parts = or_parts (same_bytes device.id t.id) (contains_word device.id (ids_of ts)) none in
-      let other = same_sym t.id device.id ∙ parts.0 in
-      let others = none_known ts parts.1 in
-      λ i. (other i && same_bytes t.digest device.digest) || others i
-
-  pub known_by : (stored : StoredTarget) (r : Records) → are_sorted r.targets ≡ true → Some stored ≡ option_map stored_target (target_of r device.id) → pointwise nat_eq stored.digest device.digest ≡ is_known r device
-  known_by stored r sorted read = same_pointwise stored.digest device.digest ∙ go r.targets (sorted_from (ids_of r.targets) (and_parts (in_byte_order (ids_of r.targets)) _ sorted).0) read where
-    go : (ts : List Target) → IsSorted (ids_of ts) → Some stored ≡ option_map stored_target (find (has_id device.id) ts) → same_bytes stored.digest device.digest ≡ list_any (is_of device) ts
-    go [] order is = absurd cc
-    go (t ∷ ts) order is = first (same_bytes t.id device.id) refl is (go ts order.1) where
-      or_none : (b : Bool) → b ≡ (b || false)
-      or_none true = refl
-      or_none false = refl
-
-      first : (s : Bool) → same_bytes t.id device.id ≡ s → Some stored ≡ option_map stored_target (cond s (Some t) (find (has_id device.id) ts))
-          → (Some stored ≡ option_map stored_target (find (has_id device.id) ts) → same_bytes stored.digest device.digest ≡ list_any (is_of device) ts) → same_bytes stored.digest device.digest ≡ ((s && same_bytes t.digest device.digest) || list_any (is_of device) ts)
-      first true same here rest =
-          let this : stored ≡ stored_target t = cc in
-          let none = none_known ts (ap (λ k. contains_word k (ids_of ts)) (sym (same_true t.id device.id same)) ∙ not_above t.id (ids_of ts) order.0) in
-          ap (λ (s : StoredTarget). same_bytes s.digest device.digest) this ∙ or_none (same_bytes t.digest device.digest) ∙ ap (λ b. same_bytes t.digest device.digest || b) (sym none)
-      first false apart later rest = rest later
-
-  pub unknown : (r : Records) → None ≡ option_map stored_target (target_of r device.id) → false ≡ is_known r device
-  unknown r read = go r.targets read where
-    go : (ts : List Target) → None ≡ option_map stored_target (find (has_id device.id) ts) → false ≡ list_any (is_of device) ts
-    go [] is = refl
-    go (t ∷ ts) is = first (same_bytes t.id device.id) is (go ts) where
-      first : (s : Bool) → None ≡ option_map stored_target (cond s (Some t) (find (has_id device.id) ts)) → (None ≡ option_map stored_target (find (has_id device.id) ts) → false ≡ list_any (is_of device) ts)
-          → false ≡ ((s && same_bytes t.digest device.digest) || list_any (is_of device) ts)
-      first true here rest = absurd cc
-      first false later rest = rest later
-
   module _ (r : Records) where
     pub turned_away : false ≡ is_known r device → (reply : shown.Reply) → Refused Unauthorized ≡ for_device r device reply
     turned_away is reply = ap (λ b. cond b reply (Refused Unauthorized)) is

@@ -12,8 +12,8 @@ use Rattle.rollout_model.specs.declared.refusal.Refusal.TheVariants.{NotFound}
 use Rattle.rollout_model.specs.declared.rollout_plan.RolloutPlan.{RolloutPlan}
 use Rattle.campaign_core.specs.StatusWords.{group_word_from}
 use Rattle.desk_records.specs.Parts.{parts_of}
-use Rattle.desk_views.specs.Rollouts.{IsSeenOf}
-use Rattle.desk_views.specs.declared.rollouts.SeenRollout.{SeenRollout}
+use Rattle.desk_reads.specs.Rollouts.{IsSeenOf}
+use Rattle.desk_reads.specs.declared.rollouts.SeenRollout.{SeenRollout}
 
 pub group_is : (seen : SeenRollout) (x : RolloutRecord) → IsSeenOf seen x → (g : GroupRecord) (size : ℕ) (word : GroupWord) → size ≡ size_of_group g
     → word ≡ group_word_from seen.started (record { started = g.started; size = size; ok = g.ok; bad = g.bad; gone = g.gone; error = seen.plan.error })

@@ -15,7 +15,7 @@ use Rattle.rollout_machine.proofs.Actions.{numbered_map}
 use Rattle.rollout_model.specs.Rules.{are_details}
 use Rattle.desk_records.specs.EntryRow.{keeps_details}
 use Rattle.desk_views.specs.Actions.{history_of}
-use Rattle.desk_views.specs.Showing.{AreOfList}
+use Rattle.desk_reads.specs.AtLists.{AreOfList}
 
 -- of one command
 one_keeps : (c : Command) → IsWellFormed c → list_all keeps_details (entries_of c) ≡ true

@@ -4,7 +4,6 @@ pub mod MemberViews
 pub mod GroupViews
 pub mod MemberLemmas
 pub mod RolloutViews
-pub mod ListLemmas
 pub mod PageLemmas
 pub mod ModuleViews
 pub mod SetViews

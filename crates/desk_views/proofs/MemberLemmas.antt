@@ -22,8 +22,8 @@ use Rattle.rollout_machine.specs.declared.records.RolloutRecord.{RolloutRecord}
 use Rattle.rollout_machine.proofs.Imports.{never_with}
 use Rattle.rollout_machine.proofs.TargetTies.{same_refl}
 use Rattle.desk_records.proofs.ByteOrder.{same_sym}
-use Rattle.desk_views.specs.Showing.{AreOfList}
-use Rattle.desk_views.proofs.ListLemmas.{made}
+use Rattle.desk_reads.specs.AtLists.{AreOfList}
+use Rattle.desk_reads.proofs.ListLemmas.{made}
 
 -- ---- tests of lists
 

@@ -19,9 +19,9 @@ use Rattle.rollout_machine.specs.declared.records.GroupRecord.{GroupRecord}
 use Rattle.rollout_machine.specs.declared.records.RolloutRecord.{RolloutRecord}
 use Rattle.rollout_model.specs.declared.shown_target.ShownTarget.{ShownTarget as RustTarget}
 use Rattle.desk_records.specs.Rollouts.{members_of}
-use Rattle.desk_views.specs.Showing.{AreOfList}
+use Rattle.desk_reads.specs.AtLists.{AreOfList}
 use Rattle.desk_views.proofs.GroupViews.{part_mapped}
-use Rattle.desk_views.proofs.ListLemmas.{group_within}
+use Rattle.desk_reads.proofs.ListLemmas.{group_within}
 use Rattle.desk_views.proofs.MemberLemmas.{members_there, part_there, target_at, targets_there}
 
 -- ---- the targets of ids

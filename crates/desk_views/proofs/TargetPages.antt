@@ -1,18 +1,13 @@
 -- From typed reads of targets to pages of them.
-use Rattle.std.proofs.Common.{◌≡◌, ℕ, suc, ◌+◌, ◌-◌, ◌&&◌, nat_le, nat_lt, ◌*◌, ◌/◌, ◌%◌, min, Bool, true, false, cond, List, [], ◌∷◌, ◌++◌, map, filter, find, length, take, drop, Option, Some, None, refl, sym, ap, ◌∙◌, append-nil, append_assoc, arith, length-drop, Vec}
-use Rattle.std.proofs.IntoIterSteps.{All-taken}
+use Rattle.std.proofs.Common.{◌≡◌, ℕ, suc, ◌+◌, ◌-◌, ◌&&◌, nat_le, nat_lt, ◌*◌, ◌/◌, ◌%◌, min, Bool, true, false, cond, List, [], ◌∷◌, ◌++◌, map, filter, length, take, drop, Some, None, refl, sym, ap, ◌∙◌, append-nil, append_assoc, arith, length-drop, Vec}
 use Rattle.std.proofs.Math.Seq.{take-add, take-nil}
-use Rattle.std.proofs.lemmas.Bool.{and_parts, leb-false, leb-true, or_parts}
+use Rattle.std.proofs.lemmas.Bool.{leb-false, leb-true}
 use Rattle.std.proofs.lemmas.Grind.{div_ceil_times}
 use Rattle.std.proofs.lemmas.List.{drop-append-le, drop-map, drop_all, length-append, length-map, map-append, take-append-le, take-map, take_all}
 use Rattle.std.proofs.lemmas.List.Elements.{filter-append}
-use Rattle.std.specs.Iterator.{Yields}
 use Rattle.std.specs.Option.{IsSomeAnd}
-use Rattle.std.specs.Vec.Iter.{into_iter_items, into_iter_steps}
 use Rattle.std.specs.declared.alloc.Global.{Global}
-use Rattle.std.specs.declared.vec.IntoIter.{IntoIter}
 use Rattle.rollout_machine.specs.Answers.{query_reply, targets_matching}
-use Rattle.rollout_machine.specs.ByteStrings.{contains_word, same_bytes}
 use Rattle.rollout_machine.specs.Commands.{Bytes}
 use Rattle.rollout_machine.specs.Filters.{matches, seen}
 use Rattle.rollout_machine.specs.Objects.{page_of, target_shown, targets_shown}
@@ -21,8 +16,6 @@ use Rattle.rollout_machine.specs.Replies.{PageOf, TargetsShown}
 use Rattle.rollout_machine.specs.Requests.{Page, ShowTargets}
 use Rattle.rollout_machine.specs.Targets.{Target}
 use Rattle.rollout_machine.specs.Views.{listed, listed_targets, reply_of, shown_target}
-use Rattle.rollout_machine.proofs.Imports.{IsSorted, not_above}
-use Rattle.rollout_machine.proofs.TargetTies.{same_refl}
 use Rattle.rollout_model.specs.declared.page.PageOf.{PageOf as RustPageOf}
 use Rattle.rollout_model.specs.declared.request.Reply.TheVariants as reply
 use Rattle.rollout_model.specs.declared.shown_target.ShownTarget.{ShownTarget}
@@ -32,58 +25,14 @@ use Rattle.target_filter.specs.Meaning.{holds}
 use Rattle.target_filter.specs.Profile.{filter_of}
 use Rattle.desk_records.specs.declared.target_row.ListedTarget.{ListedTarget}
 use Rattle.desk_records.specs.TargetRow.{listed_target}
-use Rattle.desk_records.specs.Targets.{are_sorted, ids_of, in_byte_order}
-use Rattle.desk_records.proofs.ByteOrder.{sorted_from}
-use Rattle.desk_records.proofs.Targets.{has_id}
-use Rattle.desk_views.specs.Targets.{matching_shown, target_listed, worded}
-
--- ---- a list that is gone through
-
--- once nothing is left, all of it was given
-pub all_given : {X A : Type 0} (s t u : IntoIter X A) (xs all : List X) → into_iter_items s ≡ all → Yields into_iter_steps s xs t → into_iter_steps t None u → xs ≡ all
-all_given s t u xs all is given none = All-taken s xs (u, (t, given, none)) ∙ is
+use Rattle.desk_records.specs.Targets.{are_sorted}
+use Rattle.desk_views.specs.Targets.{matching_shown, worded}
+use Rattle.desk_reads.specs.Targets.{target_listed}
+use Rattle.desk_reads.proofs.ListedTargets.{part_seen}
 
 -- ---- what is found by its id
 
-abbrev found : List Target → Target → Option Target
-found all t = find (has_id t.id) all
-
-passes_by : (x : Target) (xs ys : List Target) → contains_word x.id (ids_of ys) ≡ false → map (found (x ∷ xs)) ys ≡ map (found xs) ys
-passes_by x xs [] none = refl
-passes_by x xs (y ∷ ys) none =
-    let parts = or_parts (same_bytes x.id y.id) (contains_word x.id (ids_of ys)) none in
-    let one : found (x ∷ xs) y ≡ found xs y = rw (parts.0) refl in
-    let others = passes_by x xs ys parts.1 in
-    λ i. one i ∷ others i
-
-finds_all : (all : List Target) → IsSorted (ids_of all) → map (found all) all ≡ map Some all
-finds_all [] sorted = refl
-finds_all (x ∷ xs) sorted =
-    let one : found (x ∷ xs) x ≡ Some x = rw (same_refl x.id) refl in
-    let others = passes_by x xs xs (not_above x.id (ids_of xs) sorted.0) ∙ finds_all xs sorted.1 in
-    λ i. one i ∷ others i
-
 module _ (r : Records) where
-  one_seen : (t : Target) → found r.targets t ≡ Some t → target_listed r (listed_target t) ≡ seen t
-  one_seen t is = rw is refl
-
-  all_seen : (ts : List Target) → map (found r.targets) ts ≡ map Some ts → map (target_listed r) (map listed_target ts) ≡ map seen ts
-  all_seen [] is = refl
-  all_seen (t ∷ ts) is =
-      let one : found r.targets t ≡ Some t = cc in
-      let others : map (found r.targets) ts ≡ map Some ts = cc in
-      let here = one_seen t one in
-      let rest = all_seen ts others in
-      λ i. here i ∷ rest i
-
-  -- a part of the targets, listed and then read by their ids
-  pub part_seen : are_sorted r.targets ≡ true → (n m : ℕ) → map (target_listed r) (map listed_target (take n (drop m r.targets))) ≡ map seen (take n (drop m r.targets))
-  part_seen sorted n m =
-      let ordered = (and_parts (in_byte_order (ids_of r.targets)) _ sorted).0 in
-      let all = finds_all r.targets (sorted_from (ids_of r.targets) ordered) in
-      all_seen (take n (drop m r.targets))
-      (sym (take-map (found r.targets) n (drop m r.targets)) ∙ ap (take n) (sym (drop-map (found r.targets) m r.targets) ∙ ap (drop m) all ∙ drop-map Some m r.targets) ∙ take-map Some n (drop m r.targets))
-
   -- ---- as they are shown
 
   all_shown : (ts : List Target) → map shown_target (map (worded r) (map seen ts)) ≡ targets_shown r ts
@@ -111,7 +60,7 @@ module _ (r : Records) where
       → reply_of (reply.Targets (record { content = items; total = total })) ≡ query_reply r (ShowTargets None page)
   all_replied page entries items total sorted count listed is =
       let part = take page.limit (drop page.offset r.targets) in
-      let here = ap (map shown_target) (is ∙ ap (λ l. map (worded r) (map (target_listed r) l)) listed ∙ ap (map (worded r)) (part_seen sorted page.limit page.offset)) ∙ all_shown part ∙ shown_part page.limit page.offset r.targets in
+      let here = ap (map shown_target) (is ∙ ap (λ l. map (worded r) (map (target_listed r) l)) listed ∙ ap (map (worded r)) (part_seen r sorted page.limit page.offset)) ∙ all_shown part ∙ shown_part page.limit page.offset r.targets in
       let all = count ∙ sym (ap length (shown_map r.targets) ∙ length-map r.targets (target_shown r)) in
       λ i. TargetsShown (record { content = here i; total = all i })
 
@@ -137,7 +86,7 @@ module _ (r : Records) where
     pub chunk_matched : are_sorted r.targets ≡ true → (offset n : ℕ) (entries : List ListedTarget) → entries ≡ map listed_target (take n (drop offset r.targets))
         → matching_shown r f (map seen (take offset r.targets)) ++ matching_shown r f (map (target_listed r) entries) ≡ matching_shown r f (map seen (take (offset + n) r.targets))
     chunk_matched sorted offset n entries is =
-        ap (λ l. matching_shown r f (map seen (take offset r.targets)) ++ matching_shown r f l) (ap (map (target_listed r)) is ∙ part_seen sorted n offset)
+        ap (λ l. matching_shown r f (map seen (take offset r.targets)) ++ matching_shown r f l) (ap (map (target_listed r)) is ∙ part_seen r sorted n offset)
         ∙ sym (matching_join (map seen (take offset r.targets)) (map seen (take n (drop offset r.targets))))
         ∙ ap (matching_shown r f) (sym (map-append seen (take offset r.targets) (take n (drop offset r.targets))) ∙ ap (map seen) (sym (take-add offset n r.targets)))
 

@@ -7,7 +7,7 @@ use Rattle.desk_records.specs.Targets.{attributes_of}
 use Rattle.desk_records.proofs.Targets.{has_id}
 use Rattle.rollout_machine.specs.Answers.{if_found, query_reply}
 use Rattle.rollout_machine.specs.ByteStrings.{same_bytes}
-use Rattle.rollout_machine.specs.Commands.{Attribute, Bytes}
+use Rattle.rollout_machine.specs.Commands.{Bytes}
 use Rattle.rollout_machine.specs.Objects.{target_shown}
 use Rattle.rollout_machine.specs.Records.{Records}
 use Rattle.rollout_machine.specs.Replies.{TargetShown}
@@ -22,8 +22,8 @@ use Rattle.rollout_model.specs.declared.request.Reply.{Reply}
 use Rattle.rollout_model.specs.declared.request.Reply.TheVariants as reply
 use Rattle.rollout_model.specs.declared.shown_target.ShownTarget.{ShownTarget}
 use Rattle.rollout_model.specs.declared.target.Target.{Target as SeenTarget}
-use Rattle.desk_records.specs.declared.target_row.ListedTarget.{ListedTarget}
-use Rattle.desk_views.specs.Targets.{target_listed, worded}
+use Rattle.desk_reads.specs.Targets.{target_listed}
+use Rattle.desk_views.specs.Targets.{worded}
 
 -- what is found by an id has it
 pub id_found : (id : Bytes) (t : Target) (ts : List Target) → find (has_id id) ts ≡ Some t → t.id ≡ id
@@ -33,11 +33,6 @@ id_found id t (x ∷ ts) found = go (same_bytes x.id id) refl found (id_found id
     go : (b : Bool) → same_bytes x.id id ≡ b → cond b (Some x) (find (has_id id) ts) ≡ Some t → (find (has_id id) ts ≡ Some t → t.id ≡ id) → t.id ≡ id
     go true same is rest = let here : x ≡ t = cc in ap (λ (y : Target). y.id) (sym here) ∙ same_true x.id id same
     go false other is rest = rest is
-
--- a target that was listed, with what was read of its id
-pub listed_is : (r : Records) (listed : ListedTarget) (tags : List Bytes) (attributes : List Attribute) → tags ≡ tags_of (target_of r listed.id) → attributes ≡ attributes_of (target_of r listed.id)
-    → record { id = listed.id; name = listed.name; tags = tags; attributes = attributes } ≡ target_listed r listed
-listed_is r listed tags attributes tagged attributed = λ i. record { id = listed.id; name = listed.name; tags = tagged i; attributes = attributed i }
 
 module _ (r : Records) (id : Bytes) where
   pub no_target : (wanted : Option Target) → None ≡ option_map stored_target wanted → None ≡ option_map (target_shown r) wanted

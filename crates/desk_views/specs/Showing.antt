@@ -2,26 +2,13 @@
 use Rattle.std.specs.Prelude.{◌≡◌, Result}
 use Rattle.sqlite.specs.Store.{Ghosts}
 use Rattle.rollout_machine.specs.Answers.{query_reply}
-use Rattle.rollout_machine.specs.CommandList.{CommandList}
-use Rattle.rollout_machine.specs.Records.{Records, records}
 use Rattle.rollout_machine.specs.Requests.{Query}
-use Rattle.rollout_machine.specs.Validity.{IsValid}
 use Rattle.rollout_machine.specs.Views.{reply_of}
 use Rattle.rollout_model.specs.declared.request.Reply.{Reply}
-use Rattle.desk_store.specs.Changing.{FindsIn}
 use Rattle.desk_store.specs.declared.change.OpenChange.{OpenChange}
-
--- a list of accepted commands has these records
-pub record AreOfList (r : Records) : Type 0 where
-  pub list : CommandList
-  pub valid : IsValid list
-  pub are : r ≡ records list
+use Rattle.desk_reads.specs.AtLists.{FindsAtListsIn}
 
 module _ {S : Type 0} (g : Ghosts S) where
-  -- a read whose answer is known at the records of such lists alone
-  abbrev pub FindsAtListsIn : {A E : Type 0} → OpenChange S → OpenChange S → Result A E → (Records → A → Type 0) → Type 0
-  FindsAtListsIn old new result Answer = FindsIn g old new result (λ r it. AreOfList r → Answer r it)
-
   -- a query, at such a list: it is answered, and nothing changes
   abbrev pub ShowsIn : {E : Type 0} → OpenChange S → OpenChange S → Query → Result Reply E → Type 0
-  ShowsIn old new q result = FindsAtListsIn old new result (λ r reply. reply_of reply ≡ query_reply r q)
+  ShowsIn old new q result = FindsAtListsIn g old new result (λ r reply. reply_of reply ≡ query_reply r q)

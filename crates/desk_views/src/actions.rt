@@ -9,7 +9,8 @@ ghost use Rattle.rollout_machine.specs.Objects.{entry_shown, numbered};
 ghost use Rattle.rollout_machine.specs.StateWords.{group_holding};
 ghost use Rattle.rollout_machine.specs.Requests.{ShowAction, ShowActionsTable, ShowHistory, ShowTargetActions};
 ghost use Rattle.desk_views.specs.Actions.{history_of, listed_shown, shown_among, shown_in, stored_in};
-ghost use Rattle.desk_views.specs.Showing.{FindsAtListsIn, ShowsIn};
+ghost use Rattle.desk_reads.specs.AtLists.{FindsAtListsIn};
+ghost use Rattle.desk_views.specs.Showing.{ShowsIn};
 ghost use Rattle.desk_store.specs.Changing.{FindsIn, StaysIn};
 
 use crate::pages::part_on;

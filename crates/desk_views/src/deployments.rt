@@ -15,7 +15,8 @@ ghost use Rattle.desk_views.specs.Downloads.{downloadable, named};
 ghost use Rattle.desk_store.specs.Changing.{FindsIn, StaysIn};
 
 use crate::artifacts::read_contents;
-use crate::devices::{is_offer_of, knows_device};
+use crate::devices::is_offer_of;
+use desk_reads::knows_device;
 use desk_store::{Fault, OpenChange, StoredRollout};
 use rollout_model::{
     ActionNo, Artifact, Chunk, ControllerId, Credential, Deployment, Filename, ModuleNo, Offer,

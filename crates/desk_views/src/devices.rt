@@ -3,30 +3,13 @@
 ghost use Rattle.std.specs.Prelude.{◌≡◌, true, false};
 ghost use Rattle.rollout_machine.specs.Answers.{is_offer_of, query_reply};
 ghost use Rattle.rollout_machine.specs.Requests.{Poll, ShowCancel};
-ghost use Rattle.rollout_machine.specs.Verdicts.{is_known};
 ghost use Rattle.rollout_machine.specs.Views.{reply_of};
-ghost use Rattle.desk_store.specs.Counting.{AddsIn};
 ghost use Rattle.desk_store.specs.Changing.{FindsIn, StaysIn};
 
+use desk_reads::knows_device;
 use desk_store::{Fault, OpenChange};
 use rollout_model::{ActionNo, Credential, Offer, Refusal, Reply};
 use sqlite::Alter;
-
-/// Whether a target of the device's id is there, with the digest of the token that it showed.
-pub fn knows_device<S: Alter>(
-    change: &mut OpenChange<'_, S>,
-    device: &Credential,
-) -> Result<bool, Fault>
-    ensures stays { StaysIn S.Store change.old change.new result }
-    ensures reads { FindsIn S.Store change.old change.new result (λ now known. known ≡ is_known now device.now) }
-    ensures work { AddsIn 1 1 change.old change.new }
-{
-    let found = change.read_target(&device.id)?;
-    match &found {
-        Some(stored) => Ok(stored.digest == device.digest),
-        None => Ok(false),
-    }
-}
 
 /// Shows a device what it is offered.
 pub fn show_poll<S: Alter>(

@@ -8,14 +8,14 @@ ghost use Rattle.rollout_machine.specs.StateWords.{size_of_group};
 ghost use Rattle.rollout_machine.specs.Verdicts.{target_of};
 ghost use Rattle.rollout_machine.specs.Views.{listed, shown_target};
 ghost use Rattle.rollout_machine.specs.declared.records.RolloutRecord.{RolloutRecord};
-ghost use Rattle.desk_views.specs.Rollouts.{IsSeenOf};
+ghost use Rattle.desk_reads.specs.Rollouts.{IsSeenOf};
 ghost use Rattle.desk_views.specs.Showing.{ShowsIn};
 ghost use Rattle.desk_store.specs.Changing.{FindsIn, StaysIn};
 
 use crate::pages::{count_on, part_on};
-use crate::rollouts::{SeenRollout, read_seen_rollout, size_of};
 use crate::targets::read_shown;
 use campaign_core::{GroupStatus, group_word};
+use desk_reads::{SeenRollout, read_seen_rollout, size_of};
 use desk_store::{Fault, OpenChange};
 use rollout_machine::{Bounds, GroupRecord};
 use rollout_model::{ControllerId, Group, Page, PageOf, Refusal, Reply, RolloutNo, ShownTarget};

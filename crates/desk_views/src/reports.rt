@@ -5,12 +5,13 @@ ghost use Rattle.rollout_machine.specs.Objects.{report_of};
 ghost use Rattle.rollout_machine.specs.Requests.{ShowReport};
 ghost use Rattle.rollout_machine.specs.Views.{report};
 ghost use Rattle.rollout_machine.specs.declared.records.RolloutRecord.{RolloutRecord};
-ghost use Rattle.desk_views.specs.Rollouts.{IsSeenOf};
+ghost use Rattle.desk_reads.specs.Rollouts.{IsSeenOf};
 ghost use Rattle.desk_views.specs.Showing.{ShowsIn};
 ghost use Rattle.desk_store.specs.Changing.{StaysIn};
 
 use crate::groups::all_shown;
-use crate::rollouts::{SeenRollout, read_seen_rollout, shown};
+use crate::rollouts::shown;
+use desk_reads::{SeenRollout, read_seen_rollout};
 use desk_store::{Fault, OpenChange};
 use rollout_model::{Refusal, Reply, RolloutNo, RolloutReport};
 use sqlite::Alter;

@@ -9,11 +9,13 @@ ghost use Rattle.rollout_machine.specs.Views.{listed, reply_of};
 ghost use Rattle.rollout_model.specs.declared.shown_target.ShownTarget.{ShownTarget};
 ghost use Rattle.target_filter.specs.Grammar.{Tree};
 ghost use Rattle.target_filter.specs.Profile.{filter_of};
-ghost use Rattle.desk_views.specs.Targets.{matching_shown, target_listed, worded};
+ghost use Rattle.desk_views.specs.Targets.{matching_shown, worded};
+ghost use Rattle.desk_reads.specs.Targets.{target_listed};
 ghost use Rattle.desk_store.specs.Changing.{FindsIn, StaysIn};
 
 use crate::pages::is_on;
-use crate::targets::{read_listed, with_word};
+use crate::targets::with_word;
+use desk_reads::read_listed;
 use desk_store::{Fault, ListedTarget, OpenChange};
 use rollout_model::limits::TARGET_LIMIT;
 use rollout_model::{FilterText, Page, PageOf, Refusal, Reply, ShownTarget, Target};

@@ -1,20 +1,19 @@
 //! Targets, one at a time.
 
-ghost use Rattle.std.specs.Prelude.{◌≡◌, IfOk};
+ghost use Rattle.std.specs.Prelude.{◌≡◌};
 ghost use Rattle.std.specs.Option.{option_map};
 ghost use Rattle.rollout_machine.specs.Answers.{query_reply};
 ghost use Rattle.rollout_machine.specs.Objects.{target_shown};
 ghost use Rattle.rollout_machine.specs.Requests.{ShowTarget};
 ghost use Rattle.rollout_machine.specs.Verdicts.{target_of};
 ghost use Rattle.rollout_machine.specs.Views.{reply_of, shown_target};
-ghost use Rattle.desk_views.specs.Targets.{target_listed, worded};
+ghost use Rattle.desk_views.specs.Targets.{worded};
 ghost use Rattle.desk_store.specs.Changing.{FindsIn, StaysIn};
 
 use crate::target_words::read_target_word;
+use desk_reads::read_listed;
 use desk_store::{Fault, ListedTarget, OpenChange, StoredTarget};
-use rollout_model::{
-    Attributes, ControllerId, Refusal, Reply, ShownTarget, Tags, Target, TargetWord, Word,
-};
+use rollout_model::{ControllerId, Refusal, Reply, ShownTarget, Target, TargetWord};
 use sqlite::Alter;
 
 /// Shows the target of an id, with its tags and its attributes.
@@ -56,42 +55,6 @@ fn called(id: ControllerId, stored: StoredTarget) -> ListedTarget
 {
     let StoredTarget { name, digest: _ } = stored;
     ListedTarget { id, name }
-}
-
-/// A target that was listed, with its tags and its attributes.
-pub fn read_listed<S: Alter>(
-    change: &mut OpenChange<'_, S>,
-    listed: ListedTarget,
-) -> Result<Target, Fault>
-    ensures stays { StaysIn S.Store change.old change.new result }
-    ensures reads { FindsIn S.Store change.old change.new result (λ now target. target ≡ target_listed now listed) }
-{
-    let words = change.read_target_tags(&listed.id)?;
-    let attributes = change.read_target_attributes(&listed.id)?;
-    let tags = tag_list(words)?;
-    Ok(whole(listed, tags, attributes))
-}
-
-fn whole(listed: ListedTarget, tags: Tags, attributes: Attributes) -> Target
-    ensures { result ≡ record { id = listed.id; name = listed.name; tags = tags; attributes = attributes } }
-{
-    let ListedTarget { id, name } = listed;
-    Target {
-        id,
-        name,
-        tags,
-        attributes,
-    }
-}
-
-/// The tags of a target. Where they are more than 16, or one stands twice, the store has failed, since no target was given such tags.
-fn tag_list(words: Vec<Word>) -> Result<Tags, Fault>
-    ensures { IfOk result (λ tags. tags ≡ words.items) }
-{
-    match Tags::from_words(words) {
-        Some(tags) => Ok(tags),
-        None => Err(Fault::Store),
-    }
 }
 
 /// A target as it is shown, with the word that its actions say.

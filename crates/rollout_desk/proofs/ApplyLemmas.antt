@@ -20,18 +20,18 @@ use Rattle.rollout_machine.specs.Verdicts.{check}
 use Rattle.rollout_machine.specs.Views.{reply_of}
 use Rattle.rollout_machine.proofs.Answering.{query_answer, refused_answer, accepted_step}
 use Rattle.rollout_machine.proofs.Main.{records_step}
-use Rattle.rollout_machine.proofs.StoreFailures.{answer_never_stores}
+use Rattle.rollout_machine.proofs.StoreFailures.{answer_never_stores, failed_true}
 use Rattle.rollout_model.specs.declared.refusal.Refusal.{Refusal}
 use Rattle.rollout_model.specs.declared.refusal.Refusal.TheVariants.{StoreFailed, NoMemory}
 use Rattle.rollout_desk.specs.Desks.{HoldsList, desk_state_at}
 use Rattle.sql_calls.specs.declared.fault.Fault.{Fault}
 use Rattle.sql_calls.specs.declared.fault.Fault.TheVariants.{Memory, Store}
 use Rattle.rollout_machine.specs.StoreFailures.{is_failed_store}
-use Rattle.rollout_machine.proofs.StoreFailures.{failed_true}
-use Rattle.rollout_desk.specs.Steps.{refusal_of_fault, Steps, Handles, EndsByCommit, EndsByRollback}
-use Rattle.rollout_desk.specs.declared.step.Step.TheVariants as step
+use Rattle.rollout_desk.specs.Changes.{refusal_of_fault, Handles, EndsByCommit, EndsByRollback}
+use Rattle.desk_commands.specs.Steps.{Steps}
+use Rattle.desk_commands.specs.declared.step.Step.TheVariants as step
 use Rattle.desk_records.specs.Holds.{HoldsLedger, HoldsRecords, Ledger, ledger_of}
-use Rattle.desk_views.specs.Showing.{AreOfList}
+use Rattle.desk_reads.specs.AtLists.{AreOfList}
 
 -- ---- the reply of a failed store
 

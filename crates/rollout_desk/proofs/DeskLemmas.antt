@@ -9,7 +9,7 @@ use Rattle.rollout_machine.specs.Requests.{Request, Asks}
 use Rattle.rollout_machine.specs.Standing.{StandsFor, Applies, AppliesAt, StaysStopped}
 use Rattle.rollout_desk.specs.Desks.{desk_state_at}
 use Rattle.rollout_machine.specs.StoreFailures.{is_failed_store}
-use Rattle.rollout_desk.specs.Steps.{Handles}
+use Rattle.rollout_desk.specs.Changes.{Handles}
 
 module _ (Holds : Database → Records → Type 0) (old new : State) where
   -- a running desk answers by its store, and is stopped after a failed one

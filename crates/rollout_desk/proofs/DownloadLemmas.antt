@@ -31,7 +31,7 @@ use Rattle.contents_handler.specs.Downloads.{sent, next_length, BeginsAt, HandsP
 use Rattle.contents_handler.specs.declared.download.Download.{Download}
 use Rattle.rollout_desk.specs.Downloads.{artifact_in, Begins, BeginsOffered, HandsItsArtifact, IsNextOf, RefusesContents, DownloadsGoOn}
 use Rattle.rollout_desk.specs.Looks.{EndsLook, FindsDownload, Looks, bytes_of}
-use Rattle.rollout_desk.specs.Steps.{Handles, refusal_of_fault}
+use Rattle.rollout_desk.specs.Changes.{Handles, refusal_of_fault}
 use Rattle.rollout_machine.specs.StoreFailures.{is_store}
 use Rattle.rollout_desk.proofs.ApplyLemmas.{fault_fails, found as found_inside, lost, stands, unbegun, rests_records, stood}
 use Rattle.rollout_desk.proofs.DeskLemmas.{answers}

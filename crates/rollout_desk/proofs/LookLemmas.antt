@@ -9,7 +9,7 @@ use Rattle.rollout_machine.specs.Records.{Records}
 use Rattle.rollout_model.specs.declared.refusal.Refusal.{Refusal}
 use Rattle.rollout_model.specs.declared.refusal.Refusal.TheVariants.{NoMemory, StoreFailed}
 use Rattle.rollout_desk.specs.Looks.{Looks, EndsLook}
-use Rattle.rollout_desk.specs.Steps.{refusal_of_fault}
+use Rattle.rollout_desk.specs.Changes.{refusal_of_fault}
 use Rattle.rollout_desk.proofs.ApplyLemmas.{rests_ledger, rests_records}
 
 -- the refusal of a fault

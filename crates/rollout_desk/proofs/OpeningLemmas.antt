@@ -15,7 +15,7 @@ use Rattle.sqlite_store.specs.Laws.{stays_at}
 use Rattle.sqlite_wal.proofs.LogLemmas.{SeenMayStay}
 use Rattle.sqlite.specs.Steps.{IsEmpty}
 use Rattle.sql_front.specs.Free.{LeavesFree}
-use Rattle.sql_calls.specs.Standing.{HoldIn, IsAtRest}
+use Rattle.sql_calls.specs.Standing.{HoldIn, IsAtRest, Rests}
 use Rattle.desk_opening.proofs.BlankLemmas.{nothing_is_used}
 use Rattle.desk_records.specs.Schema.{desk_names}
 use Rattle.desk_opening.specs.Making.{HoldsStage, Free}
@@ -27,7 +27,6 @@ use Rattle.desk_opening.specs.declared.opening.OpenFault.TheVariants.{NotDesk, N
 use Rattle.desk_opening.specs.Opening.{OpensDesk, IsSettled, IsFailure}
 use Rattle.sqlite.specs.Recovery.{Image}
 use Rattle.sqlite.specs.State.{State, HasCleanDisk}
-use Rattle.sql_calls.specs.Standing.{Rests}
 use Rattle.desk_records.specs.Holds.{HoldsRecords}
 use Rattle.desk_opening.specs.Reopening.{Reopens, LeavesUnharmed}
 use Rattle.sqlite.specs.declared.file.Leftover.{Leftover}

@@ -1,18 +1,13 @@
 -- How much a request makes the store do, and what it tells of a store that failed.
 use Rattle.std.specs.Prelude.{◌≡◌, ◌≤◌, ℕ, Bool, true, false, Result, Ok, Err}
-use Rattle.rollout_machine.specs.Commands.{Command, CancelFeedback, Feedback}
+use Rattle.rollout_machine.specs.Commands.{Command}
 use Rattle.rollout_machine.specs.StoreFailures.{is_failed_store, is_store}
 use Rattle.rollout_machine.specs.Views.{reply_of}
 use Rattle.rollout_model.specs.declared.refusal.Refusal.{Refusal}
 use Rattle.rollout_model.specs.declared.request.Reply.{Reply}
 use Rattle.sql_calls.specs.declared.calls.Calls.{Calls}
 use Rattle.sql_calls.specs.declared.calls.Work.{Work}
-
--- what a device reports of an action
-abbrev pub is_report : Command → Bool
-is_report (Feedback report) = true
-is_report (CancelFeedback report) = true
-is_report _ = false
+use Rattle.desk_commands.specs.Reports.{is_report}
 
 -- at most so many statements, which gave at most so many rows
 pub record IsWithin (statements rows : ℕ) (w : Work) : Type 0 where

@@ -7,25 +7,14 @@ ghost use Rattle.rollout_machine.specs.Requests.{Do, Ask};
 ghost use Rattle.rollout_machine.specs.StoreFailures.{is_failed_store};
 ghost use Rattle.rollout_machine.specs.Views.{command_of, query_of, reply_of};
 ghost use Rattle.desk_views.specs.Showing.{ShowsIn};
-ghost use Rattle.rollout_desk.specs.Working.{TellsFailures, is_report};
-ghost use Rattle.rollout_desk.specs.Steps.{Handles, EndsByCommit, EndsByRollback};
-ghost use Rattle.desk_store.specs.Counting.{Adds, AddsIn};
+ghost use Rattle.rollout_desk.specs.Working.{TellsFailures};
+ghost use Rattle.desk_commands.specs.Reports.{is_report};
+ghost use Rattle.rollout_desk.specs.Changes.{Handles, EndsByCommit, EndsByRollback};
+ghost use Rattle.desk_store.specs.Counting.{Adds};
 ghost use Rattle.desk_store.specs.Changing.{StaysIn};
-ghost use Rattle.rollout_desk.specs.Changing.{StepsIn};
 
-use crate::actions::{cancel_action, take_cancel_feedback, take_feedback};
-use crate::artifacts::add_artifact;
-use crate::attributes::put_attributes;
-use crate::creation::create_rollout;
-use crate::modules::add_module;
-use crate::progress::{resume_rollout, trigger_next};
 use crate::refusals::reply_of_fault;
-use crate::sets::add_set;
-use crate::standing::{approve_rollout, deny_rollout, pause_rollout};
-use crate::starting::start_rollout;
-use crate::step::Step;
-use crate::tags::{tag_target, untag_target};
-use crate::targets::put_targets;
+use desk_commands::{Step, take_step};
 use desk_store::{DeskStore, Fault, OpenChange};
 use desk_views::{
     show_action, show_actions_table, show_artifact, show_artifacts, show_cancel, show_contents,
@@ -37,37 +26,6 @@ use rollout_machine::command_is_well_formed;
 use rollout_model::{Command, Query, Refusal, Reply};
 use sqlite::Alter;
 use std::alloc::Global;
-
-/// Runs a command inside a change.
-fn step<S: Alter>(
-    alloc: Global,
-    change: &mut OpenChange<'_, S>,
-    command: &Command,
-) -> Result<Step, Fault>
-    ensures stays { StaysIn S.Store change.old change.new result }
-    ensures steps { StepsIn S.Store change.old change.new (command_of command.now) result }
-    ensures work { is_report (command_of command.now) ≡ true → AddsIn 14 24 change.old change.new }
-{
-    match command {
-        Command::AddModule(label) => add_module(alloc, change, label),
-        Command::AddArtifact(upload) => add_artifact(change, upload),
-        Command::AddSet(label) => add_set(alloc, change, label),
-        Command::PutTargets(rows) => put_targets(change, rows),
-        Command::Tag(id, tag) => tag_target(change, id, tag),
-        Command::Untag(id, tag) => untag_target(change, id, tag),
-        Command::PutAttributes(device, given) => put_attributes(change, device, given),
-        Command::CreateRollout(plan) => create_rollout(alloc, change, plan),
-        Command::Approve(number) => approve_rollout(change, *number),
-        Command::Deny(number) => deny_rollout(change, *number),
-        Command::Start(number) => start_rollout(change, *number),
-        Command::Pause(number) => pause_rollout(change, *number),
-        Command::Resume(number) => resume_rollout(change, *number),
-        Command::TriggerNext(number) => trigger_next(change, *number),
-        Command::Cancel(asked) => cancel_action(change, asked),
-        Command::Feedback(report) => take_feedback(alloc, change, report),
-        Command::CancelFeedback(report) => take_cancel_feedback(alloc, change, report),
-    }
-}
 
 /// Answers a query inside a change.
 fn answer<S: Alter>(
@@ -155,7 +113,7 @@ pub(crate) fn run_command<S: Alter>(
         Ok(change) => change,
         Err(fault) => return reply_of_fault(fault),
     };
-    match step(alloc, &mut change, command) {
+    match take_step(alloc, &mut change, command) {
         Ok(Step::Accepted(reply)) => commit(change, reply),
         Ok(Step::Refused(refusal)) => give_up(change, Reply::Refused(refusal)),
         Err(fault) => give_up(change, reply_of_fault(fault)),

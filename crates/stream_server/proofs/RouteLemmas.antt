@@ -9,7 +9,6 @@ use Rattle.request_target.specs.Routes.{segments, is_parameter, stands_for, fits
 use Rattle.request_target.proofs.Longest.{both}
 use Rattle.http_wire.specs.Messages.{WireMessage}
 use Rattle.http_wire.specs.Targets.{path_of}
-use Rattle.rollout_machine.specs.Requests.{Asked}
 use Rattle.ddi_api.specs.declared.call.DeviceCall.{DeviceCall}
 use Rattle.ddi_api.specs.Reading.{device_reading}
 use Rattle.ddi_api.specs.Routes.{device_table}

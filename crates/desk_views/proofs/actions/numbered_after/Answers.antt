@@ -3,7 +3,7 @@ use Rattle.std.proofs.lemmas.List.{length-append}
 use Rattle.std.specs.Result.{is_ok}
 use Rattle.rollout_machine.specs.Objects.{entry_shown, numbered}
 use Rattle.desk_views.proofs.HistoryViews.{numbered_more}
-use Rattle.desk_views.proofs.TargetPages.{all_given}
+use Rattle.desk_reads.proofs.ListedTargets.{all_given}
 use Rattle.desk_views.proofs.actions.numbered_after.Goals as goal
 
 pub loop-entry-preserved : goal.loop-entry-preserved

@@ -8,7 +8,7 @@ use Rattle.rollout_machine.specs.Replies.{ActionsTableShown}
 use Rattle.desk_store.proofs.LedgersOfRecords.{ledger_found}
 use Rattle.desk_views.specs.Actions.{shown_among}
 use Rattle.desk_views.proofs.ActionViews.{all_listed, none_there, of_rollout_is, one_there}
-use Rattle.desk_views.proofs.ListLemmas.{groups_are}
+use Rattle.desk_reads.proofs.ListLemmas.{groups_are}
 use Rattle.desk_views.proofs.actions.show_actions_table.Goals as goal
 
 pub returns-then-is_none-clause-shows : goal.returns-then-is_none-clause-shows

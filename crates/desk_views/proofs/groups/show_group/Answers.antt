@@ -7,9 +7,9 @@ use Rattle.rollout_machine.specs.Objects.{group_shown}
 use Rattle.rollout_machine.specs.Replies.{GroupShown}
 use Rattle.rollout_machine.specs.StateWords.{group_numbered}
 use Rattle.desk_store.proofs.LedgersOfRecords.{ledger_found}
-use Rattle.desk_views.specs.Rollouts.{IsSeenOf}
+use Rattle.desk_reads.specs.Rollouts.{IsSeenOf}
 use Rattle.desk_views.proofs.GroupViews.{no_group, one_group}
-use Rattle.desk_views.proofs.ListLemmas.{groups_are}
+use Rattle.desk_reads.proofs.ListLemmas.{groups_are}
 use Rattle.desk_views.proofs.RolloutViews.{none_replied}
 use Rattle.desk_views.proofs.groups.show_group.Goals as goal
 

@@ -7,7 +7,7 @@ use Rattle.rollout_machine.specs.Replies.{TargetsShown}
 use Rattle.rollout_machine.specs.StateWords.{group_numbered}
 use Rattle.desk_store.proofs.LedgersOfRecords.{ledger_found}
 use Rattle.desk_views.proofs.GroupViews.{no_group, one_group}
-use Rattle.desk_views.proofs.ListLemmas.{groups_are}
+use Rattle.desk_reads.proofs.ListLemmas.{groups_are}
 use Rattle.desk_views.proofs.MemberViews.{members_paged}
 use Rattle.desk_views.proofs.groups.show_group_targets.Goals as goal
 

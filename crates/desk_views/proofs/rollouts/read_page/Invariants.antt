@@ -1,7 +1,7 @@
 use Rattle.std.proofs.Common.{◌≡◌, Ok, drop, take}
 use Rattle.sql_calls.specs.declared.fault.Fault.{Fault}
 use Rattle.rollout_machine.specs.Objects.{rollouts_shown}
-use Rattle.desk_views.specs.Showing.{FindsAtListsIn}
+use Rattle.desk_reads.specs.AtLists.{FindsAtListsIn}
 use Rattle.desk_store.specs.Changing.{StaysIn}
 use Rattle.desk_views.proofs.rollouts.read_page.Given as goal
 

@@ -1,8 +1,10 @@
 use Rattle.std.proofs.Common.{◌++◌, map, ap, ◌∙◌, rules}
 use Rattle.sql_calls.proofs.Composing.{both_found, finds_as}
 use Rattle.rollout_machine.specs.Objects.{page_of}
-use Rattle.desk_views.specs.Targets.{matching_shown, target_listed}
-use Rattle.desk_views.proofs.TargetPages.{all_given, matching_grow}
+use Rattle.desk_views.specs.Targets.{matching_shown}
+use Rattle.desk_reads.specs.Targets.{target_listed}
+use Rattle.desk_reads.proofs.ListedTargets.{all_given}
+use Rattle.desk_views.proofs.TargetPages.{matching_grow}
 use Rattle.desk_views.proofs.target_pages.add_matching.Goals as goal
 
 pub loop-entry-preserved : goal.loop-entry-preserved

@@ -1,8 +1,10 @@
 use Rattle.std.proofs.Common.{map, ap, ◌∙◌, rules}
 use Rattle.std.specs.Result.{is_ok}
 use Rattle.sql_calls.proofs.Composing.{both_found, finds_as}
-use Rattle.desk_views.specs.Targets.{target_listed, worded}
-use Rattle.desk_views.proofs.TargetPages.{all_given, entries_grow}
+use Rattle.desk_reads.specs.Targets.{target_listed}
+use Rattle.desk_views.specs.Targets.{worded}
+use Rattle.desk_reads.proofs.ListedTargets.{all_given}
+use Rattle.desk_views.proofs.TargetPages.{entries_grow}
 use Rattle.desk_views.proofs.target_pages.read_entries.Goals as goal
 
 pub loop-entry-preserved : goal.loop-entry-preserved

@@ -1,4 +1,4 @@
-use Rattle.desk_views.proofs.ListLemmas.{at_lists}
+use Rattle.desk_reads.proofs.ListLemmas.{at_lists}
 use Rattle.rollout_desk.proofs.change.answer.Goals as goal
 
 pub returns-in-Modules-clause-shows : goal.returns-in-Modules-clause-shows

@@ -4,7 +4,7 @@ use Rattle.sql_calls.specs.Standing.{Keeps}
 use Rattle.desk_records.specs.Holds.{HoldsLedger, HoldsRecords}
 use Rattle.rollout_machine.specs.Requests.{Do}
 use Rattle.rollout_machine.specs.Views.{command_of, reply_of}
-use Rattle.rollout_desk.specs.Steps.{Handles}
+use Rattle.rollout_desk.specs.Changes.{Handles}
 use Rattle.rollout_desk.proofs.ApplyLemmas.{fault_fails, unbegun, accepted, refused, broken}
 use Rattle.rollout_desk.proofs.change.run_command.Goals as goal
 
@@ -25,8 +25,8 @@ returns-in-Ok-Refused-clause-handles g c =
     subst (λ h. Handles HoldsRecords (state g.S.Store c.args.store.now.calls.conn) (state g.S.Store h.calls.conn) (Do (command_of c.args.command.now)) (reply_of c.give_up.result)) same
     (refused _ _ c.in-Ok.ensures.begun _ _ _ c.in-Ok-Refused.refusal c.in-Ok-Refused.ensures.stays.frame (rw c.in-Ok-Refused.field-0-is at c.in-Ok-Refused.ensures.steps) _ c.give_up.ensures.ends)
 
-pub returns-in-Err-step-clause-handles : goal.returns-in-Err-step-clause-handles
-returns-in-Err-step-clause-handles g c =
-    let same : c.give_up-in-Err-step.new.change.0 ≡ c.store-in-Err-step-1.given.0 = search rules in
-    subst (λ h. Handles HoldsRecords (state g.S.Store c.args.store.now.calls.conn) (state g.S.Store h.calls.conn) (Do (command_of c.args.command.now)) (reply_of c.give_up-in-Err-step.result)) same
-    (broken _ _ c.in-Ok.ensures.begun _ _ _ _ c.in-Err-step.ensures.stays.frame c.in-Err-step.ensures.steps.wears (fault_fails _ _ c.reply_of_fault-in-Err-step.ensures) _ c.give_up-in-Err-step.ensures.ends)
+pub returns-in-Err-take_step-clause-handles : goal.returns-in-Err-take_step-clause-handles
+returns-in-Err-take_step-clause-handles g c =
+    let same : c.give_up-in-Err-take_step.new.change.0 ≡ c.store-in-Err-take_step-1.given.0 = search rules in
+    subst (λ h. Handles HoldsRecords (state g.S.Store c.args.store.now.calls.conn) (state g.S.Store h.calls.conn) (Do (command_of c.args.command.now)) (reply_of c.give_up-in-Err-take_step.result)) same
+    (broken _ _ c.in-Ok.ensures.begun _ _ _ _ c.in-Err-take_step.ensures.stays.frame c.in-Err-take_step.ensures.steps.wears (fault_fails _ _ c.reply_of_fault-in-Err-take_step.ensures) _ c.give_up-in-Err-take_step.ensures.ends)

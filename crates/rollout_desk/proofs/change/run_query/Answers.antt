@@ -4,7 +4,7 @@ use Rattle.sql_calls.specs.Standing.{Keeps}
 use Rattle.desk_records.specs.Holds.{HoldsLedger, HoldsRecords}
 use Rattle.rollout_machine.specs.Requests.{Ask}
 use Rattle.rollout_machine.specs.Views.{query_of, reply_of}
-use Rattle.rollout_desk.specs.Steps.{Handles}
+use Rattle.rollout_desk.specs.Changes.{Handles}
 use Rattle.rollout_desk.proofs.ApplyLemmas.{fault_fails, unbegun, shown, unshown}
 use Rattle.rollout_desk.proofs.change.run_query.Goals as goal
 

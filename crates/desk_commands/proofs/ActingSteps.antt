@@ -1,0 +1,183 @@
+-- Commands on actions, by what was seen of the action and what the rule of the command made of it.
+use Rattle.std.proofs.Common.{◌≡◌, ℕ, Bool, true, false, cond, ◌&&◌, ◌||◌, not, List, [], ◌∷◌, Option, Some, None, option_map, Ok, refl, sym, ap, ◌∙◌, subst}
+use Rattle.std.specs.Prelude.{is_some}
+use Rattle.std.specs.Option.{is_none}
+use Rattle.rollout_machine.specs.Actions.{CancelEntry, DeploymentEntry, HistoryEntry, outcome_of_cancel, outcome_of_deployment}
+use Rattle.rollout_machine.specs.ByteStrings.{same_bytes}
+use Rattle.rollout_machine.specs.CommandList.{CommandList}
+use Rattle.rollout_machine.specs.CommandRules.{IsWellFormed}
+use Rattle.rollout_machine.specs.Commands.{Bytes, Cancel, CancelFeedback, CancelWord, Command, DeploymentWord, Feedback, Report}
+use Rattle.rollout_machine.specs.RecordSteps.{step_records}
+use Rattle.rollout_machine.specs.Records.{records}
+use Rattle.rollout_machine.specs.Validity.{IsValid}
+use Rattle.rollout_machine.specs.Verdicts.{check, first_refusal, target_of}
+use Rattle.rollout_machine.specs.declared.outcome.Outcome.{Outcome}
+use Rattle.rollout_machine.proofs.TargetTies.{same_true}
+use Rattle.rollout_model.specs.declared.refusal.Refusal.{Refusal}
+use Rattle.rollout_model.specs.declared.refusal.Refusal.TheVariants.{ClosedAction, WrongState}
+use Rattle.campaign_core.specs.RolloutChecks.{ChangesAction, Decides, LeadsTo, MakesCancel, MakesReport, MayChangeAction, cancel_refusal, canceling_after, change_by, change_if_open, outcome_forced}
+use Rattle.campaign_core.specs.declared.rollout_checks.RolloutChange.{RolloutChange}
+use Rattle.campaign_core.specs.declared.rollout_checks.RolloutChange.TheVariants as change
+use Rattle.campaign_core.specs.declared.rollout_checks.RolloutCommandView.TheVariants as view
+use Rattle.campaign_core.specs.declared.rollout_checks.actions.ActionChange.{ActionChange}
+use Rattle.campaign_core.specs.declared.rollout_checks.actions.CancelView.{CancelView}
+use Rattle.campaign_core.specs.declared.rollout_checks.reports.ReportedAction.{ReportedAction}
+use Rattle.campaign_core.proofs.SoundLemmas.{records_are_sound}
+use Rattle.desk_records.specs.Holds.{ledger_of}
+use Rattle.offer_laws.specs.GroupOffers.{actor}
+use Rattle.desk_commands.specs.ActionSteps.{Acts, ActsBy, MayAct, action_change_of}
+use Rattle.desk_commands.specs.Entries.{TellsEntries}
+use Rattle.desk_commands.specs.SeenActions.{IsSeen, MaySee, SeesReport, SeesTarget, action_view_seen, cancel_view_seen, only_of, only_started, report_view_seen, reported_seen, seen_if}
+use Rattle.desk_records.specs.declared.new_entry.NewEntry.{NewEntry}
+use Rattle.desk_commands.specs.declared.seen_actions.SeenAction.{SeenAction}
+use Rattle.desk_commands.specs.declared.seen_actions.SeenReport.{SeenReport}
+use Rattle.desk_commands.proofs.ActingEnds.{acts}
+use Rattle.desk_commands.proofs.KnownActions.{IsKnown, cancel_viewed, known, report_viewed, seen_at}
+
+-- ---- which action was seen
+
+-- it was found, and is of the target
+record IsOf (id : Bytes) (found : Option SeenAction) (s : SeenAction) : Type 0 where
+  is_found : found ≡ Some s
+  target : s.action.target ≡ id
+
+of_target : (id : Bytes) (found : Option SeenAction) (s : SeenAction) → only_of id found ≡ Some s → IsOf id found s
+of_target id None s is = cc
+of_target id (Some t) s is = go (same_bytes t.action.target id) refl is
+  where
+    go : (b : Bool) → same_bytes t.action.target id ≡ b → seen_if b t ≡ Some s → IsOf id (Some t) s
+    go true same it = record { is_found = it; target = (let one : t ≡ s = cc in ap (λ (u : SeenAction). u.action.target) (sym one) ∙ same_true t.action.target id same) }
+    go false same it = cc
+
+started_too : (found : Option SeenAction) (s : SeenAction) → only_started found ≡ Some s → (found ≡ Some s) × (s.own.started ≡ true)
+started_too None s is = cc
+started_too (Some t) s is = go t.own.started refl is
+  where
+    go : (b : Bool) → t.own.started ≡ b → seen_if b t ≡ Some s → (Some t ≡ Some s) × (s.own.started ≡ true)
+    go true on it = (it, (let one : t ≡ s = cc in ap (λ (u : SeenAction). u.own.started) (sym one) ∙ on))
+    go false on it = cc
+
+-- ---- what is made of it
+
+module _ (h : CommandList) (c : Command) (valid : IsValid h) (formed : IsWellFormed c) (accepted : check (records h) c ≡ None) (k : ℕ) (told : Option NewEntry) (entries : List HistoryEntry) (tells : TellsEntries entries told) where
+  acts_on : (s : SeenAction) → IsSeen (ledger_of (records h)) k s → actor c ≡ Some s.action.target → is_none s.action.outcome ≡ true → s.own.started ≡ true → (gives : Option Outcome) (canceling : Bool)
+      → ChangesAction (change_by (action_view_seen s) gives canceling) entries k (records h) (step_records (records h) c) → Acts s (change_by (action_view_seen s) gives canceling) told (ledger_of (records h)) (ledger_of (step_records (records h) c))
+  acts_on s sees by unended begun gives canceling leads = go (known h valid k s sees)
+    where
+      go : IsKnown (records h) k s → Acts s (change_by (action_view_seen s) gives canceling) told (ledger_of (records h)) (ledger_of (step_records (records h) c))
+      go w = at s w.is by unended begun leads
+        where
+          at : (t : SeenAction) → t ≡ seen_at (records h) k w.placed → actor c ≡ Some t.action.target → is_none t.action.outcome ≡ true → t.own.started ≡ true → ChangesAction (change_by (action_view_seen t) gives canceling) entries k (records h) (step_records (records h) c)
+              → Acts t (change_by (action_view_seen t) gives canceling) told (ledger_of (records h)) (ledger_of (step_records (records h) c))
+          at t is = subst
+              (λ (u : SeenAction). actor c ≡ Some u.action.target → is_none u.action.outcome ≡ true → u.own.started ≡ true → ChangesAction (change_by (action_view_seen u) gives canceling) entries k (records h) (step_records (records h) c)
+              → Acts u (change_by (action_view_seen u) gives canceling) told (ledger_of (records h)) (ledger_of (step_records (records h) c)))
+              (sym is) (λ by unended begun leads. acts h c valid formed accepted k w.placed told entries tells by unended begun gives canceling leads)
+
+  -- by a report
+  may_act : (id : Bytes) (found seen : Option SeenAction) → MaySee k (ledger_of (records h)) found → seen ≡ only_started (only_of id found) → actor c ≡ Some id → (gives : Option Outcome) (canceling : Bool → Bool) (a : ReportedAction) (after : Option ActionChange)
+      → option_map reported_seen seen ≡ Some a → after ≡ change_if_open a.action gives (canceling a.action.canceling) → MayChangeAction after entries k (records h) (step_records (records h) c)
+      → MayAct seen after told (ledger_of (records h)) (ledger_of (step_records (records h) c))
+  may_act id found None sees is by gives canceling a after viewed made leads = cc
+  may_act id found (Some s) sees is by gives canceling a after viewed made leads =
+      let on = started_too (only_of id found) s (sym is) in
+      let its = of_target id found s on.0 in
+      let view : reported_seen s ≡ a = cc in
+      go (is_none s.action.outcome) refl its on.1 (made ∙ ap (λ (v : ReportedAction). change_if_open v.action gives (canceling v.action.canceling)) (sym view))
+    where
+      go : (unended : Bool) → is_none s.action.outcome ≡ unended → IsOf id found s → s.own.started ≡ true → after ≡ cond (is_none s.action.outcome) (Some (change_by (action_view_seen s) gives (canceling s.action.canceling))) None
+          → MayAct (Some s) after told (ledger_of (records h)) (ledger_of (step_records (records h) c))
+      go true unended its begun made =
+          let is : after ≡ Some (change_by (action_view_seen s) gives (canceling s.action.canceling)) = made ∙ ap (λ b. cond b (Some (change_by (action_view_seen s) gives (canceling s.action.canceling))) None) unended in
+          let leads2 : ChangesAction (change_by (action_view_seen s) gives (canceling s.action.canceling)) entries k (records h) (step_records (records h) c) = subst (λ o. MayChangeAction o entries k (records h) (step_records (records h) c)) is leads in
+          subst (λ o. MayAct (Some s) o told (ledger_of (records h)) (ledger_of (step_records (records h) c))) (sym is)
+          (acts_on s (subst (λ o. MaySee k (ledger_of (records h)) o) its.is_found sees) (by ∙ ap (λ t. Some t) (sym its.target)) unended begun gives (canceling s.action.canceling) leads2)
+      go false unended its begun made =
+          let is : after ≡ None = made ∙ ap (λ b. cond b (Some (change_by (action_view_seen s) gives (canceling s.action.canceling))) None) unended in
+          let leads2 : step_records (records h) c ≡ records h = subst (λ o. MayChangeAction o entries k (records h) (step_records (records h) c)) is leads in
+          subst (λ o. MayAct (Some s) o told (ledger_of (records h)) (ledger_of (step_records (records h) c))) (sym is) (ap ledger_of leads2)
+
+-- ---- reports
+
+module _ (seen : SeenReport) (accepted : RolloutChange) (told : NewEntry) where
+  module _ (report : Report DeploymentWord) (formed : IsWellFormed (Feedback report)) (decides : Decides (view.Feedback (report_view_seen seen)) (Feedback report) (Ok accepted))
+      (makes : (o : Option ActionChange) × (accepted ≡ change.Feedback o) × MakesReport (report_view_seen seen) (outcome_of_deployment report.word) (λ canceling. canceling) o) (tells : TellsEntries (DeploymentEntry report.word report.details ∷ []) (Some told)) where
+    pub feedback_accepted : (h : CommandList) → IsValid h → SeesReport report.credential report.action (records h) seen → check (records h) (Feedback report) ≡ None
+    feedback_accepted h valid w = (decides (records h) (records_are_sound h valid) (report_viewed h valid report.action report.credential seen w)).0
+
+    pub feedback_acts : (h : CommandList) → IsValid h → SeesReport report.credential report.action (records h) seen → ActsBy seen.action accepted (Some told) (ledger_of (records h)) (ledger_of (step_records (records h) (Feedback report)))
+    feedback_acts h valid w =
+        let it = decides (records h) (records_are_sound h valid) (report_viewed h valid report.action report.credential seen w) in
+        let leads : MayChangeAction makes.0 (DeploymentEntry report.word report.details ∷ []) report.action (records h) (step_records (records h) (Feedback report)) = subst (λ o. LeadsTo o (Feedback report) (records h) (step_records (records h) (Feedback report))) makes.1 it.1 in
+        record {
+          after = makes.0;
+          is_its = ap action_change_of makes.1;
+          acts = may_act h (Feedback report) valid formed it.0 report.action (Some told) (DeploymentEntry report.word report.details ∷ []) tells report.credential.id w.found seen.action w.sees w.action refl (outcome_of_deployment report.word) (λ canceling. canceling) makes.2.0 makes.0 makes.2.1 makes.2.2 leads;
+        }
+
+  module _ (report : Report CancelWord) (formed : IsWellFormed (CancelFeedback report)) (decides : Decides (view.CancelFeedback (report_view_seen seen)) (CancelFeedback report) (Ok accepted))
+      (makes : (o : Option ActionChange) × (accepted ≡ change.CancelFeedback o) × MakesReport (report_view_seen seen) (outcome_of_cancel report.word) (canceling_after report.word) o) (tells : TellsEntries (CancelEntry report.word report.details ∷ []) (Some told)) where
+    pub cancel_feedback_accepted : (h : CommandList) → IsValid h → SeesReport report.credential report.action (records h) seen → check (records h) (CancelFeedback report) ≡ None
+    cancel_feedback_accepted h valid w = (decides (records h) (records_are_sound h valid) (report_viewed h valid report.action report.credential seen w)).0
+
+    pub cancel_feedback_acts : (h : CommandList) → IsValid h → SeesReport report.credential report.action (records h) seen → ActsBy seen.action accepted (Some told) (ledger_of (records h)) (ledger_of (step_records (records h) (CancelFeedback report)))
+    cancel_feedback_acts h valid w =
+        let it = decides (records h) (records_are_sound h valid) (report_viewed h valid report.action report.credential seen w) in
+        let leads : MayChangeAction makes.0 (CancelEntry report.word report.details ∷ []) report.action (records h) (step_records (records h) (CancelFeedback report)) = subst (λ o. LeadsTo o (CancelFeedback report) (records h) (step_records (records h) (CancelFeedback report))) makes.1 it.1 in
+        record {
+          after = makes.0;
+          is_its = ap action_change_of makes.1;
+          acts = may_act h (CancelFeedback report) valid formed it.0 report.action (Some told) (CancelEntry report.word report.details ∷ []) tells report.credential.id w.found seen.action w.sees w.action refl (outcome_of_cancel report.word) (canceling_after report.word) makes.2.0 makes.0 makes.2.1 makes.2.2 leads;
+        }
+
+-- ---- cancels
+
+abbrev first_of : Bool → Bool → Bool → Option Refusal
+first_of closed on standing = first_refusal ((closed, ClosedAction) ∷ (not on || standing, WrongState) ∷ [])
+
+begun_of : (v : CancelView) (force : Bool) → cancel_refusal (Some v) force ≡ None → v.started ≡ true
+begun_of v force none = go (is_some v.action.outcome) v.started (v.action.canceling && not force) none
+  where
+    go : (closed on standing : Bool) → first_of closed on standing ≡ None → on ≡ true
+    go true on standing is = cc
+    go false true standing is = refl
+    go false false standing is = cc
+
+open_of : (v : CancelView) (force : Bool) → cancel_refusal (Some v) force ≡ None → is_none v.action.outcome ≡ true
+open_of v force none = go v.action.outcome none
+  where
+    go : (o : Option Outcome) → first_of (is_some o) v.started (v.action.canceling && not force) ≡ None → is_none o ≡ true
+    go None is = refl
+    go (Some o) is = cc
+
+module _ (id : Bytes) (k : ℕ) (force : Bool) (seen : Option SeenAction) (accepted : RolloutChange) (formed : IsWellFormed (Cancel id k force)) (decides : Decides (view.Cancel (option_map cancel_view_seen seen)) (Cancel id k force) (Ok accepted))
+    (makes : (o : ActionChange) × (accepted ≡ change.Cancel o) × MakesCancel (option_map cancel_view_seen seen) force o) where
+  pub cancel_accepted : (h : CommandList) → IsValid h → SeesTarget id k (records h) seen → check (records h) (Cancel id k force) ≡ None
+  cancel_accepted h valid w = (decides (records h) (records_are_sound h valid) (cancel_viewed h valid k id seen w)).0
+
+  pub cancel_acts : (h : CommandList) → IsValid h → SeesTarget id k (records h) seen → ActsBy seen accepted None (ledger_of (records h)) (ledger_of (step_records (records h) (Cancel id k force)))
+  cancel_acts h valid w =
+      let it = decides (records h) (records_are_sound h valid) (cancel_viewed h valid k id seen w) in
+      let unrefused : cancel_refusal (Some makes.2.0) force ≡ None = subst (λ v. cancel_refusal v force ≡ None) makes.2.1 makes.2.2 in
+      let leads : ChangesAction makes.0 [] k (records h) (step_records (records h) (Cancel id k force)) = subst (λ o. LeadsTo o (Cancel id k force) (records h) (step_records (records h) (Cancel id k force))) makes.1 it.1 in
+      record {
+        after = Some makes.0;
+        is_its = ap action_change_of makes.1;
+        acts = go seen w.action makes.2.0 makes.2.1 (open_of makes.2.0 force unrefused) (begun_of makes.2.0 force unrefused) makes.2.3 it.0 leads;
+      }
+    where
+      there : (gone : Bool) (s : SeenAction) → Some s ≡ cond gone None (only_of id w.found) → only_of id w.found ≡ Some s
+      there true s is = cc
+      there false s is = sym is
+
+      go : (o : Option SeenAction) → o ≡ cond (is_none (target_of (records h) id)) None (only_of id w.found) → (v : CancelView) → option_map cancel_view_seen o ≡ Some v → is_none v.action.outcome ≡ true → v.started ≡ true
+          → makes.0 ≡ change_by v.action (outcome_forced v.action.canceling force) true → check (records h) (Cancel id k force) ≡ None → ChangesAction makes.0 [] k (records h) (step_records (records h) (Cancel id k force))
+          → MayAct o (Some makes.0) None (ledger_of (records h)) (ledger_of (step_records (records h) (Cancel id k force)))
+      go None is v viewed unended begun made none leads = cc
+      go (Some s) is v viewed unended begun made none leads =
+          let view : cancel_view_seen s ≡ v = cc in
+          let its = of_target id w.found s (there (is_none (target_of (records h) id)) s is) in
+          let made_so : makes.0 ≡ change_by (action_view_seen s) (outcome_forced s.action.canceling force) true = made ∙ ap (λ (u : CancelView). change_by u.action (outcome_forced u.action.canceling force) true) (sym view) in
+          subst (λ o. Acts s o None (ledger_of (records h)) (ledger_of (step_records (records h) (Cancel id k force)))) (sym made_so)
+          (acts_on h (Cancel id k force) valid formed none k None [] tt s (subst (λ o. MaySee k (ledger_of (records h)) o) its.is_found w.sees) (ap (λ t. Some t) (sym its.target)) (ap (λ (u : CancelView). is_none u.action.outcome) view ∙ unended) (ap (λ (u : CancelView). u.started) view ∙ begun)
+          (outcome_forced s.action.canceling force) true (subst (λ o. ChangesAction o [] k (records h) (step_records (records h) (Cancel id k force))) made_so leads))

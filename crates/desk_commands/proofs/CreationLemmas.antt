@@ -1,0 +1,269 @@
+-- The creation of a rollout, from what is read to what is written.
+use Rattle.std.proofs.Common.{◌≡◌, ◌≤◌, ◌<◌, ℕ, zero, suc, ◌+◌, Bool, true, false, not, cond, nat_eq, nat_lt, List, [], ◌∷◌, ◌++◌, map, filter, get_or, take, drop, length, set, slice_get, Some, None, is_none, refl, sym, ap, subst, ◌∙◌, arith}
+use Rattle.std.specs.List.{list_all}
+use Rattle.std.specs.Option.{IsSomeAnd}
+use Rattle.std.proofs.lemmas.Bool.{and_parts}
+use Rattle.std.proofs.lemmas.Bool.Decides.{nat_tests}
+use Rattle.std.proofs.lemmas.List.{length-append, length-take-le, take_all}
+use Rattle.std.proofs.lemmas.Option.{slice_get_within}
+use Rattle.rollout_machine.specs.Actions.{ActionPlace, action_places}
+use Rattle.rollout_machine.specs.Answers.{added_rollout, command_reply}
+use Rattle.rollout_machine.specs.ByteStrings.{item_numbered}
+use Rattle.rollout_machine.specs.CommandList.{CommandList}
+use Rattle.rollout_machine.specs.Commands.{Bytes, CreateRollout, RolloutPlan}
+use Rattle.rollout_machine.specs.Filters.{matches, seen}
+use Rattle.rollout_machine.specs.Offers.{first_offer}
+use Rattle.rollout_machine.specs.Ranges.{each_from}
+use Rattle.rollout_machine.specs.Objects.{rollout_shown}
+use Rattle.rollout_machine.specs.Replies.{RolloutAdded}
+use Rattle.rollout_machine.specs.Records.{Records, action_in, records, rollouts_in}
+use Rattle.rollout_machine.specs.RecordSteps.{new_group, new_rollout, step_records}
+use Rattle.rollout_machine.specs.Rollouts.{Rollout as MadeRollout, bounds_at, chosen, rollouts}
+use Rattle.rollout_machine.specs.StateWords.{RolloutWord, is_finished, rollout_word}
+use Rattle.rollout_machine.specs.Targets.{Target}
+use Rattle.rollout_machine.specs.Validity.{IsValid}
+use Rattle.rollout_machine.specs.Verdicts.{check}
+use Rattle.rollout_machine.specs.Views.{reply_of}
+use Rattle.rollout_machine.specs.declared.records.ActionRecord.{ActionRecord}
+use Rattle.rollout_machine.specs.declared.records.RolloutRecord.{RolloutRecord}
+use Rattle.rollout_machine.proofs.Induction.{invariant_of}
+use Rattle.rollout_machine.proofs.Lists.{each_from_more}
+use Rattle.rollout_model.specs.declared.request.Reply.TheVariants as reply
+use Rattle.rollout_model.specs.declared.rollout.Rollout.{Rollout}
+use Rattle.rollout_model.specs.declared.target.Target.{Target as SeenTarget}
+use Rattle.target_filter.specs.Grammar.{Tree}
+use Rattle.target_filter.specs.Meaning.{holds}
+use Rattle.target_filter.specs.Profile.{filter_of}
+use Rattle.campaign_core.specs.RolloutChecks.{IsPlanView, approval_at, plan_refusal}
+use Rattle.campaign_core.specs.declared.rollout_checks.plans.NewRollout.{NewRollout}
+use Rattle.campaign_core.specs.declared.rollout_checks.plans.PlanView.{PlanView}
+use Rattle.desk_records.specs.Holds.{Ledger, ledger_of}
+use Rattle.desk_records.specs.LedgerSteps.{AddsGroup, AddsMember, AddsRollout, set_numbered, with_rollouts}
+use Rattle.desk_records.specs.TargetRow.{listed_target}
+use Rattle.desk_records.specs.Targets.{are_sorted}
+use Rattle.desk_records.specs.declared.target_row.ListedTarget.{ListedTarget}
+use Rattle.desk_store.proofs.LedgersOfRecords.{same_ledger}
+use Rattle.desk_reads.specs.Targets.{target_listed}
+use Rattle.desk_reads.proofs.ListedTargets.{part_seen}
+use Rattle.desk_commands.specs.Creations.{CreatesRollout, IsChosen, IsWordOf, ids_matching, in_part, shown_new}
+use Rattle.desk_commands.specs.declared.creation.Chosen.{Chosen}
+use Rattle.desk_commands.proofs.AdditionLemmas.{past_is_missing}
+use Rattle.desk_commands.proofs.PutLemmas.{one_more}
+
+-- ---- the members
+
+module _ (r : Records) (f : Tree) (text : Bytes) (t : SeenTarget) (entry : ListedTarget) (is_match : Bool) (computed : IsSomeAnd (filter_of text) (λ tree. is_match ≡ holds tree t)) (tree : filter_of text ≡ Some f) (read : t ≡ target_listed r entry)
+    (ids : List Bytes) where
+  by_tree : is_match ≡ holds f t
+  by_tree = rw tree at computed
+
+  pub id_added : is_match ≡ true → ids ++ entry.id ∷ [] ≡ ids ++ ids_matching f (target_listed r entry ∷ [])
+  id_added on = let is : holds f (target_listed r entry) ≡ true = ap (holds f) (sym read) ∙ sym by_tree ∙ on in rw is refl
+
+  pub id_left : is_match ≡ false → ids ≡ ids ++ ids_matching f (target_listed r entry ∷ [])
+  id_left off = let is : holds f (target_listed r entry) ≡ false = ap (holds f) (sym read) ∙ sym by_tree ∙ off in rw is (sym (nothing ids))
+    where
+      nothing : (l : List Bytes) → l ++ [] ≡ l
+      nothing [] = refl
+      nothing (x ∷ l) = ap (λ l. x ∷ l) (nothing l)
+
+pub ids_grow : (f : Tree) (ts : List SeenTarget) (t : SeenTarget) → ids_matching f ts ++ ids_matching f (t ∷ []) ≡ ids_matching f (ts ++ t ∷ [])
+ids_grow f [] t = refl
+ids_grow f (x ∷ ts) t = go (holds f x) (ids_grow f ts t)
+  where
+    go : (b : Bool) → ids_matching f ts ++ ids_matching f (t ∷ []) ≡ ids_matching f (ts ++ t ∷ [])
+        → map (λ (t : SeenTarget). t.id) (cond b (x ∷ filter (holds f) ts) (filter (holds f) ts)) ++ ids_matching f (t ∷ []) ≡ map (λ (t : SeenTarget). t.id) (cond b (x ∷ filter (holds f) (ts ++ t ∷ [])) (filter (holds f) (ts ++ t ∷ [])))
+    go true rest = ap (λ l. x.id ∷ l) rest
+    go false rest = rest
+
+-- of one more
+pub one_more_matched : (r : Records) (f : Tree) (entries : List ListedTarget) (entry : ListedTarget) (items more : List Bytes) → items ≡ ids_matching f (map (target_listed r) entries) → more ≡ items ++ ids_matching f (target_listed r entry ∷ [])
+    → more ≡ ids_matching f (map (target_listed r) (entries ++ entry ∷ []))
+one_more_matched r f entries entry items more is one =
+    one ∙ ap (λ l. l ++ ids_matching f (target_listed r entry ∷ [])) is ∙ ids_grow f (map (target_listed r) entries) (target_listed r entry) ∙ ap (ids_matching f) (sym (mapped entries))
+  where
+    mapped : (es : List ListedTarget) → map (target_listed r) (es ++ entry ∷ []) ≡ map (target_listed r) es ++ target_listed r entry ∷ []
+    mapped [] = refl
+    mapped (e ∷ es) = ap (λ l. target_listed r e ∷ l) (mapped es)
+
+ids_seen : (f : Tree) (ts : List Target) → ids_matching f (map seen ts) ≡ chosen (Some f) ts
+ids_seen f [] = refl
+ids_seen f (t ∷ ts) = go (matches f t) (ids_seen f ts)
+  where
+    go : (b : Bool) → ids_matching f (map seen ts) ≡ chosen (Some f) ts
+        → map (λ (t : SeenTarget). t.id) (cond b (seen t ∷ filter (holds f) (map seen ts)) (filter (holds f) (map seen ts))) ≡ map (λ (t : Target). t.id) (cond b (t ∷ filter (matches f) ts) (filter (matches f) ts))
+    go true rest = ap (λ l. t.id ∷ l) rest
+    go false rest = rest
+
+-- all targets were listed
+pub all_chosen : (r : Records) → are_sorted r.targets ≡ true → (f : Tree) (count : ℕ) (entries : List ListedTarget) → count ≡ length r.targets → entries ≡ map listed_target (take count (drop 0 r.targets)) → (ids : List Bytes)
+    → ids ≡ ids_matching f (map (target_listed r) entries) → ids ≡ chosen (Some f) r.targets
+all_chosen r sorted f count entries size listed ids is =
+    is ∙ ap (λ l. ids_matching f (map (target_listed r) l)) listed ∙ ap (ids_matching f) (part_seen r sorted count 0) ∙ ap (λ l. ids_matching f (map seen l)) (take_all count r.targets (omega (arith, size))) ∙ ids_seen f r.targets
+
+-- ---- the verdict
+
+pub by_filter : (text : Bytes) (r : Records) (f : Tree) (found : Chosen) → filter_of text ≡ Some f → found.bad_filter ≡ false → found.members.items ≡ chosen (Some f) r.targets → IsChosen text r found
+by_filter text r f found tree good members = record { bad_filter = good ∙ sym (ap is_none tree); members = members ∙ sym (ap (λ o. chosen o r.targets) tree) }
+
+pub set_missing : (r : Records) (number last : ℕ) → 1 ≤ number → last ≡ length r.sets → nat_lt last number ≡ is_none (item_numbered r.sets number)
+set_missing r number last least size = ap (λ n. nat_lt n number) size ∙ sym (past_is_missing r.sets number least)
+
+-- the verdict is that of the view
+pub judged : (r : Records) (plan : RolloutPlan) (view : PlanView) → IsPlanView view plan r → check r (CreateRollout plan) ≡ plan_refusal view plan.groups
+judged r plan view is = rw (is.bad_filter, is.misses_set, is.same_name, is.members, is.count) refl
+
+-- ---- the rollout that is the last one
+
+last_there : {X : Type 0} (xs : List X) (x : X) → slice_get (xs ++ x ∷ []) (length xs) ≡ Some x
+last_there [] x = refl
+last_there (y ∷ xs) x = last_there xs x
+
+last_set : {X : Type 0} (xs : List X) (x y : X) → set (xs ++ x ∷ []) (length xs) y ≡ xs ++ y ∷ []
+last_set [] x y = refl
+last_set (z ∷ xs) x y = ap (λ l. z ∷ l) (last_set xs x y)
+
+numbered_last : {X : Type 0} (xs : List X) (x : X) (n : ℕ) → n ≡ length xs + 1 → item_numbered (xs ++ x ∷ []) n ≡ Some x
+numbered_last xs x n is = let next : n ≡ suc (length xs) = omega (arith, is) in ap (item_numbered (xs ++ x ∷ [])) next ∙ last_there xs x
+
+set_last : {X : Type 0} (xs : List X) (x y : X) (n : ℕ) → n ≡ length xs + 1 → set_numbered (xs ++ x ∷ []) n y ≡ xs ++ y ∷ []
+set_last xs x y n is = let next : n ≡ suc (length xs) = omega (arith, is) in ap (λ k. set_numbered (xs ++ x ∷ []) k y) next ∙ last_set xs x y
+
+each_counted : {X : Type 0} (f : ℕ → X) (a n : ℕ) → length (each_from f a n) ≡ n
+each_counted f a zero = refl
+each_counted f a (suc n) = ap suc (each_counted f (suc a) n)
+
+module _ (n : NewRollout) (plan : RolloutPlan) (size : ℕ) where
+  -- from any part to any other
+  pub also : (k j : ℕ) (ids those : List Bytes) (l next : Ledger) → CreatesRollout (in_part n plan size k ids) l next → (mid : Ledger) × CreatesRollout (in_part n plan size j those) l mid
+  also k j ids those l next h = (with_rollouts l (l.records.rollouts ++ in_part n plan size j those ∷ []), record { number_is = h.number_is; unacted = h.unacted; next_is = refl })
+
+  pub begins : (l next : Ledger) → CreatesRollout (in_part n plan size 0 []) l next → AddsRollout n.number plan n.approval l next
+  begins l next h = record { number_is = h.number_is; next_is = h.next_is }
+
+  pub one_group : (k : ℕ) (l next : Ledger) → CreatesRollout (in_part n plan size (k + 1) []) l next
+      → (mid : Ledger) × CreatesRollout (in_part n plan size k []) l mid × AddsGroup n.number (k + 1) (bounds_at plan size (k + 1)) mid next
+  one_group k l next h =
+      let was = in_part n plan size k [] in
+      let xs = l.records.rollouts in (
+        with_rollouts l (xs ++ was ∷ []),
+        record { number_is = h.number_is; unacted = h.unacted; next_is = refl },
+        record {
+          rollout = was;
+          is_there = numbered_last xs was n.number h.number_is;
+          group_is = ap (λ m. m + 1) (sym (each_counted (new_group plan size) 1 k));
+          next_is = h.next_is ∙ ap (λ gs. with_rollouts l (xs ++ record was { groups = gs } ∷ [])) (each_from_more (new_group plan size) 1 k (k + 1) (new_group plan size (k + 1)) (omega arith) refl)
+              ∙ ap (with_rollouts l) (sym (set_last xs was _ n.number h.number_is));
+        },
+      )
+
+  -- the members before an index, and the one there
+  pub one_member : (k : ℕ) (all : List Bytes) (id : Bytes) (j : ℕ) → j < length all → id ≡ get_or all j id → (l next : Ledger) → CreatesRollout (in_part n plan size k (take (j + 1) all)) l next
+      → (mid : Ledger) × CreatesRollout (in_part n plan size k (take j all)) l mid × AddsMember n.number (j + 1) id mid next
+  one_member k all id j within is l next h =
+      let was = in_part n plan size k (take j all) in
+      let xs = l.records.rollouts in (
+        with_rollouts l (xs ++ was ∷ []),
+        record { number_is = h.number_is; unacted = h.unacted; next_is = refl },
+        record {
+          rollout = was;
+          is_there = numbered_last xs was n.number h.number_is;
+          place_is = ap (λ m. m + 1) (sym (length-take-le j all (omega (arith, within))));
+          unacted = h.unacted;
+          next_is = h.next_is ∙ ap (λ ids. with_rollouts l (xs ++ record was { members = ids } ∷ [])) (one_more all id j within is) ∙ ap (with_rollouts l) (sym (set_last xs was _ n.number h.number_is));
+        },
+      )
+
+-- ---- no action is its
+
+behind : {X : Type 0} (xs : List X) (x : X) (n : ℕ) → nat_eq n (length xs + 1) ≡ false → item_numbered (xs ++ x ∷ []) n ≡ item_numbered xs n
+behind xs x zero apart = refl
+behind [] x (suc zero) apart = absurd cc
+behind [] x (suc (suc n)) apart = refl
+behind (y ∷ xs) x (suc zero) apart = refl
+behind (y ∷ xs) x (suc (suc n)) apart = behind xs x (suc n) (let it : nat_eq (suc n) (length xs + 1) ≡ false = grind (arith, nat_tests, apart) in it)
+
+-- so each target keeps its offer
+same_offers : (r : Records) (x : RolloutRecord) (t : Bytes) (k : ℕ) (as' : List ActionRecord) → list_all (λ (a : ActionRecord). not (nat_eq a.rollout (length r.rollouts + 1))) as' ≡ true
+    → first_offer (record r { rollouts = r.rollouts ++ x ∷ [] }) t k as' ≡ first_offer r t k as'
+same_offers r x t k [] none = refl
+same_offers r x t k (a ∷ more) none =
+    let parts = and_parts (not (nat_eq a.rollout (length r.rollouts + 1))) _ none in
+    rw (behind r.rollouts x a.rollout (unequal _ parts.0), same_offers r x t (suc k) more parts.1) refl
+  where
+    unequal : (b : Bool) → not b ≡ true → b ≡ false
+    unequal true h = absurd cc
+    unequal false h = refl
+
+at_lists : (h : CommandList) (n : ℕ) (ps : List ActionPlace) → ((i : ℕ) (p : ActionPlace) → slice_get ps i ≡ Some p → nat_eq p.rollout n ≡ false) → list_all (λ (a : ActionRecord). not (nat_eq a.rollout n)) (map (action_in h) ps) ≡ true
+at_lists h n [] none = refl
+at_lists h n (p ∷ ps) none = rw (none 0 p refl) (at_lists h n ps (λ i q at. none (suc i) q at))
+
+below : {X : Type 0} (xs : List X) (n : ℕ) (x : X) → item_numbered xs n ≡ Some x → n ≤ length xs
+below xs zero x at = omega arith
+below xs (suc k) x at = let less = slice_get_within xs k x at in omega (arith, less)
+
+as_many : (h : CommandList) (a : ℕ) (xs : List MadeRollout) → length (rollouts_in h a xs) ≡ length xs
+as_many h a [] = refl
+as_many h a (x ∷ xs) = ap suc (as_many h (suc a) xs)
+
+none_acts : (h : CommandList) → IsValid h → list_all (λ (a : ActionRecord). not (nat_eq a.rollout (length (records h).rollouts + 1))) (records h).actions ≡ true
+unfolding records
+none_acts h valid = at_lists h (length (records h).rollouts + 1) (action_places h) (λ i p at.
+    let place = (invariant_of h valid).placed (suc i) p at in
+    let low = below (rollouts h) p.rollout place.rollout place.there in
+    let size = as_many h 1 (rollouts h) in
+    let apart : nat_eq p.rollout (length (rollouts_in h 1 (rollouts h)) + 1) ≡ false = grind (arith, nat_tests, low, size) in
+    apart)
+
+-- ---- a command
+
+-- what was read of a plan that is accepted
+pub record IsReady (plan : RolloutPlan) (n : NewRollout) (members : List Bytes) (r : Records) : Type 0 where
+  pub accepted : check r (CreateRollout plan) ≡ None
+  pub number_is : n.number ≡ length r.rollouts + 1
+  pub approval_is : n.approval ≡ approval_at r.approval
+  pub members_are : members ≡ chosen (filter_of plan.filter_text) r.targets
+
+abbrev made : RolloutPlan → Records → RolloutRecord
+made plan r = new_rollout r.approval (suc (length r.rollouts)) plan (chosen (filter_of plan.filter_text) r.targets)
+
+module _ (plan : RolloutPlan) (n : NewRollout) (members : List Bytes) where
+  same_rollout : (r : Records) → IsReady plan n members r → made plan r ≡ in_part n plan (length members) plan.groups members
+  same_rollout r is =
+      let next : suc (length r.rollouts) ≡ n.number = omega (arith, is.number_is) in
+      λ i. in_part (record { number = next i; approval = sym is.approval_is i }) plan (length (sym is.members_are i)) plan.groups (sym is.members_are i)
+
+  -- the ledger of the records after it is the one that is written
+  pub creates : (h : CommandList) → IsValid h → IsReady plan n members (records h)
+      → CreatesRollout (in_part n plan (length members) plan.groups members) (ledger_of (records h)) (ledger_of (step_records (records h) (CreateRollout plan)))
+  creates h valid is =
+      let r = records h in
+      let none = none_acts h valid in
+      record {
+        number_is = is.number_is;
+        unacted = ap (λ k. list_all (λ (a : ActionRecord). not (nat_eq a.rollout k)) r.actions) is.number_is ∙ none;
+        next_is = same_ledger _ _ (ap (λ x. record r { rollouts = r.rollouts ++ x ∷ [] }) (same_rollout r is)) refl (λ t. same_offers r (made plan r) t 1 r.actions none);
+      }
+
+  pub shown_added : (r : Records) → IsReady plan n members r → (count : ℕ) → count ≡ length members → (shown : Rollout) → (word : RolloutWord) × IsWordOf n.approval word × (shown ≡ shown_new plan n.number word count)
+      → reply_of (reply.RolloutAdded shown) ≡ command_reply (CreateRollout plan) (step_records r (CreateRollout plan))
+  shown_added r is count size shown it =
+      let x = made plan r in
+      let number : n.number ≡ suc (length r.rollouts) = omega (arith, is.number_is) in
+      let word : it.0 ≡ rollout_word x = subst (λ a. IsWordOf a it.0) is.approval_is it.1 (is_finished x) false in
+      let targets : count ≡ length x.members = size ∙ ap length is.members_are in
+      let same : shown ≡ rollout_shown x = it.2 ∙ (λ i. record { number = number i; name = plan.name; set_number = plan.set_number; filter_text = plan.filter_text; word = word i; groups = plan.groups; targets = targets i }) in
+      ap RolloutAdded same ∙ sym (ap added_rollout (numbered_last r.rollouts x (length (r.rollouts ++ x ∷ [])) (length-append r.rollouts (x ∷ []))))
+
+-- the view is of the plan, and the verdict lets it pass
+pub ready : (plan : RolloutPlan) (n : NewRollout) (found : Chosen) (view : PlanView) (r : Records) → IsChosen plan.filter_text r found → (IsChosen plan.filter_text r found → IsPlanView view plan r) → plan_refusal view plan.groups ≡ None
+    → n ≡ record { number = view.count + 1; approval = approval_at view.approval } → IsReady plan n found.members.items r
+ready plan n found view r chosen sees passes is =
+    let seen_as = sees chosen in
+    record {
+      accepted = judged r plan view seen_as ∙ passes;
+      number_is = ap (λ (m : NewRollout). m.number) is ∙ ap (λ k. k + 1) seen_as.count;
+      approval_is = ap (λ (m : NewRollout). m.approval) is ∙ ap approval_at seen_as.approval;
+      members_are = chosen.members;
+    }

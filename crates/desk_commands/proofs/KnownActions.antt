@@ -1,0 +1,174 @@
+-- An action that was seen in the tables of a list of accepted commands, and the views of it.
+use Rattle.std.proofs.Common.{◌≡◌, ◌+◌, ℕ, Bool, true, false, cond, ◌&&◌, List, Option, Some, None, option_map, refl, sym, ap, ◌∙◌, subst}
+use Rattle.std.specs.Prelude.{is_some}
+use Rattle.std.specs.Option.{is_none}
+use Rattle.rollout_machine.specs.ByteStrings.{item_numbered}
+use Rattle.rollout_machine.specs.CommandList.{CommandList}
+use Rattle.rollout_machine.specs.Commands.{Bytes, Credential}
+use Rattle.rollout_machine.specs.RecordSteps.{view_from_group}
+use Rattle.rollout_machine.specs.Records.{Records, action_in, records, rollout_in}
+use Rattle.rollout_machine.specs.StateWords.{group_holding, group_is_started, group_number_of, group_numbered, has_started, is_for, is_started_in, number_of_group}
+use Rattle.rollout_machine.specs.Targets.{Target}
+use Rattle.rollout_machine.specs.Validity.{IsValid}
+use Rattle.rollout_machine.specs.Verdicts.{target_of}
+use Rattle.rollout_machine.specs.declared.records.ActionRecord.{ActionRecord}
+use Rattle.rollout_machine.specs.declared.records.GroupRecord.{GroupRecord}
+use Rattle.rollout_machine.specs.declared.records.RolloutRecord.{RolloutRecord}
+use Rattle.campaign_core.proofs.PlacedActions.{is_members}
+use Rattle.campaign_core.specs.OwnGroups.{own_view_of, waits}
+use Rattle.campaign_core.specs.RolloutChecks.{BothOrNone, IsActionView, IsCancelView, IsReportView, IsReportedAction, action_for, device_action, only_if}
+use Rattle.desk_records.specs.Actions.{Tally, tally_of}
+use Rattle.desk_records.specs.Holds.{ledger_of}
+use Rattle.desk_store.proofs.GroupPlaces.{group_and_next_is}
+use Rattle.desk_store.specs.GroupPairs.{group_and_next}
+use Rattle.desk_store.specs.declared.rollouts.GroupAndNext.{GroupAndNext}
+use Rattle.desk_records.specs.RolloutRow.{stored_action, stored_rollout}
+use Rattle.desk_commands.specs.SeenActions.{IsSeen, MaySee, SeesIn, SeesReport, SeesTarget, action_seen, action_view_seen, cancel_view_seen, only_of, only_started, report_view_seen, reported_seen, seen_if}
+use Rattle.desk_commands.specs.declared.seen_actions.SeenAction.{SeenAction}
+use Rattle.desk_commands.specs.declared.seen_actions.SeenReport.{SeenReport}
+use Rattle.desk_commands.proofs.GroupNumbers.{Numbered, held_stands, numbered_groups, same_groups}
+use Rattle.desk_commands.proofs.ItemSteps.{zip_map}
+use Rattle.desk_commands.proofs.LedgerEnds.{groups_stand}
+
+-- the action of a number, with its rollout and its group
+pub record IsPlaced (rs : Records) (k : ℕ) : Type 0 where
+  pub action : ActionRecord
+  pub at : item_numbered rs.actions k ≡ Some action
+  pub rollout : RolloutRecord
+  pub its : item_numbered rs.rollouts action.rollout ≡ Some rollout
+  pub own : GroupRecord
+  pub held : group_holding action.position rollout.groups ≡ Some own
+  pub own_at : item_numbered rollout.groups own.number ≡ Some own
+  pub found : group_numbered own.number rollout.groups ≡ Some own
+  pub next : group_numbered (own.number + 1) rollout.groups ≡ item_numbered rollout.groups (own.number + 1)
+
+-- as it is seen then
+abbrev pub seen_at : (rs : Records) (k : ℕ) → IsPlaced rs k → SeenAction
+seen_at rs k w = action_seen k (stored_action rs.rollouts (w.action, tally_of w.action)) (stored_rollout w.rollout) w.own (item_numbered w.rollout.groups (w.own.number + 1))
+
+pub record IsKnown (rs : Records) (k : ℕ) (s : SeenAction) : Type 0 where
+  pub placed : IsPlaced rs k
+  pub is : s ≡ seen_at rs k placed
+
+abbrev paired : ActionRecord → ActionRecord × Tally
+paired a = (a, tally_of a)
+
+-- the first group of two that are read is the one that holds the place
+own_held : (gs : List GroupRecord) → Numbered gs → (j : ℕ) (own : GroupRecord) → item_numbered gs (number_of_group (group_holding j gs)) ≡ Some own → group_holding j gs ≡ Some own
+own_held gs numbered j own = go (group_holding j gs) refl
+  where
+    go : (o : Option GroupRecord) → group_holding j gs ≡ o → item_numbered gs (number_of_group o) ≡ Some own → o ≡ Some own
+    go None is at = cc
+    go (Some g) is at = sym (held_stands gs numbered j g is) ∙ at
+
+-- of an action's place the group that holds it is read, and the group of the next number
+both_read : (h : CommandList) → IsValid h → (k : ℕ) (a : ActionRecord) (x : RolloutRecord) → item_numbered (records h).actions k ≡ Some a → item_numbered (records h).rollouts a.rollout ≡ Some x
+    → group_and_next a.position x.groups ≡ record { group = item_numbered x.groups (group_number_of x a); next = item_numbered x.groups (group_number_of x a + 1) }
+both_read h valid k a x at there =
+    let it = is_members h valid k a x at there in
+    let Read : ActionRecord → RolloutRecord → Type 0 = λ b y. group_and_next b.position y.groups ≡ record { group = item_numbered y.groups (group_number_of y b); next = item_numbered y.groups (group_number_of y b + 1) } in
+    let here : Read (action_in h it.place) (rollout_in h it.place.rollout it.placed.rollout) = group_and_next_is it.placed.rollout it.place.rollout h it.placed.sound it.place.position it.placed.low it.placed.high in
+    subst (λ b. Read b x) (sym it.is) (subst (λ y. Read (action_in h it.place) y) it.same here)
+
+module _ (h : CommandList) (valid : IsValid h) where
+  place : (k : ℕ) (s : SeenAction) (it : ActionRecord × Tally) → option_map paired (item_numbered (records h).actions k) ≡ Some it → SeesIn (ledger_of (records h)) k (stored_action (records h).rollouts it) s → IsKnown (records h) k s
+  place k s it = go (item_numbered (records h).actions k) refl
+    where
+      go : (o : Option ActionRecord) → item_numbered (records h).actions k ≡ o → option_map paired o ≡ Some it → SeesIn (ledger_of (records h)) k (stored_action (records h).rollouts it) s → IsKnown (records h) k s
+      go None at is w = cc
+      go (Some a) at is w =
+          let pair : it ≡ (a, tally_of a) = cc in
+          let v : SeesIn (ledger_of (records h)) k (stored_action (records h).rollouts (a, tally_of a)) s = subst (λ (p : ActionRecord × Tally). SeesIn (ledger_of (records h)) k (stored_action (records h).rollouts p) s) pair w in
+          let numbered = numbered_groups h a.rollout v.rollout v.is_its in
+          let gs = v.rollout.groups in
+          let both : record { group = Some v.own; next = v.next } ≡ record { group = item_numbered gs (group_number_of v.rollout a); next = item_numbered gs (group_number_of v.rollout a + 1) } =
+          sym v.holds ∙ ap (group_and_next a.position) (same_groups gs numbered) ∙ both_read h valid k a v.rollout at v.is_its in
+          let holds : group_holding a.position gs ≡ Some v.own = own_held gs numbered a.position v.own (sym (ap (λ (b : GroupAndNext). b.group) both)) in
+          let stood = held_stands gs numbered a.position v.own holds in
+          record {
+            placed = record {
+              action = a;
+              at = at;
+              rollout = v.rollout;
+              its = v.is_its;
+              own = v.own;
+              held = holds;
+              own_at = stood;
+              found = groups_stand h a.rollout v.rollout v.is_its v.own.number ∙ stood;
+              next = groups_stand h a.rollout v.rollout v.is_its (v.own.number + 1);
+            };
+            is = v.seen_is ∙ ap (action_seen k (stored_action (records h).rollouts (a, tally_of a)) (stored_rollout v.rollout) v.own) (ap (λ (b : GroupAndNext). b.next) both ∙ ap (λ o. item_numbered gs (number_of_group o + 1)) holds);
+          }
+
+  pub known : (k : ℕ) (s : SeenAction) → IsSeen (ledger_of (records h)) k s → IsKnown (records h) k s
+  known k s w = place k s w.action (sym (zip_map tally_of k (records h).actions) ∙ w.is_there) w.sees
+
+  pub none_known : (k : ℕ) → MaySee k (ledger_of (records h)) None → item_numbered (records h).actions k ≡ None
+  none_known k none = go (item_numbered (records h).actions k) (sym (zip_map tally_of k (records h).actions) ∙ none)
+    where
+      go : (o : Option ActionRecord) → option_map paired o ≡ None → o ≡ None
+      go None is = refl
+      go (Some a) is = cc
+
+-- ---- what rules ask of it
+
+module _ (rs : Records) (k : ℕ) (w : IsPlaced rs k) where
+  pub view_is : IsActionView (action_view_seen (seen_at rs k w)) w.action rs
+  view_is = record {
+    outcome = refl;
+    canceling = refl;
+    number = refl;
+    rollout = sym (ap (option_map (λ (x : RolloutRecord). own_view_of x (group_number_of x w.action))) w.its
+        ∙ ap (λ o. Some (own_view_of w.rollout (number_of_group o))) w.held
+        ∙ (λ i. Some (record { paused = w.rollout.paused; own = view_from_group w.rollout.plan w.own.number (w.found i); next_waits = group_is_started (w.found i) && waits (w.next i) })));
+  }
+
+  pub started_is : has_started rs w.action ≡ w.own.started
+  started_is = ap (λ o. is_started_in o w.action) w.its ∙ ap group_is_started w.held
+
+  -- its group is started, or not
+  if_started : (b : Bool) → BothOrNone (λ v a. IsReportedAction v a rs) (option_map reported_seen (seen_if b (seen_at rs k w))) (only_if b (Some w.action))
+  if_started true = record { notes = refl; action = view_is }
+  if_started false = tt
+
+  -- it is a device's, or not
+  reported_is : (for : Bool) → BothOrNone (λ v a. IsReportedAction v a rs) (option_map reported_seen (only_started (seen_if for (seen_at rs k w)))) (only_if (for && has_started rs w.action) (Some w.action))
+  reported_is true = subst (λ b. BothOrNone (λ v a. IsReportedAction v a rs) (option_map reported_seen (seen_if w.own.started (seen_at rs k w))) (only_if b (Some w.action))) (sym started_is) (if_started w.own.started)
+  reported_is false = tt
+
+  canceled_is : (there for : Bool) → BothOrNone (λ v a. IsCancelView v a rs) (option_map cancel_view_seen (cond there (seen_if for (seen_at rs k w)) None)) (only_if (there && for) (Some w.action))
+  canceled_is true true = record { started = sym started_is; action = view_is }
+  canceled_is true false = tt
+  canceled_is false for = tt
+
+  pub its_report : (t : Bytes) → BothOrNone (λ v a. IsReportedAction v a rs) (option_map reported_seen (only_started (only_of t (Some (seen_at rs k w))))) (device_action rs t k)
+  its_report t = rw w.at (reported_is (is_for rs t w.action))
+
+  pub its_cancel : (t : Bytes) → BothOrNone (λ v a. IsCancelView v a rs) (option_map cancel_view_seen (cond (is_none (target_of rs t)) None (only_of t (Some (seen_at rs k w))))) (action_for rs t k)
+  its_cancel t = rw w.at (go (target_of rs t))
+    where
+      go : (o : Option Target) → BothOrNone (λ v a. IsCancelView v a rs) (option_map cancel_view_seen (cond (is_none o) None (only_of t (Some (seen_at rs k w))))) (only_if (is_some o && is_for rs t w.action) (Some w.action))
+      go None = tt
+      go (Some x) = canceled_is true (is_for rs t w.action)
+
+module _ (h : CommandList) (valid : IsValid h) (k : ℕ) where
+  pub report_viewed : (device : Credential) (seen : SeenReport) → SeesReport device k (records h) seen → IsReportView (report_view_seen seen) device k (records h)
+  report_viewed device seen w = record {
+    misses_device = w.misses_device;
+    reported = subst (λ o. BothOrNone (λ v a. IsReportedAction v a (records h)) (option_map reported_seen o) (device_action (records h) device.id k)) (sym w.action) (go w.found w.sees);
+  }
+    where
+      go : (found : Option SeenAction) → MaySee k (ledger_of (records h)) found → BothOrNone (λ v a. IsReportedAction v a (records h)) (option_map reported_seen (only_started (only_of device.id found))) (device_action (records h) device.id k)
+      go None none = rw (none_known h valid k none) tt
+      go (Some s) sees = let it = known h valid k s sees in rw it.is (its_report (records h) k it.placed device.id)
+
+  pub cancel_viewed : (id : Bytes) (seen : Option SeenAction) → SeesTarget id k (records h) seen → BothOrNone (λ v a. IsCancelView v a (records h)) (option_map cancel_view_seen seen) (action_for (records h) id k)
+  cancel_viewed id seen w = subst (λ o. BothOrNone (λ v a. IsCancelView v a (records h)) (option_map cancel_view_seen o) (action_for (records h) id k)) (sym w.action) (go w.found w.sees)
+    where
+      lacking : (o : Option Target) → BothOrNone (λ v a. IsCancelView v a (records h)) (option_map cancel_view_seen (cond (is_none o) None (only_of id None))) (only_if (is_some o && false) None)
+      lacking None = tt
+      lacking (Some x) = tt
+
+      go : (found : Option SeenAction) → MaySee k (ledger_of (records h)) found → BothOrNone (λ v a. IsCancelView v a (records h)) (option_map cancel_view_seen (cond (is_none (target_of (records h) id)) None (only_of id found))) (action_for (records h) id k)
+      go None none = rw (none_known h valid k none) (lacking (target_of (records h) id))
+      go (Some s) sees = let it = known h valid k s sees in rw it.is (its_cancel (records h) k it.placed id)

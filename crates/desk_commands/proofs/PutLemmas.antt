@@ -1,0 +1,212 @@
+-- Rows of targets that are put one after the other, as far as the desk takes them.
+use Rattle.std.proofs.Common.{◌≡◌, ◌≤◌, ◌<◌, ◌+◌, ◌-◌, ℕ, suc, Bool, true, false, cond, ◌||◌, nat_lt, List, [], ◌∷◌, ◌++◌, length, get_or, take, drop, Option, Some, None, option_map, Ok, Err, refl, sym, ap, ◌∙◌, subst, arith}
+use Rattle.std.specs.Prelude.{is_some}
+use Rattle.std.proofs.lemmas.Bool.Decides.{nat_tests}
+use Rattle.std.proofs.lemmas.List.{map-append, take_more, take_all, take-append-drop, length-map}
+use Rattle.sqlite.specs.State.{State, HasCleanDisk}
+use Rattle.sql_calls.specs.Standing.{Finds, Makes, Sees, Wears}
+use Rattle.desk_records.specs.Holds.{HoldsLedger, ledger_of}
+use Rattle.desk_records.specs.TargetRow.{stored_target}
+use Rattle.desk_records.specs.Targets.{are_sorted, ids_of}
+use Rattle.desk_records.specs.declared.target_row.StoredTarget.{StoredTarget}
+use Rattle.rollout_machine.specs.ByteStrings.{same_bytes, bytes_below, contains_word, with_word, with_words}
+use Rattle.rollout_machine.specs.CommandList.{CommandList}
+use Rattle.rollout_machine.specs.Commands.{Bytes, TargetRow, PutTargets}
+use Rattle.rollout_machine.specs.Records.{Records, records}
+use Rattle.rollout_machine.specs.RecordSteps.{new_target, put_target, put_targets, step_records}
+use Rattle.rollout_machine.specs.Targets.{Target}
+use Rattle.rollout_machine.specs.Validity.{IsValid}
+use Rattle.rollout_machine.specs.Verdicts.{check, target_of}
+use Rattle.rollout_machine.proofs.TargetTies.{same_true}
+use Rattle.rollout_model.specs.declared.refusal.Refusal.{Refusal}
+use Rattle.rollout_model.specs.declared.refusal.Refusal.TheVariants.{Quota}
+use Rattle.desk_commands.specs.Imports.{HasRoom, IsTooMany, LeavesRoom, PutsAll, PutsRow, ids_after, row_ids, with_row}
+use Rattle.desk_commands.proofs.ByteOrderLemmas.{count_with, same_sym, with_there}
+use Rattle.desk_commands.proofs.LimitLemmas.{few_in_list}
+use Rattle.desk_commands.proofs.TargetLemmas.{found, ids_sorted}
+
+with_targets : Records → List Target → Records
+with_targets r ts = record r { targets = ts }
+
+-- ---- ids
+
+has_id : (id : Bytes) (ts : List Target) → contains_word id (ids_of ts) ≡ is_some (option_map stored_target (found id ts))
+has_id id [] = refl
+has_id id (t ∷ ts) = ap (λ s. s || contains_word id (ids_of ts)) (same_sym id t.id) ∙ go (same_bytes t.id id) (has_id id ts) where
+  go : (s : Bool) → contains_word id (ids_of ts) ≡ is_some (option_map stored_target (found id ts)) → (s || contains_word id (ids_of ts)) ≡ is_some (option_map stored_target (cond s (Some t) (found id ts)))
+  go true rest = refl
+  go false rest = rest
+
+put_ids : (row : TargetRow) (ts : List Target) → ids_of (put_target row ts) ≡ with_word row.id (ids_of ts)
+put_ids row [] = refl
+put_ids row (t ∷ ts) = go (same_bytes row.id t.id) (bytes_below row.id t.id) refl (put_ids row ts) where
+  go : (s b : Bool) → same_bytes row.id t.id ≡ s → ids_of (put_target row ts) ≡ with_word row.id (ids_of ts)
+      → ids_of (cond s (record (new_target row) { attributes = t.attributes } ∷ ts) (cond b (new_target row ∷ t ∷ ts) (t ∷ put_target row ts))) ≡ cond s (t.id ∷ ids_of ts) (cond b (row.id ∷ t.id ∷ ids_of ts) (t.id ∷ with_word row.id (ids_of ts)))
+  go true b same rest = ap (λ i. i ∷ ids_of ts) (same_true row.id t.id same)
+  go false true other rest = refl
+  go false false other rest = ap (λ is. t.id ∷ is) rest
+
+all_ids : (rows : List TargetRow) (ts : List Target) → ids_of (put_targets rows ts) ≡ with_words (row_ids rows) (ids_of ts)
+all_ids [] ts = refl
+all_ids (row ∷ rows) ts = all_ids rows (put_target row ts) ∙ ap (with_words (row_ids rows)) (put_ids row ts)
+
+id_count : (ts : List Target) → length (ids_of ts) ≡ length ts
+id_count ts = length-map ts (λ (t : Target). t.id)
+
+-- words only add
+grows_by : (w : Bytes) (vs : List Bytes) → length vs ≤ length (with_word w vs)
+grows_by w [] = omega arith
+grows_by w (v ∷ vs) = go (same_bytes w v) (bytes_below w v) (grows_by w vs) where
+  go : (s b : Bool) → length vs ≤ length (with_word w vs) → suc (length vs) ≤ length (cond s (v ∷ vs) (cond b (w ∷ v ∷ vs) (v ∷ with_word w vs)))
+  go true b rest = omega arith
+  go false true rest = omega arith
+  go false false rest = omega (arith, rest)
+
+grows : (ws vs : List Bytes) → length vs ≤ length (with_words ws vs)
+grows [] vs = omega arith
+grows (w ∷ ws) vs = let one = grows_by w vs in let more = grows ws (with_word w vs) in omega (arith, one, more)
+
+pub words_then : (us ws vs : List Bytes) → with_words (us ++ ws) vs ≡ with_words ws (with_words us vs)
+words_then [] ws vs = refl
+words_then (u ∷ us) ws vs = words_then us ws (with_word u vs)
+
+-- ---- one row
+
+-- the row of a target that is there adds none
+same_count : (row : TargetRow) (r : Records) (stored : StoredTarget) → are_sorted r.targets ≡ true → Some stored ≡ option_map stored_target (target_of r row.id) → length (put_target row r.targets) ≡ length r.targets
+same_count row r stored sorted is =
+    let ts = r.targets in
+    let has : contains_word row.id (ids_of ts) ≡ true = has_id row.id ts ∙ ap is_some (sym is) in
+    sym (id_count (put_target row ts)) ∙ ap length (put_ids row ts ∙ with_there row.id (ids_of ts) (ids_sorted ts sorted) has) ∙ id_count ts
+
+pub room_kept : (row : TargetRow) (left : Option ℕ) (r : Records) (stored : StoredTarget) → are_sorted r.targets ≡ true → Some stored ≡ option_map stored_target (target_of r row.id) → HasRoom left r → HasRoom left (with_row row r)
+room_kept row None r stored sorted is few = let same = same_count row r stored sorted is in omega (arith, same, few)
+room_kept row (Some left) r stored sorted is room = let same = same_count row r stored sorted is in omega (arith, same, room)
+
+-- that of a new one adds it
+one_new : (row : TargetRow) (ts : List Target) → None ≡ option_map stored_target (found row.id ts) → length (with_word row.id (ids_of ts)) ≡ suc (length ts)
+one_new row ts is =
+    let missing : contains_word row.id (ids_of ts) ≡ false = has_id row.id ts ∙ ap is_some (sym is) in
+    count_with row.id (ids_of ts) missing ∙ ap suc (id_count ts)
+
+pub room_taken : (row : TargetRow) (r : Records) (left : ℕ) → 1 ≤ left → None ≡ option_map stored_target (target_of r row.id) → HasRoom (Some left) r → HasRoom (Some (left - 1)) (with_row row r)
+room_taken row r left some is room =
+    let ts = r.targets in
+    let more : length (put_target row ts) ≡ suc (length ts) = sym (id_count (put_target row ts)) ∙ ap length (put_ids row ts) ∙ one_new row ts is in
+    omega (arith, more, some, room)
+
+pub too_many : (row : TargetRow) (r : Records) (left : ℕ) → left ≡ 0 → None ≡ option_map stored_target (target_of r row.id) → HasRoom (Some left) r → IsTooMany row r
+too_many row r left none is room = (nothing (target_of r row.id) is, omega (arith, none, room)) where
+  nothing : (o : Option Target) → None ≡ option_map stored_target o → o ≡ None
+  nothing None is = refl
+  nothing (Some t) is = absurd (cc)
+
+pub room_counted : (count room : ℕ) (r : Records) → count ≡ length r.targets → room ≡ 10000 - count → LeavesRoom None r room
+room_counted count room r size is few = omega (arith, size, is, few)
+
+-- ---- the quota
+
+within_quota : (r : Records) (rows : List TargetRow) → length (put_targets rows r.targets) ≤ 10000 → check r (PutTargets rows) ≡ None
+within_quota r rows few =
+    let same : length (ids_after rows r) ≡ length (put_targets rows r.targets) = ap length (sym (all_ids rows r.targets)) ∙ id_count (put_targets rows r.targets) in
+    let at_most : length (ids_after rows r) ≤ 10000 = omega (arith, same, few) in
+    let at : nat_lt 10000 (length (ids_after rows r)) ≡ false = grind (arith, nat_tests) in
+    ap (λ b. cond b (Some Quota) None) at
+
+-- one row that is too many refuses all
+over_quota : (r : Records) (earlier : List TargetRow) (row : TargetRow) (later : List TargetRow) → IsTooMany row (step_records r (PutTargets earlier)) → check r (PutTargets ((earlier ++ row ∷ []) ++ later)) ≡ Some Quota
+over_quota r earlier row later many =
+    let ts = put_targets earlier r.targets in
+    let rows = (earlier ++ row ∷ []) ++ later in
+    let new : length (with_word row.id (ids_of ts)) ≡ suc (length ts) = one_new row ts (ap (option_map stored_target) (sym many.0)) in
+    let first : row_ids rows ≡ (row_ids earlier ++ row.id ∷ []) ++ row_ids later =
+    map-append (λ (x : TargetRow). x.id) (earlier ++ row ∷ []) later ∙ ap (λ us. us ++ row_ids later) (map-append (λ (x : TargetRow). x.id) earlier (row ∷ [])) in
+    let ids : ids_after rows r ≡ with_words (row_ids later) (with_word row.id (ids_of ts)) =
+    ap (λ us. with_words us (ids_of r.targets)) first
+    ∙ words_then (row_ids earlier ++ row.id ∷ []) (row_ids later) (ids_of r.targets)
+    ∙ ap (with_words (row_ids later)) (words_then (row_ids earlier) (row.id ∷ []) (ids_of r.targets) ∙ ap (with_word row.id) (sym (all_ids earlier r.targets))) in
+    let size : length (ids_after rows r) ≡ length (with_words (row_ids later) (with_word row.id (ids_of ts))) = ap length ids in
+    let all : length (with_word row.id (ids_of ts)) ≤ length (with_words (row_ids later) (with_word row.id (ids_of ts))) = grows (row_ids later) (with_word row.id (ids_of ts)) in
+    let full : length ts ≡ 10000 = many.1 in
+    let over : 10000 < length (ids_after rows r) = omega (arith, size, all, new, full) in
+    let at : nat_lt 10000 (length (ids_after rows r)) ≡ true = grind (arith, nat_tests) in
+    ap (λ b. cond b (Some Quota) None) at
+
+-- ---- one row in a change
+
+module _ {row : TargetRow} {left : Option ℕ} {F : Type 0} where
+  pub row_refused : {A E : Type 0} {a b : State} {x : A} {P : Records → A → Type 0} {refusal : Refusal} → Finds HoldsLedger ledger_of {E = E} a b (Ok x) P → ((r : Records) → P r x → HasRoom left r → (refusal ≡ Quota) × IsTooMany row r)
+      → PutsRow {E = F} a b row left (Ok (Err refusal))
+  row_refused read means = record { wears = read.wears; puts = λ now was clean. means now ((read.finds now was).1 clean) }
+
+  pub row_put : {A E G : Type 0} {a b c : State} {x : A} {P : Records → A → Type 0} → Finds HoldsLedger ledger_of {E = E} a b (Ok x) P → (W : Records → Records → Type 0) → ((r : Records) → P r x → W r (with_row row r))
+      → (then : Option ℕ) → Makes HoldsLedger ledger_of {A = Unit {0}} {E = G} b c (Ok tt) W → ((r : Records) → P r x → HasRoom left r → HasRoom then (with_row row r)) → PutsRow {E = F} a c row left (Ok (Ok then))
+  row_put read W writes then write means = record {
+    wears = omega (arith, read.wears, write.wears);
+    puts = λ now was.
+        let it = read.finds now was in (
+          write.makes now (with_row row now) it.0 (λ clean. writes now (it.1 (omega (arith, clean, write.wears)))),
+          λ clean. means now (it.1 (omega (arith, clean, write.wears))),
+        );
+  }
+
+-- ---- rows one after the other
+
+-- one more of the rows
+pub one_more : {X : Type 0} (xs : List X) (x : X) (k : ℕ) → k < length xs → x ≡ get_or xs k x → take (k + 1) xs ≡ take k xs ++ x ∷ []
+one_more xs x k below is = take_more xs k x below ∙ ap (λ y. take k xs ++ y ∷ []) (sym is)
+
+put_more : (earlier : List TargetRow) (row : TargetRow) (ts : List Target) → put_targets (earlier ++ row ∷ []) ts ≡ put_target row (put_targets earlier ts)
+put_more [] row ts = refl
+put_more (x ∷ earlier) row ts = put_more earlier row (put_target x ts)
+
+then_row : (earlier : List TargetRow) (row : TargetRow) (r : Records) → with_row row (step_records r (PutTargets earlier)) ≡ step_records r (PutTargets (earlier ++ row ∷ []))
+unfolding with_targets
+then_row earlier row r = ap (with_targets r) (sym (put_more earlier row r.targets))
+
+-- these rows are put
+pub record PutsSoFar (old new : State) (rows : List TargetRow) (left : Option ℕ) : Type 0 where
+  pub wears : Wears old new
+  pub puts : (h : CommandList) → IsValid h → Sees HoldsLedger old (ledger_of (records h))
+      → Sees HoldsLedger new (ledger_of (step_records (records h) (PutTargets rows))) × (HasCleanDisk new → HasRoom left (step_records (records h) (PutTargets rows)))
+
+pub none_put : (a : State) → PutsSoFar a a [] None
+none_put a = record { wears = omega arith; puts = λ h valid was. (was, λ clean. few_in_list h valid) }
+
+module _ (a b c : State) (rows : List TargetRow) (row : TargetRow) (k : ℕ) (below : k < length rows) (is : row ≡ get_or rows k row) (left : Option ℕ) (so_far : PutsSoFar a b (take k rows) left) {E : Type 0} where
+  pub row_refuses : (refusal : Refusal) → PutsRow {E = E} b c row left (Ok (Err refusal)) → {F : Type 0} → PutsAll {E = F} a c rows (Ok (Some refusal))
+  row_refuses refusal next = record {
+    wears = omega (arith, so_far.wears, next.wears);
+    puts = λ h valid was clean.
+        let it = so_far.puts h valid was in
+        let r = records h in
+        let whole : (take k rows ++ row ∷ []) ++ drop (k + 1) rows ≡ rows = ap (λ xs. xs ++ drop (k + 1) rows) (sym (one_more rows row k below is)) ∙ take-append-drop (k + 1) rows in
+        let why = next.puts (step_records r (PutTargets (take k rows))) it.0 clean (it.1 (omega (arith, clean, next.wears))) in
+        subst (λ l. check r (PutTargets l) ≡ Some refusal) whole (over_quota r (take k rows) row (drop (k + 1) rows) why.1 ∙ ap Some (sym why.0));
+  }
+
+  pub row_more : (then : Option ℕ) → PutsRow {E = E} b c row left (Ok (Ok then)) → PutsSoFar a c (take (k + 1) rows) then
+  row_more then next = record {
+    wears = omega (arith, so_far.wears, next.wears);
+    puts = λ h valid was.
+        let it = so_far.puts h valid was in
+        let r = records h in
+        let done = next.puts (step_records r (PutTargets (take k rows))) it.0 in
+        let same : with_row row (step_records r (PutTargets (take k rows))) ≡ step_records r (PutTargets (take (k + 1) rows)) = then_row (take k rows) row r ∙ ap (λ l. step_records r (PutTargets l)) (sym (one_more rows row k below is)) in (
+          subst (λ (s : Records). Sees HoldsLedger c (ledger_of s)) same done.0,
+          λ clean. subst (λ (s : Records). HasRoom then s) same (done.1 clean (it.1 (omega (arith, clean, next.wears)))),
+        );
+  }
+
+few_left : (left : Option ℕ) (r : Records) → HasRoom left r → length r.targets ≤ 10000
+few_left None r few = few
+few_left (Some left) r room = omega (arith, room)
+
+pub all_put : (a b : State) (rows : List TargetRow) (k : ℕ) (left : Option ℕ) → length rows ≤ k → PutsSoFar a b (take k rows) left → {E : Type 0} → PutsAll {E = E} a b rows (Ok None)
+all_put a b rows k left past so_far =
+    let all : PutsSoFar a b rows left = subst (λ l. PutsSoFar a b l left) (take_all k rows past) so_far in record {
+      wears = all.wears;
+      puts = λ h valid was.
+          let it = all.puts h valid was in
+          (it.0, λ clean. within_quota (records h) rows (few_left left (step_records (records h) (PutTargets rows)) (it.1 clean)));
+    }

@@ -1,0 +1,23 @@
+use Rattle.desk_store.proofs.LedgersOfRecords.{ledger_made}
+use Rattle.desk_commands.proofs.ComposeLemmas.{accepted_at, refused_at}
+use Rattle.std.proofs.Common.{refl}
+use Rattle.campaign_core.proofs.SoundLemmas.{records_are_sound}
+use Rattle.rollout_machine.specs.Records.{records}
+use Rattle.desk_commands.proofs.ActingSteps.{cancel_accepted, cancel_acts}
+use Rattle.desk_commands.proofs.KnownActions.{cancel_viewed}
+use Rattle.desk_commands.proofs.actions.cancel_action.Goals as goal
+
+pub returns-in-Err-clause-steps : goal.returns-in-Err-clause-steps
+returns-in-Err-clause-steps g c =
+    let a = c.args.asked.now in
+    refused_at c.in_ok-seen.ensures.reads
+    (λ h valid w. (rw c.cancel_view.ensures at c.in-Err.ensures.decides) (records h) (records_are_sound h valid) (cancel_viewed h valid a.action a.target c.in_ok-seen.seen w))
+
+pub returns-clause-steps : goal.returns-clause-steps
+returns-clause-steps g c =
+    let a = c.args.asked.now in
+    let decides = rw c.cancel_view.ensures at c.in-Ok.ensures.decides in
+    let makes = rw c.cancel_view.ensures at c.in-Ok.ensures.makes in
+    accepted_at c.in_ok-seen.ensures.reads _
+    (cancel_acts a.target a.action a.force c.in_ok-seen.seen c.in-Ok.accepted c.cancel_is_well_formed.ensures decides makes) (ledger_made _ c.in_ok-act_by.ensures.writes) _
+    (λ h valid w. (cancel_accepted a.target a.action a.force c.in_ok-seen.seen c.in-Ok.accepted c.cancel_is_well_formed.ensures decides makes h valid w, refl))

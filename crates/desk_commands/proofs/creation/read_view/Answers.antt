@@ -1,0 +1,21 @@
+use Rattle.sql_calls.proofs.Composing.{both_found, finds_as}
+use Rattle.desk_store.proofs.LedgersOfRecords.{ledger_found}
+use Rattle.std.proofs.Common.{◌∙◌, subst, ◌≤◌, ap}
+use Rattle.std.specs.Prelude.{length, nat_lt}
+use Rattle.desk_commands.proofs.CreationLemmas.{set_missing}
+use Rattle.desk_commands.proofs.creation.read_view.Goals as goal
+
+pub returns-clause-reads : goal.returns-clause-reads
+returns-clause-reads g c =
+    finds_as
+    (both_found
+    (both_found (both_found c.in_ok-last_set.ensures.reads (ledger_found _ c.in_ok-same_name.ensures.reads)) (ledger_found _ c.in_ok-count.ensures.reads))
+    (ledger_found _ c.in_ok-approval.ensures.reads))
+    (λ r is chosen. record {
+      bad_filter = chosen.bad_filter;
+      misses_set = ap (λ n. nat_lt c.in_ok-last_set.last_set n) c.get.ensures.value ∙ set_missing r c.args.plan.now.set_number c.in_ok-last_set.last_set (subst (λ n. 1 ≤ n) c.get.ensures.value c.get.ensures.least) is.0.0.0;
+      same_name = is.0.0.1;
+      members = c.requires ∙ ap length chosen.members;
+      count = is.0.1;
+      approval = is.1;
+    })

@@ -1,0 +1,7 @@
+use Rattle.sql_calls.proofs.Composing.{makes_as}
+use Rattle.desk_commands.proofs.EndingLemmas.{outcome_set}
+use Rattle.desk_commands.proofs.endings.count_outcome.Goals as goal
+
+pub returns-clause-writes : goal.returns-clause-writes
+returns-clause-writes g c =
+    makes_as (λ l next w. outcome_set c.args.seen.now c.args.outcome c.in_ok-group.group l next c.in_ok-group.ensures w) _ c.change_group.ensures.writes

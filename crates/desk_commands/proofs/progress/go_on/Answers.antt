@@ -1,0 +1,29 @@
+use Rattle.desk_store.proofs.LedgersOfRecords.{ledger_made}
+use Rattle.desk_commands.proofs.ComposeLemmas.{accepted_at, refused_at}
+use Rattle.std.proofs.Common.{Ok, ◌∙◌}
+use Rattle.desk_records.specs.Holds.{ledger_of}
+use Rattle.rollout_machine.specs.Records.{records}
+use Rattle.desk_commands.specs.Standings.{GoesOn}
+use Rattle.desk_commands.proofs.ProgressLemmas.{cant_go, gone_on, gone_reply}
+use Rattle.desk_commands.proofs.StandingLemmas.{none_there, seen_there}
+use Rattle.desk_commands.proofs.progress.go_on.Goals as goal
+
+pub returns-in_default-clause-steps : goal.returns-in_default-clause-steps
+returns-in_default-clause-steps g c =
+    refused_at (rw c.in_default.is at c.in_ok-found.ensures.reads) (λ h valid sees. cant_go c.args.going (records h) c.args.number (none_there h valid c.args.number sees))
+
+pub returns-in-Some-refusal_of-clause-steps : goal.returns-in-Some-refusal_of-clause-steps
+returns-in-Some-refusal_of-clause-steps g c =
+    refused_at (rw c.in-Some.is at c.in_ok-found.ensures.reads)
+    (λ h valid sees. let it = seen_there h valid c.args.number c.in-Some.seen sees in c.refusal_of.ensures c.in_ok-rollout.ensures h c.args.number it.rollout it.at ∙ c.in-Some-refusal_of.is)
+
+pub returns-clause-steps : goal.returns-clause-steps
+returns-clause-steps g c =
+    let going = c.args.going in
+    let number = c.args.number in
+    let seen = c.in-Some.seen in
+    accepted_at (rw c.in-Some.is at c.in_ok-found.ensures.reads)
+    (λ r next. GoesOn number seen c.pause_of-paused.result c.start_of-starts.result (ledger_of r) (ledger_of next))
+    (λ h valid sees. let it = seen_there h valid number seen sees in gone_on going h number seen it c.number_is_well_formed.ensures c.in_ok-rollout.rollout (c.in_ok-rollout.ensures h number it.rollout it.at) _ c.pause_of-paused.ensures _ c.start_of-starts.ensures (c.refusal_of.ensures c.in_ok-rollout.ensures h number it.rollout it.at ∙ c.in_default-refusal_of.is))
+    (ledger_made (Ok tt) c.in_ok-write_going.ensures.writes)
+    _ (λ h valid sees. let it = seen_there h valid number seen sees in (c.refusal_of.ensures c.in_ok-rollout.ensures h number it.rollout it.at ∙ c.in_default-refusal_of.is, gone_reply going _ number))

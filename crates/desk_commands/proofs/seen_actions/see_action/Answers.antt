@@ -1,0 +1,11 @@
+use Rattle.sql_calls.proofs.Composing.{both_found, finds_as}
+use Rattle.desk_commands.proofs.SeenLemmas.{not_there, seen_there}
+use Rattle.desk_commands.proofs.seen_actions.see_action.Goals as goal
+
+pub returns-in_ok-seen-in-Some-clause-reads : goal.returns-in_ok-seen-in-Some-clause-reads
+returns-in_ok-seen-in-Some-clause-reads g c =
+    finds_as (both_found (rw c.in-Some.is at c.in_ok-found.ensures.reads) c.in_ok-seen-in-Some.ensures.reads)
+    (λ l is. seen_there l c.args.number _ c.in_ok-seen-in-Some.seen is.0 is.1)
+
+pub returns-in-None-clause-reads : goal.returns-in-None-clause-reads
+returns-in-None-clause-reads g c = finds_as (rw c.in-None.is at c.in_ok-found.ensures.reads) (λ l is. not_there l c.args.number is)

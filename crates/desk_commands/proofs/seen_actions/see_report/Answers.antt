@@ -1,0 +1,10 @@
+use Rattle.sql_calls.proofs.Composing.{both_found, finds_as}
+use Rattle.desk_store.proofs.LedgersOfRecords.{ledger_found}
+use Rattle.std.proofs.Common.{not, ap, ◌∙◌}
+use Rattle.desk_commands.specs.SeenActions.{only_started}
+use Rattle.desk_commands.proofs.seen_actions.see_report.Goals as goal
+
+pub returns-clause-reads : goal.returns-clause-reads
+returns-clause-reads g c =
+    finds_as (both_found c.in_ok-knows.ensures.reads (ledger_found _ c.in_ok-seen.ensures.reads))
+    (λ r is. record { misses_device = ap not is.0; found = c.in_ok-seen.seen; sees = is.1; action = c.only_started.ensures ∙ ap only_started c.only_of.ensures })

@@ -1,0 +1,36 @@
+use Rattle.sql_calls.proofs.Composing.{both_found}
+use Rattle.desk_store.proofs.LedgersOfRecords.{ledger_found, ledger_made}
+use Rattle.desk_commands.proofs.ComposeLemmas.{accepted_at, refused_at}
+use Rattle.std.proofs.Common.{Ok, refl, sym, ◌∙◌}
+use Rattle.rollout_machine.specs.Records.{records}
+use Rattle.desk_records.specs.Holds.{ledger_of}
+use Rattle.desk_commands.specs.Starts.{StartsWhole}
+use Rattle.desk_commands.proofs.StandingLemmas.{none_there, seen_there}
+use Rattle.desk_commands.proofs.StartLemmas.{not_there, starts_whole}
+use Rattle.desk_commands.proofs.starting.start_rollout.Goals as goal
+
+pub returns-in_default-clause-steps : goal.returns-in_default-clause-steps
+returns-in_default-clause-steps g c =
+    refused_at (rw c.in_default.is at c.in_ok-found.ensures.reads) (λ h valid sees. not_there (records h) c.args.number (none_there h valid c.args.number sees))
+
+pub returns-in-Some-start_refusal-clause-steps : goal.returns-in-Some-start_refusal-clause-steps
+returns-in-Some-start_refusal-clause-steps g c =
+    refused_at (rw c.in-Some.is at c.in_ok-found.ensures.reads)
+    (λ h valid sees. let it = seen_there h valid c.args.number c.in-Some.seen sees in c.start_refusal.ensures h c.args.number it.rollout it.at ∙ c.in-Some-start_refusal.is)
+
+pub returns-clause-steps : goal.returns-clause-steps
+returns-clause-steps g c =
+    let number = c.args.number in
+    let seen = c.in-Some.seen in
+    let first = c.in-Some-first_group.first in
+    let last = c.in_ok-last.last in
+    let members = c.in_ok-members.members.items in
+    accepted_at
+    (both_found (both_found (rw c.in-Some.is at c.in_ok-found.ensures.reads) (ledger_found _ c.in_ok-last.ensures.reads)) (ledger_found _ c.in_ok-members.ensures.reads))
+    (λ r next. StartsWhole number seen first last members (ledger_of r) (ledger_of next))
+    (λ h valid is.
+    let it = seen_there h valid number seen is.0.0 in
+    starts_whole h valid number seen first last c.members.result members c.number_is_well_formed.ensures it (c.start_refusal.ensures h number it.rollout it.at ∙ c.in_default-start_refusal.is)
+    (sym c.in-Some-first_group.ensures) is.0.1 (c.members.ensures it.rollout it.at.is_seen) is.1)
+    (ledger_made (Ok tt) (rw c.deref-2.ensures.value at c.in_ok-write_start.ensures.writes)) _
+    (λ h valid is. let it = seen_there h valid number seen is.0.0 in (c.start_refusal.ensures h number it.rollout it.at ∙ c.in_default-start_refusal.is, refl))

@@ -1,0 +1,13 @@
+use Rattle.sql_calls.proofs.Composing.{makes_then}
+use Rattle.desk_commands.proofs.ComposeLemmas.{in_order}
+use Rattle.std.proofs.Common.{None}
+use Rattle.desk_commands.specs.Imports.{PutsOver}
+use Rattle.desk_commands.proofs.ImportLemmas.{adds_row_parts}
+use Rattle.desk_commands.proofs.TagLemmas.{tags_distinct}
+use Rattle.desk_commands.proofs.targets.add_row.Goals as goal
+
+pub returns-clause-writes : goal.returns-clause-writes
+returns-clause-writes g c =
+    let row = c.args.row.now in
+    in_order (PutsOver None row) _ (makes_then c.in_ok-write_target.ensures.writes
+    (λ r next h. adds_row_parts row (tags_distinct c.as_slice.result.now row.tags c.as_slice.ensures.list c.as_slice.ensures.value) r next h.0 h.1.0 h.1.1) _ (rw c.as_slice.ensures.value at c.add_tags.ensures.writes))

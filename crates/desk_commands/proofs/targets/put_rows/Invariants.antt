@@ -1,0 +1,11 @@
+use Rattle.std.proofs.Common.{take, Ok}
+use Rattle.desk_store.specs.Changing.{seen_in, StaysIn}
+use Rattle.desk_commands.proofs.PutLemmas.{PutsSoFar}
+use Rattle.desk_commands.proofs.targets.put_rows.Given as goal
+
+-- the rows before this index are put
+abbrev pub invariant-loop-row : goal.invariant-loop-row
+invariant-loop-row g l = record {
+  stays : StaysIn g.S.Store l.fn.change l.change (Ok (tt {0}));
+  puts : PutsSoFar (seen_in g.S.Store l.fn.change) (seen_in g.S.Store l.change) (take l.row-index l.rows) l.left;
+}

@@ -1,0 +1,15 @@
+use Rattle.sql_calls.proofs.Composing.{makes_as, makes_nothing}
+use Rattle.desk_commands.proofs.ComposeLemmas.{in_order}
+use Rattle.std.proofs.Common.{sym, ◌∙◌}
+use Rattle.desk_commands.specs.Imports.{Renames}
+use Rattle.desk_commands.proofs.ImportLemmas.{renames_nothing}
+use Rattle.desk_commands.proofs.TagLemmas.{pointwise_is}
+use Rattle.desk_commands.proofs.targets.rename.Goals as goal
+
+pub returns-then-eq-2-clause-writes : goal.returns-then-eq-2-clause-writes
+returns-then-eq-2-clause-writes g c =
+    in_order (Renames c.args.row.now c.args.stored.now) _ (makes_nothing
+    (λ r next h. renames_nothing c.args.row.now c.args.stored.now (pointwise_is _ _ (sym c.eq.ensures ∙ c.if-eq.true)) (pointwise_is _ _ (sym c.eq-then-eq.ensures ∙ c.if-eq-2.true)) r next h.0 h.1))
+
+pub returns-clause-writes : goal.returns-clause-writes
+returns-clause-writes g c = makes_as (λ r next h. h.1) _ c.change_target.ensures.writes

@@ -1,0 +1,54 @@
+-- What follows from the outcome of an action, as steps of a ledger.
+use Rattle.std.specs.Prelude.{◌≡◌, ℕ, true, Option, Some, None}
+use Rattle.rollout_machine.specs.ByteStrings.{item_numbered}
+use Rattle.rollout_machine.specs.RecordSteps.{counted}
+use Rattle.rollout_machine.specs.declared.outcome.Outcome.{Outcome}
+use Rattle.rollout_machine.specs.declared.records.GroupRecord.{GroupRecord}
+use Rattle.rollout_machine.specs.declared.records.RolloutRecord.{RolloutRecord}
+use Rattle.campaign_core.specs.declared.own_group.Following.{Following}
+use Rattle.campaign_core.specs.declared.own_group.Following.TheVariants as so
+use Rattle.campaign_core.specs.declared.rollout_checks.actions.Ending.{Ending}
+use Rattle.desk_records.specs.Holds.{Ledger}
+use Rattle.desk_records.specs.LedgerSteps.{set_numbered, with_groups, with_rollouts}
+use Rattle.desk_commands.specs.GroupStarts.{StartsGroup}
+use Rattle.desk_commands.specs.declared.seen_actions.SeenAction.{SeenAction}
+
+-- rollout r is another
+abbrev pub with_rollout : Ledger → ℕ → RolloutRecord → Ledger
+with_rollout l r x = with_rollouts l (set_numbered l.records.rollouts r x)
+
+-- one more outcome in the action's group
+abbrev pub with_outcome : SeenAction → Outcome → RolloutRecord → RolloutRecord
+with_outcome seen o x = with_groups x (set_numbered x.groups seen.own.number (counted o seen.own.number seen.own))
+
+-- the action's rollout and group are there
+pub record CountsOutcome (seen : SeenAction) (o : Outcome) (l next : Ledger) : Type 0 where
+  pub rollout : RolloutRecord
+  pub is_its : item_numbered l.records.rollouts seen.action.rollout ≡ Some rollout
+  pub own : item_numbered rollout.groups seen.own.number ≡ Some seen.own
+  pub next_is : next ≡ with_rollout l seen.action.rollout (with_outcome seen o rollout)
+
+-- its rollout is there, with the approval and the start that were seen, and is paused
+pub record Pauses (seen : SeenAction) (l next : Ledger) : Type 0 where
+  pub rollout : RolloutRecord
+  pub is_its : item_numbered l.records.rollouts seen.action.rollout ≡ Some rollout
+  pub approval : seen.approval ≡ rollout.approval
+  pub started : seen.started ≡ rollout.started
+  pub next_is : next ≡ with_rollout l seen.action.rollout (record rollout { paused = true })
+
+-- the group is there and starts
+abbrev pub StartsGroupOf : ℕ → Option GroupRecord → Ledger → Ledger → Type 0
+StartsGroupOf r None l next = ⊥
+StartsGroupOf r (Some g) l next = StartsGroup r g l next
+
+abbrev pub FollowsSo : SeenAction → Following → Ledger → Ledger → Type 0
+FollowsSo seen so.Nothing l next = next ≡ l
+FollowsSo seen so.Pauses l next = Pauses seen l next
+FollowsSo seen so.StartsNext l next = StartsGroupOf seen.action.rollout seen.next l next
+
+-- the outcome is counted, and then the rollout pauses or its next group starts, or neither
+pub record FollowsOutcome (seen : SeenAction) (e : Ending) (l next : Ledger) : Type 0 where
+  pub rollout : RolloutRecord
+  pub is_its : item_numbered l.records.rollouts seen.action.rollout ≡ Some rollout
+  pub own : item_numbered rollout.groups seen.own.number ≡ Some seen.own
+  pub follows : FollowsSo seen e.following (with_rollout l seen.action.rollout (with_outcome seen e.outcome rollout)) next

@@ -1,0 +1,16 @@
+pub mod Steps
+pub mod Additions
+pub mod Changing
+pub mod Imports
+pub mod Attributes
+pub mod GroupStarts
+pub mod Entries
+pub mod SeenActions
+pub mod Offering
+pub mod Endings
+pub mod ActionSteps
+pub mod LedgerEnds
+pub mod Standings
+pub mod Creations
+pub mod Starts
+pub mod Reports

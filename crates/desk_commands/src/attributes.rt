@@ -1,0 +1,111 @@
+//! Attributes: those that a device gives its target.
+
+ghost use Rattle.std.specs.Prelude.{◌≡◌, ◌≤◌, ◌+◌, ◌&&◌, not, true, length, nat_eq};
+ghost use Rattle.std.specs.Cmp.Lexicographic.{pointwise};
+ghost use Rattle.std.specs.List.{list_any};
+ghost use Rattle.desk_records.specs.Targets.{in_byte_order, keys_of};
+ghost use Rattle.rollout_machine.specs.ByteStrings.{contains_word};
+ghost use Rattle.rollout_machine.specs.Commands.{Attribute, PutAttributes};
+ghost use Rattle.desk_commands.specs.Attributes.{GivesAttribute, GivesAttributes, has_attribute, keys_after};
+ghost use Rattle.desk_store.specs.Changing.{MakesIn, StaysIn};
+ghost use Rattle.desk_commands.specs.Changing.{StepsIn};
+
+use crate::step::Step;
+use desk_reads::knows_device;
+use desk_store::{Fault, OpenChange};
+use rollout_model::limits::ATTRIBUTE_LIMIT;
+use rollout_model::{Attribute, ConfigData, ControllerId, Credential, Refusal, Reply, Word};
+use sqlite::Alter;
+
+/// Whether one of the attributes is of this key.
+fn has_key(attributes: &[Attribute], key: &Word) -> bool
+    ensures { result ≡ list_any (λ (attribute : Attribute). pointwise nat_eq attribute.key key.now) attributes.now }
+{
+    attributes.iter().any(|attribute| attribute.key == *key)
+}
+
+/// Whether a target that had these attributes, and was given others since, has one of this key.
+fn has_key_since(had: &[Attribute], since: &[Attribute], key: &Word) -> bool
+    ensures { result ≡ contains_word key.now (keys_after since.now had.now) }
+{
+    has_key(since, key) || has_key(had, key)
+}
+
+/// Whether it has the attribute still, with this value.
+fn keeps(had: &[Attribute], since: &[Attribute], attribute: &Attribute) -> bool
+    ensures { result ≡ (not (contains_word attribute.now.key (keys_of since.now)) && has_attribute attribute.now had.now) }
+{
+    !has_key(since, &attribute.key) && had.contains(attribute)
+}
+
+/// How many keys are given that the target hadn't.
+fn count_new(given: &[Attribute], had: &[Attribute]) -> usize
+    ensures few { result ≤ length given.now }
+    ensures all { in_byte_order (keys_of had.now) ≡ true → length had.now + result ≡ length (keys_after given.now had.now) }
+{
+    let mut added = 0;
+    for (i, attribute) in given.iter().enumerate() {
+        if !has_key_since(had, &given[..i], &attribute.key) {
+            added += 1;
+        }
+    }
+    added
+}
+
+/// Gives a target an attribute, where it had these and was given others since.
+fn give_attribute<S: Alter>(
+    change: &mut OpenChange<'_, S>,
+    id: &ControllerId,
+    attribute: &Attribute,
+    had: &[Attribute],
+    since: &[Attribute],
+) -> Result<(), Fault>
+    ensures stays { StaysIn S.Store change.old change.new result }
+    ensures writes { MakesIn S.Store change.old change.new result (GivesAttribute id.now had.now since.now attribute.now) }
+{
+    if !has_key_since(had, since, &attribute.key) {
+        return change.write_target_attribute(id, attribute);
+    }
+    if keeps(had, since, attribute) {
+        return Ok(());
+    }
+    change.change_target_attribute(id, attribute)
+}
+
+/// Gives a target that had these attributes others, one after the other.
+fn give_attributes<S: Alter>(
+    change: &mut OpenChange<'_, S>,
+    id: &ControllerId,
+    given: &[Attribute],
+    had: &[Attribute],
+) -> Result<(), Fault>
+    ensures stays { StaysIn S.Store change.old change.new result }
+    ensures writes { MakesIn S.Store change.old change.new result (GivesAttributes id.now had.now given.now) }
+{
+    for (i, attribute) in given.iter().enumerate() {
+        give_attribute(change, id, attribute, had, &given[..i])?;
+    }
+    Ok(())
+}
+
+/// Gives the device's target new values of attributes. Those that it names no key of stay. Takes at most 32 keys in all.
+pub(crate) fn put_attributes<S: Alter>(
+    change: &mut OpenChange<'_, S>,
+    device: &Credential,
+    given: &ConfigData,
+) -> Result<Step, Fault>
+    ensures stays { StaysIn S.Store change.old change.new result }
+    ensures steps { StepsIn S.Store change.old change.new (PutAttributes device.now given.now) result }
+{
+    if !knows_device(change, device)? {
+        return Ok(Step::Refused(Refusal::Unauthorized));
+    }
+    let attributes = change.read_target_attributes(&device.id)?;
+    let had = attributes.as_slice();
+    let given = given.as_slice();
+    if had.len().saturating_add(count_new(given, had)) > ATTRIBUTE_LIMIT {
+        return Ok(Step::Refused(Refusal::Quota));
+    }
+    give_attributes(change, &device.id, given, had)?;
+    Ok(Step::Accepted(Reply::Done))
+}

@@ -1,0 +1,56 @@
+//! Commands, each a step inside a change.
+
+ghost use Rattle.std.specs.Prelude.{◌≡◌, true};
+ghost use Rattle.rollout_machine.specs.Views.{command_of};
+ghost use Rattle.desk_commands.specs.Reports.{is_report};
+ghost use Rattle.desk_store.specs.Counting.{AddsIn};
+ghost use Rattle.desk_store.specs.Changing.{StaysIn};
+ghost use Rattle.desk_commands.specs.Changing.{StepsIn};
+
+use crate::actions::{cancel_action, take_cancel_feedback, take_feedback};
+use crate::artifacts::add_artifact;
+use crate::attributes::put_attributes;
+use crate::creation::create_rollout;
+use crate::modules::add_module;
+use crate::progress::{resume_rollout, trigger_next};
+use crate::sets::add_set;
+use crate::standing::{approve_rollout, deny_rollout, pause_rollout};
+use crate::starting::start_rollout;
+use crate::step::Step;
+use crate::tags::{tag_target, untag_target};
+use crate::targets::put_targets;
+use desk_store::{Fault, OpenChange};
+use rollout_model::Command;
+use sqlite::Alter;
+use std::alloc::Global;
+
+/// Runs a command inside a change.
+pub fn take_step<S: Alter>(
+    alloc: Global,
+    change: &mut OpenChange<'_, S>,
+    command: &Command,
+) -> Result<Step, Fault>
+    ensures stays { StaysIn S.Store change.old change.new result }
+    ensures steps { StepsIn S.Store change.old change.new (command_of command.now) result }
+    ensures work { is_report (command_of command.now) ≡ true → AddsIn 14 24 change.old change.new }
+{
+    match command {
+        Command::AddModule(label) => add_module(alloc, change, label),
+        Command::AddArtifact(upload) => add_artifact(change, upload),
+        Command::AddSet(label) => add_set(alloc, change, label),
+        Command::PutTargets(rows) => put_targets(change, rows),
+        Command::Tag(id, tag) => tag_target(change, id, tag),
+        Command::Untag(id, tag) => untag_target(change, id, tag),
+        Command::PutAttributes(device, given) => put_attributes(change, device, given),
+        Command::CreateRollout(plan) => create_rollout(alloc, change, plan),
+        Command::Approve(number) => approve_rollout(change, *number),
+        Command::Deny(number) => deny_rollout(change, *number),
+        Command::Start(number) => start_rollout(change, *number),
+        Command::Pause(number) => pause_rollout(change, *number),
+        Command::Resume(number) => resume_rollout(change, *number),
+        Command::TriggerNext(number) => trigger_next(change, *number),
+        Command::Cancel(asked) => cancel_action(change, asked),
+        Command::Feedback(report) => take_feedback(alloc, change, report),
+        Command::CancelFeedback(report) => take_cancel_feedback(alloc, change, report),
+    }
+}

@@ -1,0 +1,235 @@
+//! Rollouts: creating one.
+
+ghost use Rattle.std.specs.Prelude.{◌≡◌, ◌≤◌, ◌++◌, [], ◌∷◌, length, map, IfOk, IfSome, Some};
+ghost use Rattle.rollout_machine.specs.Commands.{CreateRollout};
+ghost use Rattle.rollout_machine.specs.Rollouts.{chosen};
+ghost use Rattle.target_filter.specs.Grammar.{Tree};
+ghost use Rattle.target_filter.specs.Profile.{filter_of};
+ghost use Rattle.campaign_core.specs.RolloutChecks.{IsPlanView};
+ghost use Rattle.desk_reads.specs.Targets.{target_listed};
+ghost use Rattle.desk_commands.specs.Creations.{CreatesRollout, IsChosen, IsWordOf, ids_matching, in_part, shown_new};
+ghost use Rattle.desk_store.specs.Changing.{FindsIn, MakesLedger, StaysIn};
+ghost use Rattle.desk_commands.specs.Changing.{StepsIn};
+
+use crate::step::Step;
+use campaign_core::{NewRollout, PlanView, group_bounds, new_rollout};
+use desk_reads::read_listed;
+use desk_store::{Fault, ListedTarget, OpenChange};
+use rollout_model::{
+    Approval, ControllerId, FilterText, Page, Reply, Rollout, RolloutPlan, RolloutWord,
+};
+use sqlite::Alter;
+use std::alloc::{AllocError, Global};
+use target_filter::{Filter, FilterFault, laws};
+
+/// The targets that the filter of a plan chooses.
+#[derive(Drop)]
+pub(crate) struct Chosen {
+    /// Whether the text is no filter.
+    pub bad_filter: bool,
+    /// In byte order of their ids.
+    pub members: Vec<ControllerId>,
+}
+
+/// Adds a target to the members, if it matches.
+fn add_if_match<S: Alter>(
+    change: &mut OpenChange<'_, S>,
+    filter: &Filter,
+    entry: ListedTarget,
+    members: &mut Vec<ControllerId>,
+) -> Result<(), Fault>
+    ensures stays { StaysIn S.Store change.old change.new result }
+    ensures reads { FindsIn S.Store change.old change.new result
+        (λ r _. (f : Tree) → filter_of filter.now ≡ Some f → members.new.items ≡ members.old.items ++ ids_matching f (target_listed r entry ∷ [])) }
+{
+    let id = entry.id;
+    let target = read_listed(change, entry)?;
+    let matches = filter.matches(&target);
+    if !matches {
+        return Ok(());
+    }
+    match members.push(id) {
+        Ok(()) => Ok(()),
+        Err(_) => Err(Fault::Memory),
+    }
+}
+
+/// Those of the targets that match.
+fn matching<S: Alter>(
+    alloc: Global,
+    change: &mut OpenChange<'_, S>,
+    filter: &Filter,
+    entries: Vec<ListedTarget>,
+) -> Result<Vec<ControllerId>, Fault>
+    ensures stays { StaysIn S.Store change.old change.new result }
+    ensures reads { FindsIn S.Store change.old change.new result
+        (λ r members. (f : Tree) → filter_of filter.now ≡ Some f → members.items ≡ ids_matching f (map (target_listed r) entries.items)) }
+{
+    let mut members = Vec::new(alloc);
+    for entry in entries {
+        add_if_match(change, filter, entry, &mut members)?;
+    }
+    Ok(members)
+}
+
+/// All targets that match.
+fn all_matching<S: Alter>(
+    alloc: Global,
+    change: &mut OpenChange<'_, S>,
+    filter: &Filter,
+) -> Result<Vec<ControllerId>, Fault>
+    ensures stays { StaysIn S.Store change.old change.new result }
+    ensures reads { FindsIn S.Store change.old change.new result
+        (λ r members. (f : Tree) → filter_of filter.now ≡ Some f → members.items ≡ chosen (Some f) r.targets) }
+{
+    let limit = change.read_target_count()?;
+    let entries = change.read_targets(Page { offset: 0, limit })?;
+    let members = matching(alloc, change, filter, entries)?;
+    Ok(members)
+}
+
+/// The targets that the filter of a text chooses.
+fn choose<S: Alter>(
+    alloc: Global,
+    change: &mut OpenChange<'_, S>,
+    text: &FilterText,
+) -> Result<Chosen, Fault>
+    ensures stays { StaysIn S.Store change.old change.new result }
+    ensures reads { FindsIn S.Store change.old change.new result (IsChosen text.now) }
+{
+    let words = text.as_str();
+    let filter = match Filter::read(alloc, words) {
+        Ok(filter) => filter,
+        Err(FilterFault::Memory) => return Err(Fault::Memory),
+        Err(_) => {
+            return Ok(Chosen {
+                bad_filter: true,
+                members: Vec::new(alloc),
+            });
+        }
+    };
+    laws::computed_filter();
+    let members = all_matching(alloc, change, &filter)?;
+    Ok(Chosen {
+        bad_filter: false,
+        members,
+    })
+}
+
+/// What the verdict on a plan rests on.
+fn read_view<S: Alter>(
+    change: &mut OpenChange<'_, S>,
+    plan: &RolloutPlan,
+    chosen: &Chosen,
+    members: u32,
+) -> Result<PlanView, Fault>
+    requires { members ≡ length chosen.now.members.items }
+    ensures stays { StaysIn S.Store change.old change.new result }
+    ensures members { IfOk result (λ view. view.members ≡ members) }
+    ensures reads { FindsIn S.Store change.old change.new result (λ r view. IsChosen plan.now.filter_text r chosen.now → IsPlanView view plan.now r) }
+{
+    let last_set = change.read_last_set()?;
+    let same_name = change.read_same_rollout(&plan.name)?;
+    let count = change.read_last_rollout()?;
+    let approval = change.read_approval()?;
+    Ok(PlanView {
+        bad_filter: chosen.bad_filter,
+        misses_set: plan.set_number.get() > last_set,
+        same_name,
+        members,
+        count,
+        approval,
+    })
+}
+
+/// The word of a rollout before it is started, or denied.
+fn first_word(approval: Approval) -> RolloutWord
+    ensures { IsWordOf approval result }
+{
+    match approval {
+        Approval::Waiting => RolloutWord::WaitingForApproval,
+        Approval::Denied => RolloutWord::ApprovalDenied,
+        Approval::Given => RolloutWord::Ready,
+    }
+}
+
+/// A new rollout as it is shown.
+fn show_new(
+    alloc: Global,
+    plan: &RolloutPlan,
+    created: &NewRollout,
+    members: u32,
+) -> Result<Rollout, AllocError>
+    ensures { IfOk result (λ rollout. (word : _) × IsWordOf created.now.approval word × (rollout ≡ shown_new plan.now created.now.number word members)) }
+{
+    let name = plan.name.copy(alloc)?;
+    let filter_text = plan.filter_text.copy(alloc)?;
+    Ok(Rollout {
+        number: created.number,
+        name,
+        set_number: plan.set_number,
+        filter_text,
+        word: first_word(created.approval),
+        groups: plan.groups.get(),
+        targets: members,
+    })
+}
+
+/// Writes a rollout with its groups and its members.
+fn write_whole<S: Alter>(
+    change: &mut OpenChange<'_, S>,
+    plan: &RolloutPlan,
+    created: &NewRollout,
+    members: &[ControllerId],
+) -> Result<(), Fault>
+    requires enough { plan.now.groups ≤ length members.now }
+    requires few { length members.now ≤ 4294967295 }
+    ensures stays { StaysIn S.Store change.old change.new result }
+    ensures writes { MakesLedger S.Store change.old change.new result
+        (CreatesRollout (in_part created.now plan.now (length members.now) plan.now.groups members.now)) }
+{
+    let number = created.number;
+    let size = members.len() as u32;
+    let groups = plan.groups.get();
+    change.write_rollout(number, plan, created.approval)?;
+    for i in 0..groups {
+        let bounds = group_bounds(size, i + 1, groups);
+        change.write_group(number, i + 1, bounds)?;
+    }
+    for (i, id) in members.iter().enumerate() {
+        change.write_member(number, i as u32 + 1, id)?;
+    }
+    Ok(())
+}
+
+/// How many members there are, where a reply can tell it: up to 4,294,967,295.
+fn count_of(members: &[ControllerId]) -> Option<u32>
+    ensures { IfSome result (λ count. count ≡ length members.now) }
+{
+    u32::try_from(members.len()).ok()
+}
+
+/// Creates a rollout: its members are the targets that match now. The memory of its reply is taken before anything is written.
+pub(crate) fn create_rollout<S: Alter>(
+    alloc: Global,
+    change: &mut OpenChange<'_, S>,
+    plan: &RolloutPlan,
+) -> Result<Step, Fault>
+    ensures stays { StaysIn S.Store change.old change.new result }
+    ensures steps { StepsIn S.Store change.old change.new (CreateRollout plan.now) result }
+{
+    let chosen = choose(alloc, change, &plan.filter_text)?;
+    let Some(count) = count_of(&chosen.members) else {
+        return Err(Fault::Memory);
+    };
+    let view = read_view(change, plan, &chosen, count)?;
+    let created = match new_rollout(&view, plan.groups.get()) {
+        Ok(created) => created,
+        Err(refusal) => return Ok(Step::Refused(refusal)),
+    };
+    let Ok(shown) = show_new(alloc, plan, &created, count) else {
+        return Err(Fault::Memory);
+    };
+    write_whole(change, plan, &created, &chosen.members)?;
+    Ok(Step::Accepted(Reply::RolloutAdded(shown)))
+}

@@ -1,0 +1,25 @@
+//! What a target is offered, looked up again.
+
+ghost use Rattle.desk_commands.specs.Offering.{Reoffers};
+ghost use Rattle.desk_store.specs.Counting.{AddsIn};
+ghost use Rattle.desk_store.specs.Changing.{MakesLedger, StaysIn};
+
+use desk_store::{Fault, OpenChange};
+use rollout_model::ControllerId;
+use sqlite::Alter;
+
+/// Looks up again what a target is offered that is offered something: the first of its actions that is open and whose group is started.
+pub(crate) fn offer_anew<S: Alter>(
+    change: &mut OpenChange<'_, S>,
+    id: &ControllerId,
+) -> Result<(), Fault>
+    ensures stays { StaysIn S.Store change.old change.new result }
+    ensures writes { MakesLedger S.Store change.old change.new result (Reoffers id.now) }
+    ensures work { AddsIn 2 1 change.old change.new }
+{
+    let offer = change.read_next_offer(id)?;
+    match offer {
+        Some(offer) => change.change_offer(id, offer),
+        None => change.drop_offer(id),
+    }
+}

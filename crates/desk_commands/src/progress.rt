@@ -1,0 +1,205 @@
+//! How a rollout goes on: by a resume, and by a trigger of its next group.
+
+ghost use Rattle.std.specs.Prelude.{◌≡◌, ◌&&◌, MatchResult, cond, nat_lt, not};
+ghost use Rattle.std.specs.List.{list_any};
+ghost use Rattle.sql_calls.specs.declared.fault.Fault.TheVariants.{Store};
+ghost use Rattle.rollout_machine.specs.ByteStrings.{item_numbered};
+ghost use Rattle.rollout_machine.specs.CommandList.{CommandList};
+ghost use Rattle.rollout_machine.specs.Commands.{Resume, TriggerNext};
+ghost use Rattle.rollout_machine.specs.RecordSteps.{last_started, view_of};
+ghost use Rattle.rollout_machine.specs.declared.records.RolloutRecord.{RolloutRecord};
+ghost use Rattle.desk_commands.specs.Standings.{GoesOn, IsSeenAt, Judges, StartsIf, gone_by, pause_left, starts_by};
+ghost use Rattle.desk_store.specs.Changing.{MakesLedger, StaysIn};
+ghost use Rattle.desk_commands.specs.Changing.{StepsIn};
+
+use crate::group_views::group_view;
+use crate::groups::start_group;
+use crate::standing::{number_is_well_formed, refusal_in};
+use crate::step::Step;
+use campaign_core::{ResumeView, TriggerView, after_resume, after_trigger, resume, trigger};
+use desk_reads::{SeenRollout, read_seen_rollout};
+use desk_store::{Fault, OpenChange};
+use rollout_machine::{GroupRecord, RolloutView};
+use rollout_model::{Refusal, Reply, RolloutNo};
+use sqlite::Alter;
+
+/// What lets a rollout go on.
+#[derive(Clone, Copy)]
+enum Going {
+    Resumed,
+    Triggered,
+}
+
+/// The number of a group that comes after the last started one, if it is started.
+fn last_after(last: u32, group: &GroupRecord) -> u32
+    ensures { result ≡ cond (group.now.started && nat_lt 0 group.now.number) group.now.number last }
+{
+    if group.started && group.number > 0 {
+        group.number
+    } else {
+        last
+    }
+}
+
+/// The number of the last started group, or 0.
+fn last_started(groups: &[GroupRecord]) -> u32
+    ensures { result ≡ last_started groups.now }
+{
+    let mut last = 0;
+    for group in groups {
+        last = last_after(last, group);
+    }
+    last
+}
+
+/// The group of a number, from 1.
+fn group_at(groups: &[GroupRecord], number: u32) -> Option<GroupRecord>
+    ensures { result ≡ item_numbered groups.now number }
+{
+    if number == 0 {
+        return None;
+    }
+    groups.get(number as usize - 1).copied()
+}
+
+/// A rollout, seen from its last started group.
+fn rollout_view(seen: &SeenRollout) -> Result<RolloutView, Fault>
+    ensures { MatchResult result
+        (λ view. (h : CommandList) (r : _) (x : RolloutRecord) → IsSeenAt h r seen.now x → view ≡ view_of x (last_started x.groups))
+        (λ e. e ≡ Store) }
+{
+    let number = last_started(&seen.groups);
+    let last = group_view(&seen.plan, number, group_at(&seen.groups, number))?;
+    Ok(RolloutView {
+        paused: seen.paused,
+        groups: seen.plan.groups.get(),
+        own: last,
+        last,
+    })
+}
+
+/// Whether a group is left to start.
+fn has_next(groups: &[GroupRecord]) -> bool
+    ensures { result ≡ list_any (λ g. not g.started) groups.now }
+{
+    groups.iter().any(|group| !group.started)
+}
+
+/// Why a rollout can't go on so, if it can't.
+fn refusal_of(going: Going, seen: &SeenRollout, rollout: RolloutView) -> Option<Refusal>
+    ensures { ((h : CommandList) (r : _) (x : RolloutRecord) → IsSeenAt h r seen.now x → rollout ≡ view_of x (last_started x.groups))
+        → Judges (gone_by going) seen.now result }
+{
+    let word = seen.word();
+    match going {
+        Going::Resumed => refusal_in(resume(&Some(ResumeView { word, rollout }))),
+        Going::Triggered => {
+            let has_next = has_next(&seen.groups);
+            refusal_in(trigger(&Some(TriggerView {
+                word,
+                has_next,
+                rollout,
+            })))
+        }
+    }
+}
+
+/// The group that starts then.
+fn start_of(going: Going, rollout: &RolloutView) -> Option<u32>
+    ensures { result ≡ starts_by going rollout.now }
+{
+    match going {
+        Going::Resumed => after_resume(rollout).starts,
+        Going::Triggered => after_trigger(rollout).starts,
+    }
+}
+
+/// Whether the rollout is paused then.
+fn pause_of(going: Going, paused: bool) -> bool
+    ensures { result ≡ pause_left going paused }
+{
+    match going {
+        Going::Resumed => false,
+        Going::Triggered => paused,
+    }
+}
+
+/// Starts the group of a number, if there is one to start.
+fn start_next<S: Alter>(
+    change: &mut OpenChange<'_, S>,
+    number: RolloutNo,
+    groups: &[GroupRecord],
+    starts: Option<u32>,
+) -> Result<(), Fault>
+    ensures stays { StaysIn S.Store change.old change.new result }
+    ensures writes { MakesLedger S.Store change.old change.new result (StartsIf number groups.now starts) }
+{
+    let Some(next) = starts else {
+        return Ok(());
+    };
+    match group_at(groups, next) {
+        Some(group) => start_group(change, number, &group),
+        None => Err(Fault::Store),
+    }
+}
+
+/// Writes whether a rollout is paused, and starts a group of it.
+fn write_going<S: Alter>(
+    change: &mut OpenChange<'_, S>,
+    number: RolloutNo,
+    seen: &SeenRollout,
+    paused: bool,
+    starts: Option<u32>,
+) -> Result<(), Fault>
+    ensures stays { StaysIn S.Store change.old change.new result }
+    ensures writes { MakesLedger S.Store change.old change.new result (GoesOn number seen.now paused starts) }
+{
+    change.change_rollout(number, seen.approval, seen.started, paused)?;
+    start_next(change, number, &seen.groups, starts)
+}
+
+/// Lets a rollout go on, where it can.
+fn go_on<S: Alter>(
+    change: &mut OpenChange<'_, S>,
+    number: RolloutNo,
+    going: Going,
+) -> Result<Step, Fault>
+    ensures stays { StaysIn S.Store change.old change.new result }
+    ensures steps { StepsIn S.Store change.old change.new (gone_by going number) result }
+{
+    let found = read_seen_rollout(change, number)?;
+    let Some(seen) = found else {
+        return Ok(Step::Refused(Refusal::NotFound));
+    };
+    let rollout = rollout_view(&seen)?;
+    if let Some(refusal) = refusal_of(going, &seen, rollout) {
+        return Ok(Step::Refused(refusal));
+    }
+    number_is_well_formed(number);
+    let paused = pause_of(going, seen.paused);
+    let starts = start_of(going, &rollout);
+    write_going(change, number, &seen, paused, starts)?;
+    Ok(Step::Accepted(Reply::Done))
+}
+
+/// Lets a paused rollout go on: where its last started group has success, the next one starts.
+pub(crate) fn resume_rollout<S: Alter>(
+    change: &mut OpenChange<'_, S>,
+    number: RolloutNo,
+) -> Result<Step, Fault>
+    ensures stays { StaysIn S.Store change.old change.new result }
+    ensures steps { StepsIn S.Store change.old change.new (Resume number) result }
+{
+    go_on(change, number, Going::Resumed)
+}
+
+/// Starts a running rollout's next group, whatever the success of the last one.
+pub(crate) fn trigger_next<S: Alter>(
+    change: &mut OpenChange<'_, S>,
+    number: RolloutNo,
+) -> Result<Step, Fault>
+    ensures stays { StaysIn S.Store change.old change.new result }
+    ensures steps { StepsIn S.Store change.old change.new (TriggerNext number) result }
+{
+    go_on(change, number, Going::Triggered)
+}

@@ -1,0 +1,217 @@
+//! An action as commands on it find it: with its group and its rollout.
+
+ghost use Rattle.std.specs.Prelude.{◌≡◌, option_map, MatchResult};
+ghost use Rattle.sql_calls.specs.declared.fault.Fault.TheVariants.{Store};
+ghost use Rattle.campaign_core.specs.OwnGroups.{waits};
+ghost use Rattle.desk_store.specs.Counting.{AddsIn};
+ghost use Rattle.desk_commands.specs.SeenActions.{MaySee, SeesIn, SeesReport, SeesTarget, action_view_seen, cancel_view_seen, only_of, only_started, own_seen, report_view_seen};
+ghost use Rattle.desk_store.specs.Changing.{FindsIn, FindsLedger, StaysIn};
+
+use crate::group_views::group_view;
+use crate::tags::lacks_target;
+use campaign_core::{ActionView, CancelView, OwnView, ReportView, ReportedAction};
+use desk_reads::knows_device;
+use desk_store::{Fault, OpenChange, StoredAction, StoredRollout};
+use rollout_machine::GroupRecord;
+use rollout_model::{ActionNo, Approval, ControllerId, Credential};
+use sqlite::Alter;
+
+/// An action with its group and its rollout.
+#[derive(Clone, Copy)]
+pub(crate) struct SeenAction {
+    pub(crate) number: ActionNo,
+    pub(crate) action: StoredAction,
+    /// Of its rollout.
+    pub(crate) approval: Approval,
+    /// Whether its rollout is started.
+    pub(crate) started: bool,
+    /// Its group.
+    pub(crate) own: GroupRecord,
+    /// The group behind that one.
+    pub(crate) next: Option<GroupRecord>,
+    /// Its rollout, seen from its group.
+    pub(crate) rollout: OwnView,
+}
+
+/// What a device's report finds.
+#[derive(Clone, Copy)]
+pub(crate) struct SeenReport {
+    /// Whether no target has the device's id and the digest of its token.
+    pub(crate) misses_device: bool,
+    /// The action, where it is the device's and its group is started.
+    pub(crate) action: Option<SeenAction>,
+}
+
+/// Whether the group is there and waits for its start.
+fn waits(group: &Option<GroupRecord>) -> bool
+    ensures { result ≡ waits group.now }
+{
+    match group {
+        Some(group) => !group.started,
+        None => false,
+    }
+}
+
+/// The rollout, seen from this one of its groups, where `next` is the one behind it.
+fn own_view(
+    rollout: &StoredRollout,
+    own: &GroupRecord,
+    next: &Option<GroupRecord>,
+) -> Result<OwnView, Fault>
+    ensures { MatchResult result (λ view. view ≡ own_seen rollout.now own.now next.now) (λ e. e ≡ Store) }
+{
+    let view = group_view(&rollout.plan, own.number, Some(*own))?;
+    Ok(OwnView {
+        paused: rollout.paused,
+        own: view,
+        next_waits: own.started && waits(next),
+    })
+}
+
+/// An action with what its group and its rollout are. Where they aren't there the store failed.
+fn see_in<S: Alter>(
+    change: &mut OpenChange<'_, S>,
+    number: ActionNo,
+    action: &StoredAction,
+) -> Result<SeenAction, Fault>
+    ensures stays { StaysIn S.Store change.old change.new result }
+    ensures reads { FindsLedger S.Store change.old change.new result (λ l seen. SeesIn l number action.now seen) }
+    ensures work { AddsIn 2 3 change.old change.new }
+{
+    let rollout = change.read_rollout(action.rollout)?.ok_or(Fault::Store)?;
+    let found = change.read_group_and_next(action.rollout, action.position)?;
+    let own = found.group.ok_or(Fault::Store)?;
+    let view = own_view(&rollout, &own, &found.next)?;
+    Ok(SeenAction {
+        number,
+        action: *action,
+        approval: rollout.approval,
+        started: rollout.started,
+        own,
+        next: found.next,
+        rollout: view,
+    })
+}
+
+/// The action of a number.
+fn see_action<S: Alter>(
+    change: &mut OpenChange<'_, S>,
+    number: ActionNo,
+) -> Result<Option<SeenAction>, Fault>
+    ensures stays { StaysIn S.Store change.old change.new result }
+    ensures reads { FindsLedger S.Store change.old change.new result (MaySee number) }
+    ensures work { AddsIn 3 4 change.old change.new }
+{
+    let found = change.read_action(number)?;
+    match &found {
+        Some(action) => {
+            let seen = see_in(change, number, action)?;
+            Ok(Some(seen))
+        }
+        None => Ok(None),
+    }
+}
+
+/// The action, where it is of this target.
+fn only_of(id: &ControllerId, seen: Option<SeenAction>) -> Option<SeenAction>
+    ensures { result ≡ only_of id.now seen }
+{
+    match seen {
+        Some(seen) => {
+            if seen.action.target == *id {
+                Some(seen)
+            } else {
+                None
+            }
+        }
+        None => None,
+    }
+}
+
+/// The action, where its group is started.
+fn only_started(seen: Option<SeenAction>) -> Option<SeenAction>
+    ensures { result ≡ only_started seen }
+{
+    match seen {
+        Some(seen) => { if seen.own.started { Some(seen) } else { None } }
+        None => None,
+    }
+}
+
+/// Whether the device that reports is known, and the action that it reports of.
+pub(crate) fn see_report<S: Alter>(
+    change: &mut OpenChange<'_, S>,
+    device: &Credential,
+    number: ActionNo,
+) -> Result<SeenReport, Fault>
+    ensures stays { StaysIn S.Store change.old change.new result }
+    ensures reads { FindsIn S.Store change.old change.new result (SeesReport device.now number) }
+    ensures work { AddsIn 4 5 change.old change.new }
+{
+    let knows = knows_device(change, device)?;
+    let seen = see_action(change, number)?;
+    Ok(SeenReport {
+        misses_device: !knows,
+        action: only_started(only_of(&device.id, seen)),
+    })
+}
+
+/// The action that is to be canceled, where it is of a target that is there.
+pub(crate) fn see_target<S: Alter>(
+    change: &mut OpenChange<'_, S>,
+    id: &ControllerId,
+    number: ActionNo,
+) -> Result<Option<SeenAction>, Fault>
+    ensures stays { StaysIn S.Store change.old change.new result }
+    ensures reads { FindsIn S.Store change.old change.new result (SeesTarget id.now number) }
+    ensures work { AddsIn 4 5 change.old change.new }
+{
+    let lacks = lacks_target(change, id)?;
+    let seen = see_action(change, number)?;
+    if lacks {
+        return Ok(None);
+    }
+    Ok(only_of(id, seen))
+}
+
+/// The action as the rules of commands rest on it.
+fn action_view(seen: &SeenAction) -> ActionView
+    ensures { result ≡ action_view_seen seen.now }
+{
+    ActionView {
+        outcome: seen.action.outcome,
+        canceling: seen.action.canceling,
+        number: seen.action.rollout,
+        rollout: seen.rollout,
+    }
+}
+
+/// The report as its rule rests on it.
+pub(crate) fn report_view(seen: &SeenReport) -> ReportView
+    ensures { result ≡ report_view_seen seen.now }
+{
+    let reported = match &seen.action {
+        Some(seen) => Some(ReportedAction {
+            notes: seen.action.notes,
+            action: action_view(seen),
+        }),
+        None => None,
+    };
+    ReportView {
+        misses_device: seen.misses_device,
+        reported,
+    }
+}
+
+/// The cancel as its rule rests on it.
+pub(crate) fn cancel_view(seen: &Option<SeenAction>) -> Option<CancelView>
+    ensures { result ≡ option_map cancel_view_seen seen.now }
+{
+    match seen {
+        Some(seen) => Some(CancelView {
+            started: seen.own.started,
+            action: action_view(seen),
+        }),
+        None => None,
+    }
+}

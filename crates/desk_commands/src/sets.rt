@@ -1,0 +1,113 @@
+//! Distribution sets: adding one.
+
+ghost use Rattle.std.specs.Prelude.{◌≡◌, ◌≤◌, ◌+◌, true, length, nat_lt};
+ghost use Rattle.rollout_model.specs.Rules.{is_module_list};
+ghost use Rattle.std.specs.List.{list_any};
+ghost use Rattle.rollout_machine.specs.Commands.{AddSet};
+ghost use Rattle.desk_commands.specs.Additions.{AddsModules, AddsWhole, GetsSetNumber, LacksModule};
+ghost use Rattle.desk_store.specs.Changing.{FindsIn, MakesIn, StaysIn};
+ghost use Rattle.desk_commands.specs.Changing.{StepsIn};
+
+use crate::step::Step;
+use desk_store::{Fault, OpenChange};
+use rollout_model::limits::SET_LIMIT;
+use rollout_model::{DistributionSet, ModuleList, ModuleNo, Refusal, Reply, SetLabel, SetNo};
+use sqlite::Alter;
+use std::alloc::Global;
+
+/// Whether a number of the list is past the last one.
+fn any_past(modules: &ModuleList, last: u32) -> bool
+    ensures value { result ≡ list_any (λ m. nat_lt last m) modules.now }
+    ensures list { is_module_list modules.now ≡ true }
+{
+    modules.as_slice().iter().any(|number| number.get() > last)
+}
+
+/// Whether the list names a module that isn't there.
+fn lacks_a_module<S: Alter>(
+    change: &mut OpenChange<'_, S>,
+    modules: &ModuleList,
+) -> Result<bool, Fault>
+    ensures stays { StaysIn S.Store change.old change.new result }
+    ensures reads { FindsIn S.Store change.old change.new result (LacksModule modules.now) }
+{
+    let last = change.read_last_module()?;
+    Ok(any_past(modules, last))
+}
+
+/// The number that a set gets, or why it is refused.
+fn next_set<S: Alter>(
+    change: &mut OpenChange<'_, S>,
+    label: &SetLabel,
+) -> Result<Result<SetNo, Refusal>, Fault>
+    ensures stays { StaysIn S.Store change.old change.new result }
+    ensures reads { FindsIn S.Store change.old change.new result (GetsSetNumber label.now) }
+{
+    if lacks_a_module(change, &label.modules)? {
+        return Ok(Err(Refusal::NotFound));
+    }
+    if change.read_same_set(&label.name, &label.version)? {
+        return Ok(Err(Refusal::Exists));
+    }
+    let last = change.read_last_set()?;
+    if last >= SET_LIMIT {
+        return Ok(Err(Refusal::Quota));
+    }
+    Ok(Ok(SetNo::new(last + 1).unwrap()))
+}
+
+/// Adds these modules to the last set, which has so many before them.
+fn write_modules<S: Alter>(
+    change: &mut OpenChange<'_, S>,
+    number: SetNo,
+    before: u32,
+    modules: &[ModuleNo],
+) -> Result<(), Fault>
+    requires { before + length modules.now ≤ 8 }
+    ensures stays { StaysIn S.Store change.old change.new result }
+    ensures writes { MakesIn S.Store change.old change.new result (AddsModules number before modules.now) }
+{
+    match modules {
+        [] => Ok(()),
+        [first, rest @ ..] => {
+            change.write_set_module(number, before + 1, *first)?;
+            write_modules(change, number, before + 1, rest)
+        }
+    }
+}
+
+/// Writes a set with all its modules.
+fn write_whole<S: Alter>(
+    change: &mut OpenChange<'_, S>,
+    number: SetNo,
+    label: &SetLabel,
+) -> Result<(), Fault>
+    ensures stays { StaysIn S.Store change.old change.new result }
+    ensures writes { MakesIn S.Store change.old change.new result (AddsWhole number label.now) }
+{
+    change.write_set(number, &label.name, &label.version)?;
+    write_modules(change, number, 0, label.modules.as_slice())
+}
+
+/// Adds a distribution set. The memory of its reply is taken before anything is written.
+pub(crate) fn add_set<S: Alter>(
+    alloc: Global,
+    change: &mut OpenChange<'_, S>,
+    label: &SetLabel,
+) -> Result<Step, Fault>
+    ensures stays { StaysIn S.Store change.old change.new result }
+    ensures steps { StepsIn S.Store change.old change.new (AddSet label.now) result }
+{
+    let number = match next_set(change, label)? {
+        Ok(number) => number,
+        Err(refusal) => return Ok(Step::Refused(refusal)),
+    };
+    let Ok(shown) = label.copy(alloc) else {
+        return Err(Fault::Memory);
+    };
+    write_whole(change, number, label)?;
+    Ok(Step::Accepted(Reply::SetAdded(DistributionSet {
+        number,
+        label: shown,
+    })))
+}

@@ -1,0 +1,129 @@
+//! What is said of a rollout as a whole: it is approved, denied or paused.
+
+ghost use Rattle.std.specs.Prelude.{◌≡◌, MatchResult, None, Some, true};
+ghost use Rattle.rollout_model.specs.Rules.{is_number};
+ghost use Rattle.rollout_machine.specs.Commands.{Approve, Deny, Pause};
+ghost use Rattle.desk_commands.specs.Standings.{Judges, WritesSaid, said_by};
+ghost use Rattle.desk_store.specs.Changing.{MakesLedger, StaysIn};
+ghost use Rattle.desk_commands.specs.Changing.{StepsIn};
+
+use crate::step::Step;
+use campaign_core::{RolloutChange, StandingView, approve, deny, pause};
+use desk_reads::{SeenRollout, read_seen_rollout};
+use desk_store::{Fault, OpenChange};
+use rollout_model::{Approval, Refusal, Reply, RolloutNo};
+use sqlite::Alter;
+
+/// What is said of a rollout as a whole.
+#[derive(Clone, Copy)]
+enum Said {
+    Approved,
+    Denied,
+    Paused,
+}
+
+/// The number of a rollout keeps the rule of commands on it.
+pub(crate) fn number_is_well_formed(number: RolloutNo)
+    ensures { is_number number ≡ true }
+{
+    let _number = number.get();
+}
+
+/// What a verdict refuses with, if it does.
+pub(crate) fn refusal_in(verdict: Result<RolloutChange, Refusal>) -> Option<Refusal>
+    ensures { MatchResult verdict (λ _. result ≡ None) (λ refusal. result ≡ Some refusal) }
+{
+    match verdict {
+        Ok(_) => None,
+        Err(refusal) => Some(refusal),
+    }
+}
+
+/// Why this can't be said of a rollout, if it can't.
+fn refusal_of(said: Said, seen: &SeenRollout) -> Option<Refusal>
+    ensures { Judges (said_by said) seen.now result }
+{
+    let view = StandingView {
+        word: Some(seen.word()),
+    };
+    match said {
+        Said::Approved => refusal_in(approve(&view)),
+        Said::Denied => refusal_in(deny(&view)),
+        Said::Paused => refusal_in(pause(&view)),
+    }
+}
+
+/// Writes it.
+fn write_said<S: Alter>(
+    change: &mut OpenChange<'_, S>,
+    number: RolloutNo,
+    seen: &SeenRollout,
+    said: Said,
+) -> Result<(), Fault>
+    ensures stays { StaysIn S.Store change.old change.new result }
+    ensures writes { MakesLedger S.Store change.old change.new result (WritesSaid said number seen.now) }
+{
+    match said {
+        Said::Approved => {
+            change.change_rollout(number, Approval::Given, seen.started, seen.paused)
+        }
+        Said::Denied => {
+            change.change_rollout(number, Approval::Denied, seen.started, seen.paused)
+        }
+        Said::Paused => change.change_rollout(number, seen.approval, seen.started, true),
+    }
+}
+
+/// Says it of a rollout, where it can be said.
+fn say<S: Alter>(
+    change: &mut OpenChange<'_, S>,
+    number: RolloutNo,
+    said: Said,
+) -> Result<Step, Fault>
+    ensures stays { StaysIn S.Store change.old change.new result }
+    ensures steps { StepsIn S.Store change.old change.new (said_by said number) result }
+{
+    let found = read_seen_rollout(change, number)?;
+    let Some(seen) = found else {
+        return Ok(Step::Refused(Refusal::NotFound));
+    };
+    if let Some(refusal) = refusal_of(said, &seen) {
+        return Ok(Step::Refused(refusal));
+    }
+    number_is_well_formed(number);
+    write_said(change, number, &seen, said)?;
+    Ok(Step::Accepted(Reply::Done))
+}
+
+/// Approves a rollout that waits for approval.
+pub(crate) fn approve_rollout<S: Alter>(
+    change: &mut OpenChange<'_, S>,
+    number: RolloutNo,
+) -> Result<Step, Fault>
+    ensures stays { StaysIn S.Store change.old change.new result }
+    ensures steps { StepsIn S.Store change.old change.new (Approve number) result }
+{
+    say(change, number, Said::Approved)
+}
+
+/// Denies one that waits for approval, for good.
+pub(crate) fn deny_rollout<S: Alter>(
+    change: &mut OpenChange<'_, S>,
+    number: RolloutNo,
+) -> Result<Step, Fault>
+    ensures stays { StaysIn S.Store change.old change.new result }
+    ensures steps { StepsIn S.Store change.old change.new (Deny number) result }
+{
+    say(change, number, Said::Denied)
+}
+
+/// Pauses a running rollout: no group starts by itself.
+pub(crate) fn pause_rollout<S: Alter>(
+    change: &mut OpenChange<'_, S>,
+    number: RolloutNo,
+) -> Result<Step, Fault>
+    ensures stays { StaysIn S.Store change.old change.new result }
+    ensures steps { StepsIn S.Store change.old change.new (Pause number) result }
+{
+    say(change, number, Said::Paused)
+}

@@ -1,0 +1,125 @@
+//! Rollouts: starting one.
+
+ghost use Rattle.std.specs.Prelude.{◌≡◌, ◌≤◌, ◌+◌, length, slice_get, IsTrue};
+ghost use Rattle.rollout_machine.specs.Commands.{Start};
+ghost use Rattle.desk_commands.specs.Standings.{Judges};
+ghost use Rattle.desk_commands.specs.Starts.{AddsActions, ReadsMembers, StartsWhole};
+ghost use Rattle.desk_store.specs.Changing.{FindsLedger, MakesLedger, StaysIn};
+ghost use Rattle.desk_commands.specs.Changing.{StepsIn};
+
+use crate::groups::start_group;
+use crate::standing::{number_is_well_formed, refusal_in};
+use crate::step::Step;
+use campaign_core::{StandingView, start};
+use desk_reads::{SeenRollout, read_seen_rollout};
+use desk_store::{Fault, OpenChange};
+use rollout_machine::GroupRecord;
+use rollout_model::limits::NUMBER_LIMIT;
+use rollout_model::{ActionNo, ControllerId, Page, Refusal, Reply, RolloutNo};
+use sqlite::Alter;
+
+/// Why a rollout can't be started, if it can't.
+fn start_refusal(seen: &SeenRollout) -> Option<Refusal>
+    ensures { Judges Start seen.now result }
+{
+    let view = StandingView {
+        word: Some(seen.word()),
+    };
+    refusal_in(start(&view))
+}
+
+/// The members of a rollout that has so many, in the order of their places.
+fn read_all_members<S: Alter>(
+    change: &mut OpenChange<'_, S>,
+    number: RolloutNo,
+    count: u32,
+) -> Result<Vec<ControllerId>, Fault>
+    ensures stays { StaysIn S.Store change.old change.new result }
+    ensures reads { FindsLedger S.Store change.old change.new result (λ l members. ReadsMembers number count l members.items) }
+{
+    let page = Page {
+        offset: 0,
+        limit: count,
+    };
+    let members = change.read_members(number, page)?;
+    Ok(members)
+}
+
+/// Makes an action for each member of a rollout, numbered on from the last action.
+fn write_actions<S: Alter>(
+    change: &mut OpenChange<'_, S>,
+    number: RolloutNo,
+    last: u32,
+    members: &[ControllerId],
+) -> Result<(), Fault>
+    requires { last + length members.now ≤ 2147483647 }
+    ensures stays { StaysIn S.Store change.old change.new result }
+    ensures writes { MakesLedger S.Store change.old change.new result (AddsActions number last members.now (length members.now)) }
+{
+    for (i, id) in members.iter().enumerate() {
+        let place = i as u32 + 1;
+        let action = ActionNo::new(last + place).unwrap();
+        change.write_action(action, number, place, id)?;
+    }
+    Ok(())
+}
+
+/// Writes that a rollout is started: an action for each member, and its first group.
+fn write_start<S: Alter>(
+    change: &mut OpenChange<'_, S>,
+    number: RolloutNo,
+    seen: &SeenRollout,
+    first: &GroupRecord,
+    last: u32,
+    members: &[ControllerId],
+) -> Result<(), Fault>
+    requires { last + length members.now ≤ 2147483647 }
+    ensures stays { StaysIn S.Store change.old change.new result }
+    ensures writes { MakesLedger S.Store change.old change.new result (StartsWhole number seen.now first.now last members.now) }
+{
+    change.change_rollout(number, seen.approval, true, seen.paused)?;
+    write_actions(change, number, last, members)?;
+    start_group(change, number, first)
+}
+
+/// Whether there are numbers for so many further actions.
+fn has_numbers(last: u32, members: &[ControllerId]) -> bool
+    ensures { IsTrue result → last + length members.now ≤ 2147483647 }
+{
+    members.len() <= NUMBER_LIMIT.saturating_sub(last) as usize && last <= NUMBER_LIMIT
+}
+
+/// The first group of a rollout.
+fn first_group(seen: &SeenRollout) -> Option<GroupRecord>
+    ensures { result ≡ slice_get seen.now.groups.items 0 }
+{
+    seen.groups.first().copied()
+}
+
+/// Starts a rollout that is ready: each member has an action from then on, and those of the first group are offered.
+pub(crate) fn start_rollout<S: Alter>(
+    change: &mut OpenChange<'_, S>,
+    number: RolloutNo,
+) -> Result<Step, Fault>
+    ensures stays { StaysIn S.Store change.old change.new result }
+    ensures steps { StepsIn S.Store change.old change.new (Start number) result }
+{
+    let found = read_seen_rollout(change, number)?;
+    let Some(seen) = found else {
+        return Ok(Step::Refused(Refusal::NotFound));
+    };
+    if let Some(refusal) = start_refusal(&seen) {
+        return Ok(Step::Refused(refusal));
+    }
+    let last = change.read_last_action()?;
+    let members = read_all_members(change, number, seen.members())?;
+    let Some(first) = first_group(&seen) else {
+        return Err(Fault::Store);
+    };
+    if !has_numbers(last, &members) {
+        return Err(Fault::Store);
+    }
+    number_is_well_formed(number);
+    write_start(change, number, &seen, &first, last, &members)?;
+    Ok(Step::Accepted(Reply::Done))
+}

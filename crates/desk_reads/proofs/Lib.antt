@@ -1,0 +1,4 @@
+pub mod SeenRollouts
+pub mod ListLemmas
+pub mod ListedTargets
+pub mod KnownDevices

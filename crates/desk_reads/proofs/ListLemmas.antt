@@ -1,0 +1,113 @@
+-- What the records of a list of accepted commands have.
+use Rattle.std.proofs.Common.{◌≡◌, ◌≤◌, ◌<◌, ◌-◌, ℕ, zero, suc, ◌+◌, nat_eq, Bool, true, false, cond, ◌∷◌, length, Option, Some, None, Result, Ok, Err, refl, sym, ap, subst, ◌∙◌, arith, add-one}
+use Rattle.std.specs.Prelude.{slice_get}
+use Rattle.sqlite.specs.State.{State}
+use Rattle.sql_calls.specs.Standing.{Finds}
+use Rattle.sql_calls.proofs.Composing.{finds_as}
+use Rattle.rollout_machine.specs.ByteStrings.{item_numbered}
+use Rattle.rollout_machine.specs.CommandList.{CommandList}
+use Rattle.rollout_machine.specs.Effects.{HasSoundPlan}
+use Rattle.rollout_machine.specs.Groups.{bounds_of, first_position, last_position, size_of_bounds}
+use Rattle.rollout_machine.specs.Ranges.{each_from}
+use Rattle.rollout_machine.specs.Records.{Records, group_in, records, rollout_in, rollouts_in}
+use Rattle.rollout_machine.specs.Rollouts.{Rollout, rollout_at, rollouts, size_of}
+use Rattle.rollout_machine.specs.StateWords.{group_numbered, size_of_group}
+use Rattle.rollout_machine.specs.Validity.{IsValid}
+use Rattle.rollout_machine.specs.declared.records.GroupRecord.{GroupRecord}
+use Rattle.rollout_machine.specs.declared.records.RolloutRecord.{RolloutRecord}
+use Rattle.rollout_machine.proofs.Cuts.{all_cut, last_grows}
+use Rattle.rollout_machine.proofs.Induction.{invariant_of, no_record}
+use Rattle.rollout_machine.proofs.Whole.{rollout_numbered}
+use Rattle.desk_records.specs.Holds.{HoldsLedger, ledger_of}
+use Rattle.desk_records.specs.Parts.{parts_of}
+use Rattle.desk_records.specs.Rollouts.{groups_of, numbered_from}
+use Rattle.desk_reads.specs.AtLists.{AreOfList}
+use Rattle.desk_reads.specs.Rollouts.{last_in, last_place}
+
+-- what answers for all records answers at lists
+pub at_lists : {A E : Type 0} {a b : State} {P : Records → A → Type 0} → (out : Result A E) → Finds HoldsLedger ledger_of a b out P → Finds HoldsLedger ledger_of a b out (λ r it. AreOfList r → P r it)
+at_lists (Ok x) read = finds_as read (λ r is of. is)
+at_lists (Err e) read = record { wears = read.wears; finds = tt }
+
+-- ---- a rollout of such a list
+
+-- a rollout record of number r, of a rollout that was created by the list
+pub record IsMade (h : CommandList) (r : ℕ) (x : RolloutRecord) : Type 0 where
+  pub made : Rollout
+  pub there : rollout_at h r ≡ Some made
+  pub sound : HasSoundPlan made
+  pub is : x ≡ rollout_in h r made
+
+made_at : (h : CommandList) (r : ℕ) (valid : IsValid h) (x : RolloutRecord) → item_numbered (rollouts_in h 1 (rollouts h)) r ≡ Some x → IsMade h r x
+made_at h r valid x e = go (rollout_at h r) refl where
+  go : (o : Option Rollout) → rollout_at h r ≡ o → IsMade h r x
+  go None none = let no : None ≡ Some x = sym (no_record h r none) ∙ e in absurd (cc)
+  go (Some y) some = let same : Some (rollout_in h r y) ≡ Some x = sym (rollout_numbered h r y some) ∙ e in record { made = y; there = some; sound = ((invariant_of h valid).follows r y some).sound; is = sym (cc) }
+
+pub made : (rs : Records) (of : AreOfList rs) (r : ℕ) (x : RolloutRecord) → item_numbered rs.rollouts r ≡ Some x → IsMade of.list r x
+unfolding records
+made rs of r x e = made_at of.list r of.valid x (sym (ap (λ (q : Records). item_numbered q.rollouts r) of.are) ∙ e)
+
+-- rollout r has number r
+pub numbered_so : (rs : Records) → AreOfList rs → (r : ℕ) (x : RolloutRecord) → item_numbered rs.rollouts r ≡ Some x → x.number ≡ r
+numbered_so rs of r x e = ap (λ (q : RolloutRecord). q.number) (made rs of r x e).is
+
+-- ---- its groups
+
+same_numbers : (y : Rollout) (r : ℕ) (h : CommandList) (a n : ℕ) → numbered_from a (each_from (group_in y r h) a n) ≡ each_from (group_in y r h) a n
+same_numbers y r h a zero = refl
+same_numbers y r h a (suc n) = ap (λ gs. group_in y r h a ∷ gs) (ap (λ k. numbered_from k (each_from (group_in y r h) (suc a) n)) (add-one a) ∙ same_numbers y r h (suc a) n)
+
+-- their numbers are their places
+pub groups_are : (rs : Records) → AreOfList rs → (r : ℕ) → groups_of (item_numbered rs.rollouts r) ≡ parts_of (λ (x : RolloutRecord). x.groups) (item_numbered rs.rollouts r)
+groups_are rs of r = go (item_numbered rs.rollouts r) refl where
+  go : (o : Option RolloutRecord) → item_numbered rs.rollouts r ≡ o → groups_of o ≡ parts_of (λ (x : RolloutRecord). x.groups) o
+  go None e = refl
+  go (Some x) e = let it = made rs of r x e in rw it.is (same_numbers it.made r of.list 1 it.made.plan.groups)
+
+get_each : {X : Type 0} (f : ℕ → X) (a n i k : ℕ) → i < n → k ≡ a + i → slice_get (each_from f a n) i ≡ Some (f k)
+get_each f a zero i k less at = absurd (omega (arith, less))
+get_each f a (suc n) zero k less at = ap (λ j. Some (f j)) (omega (arith, at))
+get_each f a (suc n) (suc i) k less at = get_each f (suc a) n i k (omega (arith, less)) (omega (arith, at))
+
+each_length : {X : Type 0} (f : ℕ → X) (a n : ℕ) → length (each_from f a n) ≡ n
+each_length f a zero = refl
+each_length f a (suc n) = ap suc (each_length f (suc a) n)
+
+-- a group that is found is one of them
+found_each : (f : ℕ → GroupRecord) (i a n : ℕ) (g : GroupRecord) → Some g ≡ group_numbered i (each_from f a n) → (k : ℕ) × (a ≤ k) × (k < a + n) × (g ≡ f k)
+found_each f i a zero g is = absurd cc
+found_each f i a (suc n) g is = go (nat_eq (f a).number i) is (found_each f i (suc a) n g) where
+  go : (b : Bool) → Some g ≡ cond b (Some (f a)) (group_numbered i (each_from f (suc a) n)) → (Some g ≡ group_numbered i (each_from f (suc a) n) → (k : ℕ) × (suc a ≤ k) × (k < suc a + n) × (g ≡ f k))
+      → (k : ℕ) × (a ≤ k) × (k < a + suc n) × (g ≡ f k)
+  go true one rest = let same : g ≡ f a = cc in (a, omega arith, omega arith, same)
+  go false other rest = let it = rest other in (it.0, omega (arith, it.1), omega (arith, it.2), it.3)
+
+within : (m n k : ℕ) → 1 ≤ n → 1 ≤ k → k < 1 + n → (first_position m n k - 1) + size_of_bounds (bounds_of m n k) ≤ m
+within m n k some least most =
+    let last : last_position m n k ≤ last_position m n n = last_grows m n k n (omega (arith, some)) (omega (arith, most)) in
+    let all = all_cut m n some in
+    let sum : last_position m n (k - 1) ≤ last_position m n k = last_grows m n (k - 1) k (omega (arith, some)) (omega arith) in
+    omega (arith, last, all, sum)
+
+-- its members are some of the rollout's
+pub group_within : (rs : Records) → AreOfList rs → (r : ℕ) (x : RolloutRecord) → item_numbered rs.rollouts r ≡ Some x → (i : ℕ) (g : GroupRecord) → Some g ≡ group_numbered i x.groups → (g.bounds.first - 1) + size_of_group g ≤ length x.members
+group_within rs of r x e i g is =
+    let it = made rs of r x e in
+    let found = found_each (group_in it.made r of.list) i 1 it.made.plan.groups g (is ∙ ap (λ (q : RolloutRecord). group_numbered i q.groups) it.is) in
+    subst (λ (q : RolloutRecord). (g.bounds.first - 1) + size_of_group g ≤ length q.members) (sym it.is)
+    (subst (λ (q : GroupRecord). (q.bounds.first - 1) + size_of_group q ≤ size_of it.made) (sym found.3) (within (size_of it.made) it.made.plan.groups found.0 it.sound.some_groups found.1 found.2))
+
+-- ---- its members
+
+last_in_each : (y : Rollout) (r : ℕ) (h : CommandList) (n : ℕ) → n ≡ y.plan.groups → 1 ≤ n → last_place (each_from (group_in y r h) 1 n) ≡ size_of y
+last_in_each y r h n e some =
+    ap (λ k. last_in (slice_get (each_from (group_in y r h) 1 n) (k - 1))) (each_length (group_in y r h) 1 n)
+    ∙ ap last_in (get_each (group_in y r h) 1 n (n - 1) y.plan.groups (omega (arith, some)) (omega (arith, some, e)))
+    ∙ all_cut (size_of y) y.plan.groups (omega (arith, some, e))
+
+-- they are as many as the last place
+pub last_is_count : (rs : Records) → AreOfList rs → (r : ℕ) (x : RolloutRecord) → item_numbered rs.rollouts r ≡ Some x → last_place x.groups ≡ length x.members
+last_is_count rs of r x e =
+    let it = made rs of r x e in
+    subst (λ (q : RolloutRecord). last_place q.groups ≡ length q.members) (sym it.is) (last_in_each it.made r of.list it.made.plan.groups refl it.sound.some_groups)

@@ -1,0 +1,75 @@
+-- Targets as they are listed, and then read by their ids.
+use Rattle.std.proofs.Common.{◌≡◌, ℕ, ◌-◌, true, false, List, [], ◌∷◌, map, find, take, drop, Option, Some, None, refl, sym, ap, ◌∙◌}
+use Rattle.std.proofs.IntoIterSteps.{All-taken}
+use Rattle.std.proofs.lemmas.Bool.{and_parts, or_parts}
+use Rattle.std.proofs.lemmas.List.{drop-map, take-map}
+use Rattle.std.specs.Iterator.{Yields}
+use Rattle.std.specs.Vec.Iter.{into_iter_items, into_iter_steps}
+use Rattle.std.specs.declared.vec.IntoIter.{IntoIter}
+use Rattle.rollout_machine.specs.ByteStrings.{contains_word, same_bytes}
+use Rattle.rollout_machine.specs.Commands.{Bytes, Attribute}
+use Rattle.rollout_machine.specs.Filters.{seen}
+use Rattle.rollout_machine.specs.Records.{Records}
+use Rattle.rollout_machine.specs.Targets.{Target}
+use Rattle.rollout_machine.specs.Views.{listed}
+use Rattle.rollout_machine.proofs.Imports.{IsSorted, not_above}
+use Rattle.rollout_machine.proofs.TargetTies.{same_refl}
+use Rattle.desk_records.specs.declared.target_row.ListedTarget.{ListedTarget}
+use Rattle.desk_records.specs.TargetRow.{listed_target}
+use Rattle.desk_records.specs.Targets.{are_sorted, ids_of, in_byte_order, attributes_of}
+use Rattle.desk_records.proofs.ByteOrder.{sorted_from}
+use Rattle.desk_records.proofs.Targets.{has_id}
+use Rattle.desk_reads.specs.Targets.{target_listed}
+use Rattle.rollout_machine.specs.Verdicts.{tags_of, target_of}
+
+-- ---- a list that is gone through
+
+-- once nothing is left, all of it was given
+pub all_given : {X A : Type 0} (s t u : IntoIter X A) (xs all : List X) → into_iter_items s ≡ all → Yields into_iter_steps s xs t → into_iter_steps t None u → xs ≡ all
+all_given s t u xs all is given none = All-taken s xs (u, (t, given, none)) ∙ is
+
+-- ---- what is found by its id
+
+abbrev found : List Target → Target → Option Target
+found all t = find (has_id t.id) all
+
+passes_by : (x : Target) (xs ys : List Target) → contains_word x.id (ids_of ys) ≡ false → map (found (x ∷ xs)) ys ≡ map (found xs) ys
+passes_by x xs [] none = refl
+passes_by x xs (y ∷ ys) none =
+    let parts = or_parts (same_bytes x.id y.id) (contains_word x.id (ids_of ys)) none in
+    let one : found (x ∷ xs) y ≡ found xs y = rw (parts.0) refl in
+    let others = passes_by x xs ys parts.1 in
+    λ i. one i ∷ others i
+
+finds_all : (all : List Target) → IsSorted (ids_of all) → map (found all) all ≡ map Some all
+finds_all [] sorted = refl
+finds_all (x ∷ xs) sorted =
+    let one : found (x ∷ xs) x ≡ Some x = rw (same_refl x.id) refl in
+    let others = passes_by x xs xs (not_above x.id (ids_of xs) sorted.0) ∙ finds_all xs sorted.1 in
+    λ i. one i ∷ others i
+
+module _ (r : Records) where
+  one_seen : (t : Target) → found r.targets t ≡ Some t → target_listed r (listed_target t) ≡ seen t
+  one_seen t is = rw is refl
+
+  all_seen : (ts : List Target) → map (found r.targets) ts ≡ map Some ts → map (target_listed r) (map listed_target ts) ≡ map seen ts
+  all_seen [] is = refl
+  all_seen (t ∷ ts) is =
+      let one : found r.targets t ≡ Some t = cc in
+      let others : map (found r.targets) ts ≡ map Some ts = cc in
+      let here = one_seen t one in
+      let rest = all_seen ts others in
+      λ i. here i ∷ rest i
+
+  -- a part of the targets, listed and then read by their ids
+  pub part_seen : are_sorted r.targets ≡ true → (n m : ℕ) → map (target_listed r) (map listed_target (take n (drop m r.targets))) ≡ map seen (take n (drop m r.targets))
+  part_seen sorted n m =
+      let ordered = (and_parts (in_byte_order (ids_of r.targets)) _ sorted).0 in
+      let all = finds_all r.targets (sorted_from (ids_of r.targets) ordered) in
+      all_seen (take n (drop m r.targets))
+      (sym (take-map (found r.targets) n (drop m r.targets)) ∙ ap (take n) (sym (drop-map (found r.targets) m r.targets) ∙ ap (drop m) all ∙ drop-map Some m r.targets) ∙ take-map Some n (drop m r.targets))
+
+-- a target that was listed, with what was read of its id
+pub listed_is : (r : Records) (listed : ListedTarget) (tags : List Bytes) (attributes : List Attribute) → tags ≡ tags_of (target_of r listed.id) → attributes ≡ attributes_of (target_of r listed.id)
+    → record { id = listed.id; name = listed.name; tags = tags; attributes = attributes } ≡ target_listed r listed
+listed_is r listed tags attributes tagged attributed = λ i. record { id = listed.id; name = listed.name; tags = tagged i; attributes = attributed i }

@@ -1,0 +1,19 @@
+-- What is read at lists of accepted commands.
+use Rattle.std.specs.Prelude.{◌≡◌, Result}
+use Rattle.sqlite.specs.Store.{Ghosts}
+use Rattle.rollout_machine.specs.CommandList.{CommandList}
+use Rattle.rollout_machine.specs.Records.{Records, records}
+use Rattle.rollout_machine.specs.Validity.{IsValid}
+use Rattle.desk_store.specs.Changing.{FindsIn}
+use Rattle.desk_store.specs.declared.change.OpenChange.{OpenChange}
+
+-- a list of accepted commands has these records
+pub record AreOfList (r : Records) : Type 0 where
+  pub list : CommandList
+  pub valid : IsValid list
+  pub are : r ≡ records list
+
+module _ {S : Type 0} (g : Ghosts S) where
+  -- a read whose answer is known at the records of such lists alone
+  abbrev pub FindsAtListsIn : {A E : Type 0} → OpenChange S → OpenChange S → Result A E → (Records → A → Type 0) → Type 0
+  FindsAtListsIn old new result Answer = FindsIn g old new result (λ r it. AreOfList r → Answer r it)

@@ -1,0 +1,26 @@
+//! Devices by what they show.
+
+ghost use Rattle.std.specs.Prelude.{◌≡◌, false};
+ghost use Rattle.rollout_machine.specs.Verdicts.{is_known};
+ghost use Rattle.desk_store.specs.Counting.{AddsIn};
+ghost use Rattle.desk_store.specs.Changing.{FindsIn, StaysIn};
+
+use desk_store::{Fault, OpenChange};
+use rollout_model::Credential;
+use sqlite::Alter;
+
+/// Whether a target of the device's id is there, with the digest of the token that it showed.
+pub fn knows_device<S: Alter>(
+    change: &mut OpenChange<'_, S>,
+    device: &Credential,
+) -> Result<bool, Fault>
+    ensures stays { StaysIn S.Store change.old change.new result }
+    ensures reads { FindsIn S.Store change.old change.new result (λ now known. known ≡ is_known now device.now) }
+    ensures work { AddsIn 1 1 change.old change.new }
+{
+    let found = change.read_target(&device.id)?;
+    match &found {
+        Some(stored) => Ok(stored.digest == device.digest),
+        None => Ok(false),
+    }
+}

@@ -1,0 +1,10 @@
+//! What queries and commands both read inside an open change.
+#![tactic(auto)]
+
+mod devices;
+mod rollouts;
+mod targets;
+
+pub use crate::devices::knows_device;
+pub use crate::rollouts::{SeenRollout, read_seen_rollout, size_of};
+pub use crate::targets::read_listed;

@@ -1,7 +1,0 @@
-use Rattle.sql_calls.proofs.Composing.{makes_as}
-use Rattle.rollout_desk.proofs.TellingLemmas.{acts_after}
-use Rattle.rollout_desk.proofs.actions.act_by.Goals as goal
-
-pub returns-clause-writes : goal.returns-clause-writes
-returns-clause-writes g c =
-    makes_as (λ l next w. acts_after c.args.seen.now c.args.accepted.now c.in_ok-after.after c.args.told.now l next c.in_ok-after.ensures w) _ c.may_act.ensures.writes

@@ -1,6 +1,0 @@
-use Rattle.std.proofs.Common.{◌∙◌}
-use Rattle.rollout_desk.proofs.ArtifactLemmas.{is_another}
-use Rattle.rollout_desk.proofs.artifacts.names_another.Goals as goal
-
-pub returns-in-Some : goal.returns-in-Some
-returns-in-Some c = λ same. c.ne.ensures ∙ is_another c.args.upload.now _ _ c.in-Some.is same

@@ -1,7 +1,0 @@
-use Rattle.std.proofs.Common.{◌≡◌, take}
-use Rattle.rollout_machine.specs.RecordSteps.{last_started}
-use Rattle.rollout_desk.proofs.progress.last_started.Given as goal
-
--- that of the groups before this index
-abbrev pub invariant-loop-group : goal.invariant-loop-group
-invariant-loop-group l = l.last ≡ last_started (take l.group-index l.groups)

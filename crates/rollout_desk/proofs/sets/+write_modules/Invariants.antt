@@ -1,5 +1,0 @@
-use Rattle.std.proofs.Common.{length}
-use Rattle.rollout_desk.proofs.sets.+write_modules.Given as goal
-
-abbrev pub decreases-write_modules : goal.decreases-write_modules
-decreases-write_modules g l = length l.modules.now

@@ -1,7 +1,0 @@
-use Rattle.sql_calls.proofs.Composing.{finds_as}
-use Rattle.rollout_machine.specs.Verdicts.{target_of}
-use Rattle.rollout_desk.proofs.TagStepLemmas.{lacks_it}
-use Rattle.rollout_desk.proofs.tags.lacks_target.Goals as goal
-
-pub returns-clause-reads : goal.returns-clause-reads
-returns-clause-reads g c = finds_as c.in_ok-found.ensures.reads (λ r is. lacks_it c.is_none.result c.in_ok-found.found (target_of r c.args.id.now) c.is_none.ensures is)

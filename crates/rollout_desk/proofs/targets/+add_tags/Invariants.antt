@@ -1,5 +1,0 @@
-use Rattle.std.proofs.Common.{length}
-use Rattle.rollout_desk.proofs.targets.+add_tags.Given as goal
-
-abbrev pub decreases-add_tags : goal.decreases-add_tags
-decreases-add_tags g l = length l.tags.now

@@ -1,5 +1,0 @@
-use Rattle.std.proofs.Common.{length}
-use Rattle.rollout_desk.proofs.targets.+drop_tags.Given as goal
-
-abbrev pub decreases-drop_tags : goal.decreases-drop_tags
-decreases-drop_tags g l = length l.had.now

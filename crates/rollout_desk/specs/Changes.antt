@@ -1,0 +1,43 @@
+-- One request as one change of the store: how the change ends, and what the desk is after it.
+use Rattle.std.specs.Prelude.{◌≡◌, ◌⊎◌, false}
+use Rattle.sqlite.specs.Effect.{Database}
+use Rattle.sqlite.specs.State.{State, HasCleanDisk}
+use Rattle.sql_calls.specs.Standing.{Wears, Sees, Spoiled, Rests, Doubts}
+use Rattle.rollout_machine.specs.CommandList.{CommandList}
+use Rattle.rollout_machine.specs.Records.{Records}
+use Rattle.rollout_machine.specs.Replies.{Reply, Refused}
+use Rattle.rollout_machine.specs.Requests.{Request, Asks}
+use Rattle.rollout_machine.specs.Standing.{AppliesAt, StandsFor}
+use Rattle.rollout_machine.specs.StoreFailures.{is_failed_store}
+use Rattle.rollout_model.specs.declared.refusal.Refusal.{Refusal}
+use Rattle.rollout_model.specs.declared.refusal.Refusal.TheVariants.{NoMemory, StoreFailed}
+use Rattle.sql_calls.specs.declared.fault.Fault.{Fault}
+use Rattle.sql_calls.specs.declared.fault.Fault.TheVariants.{Memory, Store}
+use Rattle.desk_records.specs.Holds.{HoldsLedger, Ledger}
+use Rattle.rollout_desk.specs.Desks.{desk_state_at}
+
+-- what a fault of the store is answered with
+abbrev pub refusal_of_fault : Fault → Refusal
+refusal_of_fault Memory = NoMemory
+refusal_of_fault Store = StoreFailed
+
+-- ---- the ends of a change
+
+-- the change is committed, and the reply is the one that was made; or the commit failed
+pub record EndsByCommit (old new : State) (made reply : Reply) : Type 0 where
+  pub wears : Wears old new
+  pub ends : ((reply ≡ made) × ((now : Ledger) → Sees HoldsLedger old now → Rests HoldsLedger new now))
+      ⊎ ((reply ≡ Refused StoreFailed) × ((now kept : Ledger) → Sees HoldsLedger old now → Spoiled HoldsLedger old kept → Doubts HoldsLedger new kept now))
+
+-- the change is given up, and the reply is the one that was made; or that failed
+pub record EndsByRollback (old new : State) (made reply : Reply) : Type 0 where
+  pub wears : Wears old new
+  pub ends : ((reply ≡ made) × ((kept : Ledger) → Spoiled HoldsLedger old kept → Rests HoldsLedger new kept))
+      ⊎ ((reply ≡ Refused StoreFailed) × ((kept : Ledger) → Spoiled HoldsLedger old kept → Doubts HoldsLedger new kept kept))
+
+module _ (Holds : Database → Records → Type 0) where
+  -- One request was answered in full, from a connection of one state to one of another. The desk is stopped after the reply of a failed store.
+  pub record Handles (old new : State) (request : Request) (reply : Reply) : Type 0 where
+    pub wears : Wears old new
+    pub handles : (h : CommandList) → HasCleanDisk new → StandsFor (desk_state_at Holds false old) h
+        → AppliesAt h (desk_state_at Holds (is_failed_store reply) new) (Asks request) reply
