@@ -37,8 +37,12 @@ pub const DROP_OFFER: &str = "DELETE FROM offer WHERE controller = ?1";
 
 /// The first of a target's actions that is open and whose place a started group of its rollout holds.
 pub const NEXT_OFFER: &str =
-    "SELECT number, canceling FROM action WHERE controller = ?1 AND outcome = 0 AND EXISTS (SELECT 1 FROM rollout_group WHERE rollout_group.rollout = action.rollout AND rollout_group.first_place <= action.place AND rollout_group.last_place >= action.place AND rollout_group.started = 1) ORDER BY number LIMIT 1";
+    "SELECT number, canceling FROM action WHERE controller = ?1 AND outcome = 0 AND EXISTS (SELECT 1 FROM rollout_group \
+        WHERE rollout_group.rollout = action.rollout AND rollout_group.first_place <= action.place \
+        AND rollout_group.last_place >= action.place AND rollout_group.started = 1) ORDER BY number LIMIT 1";
 
 /// The actions of a rollout between two places, each as its target's offer, unless that is of no greater number.
 pub const PUT_GROUP_OFFERS: &str =
-    "INSERT INTO offer (controller, action, kind) SELECT controller, number, 0 FROM action WHERE rollout = ?1 AND place >= ?2 AND place <= ?3 ORDER BY number ON CONFLICT (controller) DO UPDATE SET action = excluded.action, kind = excluded.kind WHERE excluded.action < offer.action";
+    "INSERT INTO offer (controller, action, kind) SELECT controller, number, 0 FROM action WHERE rollout = ?1 AND place >= ?2 \
+        AND place <= ?3 ORDER BY number ON CONFLICT (controller) DO UPDATE SET action = excluded.action, kind = excluded.kind \
+        WHERE excluded.action < offer.action";

@@ -28,7 +28,8 @@ pub const GET_GROUP: &str =
 
 /// The group of a rollout that has a place.
 pub const HOLDING_GROUP: &str =
-    "SELECT number, first_place, last_place, started, ok, bad, gone FROM rollout_group WHERE rollout = ?1 AND first_place <= ?2 AND last_place >= ?2 ORDER BY number";
+    "SELECT number, first_place, last_place, started, ok, bad, gone FROM rollout_group WHERE rollout = ?1 AND first_place <= ?2 \
+        AND last_place >= ?2 ORDER BY number";
 
 /// The group of a rollout that has a place, and the one behind it: the first two that reach so far.
 pub const GROUP_AND_NEXT: &str =
