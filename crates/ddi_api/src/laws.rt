@@ -1,6 +1,6 @@
 //! The table of routes, the first refusals, the text of refusals, and worked messages, bodies and replies.
 
-ghost use Rattle.std.specs.Prelude.{◌≡◌, ℕ, List, Option, [], ◌∷◌, true, codes, bytes_eq, replicate, Some, None, false};
+ghost use Rattle.std.specs.Prelude.{◌≡◌, ℕ, List, Option, [], ◌∷◌, true, codes, ◌++◌, bytes_eq, replicate, Some, None, false};
 ghost use Rattle.serde_json.specs.Written.{compact_text};
 ghost use Rattle.request_target.specs.Rows.{are_routes};
 ghost use Rattle.http_wire.specs.Messages.{WireMessage};
@@ -66,7 +66,9 @@ pub fn worked_strangers()
 
 /// The whole text of a poll where nothing is offered.
 pub fn worked_poll_reply()
-    ensures { reply_text (PollShown (codes "dev-01") None) ≡ codes "HTTP/1.1 200 OK\r\nContent-Type: application/json\r\nContent-Length: 55\r\n\r\n{\"_links\":{},\"config\":{\"polling\":{\"sleep\":\"00:05:00\"}}}" }
+    ensures { reply_text (PollShown (codes "dev-01") None)
+        ≡ codes "HTTP/1.1 200 OK\r\nContent-Type: application/json\r\nContent-Length: 55\r\n\r\n{\"_links\":{},"
+        ++ codes "\"config\":{\"polling\":{\"sleep\":\"00:05:00\"}}}" }
 {}
 
 /// A refused request is answered by the refusal's own text.
@@ -129,7 +131,9 @@ pub fn worked_poll_text()
 
 /// The text of a poll where a deployment is offered.
 pub fn worked_offer_text()
-    ensures { compact_text (poll_data (codes "dev-04") (Some (record { action = 4; canceling = false }))) ≡ codes "{\"_links\":{\"deploymentBase\":{\"href\":\"/DEFAULT/controller/v1/dev-04/deploymentBase/4\"}},\"config\":{\"polling\":{\"sleep\":\"00:05:00\"}}}" }
+    ensures { compact_text (poll_data (codes "dev-04") (Some (record { action = 4; canceling = false })))
+        ≡ codes "{\"_links\":{\"deploymentBase\":{\"href\":\"/DEFAULT/controller/v1/dev-04/deploymentBase/4\"}},"
+        ++ codes "\"config\":{\"polling\":{\"sleep\":\"00:05:00\"}}}" }
 {}
 
 /// The text of a cancel.
@@ -139,5 +143,18 @@ pub fn worked_cancel_text()
 
 /// The text of a deployment of one module with one artifact, whose digest is the same byte 32 times.
 pub fn worked_deployment_text()
-    ensures { compact_text (deployment_data (record { target = codes "dev-01"; action = 1; chunks = record { module_number = 1; label = new_label (codes "app") (codes "os") (codes "1.0"); artifacts = record { number = 1; filename = codes "abc.bin"; size = 3; digest = replicate 32 171 } ∷ [] } ∷ [] })) ≡ codes "{\"deployment\":{\"chunks\":[{\"artifacts\":[{\"_links\":{\"download-http\":{\"href\":\"/DEFAULT/controller/v1/dev-01/softwaremodules/1/artifacts/abc.bin\"}},\"filename\":\"abc.bin\",\"hashes\":{\"sha256\":\"abababababababababababababababababababababababababababababababab\"},\"size\":3}],\"name\":\"app\",\"part\":\"os\",\"version\":\"1.0\"}],\"download\":\"forced\",\"update\":\"forced\"},\"id\":\"1\"}" }
+    ensures { compact_text (deployment_data (record {
+      target = codes "dev-01";
+      action = 1;
+      chunks = record {
+        module_number = 1;
+        label = new_label (codes "app") (codes "os") (codes "1.0");
+        artifacts = record { number = 1; filename = codes "abc.bin"; size = 3; digest = replicate 32 171 } ∷ [];
+      } ∷ [];
+    }))
+        ≡ codes "{\"deployment\":{\"chunks\":[{\"artifacts\":[{\"_links\":{\"download-http\":{\"href\":"
+        ++ codes "\"/DEFAULT/controller/v1/dev-01/softwaremodules/1/artifacts/abc.bin\"}},\"filename\":\"abc.bin\","
+        ++ codes "\"hashes\":{\"sha256\":\"abababababababababababababababababababababababababababababababab\"},\"size\":3}],"
+        ++ codes "\"name\":\"app\",\"part\":\"os\",\"version\":\"1.0\"}],\"download\":\"forced\",\"update\":\"forced\"},"
+        ++ codes "\"id\":\"1\"}" }
 {}

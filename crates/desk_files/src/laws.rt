@@ -1,6 +1,6 @@
 //! Laws of the definitions in `specs`, and worked files and texts.
 
-ghost use Rattle.std.specs.Prelude.{◌≡◌, [], ◌∷◌, codes, Ok, Err};
+ghost use Rattle.std.specs.Prelude.{◌≡◌, [], ◌∷◌, codes, ◌++◌, Ok, Err};
 ghost use Rattle.rollout_model.specs.declared.action_word.ActionWord.TheVariants as action;
 ghost use Rattle.rollout_model.specs.declared.group_word.GroupWord.TheVariants as group;
 ghost use Rattle.rollout_model.specs.declared.rollout_word.RolloutWord.TheVariants as rollout;
@@ -39,7 +39,8 @@ pub fn worked_import()
 
 /// The same with the first id in place of the third: the fourth record is the faulty one.
 pub fn worked_fault()
-    ensures { targets_of (codes "controllerid,name,token,tags\ndev-01,Lab one,tok-dev-01,lab\ndev-02,Lab two,tok-dev-02,\ndev-01,Yard,tok-dev-03,lab outdoor\n") ≡ Err 4 }
+    ensures { targets_of (codes "controllerid,name,token,tags\ndev-01,Lab one,tok-dev-01,lab\ndev-02,Lab two,tok-dev-02,\ndev-01,"
+        ++ codes "Yard,tok-dev-03,lab outdoor\n") ≡ Err 4 }
 {}
 
 /// A file that ends within a quoted field, without a line feed.
@@ -50,7 +51,9 @@ pub fn worked_cut()
 /// The report of a worked rollout.
 pub fn worked_report()
     ensures { report_lines worked_rollout (worked_group 1 3 2 group.Running ∷ worked_group 2 3 0 group.Running ∷ worked_group 3 4 0 group.Scheduled ∷ [])
-        ≡ codes "rollout 1 spring\nstate running\ngroup  size    ok   bad  gone  open state\n    1     3     2     0     0     1 running\n    2     3     0     0     0     3 running\n    3     4     0     0     0     4 scheduled\ntotal    10     2     0     0     8 running\n" }
+        ≡ codes "rollout 1 spring\nstate running\ngroup  size    ok   bad  gone  open state\n"
+        ++ codes "    1     3     2     0     0     1 running\n    2     3     0     0     0     3 running\n"
+        ++ codes "    3     4     0     0     0     4 scheduled\ntotal    10     2     0     0     8 running\n" }
 {}
 
 /// A worked table of actions.

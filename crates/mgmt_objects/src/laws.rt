@@ -1,6 +1,6 @@
 //! Worked bodies and texts.
 
-ghost use Rattle.std.specs.Prelude.{◌≡◌, Some, None, codes, false, [], ◌∷◌, replicate};
+ghost use Rattle.std.specs.Prelude.{◌≡◌, Some, None, codes, ◌++◌, false, [], ◌∷◌, replicate};
 ghost use Rattle.serde_json.specs.Written.{compact_text};
 ghost use Rattle.rollout_model.specs.declared.action_word.ActionWord.TheVariants as action;
 ghost use Rattle.rollout_model.specs.declared.feedback.CancelWord.TheVariants as cancel;
@@ -55,7 +55,9 @@ pub fn worked_set_text()
 
 /// The text of a worked artifact, whose digest is the same byte 32 times.
 pub fn worked_artifact_text()
-    ensures { compact_text (artifact_data (record { number = 1; filename = codes "abc.bin"; size = 3; digest = replicate 32 171 })) ≡ codes "{\"hashes\":{\"sha256\":\"abababababababababababababababababababababababababababababababab\"},\"id\":1,\"providedFilename\":\"abc.bin\",\"size\":3}" }
+    ensures { compact_text (artifact_data (record { number = 1; filename = codes "abc.bin"; size = 3; digest = replicate 32 171 }))
+        ≡ codes "{\"hashes\":{\"sha256\":\"abababababababababababababababababababababababababababababababab\"},"
+        ++ codes "\"id\":1,\"providedFilename\":\"abc.bin\",\"size\":3}" }
 {}
 
 /// A worked body puts the target that it spells, known by its token's digest alone.
@@ -66,7 +68,15 @@ pub fn worked_targets_body()
 
 /// The text of a worked target.
 pub fn worked_target_text()
-    ensures { compact_text (target_data (record { id = codes "dev-01"; name = codes "press"; tags = codes "hall" ∷ codes "lab" ∷ []; attributes = record { key = codes "os"; value = codes "linux" } ∷ []; word = InSync })) ≡ codes "{\"attributes\":{\"os\":\"linux\"},\"controllerId\":\"dev-01\",\"name\":\"press\",\"tags\":[\"hall\",\"lab\"],\"updateStatus\":\"in_sync\"}" }
+    ensures { compact_text (target_data (record {
+      id = codes "dev-01";
+      name = codes "press";
+      tags = codes "hall" ∷ codes "lab" ∷ [];
+      attributes = record { key = codes "os"; value = codes "linux" } ∷ [];
+      word = InSync;
+    }))
+        ≡ codes "{\"attributes\":{\"os\":\"linux\"},\"controllerId\":\"dev-01\",\"name\":\"press\","
+        ++ codes "\"tags\":[\"hall\",\"lab\"],\"updateStatus\":\"in_sync\"}" }
 {}
 
 /// The text of a worked number of accepted rows.
@@ -87,12 +97,17 @@ pub fn worked_percentages()
 
 /// A worked body plans the rollout that it spells.
 pub fn worked_rollout_body()
-    ensures { rollout_body (codes "{\"amountGroups\":3,\"distributionSetId\":1,\"errorCondition\":{\"condition\":\"THRESHOLD\",\"expression\":\"100\"},\"name\":\"spring\",\"successAction\":{\"action\":\"NEXTGROUP\"},\"successCondition\":{\"condition\":\"THRESHOLD\",\"expression\":\"50\"},\"targetFilterQuery\":\"name==*\"}") ≡ Some (new_plan (codes "spring") 1 (codes "name==*") 3 50 100) }
+    ensures { rollout_body (codes "{\"amountGroups\":3,\"distributionSetId\":1,\"errorCondition\":{\"condition\":\"THRESHOLD\","
+        ++ codes "\"expression\":\"100\"},\"name\":\"spring\",\"successAction\":{\"action\":\"NEXTGROUP\"},"
+        ++ codes "\"successCondition\":{\"condition\":\"THRESHOLD\",\"expression\":\"50\"},\"targetFilterQuery\":\"name==*\"}")
+        ≡ Some (new_plan (codes "spring") 1 (codes "name==*") 3 50 100) }
 {}
 
 /// A body whose action for an error is `null` plans nothing.
 pub fn worked_null_action()
-    ensures { rollout_body (codes "{\"amountGroups\":3,\"distributionSetId\":1,\"errorAction\":null,\"errorCondition\":{\"condition\":\"THRESHOLD\",\"expression\":\"100\"},\"name\":\"spring\",\"successCondition\":{\"condition\":\"THRESHOLD\",\"expression\":\"50\"},\"targetFilterQuery\":\"name==*\"}") ≡ None }
+    ensures { rollout_body (codes "{\"amountGroups\":3,\"distributionSetId\":1,\"errorAction\":null,"
+        ++ codes "\"errorCondition\":{\"condition\":\"THRESHOLD\",\"expression\":\"100\"},\"name\":\"spring\","
+        ++ codes "\"successCondition\":{\"condition\":\"THRESHOLD\",\"expression\":\"50\"},\"targetFilterQuery\":\"name==*\"}") ≡ None }
 {}
 
 /// The text of a rollout is its letters.
@@ -112,7 +127,17 @@ pub fn action_text_letters()
 
 /// The text of a worked rollout.
 pub fn worked_rollout_text()
-    ensures { compact_text (rollout_data (record { number = 1; name = codes "spring"; set_number = 1; filter_text = codes "name==*"; word = rollout.Ready; groups = 3; targets = 10 })) ≡ codes "{\"distributionSetId\":1,\"id\":1,\"name\":\"spring\",\"status\":\"ready\",\"targetFilterQuery\":\"name==*\",\"totalGroups\":3,\"totalTargets\":10}" }
+    ensures { compact_text (rollout_data (record {
+      number = 1;
+      name = codes "spring";
+      set_number = 1;
+      filter_text = codes "name==*";
+      word = rollout.Ready;
+      groups = 3;
+      targets = 10;
+    }))
+        ≡ codes "{\"distributionSetId\":1,\"id\":1,\"name\":\"spring\",\"status\":\"ready\","
+        ++ codes "\"targetFilterQuery\":\"name==*\",\"totalGroups\":3,\"totalTargets\":10}" }
 {}
 
 /// The text of a worked group.
