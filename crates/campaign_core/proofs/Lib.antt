@@ -4,7 +4,7 @@ pub mod Examples
 pub mod ItemLemmas
 pub mod OwnGroups
 pub mod PlacedActions
-pub mod ReportLemmas
+pub mod FeedbackLemmas
 mod RolloutExamples
 pub mod RolloutLemmas
 pub mod SoundLemmas

@@ -11,7 +11,7 @@ use Rattle.campaign_core.specs.RolloutChecks.{cancel_feedback_refusal, cancel_re
 use Rattle.campaign_core.specs.declared.rollout_checks.actions.ActionView.{ActionView}
 use Rattle.campaign_core.specs.declared.rollout_checks.actions.CancelView.{CancelView}
 use Rattle.campaign_core.specs.declared.rollout_checks.plans.PlanView.{PlanView}
-use Rattle.campaign_core.specs.declared.rollout_checks.reports.ReportedAction.{ReportedAction}
+use Rattle.campaign_core.specs.declared.rollout_checks.of_devices.DeviceAction.{DeviceAction}
 
 -- ---- creating in three groups
 
@@ -82,46 +82,46 @@ cancel_of_scheduled = refl
 cancel_of_closed : cancel_refusal (canceled (Some Good) false false) true ≡ Some ClosedAction
 cancel_of_closed = refl
 
--- ---- reports
+-- ---- feedback
 
-abbrev reported : (outcome : Option Outcome) (canceling : Bool) (notes : ℕ) → ReportedAction
-reported o canceling notes = record { notes = notes; action = acted o canceling }
+abbrev own_action : (outcome : Option Outcome) (canceling : Bool) (notes : ℕ) → DeviceAction
+own_action o canceling notes = record { notes = notes; action = acted o canceling }
 
-stranger : device_refusal (record { misses_device = true; reported = None }) ≡ Some Unauthorized
+stranger : device_refusal (record { misses_device = true; own_action = None }) ≡ Some Unauthorized
 stranger = refl
 
-action_of_another : device_refusal (record { misses_device = false; reported = None }) ≡ Some NotFound
+action_of_another : device_refusal (record { misses_device = false; own_action = None }) ≡ Some NotFound
 action_of_another = refl
 
-note_100 : feedback_refusal (Noted Proceeding) (reported None false 99) ≡ None
+note_100 : feedback_refusal (Noted Proceeding) (own_action None false 99) ≡ None
 note_100 = refl
 
-note_101 : feedback_refusal (Noted Proceeding) (reported None false 100) ≡ Some Quota
+note_101 : feedback_refusal (Noted Proceeding) (own_action None false 100) ≡ Some Quota
 note_101 = refl
 
-rejection_101 : feedback_refusal Rejected (reported None false 100) ≡ Some Quota
+rejection_101 : feedback_refusal Rejected (own_action None false 100) ≡ Some Quota
 rejection_101 = refl
 
-failure_after_100 : feedback_refusal Failed (reported None false 100) ≡ None
+failure_after_100 : feedback_refusal Failed (own_action None false 100) ≡ None
 failure_after_100 = refl
 
-failure_again : feedback_refusal Failed (reported (Some Bad) false 100) ≡ None
+failure_again : feedback_refusal Failed (own_action (Some Bad) false 100) ≡ None
 failure_again = refl
 
-failure_after_success : feedback_refusal Failed (reported (Some Good) false 100) ≡ Some ClosedAction
+failure_after_success : feedback_refusal Failed (own_action (Some Good) false 100) ≡ Some ClosedAction
 failure_after_success = refl
 
-note_after_success : feedback_refusal (Noted Proceeding) (reported (Some Good) false 0) ≡ Some ClosedAction
+note_after_success : feedback_refusal (Noted Proceeding) (own_action (Some Good) false 0) ≡ Some ClosedAction
 note_after_success = refl
 
-cancel_not_asked : cancel_feedback_refusal CanceledCancel (reported None false 0) ≡ Some WrongState
+cancel_not_asked : cancel_feedback_refusal CanceledCancel (own_action None false 0) ≡ Some WrongState
 cancel_not_asked = refl
 
-rejection_after_100 : cancel_feedback_refusal RejectedCancel (reported None true 100) ≡ None
+rejection_after_100 : cancel_feedback_refusal RejectedCancel (own_action None true 100) ≡ None
 rejection_after_100 = refl
 
-cancel_note_101 : cancel_feedback_refusal (NotedCancel Resumed) (reported None true 100) ≡ Some Quota
+cancel_note_101 : cancel_feedback_refusal (NotedCancel Resumed) (own_action None true 100) ≡ Some Quota
 cancel_note_101 = refl
 
-canceled_again : cancel_feedback_refusal CanceledCancel (reported (Some Gone) false 0) ≡ None
+canceled_again : cancel_feedback_refusal CanceledCancel (own_action (Some Gone) false 0) ≡ None
 canceled_again = refl

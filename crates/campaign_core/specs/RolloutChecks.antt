@@ -4,7 +4,7 @@ use Rattle.std.specs.Prelude.{Option, Some, None, is_none, is_some, Result, Ok, 
 use Rattle.std.specs.List.{list_any}
 use Rattle.std.specs.Option.{option_map}
 use Rattle.target_filter.specs.Profile.{filter_of}
-use Rattle.rollout_machine.specs.Actions.{HistoryEntry, DeploymentEntry, CancelEntry, outcome_of_cancel, outcome_of_deployment}
+use Rattle.rollout_machine.specs.Actions.{HistoryEntry, OfDeployment, OfCancel, entry_of, outcome_of_cancel, outcome_of_deployment}
 use Rattle.rollout_machine.specs.ByteStrings.{item_numbered, same_bytes}
 use Rattle.rollout_machine.specs.CommandList.{CommandList, ◌▸◌}
 use Rattle.rollout_machine.specs.Commands.{Bytes, CancelWord, Command, Credential, DeploymentWord, RolloutPlan, RejectedCancel, Approve, Cancel}
@@ -17,7 +17,7 @@ use Rattle.rollout_machine.specs.declared.records.RolloutRecord.{RolloutRecord}
 use Rattle.rollout_machine.specs.Rollouts.{chosen}
 use Rattle.rollout_machine.specs.StateWords.{RolloutWord, group_number_of, has_started, is_for, rollout_word}
 use Rattle.rollout_machine.specs.Validity.{IsValid}
-use Rattle.rollout_machine.specs.Verdicts.{check, first_refusal, has_next, is_device_action, is_known, is_note, notes_of, on_action, same_outcome}
+use Rattle.rollout_machine.specs.Verdicts.{check, first_refusal, has_next, is_device_action, is_known, notes_of, on_action, same_outcome, says_note}
 use Rattle.rollout_machine.specs.Verdicts.{target_of, verdict}
 use Rattle.rollout_machine.specs.declared.outcome.Outcome.{Outcome}
 use Rattle.rollout_machine.specs.declared.outcome.Outcome.TheVariants.{Gone}
@@ -35,8 +35,8 @@ use Rattle.campaign_core.specs.declared.rollout_checks.actions.ActionChange.TheV
 use Rattle.campaign_core.specs.declared.rollout_checks.actions.ActionView.{ActionView}
 use Rattle.campaign_core.specs.declared.rollout_checks.actions.CancelView.{CancelView}
 use Rattle.campaign_core.specs.declared.rollout_checks.actions.Ending.{Ending}
-use Rattle.campaign_core.specs.declared.rollout_checks.reports.ReportView.{ReportView}
-use Rattle.campaign_core.specs.declared.rollout_checks.reports.ReportedAction.{ReportedAction}
+use Rattle.campaign_core.specs.declared.rollout_checks.of_devices.FeedbackView.{FeedbackView}
+use Rattle.campaign_core.specs.declared.rollout_checks.of_devices.DeviceAction.{DeviceAction}
 use Rattle.campaign_core.specs.declared.rollout_checks.plans.NewRollout.{NewRollout}
 use Rattle.campaign_core.specs.declared.rollout_checks.plans.PlanView.{PlanView}
 use Rattle.campaign_core.specs.declared.rollout_checks.progress.ResumeView.{ResumeView}
@@ -164,7 +164,7 @@ pub record IsCancelView (v : CancelView) (a : ActionRecord) (rs : Records) : Typ
   pub started : v.started ≡ has_started rs a
   pub action : IsActionView v.action a rs
 
-pub record IsReportedAction (v : ReportedAction) (a : ActionRecord) (rs : Records) : Type 0 where
+pub record IsDeviceAction (v : DeviceAction) (a : ActionRecord) (rs : Records) : Type 0 where
   pub notes : v.notes ≡ notes_of a
   pub action : IsActionView v.action a rs
 
@@ -180,10 +180,10 @@ action_for rs t k = only_if (is_some (target_of rs t) && on_action (is_for rs t)
 abbrev pub device_action : Records → Bytes → ℕ → Option ActionRecord
 device_action rs t k = only_if (is_device_action rs t (item_numbered rs.actions k)) (item_numbered rs.actions k)
 
--- of a report of action k by a device, in these records
-pub record IsReportView (v : ReportView) (device : Credential) (k : ℕ) (rs : Records) : Type 0 where
+-- of feedback on action k by a device, in these records
+pub record IsFeedbackView (v : FeedbackView) (device : Credential) (k : ℕ) (rs : Records) : Type 0 where
   pub misses_device : v.misses_device ≡ not (is_known rs device)
-  pub reported : BothOrNone (λ v a. IsReportedAction v a rs) v.reported (device_action rs device.id k)
+  pub own_action : BothOrNone (λ v a. IsDeviceAction v a rs) v.own_action (device_action rs device.id k)
 
 -- an open action is canceled, but one that is canceling already only by force
 abbrev pub cancel_refusal : Option CancelView → Bool → Option Refusal
@@ -195,25 +195,25 @@ abbrev pub outcome_forced : Bool → Bool → Option Outcome
 outcome_forced canceling force = cond (force && canceling) (Some Gone) None
 
 -- the device has to be known, and the action its own
-abbrev pub device_refusal : ReportView → Option Refusal
-device_refusal v = first_refusal ((v.misses_device, Unauthorized) ∷ (is_none v.reported, NotFound) ∷ [])
+abbrev pub device_refusal : FeedbackView → Option Refusal
+device_refusal v = first_refusal ((v.misses_device, Unauthorized) ∷ (is_none v.own_action, NotFound) ∷ [])
 
 -- another outcome than this one, or none, is given
 abbrev pub gives_other : Option Outcome → ActionView → Bool
 gives_other gives v = is_some v.outcome && not (same_outcome gives v.outcome)
 
 -- a note for which an open action has no room
-abbrev pub is_beyond : Bool → ReportedAction → Bool
+abbrev pub is_beyond : Bool → DeviceAction → Bool
 is_beyond note v = is_none v.action.outcome && (note && nat_le note_limit v.notes)
 
-abbrev pub feedback_refusal : DeploymentWord → ReportedAction → Option Refusal
+abbrev pub feedback_refusal : DeploymentWord → DeviceAction → Option Refusal
 feedback_refusal word v = first_refusal ((gives_other (outcome_of_deployment word) v.action, ClosedAction)
-    ∷ (is_beyond (is_note (DeploymentEntry word [])) v, Quota) ∷ [])
+    ∷ (is_beyond (says_note (OfDeployment word)) v, Quota) ∷ [])
 
-abbrev pub cancel_feedback_refusal : CancelWord → ReportedAction → Option Refusal
+abbrev pub cancel_feedback_refusal : CancelWord → DeviceAction → Option Refusal
 cancel_feedback_refusal word v =
     first_refusal ((gives_other (outcome_of_cancel word) v.action, ClosedAction) ∷ (is_none v.action.outcome && not v.action.canceling, WrongState)
-    ∷ (is_beyond (is_note (CancelEntry word [])) v, Quota) ∷ [])
+    ∷ (is_beyond (says_note (OfCancel word)) v, Quota) ∷ [])
 
 -- the action ends so, in its own group
 abbrev pub ended_by : ActionView → Outcome → Ending
@@ -233,9 +233,9 @@ abbrev pub canceling_after : CancelWord → Bool → Bool
 canceling_after RejectedCancel canceling = false
 canceling_after _ canceling = canceling
 
--- an accepted report makes of its action what its outcome says, and what it says of the canceling
-abbrev pub MakesReport : ReportView → Option Outcome → (Bool → Bool) → Option ActionChange → Type 0
-MakesReport v gives canceling c = (a : ReportedAction) × (v.reported ≡ Some a) × (c ≡ change_if_open a.action gives (canceling a.action.canceling))
+-- accepted feedback makes of its action what its outcome says, and what it says of the canceling
+abbrev pub MakesFeedback : FeedbackView → Option Outcome → (Bool → Bool) → Option ActionChange → Type 0
+MakesFeedback v gives canceling c = (a : DeviceAction) × (v.own_action ≡ Some a) × (c ≡ change_if_open a.action gives (canceling a.action.canceling))
 
 -- so does an accepted cancel
 abbrev pub MakesCancel : Option CancelView → Bool → ActionChange → Type 0
@@ -254,7 +254,7 @@ abbrev pub rollouts_with : ActionChange → List RolloutRecord → List RolloutR
 rollouts_with (StaysOpen canceling) xs = xs
 rollouts_with (Ends e) xs = change_numbered e.rollout (rollout_with e) xs
 
--- action k is changed, and what was reported of it is put at the end of its history
+-- action k is changed, and what was said of it is put at the end of its history
 abbrev pub ChangesAction : ActionChange → List HistoryEntry → ℕ → Records → Records → Type 0
 ChangesAction c entries k old new =
     new ≡ record old {
@@ -279,8 +279,8 @@ IsViewOf (seen.Pause v) (Pause r) rs = IsStandingView v r rs
 IsViewOf (seen.Resume v) (Resume r) rs = BothOrNone IsResumeView v (item_numbered rs.rollouts r)
 IsViewOf (seen.TriggerNext v) (TriggerNext r) rs = BothOrNone IsTriggerView v (item_numbered rs.rollouts r)
 IsViewOf (seen.Cancel v) (Cancel t k force) rs = BothOrNone (λ v a. IsCancelView v a rs) v (action_for rs t k)
-IsViewOf (seen.Feedback v) (Feedback report) rs = IsReportView v report.credential report.action rs
-IsViewOf (seen.CancelFeedback v) (CancelFeedback report) rs = IsReportView v report.credential report.action rs
+IsViewOf (seen.Feedback v) (Feedback feedback) rs = IsFeedbackView v feedback.credential feedback.action rs
+IsViewOf (seen.CancelFeedback v) (CancelFeedback feedback) rs = IsFeedbackView v feedback.credential feedback.action rs
 IsViewOf _ _ rs = ⊥
 
 -- the change of the command takes the old records to the new ones
@@ -293,8 +293,8 @@ LeadsTo change.Pause (Pause r) old new = ChangesRollout r paused old new
 LeadsTo (change.Resume effects) (Resume r) old new = ChangesRollout r (resumed_by effects) old new
 LeadsTo (change.TriggerNext effects) (TriggerNext r) old new = ChangesRollout r (moved_by effects) old new
 LeadsTo (change.Cancel c) (Cancel t k force) old new = ChangesAction c [] k old new
-LeadsTo (change.Feedback c) (Feedback report) old new = MayChangeAction c (DeploymentEntry report.word report.details ∷ []) report.action old new
-LeadsTo (change.CancelFeedback c) (CancelFeedback report) old new = MayChangeAction c (CancelEntry report.word report.details ∷ []) report.action old new
+LeadsTo (change.Feedback c) (Feedback feedback) old new = MayChangeAction c (entry_of OfDeployment feedback ∷ []) feedback.action old new
+LeadsTo (change.CancelFeedback c) (CancelFeedback feedback) old new = MayChangeAction c (entry_of OfCancel feedback ∷ []) feedback.action old new
 LeadsTo _ _ old new = ⊥
 
 -- the machine's verdict over these records, and its step

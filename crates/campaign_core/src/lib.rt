@@ -18,7 +18,7 @@ pub use effects::{after_resume, after_trigger};
 pub use groups::{cut_groups, group_bounds};
 pub use own_group::{Following, OwnView, after_feedback, own_group_decides};
 pub use rollout_checks::{
-    ActionChange, ActionView, CancelView, Ending, NewRollout, PlanView, ReportView, ReportedAction,
+    ActionChange, ActionView, CancelView, DeviceAction, Ending, FeedbackView, NewRollout, PlanView,
     ResumeView, RolloutChange, RolloutCommandView, StandingView, TriggerView, approve, cancel,
     cancel_feedback, create, deny, feedback, new_rollout, pause, resume, start, trigger,
 };

@@ -4,19 +4,19 @@ ghost use Rattle.rollout_machine.specs.Views.{command_of};
 ghost use Rattle.campaign_core.specs.RolloutChecks.{Decides, Follows};
 
 mod actions;
-mod cancel_reports;
-mod deployment_reports;
+mod of_cancels;
+mod of_deployments;
+mod of_devices;
 mod plans;
 mod progress;
-mod reports;
 mod standing;
 
 pub use actions::{ActionChange, ActionView, CancelView, Ending, cancel};
-pub use cancel_reports::cancel_feedback;
-pub use deployment_reports::feedback;
+pub use of_cancels::cancel_feedback;
+pub use of_deployments::feedback;
+pub use of_devices::{DeviceAction, FeedbackView};
 pub use plans::{NewRollout, PlanView, create, new_rollout};
 pub use progress::{ResumeView, TriggerView, resume, trigger};
-pub use reports::{ReportView, ReportedAction};
 use rollout_machine::Effects;
 use rollout_model::{Command, Refusal};
 pub use standing::{StandingView, approve, deny, pause, start};
@@ -35,8 +35,8 @@ pub enum RolloutCommandView {
     TriggerNext(Option<TriggerView>),
     /// Nothing where the target is not there, or the action is not the target's.
     Cancel(Option<CancelView>),
-    Feedback(ReportView),
-    CancelFeedback(ReportView),
+    Feedback(FeedbackView),
+    CancelFeedback(FeedbackView),
 }
 
 /// What is written of an accepted command, beside what the command itself says.
@@ -71,10 +71,8 @@ fn decide(view: &RolloutCommandView, command: &Command) -> Result<RolloutChange,
         (Seen::Resume(view), Asked::Resume(_)) => resume(view),
         (Seen::TriggerNext(view), Asked::TriggerNext(_)) => trigger(view),
         (Seen::Cancel(view), Asked::Cancel(asked)) => cancel(view, asked),
-        (Seen::Feedback(view), Asked::Feedback(report)) => feedback(view, report),
-        (Seen::CancelFeedback(view), Asked::CancelFeedback(report)) => {
-            cancel_feedback(view, report)
-        }
+        (Seen::Feedback(view), Asked::Feedback(given)) => feedback(view, given),
+        (Seen::CancelFeedback(view), Asked::CancelFeedback(given)) => cancel_feedback(view, given),
         (_, _) => Err(Refusal::WrongState),
     }
 }

@@ -1,9 +1,9 @@
--- What a device reports in a body.
+-- Feedback in a body.
 use Rattle.std.specs.Prelude.{ℕ, List, [], ◌∷◌, codes, bytes_eq, ◌&&◌, Option, Some, None, option_and_then, option_map, if◌then◌else◌}
 use Rattle.serde_json.specs.Data.{Data}
 use Rattle.serde_json.specs.Find.{get, as_str}
 use Rattle.rollout_model.specs.Rules.{detail_of, details_of}
-use Rattle.rollout_model.specs.declared.feedback.Report.{Report}
+use Rattle.rollout_model.specs.declared.feedback.DeviceFeedback.{DeviceFeedback}
 use Rattle.rollout_machine.specs.Commands.{Credential, Proceeding, Scheduled, Resumed, DeploymentWord, Succeeded, Failed, Rejected, Noted, CancelWord}
 use Rattle.rollout_machine.specs.Commands.{ClosedCancel, CanceledCancel, RejectedCancel, NotedCancel}
 use Rattle.mgmt_objects.specs.Bodies.{body_data}
@@ -65,13 +65,13 @@ lines_if (Some d) = array_of detail_in d
 abbrev pub details_member : Data → Option (List (List ℕ))
 details_member status = option_and_then details_of (lines_if (get (codes "details") status))
 
-abbrev pub new_report : {W : Type 0} → Credential → ℕ → W → List (List ℕ) → Report W
-new_report device action word details = record { credential = device; action = action; word = word; details = details }
+abbrev pub new_feedback : {W : Type 0} → Credential → ℕ → W → List (List ℕ) → DeviceFeedback W
+new_feedback device action word details = record { credential = device; action = action; word = word; details = details }
 
--- what an object's `status` reports of an action
-abbrev pub report_of : {W : Type 0} → (List ℕ → List ℕ → Option W) → Credential → ℕ → Data → Option (Report W)
-report_of words device action status = option_and_then (λ word. option_map (λ details. new_report device action word details)
+-- what an object's `status` says of an action
+abbrev pub feedback_of : {W : Type 0} → (List ℕ → List ℕ → Option W) → Credential → ℕ → Data → Option (DeviceFeedback W)
+feedback_of words device action status = option_and_then (λ word. option_map (λ details. new_feedback device action word details)
     (details_member status)) (word_member words status)
 
-abbrev pub report_body : {W : Type 0} → (List ℕ → List ℕ → Option W) → Credential → ℕ → List ℕ → Option (Report W)
-report_body words device action bytes = option_and_then (report_of words device action) (option_and_then (get (codes "status")) (body_data bytes))
+abbrev pub feedback_body : {W : Type 0} → (List ℕ → List ℕ → Option W) → Credential → ℕ → List ℕ → Option (DeviceFeedback W)
+feedback_body words device action bytes = option_and_then (feedback_of words device action) (option_and_then (get (codes "status")) (body_data bytes))

@@ -15,7 +15,7 @@ use Rattle.mgmt_api.specs.Reading.{added_by, of_item, or_rejected, without_query
 use Rattle.ddi_api.specs.Routes.{method_of}
 use Rattle.ddi_api.specs.Table.{device_call}
 use Rattle.ddi_api.specs.Credentials.{credential_of}
-use Rattle.ddi_api.specs.FeedbackBodies.{cancel_word, deployment_word, report_body}
+use Rattle.ddi_api.specs.FeedbackBodies.{cancel_word, deployment_word, feedback_body}
 use Rattle.ddi_api.specs.ConfigBodies.{config_body}
 use Rattle.ddi_api.specs.declared.call.DeviceCall.{DeviceCall}
 use Rattle.ddi_api.specs.declared.call.DeviceCall.TheVariants as call
@@ -37,9 +37,9 @@ downloaded_by device m = of_item 6 (λ number. or_rejected NotFound (λ filename
 abbrev pub asked_by : DeviceCall → Credential → WireMessage → Asked
 asked_by call.Poll device m = shown_by (Poll device) m
 asked_by call.ShowDeployment device m = of_item 6 (λ action. shown_by (ShowDeployment device action) m) m
-asked_by call.Feedback device m = of_item 6 (λ action. added_by (report_body deployment_word device action m.body) Feedback m) m
+asked_by call.Feedback device m = of_item 6 (λ action. added_by (feedback_body deployment_word device action m.body) Feedback m) m
 asked_by call.ShowCancel device m = of_item 6 (λ action. shown_by (ShowCancel device action) m) m
-asked_by call.CancelFeedback device m = of_item 6 (λ action. added_by (report_body cancel_word device action m.body) CancelFeedback m) m
+asked_by call.CancelFeedback device m = of_item 6 (λ action. added_by (feedback_body cancel_word device action m.body) CancelFeedback m) m
 asked_by call.PutAttributes device m = added_by (config_body m.body) (PutAttributes device) m
 asked_by call.Download device m = downloaded_by device m
 

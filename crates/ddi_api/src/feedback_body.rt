@@ -1,16 +1,17 @@
-//! What a device reports in a body.
+//! Feedback in a body.
 
 ghost use Rattle.std.specs.Prelude.{◌≡◌, ℕ, List, Option, codes, map, option_map};
 ghost use Rattle.serde_json.specs.Find.{get};
 ghost use Rattle.serde_json.specs.View.{view};
 ghost use Rattle.mgmt_objects.specs.Readings.{ReadsAs, ReadsBy};
 ghost use Rattle.mgmt_objects.specs.Traverse.{array_of, traverse};
-ghost use Rattle.ddi_api.specs.FeedbackBodies.{cancel_word, deployment_word, detail_in, details_member, finished_in, lines_if, report_body};
-ghost use Rattle.ddi_api.specs.FeedbackBodies.{report_of, string_member, word_member};
+ghost use Rattle.ddi_api.specs.FeedbackBodies.{cancel_word, deployment_word, detail_in, details_member, finished_in, lines_if, feedback_body};
+ghost use Rattle.ddi_api.specs.FeedbackBodies.{feedback_of, string_member, word_member};
 
 use mgmt_objects::read_value;
 use rollout_model::{
-    ActionNo, CancelWord, Credential, DeploymentWord, Detail, Details, NoteWord, Refusal, Report,
+    ActionNo, CancelWord, Credential, DeploymentWord, Detail, Details, DeviceFeedback, NoteWord,
+    Refusal,
 };
 use serde_json::Value;
 use std::alloc::Global;
@@ -52,7 +53,7 @@ fn read_list(alloc: Global, value: &Value) -> Result<Vec<Detail>, Refusal>
     }
 }
 
-/// What a device reports of a deployment by a pair.
+/// What a device says of a deployment by a pair.
 fn deployment_word(execution: &str, finished: &str) -> Option<DeploymentWord>
     ensures { result ≡ deployment_word execution.now finished.now }
 {
@@ -73,7 +74,7 @@ fn deployment_word(execution: &str, finished: &str) -> Option<DeploymentWord>
     }
 }
 
-/// What a device reports of a cancel by a pair.
+/// What a device says of a cancel by a pair.
 fn cancel_word(execution: &str, finished: &str) -> Option<CancelWord>
     ensures { result ≡ cancel_word execution.now finished.now }
 {
@@ -165,14 +166,14 @@ fn read_status<W: FeedbackWord>(
     credential: Credential,
     action: ActionNo,
     status: &Value,
-) -> Result<Report<W>, Refusal>
-    ensures { ReadsAs (report_of W.words credential action (view status.now)) result }
+) -> Result<DeviceFeedback<W>, Refusal>
+    ensures { ReadsAs (feedback_of W.words credential action (view status.now)) result }
 {
     let Some(word) = word_in::<W>(status) else {
         return Err(Refusal::BadRequest);
     };
     let details = read_details(alloc, status)?;
-    Ok(Report {
+    Ok(DeviceFeedback {
         credential,
         action,
         word,
@@ -180,14 +181,14 @@ fn read_status<W: FeedbackWord>(
     })
 }
 
-/// What a feedback's body reports: an object with `status`, and in there `execution`, `result` with `finished`, and perhaps `details`.
-pub(crate) fn read_report<W: FeedbackWord>(
+/// What the body of feedback says: an object with `status`, and in there `execution`, `result` with `finished`, and perhaps `details`.
+pub(crate) fn read_feedback<W: FeedbackWord>(
     alloc: Global,
     credential: Credential,
     action: ActionNo,
     bytes: &[u8],
-) -> Result<Report<W>, Refusal>
-    ensures { ReadsAs (report_body W.words credential action bytes.now) result }
+) -> Result<DeviceFeedback<W>, Refusal>
+    ensures { ReadsAs (feedback_body W.words credential action bytes.now) result }
 {
     let value = read_value(alloc, bytes)?;
     let Some(status) = value.get("status") else {

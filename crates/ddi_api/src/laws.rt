@@ -17,7 +17,7 @@ ghost use Rattle.mgmt_objects.specs.ModuleBodies.{new_label};
 ghost use Rattle.ddi_api.specs.declared.call.DeviceCall.{DeviceCall};
 ghost use Rattle.ddi_api.specs.ConfigBodies.{config_body, new_attribute};
 ghost use Rattle.ddi_api.specs.Credentials.{credential_of, digest_of_value};
-ghost use Rattle.ddi_api.specs.FeedbackBodies.{cancel_word, deployment_word, new_report, report_body};
+ghost use Rattle.ddi_api.specs.FeedbackBodies.{cancel_word, deployment_word, new_feedback, feedback_body};
 ghost use Rattle.ddi_api.specs.Letters.{cancel_letters, deployment_letters, poll_letters};
 ghost use Rattle.ddi_api.specs.Objects.{cancel_data, deployment_data, poll_data};
 ghost use Rattle.ddi_api.specs.Reading.{device_reading};
@@ -89,18 +89,18 @@ pub fn no_authorization()
     ensures short { digest_of_value (codes "TargetToken tok-dev") ≡ None }
 {}
 
-/// A worked body reports that a deployment succeeded, with one line.
+/// A worked body says that a deployment succeeded, with one line.
 pub fn worked_feedback()
-    ensures { report_body deployment_word (record { id = codes "dev-01"; digest = [] }) 4
+    ensures { feedback_body deployment_word (record { id = codes "dev-01"; digest = [] }) 4
         (codes "{\"status\":{\"execution\":\"closed\",\"result\":{\"finished\":\"success\"},\"details\":[\"done\"]}}")
-        ≡ Some (new_report (record { id = codes "dev-01"; digest = [] }) 4 Succeeded (codes "done" ∷ [])) }
+        ≡ Some (new_feedback (record { id = codes "dev-01"; digest = [] }) 4 Succeeded (codes "done" ∷ [])) }
 {}
 
-/// A worked body reports that a device goes on in spite of a cancel.
+/// A worked body says that a device goes on in spite of a cancel.
 pub fn worked_cancel_feedback()
-    ensures { report_body cancel_word (record { id = codes "dev-01"; digest = [] }) 4
+    ensures { feedback_body cancel_word (record { id = codes "dev-01"; digest = [] }) 4
         (codes "{\"status\":{\"execution\":\"rejected\",\"result\":{\"finished\":\"none\"}}}")
-        ≡ Some (new_report (record { id = codes "dev-01"; digest = [] }) 4 RejectedCancel []) }
+        ≡ Some (new_feedback (record { id = codes "dev-01"; digest = [] }) 4 RejectedCancel []) }
 {}
 
 /// Of equal keys the last one counts, and keys stand in byte order.

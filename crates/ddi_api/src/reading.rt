@@ -12,7 +12,7 @@ ghost use Rattle.ddi_api.specs.Reading.{ReadsRequest, asked_by, asked_by_one, as
 use crate::call::{DeviceCall, method_of};
 use crate::config_body::read_config_body;
 use crate::credential::read_credential;
-use crate::feedback_body::read_report;
+use crate::feedback_body::read_feedback;
 use crate::routes::DeviceRoutes;
 use crate::spelled::read_filename;
 use http_wire::Message;
@@ -121,8 +121,8 @@ fn read_feedback(
         return Err(Refusal::NotFound);
     };
     take_no_query(alloc, message)?;
-    let report = read_report::<DeploymentWord>(alloc, device, action, message.body)?;
-    Ok(Request::Do(Command::Feedback(report)))
+    let feedback = read_feedback::<DeploymentWord>(alloc, device, action, message.body)?;
+    Ok(Request::Do(Command::Feedback(feedback)))
 }
 
 fn read_cancel_feedback(
@@ -136,8 +136,8 @@ fn read_cancel_feedback(
         return Err(Refusal::NotFound);
     };
     take_no_query(alloc, message)?;
-    let report = read_report::<CancelWord>(alloc, device, action, message.body)?;
-    Ok(Request::Do(Command::CancelFeedback(report)))
+    let feedback = read_feedback::<CancelWord>(alloc, device, action, message.body)?;
+    Ok(Request::Do(Command::CancelFeedback(feedback)))
 }
 
 fn read_put_attributes(

@@ -2,37 +2,38 @@
 use Rattle.std.proofs.Common.{◌≡◌, ℕ, Bool, true, false, cond, ◌&&◌, ◌||◌, not, List, [], ◌∷◌, Option, Some, None, option_map, Ok, refl, sym, ap, ◌∙◌, subst}
 use Rattle.std.specs.Prelude.{is_some}
 use Rattle.std.specs.Option.{is_none}
-use Rattle.rollout_machine.specs.Actions.{CancelEntry, DeploymentEntry, HistoryEntry, outcome_of_cancel, outcome_of_deployment}
+use Rattle.rollout_machine.specs.Actions.{HistoryEntry}
 use Rattle.rollout_machine.specs.ByteStrings.{same_bytes}
 use Rattle.rollout_machine.specs.CommandList.{CommandList}
 use Rattle.rollout_machine.specs.CommandRules.{IsWellFormed}
-use Rattle.rollout_machine.specs.Commands.{Bytes, Cancel, CancelFeedback, CancelWord, Command, DeploymentWord, Feedback, Report}
+use Rattle.rollout_machine.specs.Commands.{Bytes, Cancel, Command, Credential}
 use Rattle.rollout_machine.specs.RecordSteps.{step_records}
-use Rattle.rollout_machine.specs.Records.{records}
+use Rattle.rollout_machine.specs.Records.{Records, records}
 use Rattle.rollout_machine.specs.Validity.{IsValid}
 use Rattle.rollout_machine.specs.Verdicts.{check, first_refusal, target_of}
 use Rattle.rollout_machine.specs.declared.outcome.Outcome.{Outcome}
 use Rattle.rollout_machine.proofs.TargetTies.{same_true}
 use Rattle.rollout_model.specs.declared.refusal.Refusal.{Refusal}
 use Rattle.rollout_model.specs.declared.refusal.Refusal.TheVariants.{ClosedAction, WrongState}
-use Rattle.campaign_core.specs.RolloutChecks.{ChangesAction, Decides, LeadsTo, MakesCancel, MakesReport, MayChangeAction, cancel_refusal, canceling_after, change_by, change_if_open, outcome_forced}
+use Rattle.campaign_core.specs.RolloutChecks.{ChangesAction, Decides, IsFeedbackView, IsViewOf, LeadsTo, MakesCancel, MakesFeedback, MayChangeAction, cancel_refusal, change_by, change_if_open, outcome_forced}
 use Rattle.campaign_core.specs.declared.rollout_checks.RolloutChange.{RolloutChange}
 use Rattle.campaign_core.specs.declared.rollout_checks.RolloutChange.TheVariants as change
+use Rattle.campaign_core.specs.declared.rollout_checks.RolloutCommandView.{RolloutCommandView}
 use Rattle.campaign_core.specs.declared.rollout_checks.RolloutCommandView.TheVariants as view
 use Rattle.campaign_core.specs.declared.rollout_checks.actions.ActionChange.{ActionChange}
 use Rattle.campaign_core.specs.declared.rollout_checks.actions.CancelView.{CancelView}
-use Rattle.campaign_core.specs.declared.rollout_checks.reports.ReportedAction.{ReportedAction}
+use Rattle.campaign_core.specs.declared.rollout_checks.of_devices.DeviceAction.{DeviceAction}
 use Rattle.campaign_core.proofs.SoundLemmas.{records_are_sound}
 use Rattle.desk_records.specs.Holds.{ledger_of}
 use Rattle.offer_laws.specs.GroupOffers.{actor}
 use Rattle.desk_commands.specs.ActionSteps.{Acts, ActsBy, MayAct, action_change_of}
 use Rattle.desk_commands.specs.Entries.{TellsEntries}
-use Rattle.desk_commands.specs.SeenActions.{IsSeen, MaySee, SeesReport, SeesTarget, action_view_seen, cancel_view_seen, only_of, only_started, report_view_seen, reported_seen, seen_if}
+use Rattle.desk_commands.specs.SeenActions.{IsSeen, MaySee, SeesFeedback, SeesTarget, action_view_seen, cancel_view_seen, only_of, only_started, feedback_view_seen, device_action_seen, seen_if}
 use Rattle.desk_records.specs.declared.new_entry.NewEntry.{NewEntry}
 use Rattle.desk_commands.specs.declared.seen_actions.SeenAction.{SeenAction}
-use Rattle.desk_commands.specs.declared.seen_actions.SeenReport.{SeenReport}
+use Rattle.desk_commands.specs.declared.seen_actions.SeenFeedback.{SeenFeedback}
 use Rattle.desk_commands.proofs.ActingEnds.{acts}
-use Rattle.desk_commands.proofs.KnownActions.{IsKnown, cancel_viewed, known, report_viewed, seen_at}
+use Rattle.desk_commands.proofs.KnownActions.{IsKnown, cancel_viewed, known, feedback_viewed, seen_at}
 
 -- ---- which action was seen
 
@@ -74,16 +75,16 @@ module _ (h : CommandList) (c : Command) (valid : IsValid h) (formed : IsWellFor
               → Acts u (change_by (action_view_seen u) gives canceling) told (ledger_of (records h)) (ledger_of (step_records (records h) c)))
               (sym is) (λ by unended begun leads. acts h c valid formed accepted k w.placed told entries tells by unended begun gives canceling leads)
 
-  -- by a report
-  may_act : (id : Bytes) (found seen : Option SeenAction) → MaySee k (ledger_of (records h)) found → seen ≡ only_started (only_of id found) → actor c ≡ Some id → (gives : Option Outcome) (canceling : Bool → Bool) (a : ReportedAction) (after : Option ActionChange)
-      → option_map reported_seen seen ≡ Some a → after ≡ change_if_open a.action gives (canceling a.action.canceling) → MayChangeAction after entries k (records h) (step_records (records h) c)
+  -- by feedback
+  may_act : (id : Bytes) (found seen : Option SeenAction) → MaySee k (ledger_of (records h)) found → seen ≡ only_started (only_of id found) → actor c ≡ Some id → (gives : Option Outcome) (canceling : Bool → Bool) (a : DeviceAction) (after : Option ActionChange)
+      → option_map device_action_seen seen ≡ Some a → after ≡ change_if_open a.action gives (canceling a.action.canceling) → MayChangeAction after entries k (records h) (step_records (records h) c)
       → MayAct seen after told (ledger_of (records h)) (ledger_of (step_records (records h) c))
   may_act id found None sees is by gives canceling a after viewed made leads = cc
   may_act id found (Some s) sees is by gives canceling a after viewed made leads =
       let on = started_too (only_of id found) s (sym is) in
       let its = of_target id found s on.0 in
-      let view : reported_seen s ≡ a = cc in
-      go (is_none s.action.outcome) refl its on.1 (made ∙ ap (λ (v : ReportedAction). change_if_open v.action gives (canceling v.action.canceling)) (sym view))
+      let view : device_action_seen s ≡ a = cc in
+      go (is_none s.action.outcome) refl its on.1 (made ∙ ap (λ (v : DeviceAction). change_if_open v.action gives (canceling v.action.canceling)) (sym view))
     where
       go : (unended : Bool) → is_none s.action.outcome ≡ unended → IsOf id found s → s.own.started ≡ true → after ≡ cond (is_none s.action.outcome) (Some (change_by (action_view_seen s) gives (canceling s.action.canceling))) None
           → MayAct (Some s) after told (ledger_of (records h)) (ledger_of (step_records (records h) c))
@@ -97,38 +98,22 @@ module _ (h : CommandList) (c : Command) (valid : IsValid h) (formed : IsWellFor
           let leads2 : step_records (records h) c ≡ records h = subst (λ o. MayChangeAction o entries k (records h) (step_records (records h) c)) is leads in
           subst (λ o. MayAct (Some s) o told (ledger_of (records h)) (ledger_of (step_records (records h) c))) (sym is) (ap ledger_of leads2)
 
--- ---- reports
+-- ---- feedback, on a deployment or on its cancel
 
-module _ (seen : SeenReport) (accepted : RolloutChange) (told : NewEntry) where
-  module _ (report : Report DeploymentWord) (formed : IsWellFormed (Feedback report)) (decides : Decides (view.Feedback (report_view_seen seen)) (Feedback report) (Ok accepted))
-      (makes : (o : Option ActionChange) × (accepted ≡ change.Feedback o) × MakesReport (report_view_seen seen) (outcome_of_deployment report.word) (λ canceling. canceling) o) (tells : TellsEntries (DeploymentEntry report.word report.details ∷ []) (Some told)) where
-    pub feedback_accepted : (h : CommandList) → IsValid h → SeesReport report.credential report.action (records h) seen → check (records h) (Feedback report) ≡ None
-    feedback_accepted h valid w = (decides (records h) (records_are_sound h valid) (report_viewed h valid report.action report.credential seen w)).0
-
-    pub feedback_acts : (h : CommandList) → IsValid h → SeesReport report.credential report.action (records h) seen → ActsBy seen.action accepted (Some told) (ledger_of (records h)) (ledger_of (step_records (records h) (Feedback report)))
-    feedback_acts h valid w =
-        let it = decides (records h) (records_are_sound h valid) (report_viewed h valid report.action report.credential seen w) in
-        let leads : MayChangeAction makes.0 (DeploymentEntry report.word report.details ∷ []) report.action (records h) (step_records (records h) (Feedback report)) = subst (λ o. LeadsTo o (Feedback report) (records h) (step_records (records h) (Feedback report))) makes.1 it.1 in
+module _ (seen : SeenFeedback) (accepted : RolloutChange) (told : NewEntry) (device : Credential) (k : ℕ) (c : Command) (entries : List HistoryEntry) (v : RolloutCommandView) (its : Option ActionChange → RolloutChange) (gives : Option Outcome) (canceling : Bool → Bool)
+    (is_its : (o : Option ActionChange) → action_change_of (its o) ≡ Some o) (views : (rs : Records) → IsFeedbackView (feedback_view_seen seen) device k rs → IsViewOf v c rs) (leads : (o : Option ActionChange) (old new : Records) → LeadsTo (its o) c old new → MayChangeAction o entries k old new) (by : actor c ≡ Some device.id)
+    (formed : IsWellFormed c) (decides : Decides v c (Ok accepted)) (makes : (o : Option ActionChange) × (accepted ≡ its o) × MakesFeedback (feedback_view_seen seen) gives canceling o) (tells : TellsEntries entries (Some told)) where
+  pub feedback_taken : (h : CommandList) → IsValid h → SeesFeedback device k (records h) seen → (check (records h) c ≡ None) × ActsBy seen.action accepted (Some told) (ledger_of (records h)) (ledger_of (step_records (records h) c))
+  feedback_taken h valid w =
+      let it = decides (records h) (records_are_sound h valid) (views (records h) (feedback_viewed h valid k device seen w)) in
+      let changed : MayChangeAction makes.0 entries k (records h) (step_records (records h) c) = leads makes.0 (records h) (step_records (records h) c) (subst (λ o. LeadsTo o c (records h) (step_records (records h) c)) makes.1 it.1) in (
+        it.0,
         record {
           after = makes.0;
-          is_its = ap action_change_of makes.1;
-          acts = may_act h (Feedback report) valid formed it.0 report.action (Some told) (DeploymentEntry report.word report.details ∷ []) tells report.credential.id w.found seen.action w.sees w.action refl (outcome_of_deployment report.word) (λ canceling. canceling) makes.2.0 makes.0 makes.2.1 makes.2.2 leads;
-        }
-
-  module _ (report : Report CancelWord) (formed : IsWellFormed (CancelFeedback report)) (decides : Decides (view.CancelFeedback (report_view_seen seen)) (CancelFeedback report) (Ok accepted))
-      (makes : (o : Option ActionChange) × (accepted ≡ change.CancelFeedback o) × MakesReport (report_view_seen seen) (outcome_of_cancel report.word) (canceling_after report.word) o) (tells : TellsEntries (CancelEntry report.word report.details ∷ []) (Some told)) where
-    pub cancel_feedback_accepted : (h : CommandList) → IsValid h → SeesReport report.credential report.action (records h) seen → check (records h) (CancelFeedback report) ≡ None
-    cancel_feedback_accepted h valid w = (decides (records h) (records_are_sound h valid) (report_viewed h valid report.action report.credential seen w)).0
-
-    pub cancel_feedback_acts : (h : CommandList) → IsValid h → SeesReport report.credential report.action (records h) seen → ActsBy seen.action accepted (Some told) (ledger_of (records h)) (ledger_of (step_records (records h) (CancelFeedback report)))
-    cancel_feedback_acts h valid w =
-        let it = decides (records h) (records_are_sound h valid) (report_viewed h valid report.action report.credential seen w) in
-        let leads : MayChangeAction makes.0 (CancelEntry report.word report.details ∷ []) report.action (records h) (step_records (records h) (CancelFeedback report)) = subst (λ o. LeadsTo o (CancelFeedback report) (records h) (step_records (records h) (CancelFeedback report))) makes.1 it.1 in
-        record {
-          after = makes.0;
-          is_its = ap action_change_of makes.1;
-          acts = may_act h (CancelFeedback report) valid formed it.0 report.action (Some told) (CancelEntry report.word report.details ∷ []) tells report.credential.id w.found seen.action w.sees w.action refl (outcome_of_cancel report.word) (canceling_after report.word) makes.2.0 makes.0 makes.2.1 makes.2.2 leads;
-        }
+          is_its = ap action_change_of makes.1 ∙ is_its makes.0;
+          acts = may_act h c valid formed it.0 k (Some told) entries tells device.id w.found seen.action w.sees w.action by gives canceling makes.2.0 makes.0 makes.2.1 makes.2.2 changed;
+        },
+      )
 
 -- ---- cancels
 

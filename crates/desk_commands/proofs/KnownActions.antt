@@ -16,16 +16,16 @@ use Rattle.rollout_machine.specs.declared.records.GroupRecord.{GroupRecord}
 use Rattle.rollout_machine.specs.declared.records.RolloutRecord.{RolloutRecord}
 use Rattle.campaign_core.proofs.PlacedActions.{is_members}
 use Rattle.campaign_core.specs.OwnGroups.{own_view_of, waits}
-use Rattle.campaign_core.specs.RolloutChecks.{BothOrNone, IsActionView, IsCancelView, IsReportView, IsReportedAction, action_for, device_action, only_if}
+use Rattle.campaign_core.specs.RolloutChecks.{BothOrNone, IsActionView, IsCancelView, IsFeedbackView, IsDeviceAction, action_for, device_action, only_if}
 use Rattle.desk_records.specs.Actions.{Tally, tally_of}
 use Rattle.desk_records.specs.Holds.{ledger_of}
 use Rattle.desk_store.proofs.GroupPlaces.{group_and_next_is}
 use Rattle.desk_store.specs.GroupPairs.{group_and_next}
 use Rattle.desk_store.specs.declared.rollouts.GroupAndNext.{GroupAndNext}
 use Rattle.desk_records.specs.RolloutRow.{stored_action, stored_rollout}
-use Rattle.desk_commands.specs.SeenActions.{IsSeen, MaySee, SeesIn, SeesReport, SeesTarget, action_seen, action_view_seen, cancel_view_seen, only_of, only_started, report_view_seen, reported_seen, seen_if}
+use Rattle.desk_commands.specs.SeenActions.{IsSeen, MaySee, SeesIn, SeesFeedback, SeesTarget, action_seen, action_view_seen, cancel_view_seen, only_of, only_started, feedback_view_seen, device_action_seen, seen_if}
 use Rattle.desk_commands.specs.declared.seen_actions.SeenAction.{SeenAction}
-use Rattle.desk_commands.specs.declared.seen_actions.SeenReport.{SeenReport}
+use Rattle.desk_commands.specs.declared.seen_actions.SeenFeedback.{SeenFeedback}
 use Rattle.desk_commands.proofs.GroupNumbers.{Numbered, held_stands, numbered_groups, same_groups}
 use Rattle.desk_commands.proofs.ItemSteps.{zip_map}
 use Rattle.desk_commands.proofs.LedgerEnds.{groups_stand}
@@ -127,22 +127,22 @@ module _ (rs : Records) (k : ℕ) (w : IsPlaced rs k) where
   started_is = ap (λ o. is_started_in o w.action) w.its ∙ ap group_is_started w.held
 
   -- its group is started, or not
-  if_started : (b : Bool) → BothOrNone (λ v a. IsReportedAction v a rs) (option_map reported_seen (seen_if b (seen_at rs k w))) (only_if b (Some w.action))
+  if_started : (b : Bool) → BothOrNone (λ v a. IsDeviceAction v a rs) (option_map device_action_seen (seen_if b (seen_at rs k w))) (only_if b (Some w.action))
   if_started true = record { notes = refl; action = view_is }
   if_started false = tt
 
   -- it is a device's, or not
-  reported_is : (for : Bool) → BothOrNone (λ v a. IsReportedAction v a rs) (option_map reported_seen (only_started (seen_if for (seen_at rs k w)))) (only_if (for && has_started rs w.action) (Some w.action))
-  reported_is true = subst (λ b. BothOrNone (λ v a. IsReportedAction v a rs) (option_map reported_seen (seen_if w.own.started (seen_at rs k w))) (only_if b (Some w.action))) (sym started_is) (if_started w.own.started)
-  reported_is false = tt
+  device_action_is : (for : Bool) → BothOrNone (λ v a. IsDeviceAction v a rs) (option_map device_action_seen (only_started (seen_if for (seen_at rs k w)))) (only_if (for && has_started rs w.action) (Some w.action))
+  device_action_is true = subst (λ b. BothOrNone (λ v a. IsDeviceAction v a rs) (option_map device_action_seen (seen_if w.own.started (seen_at rs k w))) (only_if b (Some w.action))) (sym started_is) (if_started w.own.started)
+  device_action_is false = tt
 
   canceled_is : (there for : Bool) → BothOrNone (λ v a. IsCancelView v a rs) (option_map cancel_view_seen (cond there (seen_if for (seen_at rs k w)) None)) (only_if (there && for) (Some w.action))
   canceled_is true true = record { started = sym started_is; action = view_is }
   canceled_is true false = tt
   canceled_is false for = tt
 
-  pub its_report : (t : Bytes) → BothOrNone (λ v a. IsReportedAction v a rs) (option_map reported_seen (only_started (only_of t (Some (seen_at rs k w))))) (device_action rs t k)
-  its_report t = rw w.at (reported_is (is_for rs t w.action))
+  pub its_action : (t : Bytes) → BothOrNone (λ v a. IsDeviceAction v a rs) (option_map device_action_seen (only_started (only_of t (Some (seen_at rs k w))))) (device_action rs t k)
+  its_action t = rw w.at (device_action_is (is_for rs t w.action))
 
   pub its_cancel : (t : Bytes) → BothOrNone (λ v a. IsCancelView v a rs) (option_map cancel_view_seen (cond (is_none (target_of rs t)) None (only_of t (Some (seen_at rs k w))))) (action_for rs t k)
   its_cancel t = rw w.at (go (target_of rs t))
@@ -152,15 +152,15 @@ module _ (rs : Records) (k : ℕ) (w : IsPlaced rs k) where
       go (Some x) = canceled_is true (is_for rs t w.action)
 
 module _ (h : CommandList) (valid : IsValid h) (k : ℕ) where
-  pub report_viewed : (device : Credential) (seen : SeenReport) → SeesReport device k (records h) seen → IsReportView (report_view_seen seen) device k (records h)
-  report_viewed device seen w = record {
+  pub feedback_viewed : (device : Credential) (seen : SeenFeedback) → SeesFeedback device k (records h) seen → IsFeedbackView (feedback_view_seen seen) device k (records h)
+  feedback_viewed device seen w = record {
     misses_device = w.misses_device;
-    reported = subst (λ o. BothOrNone (λ v a. IsReportedAction v a (records h)) (option_map reported_seen o) (device_action (records h) device.id k)) (sym w.action) (go w.found w.sees);
+    own_action = subst (λ o. BothOrNone (λ v a. IsDeviceAction v a (records h)) (option_map device_action_seen o) (device_action (records h) device.id k)) (sym w.action) (go w.found w.sees);
   }
     where
-      go : (found : Option SeenAction) → MaySee k (ledger_of (records h)) found → BothOrNone (λ v a. IsReportedAction v a (records h)) (option_map reported_seen (only_started (only_of device.id found))) (device_action (records h) device.id k)
+      go : (found : Option SeenAction) → MaySee k (ledger_of (records h)) found → BothOrNone (λ v a. IsDeviceAction v a (records h)) (option_map device_action_seen (only_started (only_of device.id found))) (device_action (records h) device.id k)
       go None none = rw (none_known h valid k none) tt
-      go (Some s) sees = let it = known h valid k s sees in rw it.is (its_report (records h) k it.placed device.id)
+      go (Some s) sees = let it = known h valid k s sees in rw it.is (its_action (records h) k it.placed device.id)
 
   pub cancel_viewed : (id : Bytes) (seen : Option SeenAction) → SeesTarget id k (records h) seen → BothOrNone (λ v a. IsCancelView v a (records h)) (option_map cancel_view_seen seen) (action_for (records h) id k)
   cancel_viewed id seen w = subst (λ o. BothOrNone (λ v a. IsCancelView v a (records h)) (option_map cancel_view_seen o) (action_for (records h) id k)) (sym w.action) (go w.found w.sees)

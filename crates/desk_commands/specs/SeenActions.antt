@@ -14,8 +14,8 @@ use Rattle.campaign_core.specs.OwnGroups.{waits}
 use Rattle.campaign_core.specs.declared.own_group.OwnView.{OwnView}
 use Rattle.campaign_core.specs.declared.rollout_checks.actions.ActionView.{ActionView}
 use Rattle.campaign_core.specs.declared.rollout_checks.actions.CancelView.{CancelView}
-use Rattle.campaign_core.specs.declared.rollout_checks.reports.ReportedAction.{ReportedAction}
-use Rattle.campaign_core.specs.declared.rollout_checks.reports.ReportView.{ReportView}
+use Rattle.campaign_core.specs.declared.rollout_checks.of_devices.DeviceAction.{DeviceAction}
+use Rattle.campaign_core.specs.declared.rollout_checks.of_devices.FeedbackView.{FeedbackView}
 use Rattle.desk_records.specs.Actions.{Tally}
 use Rattle.desk_records.specs.Holds.{Ledger, ledger_of}
 use Rattle.desk_records.specs.RolloutRow.{stored_action, stored_rollout}
@@ -24,7 +24,7 @@ use Rattle.desk_store.specs.GroupPairs.{group_and_next}
 use Rattle.desk_records.specs.declared.rollout_row.StoredAction.{StoredAction}
 use Rattle.desk_records.specs.declared.rollout_row.StoredRollout.{StoredRollout}
 use Rattle.desk_commands.specs.declared.seen_actions.SeenAction.{SeenAction}
-use Rattle.desk_commands.specs.declared.seen_actions.SeenReport.{SeenReport}
+use Rattle.desk_commands.specs.declared.seen_actions.SeenFeedback.{SeenFeedback}
 
 -- the rollout, seen from this one of its groups, and the one behind it
 abbrev pub own_seen : StoredRollout → GroupRecord → Option GroupRecord → OwnView
@@ -75,7 +75,7 @@ only_started None = None
 only_started (Some seen) = seen_if seen.own.started seen
 
 -- The device, and action k where it is the device's and its group is started.
-pub record SeesReport (device : Credential) (k : ℕ) (r : Records) (seen : SeenReport) : Type 0 where
+pub record SeesFeedback (device : Credential) (k : ℕ) (r : Records) (seen : SeenFeedback) : Type 0 where
   pub misses_device : seen.misses_device ≡ not (is_known r device)
   pub found : Option SeenAction
   pub sees : MaySee k (ledger_of r) found
@@ -95,8 +95,8 @@ action_view_seen seen = record { outcome = seen.action.outcome; canceling = seen
 abbrev pub cancel_view_seen : SeenAction → CancelView
 cancel_view_seen seen = record { started = seen.own.started; action = action_view_seen seen }
 
-abbrev pub reported_seen : SeenAction → ReportedAction
-reported_seen seen = record { notes = seen.action.notes; action = action_view_seen seen }
+abbrev pub device_action_seen : SeenAction → DeviceAction
+device_action_seen seen = record { notes = seen.action.notes; action = action_view_seen seen }
 
-abbrev pub report_view_seen : SeenReport → ReportView
-report_view_seen seen = record { misses_device = seen.misses_device; reported = option_map reported_seen seen.action }
+abbrev pub feedback_view_seen : SeenFeedback → FeedbackView
+feedback_view_seen seen = record { misses_device = seen.misses_device; own_action = option_map device_action_seen seen.action }

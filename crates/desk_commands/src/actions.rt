@@ -1,4 +1,4 @@
-//! What devices report of their actions, and the cancels of actions.
+//! Feedback on actions, and the cancels of actions.
 
 ghost use Rattle.std.specs.Prelude.{◌≡◌, ◌&&◌, IfOk, Some, true};
 ghost use Rattle.rollout_machine.specs.CommandRules.{is_credential};
@@ -14,13 +14,13 @@ ghost use Rattle.desk_commands.specs.Changing.{StepsIn};
 use crate::endings::follow_ending;
 use crate::entries::{more_if, one_more};
 use crate::offering::offer_anew;
-use crate::seen_actions::{SeenAction, cancel_view, report_view, see_report, see_target};
+use crate::seen_actions::{SeenAction, cancel_view, feedback_view, see_feedback, see_target};
 use crate::step::Step;
 use campaign_core::{ActionChange, RolloutChange, cancel, cancel_feedback, feedback};
-use desk_store::{Fault, NewEntry, OpenChange, tell_cancel, tell_deployment};
+use desk_store::{Fault, NewEntry, OpenChange, tell_entry};
 use rollout_machine::Outcome;
 use rollout_model::{
-    ActionNo, Cancel, CancelWord, Credential, DeploymentWord, Details, Reply, Report,
+    ActionNo, Cancel, CancelWord, Credential, DeploymentWord, Details, DeviceFeedback, Reply, Said,
 };
 use sqlite::Alter;
 use std::alloc::Global;
@@ -212,8 +212,8 @@ fn act_by<S: Alter>(
     may_act(change, seen, &after, told)
 }
 
-/// A report keeps the rules of its parts' types.
-fn report_is_well_formed(credential: &Credential, action: ActionNo, details: &Details)
+/// Feedback keeps the rules of its parts' types.
+fn feedback_is_well_formed(credential: &Credential, action: ActionNo, details: &Details)
     ensures { (is_credential credential.now && (is_number action && are_details details.now)) ≡ true }
 {
     let _id = credential.id.as_str();
@@ -230,44 +230,44 @@ fn cancel_is_well_formed(asked: &Cancel)
     let _action = asked.action.get();
 }
 
-/// Takes what a device reports of a deployment. The memory for it is taken before anything is written.
+/// Takes feedback on a deployment. The memory for it is taken before anything is written.
 pub(crate) fn take_feedback<S: Alter>(
     alloc: Global,
     change: &mut OpenChange<'_, S>,
-    report: &Report<DeploymentWord>,
+    given: &DeviceFeedback<DeploymentWord>,
 ) -> Result<Step, Fault>
     ensures stays { StaysIn S.Store change.old change.new result }
-    ensures steps { StepsIn S.Store change.old change.new (Feedback report.now) result }
+    ensures steps { StepsIn S.Store change.old change.new (Feedback given.now) result }
     ensures work { AddsIn 11 6 change.old change.new }
 {
-    report_is_well_formed(&report.credential, report.action, &report.details);
-    let seen = see_report(change, &report.credential, report.action)?;
-    let accepted = match feedback(&report_view(&seen), report) {
+    feedback_is_well_formed(&given.credential, given.action, &given.details);
+    let seen = see_feedback(change, &given.credential, given.action)?;
+    let accepted = match feedback(&feedback_view(&seen), given) {
         Ok(accepted) => accepted,
         Err(refusal) => return Ok(Step::Refused(refusal)),
     };
-    let told = tell_deployment(alloc, report)?;
+    let told = tell_entry(alloc, Said::Deployment(given.word), &given.details)?;
     act_by(change, &seen.action, &accepted, &Some(told))?;
     Ok(Step::Accepted(Reply::Done))
 }
 
-/// Takes what a device reports of the cancel of a deployment. The memory for it is taken before anything is written.
+/// Takes feedback on the cancel of a deployment. The memory for it is taken before anything is written.
 pub(crate) fn take_cancel_feedback<S: Alter>(
     alloc: Global,
     change: &mut OpenChange<'_, S>,
-    report: &Report<CancelWord>,
+    given: &DeviceFeedback<CancelWord>,
 ) -> Result<Step, Fault>
     ensures stays { StaysIn S.Store change.old change.new result }
-    ensures steps { StepsIn S.Store change.old change.new (CancelFeedback report.now) result }
+    ensures steps { StepsIn S.Store change.old change.new (CancelFeedback given.now) result }
     ensures work { AddsIn 11 6 change.old change.new }
 {
-    report_is_well_formed(&report.credential, report.action, &report.details);
-    let seen = see_report(change, &report.credential, report.action)?;
-    let accepted = match cancel_feedback(&report_view(&seen), report) {
+    feedback_is_well_formed(&given.credential, given.action, &given.details);
+    let seen = see_feedback(change, &given.credential, given.action)?;
+    let accepted = match cancel_feedback(&feedback_view(&seen), given) {
         Ok(accepted) => accepted,
         Err(refusal) => return Ok(Step::Refused(refusal)),
     };
-    let told = tell_cancel(alloc, report)?;
+    let told = tell_entry(alloc, Said::Cancel(given.word), &given.details)?;
     act_by(change, &seen.action, &accepted, &Some(told))?;
     Ok(Step::Accepted(Reply::Done))
 }

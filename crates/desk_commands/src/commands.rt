@@ -2,7 +2,7 @@
 
 ghost use Rattle.std.specs.Prelude.{◌≡◌, true};
 ghost use Rattle.rollout_machine.specs.Views.{command_of};
-ghost use Rattle.desk_commands.specs.Reports.{is_report};
+ghost use Rattle.desk_commands.specs.FeedbackCommands.{is_feedback};
 ghost use Rattle.desk_store.specs.Counting.{AddsIn};
 ghost use Rattle.desk_store.specs.Changing.{StaysIn};
 ghost use Rattle.desk_commands.specs.Changing.{StepsIn};
@@ -32,7 +32,7 @@ pub fn take_step<S: Alter>(
 ) -> Result<Step, Fault>
     ensures stays { StaysIn S.Store change.old change.new result }
     ensures steps { StepsIn S.Store change.old change.new (command_of command.now) result }
-    ensures work { is_report (command_of command.now) ≡ true → AddsIn 14 24 change.old change.new }
+    ensures work { is_feedback (command_of command.now) ≡ true → AddsIn 14 24 change.old change.new }
 {
     match command {
         Command::AddModule(label) => add_module(alloc, change, label),
@@ -50,7 +50,7 @@ pub fn take_step<S: Alter>(
         Command::Resume(number) => resume_rollout(change, *number),
         Command::TriggerNext(number) => trigger_next(change, *number),
         Command::Cancel(asked) => cancel_action(change, asked),
-        Command::Feedback(report) => take_feedback(alloc, change, report),
-        Command::CancelFeedback(report) => take_cancel_feedback(alloc, change, report),
+        Command::Feedback(feedback) => take_feedback(alloc, change, feedback),
+        Command::CancelFeedback(feedback) => take_cancel_feedback(alloc, change, feedback),
     }
 }

@@ -4,13 +4,13 @@ ghost use Rattle.std.specs.Prelude.{◌≡◌, option_map, MatchResult};
 ghost use Rattle.sql_calls.specs.declared.fault.Fault.TheVariants.{Store};
 ghost use Rattle.campaign_core.specs.OwnGroups.{waits};
 ghost use Rattle.desk_store.specs.Counting.{AddsIn};
-ghost use Rattle.desk_commands.specs.SeenActions.{MaySee, SeesIn, SeesReport, SeesTarget, action_view_seen};
-ghost use Rattle.desk_commands.specs.SeenActions.{cancel_view_seen, only_of, only_started, own_seen, report_view_seen};
+ghost use Rattle.desk_commands.specs.SeenActions.{MaySee, SeesIn, SeesFeedback, SeesTarget, action_view_seen};
+ghost use Rattle.desk_commands.specs.SeenActions.{cancel_view_seen, only_of, only_started, own_seen, feedback_view_seen};
 ghost use Rattle.desk_store.specs.Changing.{FindsIn, FindsLedger, StaysIn};
 
 use crate::group_views::group_view;
 use crate::tags::lacks_target;
-use campaign_core::{ActionView, CancelView, OwnView, ReportView, ReportedAction};
+use campaign_core::{ActionView, CancelView, DeviceAction, FeedbackView, OwnView};
 use desk_reads::knows_device;
 use desk_store::{Fault, OpenChange, StoredAction, StoredRollout};
 use rollout_machine::GroupRecord;
@@ -34,9 +34,9 @@ pub(crate) struct SeenAction {
     pub(crate) rollout: OwnView,
 }
 
-/// What a device's report finds.
+/// What a device's feedback finds.
 #[derive(Clone, Copy)]
-pub(crate) struct SeenReport {
+pub(crate) struct SeenFeedback {
     /// Whether no target has the device's id and the digest of its token.
     pub(crate) misses_device: bool,
     /// The action, where it is the device's and its group is started.
@@ -139,19 +139,19 @@ fn only_started(seen: Option<SeenAction>) -> Option<SeenAction>
     }
 }
 
-/// Whether the device that reports is known, and the action that it reports of.
-pub(crate) fn see_report<S: Alter>(
+/// Whether the device is known, and the action that its feedback is on.
+pub(crate) fn see_feedback<S: Alter>(
     change: &mut OpenChange<'_, S>,
     device: &Credential,
     number: ActionNo,
-) -> Result<SeenReport, Fault>
+) -> Result<SeenFeedback, Fault>
     ensures stays { StaysIn S.Store change.old change.new result }
-    ensures reads { FindsIn S.Store change.old change.new result (SeesReport device.now number) }
+    ensures reads { FindsIn S.Store change.old change.new result (SeesFeedback device.now number) }
     ensures work { AddsIn 4 5 change.old change.new }
 {
     let knows = knows_device(change, device)?;
     let seen = see_action(change, number)?;
-    Ok(SeenReport {
+    Ok(SeenFeedback {
         misses_device: !knows,
         action: only_started(only_of(&device.id, seen)),
     })
@@ -187,20 +187,20 @@ fn action_view(seen: &SeenAction) -> ActionView
     }
 }
 
-/// The report as its rule rests on it.
-pub(crate) fn report_view(seen: &SeenReport) -> ReportView
-    ensures { result ≡ report_view_seen seen.now }
+/// The feedback as its rule rests on it.
+pub(crate) fn feedback_view(seen: &SeenFeedback) -> FeedbackView
+    ensures { result ≡ feedback_view_seen seen.now }
 {
-    let reported = match &seen.action {
-        Some(seen) => Some(ReportedAction {
+    let own_action = match &seen.action {
+        Some(seen) => Some(DeviceAction {
             notes: seen.action.notes,
             action: action_view(seen),
         }),
         None => None,
     };
-    ReportView {
+    FeedbackView {
         misses_device: seen.misses_device,
-        reported,
+        own_action,
     }
 }
 

@@ -7,7 +7,7 @@ use Rattle.sqlite_value.specs.Order.{Row}
 use Rattle.sqlite.specs.Command.TheVariants.{Select}
 use Rattle.sqlite.specs.Effect.{Database, Reads as Shows}
 use Rattle.sqlite.specs.Term.{col}
-use Rattle.rollout_machine.specs.Actions.{HistoryEntry, DeploymentEntry, CancelEntry}
+use Rattle.rollout_machine.specs.Actions.{HistoryEntry}
 use Rattle.sql_calls.proofs.KeyedRows.{on_content}
 use Rattle.sql_calls.proofs.Selects.{shown_of}
 use Rattle.desk_records.specs.Parts.{part_row}
@@ -37,5 +37,4 @@ module _ (db : Database) (l : Ledger) (holds : HoldsLedger db l) (names : List (
       ∙ ap (take limit) (drop-map told_entry offset all) ∙ take-map told_entry limit (drop offset all)
     where
       entry_shown : (place : ℕ) (e : HistoryEntry) → on_content (shown_of entry_columns (Int (pos number) ∷ Int (pos limit) ∷ Int (pos offset) ∷ [])) (part_row told_entry number place e) ≡ told_entry e
-      entry_shown place (DeploymentEntry word details) = refl
-      entry_shown place (CancelEntry word details) = refl
+      entry_shown place e = refl

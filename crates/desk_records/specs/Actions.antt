@@ -3,7 +3,7 @@ use Rattle.std.specs.Prelude.{ℕ, List, [], ◌∷◌, ◌++◌, length, Option
 use Rattle.std.specs.List.{flat_map}
 use Rattle.sqlite_value.specs.declared.value.Value.TheVariants.{Null, Int, Text}
 use Rattle.sqlite_value.specs.Order.{Row}
-use Rattle.rollout_machine.specs.Actions.{HistoryEntry, DeploymentEntry, CancelEntry}
+use Rattle.rollout_machine.specs.Actions.{HistoryEntry, Said, OfDeployment, OfCancel}
 use Rattle.rollout_machine.specs.ByteStrings.{item_numbered}
 use Rattle.rollout_machine.specs.Commands.{Bytes, DeploymentWord, CancelWord, NoteWord, Proceeding, Scheduled, Resumed, Succeeded, Failed, Rejected}
 use Rattle.rollout_machine.specs.Commands.{Noted, ClosedCancel, CanceledCancel, RejectedCancel, NotedCancel}
@@ -68,10 +68,18 @@ cancel_code (NotedCancel w) = note_code w
 abbrev pub lines_of : List Bytes → Bytes
 lines_of details = flat_map (λ (line : Bytes). line ++ 10 ∷ []) details
 
--- what is told of a report: kind 0 is of a deployment, kind 1 of a cancel
+-- kind 0 is of a deployment, kind 1 of a cancel
+abbrev pub kind_code : Said → ℕ
+kind_code (OfDeployment word) = 0
+kind_code (OfCancel word) = 1
+
+abbrev pub word_code : Said → ℕ
+word_code (OfDeployment word) = deployment_code word
+word_code (OfCancel word) = cancel_code word
+
+-- what is told of feedback
 abbrev pub told_entry : HistoryEntry → Row
-told_entry (DeploymentEntry word details) = Int (pos 0) ∷ Int (pos (deployment_code word)) ∷ Text (lines_of details) ∷ []
-told_entry (CancelEntry word details) = Int (pos 1) ∷ Int (pos (cancel_code word)) ∷ Text (lines_of details) ∷ []
+told_entry entry = Int (pos (kind_code entry.said)) ∷ Int (pos (word_code entry.said)) ∷ Text (lines_of entry.details) ∷ []
 
 -- at a place of an action's history
 abbrev pub entry_row : ℕ → ℕ → HistoryEntry → Row

@@ -1,10 +1,10 @@
 -- What rows of entries of histories are read as.
 use Rattle.std.specs.Prelude.{◌≡◌, ◌≢◌, ◌⊎◌, ℕ, Bool, true, false, nat_eq, List, [], ◌∷◌, Option, Some, None, if◌then◌else◌}
-use Rattle.std.specs.Option.{is_some}
+use Rattle.std.specs.Option.{is_some, option_map}
 use Rattle.sqlite_value.specs.declared.value.Value.{Value}
 use Rattle.sqlite_value.specs.declared.value.Value.TheVariants.{Text}
 use Rattle.sqlite_value.specs.Order.{Row, column}
-use Rattle.rollout_machine.specs.Actions.{HistoryEntry, DeploymentEntry, CancelEntry}
+use Rattle.rollout_machine.specs.Actions.{HistoryEntry, Said, OfDeployment, OfCancel}
 use Rattle.rollout_machine.specs.Commands.{Bytes, DeploymentWord, CancelWord, Proceeding, Scheduled, Resumed, Succeeded, Failed, Rejected, Noted}
 use Rattle.rollout_machine.specs.Commands.{ClosedCancel, CanceledCancel, RejectedCancel, NotedCancel}
 use Rattle.rollout_model.specs.Rules.{are_details}
@@ -31,31 +31,30 @@ cancel_in = coded_in cancel_from
 
 -- the details keep their rule
 abbrev pub keeps_details : HistoryEntry → Bool
-keeps_details (DeploymentEntry word details) = are_details details
-keeps_details (CancelEntry word details) = are_details details
+keeps_details entry = are_details entry.details
+
+-- what is said by a word of this kind
+abbrev pub said_by : Option Bool → Value → Option Said
+said_by (Some false) word = option_map OfDeployment (deployment_in word)
+said_by (Some true) word = option_map OfCancel (cancel_in word)
+said_by None word = None
+
+abbrev pub said_in : Row → Option Said
+said_in row = said_by (flag_in (column row 0)) (column row 1)
 
 -- the row of kind, word and details
 abbrev pub IsEntryRow : Row → HistoryEntry → Type 0
-IsEntryRow row (DeploymentEntry word details) = (flag_in (column row 0) ≡ Some false) × (deployment_in (column row 1) ≡ Some word)
-    × (column row 2 ≡ Text (lines_of details)) × (are_details details ≡ true)
-IsEntryRow row (CancelEntry word details) = (flag_in (column row 0) ≡ Some true) × (cancel_in (column row 1) ≡ Some word)
-    × (column row 2 ≡ Text (lines_of details)) × (are_details details ≡ true)
+IsEntryRow row entry = (said_in row ≡ Some entry.said) × (column row 2 ≡ Text (lines_of entry.details)) × (keeps_details entry ≡ true)
 
 -- the value is no text of details, each line ended by a line feed
 abbrev pub HasNoDetails : Value → Type 0
 HasNoDetails v = (details : List Bytes) → are_details details ≡ true → v ≢ Text (lines_of details)
 
--- the value is a word of a report of this kind
-abbrev pub has_word_of : Option Bool → Value → Bool
-has_word_of (Some false) v = is_some (deployment_in v)
-has_word_of (Some true) v = is_some (cancel_in v)
-has_word_of None v = false
-
 -- kind or word, whichever breaks its rule first
-abbrev pub broken_report : Row → Option Column
-broken_report row = first_broken ((is_some (flag_in (column row 0)), rule.EntryKind)
-    ∷ (has_word_of (flag_in (column row 0)) (column row 1), rule.EntryWord) ∷ [])
+abbrev pub broken_word : Row → Option Column
+broken_word row = first_broken ((is_some (flag_in (column row 0)), rule.EntryKind)
+    ∷ (is_some (said_in row), rule.EntryWord) ∷ [])
 
 -- the first column that breaks its rule
 abbrev pub BreaksEntry : Row → Column → Type 0
-BreaksEntry row c = (broken_report row ≡ Some c) ⊎ ((broken_report row ≡ None) × (c ≡ rule.EntryDetails) × HasNoDetails (column row 2))
+BreaksEntry row c = (broken_word row ≡ Some c) ⊎ ((broken_word row ≡ None) × (c ≡ rule.EntryDetails) × HasNoDetails (column row 2))

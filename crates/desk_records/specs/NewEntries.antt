@@ -1,4 +1,4 @@
--- What is written of a report, as the row of a history's entry tells it.
+-- What is written of feedback, as the row of a history's entry tells it.
 use Rattle.std.specs.Prelude.{◌≡◌, [], ◌∷◌, pos, string_bytes}
 use Rattle.sqlite_value.specs.declared.value.Value.TheVariants.{Int, Text}
 use Rattle.rollout_machine.specs.Actions.{HistoryEntry}

@@ -1,17 +1,17 @@
 //! The rows of entries of histories.
 
-ghost use Rattle.std.specs.Prelude.{◌≡◌, ◌⊎◌, IfOk, IfErr, IfSome, IfNone, None, length, nat_eq, if◌then◌else◌};
+ghost use Rattle.std.specs.Prelude.{◌≡◌, ◌⊎◌, IfOk, IfErr, IfSome, IfNone, MatchResult, Some, None, length, nat_eq, if◌then◌else◌};
 ghost use Rattle.sqlite_value.specs.Order.{column};
 ghost use Rattle.desk_records.specs.Actions.{lines_of};
 ghost use Rattle.rollout_model.specs.Rules.{details_of};
-ghost use Rattle.desk_records.specs.EntryRow.{BreaksEntry, HasNoDetails, IsEntryRow, cancel_in, deployment_in};
+ghost use Rattle.desk_records.specs.EntryRow.{BreaksEntry, HasNoDetails, IsEntryRow, broken_word, cancel_in, deployment_in, said_in};
 ghost use Rattle.desk_records.specs.ModuleRow.{StoredText};
 
 use crate::artifact_row::number_at;
 use crate::codes::flag_at;
 use crate::module_row::{Column, RowFault};
 use rollout_model::limits::DETAIL_LIMIT;
-use rollout_model::{CancelWord, DeploymentWord, Detail, Details, HistoryEntry, NoteWord};
+use rollout_model::{CancelWord, DeploymentWord, Detail, Details, HistoryEntry, NoteWord, Said};
 use sqlite::Row;
 use sqlite_value::value::ValueRef;
 use std::alloc::{AllocError, Global};
@@ -22,18 +22,27 @@ pub fn read_entry(alloc: Global, row: &Row) -> Result<HistoryEntry, RowFault>
     ensures ok { IfOk result (IsEntryRow row.now) }
     ensures err { IfErr result (λ e. (e ≡ RowFault.Memory) ⊎ ((c : _) × (e ≡ RowFault.Broken c) × BreaksEntry row.now c)) }
 {
+    let said = said_at(row)?;
+    let details = details_at(alloc, row, 2)?;
+    Ok(HistoryEntry { said, details })
+}
+
+/// What is said by kind and word.
+fn said_at(row: &Row) -> Result<Said, RowFault>
+    ensures { MatchResult result
+        (λ said. said_in row.now ≡ Some said)
+        (λ e. (c : _) × (e ≡ RowFault.Broken c) × (broken_word row.now ≡ Some c)) }
+{
     let is_of_cancel = flag_at(row, 0).ok_or(RowFault::Broken(Column::EntryKind))?;
     if is_of_cancel {
         let word = cancel_word_at(row, 1).ok_or(RowFault::Broken(Column::EntryWord))?;
-        let details = details_at(alloc, row, 2)?;
-        return Ok(HistoryEntry::Cancel(word, details));
+        return Ok(Said::Cancel(word));
     }
     let word = deployment_word_at(row, 1).ok_or(RowFault::Broken(Column::EntryWord))?;
-    let details = details_at(alloc, row, 2)?;
-    Ok(HistoryEntry::Deployment(word, details))
+    Ok(Said::Deployment(word))
 }
 
-/// What a device reported of a deployment.
+/// The word on a deployment.
 fn deployment_word_at(row: &Row, at: usize) -> Option<DeploymentWord>
     ensures { result ≡ deployment_in (column row.now at) }
 {
@@ -48,7 +57,7 @@ fn deployment_word_at(row: &Row, at: usize) -> Option<DeploymentWord>
     }
 }
 
-/// What it reported of a cancel.
+/// The word on a cancel.
 fn cancel_word_at(row: &Row, at: usize) -> Option<CancelWord>
     ensures { result ≡ cancel_in (column row.now at) }
 {

@@ -1,12 +1,11 @@
-//! What is written of a report: the row of a history's new entry.
+//! What is written of feedback: the row of a history's new entry.
 
-ghost use Rattle.std.specs.Prelude.{◌≡◌, [], IfOk, string_bytes};
-ghost use Rattle.desk_records.specs.Actions.{cancel_code, deployment_code, lines_of, note_code};
+ghost use Rattle.std.specs.Prelude.{◌≡◌, IfOk, string_bytes};
+ghost use Rattle.desk_records.specs.Actions.{cancel_code, deployment_code, kind_code, lines_of, note_code, word_code};
 ghost use Rattle.desk_records.specs.NewEntries.{TellsEntry};
-ghost use Rattle.rollout_machine.specs.Actions.{CancelEntry, DeploymentEntry};
-ghost use Rattle.rollout_machine.specs.Verdicts.{is_note};
 
-use rollout_model::{CancelWord, DeploymentWord, Details, NoteWord, Report};
+use rollout_machine::says_note;
+use rollout_model::{CancelWord, DeploymentWord, Details, NoteWord, Said};
 use sql_calls::Fault;
 use std::alloc::{AllocError, Global};
 
@@ -52,23 +51,21 @@ fn cancel_code(word: CancelWord) -> u32
     }
 }
 
-/// Whether what is reported of a deployment ends nothing.
-fn notes_deployment(word: DeploymentWord) -> bool
-    ensures { result ≡ is_note (DeploymentEntry word []) }
+fn kind_code(said: Said) -> u32
+    ensures { result ≡ kind_code said }
 {
-    match word {
-        DeploymentWord::Succeeded | DeploymentWord::Failed => false,
-        DeploymentWord::Rejected | DeploymentWord::Noted(_) => true,
+    match said {
+        Said::Deployment(_) => 0,
+        Said::Cancel(_) => 1,
     }
 }
 
-/// Whether what is reported of a cancel is a note.
-fn notes_cancel(word: CancelWord) -> bool
-    ensures { result ≡ is_note (CancelEntry word []) }
+fn word_code(said: Said) -> u32
+    ensures { result ≡ word_code said }
 {
-    match word {
-        CancelWord::Closed | CancelWord::Canceled | CancelWord::Rejected => false,
-        CancelWord::Noted(_) => true,
+    match said {
+        Said::Deployment(word) => deployment_code(word),
+        Said::Cancel(word) => cancel_code(word),
     }
 }
 
@@ -84,32 +81,17 @@ fn join_lines(alloc: Global, details: &Details) -> Result<String, AllocError>
     Ok(text)
 }
 
-/// What the row of a report of a deployment tells.
-pub fn tell_deployment(alloc: Global, report: &Report<DeploymentWord>) -> Result<NewEntry, Fault>
-    ensures { IfOk result (TellsEntry (DeploymentEntry report.now.word report.now.details)) }
+/// What the row of this feedback tells.
+pub fn tell_entry(alloc: Global, said: Said, details: &Details) -> Result<NewEntry, Fault>
+    ensures { IfOk result (TellsEntry (record { said = said; details = details.now })) }
 {
-    let Ok(details) = join_lines(alloc, &report.details) else {
+    let Ok(details) = join_lines(alloc, details) else {
         return Err(Fault::Memory);
     };
     Ok(NewEntry {
-        kind: 0,
-        word: deployment_code(report.word),
-        is_note: notes_deployment(report.word),
-        details,
-    })
-}
-
-/// What the row of a report of a cancel tells.
-pub fn tell_cancel(alloc: Global, report: &Report<CancelWord>) -> Result<NewEntry, Fault>
-    ensures { IfOk result (TellsEntry (CancelEntry report.now.word report.now.details)) }
-{
-    let Ok(details) = join_lines(alloc, &report.details) else {
-        return Err(Fault::Memory);
-    };
-    Ok(NewEntry {
-        kind: 1,
-        word: cancel_code(report.word),
-        is_note: notes_cancel(report.word),
+        kind: kind_code(said),
+        word: word_code(said),
+        is_note: says_note(said),
         details,
     })
 }

@@ -1,11 +1,11 @@
 -- What rows of rollouts, groups, actions and offers tell of the ledger that they show.
-use Rattle.std.proofs.Common.{◌≡◌, ℕ, pos, List, [], ◌∷◌, map, Bool, true, false, Option, Some, None, option_map, refl, ap₂, if◌then◌else◌, nat_lt}
+use Rattle.std.proofs.Common.{◌≡◌, ℕ, pos, List, [], ◌∷◌, map, Bool, true, false, Option, Some, None, option_map, refl, sym, ◌∙◌, ap, ap₂, if◌then◌else◌, nat_lt}
 use Rattle.std.specs.List.{list_all}
 use Rattle.std.proofs.lemmas.Bool.{and_parts}
 use Rattle.std.specs.Option.{option_and_then}
 use Rattle.sqlite_value.specs.declared.value.Value.TheVariants.{Int, Text}
 use Rattle.sqlite_value.specs.Order.{Row}
-use Rattle.rollout_machine.specs.Actions.{HistoryEntry, DeploymentEntry, CancelEntry}
+use Rattle.rollout_machine.specs.Actions.{HistoryEntry, Said, OfDeployment, OfCancel}
 use Rattle.rollout_machine.specs.Commands.{DeploymentWord, CancelWord, Proceeding, Scheduled, Resumed, Succeeded, Failed, Rejected, Noted, ClosedCancel, CanceledCancel, RejectedCancel, NotedCancel}
 use Rattle.rollout_machine.specs.declared.outcome.Outcome.{Outcome}
 use Rattle.rollout_machine.specs.declared.outcome.Outcome.TheVariants.{Good, Bad, Gone}
@@ -17,7 +17,7 @@ use Rattle.rollout_model.specs.declared.rollout.Offer.{Offer}
 use Rattle.desk_records.specs.declared.rollout_row.ListedAction.{ListedAction}
 use Rattle.desk_records.specs.declared.rollout_row.StoredAction.{StoredAction}
 use Rattle.desk_records.specs.declared.rollout_row.StoredRollout.{StoredRollout}
-use Rattle.desk_records.specs.Actions.{cancel_code, deployment_code, lines_of, outcome_code, told_entry}
+use Rattle.desk_records.specs.Actions.{cancel_code, deployment_code, kind_code, lines_of, outcome_code, told_entry, word_code}
 use Rattle.desk_records.specs.EntryRow.{IsEntryRow, cancel_from, cancel_in, deployment_from, deployment_in, keeps_details}
 use Rattle.desk_records.specs.Codes.{coded_in, flag_of, approval_from, outcome_from, flag_in, approval_in, outcome_in}
 use Rattle.desk_records.specs.RolloutRow.{IsRolloutRow, IsGroupRow, IsActionRow, IsListedActionRow, IsOfferRow}
@@ -144,17 +144,20 @@ kept_cancel ClosedCancel v h = let e : Some ClosedCancel ≡ Some v = coded canc
 kept_cancel CanceledCancel v h = let e : Some CanceledCancel ≡ Some v = coded cancel_from 4 v h in cc
 kept_cancel RejectedCancel v h = let e : Some RejectedCancel ≡ Some v = coded cancel_from 5 v h in cc
 
+-- where what is there was mapped
+from_mapped : {A B : Type 0} (f : A → B) (o : Option A) (v : B) → option_map f o ≡ Some v → (a : A) × (o ≡ Some a) × (f a ≡ v)
+from_mapped f (Some a) v h = (a, refl, let same : f a ≡ v = cc in same)
+from_mapped f None v h = cc
+
+kept_said : (w v : Said) → said_in (Int (pos (kind_code w)) ∷ Int (pos (word_code w)) ∷ []) ≡ Some v → v ≡ w
+kept_said (OfDeployment w) v h = let it = from_mapped OfDeployment (deployment_in (Int (pos (deployment_code w)))) v h in sym it.2 ∙ ap OfDeployment (kept_deployment w it.0 it.1)
+kept_said (OfCancel w) v h = let it = from_mapped OfCancel (cancel_in (Int (pos (cancel_code w)))) v h in sym it.2 ∙ ap OfCancel (kept_cancel w it.0 it.1)
+
 one_entry : (a b : HistoryEntry) → keeps_details b ≡ true → IsEntryRow (told_entry b) a → a ≡ b
-one_entry (DeploymentEntry v d) (DeploymentEntry w e) keep h =
-    let word = kept_deployment w v h.1 in
-    let details = same_details d e h.3 keep (same_text (lines_of e) (lines_of d) h.2) in
-    λ i. DeploymentEntry (word i) (details i)
-one_entry (CancelEntry v d) (CancelEntry w e) keep h =
-    let word = kept_cancel w v h.1 in
-    let details = same_details d e h.3 keep (same_text (lines_of e) (lines_of d) h.2) in
-    λ i. CancelEntry (word i) (details i)
-one_entry (CancelEntry v d) (DeploymentEntry w e) keep h = absurd (let it : true ≡ false = kept_flag false true h.0 in cc)
-one_entry (DeploymentEntry v d) (CancelEntry w e) keep h = absurd (let it : false ≡ true = kept_flag true false h.0 in cc)
+one_entry a b keep h =
+    let said = kept_said b.said a.said h.0 in
+    let details = same_details a.details b.details h.2 keep (same_text (lines_of b.details) (lines_of a.details) h.1) in
+    λ i. record { said = said i; details = details i }
 
 pub same_entries : (found wanted : List HistoryEntry) → list_all keeps_details wanted ≡ true → AreReadAs IsEntryRow (map told_entry wanted) found → found ≡ wanted
 same_entries [] [] keep h = refl

@@ -20,6 +20,6 @@ pub use crate::rollouts::GroupAndNext;
 pub use crate::store::DeskStore;
 pub use desk_records::{
     ListedAction, ListedTarget, NewEntry, SetName, StoredAction, StoredArtifact, StoredRollout,
-    StoredTarget, tell_cancel, tell_deployment,
+    StoredTarget, tell_entry,
 };
 pub use sql_calls::{Fault, Work};

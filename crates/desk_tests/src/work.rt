@@ -4,9 +4,9 @@ use super::asked::{adds_module, puts, row_of, text, token};
 use super::told::{answer, does, new_desk};
 use rollout_desk::Desk;
 use rollout_model::{
-    ActionNo, Command, ControllerId, Credential, DeploymentWord, Details, FilterText, GroupCount,
-    ModuleList, ModuleNo, Percentage, Query, Reply, Report, Request, RolloutNo, RolloutPlan,
-    SetLabel, SetNo,
+    ActionNo, Command, ControllerId, Credential, DeploymentWord, Details, DeviceFeedback,
+    FilterText, GroupCount, ModuleList, ModuleNo, Percentage, Query, Reply, Request, RolloutNo,
+    RolloutPlan, SetLabel, SetNo,
 };
 use sqlite::Alter;
 use std::alloc::Global;
@@ -91,7 +91,7 @@ fn succeeds(alloc: Global, place: u32) -> Option<Command> {
     let credential = credential_at(alloc, place)?;
     let action = ActionNo::new(place)?;
     let details = Details::from_lines(Vec::new(alloc))?;
-    Some(Command::Feedback(Report {
+    Some(Command::Feedback(DeviceFeedback {
         credential,
         action,
         word: DeploymentWord::Succeeded,
@@ -145,7 +145,7 @@ fn goes_on<S: Alter>(alloc: Global, desk: &mut Desk<S>) -> bool {
 }
 
 #[test]
-fn a_report_runs_few_statements(rt: HostRuntime) {
+fn feedback_runs_few_statements(rt: HostRuntime) {
     match new_desk(rt.alloc()) {
         Some(mut desk) => {
             assert!(rt; begins(rt.alloc(), &mut desk));

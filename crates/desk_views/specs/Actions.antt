@@ -37,6 +37,6 @@ shown_among groups it = shown_in it (group_holding it.action.position groups)
 abbrev pub listed_shown : Records → ListedAction → ShownAction
 listed_shown r it = shown_among (parts_of (λ (x : RolloutRecord). x.groups) (item_numbered r.rollouts it.action.rollout)) it
 
--- what was reported of an action that is there
+-- the feedback on an action that is there
 abbrev pub history_of : Option ActionRecord → List HistoryEntry
 history_of found = parts_of (λ (a : ActionRecord). a.history) found

@@ -86,7 +86,7 @@ pub fn show_action<S: Alter>(
     Ok(Reply::Action(shown))
 }
 
-/// Shows a page of what a device reported of an action of a target, in the order of the reports.
+/// Shows a page of the feedback on an action of a target, in its order.
 pub fn show_history<S: Alter>(
     alloc: Global,
     change: &mut OpenChange<'_, S>,

@@ -11,8 +11,8 @@ use Rattle.rollout_model.specs.declared.feedback.DeploymentWord.{DeploymentWord}
 use Rattle.rollout_model.specs.declared.feedback.DeploymentWord.TheVariants as deployment
 use Rattle.rollout_model.specs.declared.feedback.CancelWord.{CancelWord}
 use Rattle.rollout_model.specs.declared.feedback.CancelWord.TheVariants as cancel
-use Rattle.rollout_model.specs.declared.feedback.HistoryEntry.{HistoryEntry}
-use Rattle.rollout_model.specs.declared.feedback.HistoryEntry.TheVariants.{Deployment, Cancel}
+use Rattle.rollout_model.specs.declared.feedback.Said.{Said}
+use Rattle.rollout_model.specs.declared.feedback.Said.TheVariants.{Deployment, Cancel}
 use Rattle.rollout_model.specs.declared.rollout.Action.{Action}
 use Rattle.rollout_model.specs.declared.rollout.NumberedEntry.{NumberedEntry}
 use Rattle.mgmt_objects.specs.Pages.{whole}
@@ -30,7 +30,7 @@ action_letters a =
     concat (codes "{\"group\":" ∷ decimal a.group ∷ codes ",\"id\":" ∷ decimal a.number ∷ codes ",\"rollout\":" ∷ decimal a.rollout
     ∷ codes ",\"status\":" ∷ quoted (action_text a.word) ∷ codes ",\"target\":" ∷ quoted a.target ∷ codes "}" ∷ [])
 
--- ---- `execution` and `finished` of what a device reported
+-- ---- `execution` and `finished` of what a device said
 
 abbrev pub note_text : NoteWord → List ℕ
 note_text note.Proceeding = codes "proceeding"
@@ -70,10 +70,18 @@ entry_object kind execution finished number details =
     (member (codes "execution") (string execution) (member (codes "finished") (string finished)
     (member (codes "id") (whole number) (member (codes "kind") (string kind) no_members)))))
 
-abbrev pub reported_data : ℕ → HistoryEntry → Data
-reported_data number (Deployment word details) = entry_object (codes "deployment") (deployment_execution word) (deployment_finished word) number details
-reported_data number (Cancel word details) = entry_object (codes "cancel") (cancel_execution word) (cancel_finished word) number details
+abbrev pub kind_text : Said → List ℕ
+kind_text (Deployment word) = codes "deployment"
+kind_text (Cancel word) = codes "cancel"
+
+abbrev pub execution_text : Said → List ℕ
+execution_text (Deployment word) = deployment_execution word
+execution_text (Cancel word) = cancel_execution word
+
+abbrev pub finished_text : Said → List ℕ
+finished_text (Deployment word) = deployment_finished word
+finished_text (Cancel word) = cancel_finished word
 
 -- an entry with its number in the history of its action
 abbrev pub entry_data : NumberedEntry → Data
-entry_data e = reported_data e.number e.entry
+entry_data e = entry_object (kind_text e.entry.said) (execution_text e.entry.said) (finished_text e.entry.said) e.number e.entry.details

@@ -6,11 +6,9 @@ use Rattle.serde_json.specs.Data.{Data, Members, member, no_members, string, put
 use Rattle.serde_json.specs.View.{items_of}
 use Rattle.serde_json.specs.Written.{has_float, items_have_float, members_have_float}
 use Rattle.rollout_model.specs.declared.target.Attribute.{Attribute}
-use Rattle.rollout_model.specs.declared.feedback.HistoryEntry.{HistoryEntry}
-use Rattle.rollout_model.specs.declared.feedback.HistoryEntry.TheVariants.{Deployment, Cancel}
 use Rattle.rollout_model.specs.declared.rollout.NumberedEntry.{NumberedEntry}
 use Rattle.rollout_model.specs.declared.shown_target.ShownTarget.{ShownTarget}
-use Rattle.mgmt_objects.specs.ActionObjects.{entry_data, reported_data}
+use Rattle.mgmt_objects.specs.ActionObjects.{entry_data}
 use Rattle.mgmt_objects.specs.TargetObjects.{target_data, with_attributes, word_data}
 
 pub items_have_float-map : {A : Type 0} (show : A → Data) → ((x : A) → has_float (show x) ≡ false) → (xs : List A)
@@ -44,9 +42,5 @@ members_have_float-with ms (a ∷ more) none = members_have_float-with (put a.ke
 pub target_has_no_float : (t : ShownTarget) → has_float (target_data t) ≡ false
 target_has_no_float t = rw (members_have_float-with no_members t.attributes refl, items_have_float-map word_data (λ word. refl) t.tags) refl
 
-reported_has_no_float : (number : ℕ) (e : HistoryEntry) → has_float (reported_data number e) ≡ false
-reported_has_no_float number (Deployment word details) = rw (items_have_float-map word_data (λ line. refl) details) refl
-reported_has_no_float number (Cancel word details) = rw (items_have_float-map word_data (λ line. refl) details) refl
-
 pub entry_has_no_float : (e : NumberedEntry) → has_float (entry_data e) ≡ false
-entry_has_no_float e = reported_has_no_float e.number e.entry
+entry_has_no_float e = rw (items_have_float-map word_data (λ line. refl) e.entry.details) refl

@@ -1,16 +1,13 @@
-//! Actions in replies, and what devices reported of them.
+//! Actions in replies, and what devices said of them.
 
-ghost use Rattle.std.specs.Prelude.{◌≡◌, refl, IfOk};
-ghost use Rattle.serde_json.specs.View.{view};
+ghost use Rattle.std.specs.Prelude.{◌≡◌, refl};
 ghost use Rattle.mgmt_objects.specs.ActionObjects.{action_data, cancel_execution, cancel_finished, deployment_execution, deployment_finished};
-ghost use Rattle.mgmt_objects.specs.ActionObjects.{entry_data, entry_object, note_text};
+ghost use Rattle.mgmt_objects.specs.ActionObjects.{entry_data, execution_text, finished_text, kind_text, note_text};
 ghost use Rattle.mgmt_objects.specs.Floats.{entry_has_no_float};
 ghost use Rattle.mgmt_objects.specs.TargetObjects.{word_data};
 
 use crate::shown::{Shown, values};
-use rollout_model::{
-    Action, CancelWord, DeploymentWord, Detail, Details, HistoryEntry, NoteWord, NumberedEntry,
-};
+use rollout_model::{Action, CancelWord, DeploymentWord, Detail, NoteWord, NumberedEntry, Said};
 use serde_json::{Value, json};
 use std::alloc::{AllocError, Global};
 
@@ -95,24 +92,31 @@ impl Shown for Detail {
     }
 }
 
-fn entry_value(
-    alloc: Global,
-    kind: &str,
-    execution: &str,
-    finished: &str,
-    number: u32,
-    details: &Details,
-) -> Result<Value, AllocError>
-    ensures { IfOk result (λ v. view v ≡ entry_object kind.now execution.now finished.now number details.now) }
+fn kind_text(said: Said) -> &'static str
+    ensures { result.now ≡ kind_text said }
 {
-    let details = values(alloc, details.as_slice())?;
-    json!(in alloc; {
-        "details": Value::Array(details),
-        "execution": execution,
-        "finished": finished,
-        "id": number,
-        "kind": kind,
-    })
+    match said {
+        Said::Deployment(_) => "deployment",
+        Said::Cancel(_) => "cancel",
+    }
+}
+
+fn execution_text(said: Said) -> &'static str
+    ensures { result.now ≡ execution_text said }
+{
+    match said {
+        Said::Deployment(word) => deployment_execution(word),
+        Said::Cancel(word) => cancel_execution(word),
+    }
+}
+
+fn finished_text(said: Said) -> &'static str
+    ensures { result.now ≡ finished_text said }
+{
+    match said {
+        Said::Deployment(word) => deployment_finished(word),
+        Said::Cancel(word) => cancel_finished(word),
+    }
 }
 
 impl Shown for NumberedEntry {
@@ -121,18 +125,14 @@ impl Shown for NumberedEntry {
     ghost has_no_float = { entry_has_no_float };
 
     fn value(&self, alloc: Global) -> Result<Value, AllocError> {
-        let number = self.number;
-        match &self.entry {
-            HistoryEntry::Deployment(word, details) => {
-                let execution = deployment_execution(*word);
-                let finished = deployment_finished(*word);
-                entry_value(alloc, "deployment", execution, finished, number, details)
-            }
-            HistoryEntry::Cancel(word, details) => {
-                let execution = cancel_execution(*word);
-                let finished = cancel_finished(*word);
-                entry_value(alloc, "cancel", execution, finished, number, details)
-            }
-        }
+        let entry = &self.entry;
+        let details = values(alloc, entry.details.as_slice())?;
+        json!(in alloc; {
+            "details": Value::Array(details),
+            "execution": execution_text(entry.said),
+            "finished": finished_text(entry.said),
+            "id": self.number,
+            "kind": kind_text(entry.said),
+        })
     }
 }

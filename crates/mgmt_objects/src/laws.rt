@@ -4,7 +4,7 @@ ghost use Rattle.std.specs.Prelude.{◌≡◌, Some, None, codes, ◌++◌, fals
 ghost use Rattle.serde_json.specs.Written.{compact_text};
 ghost use Rattle.rollout_model.specs.declared.action_word.ActionWord.TheVariants as action;
 ghost use Rattle.rollout_model.specs.declared.feedback.CancelWord.TheVariants as cancel;
-ghost use Rattle.rollout_model.specs.declared.feedback.HistoryEntry.TheVariants as entry;
+ghost use Rattle.rollout_model.specs.declared.feedback.Said.TheVariants as said;
 ghost use Rattle.rollout_model.specs.declared.group_word.GroupWord.TheVariants as group;
 ghost use Rattle.rollout_model.specs.declared.module.Module.{Module};
 ghost use Rattle.rollout_model.specs.declared.rollout.Action.{Action};
@@ -154,6 +154,6 @@ pub fn worked_action_text()
 
 /// The text of a worked entry of a history.
 pub fn worked_entry_text()
-    ensures { compact_text (entry_data (record { number = 2; entry = entry.Cancel cancel.Canceled (codes "ok" ∷ []) }))
+    ensures { compact_text (entry_data (record { number = 2; entry = record { said = said.Cancel cancel.Canceled; details = codes "ok" ∷ [] } }))
         ≡ codes "{\"details\":[\"ok\"],\"execution\":\"canceled\",\"finished\":\"success\",\"id\":2,\"kind\":\"cancel\"}" }
 {}

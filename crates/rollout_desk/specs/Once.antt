@@ -1,4 +1,4 @@
--- Runs in which something comes again: a report of an action that has its outcome, or an import that directly follows an equal one.
+-- Runs in which something comes again: feedback on an action that has its outcome, or an import that directly follows an equal one.
 use Rattle.std.specs.Prelude.{◌⊎◌, List, [], ◌∷◌, ◌++◌}
 use Rattle.rollout_machine.specs.Answers.{MayAnswer}
 use Rattle.rollout_machine.specs.CommandList.{CommandList, followed_by}

@@ -7,16 +7,16 @@ use Rattle.rollout_model.specs.declared.refusal.Refusal.{Refusal}
 use Rattle.rollout_model.specs.declared.request.Reply.{Reply}
 use Rattle.sql_calls.specs.declared.calls.Calls.{Calls}
 use Rattle.sql_calls.specs.declared.calls.Work.{Work}
-use Rattle.desk_commands.specs.Reports.{is_report}
+use Rattle.desk_commands.specs.FeedbackCommands.{is_feedback}
 
 -- at most so many statements, which gave at most so many rows
 pub record IsWithin (statements rows : ℕ) (w : Work) : Type 0 where
   pub ran : w.statements ≤ statements
   pub took : w.rows ≤ rows
 
--- a report runs at most 14 statements, and takes at most 24 rows
+-- feedback runs at most 14 statements, and takes at most 24 rows
 abbrev pub KeepsBound : Command → Work → Type 0
-KeepsBound c w = is_report c ≡ true → IsWithin 14 24 w
+KeepsBound c w = is_feedback c ≡ true → IsWithin 14 24 w
 
 -- no count falls; and unless a failed store is told, no call failed but for want of memory
 pub record TellsFailures {S : Type 0} (told : Bool) (old new : Calls S) : Type 0 where

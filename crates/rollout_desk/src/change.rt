@@ -8,7 +8,7 @@ ghost use Rattle.rollout_machine.specs.StoreFailures.{is_failed_store};
 ghost use Rattle.rollout_machine.specs.Views.{command_of, query_of, reply_of};
 ghost use Rattle.desk_views.specs.Showing.{ShowsIn};
 ghost use Rattle.rollout_desk.specs.Working.{TellsFailures};
-ghost use Rattle.desk_commands.specs.Reports.{is_report};
+ghost use Rattle.desk_commands.specs.FeedbackCommands.{is_feedback};
 ghost use Rattle.rollout_desk.specs.Changes.{Handles, EndsByCommit, EndsByRollback};
 ghost use Rattle.desk_store.specs.Counting.{Adds};
 ghost use Rattle.desk_store.specs.Changing.{StaysIn};
@@ -105,7 +105,7 @@ pub(crate) fn run_command<S: Alter>(
 ) -> Reply
     ensures handles { Handles HoldsRecords (state S.Store store.old.calls.conn) (state S.Store store.new.calls.conn) (Do (command_of command.now))
         (reply_of result) }
-    ensures work { is_report (command_of command.now) ≡ true → Adds 14 24 store.old.calls.work store.new.calls.work }
+    ensures work { is_feedback (command_of command.now) ≡ true → Adds 14 24 store.old.calls.work store.new.calls.work }
     ensures tells { TellsFailures (is_failed_store (reply_of result)) store.old.calls store.new.calls }
 {
     command_is_well_formed(command);

@@ -17,7 +17,7 @@ use sqlite::Alter;
 
 impl<S: Alter> Desk<S> {
     /// Answers requests one after the other. After a failed store it answers no more, so that reply is the last one, and it is stopped. The memory of
-    /// all replies is taken first: `NoMemory` says that nothing was done. A final report that is sent again, and an import that comes
+    /// all replies is taken first: `NoMemory` says that nothing was done. Final feedback that is sent again, and an import that comes
     /// twice, leave no trace in what is kept and in any other reply.
     pub fn run(&mut self, requests: &[Request]) -> Result<Vec<Reply>, Refusal>
         ensures clean { (desk_state S.Store self.new).is_clean → (desk_state S.Store self.old).is_clean }

@@ -47,8 +47,8 @@ silent h (Pause q) r ne = record { acts = λ j. refl; pauses = other q r ne; res
 silent h (Resume q) r ne = record { acts = λ j. refl; pauses = refl; resumes = other q r ne; triggers = refl; starts = refl; decides = refl }
 silent h (TriggerNext q) r ne = record { acts = λ j. refl; pauses = refl; resumes = refl; triggers = other q r ne; starts = refl; decides = refl }
 silent h (Cancel t k force) r ne = record { acts = λ j. off_place (action_of h (Cancel t k force)) r j ne; pauses = refl; resumes = refl; triggers = refl; starts = refl; decides = refl }
-silent h (Feedback report) r ne = record { acts = λ j. off_place (action_of h (Feedback report)) r j ne; pauses = refl; resumes = refl; triggers = refl; starts = refl; decides = refl }
-silent h (CancelFeedback report) r ne = record { acts = λ j. off_place (action_of h (CancelFeedback report)) r j ne; pauses = refl; resumes = refl; triggers = refl; starts = refl; decides = refl }
+silent h (Feedback feedback) r ne = record { acts = λ j. off_place (action_of h (Feedback feedback)) r j ne; pauses = refl; resumes = refl; triggers = refl; starts = refl; decides = refl }
+silent h (CancelFeedback feedback) r ne = record { acts = λ j. off_place (action_of h (CancelFeedback feedback)) r j ne; pauses = refl; resumes = refl; triggers = refl; starts = refl; decides = refl }
 silent h _ r ne = record { acts = λ j. refl; pauses = refl; resumes = refl; triggers = refl; starts = refl; decides = refl }
 
 calm_elsewhere : (h : CommandList) (c : Command) (r : ℕ) → IsSilent r h c → IsCalm r h c

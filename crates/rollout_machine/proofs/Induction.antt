@@ -7,7 +7,7 @@ use Rattle.rollout_machine.specs.Actions.{ActionPlace, action_of, is_on_action, 
 use Rattle.rollout_machine.specs.ByteStrings.{item_numbered}
 use Rattle.rollout_machine.specs.CommandList.{CommandList, Make, ◌▸◌}
 use Rattle.rollout_machine.specs.CommandRules.{IsWellFormed}
-use Rattle.rollout_machine.specs.Commands.{Report, DeploymentWord, CancelWord, Command, AddModule, AddArtifact, AddSet, PutTargets, Tag, Untag, PutAttributes, CreateRollout, Cancel, Feedback, CancelFeedback, Resume, TriggerNext, Pause, Start, Approve, Deny, Bytes, RolloutPlan, ModuleLabel}
+use Rattle.rollout_machine.specs.Commands.{DeviceFeedback, DeploymentWord, CancelWord, Command, AddModule, AddArtifact, AddSet, PutTargets, Tag, Untag, PutAttributes, CreateRollout, Cancel, Feedback, CancelFeedback, Resume, TriggerNext, Pause, Start, Approve, Deny, Bytes, RolloutPlan, ModuleLabel}
 use Rattle.rollout_machine.specs.Effects.{HasSoundPlan, StartedOnly}
 use Rattle.rollout_machine.specs.Progress.{is_group_started, next_started, is_rollout_started, is_start_of, is_pause_of, is_resume_of, is_paused, error_begins_at}
 use Rattle.rollout_machine.specs.Ranges.{some_up_to}
@@ -129,8 +129,8 @@ not_decided h c r a e = go (decision_on r c) refl
 
 touched_placed : (h : CommandList) (c : Command) (p : ActionPlace) → action_of h c ≡ Some p → (k : ℕ) × (action_place h k ≡ Some p)
 touched_placed h (Cancel t a force) p e = (a, e)
-touched_placed h (Feedback report) p e = (report.action, e)
-touched_placed h (CancelFeedback report) p e = (report.action, e)
+touched_placed h (Feedback feedback) p e = (feedback.action, e)
+touched_placed h (CancelFeedback feedback) p e = (feedback.action, e)
 touched_placed h _ p e = cc
 
 off_rollout : (h : CommandList) (c : Command) (r : ℕ) → Invariant h → is_rollout_started r h ≡ false → (j : ℕ) → is_on_action h c r j ≡ false
@@ -265,8 +265,8 @@ found_rollout h r e = elim (is_there h r) [
 ]
 
 started_in : (h : CommandList) (c : Command) → Invariant h → verdict h c ≡ None → (r : ℕ) (x : Rollout) → rollout_at h r ≡ Some x → StartedOnly x r h c
-started_in h (Feedback report) w e r x d = feedback_started h report (λ p t. w.placed report.action p t) e r x d
-started_in h (CancelFeedback report) w e r x d = cancel_feedback_started h report (λ p t. w.placed report.action p t) e r x d
+started_in h (Feedback feedback) w e r x d = feedback_started h feedback (λ p t. w.placed feedback.action p t) e r x d
+started_in h (CancelFeedback feedback) w e r x d = cancel_feedback_started h feedback (λ p t. w.placed feedback.action p t) e r x d
 started_in h (Cancel t k force) w e r x d = cancel_started h t k force (λ p u. w.placed k p u) e r x d
 started_in h (AddModule label) w e r x d = calm_on x r h _ refl
 started_in h (AddArtifact upload) w e r x d = calm_on x r h (AddArtifact upload) refl
@@ -354,15 +354,15 @@ placed_at h c k w p e =
     let t : IsPlace h p = w.placed k p e in
     record { place = p; rollout = t.rollout; numbered = e; there = t.there; low = t.low; high = t.high }
 
-pub feedback_is_step : (h : CommandList) (report : Report DeploymentWord) → IsValid h → verdict h (Feedback report) ≡ None → records (h ▸ Feedback report) ≡ step_records (records h) (Feedback report)
-feedback_is_step h report v e =
-    let (p, at, started) = feedback_place h report e in
-    feedback_step h report (accepted h (Feedback report) v e) (placed_at h (Feedback report) report.action (invariant_of h v) p at)
+pub feedback_is_step : (h : CommandList) (feedback : DeviceFeedback DeploymentWord) → IsValid h → verdict h (Feedback feedback) ≡ None → records (h ▸ Feedback feedback) ≡ step_records (records h) (Feedback feedback)
+feedback_is_step h feedback v e =
+    let (p, at, started) = feedback_place h feedback e in
+    feedback_step h feedback (accepted h (Feedback feedback) v e) (placed_at h (Feedback feedback) feedback.action (invariant_of h v) p at)
 
-pub cancel_feedback_is_step : (h : CommandList) (report : Report CancelWord) → IsValid h → verdict h (CancelFeedback report) ≡ None → records (h ▸ CancelFeedback report) ≡ step_records (records h) (CancelFeedback report)
-cancel_feedback_is_step h report v e =
-    let (p, at, started) = cancel_feedback_place h report e in
-    cancel_feedback_step h report (accepted h (CancelFeedback report) v e) (placed_at h (CancelFeedback report) report.action (invariant_of h v) p at)
+pub cancel_feedback_is_step : (h : CommandList) (feedback : DeviceFeedback CancelWord) → IsValid h → verdict h (CancelFeedback feedback) ≡ None → records (h ▸ CancelFeedback feedback) ≡ step_records (records h) (CancelFeedback feedback)
+cancel_feedback_is_step h feedback v e =
+    let (p, at, started) = cancel_feedback_place h feedback e in
+    cancel_feedback_step h feedback (accepted h (CancelFeedback feedback) v e) (placed_at h (CancelFeedback feedback) feedback.action (invariant_of h v) p at)
 
 pub cancel_is_step : (h : CommandList) (t : Bytes) (k : ℕ) (force : Bool) → IsValid h → verdict h (Cancel t k force) ≡ None → records (h ▸ Cancel t k force) ≡ step_records (records h) (Cancel t k force)
 cancel_is_step h t k force v e =

@@ -95,16 +95,16 @@ started_to x r (suc i) h a b e =
 
 -- outcomes
 gave : (h : CommandList) (c : Command) (r j : ℕ) (o : Outcome) → outcome_given c (is_canceling h r j) ≡ Some o → Says h c r j o
-gave h (Feedback report) r j o e = word report.word refl e
+gave h (Feedback feedback) r j o e = word feedback.word refl e
   where
-    word : (w : DeploymentWord) → report.word ≡ w → outcome_of_deployment w ≡ Some o → ((report.word ≡ Succeeded) × (o ≡ Good)) ⊎ ((report.word ≡ Failed) × (o ≡ Bad))
+    word : (w : DeploymentWord) → feedback.word ≡ w → outcome_of_deployment w ≡ Some o → ((feedback.word ≡ Succeeded) × (o ≡ Good)) ⊎ ((feedback.word ≡ Failed) × (o ≡ Bad))
     word Succeeded d e = inl (d, cc)
     word Failed d e = inr (d, cc)
     word Rejected d e = cc
     word (Noted p) d e = cc
-gave h (CancelFeedback report) r j o e = word report.word refl e
+gave h (CancelFeedback feedback) r j o e = word feedback.word refl e
   where
-    word : (w : CancelWord) → report.word ≡ w → outcome_of_cancel w ≡ Some o → ((report.word ≡ ClosedCancel) ⊎ (report.word ≡ CanceledCancel)) × (o ≡ Gone)
+    word : (w : CancelWord) → feedback.word ≡ w → outcome_of_cancel w ≡ Some o → ((feedback.word ≡ ClosedCancel) ⊎ (feedback.word ≡ CanceledCancel)) × (o ≡ Gone)
     word ClosedCancel d e = (inl d, cc)
     word CanceledCancel d e = (inr d, cc)
     word RejectedCancel d e = cc
@@ -118,9 +118,9 @@ gave h (Cancel t a force) r j o e = word force (is_canceling h r j) refl refl e
 gave h _ r j o e = cc
 
 gives_it : (h : CommandList) (c : Command) (r j : ℕ) (o : Outcome) → Says h c r j o → outcome_given c (is_canceling h r j) ≡ Some o
-gives_it h (Feedback report) r j o (inl d) = rw (d.0, d.1) refl
-gives_it h (Feedback report) r j o (inr d) = rw (d.0, d.1) refl
-gives_it h (CancelFeedback report) r j o d = elim (d.0) [ inl k ↦ rw (k, d.1) refl | inr k ↦ rw (k, d.1) refl ]
+gives_it h (Feedback feedback) r j o (inl d) = rw (d.0, d.1) refl
+gives_it h (Feedback feedback) r j o (inr d) = rw (d.0, d.1) refl
+gives_it h (CancelFeedback feedback) r j o d = elim (d.0) [ inl k ↦ rw (k, d.1) refl | inr k ↦ rw (k, d.1) refl ]
 gives_it h (Cancel t a force) r j o d = rw (d.0, d.1, d.2) refl
 gives_it h _ r j o d = absurd d
 
@@ -243,9 +243,9 @@ started_is x r i h a b = (started_to x r i h a b, started_from x r i h a b)
 -- what was said by a cancel, and by a rejection
 is_cancel : (c : Command) (b : Bool) → cancel_standing_said c ≡ Some b → b ≡ true → (t : Bytes) × (a : ℕ) × (force : Bool) × (c ≡ Cancel t a force)
 is_cancel (Cancel t a force) b e d = (t, a, force, refl)
-is_cancel (CancelFeedback report) b e d = absurd (word report.word e)
+is_cancel (CancelFeedback feedback) b e d = absurd (word feedback.word e)
   where
-    word : (w : CancelWord) → cancel_standing_said (CancelFeedback (record report { word = w })) ≡ Some b → ⊥
+    word : (w : CancelWord) → cancel_standing_said (CancelFeedback (record feedback { word = w })) ≡ Some b → ⊥
     word ClosedCancel e = cc
     word CanceledCancel e = cc
     word (NotedCancel p) e = cc

@@ -6,7 +6,7 @@ use Rattle.rollout_model.specs.declared.refusal.Refusal.{Refusal}
 use Rattle.rollout_machine.specs.Actions.{ActionPlace, action_of, is_on_action, is_action_place, outcome, action_places, action_place, history}
 use Rattle.rollout_machine.specs.ByteStrings.{contains_word, with_words, same_bytes, bytes_below, with_word}
 use Rattle.rollout_machine.specs.CommandList.{CommandList, ◌▸◌, Make}
-use Rattle.rollout_machine.specs.Commands.{Report, DeploymentWord, Command, Feedback, Outcome, CancelWord, Bytes, PutTargets, TargetRow, CancelFeedback}
+use Rattle.rollout_machine.specs.Commands.{DeviceFeedback, DeploymentWord, Command, Feedback, Outcome, CancelWord, Bytes, PutTargets, TargetRow, CancelFeedback}
 use Rattle.rollout_machine.specs.RecordSteps.{step_records}
 use Rattle.rollout_machine.specs.Records.{rollouts_in, rollout_in, action_in, needs_approval, modules, artifacts, sets, records}
 use Rattle.rollout_machine.specs.Repeats.{without_repeats, is_doubled, same_rows, same_row, IsTraceless, same_words, has_outcome, RepeatsLeaveNoTrace, is_repeat}
@@ -48,10 +48,10 @@ any_action h c q o t e p = go (is_on_action h c p.rollout p.position) refl
         closed_action h c p o f (sym (ap (λ i. outcome h i p.position) er) ∙ sym (ap (λ i. outcome h q.rollout i) ej) ∙ e)
 
 -- the records after a repeated feedback are those before it
-pub repeat_changes_nothing : (h : CommandList) (report : Report DeploymentWord) (q : ActionPlace) (o : Outcome) → IsAccepted h (Feedback report) → action_place h report.action ≡ Some q → outcome h q.rollout q.position ≡ Some o → records (h ▸ Feedback report) ≡ records h
+pub repeat_changes_nothing : (h : CommandList) (feedback : DeviceFeedback DeploymentWord) (q : ActionPlace) (o : Outcome) → IsAccepted h (Feedback feedback) → action_place h feedback.action ≡ Some q → outcome h q.rollout q.position ≡ Some o → records (h ▸ Feedback feedback) ≡ records h
 unfolding records
-repeat_changes_nothing h report q o w t e =
-    let c : Command = Feedback report in
+repeat_changes_nothing h feedback q o w t e =
+    let c : Command = Feedback feedback in
     bare h c _ _ _ _ _ (append_none (modules h)) (append_none (artifacts h)) (append_none (sets h)) (append_none (rollouts h)) (append_none (action_places h))
     ∙ same_records (needs_approval h) _ _ _ _ _ _ _ _ _ _ _ _ refl refl refl refl
     (kept h (h ▸ c) 1 (rollouts h) (from_numbers (λ r y. rollout_in (h ▸ c) r y ≡ rollout_in h r y) (rollouts h) (λ r y d.
@@ -59,10 +59,10 @@ repeat_changes_nothing h report q o w t e =
     (map_same (action_in (h ▸ c)) (action_in h) (any_action h c q o t e) (action_places h))
 
 -- the records after a repeated feedback of a cancel are those before it
-pub cancel_repeat_changes_nothing : (h : CommandList) (report : Report CancelWord) (q : ActionPlace) (o : Outcome) → IsAccepted h (CancelFeedback report) → action_place h report.action ≡ Some q → outcome h q.rollout q.position ≡ Some o → records (h ▸ CancelFeedback report) ≡ records h
+pub cancel_repeat_changes_nothing : (h : CommandList) (feedback : DeviceFeedback CancelWord) (q : ActionPlace) (o : Outcome) → IsAccepted h (CancelFeedback feedback) → action_place h feedback.action ≡ Some q → outcome h q.rollout q.position ≡ Some o → records (h ▸ CancelFeedback feedback) ≡ records h
 unfolding records
-cancel_repeat_changes_nothing h report q o w t e =
-    let c : Command = CancelFeedback report in
+cancel_repeat_changes_nothing h feedback q o w t e =
+    let c : Command = CancelFeedback feedback in
     bare h c _ _ _ _ _ (append_none (modules h)) (append_none (artifacts h)) (append_none (sets h)) (append_none (rollouts h)) (append_none (action_places h))
     ∙ same_records (needs_approval h) _ _ _ _ _ _ _ _ _ _ _ _ refl refl refl refl
     (kept h (h ▸ c) 1 (rollouts h) (from_numbers (λ r y. rollout_in (h ▸ c) r y ≡ rollout_in h r y) (rollouts h) (λ r y d.
@@ -162,24 +162,24 @@ rows_same (a ∷ as') (b ∷ bs) e =
 -- ---- the list without them
 
 repeat_same : (h : CommandList) (c : Command) → IsValid h → verdict h c ≡ None → is_repeat h c ≡ true → records (h ▸ c) ≡ records h
-repeat_same h (Feedback report) v e d = go (action_place h report.action) refl d
+repeat_same h (Feedback feedback) v e d = go (action_place h feedback.action) refl d
   where
-    go : (p : Option ActionPlace) → action_place h report.action ≡ p → has_outcome h p ≡ true → records (h ▸ Feedback report) ≡ records h
+    go : (p : Option ActionPlace) → action_place h feedback.action ≡ p → has_outcome h p ≡ true → records (h ▸ Feedback feedback) ≡ records h
     go None k d = cc
     go (Some q) k d = had (outcome h q.rollout q.position) refl d
       where
-        had : (o : Option Outcome) → outcome h q.rollout q.position ≡ o → is_some o ≡ true → records (h ▸ Feedback report) ≡ records h
+        had : (o : Option Outcome) → outcome h q.rollout q.position ≡ o → is_some o ≡ true → records (h ▸ Feedback feedback) ≡ records h
         had None j d = cc
-        had (Some o) j d = repeat_changes_nothing h report q o (accepted h (Feedback report) v e) k j
-repeat_same h (CancelFeedback report) v e d = go (action_place h report.action) refl d
+        had (Some o) j d = repeat_changes_nothing h feedback q o (accepted h (Feedback feedback) v e) k j
+repeat_same h (CancelFeedback feedback) v e d = go (action_place h feedback.action) refl d
   where
-    go : (p : Option ActionPlace) → action_place h report.action ≡ p → has_outcome h p ≡ true → records (h ▸ CancelFeedback report) ≡ records h
+    go : (p : Option ActionPlace) → action_place h feedback.action ≡ p → has_outcome h p ≡ true → records (h ▸ CancelFeedback feedback) ≡ records h
     go None k d = cc
     go (Some q) k d = had (outcome h q.rollout q.position) refl d
       where
-        had : (o : Option Outcome) → outcome h q.rollout q.position ≡ o → is_some o ≡ true → records (h ▸ CancelFeedback report) ≡ records h
+        had : (o : Option Outcome) → outcome h q.rollout q.position ≡ o → is_some o ≡ true → records (h ▸ CancelFeedback feedback) ≡ records h
         had None j d = cc
-        had (Some o) j d = cancel_repeat_changes_nothing h report q o (accepted h (CancelFeedback report) v e) k j
+        had (Some o) j d = cancel_repeat_changes_nothing h feedback q o (accepted h (CancelFeedback feedback) v e) k j
 repeat_same h _ v e d = cc
 
 doubled_same : (h : CommandList) (c : Command) → IsValid h → verdict h c ≡ None → is_doubled h c ≡ true → records (h ▸ c) ≡ records h

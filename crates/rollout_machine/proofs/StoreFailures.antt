@@ -54,8 +54,8 @@ rows_never_store rs (Pause r) = refl
 rows_never_store rs (Resume r) = refl
 rows_never_store rs (TriggerNext r) = refl
 rows_never_store rs (Cancel t k force) = refl
-rows_never_store rs (Feedback report) = refl
-rows_never_store rs (CancelFeedback report) = refl
+rows_never_store rs (Feedback feedback) = refl
+rows_never_store rs (CancelFeedback feedback) = refl
 
 not_true : (b : Bool) → not b ≡ true → b ≡ false
 not_true true e = absurd (false≢true e)

@@ -105,8 +105,8 @@ never_begins false b e = refl
 
 pub quiet : (h : CommandList) (c : Command) (p : ActionPlace) (r : ℕ) → action_of h c ≡ Some p → (is_pause_of r c ≡ false) × (is_resume_of r c ≡ false) × (is_trigger_of r c ≡ false) × (is_start_of r c ≡ false)
 quiet h (Cancel t a force) p r e = (refl, refl, refl, refl)
-quiet h (Feedback report) p r e = (refl, refl, refl, refl)
-quiet h (CancelFeedback report) p r e = (refl, refl, refl, refl)
+quiet h (Feedback feedback) p r e = (refl, refl, refl, refl)
+quiet h (CancelFeedback feedback) p r e = (refl, refl, refl, refl)
 quiet h _ p r e = cc
 
 -- after a final outcome the rollout is paused if it was, or if the action's own group begins to be in error

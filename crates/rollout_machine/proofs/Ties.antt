@@ -212,8 +212,8 @@ calm_rollout x r l h c a f s w e =
 
 pub silent : (h : CommandList) (c : Command) (p : ActionPlace) (r : ℕ) → action_of h c ≡ Some p → decision_on r c ≡ None
 silent h (Cancel t a force) p r e = refl
-silent h (Feedback report) p r e = refl
-silent h (CancelFeedback report) p r e = refl
+silent h (Feedback feedback) p r e = refl
+silent h (CancelFeedback feedback) p r e = refl
 silent h _ p r e = cc
 
 twice : {X : Type 0} (f k : X → X) (xs : List X) → map k (map f xs) ≡ map (λ x. k (f x)) xs

@@ -6,7 +6,7 @@ use Rattle.std.proofs.lemmas.Bool.{eqb-true, false≢true, and_parts, or_parts, 
 use Rattle.rollout_machine.specs.Actions.{ActionPlace, action_of, is_action_place, action_places, action_place}
 use Rattle.rollout_machine.specs.ByteStrings.{item_numbered}
 use Rattle.rollout_machine.specs.CommandList.{CommandList}
-use Rattle.rollout_machine.specs.Commands.{Report, DeploymentWord, CancelWord, Command, Cancel, Feedback, CancelFeedback}
+use Rattle.rollout_machine.specs.Commands.{DeviceFeedback, DeploymentWord, CancelWord, Command, Cancel, Feedback, CancelFeedback}
 use Rattle.rollout_machine.specs.Effects.{IsInGroup, HasSoundPlan, StartedOnly}
 use Rattle.rollout_machine.specs.Progress.{is_group_started}
 use Rattle.rollout_machine.specs.Ranges.{each_from}
@@ -85,25 +85,25 @@ device_action h t None e = absurd (false≢true e)
 device_action h t (Some p) e = (p, refl, (and_parts _ _ e).1)
 
 -- accepted feedback is on an action whose group is started
-pub feedback_place : (h : CommandList) (report : Report DeploymentWord) → verdict h (Feedback report) ≡ None → (p : ActionPlace) × (action_place h report.action ≡ Some p) × (has_started (records h) (action_in h p) ≡ true)
-feedback_place h report e =
-    let device : is_device_action (records h) report.credential.id (item_numbered (records h).actions report.action) ≡ true = not-false _ (none_holds (verdict_row (records h) (Feedback report)) e).1.0 in
-    device_action h report.credential.id (action_place h report.action) (sym (ap (is_device_action (records h) report.credential.id) (found_action h report.action (action_place h report.action) refl)) ∙ device)
+pub feedback_place : (h : CommandList) (feedback : DeviceFeedback DeploymentWord) → verdict h (Feedback feedback) ≡ None → (p : ActionPlace) × (action_place h feedback.action ≡ Some p) × (has_started (records h) (action_in h p) ≡ true)
+feedback_place h feedback e =
+    let device : is_device_action (records h) feedback.credential.id (item_numbered (records h).actions feedback.action) ≡ true = not-false _ (none_holds (verdict_row (records h) (Feedback feedback)) e).1.0 in
+    device_action h feedback.credential.id (action_place h feedback.action) (sym (ap (is_device_action (records h) feedback.credential.id) (found_action h feedback.action (action_place h feedback.action) refl)) ∙ device)
 
-pub cancel_feedback_place : (h : CommandList) (report : Report CancelWord) → verdict h (CancelFeedback report) ≡ None → (p : ActionPlace) × (action_place h report.action ≡ Some p) × (has_started (records h) (action_in h p) ≡ true)
-cancel_feedback_place h report e =
-    let device : is_device_action (records h) report.credential.id (item_numbered (records h).actions report.action) ≡ true = not-false _ (none_holds (verdict_row (records h) (CancelFeedback report)) e).1.0 in
-    device_action h report.credential.id (action_place h report.action) (sym (ap (is_device_action (records h) report.credential.id) (found_action h report.action (action_place h report.action) refl)) ∙ device)
+pub cancel_feedback_place : (h : CommandList) (feedback : DeviceFeedback CancelWord) → verdict h (CancelFeedback feedback) ≡ None → (p : ActionPlace) × (action_place h feedback.action ≡ Some p) × (has_started (records h) (action_in h p) ≡ true)
+cancel_feedback_place h feedback e =
+    let device : is_device_action (records h) feedback.credential.id (item_numbered (records h).actions feedback.action) ≡ true = not-false _ (none_holds (verdict_row (records h) (CancelFeedback feedback)) e).1.0 in
+    device_action h feedback.credential.id (action_place h feedback.action) (sym (ap (is_device_action (records h) feedback.credential.id) (found_action h feedback.action (action_place h feedback.action) refl)) ∙ device)
 
-pub feedback_started : (h : CommandList) (report : Report DeploymentWord) → ((p : ActionPlace) → action_place h report.action ≡ Some p → IsPlace h p) → verdict h (Feedback report) ≡ None → (r : ℕ) (x : Rollout) → rollout_at h r ≡ Some x → StartedOnly x r h (Feedback report)
-feedback_started h report placed e =
-    let (p, at, started) = feedback_place h report e in
-    only_started h (Feedback report) p (placed p at) at started
+pub feedback_started : (h : CommandList) (feedback : DeviceFeedback DeploymentWord) → ((p : ActionPlace) → action_place h feedback.action ≡ Some p → IsPlace h p) → verdict h (Feedback feedback) ≡ None → (r : ℕ) (x : Rollout) → rollout_at h r ≡ Some x → StartedOnly x r h (Feedback feedback)
+feedback_started h feedback placed e =
+    let (p, at, started) = feedback_place h feedback e in
+    only_started h (Feedback feedback) p (placed p at) at started
 
-pub cancel_feedback_started : (h : CommandList) (report : Report CancelWord) → ((p : ActionPlace) → action_place h report.action ≡ Some p → IsPlace h p) → verdict h (CancelFeedback report) ≡ None → (r : ℕ) (x : Rollout) → rollout_at h r ≡ Some x → StartedOnly x r h (CancelFeedback report)
-cancel_feedback_started h report placed e =
-    let (p, at, started) = cancel_feedback_place h report e in
-    only_started h (CancelFeedback report) p (placed p at) at started
+pub cancel_feedback_started : (h : CommandList) (feedback : DeviceFeedback CancelWord) → ((p : ActionPlace) → action_place h feedback.action ≡ Some p → IsPlace h p) → verdict h (CancelFeedback feedback) ≡ None → (r : ℕ) (x : Rollout) → rollout_at h r ≡ Some x → StartedOnly x r h (CancelFeedback feedback)
+cancel_feedback_started h feedback placed e =
+    let (p, at, started) = cancel_feedback_place h feedback e in
+    only_started h (CancelFeedback feedback) p (placed p at) at started
 
 or_left_false : (a b : Bool) → (a || b) ≡ false → a ≡ false
 or_left_false true b e = cc

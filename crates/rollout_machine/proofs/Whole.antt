@@ -6,7 +6,7 @@ use Rattle.std.proofs.lemmas.Bool.{cases_eq, cases_lt, ne_eqb, eq-eqb, eqb-true,
 use Rattle.rollout_machine.specs.Actions.{ActionPlace, action_of, is_on_action, is_action_place, outcome, outcome_given, cancel_stands, is_canceling, action_places, action_place, new_places, places_of, places_from, history}
 use Rattle.rollout_machine.specs.ByteStrings.{item_numbered}
 use Rattle.rollout_machine.specs.CommandList.{CommandList, ◌▸◌}
-use Rattle.rollout_machine.specs.Commands.{Command, Report, DeploymentWord, CancelWord, AddModule, Cancel, Feedback, CancelFeedback, Resume, TriggerNext, Pause, Start, Outcome, ModuleLabel, SetLabel}
+use Rattle.rollout_machine.specs.Commands.{Command, DeviceFeedback, DeploymentWord, CancelWord, AddModule, Cancel, Feedback, CancelFeedback, Resume, TriggerNext, Pause, Start, Outcome, ModuleLabel, SetLabel}
 use Rattle.rollout_machine.specs.Effects.{IsLast, IsInGroup, StartedOnly, HasSoundPlan}
 use Rattle.rollout_machine.specs.Groups.{last_position, first_position, group_size}
 use Rattle.rollout_machine.specs.Progress.{is_group_started, is_pause_of, is_resume_of, is_trigger_of, is_start_of}
@@ -183,13 +183,13 @@ pub cancel_step : (h : CommandList) (t : List ℕ) (k : ℕ) (force : Bool) → 
 unfolding records
 cancel_step h t k force w p = bare h (Cancel t k force) _ _ _ _ _ (append_none (modules h)) (append_none (artifacts h)) (append_none (sets h)) (append_none (rollouts h)) (append_none (action_places h)) ∙ act_is h (Cancel t k force) k w p p.numbered
 
-pub feedback_step : (h : CommandList) (report : Report DeploymentWord) → IsAccepted h (Feedback report) → IsPlaced h (Feedback report) report.action → records (h ▸ Feedback report) ≡ step_records (records h) (Feedback report)
+pub feedback_step : (h : CommandList) (feedback : DeviceFeedback DeploymentWord) → IsAccepted h (Feedback feedback) → IsPlaced h (Feedback feedback) feedback.action → records (h ▸ Feedback feedback) ≡ step_records (records h) (Feedback feedback)
 unfolding records
-feedback_step h report w p = bare h (Feedback report) _ _ _ _ _ (append_none (modules h)) (append_none (artifacts h)) (append_none (sets h)) (append_none (rollouts h)) (append_none (action_places h)) ∙ act_is h (Feedback report) report.action w p p.numbered
+feedback_step h feedback w p = bare h (Feedback feedback) _ _ _ _ _ (append_none (modules h)) (append_none (artifacts h)) (append_none (sets h)) (append_none (rollouts h)) (append_none (action_places h)) ∙ act_is h (Feedback feedback) feedback.action w p p.numbered
 
-pub cancel_feedback_step : (h : CommandList) (report : Report CancelWord) → IsAccepted h (CancelFeedback report) → IsPlaced h (CancelFeedback report) report.action → records (h ▸ CancelFeedback report) ≡ step_records (records h) (CancelFeedback report)
+pub cancel_feedback_step : (h : CommandList) (feedback : DeviceFeedback CancelWord) → IsAccepted h (CancelFeedback feedback) → IsPlaced h (CancelFeedback feedback) feedback.action → records (h ▸ CancelFeedback feedback) ≡ step_records (records h) (CancelFeedback feedback)
 unfolding records
-cancel_feedback_step h report w p = bare h (CancelFeedback report) _ _ _ _ _ (append_none (modules h)) (append_none (artifacts h)) (append_none (sets h)) (append_none (rollouts h)) (append_none (action_places h)) ∙ act_is h (CancelFeedback report) report.action w p p.numbered
+cancel_feedback_step h feedback w p = bare h (CancelFeedback feedback) _ _ _ _ _ (append_none (modules h)) (append_none (artifacts h)) (append_none (sets h)) (append_none (rollouts h)) (append_none (action_places h)) ∙ act_is h (CancelFeedback feedback) feedback.action w p p.numbered
 
 -- ---- a command on a rollout
 

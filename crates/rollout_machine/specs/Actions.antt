@@ -4,11 +4,12 @@ use Rattle.std.specs.Option.{option_or}
 use Rattle.rollout_machine.specs.ByteStrings.{item_numbered}
 use Rattle.rollout_machine.specs.CommandList.{CommandList, Make, ◌▸◌}
 use Rattle.rollout_machine.specs.Commands.{Bytes, DeploymentWord, CancelWord, Succeeded, Failed, Rejected, Noted, ClosedCancel, CanceledCancel}
-use Rattle.rollout_machine.specs.Commands.{RejectedCancel, NotedCancel, Command, Start, Cancel, Feedback, CancelFeedback, Outcome, Good, Bad, Gone}
+use Rattle.rollout_machine.specs.Commands.{RejectedCancel, NotedCancel, Command, Start, Cancel, Feedback, CancelFeedback, DeviceFeedback, Outcome, Good, Bad, Gone}
 use Rattle.rollout_machine.specs.Rollouts.{Rollout, rollout_at, size_of}
--- an entry of an action's history
+-- an entry of an action's history, and what a device says of an action
 pub use Rattle.rollout_model.specs.declared.feedback.HistoryEntry.{HistoryEntry}
-pub use Rattle.rollout_model.specs.declared.feedback.HistoryEntry.TheVariants.{Deployment as DeploymentEntry, Cancel as CancelEntry}
+pub use Rattle.rollout_model.specs.declared.feedback.Said.{Said}
+pub use Rattle.rollout_model.specs.declared.feedback.Said.TheVariants.{Deployment as OfDeployment, Cancel as OfCancel}
 
 -- an action, by its rollout and its member's position, from 1
 pub record ActionPlace : Type 0 where
@@ -38,8 +39,8 @@ action_place h a = item_numbered (action_places h) a
 -- the action that a command is on
 abbrev pub action_of : CommandList → Command → Option ActionPlace
 action_of h (Cancel t a force) = action_place h a
-action_of h (Feedback report) = action_place h report.action
-action_of h (CancelFeedback report) = action_place h report.action
+action_of h (Feedback feedback) = action_place h feedback.action
+action_of h (CancelFeedback feedback) = action_place h feedback.action
 action_of h _ = None
 
 abbrev pub is_action_place : Option ActionPlace → ℕ → ℕ → Bool
@@ -63,15 +64,15 @@ outcome_of_cancel (NotedCancel p) = None
 
 -- the outcome that a command on an open action gives it, where it is canceling or not
 abbrev pub outcome_given : Command → Bool → Option Outcome
-outcome_given (Feedback report) canceling = outcome_of_deployment report.word
-outcome_given (CancelFeedback report) canceling = outcome_of_cancel report.word
+outcome_given (Feedback feedback) canceling = outcome_of_deployment feedback.word
+outcome_given (CancelFeedback feedback) canceling = outcome_of_cancel feedback.word
 outcome_given (Cancel t a force) canceling = cond (force && canceling) (Some Gone) None
 outcome_given _ canceling = None
 
 -- what a command on an action says of its canceling
 abbrev pub cancel_standing_said : Command → Option Bool
 cancel_standing_said (Cancel t a force) = Some true
-cancel_standing_said (CancelFeedback report) = elim (report.word) [ RejectedCancel ↦ Some false | _ ↦ None ]
+cancel_standing_said (CancelFeedback feedback) = elim (feedback.word) [ RejectedCancel ↦ Some false | _ ↦ None ]
 cancel_standing_said _ = None
 
 -- the last among the action's cancels and its rejections of one is a cancel
@@ -88,9 +89,13 @@ outcome (h ▸ c) r j = option_or (outcome h r j) (cond (is_on_action h c r j) (
 abbrev pub is_canceling : CommandList → ℕ → ℕ → Bool
 is_canceling h r j = is_none (outcome h r j) && cancel_stands h r j
 
+-- what is kept of feedback
+abbrev pub entry_of : {W : Type 0} → (W → Said) → DeviceFeedback W → HistoryEntry
+entry_of said feedback = record { said = said feedback.word; details = feedback.details }
+
 abbrev pub entries_of : Command → List HistoryEntry
-entries_of (Feedback report) = DeploymentEntry report.word report.details ∷ []
-entries_of (CancelFeedback report) = CancelEntry report.word report.details ∷ []
+entries_of (Feedback feedback) = entry_of OfDeployment feedback ∷ []
+entries_of (CancelFeedback feedback) = entry_of OfCancel feedback ∷ []
 entries_of _ = []
 
 -- the feedback on the action up to and with the one that gave the outcome

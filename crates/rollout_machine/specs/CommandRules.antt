@@ -53,8 +53,8 @@ is_well_formed (Pause r) = is_number r
 is_well_formed (Resume r) = is_number r
 is_well_formed (TriggerNext r) = is_number r
 is_well_formed (Cancel t k force) = is_word t && is_number k
-is_well_formed (Feedback report) = is_credential report.credential && (is_number report.action && are_details report.details)
-is_well_formed (CancelFeedback report) = is_credential report.credential && (is_number report.action && are_details report.details)
+is_well_formed (Feedback feedback) = is_credential feedback.credential && (is_number feedback.action && are_details feedback.details)
+is_well_formed (CancelFeedback feedback) = is_credential feedback.credential && (is_number feedback.action && are_details feedback.details)
 
 abbrev pub IsWellFormed : Command → Type 0
 IsWellFormed c = is_well_formed c ≡ true

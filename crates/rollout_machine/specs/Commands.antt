@@ -14,7 +14,7 @@ pub use Rattle.rollout_model.specs.declared.feedback.DeploymentWord.TheVariants.
 pub use Rattle.rollout_model.specs.declared.feedback.CancelWord.{CancelWord}
 pub use Rattle.rollout_model.specs.declared.feedback.CancelWord.TheVariants.{Closed as ClosedCancel, Canceled as CanceledCancel}
 pub use Rattle.rollout_model.specs.declared.feedback.CancelWord.TheVariants.{Rejected as RejectedCancel, Noted as NotedCancel}
-pub use Rattle.rollout_model.specs.declared.feedback.Report.{Report}
+pub use Rattle.rollout_model.specs.declared.feedback.DeviceFeedback.{DeviceFeedback}
 pub use Rattle.rollout_machine.specs.declared.outcome.Outcome.{Outcome}
 pub use Rattle.rollout_machine.specs.declared.outcome.Outcome.TheVariants.{Good, Bad, Gone}
 
@@ -38,5 +38,5 @@ pub data Command : Type 0 where
   Resume : (rollout : ℕ) → Command
   TriggerNext : (rollout : ℕ) → Command
   Cancel : (target : Bytes) (action : ℕ) (force : Bool) → Command
-  Feedback : Report DeploymentWord → Command
-  CancelFeedback : Report CancelWord → Command
+  Feedback : DeviceFeedback DeploymentWord → Command
+  CancelFeedback : DeviceFeedback CancelWord → Command

@@ -92,8 +92,8 @@ TagsAreSaid = (t x : Bytes) (h : CommandList) → contains_word x (tags_in t h) 
 
 -- ---- the first command on the action that gives an outcome
 abbrev pub Says : CommandList → Command → ℕ → ℕ → Outcome → Type 0
-Says before (Feedback report) r j o = ((report.word ≡ Succeeded) × (o ≡ Good)) ⊎ ((report.word ≡ Failed) × (o ≡ Bad))
-Says before (CancelFeedback report) r j o = ((report.word ≡ ClosedCancel) ⊎ (report.word ≡ CanceledCancel)) × (o ≡ Gone)
+Says before (Feedback feedback) r j o = ((feedback.word ≡ Succeeded) × (o ≡ Good)) ⊎ ((feedback.word ≡ Failed) × (o ≡ Bad))
+Says before (CancelFeedback feedback) r j o = ((feedback.word ≡ ClosedCancel) ⊎ (feedback.word ≡ CanceledCancel)) × (o ≡ Gone)
 Says before (Cancel t a force) r j o = (force ≡ true) × (is_canceling before r j ≡ true) × (o ≡ Gone)
 Says before _ r j o = ⊥
 

@@ -171,8 +171,8 @@ step_records rs (Pause r) = record rs { rollouts = change_rollout r (λ (x : Rol
 step_records rs (Resume r) = record rs { rollouts = change_rollout r resumed rs.rollouts }
 step_records rs (TriggerNext r) = record rs { rollouts = change_rollout r triggered rs.rollouts }
 step_records rs (Cancel t k force) = step_action rs (Cancel t k force) (item_numbered rs.actions k)
-step_records rs (Feedback report) = step_action rs (Feedback report) (item_numbered rs.actions report.action)
-step_records rs (CancelFeedback report) = step_action rs (CancelFeedback report) (item_numbered rs.actions report.action)
+step_records rs (Feedback feedback) = step_action rs (Feedback feedback) (item_numbered rs.actions feedback.action)
+step_records rs (CancelFeedback feedback) = step_action rs (CancelFeedback feedback) (item_numbered rs.actions feedback.action)
 
 abbrev pub no_records : Bool → Records
 no_records approval = record { approval = approval; modules = []; artifacts = []; sets = []; targets = []; rollouts = []; actions = [] }

@@ -16,8 +16,8 @@ has_outcome h (Some p) = is_some (outcome h p.rollout p.position)
 
 -- a feedback on an action that has an outcome before it
 abbrev pub is_repeat : CommandList → Command → Bool
-is_repeat h (Feedback report) = has_outcome h (action_place h report.action)
-is_repeat h (CancelFeedback report) = has_outcome h (action_place h report.action)
+is_repeat h (Feedback feedback) = has_outcome h (action_place h feedback.action)
+is_repeat h (CancelFeedback feedback) = has_outcome h (action_place h feedback.action)
 is_repeat h _ = false
 
 abbrev pub same_words : List Bytes → List Bytes → Bool

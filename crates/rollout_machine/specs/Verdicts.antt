@@ -2,7 +2,7 @@
 use Rattle.std.specs.Prelude.{ℕ, Bool, true, false, ◌&&◌, ◌||◌, not, cond, nat_eq, nat_lt, nat_le, List, [], ◌∷◌, ◌++◌, map, filter, length, Option}
 use Rattle.std.specs.Prelude.{Some, None, is_none, is_some}
 use Rattle.std.specs.List.{list_any, find}
-use Rattle.rollout_machine.specs.Actions.{HistoryEntry, DeploymentEntry, CancelEntry, outcome_of_deployment, outcome_of_cancel}
+use Rattle.rollout_machine.specs.Actions.{HistoryEntry, Said, OfDeployment, OfCancel, outcome_of_deployment, outcome_of_cancel}
 use Rattle.rollout_machine.specs.ByteStrings.{item_numbered, same_bytes, contains_word, with_words}
 use Rattle.rollout_machine.specs.CommandList.{CommandList}
 use Rattle.rollout_machine.specs.Commands.{Bytes, Credential, TargetRow, Attribute, ModuleLabel, SetLabel, Upload, RolloutPlan, NotedCancel, Command}
@@ -68,10 +68,13 @@ has_next (Some x) = list_any (λ (g : GroupRecord). not g.started) x.groups
 abbrev pub rollout_row : Records → ℕ → (RolloutWord → Bool) → List (Bool × Refusal)
 rollout_row rs r p = (is_none (item_numbered rs.rollouts r), NotFound) ∷ (not (word_is p (item_numbered rs.rollouts r)), WrongState) ∷ []
 
+abbrev pub says_note : Said → Bool
+says_note (OfDeployment word) = is_none (outcome_of_deployment word)
+says_note (OfCancel (NotedCancel p)) = true
+says_note (OfCancel _) = false
+
 abbrev pub is_note : HistoryEntry → Bool
-is_note (DeploymentEntry word details) = is_none (outcome_of_deployment word)
-is_note (CancelEntry (NotedCancel p) details) = true
-is_note (CancelEntry _ details) = false
+is_note entry = says_note entry.said
 
 abbrev pub notes_of : ActionRecord → ℕ
 notes_of a = length (filter is_note a.history)
@@ -144,30 +147,30 @@ verdict_row rs (Cancel t k force) =
     (is_none (target_of rs t) || not (on_action (is_for rs t) (item_numbered rs.actions k)), NotFound)
     ∷ (on_action (λ a. is_some a.outcome) (item_numbered rs.actions k), ClosedAction)
     ∷ (on_action (λ a. not (has_started rs a) || (a.canceling && not force)) (item_numbered rs.actions k), WrongState) ∷ []
-verdict_row rs (Feedback report) =
-    (not (is_known rs report.credential), Unauthorized)
-    ∷ (not (is_device_action rs report.credential.id (item_numbered rs.actions report.action)), NotFound)
+verdict_row rs (Feedback feedback) =
+    (not (is_known rs feedback.credential), Unauthorized)
+    ∷ (not (is_device_action rs feedback.credential.id (item_numbered rs.actions feedback.action)), NotFound)
     ∷ (
-      on_action (λ a. is_some a.outcome && not (same_outcome (outcome_of_deployment report.word) a.outcome))
-          (item_numbered rs.actions report.action),
+      on_action (λ a. is_some a.outcome && not (same_outcome (outcome_of_deployment feedback.word) a.outcome))
+          (item_numbered rs.actions feedback.action),
       ClosedAction,
     )
     ∷ (
-      on_action (λ a. is_none a.outcome && (is_note (DeploymentEntry report.word report.details) && nat_le note_limit (notes_of a)))
-          (item_numbered rs.actions report.action),
+      on_action (λ a. is_none a.outcome && (says_note (OfDeployment feedback.word) && nat_le note_limit (notes_of a)))
+          (item_numbered rs.actions feedback.action),
       Quota,
     ) ∷ []
-verdict_row rs (CancelFeedback report) =
-    (not (is_known rs report.credential), Unauthorized)
-    ∷ (not (is_device_action rs report.credential.id (item_numbered rs.actions report.action)), NotFound)
+verdict_row rs (CancelFeedback feedback) =
+    (not (is_known rs feedback.credential), Unauthorized)
+    ∷ (not (is_device_action rs feedback.credential.id (item_numbered rs.actions feedback.action)), NotFound)
     ∷ (
-      on_action (λ a. is_some a.outcome && not (same_outcome (outcome_of_cancel report.word) a.outcome)) (item_numbered rs.actions report.action),
+      on_action (λ a. is_some a.outcome && not (same_outcome (outcome_of_cancel feedback.word) a.outcome)) (item_numbered rs.actions feedback.action),
       ClosedAction,
     )
-    ∷ (on_action (λ a. is_none a.outcome && not a.canceling) (item_numbered rs.actions report.action), WrongState)
+    ∷ (on_action (λ a. is_none a.outcome && not a.canceling) (item_numbered rs.actions feedback.action), WrongState)
     ∷ (
-      on_action (λ a. is_none a.outcome && (is_note (CancelEntry report.word report.details) && nat_le note_limit (notes_of a)))
-          (item_numbered rs.actions report.action),
+      on_action (λ a. is_none a.outcome && (says_note (OfCancel feedback.word) && nat_le note_limit (notes_of a)))
+          (item_numbered rs.actions feedback.action),
       Quota,
     ) ∷ []
 

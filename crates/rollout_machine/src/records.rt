@@ -38,6 +38,6 @@ pub struct ActionRecord {
     pub position: u32,
     pub canceling: bool,
     pub outcome: Option<Outcome>,
-    /// The reports up to the one that gave the outcome.
+    /// The feedback up to the one that gave the outcome.
     pub history: Items<HistoryEntry>,
 }

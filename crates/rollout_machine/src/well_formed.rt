@@ -12,7 +12,7 @@ use rollout_model::{
     TargetRows, Upload, Word,
 };
 use rollouts::{
-    cancel_is_well_formed, number_is_well_formed, plan_is_well_formed, report_is_well_formed,
+    cancel_is_well_formed, feedback_is_well_formed, number_is_well_formed, plan_is_well_formed,
 };
 
 /// Every command keeps the rules of commands: its parts' types keep theirs.
@@ -35,11 +35,11 @@ pub fn command_is_well_formed(command: &Command)
         | Command::Resume(number)
         | Command::TriggerNext(number) => number_is_well_formed(*number),
         Command::Cancel(cancel) => cancel_is_well_formed(cancel),
-        Command::Feedback(report) => {
-            report_is_well_formed(&report.credential, report.action, &report.details)
+        Command::Feedback(feedback) => {
+            feedback_is_well_formed(&feedback.credential, feedback.action, &feedback.details)
         }
-        Command::CancelFeedback(report) => {
-            report_is_well_formed(&report.credential, report.action, &report.details)
+        Command::CancelFeedback(feedback) => {
+            feedback_is_well_formed(&feedback.credential, feedback.action, &feedback.details)
         }
     }
 }

@@ -1,4 +1,4 @@
-//! What devices report of their actions.
+//! What devices say of their actions.
 
 ghost use Rattle.std.specs.Prelude.{◌≡◌, IfOk};
 
@@ -15,7 +15,7 @@ pub enum NoteWord {
     Resumed,
 }
 
-/// What a device reports of a deployment.
+/// What a device says of a deployment.
 #[derive(Clone, Copy)]
 pub enum DeploymentWord {
     /// It was installed, for good.
@@ -27,7 +27,7 @@ pub enum DeploymentWord {
     Noted(NoteWord),
 }
 
-/// What a device reports of a cancel.
+/// What a device says of a cancel.
 #[derive(Clone, Copy)]
 pub enum CancelWord {
     /// The action is given up, for good.
@@ -39,22 +39,22 @@ pub enum CancelWord {
     Noted(NoteWord),
 }
 
-/// A device's report of one of its actions.
+/// A device's feedback on one of its actions.
 #[derive(Drop)]
-pub struct Report<W> {
+pub struct DeviceFeedback<W> {
     pub credential: Credential,
     pub action: ActionNo,
     pub word: W,
     pub details: Details,
 }
 
-impl<W: Copy> Report<W> {
-    /// The same report in memory of its own.
-    pub fn copy(&self, alloc: Global) -> Result<Report<W>, AllocError>
-        ensures { IfOk result (λ report. report ≡ self.now) }
+impl<W: Copy> DeviceFeedback<W> {
+    /// The same feedback in memory of its own.
+    pub fn copy(&self, alloc: Global) -> Result<DeviceFeedback<W>, AllocError>
+        ensures { IfOk result (λ feedback. feedback ≡ self.now) }
     {
         let details = self.details.copy(alloc)?;
-        Ok(Report {
+        Ok(DeviceFeedback {
             credential: self.credential,
             action: self.action,
             word: self.word,
@@ -63,11 +63,18 @@ impl<W: Copy> Report<W> {
     }
 }
 
-/// A report as the history of its action keeps it.
+/// What a device says of an action: of its deployment, or of its cancel.
+#[derive(Clone, Copy)]
+pub enum Said {
+    Deployment(DeploymentWord),
+    Cancel(CancelWord),
+}
+
+/// Feedback as the history of its action keeps it.
 #[derive(Drop)]
-pub enum HistoryEntry {
-    Deployment(DeploymentWord, Details),
-    Cancel(CancelWord, Details),
+pub struct HistoryEntry {
+    pub said: Said,
+    pub details: Details,
 }
 
 impl HistoryEntry {
@@ -75,13 +82,9 @@ impl HistoryEntry {
     pub fn copy(&self, alloc: Global) -> Result<HistoryEntry, AllocError>
         ensures { IfOk result (λ entry. entry ≡ self.now) }
     {
-        match self {
-            HistoryEntry::Deployment(word, details) => {
-                Ok(HistoryEntry::Deployment(*word, details.copy(alloc)?))
-            }
-            HistoryEntry::Cancel(word, details) => {
-                Ok(HistoryEntry::Cancel(*word, details.copy(alloc)?))
-            }
-        }
+        Ok(HistoryEntry {
+            said: self.said,
+            details: self.details.copy(alloc)?,
+        })
     }
 }

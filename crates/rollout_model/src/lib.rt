@@ -53,7 +53,7 @@ pub use detail::Detail;
 pub use details::Details;
 pub use digest::Digest;
 pub use distribution_set::{DistributionSet, SetLabel};
-pub use feedback::{CancelWord, DeploymentWord, HistoryEntry, NoteWord, Report};
+pub use feedback::{CancelWord, DeploymentWord, DeviceFeedback, HistoryEntry, NoteWord, Said};
 pub use filename::Filename;
 pub use filter_text::FilterText;
 pub use group_count::GroupCount;

@@ -8,7 +8,7 @@ use crate::config_data::ConfigData;
 use crate::contents::Contents;
 use crate::credential::Credential;
 use crate::distribution_set::{DistributionSet, SetLabel};
-use crate::feedback::{CancelWord, DeploymentWord, Report};
+use crate::feedback::{CancelWord, DeploymentWord, DeviceFeedback};
 use crate::filename::Filename;
 use crate::filter_text::FilterText;
 use crate::module::{Module, ModuleLabel};
@@ -55,10 +55,10 @@ pub enum Command {
     TriggerNext(RolloutNo),
     /// Cancels an action of a target.
     Cancel(Cancel),
-    /// What a device reports of a deployment.
-    Feedback(Report<DeploymentWord>),
-    /// What a device reports of a cancel.
-    CancelFeedback(Report<CancelWord>),
+    /// What a device says of a deployment.
+    Feedback(DeviceFeedback<DeploymentWord>),
+    /// What a device says of a cancel.
+    CancelFeedback(DeviceFeedback<CancelWord>),
 }
 
 impl Command {
@@ -123,7 +123,7 @@ pub enum Query {
     Actions(ControllerId, Page),
     /// An action of a target.
     Action(ControllerId, ActionNo),
-    /// A page of what a device reported of an action, in the order of the reports.
+    /// A page of the feedback on an action, in its order.
     History(ControllerId, ActionNo, Page),
     /// A page of the rollouts, in the order of their numbers.
     Rollouts(Page),

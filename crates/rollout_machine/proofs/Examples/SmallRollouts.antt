@@ -1,4 +1,4 @@
--- Small rollouts worked by hand: how members are cut, too few of them, the words of groups, and a report.
+-- Small rollouts worked by hand: how members are cut, too few of them, the words of groups, and feedback.
 use Rattle.std.proofs.Common.{◌≡◌, ℕ, List, [], ◌∷◌, ◌++◌, Option, Some, None, refl}
 use Rattle.std.specs.Option.{option_map}
 use Rattle.std.specs.Prelude.{map, codes}
@@ -57,7 +57,7 @@ resume_starts_it = refl
 failure_ends_both : words (rolled_out (only 1) 1 100 100 ++ fails 1 1 ∷ []) ≡ Some (FinishedRollout, FinishedGroup ∷ [])
 failure_ends_both = refl
 
--- ---- a report
+-- ---- feedback
 
 abbrev reported : ℕ → ℕ → ℕ → GroupWord → ShownGroup
 reported i size ok word = record { number = i; size = size; ok = ok; bad = 0; gone = 0; word = word }

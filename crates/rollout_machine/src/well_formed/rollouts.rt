@@ -30,7 +30,7 @@ pub(super) fn cancel_is_well_formed(cancel: &Cancel)
     let _action = cancel.action.get();
 }
 
-pub(super) fn report_is_well_formed(credential: &Credential, action: ActionNo, details: &Details)
+pub(super) fn feedback_is_well_formed(credential: &Credential, action: ActionNo, details: &Details)
     ensures { (is_credential credential.now && (is_number action && are_details details.now)) ≡ true }
 {
     let _id = credential.id.as_str();

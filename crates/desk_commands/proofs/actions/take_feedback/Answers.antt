@@ -1,22 +1,28 @@
 use Rattle.desk_store.proofs.LedgersOfRecords.{ledger_made}
 use Rattle.desk_commands.proofs.ComposeLemmas.{accepted_at, refused_at}
-use Rattle.std.proofs.Common.{refl}
+use Rattle.std.proofs.Common.{[], ◌∷◌, refl}
 use Rattle.campaign_core.proofs.SoundLemmas.{records_are_sound}
+use Rattle.rollout_machine.specs.Actions.{OfDeployment, entry_of, outcome_of_deployment}
+use Rattle.rollout_machine.specs.Commands.{Feedback}
 use Rattle.rollout_machine.specs.Records.{records}
-use Rattle.desk_commands.proofs.ActingSteps.{feedback_accepted, feedback_acts}
-use Rattle.desk_commands.proofs.KnownActions.{report_viewed}
+use Rattle.campaign_core.specs.declared.rollout_checks.RolloutChange.TheVariants as change
+use Rattle.campaign_core.specs.declared.rollout_checks.RolloutCommandView.TheVariants as view
+use Rattle.desk_commands.specs.SeenActions.{feedback_view_seen}
+use Rattle.desk_commands.proofs.ActingSteps.{feedback_taken}
+use Rattle.desk_commands.proofs.KnownActions.{feedback_viewed}
 use Rattle.desk_commands.proofs.actions.take_feedback.Goals as goal
 
 pub returns-in-Err-clause-steps : goal.returns-in-Err-clause-steps
 returns-in-Err-clause-steps g c =
     refused_at c.in_ok-seen.ensures.reads
-    (λ h valid w. (rw c.report_view.ensures at c.in-Err.ensures.decides) (records h) (records_are_sound h valid) (report_viewed h valid c.args.report.now.action c.args.report.now.credential c.in_ok-seen.seen w))
+    (λ h valid w. (rw c.feedback_view.ensures at c.in-Err.ensures.decides) (records h) (records_are_sound h valid) (feedback_viewed h valid c.args.given.now.action c.args.given.now.credential c.in_ok-seen.seen w))
 
 pub returns-clause-steps : goal.returns-clause-steps
 returns-clause-steps g c =
-    let decides = rw c.report_view.ensures at c.in-Ok.ensures.decides in
-    let makes = rw c.report_view.ensures at c.in-Ok.ensures.makes in
-    accepted_at c.in_ok-seen.ensures.reads _
-    (feedback_acts c.in_ok-seen.seen c.in-Ok.accepted c.in_ok-told.told c.args.report.now c.report_is_well_formed.ensures decides makes c.in_ok-told.ensures)
-    (ledger_made _ c.in_ok-act_by.ensures.writes) _
-    (λ h valid w. (feedback_accepted c.in_ok-seen.seen c.in-Ok.accepted c.in_ok-told.told c.args.report.now c.report_is_well_formed.ensures decides makes c.in_ok-told.ensures h valid w, refl))
+    let given = c.args.given.now in
+    let seen = c.in_ok-seen.seen in
+    let decides = rw c.feedback_view.ensures at c.in-Ok.ensures.decides in
+    let makes = rw c.feedback_view.ensures at c.in-Ok.ensures.makes in
+    let taken = feedback_taken seen c.in-Ok.accepted c.in_ok-told.told given.credential given.action (Feedback given) (entry_of OfDeployment given ∷ []) (view.Feedback (feedback_view_seen seen)) change.Feedback (outcome_of_deployment given.word) (λ b. b)
+    (λ o. refl) (λ rs w. w) (λ o old new leads. leads) refl c.feedback_is_well_formed.ensures decides makes c.in_ok-told.ensures in
+    accepted_at c.in_ok-seen.ensures.reads _ (λ h valid w. (taken h valid w).1) (ledger_made _ c.in_ok-act_by.ensures.writes) _ (λ h valid w. ((taken h valid w).0, refl))

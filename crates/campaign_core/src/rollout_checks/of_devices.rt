@@ -1,4 +1,4 @@
-//! What devices report of their actions.
+//! Feedback of devices, on whichever of their actions.
 
 ghost use Rattle.std.specs.Prelude.{◌≡◌, true, false, Some, None, MatchResult};
 ghost use Rattle.rollout_machine.specs.Verdicts.{same_outcome};
@@ -9,21 +9,21 @@ use super::actions::{ActionChange, ActionView};
 use rollout_machine::Outcome;
 use rollout_model::Refusal;
 
-/// An action of the device that reports, whose group is started.
+/// An action of the device that the feedback is from, whose group is started.
 #[derive(Clone, Copy)]
-pub struct ReportedAction {
+pub struct DeviceAction {
     /// How many notes were taken.
     pub notes: u32,
     pub action: ActionView,
 }
 
-/// What a report rests on.
+/// What feedback rests on.
 #[derive(Clone, Copy)]
-pub struct ReportView {
+pub struct FeedbackView {
     /// Whether no target has the device's id and the digest of its token.
     pub misses_device: bool,
     /// The action, where it is the device's and its group is started.
-    pub reported: Option<ReportedAction>,
+    pub own_action: Option<DeviceAction>,
 }
 
 /// Whether the outcome that an action had is given again.
@@ -38,7 +38,7 @@ fn is_same(gives: Option<Outcome>, had: Outcome) -> bool
     }
 }
 
-/// What a report does to an action that has its outcome: nothing, where it gives the same one again.
+/// What feedback does to an action that has its outcome: nothing, where it gives the same one again.
 pub(crate) fn repeat(gives: Option<Outcome>, had: Outcome) -> Result<Option<ActionChange>, Refusal>
     ensures { MatchResult result
         (λ c. (same_outcome gives (Some had) ≡ true) × (c ≡ None))
@@ -51,17 +51,17 @@ pub(crate) fn repeat(gives: Option<Outcome>, had: Outcome) -> Result<Option<Acti
     }
 }
 
-/// The action that is reported of, or the first refusal that applies.
-pub(crate) fn reported_action(view: &ReportView) -> Result<ReportedAction, Refusal>
+/// The action that the feedback is on, or the first refusal that applies.
+pub(crate) fn device_action(view: &FeedbackView) -> Result<DeviceAction, Refusal>
     ensures { MatchResult result
-        (λ a. (view.now.misses_device ≡ false) × (view.now.reported ≡ Some a))
+        (λ a. (view.now.misses_device ≡ false) × (view.now.own_action ≡ Some a))
         (λ refusal. device_refusal view.now ≡ Some refusal) }
 {
     if view.misses_device {
         return Err(Refusal::Unauthorized);
     }
-    match view.reported {
-        Some(reported) => Ok(reported),
+    match view.own_action {
+        Some(own_action) => Ok(own_action),
         None => Err(Refusal::NotFound),
     }
 }
