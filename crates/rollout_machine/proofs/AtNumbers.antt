@@ -1,0 +1,43 @@
+-- What stands at a number in the records of a command list.
+use Rattle.std.proofs.Common.{◌≡◌, ℕ, sym, ◌∙◌, refl, Option, Some, None}
+use Rattle.std.specs.Option.{option_map}
+use Rattle.rollout_machine.specs.Actions.{ActionPlace, action_place, action_places}
+use Rattle.rollout_machine.specs.ByteStrings.{item_numbered}
+use Rattle.rollout_machine.specs.CommandList.{CommandList}
+use Rattle.rollout_machine.specs.Records.{ActionRecord, RolloutRecord, action_in, records, rollout_in}
+use Rattle.rollout_machine.specs.Rollouts.{Rollout, rollout_at}
+use Rattle.rollout_machine.proofs.Actions.{numbered_map}
+use Rattle.rollout_machine.proofs.Induction.{no_record}
+use Rattle.rollout_machine.proofs.Whole.{rollout_numbered}
+
+-- the action is that of a place
+pub record HasPlace (h : CommandList) (k : ℕ) (a : ActionRecord) : Type 0 where
+  pub place : ActionPlace
+  pub numbered : action_place h k ≡ Some place
+  pub is : a ≡ action_in h place
+
+pub has_place : (h : CommandList) (k : ℕ) (a : ActionRecord) → item_numbered (records h).actions k ≡ Some a → HasPlace h k a
+unfolding records
+has_place h k a e = go (action_place h k) refl (sym (numbered_map (action_in h) (action_places h) k) ∙ e)
+  where
+    go : (o : Option ActionPlace) → action_place h k ≡ o → option_map (action_in h) o ≡ Some a → HasPlace h k a
+    go None d f = cc
+    go (Some p) d f = record { place = p; numbered = d; is = cc }
+
+-- the rollout is one that was created
+pub record IsOfRollout (h : CommandList) (r : ℕ) (y : RolloutRecord) : Type 0 where
+  pub rollout : Rollout
+  pub there : rollout_at h r ≡ Some rollout
+  pub is : y ≡ rollout_in h r rollout
+
+pub of_rollout : (h : CommandList) (r : ℕ) (y : RolloutRecord) → item_numbered (records h).rollouts r ≡ Some y → IsOfRollout h r y
+unfolding records
+of_rollout h r y e = go (rollout_at h r) refl
+  where
+    go : (o : Option Rollout) → rollout_at h r ≡ o → IsOfRollout h r y
+    go None d = let none : Some y ≡ None = sym e ∙ no_record h r d in cc
+    go (Some x) d = record { rollout = x; there = d; is = (let same : Some y ≡ Some (rollout_in h r x) = sym e ∙ rollout_numbered h r x d in cc) }
+
+pub recorded : (h : CommandList) (r : ℕ) (x : Rollout) → rollout_at h r ≡ Some x → item_numbered (records h).rollouts r ≡ Some (rollout_in h r x)
+unfolding records
+recorded h r x e = rollout_numbered h r x e
