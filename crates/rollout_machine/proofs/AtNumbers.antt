@@ -1,6 +1,7 @@
 -- What stands at a number in the records of a command list.
-use Rattle.std.proofs.Common.{◌≡◌, ℕ, sym, ◌∙◌, refl, Option, Some, None}
+use Rattle.std.proofs.Common.{◌≡◌, ℕ, zero, suc, ◌<◌, ◌≤◌, sym, ◌∙◌, refl, arith, List, length, get_or, Option, Some, None}
 use Rattle.std.specs.Option.{option_map}
+use Rattle.std.proofs.lemmas.Option.{slice_get-get_or, slice_get_within}
 use Rattle.rollout_machine.specs.Actions.{ActionPlace, action_place, action_places}
 use Rattle.rollout_machine.specs.ByteStrings.{item_numbered}
 use Rattle.rollout_machine.specs.CommandList.{CommandList}
@@ -9,6 +10,14 @@ use Rattle.rollout_machine.specs.Rollouts.{Rollout, rollout_at}
 use Rattle.rollout_machine.proofs.Actions.{numbered_map}
 use Rattle.rollout_machine.proofs.Induction.{no_record}
 use Rattle.rollout_machine.proofs.Whole.{rollout_numbered}
+
+pub item_in : {X : Type 0} (xs : List X) (d : X) (j : ℕ) → 1 ≤ j → j ≤ length xs → (x : X) × (item_numbered xs j ≡ Some x)
+item_in xs d zero low high = absurd (omega (arith, low))
+item_in xs d (suc i) low high = (get_or xs i d, slice_get-get_or xs i d (omega (arith, high)))
+
+pub item_within : {X : Type 0} (xs : List X) (j : ℕ) (x : X) → item_numbered xs j ≡ Some x → (1 ≤ j) × (j ≤ length xs)
+item_within xs zero x e = cc
+item_within xs (suc i) x e = let less : i < length xs = slice_get_within xs i x e in (omega arith, omega (arith, less))
 
 -- the action is that of a place
 pub record HasPlace (h : CommandList) (k : ℕ) (a : ActionRecord) : Type 0 where
