@@ -5,10 +5,11 @@ use Rattle.std.proofs.lemmas.Option.{slice_get-get_or, slice_get_within}
 use Rattle.rollout_machine.specs.Actions.{ActionPlace, action_place, action_places}
 use Rattle.rollout_machine.specs.ByteStrings.{item_numbered}
 use Rattle.rollout_machine.specs.CommandList.{CommandList}
-use Rattle.rollout_machine.specs.Records.{ActionRecord, RolloutRecord, action_in, records, rollout_in}
+use Rattle.rollout_machine.specs.Records.{ActionRecord, GroupRecord, RolloutRecord, action_in, group_in, records, rollout_in}
 use Rattle.rollout_machine.specs.Rollouts.{Rollout, rollout_at}
 use Rattle.rollout_machine.proofs.Actions.{numbered_map}
 use Rattle.rollout_machine.proofs.Induction.{no_record}
+use Rattle.rollout_machine.proofs.Lists.{numbered_each}
 use Rattle.rollout_machine.proofs.Whole.{rollout_numbered}
 
 pub item_in : {X : Type 0} (xs : List X) (d : X) (j : ℕ) → 1 ≤ j → j ≤ length xs → (x : X) × (item_numbered xs j ≡ Some x)
@@ -50,3 +51,12 @@ of_rollout h r y e = go (rollout_at h r) refl
 pub recorded : (h : CommandList) (r : ℕ) (x : Rollout) → rollout_at h r ≡ Some x → item_numbered (records h).rollouts r ≡ Some (rollout_in h r x)
 unfolding records
 recorded h r x e = rollout_numbered h r x e
+
+-- the group is one of those that the plan cuts
+pub record IsOfGroup (h : CommandList) (r : ℕ) (x : Rollout) (i : ℕ) (g : GroupRecord) : Type 0 where
+  pub low : 1 ≤ i
+  pub high : i ≤ x.plan.groups
+  pub is : g ≡ group_in x r h i
+
+pub of_group : (h : CommandList) (r : ℕ) (x : Rollout) (i : ℕ) (g : GroupRecord) → item_numbered (rollout_in h r x).groups i ≡ Some g → IsOfGroup h r x i g
+of_group h r x i g e = let found = numbered_each (group_in x r h) x.plan.groups i g e in record { low = found.0; high = found.1; is = found.2 }

@@ -105,9 +105,9 @@ has_action h valid r x j there started low high =
 each_member : (h : CommandList) → IsValid h → (r : ℕ) (x : RolloutRecord) (j : ℕ) (t : Bytes) → item_numbered (records h).rollouts r ≡ Some x → x.started ≡ true → item_numbered x.members j ≡ Some t → HasAction (records h) r j
 each_member h valid r x j t there started member =
     let of = of_rollout h r x there in
-    let begun : is_rollout_started r h ≡ true = sym (ap (λ y. y.started) of.is) ∙ started in
+    let started_then : is_rollout_started r h ≡ true = sym (ap (λ y. y.started) of.is) ∙ started in
     let within = item_within of.rollout.members j t (sym (ap (λ y. item_numbered y.members j) of.is) ∙ member) in
-    has_action h valid r of.rollout j of.there begun within.0 within.1
+    has_action h valid r of.rollout j of.there started_then within.0 within.1
 
 pub actions_follow_members : ActionsFollowMembers
 actions_follow_members h valid = record {

@@ -65,7 +65,7 @@ pub stays_there : (h : CommandList) (c : Command) (r : ℕ) (x : Rollout) → ro
 stays_there h c r x e = stays_numbered (rollouts h) (created h c) r x e
 
 -- before its start the rollout had not begun, and it is there
-starts_fresh : (h : CommandList) (r : ℕ) → verdict h (Start r) ≡ None → (x : Rollout) × (rollout_at h r ≡ Some x) × (is_rollout_started r h ≡ false)
+pub starts_fresh : (h : CommandList) (r : ℕ) → verdict h (Start r) ≡ None → (x : Rollout) × (rollout_at h r ≡ Some x) × (is_rollout_started r h ≡ false)
 starts_fresh h r e =
     let row : NoneHolds (verdict_row (records h) (Start r)) = none_holds (verdict_row (records h) (Start r)) e in
     let (x, d) = found_rollout h r row.0 in
