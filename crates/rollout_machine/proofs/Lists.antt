@@ -1,5 +1,5 @@
 -- Lists made from the numbers of a range.
-use Rattle.std.proofs.Common.{◌≡◌, ℕ, zero, suc, ◌+◌, ◌<◌, ◌≤◌, [], ◌∷◌, ◌++◌, refl, ap, arith, add-one, Some}
+use Rattle.std.proofs.Common.{◌≡◌, ℕ, zero, suc, ◌+◌, ◌<◌, ◌≤◌, [], ◌∷◌, ◌++◌, refl, ap, arith, add-one, length, Some}
 use Rattle.std.specs.Prelude.{slice_get}
 use Rattle.rollout_machine.specs.ByteStrings.{item_numbered}
 use Rattle.rollout_machine.specs.Ranges.{each_from}
@@ -29,3 +29,7 @@ each_numbered f n (suc i) low high = go 1 n i (suc i) (omega arith) (omega (arit
     go a zero i j e less = absurd (omega (arith, less))
     go a (suc n) zero j e less = let same : a ≡ j = omega (arith, e) in rw same refl
     go a (suc n) (suc i) j e less = go (suc a) n i j (omega (arith, e)) (omega (arith, less))
+
+pub length_each : {X : Type 0} (f : ℕ → X) (a n : ℕ) → length (each_from f a n) ≡ n
+length_each f a zero = refl
+length_each f a (suc n) = ap suc (length_each f (suc a) n)

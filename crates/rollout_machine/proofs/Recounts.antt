@@ -146,7 +146,7 @@ none_counted Good = refl
 none_counted Bad = refl
 none_counted Gone = refl
 
-tally_is : (o : Outcome) (x : Rollout) (r i : ℕ) (h : CommandList) → IsValid h → rollout_at h r ≡ Some x → 1 ≤ i → i ≤ x.plan.groups → count_actions o r (bounds_in x i) (map (action_in h) (action_places h)) ≡ tally o x r i h
+pub tally_is : (o : Outcome) (x : Rollout) (r i : ℕ) (h : CommandList) → IsValid h → rollout_at h r ≡ Some x → 1 ≤ i → i ≤ x.plan.groups → count_actions o r (bounds_in x i) (map (action_in h) (action_places h)) ≡ tally o x r i h
 tally_is o x r i h v d a u = over_places o r (bounds_in x i) h (action_places h) ∙ placed_count (is_counted o r (bounds_in x i) h) r (size_of x) only h v same_size ∙ go (is_rollout_started r h) refl where
   only : OnlyOf r (is_counted o r (bounds_in x i) h)
   only q j ne = rw (ne_eqb q r ne) refl
