@@ -21,15 +21,6 @@ pub numbered_each : {X : Type 0} (f : ℕ → X) (n i : ℕ) (x : X) → item_nu
 numbered_each f n zero x e = cc
 numbered_each f n (suc i) x e = let found = get_each f 1 n i x e in let k : 1 + i ≡ suc i = omega arith in (omega arith, omega (arith, found.0), rw k at found.1)
 
-pub each_numbered : {X : Type 0} (f : ℕ → X) (n i : ℕ) → 1 ≤ i → i ≤ n → item_numbered (each_from f 1 n) i ≡ Some (f i)
-each_numbered f n zero low high = absurd (omega (arith, low))
-each_numbered f n (suc i) low high = go 1 n i (suc i) (omega arith) (omega (arith, high))
-  where
-    go : (a n i j : ℕ) → a + i ≡ j → i < n → slice_get (each_from f a n) i ≡ Some (f j)
-    go a zero i j e less = absurd (omega (arith, less))
-    go a (suc n) zero j e less = let same : a ≡ j = omega (arith, e) in rw same refl
-    go a (suc n) (suc i) j e less = go (suc a) n i j (omega (arith, e)) (omega (arith, less))
-
 pub length_each : {X : Type 0} (f : ℕ → X) (a n : ℕ) → length (each_from f a n) ≡ n
 length_each f a zero = refl
 length_each f a (suc n) = ap suc (length_each f (suc a) n)

@@ -12,7 +12,7 @@ pub record CountsNoMore (members : ℕ) (g : GroupRecord) : Type 0 where
   pub bad : g.bad ≤ members
   pub gone : g.gone ≤ members
 
--- a rollout has no more members than a desk has targets, and no more groups than the limit and its members
+-- a rollout has no more members than a desk takes targets, and no more groups than the limit and than its members
 pub record IsWithinLimits (x : RolloutRecord) : Type 0 where
   pub members : length x.members ≤ target_limit
   pub some_groups : 1 ≤ x.plan.groups
