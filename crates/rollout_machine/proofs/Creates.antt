@@ -99,7 +99,7 @@ past_all [] i e = refl
 past_all (x ∷ xs) zero e = absurd (omega arith)
 past_all (x ∷ xs) (suc i) e = past_all xs i (omega arith)
 
-length_in : (h : CommandList) (a : ℕ) (xs : List Rollout) → length (rollouts_in h a xs) ≡ length xs
+pub length_in : (h : CommandList) (a : ℕ) (xs : List Rollout) → length (rollouts_in h a xs) ≡ length xs
 length_in h a [] = refl
 length_in h a (x ∷ xs) = ap suc (length_in h (suc a) xs)
 

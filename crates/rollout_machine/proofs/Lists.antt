@@ -1,5 +1,7 @@
 -- Lists made from the numbers of a range.
-use Rattle.std.proofs.Common.{◌≡◌, ℕ, zero, suc, ◌+◌, [], ◌∷◌, ◌++◌, refl, ap, arith, add-one}
+use Rattle.std.proofs.Common.{◌≡◌, ℕ, zero, suc, ◌+◌, ◌<◌, ◌≤◌, [], ◌∷◌, ◌++◌, refl, ap, arith, add-one, length, Some}
+use Rattle.std.specs.Prelude.{slice_get}
+use Rattle.rollout_machine.specs.ByteStrings.{item_numbered}
 use Rattle.rollout_machine.specs.Ranges.{each_from}
 
 longer : {X : Type 0} (f : ℕ → X) (a n : ℕ) → each_from f a (suc n) ≡ each_from f a n ++ f (a + n) ∷ []
@@ -8,3 +10,17 @@ longer f a (suc n) = let e : suc a + n ≡ a + suc n = omega arith in ap (λ xs.
 
 pub each_from_more : {X : Type 0} (f : ℕ → X) (a n j : ℕ) (x : X) → j ≡ a + n → x ≡ f j → each_from f a (n + 1) ≡ each_from f a n ++ x ∷ []
 each_from_more f a n j x e d = rw (add-one, d, e) (longer f a n)
+
+get_each : {X : Type 0} (f : ℕ → X) (a n i : ℕ) (x : X) → slice_get (each_from f a n) i ≡ Some x → (i < n) × (x ≡ f (a + i))
+get_each f a zero i x e = cc
+get_each f a (suc n) zero x e = let k : a + 0 ≡ a = omega arith in (omega arith, rw k (cc))
+get_each f a (suc n) (suc i) x e = let rest = get_each f (suc a) n i x e in let k : suc a + i ≡ a + suc i = omega arith in (omega (arith, rest.0), rw (← k) rest.1)
+
+-- what stands at a number in the list of the numbers from 1 on
+pub numbered_each : {X : Type 0} (f : ℕ → X) (n i : ℕ) (x : X) → item_numbered (each_from f 1 n) i ≡ Some x → (1 ≤ i) × (i ≤ n) × (x ≡ f i)
+numbered_each f n zero x e = cc
+numbered_each f n (suc i) x e = let found = get_each f 1 n i x e in let k : 1 + i ≡ suc i = omega arith in (omega arith, omega (arith, found.0), rw k at found.1)
+
+pub length_each : {X : Type 0} (f : ℕ → X) (a n : ℕ) → length (each_from f a n) ≡ n
+length_each f a zero = refl
+length_each f a (suc n) = ap suc (length_each f (suc a) n)

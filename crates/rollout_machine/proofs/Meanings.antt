@@ -327,7 +327,7 @@ length_new h (Start r) = of (rollout_at h r)
     of (Some x) = length_from r 1 (size_of x)
 length_new h _ = cc
 
-length_places : (h : CommandList) → length (action_places h) ≡ started_sizes h
+pub length_places : (h : CommandList) → length (action_places h) ≡ started_sizes h
 length_places (Make approval) = refl
 length_places (h ▸ c) = length_more (action_places h) (new_places h c) ∙ rw (length_places h, length_new h c) refl
 

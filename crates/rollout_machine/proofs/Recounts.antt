@@ -65,7 +65,7 @@ pub stays_there : (h : CommandList) (c : Command) (r : ℕ) (x : Rollout) → ro
 stays_there h c r x e = stays_numbered (rollouts h) (created h c) r x e
 
 -- before its start the rollout had not begun, and it is there
-starts_fresh : (h : CommandList) (r : ℕ) → verdict h (Start r) ≡ None → (x : Rollout) × (rollout_at h r ≡ Some x) × (is_rollout_started r h ≡ false)
+pub starts_fresh : (h : CommandList) (r : ℕ) → verdict h (Start r) ≡ None → (x : Rollout) × (rollout_at h r ≡ Some x) × (is_rollout_started r h ≡ false)
 starts_fresh h r e =
     let row : NoneHolds (verdict_row (records h) (Start r)) = none_holds (verdict_row (records h) (Start r)) e in
     let (x, d) = found_rollout h r row.0 in
@@ -146,7 +146,7 @@ none_counted Good = refl
 none_counted Bad = refl
 none_counted Gone = refl
 
-tally_is : (o : Outcome) (x : Rollout) (r i : ℕ) (h : CommandList) → IsValid h → rollout_at h r ≡ Some x → 1 ≤ i → i ≤ x.plan.groups → count_actions o r (bounds_in x i) (map (action_in h) (action_places h)) ≡ tally o x r i h
+pub tally_is : (o : Outcome) (x : Rollout) (r i : ℕ) (h : CommandList) → IsValid h → rollout_at h r ≡ Some x → 1 ≤ i → i ≤ x.plan.groups → count_actions o r (bounds_in x i) (map (action_in h) (action_places h)) ≡ tally o x r i h
 tally_is o x r i h v d a u = over_places o r (bounds_in x i) h (action_places h) ∙ placed_count (is_counted o r (bounds_in x i) h) r (size_of x) only h v same_size ∙ go (is_rollout_started r h) refl where
   only : OnlyOf r (is_counted o r (bounds_in x i) h)
   only q j ne = rw (ne_eqb q r ne) refl

@@ -1,0 +1,160 @@
+-- The numbers of a desk are within its limits.
+use Rattle.std.proofs.Common.{◌≡◌, ℕ, cond, zero, suc, ◌+◌, ◌<◌, ◌≤◌, Bool, true, false, ◌||◌, List, [], ◌∷◌, map, length, refl, sym, ap, subst, arith, inl, inr, Option, Some, None}
+use Rattle.std.specs.Prelude.{filter, nat_le, slice_get}
+use Rattle.std.proofs.lemmas.Bool.{and_parts, leb-false, leb-true, ltb-false}
+use Rattle.std.proofs.lemmas.List.{length-append, length-map}
+use Rattle.std.proofs.lemmas.List.Sums.{count_by-le-length, length-filter}
+use Rattle.target_filter.specs.Grammar.{Tree}
+use Rattle.rollout_machine.specs.Actions.{action_places, outcome}
+use Rattle.rollout_machine.specs.CommandList.{CommandList, Make, ◌▸◌}
+use Rattle.rollout_machine.specs.CommandRules.{IsWellFormed, is_plan}
+use Rattle.rollout_machine.specs.Commands.{AddArtifact, Bytes, Command, CreateRollout, PutTargets, RolloutPlan, Good, Bad, Gone}
+use Rattle.rollout_machine.specs.Counts.{is_outcome}
+use Rattle.rollout_machine.specs.Effects.{HasSoundPlan}
+use Rattle.rollout_machine.specs.Filters.{matches}
+use Rattle.target_filter.specs.Profile.{filter_of}
+use Rattle.rollout_machine.specs.Ranges.{count_from}
+use Rattle.rollout_machine.specs.Records.{action_in, added_artifacts, artifacts, group_in, rollout_in, records, rollouts_in}
+use Rattle.rollout_machine.specs.Rollouts.{Rollout, chosen, created, first_of, members_of, rollout_at, rollouts, size_in, size_of}
+use Rattle.rollout_machine.specs.Targets.{Target, target_ids, target_in, targets}
+use Rattle.rollout_machine.specs.Validity.{IsValid}
+use Rattle.rollout_machine.specs.Verdicts.{verdict, verdict_row}
+use Rattle.rollout_machine.specs.WithinLimits.{CountsNoMore, IsWithinLimits, LimitsHold}
+use Rattle.rollout_machine.proofs.AtNumbers.{of_group, of_rollout}
+use Rattle.rollout_machine.proofs.Creates.{length_in}
+use Rattle.rollout_machine.proofs.Cuts.{all_cut, ends_at, last_grows}
+use Rattle.rollout_machine.proofs.Induction.{either_numbered, invariant_of}
+use Rattle.rollout_machine.proofs.StartedSizes.{few_actions}
+use Rattle.rollout_machine.proofs.Valid.{NoneHolds, none_holds}
+
+-- ---- what the verdicts refuse
+
+or_reached : (b : Bool) (limit n : ℕ) → (b || nat_le limit n) ≡ false → n < limit
+or_reached true limit n e = cc
+or_reached false limit n e = leb-false limit n e
+
+few_artifacts : (h : CommandList) → IsValid h → length (artifacts h) ≤ 256
+unfolding records
+few_artifacts (Make approval) valid = omega arith
+few_artifacts (h ▸ c) valid = rw (length-append (artifacts h) (added_artifacts c)) (go c valid.2 (few_artifacts h valid.0))
+  where
+    go : (c : Command) → verdict h c ≡ None → length (artifacts h) ≤ 256 → length (artifacts h) + length (added_artifacts c) ≤ 256
+    go (AddArtifact upload) e ih =
+        let row : NoneHolds (verdict_row (records h) (AddArtifact upload)) = none_holds (verdict_row (records h) (AddArtifact upload)) e in
+        let less : length (artifacts h) < 256 = or_reached _ 256 (length (artifacts h)) row.1.1.1.0 in
+        omega (arith, less)
+    go _ e ih = omega (arith, ih)
+
+few_rollouts : (h : CommandList) → IsValid h → length (rollouts h) ≤ 1000
+unfolding records
+few_rollouts (Make approval) valid = omega arith
+few_rollouts (h ▸ c) valid = rw (length-append (rollouts h) (created h c)) (go c valid.2 (few_rollouts h valid.0))
+  where
+    go : (c : Command) → verdict h c ≡ None → length (rollouts h) ≤ 1000 → length (rollouts h) + length (created h c) ≤ 1000
+    go (CreateRollout plan) e ih =
+        let row : NoneHolds (verdict_row (records h) (CreateRollout plan)) = none_holds (verdict_row (records h) (CreateRollout plan)) e in
+        let less : length (rollouts_in h 1 (rollouts h)) < 1000 = leb-false 1000 (length (rollouts_in h 1 (rollouts h))) row.1.1.1.1.0 in
+        omega (arith, less, length_in h 1 (rollouts h))
+    go _ e ih = omega (arith, ih)
+
+ids_are : (h : CommandList) (ids : List Bytes) → map (λ (t : Target). t.id) (map (target_in h) ids) ≡ ids
+ids_are h [] = refl
+ids_are h (t ∷ ids) = ap (λ ts. t ∷ ts) (ids_are h ids)
+
+few_ids : (h : CommandList) → IsValid h → length (target_ids h) ≤ 10000
+unfolding records
+few_ids (Make approval) valid = omega arith
+few_ids (h ▸ c) valid = go c valid.2 (few_ids h valid.0)
+  where
+    go : (c : Command) → verdict h c ≡ None → length (target_ids h) ≤ 10000 → length (target_ids (h ▸ c)) ≤ 10000
+    go (PutTargets rows) e ih =
+        let row : NoneHolds (verdict_row (records h) (PutTargets rows)) = none_holds (verdict_row (records h) (PutTargets rows)) e in
+        rw ids_are at (ltb-false _ _ row.0)
+    go _ e ih = ih
+
+few_targets : (h : CommandList) → IsValid h → length (targets h) ≤ 10000
+few_targets h valid = omega (arith, few_ids h valid, length-map (target_ids h) (target_in h))
+
+-- ---- the rollouts, one by one
+
+chosen_few : (o : Option Tree) (ts : List Target) → length (chosen o ts) ≤ length ts
+chosen_few None ts = omega arith
+chosen_few (Some f) ts =
+    let mapped : length (map (λ (t : Target). t.id) (filter (matches f) ts)) ≡ length (filter (matches f) ts) = length-map (filter (matches f) ts) (λ (t : Target). t.id) in
+    omega (arith, mapped, length-filter (matches f) ts, count_by-le-length (matches f) ts)
+
+record IsSmall (x : Rollout) : Type 0 where
+  members : size_of x ≤ 10000
+  groups : x.plan.groups ≤ 50
+
+abbrev made : RolloutPlan → List Bytes → Rollout
+made plan members = record { plan = plan; members = members }
+
+few_groups : (plan : RolloutPlan) → is_plan plan ≡ true → plan.groups ≤ 50
+few_groups plan formed = leb-true _ _ (and_parts _ _ (and_parts _ _ formed).0).1
+
+new_is_small : (h : CommandList) (c : Command) → IsWellFormed c → length (targets h) ≤ 10000 → (i : ℕ) (x : Rollout) → slice_get (created h c) i ≡ Some x → IsSmall x
+new_is_small h (CreateRollout plan) formed few zero x e =
+    let new : IsSmall (made plan (members_of plan.filter_text h)) = record { members = omega (arith, chosen_few (filter_of plan.filter_text) (targets h), few); groups = few_groups plan formed } in
+    let both : Some (made plan (members_of plan.filter_text h)) ≡ Some x = e in
+    let same : made plan (members_of plan.filter_text h) ≡ x = cc in
+    subst IsSmall same new
+new_is_small h (CreateRollout plan) formed few (suc i) x e = cc
+new_is_small h _ formed few i x e = cc
+
+are_small : (h : CommandList) → IsValid h → (r : ℕ) (x : Rollout) → rollout_at h r ≡ Some x → IsSmall x
+are_small (Make approval) valid zero x e = cc
+are_small (Make approval) valid (suc i) x e = cc
+are_small (h ▸ c) valid r x e = elim (either_numbered (rollouts h) (created h c) r x e) [
+  | inl old ↦ are_small h valid.0 r x old
+  | inr new ↦ new_is_small h c valid.1 (few_targets h valid.0) new.1.0 x new.1.1
+]
+
+-- ---- counts
+
+count_few : (p : ℕ → Bool) (first n : ℕ) → count_from p first n ≤ n
+count_few p first zero = omega arith
+count_few p first (suc n) = go (p (first + n)) (count_few p first n)
+  where
+    go : (b : Bool) → count_from p first n ≤ n → count_from p first n + cond b 1 0 ≤ suc n
+    go true few = omega arith
+    go false few = omega arith
+
+-- a group has no more members than its rollout
+size_few : (x : Rollout) (i : ℕ) → HasSoundPlan x → 1 ≤ i → i ≤ x.plan.groups → size_in x i ≤ size_of x
+size_few x i sound low high =
+    let ends : _ = ends_at (size_of x) x.plan.groups i sound.some_groups low in
+    let before : _ = last_grows (size_of x) x.plan.groups i x.plan.groups sound.some_groups high in
+    let all : _ = all_cut (size_of x) x.plan.groups sound.some_groups in
+    omega (arith, ends, before, all)
+
+group_counts : (h : CommandList) (r : ℕ) (x : Rollout) (i : ℕ) → HasSoundPlan x → 1 ≤ i → i ≤ x.plan.groups → CountsNoMore (size_of x) (group_in x r h i)
+group_counts h r x i sound low high =
+    let size = size_few x i sound low high in
+    record {
+      ok = omega (arith, size, count_few (λ j. is_outcome Good (outcome h r j)) (first_of x i) (size_in x i));
+      bad = omega (arith, size, count_few (λ j. is_outcome Bad (outcome h r j)) (first_of x i) (size_in x i));
+      gone = omega (arith, size, count_few (λ j. is_outcome Gone (outcome h r j)) (first_of x i) (size_in x i));
+    }
+
+rollout_is_within : (h : CommandList) → IsValid h → (r : ℕ) (x : Rollout) → rollout_at h r ≡ Some x → IsWithinLimits (rollout_in h r x)
+rollout_is_within h valid r x there =
+    let small = are_small h valid r x there in
+    let sound = ((invariant_of h valid).follows r x there).sound in
+    record {
+      members = small.members;
+      some_groups = sound.some_groups;
+      groups = small.groups;
+      enough = sound.enough;
+      counts = λ i g e. let of = of_group h r x i g e in subst (CountsNoMore (size_of x)) (sym of.is) (group_counts h r x i sound of.low of.high);
+    }
+
+pub limits_hold : LimitsHold
+unfolding records
+limits_hold h valid = record {
+  artifacts = few_artifacts h valid;
+  targets = few_targets h valid;
+  rollouts = omega (arith, few_rollouts h valid, length_in h 1 (rollouts h));
+  actions = omega (arith, length-map (action_places h) (action_in h), few_actions h 10000 valid (λ i x e. (are_small h valid (suc i) x e).members), few_rollouts h valid);
+  each = λ r y e. let of = of_rollout h r y e in subst IsWithinLimits (sym of.is) (rollout_is_within h valid r of.rollout of.there);
+}
