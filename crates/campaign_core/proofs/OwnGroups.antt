@@ -2,11 +2,10 @@
 use Rattle.std.proofs.Common.{◌≡◌, ◌<◌, ◌≤◌, ℕ, zero, suc, ◌+◌, Bool, true, false, ◌&&◌, ◌||◌, not, cond, List, Option, None, refl, sym, ap, subst, ◌∙◌, arith, inl, inr}
 use Rattle.std.specs.Prelude.{nat_eq, nat_lt}
 use Rattle.std.proofs.lemmas.Bool.{cases_lt, cases_order, eq-eqb, eqb-true, le-ltb, lt-ltb, ltb-true, ne_eqb}
-use Rattle.rollout_machine.proofs.Cuts.{group_of, in_its_group}
 use Rattle.rollout_machine.proofs.EffectLaws.{feedback_follows, settled}
 use Rattle.rollout_machine.proofs.Induction.{Invariant, invariant_of}
 use Rattle.rollout_machine.proofs.Ties.{IsFollowed, find_group, find_holding, last_is, views}
-use Rattle.rollout_machine.proofs.Valid.{IsPlace}
+use Rattle.rollout_machine.proofs.Valid.{IsPlace, its_group}
 use Rattle.rollout_machine.specs.Actions.{ActionPlace}
 use Rattle.rollout_machine.specs.CommandList.{CommandList, ◌▸◌}
 use Rattle.rollout_machine.specs.Counts.{reaches, success_holds, tally}
@@ -15,7 +14,7 @@ use Rattle.rollout_machine.specs.Progress.{is_group_started, is_paused, is_rollo
 use Rattle.rollout_machine.specs.Ranges.{each_from}
 use Rattle.rollout_machine.specs.RecordSteps.{group_view, last_started, view_of}
 use Rattle.rollout_machine.specs.Records.{action_in, group_in, rollout_in}
-use Rattle.rollout_machine.specs.Rollouts.{Rollout, error_at, size_in, size_of, success_at}
+use Rattle.rollout_machine.specs.Rollouts.{Rollout, error_at, size_in, success_at}
 use Rattle.rollout_machine.specs.StateWords.{group_is_started, group_numbered, number_of_group}
 use Rattle.rollout_machine.specs.declared.outcome.Outcome.{Outcome}
 use Rattle.rollout_machine.specs.declared.outcome.Outcome.TheVariants.{Good, Bad, Gone}
@@ -147,11 +146,10 @@ some_last x r g (suc l) h low w begun = omega arith
 at_place : (h : CommandList) (p : ActionPlace) (w : IsPlace h p) (l : ℕ) → IsFollowed w.rollout p.rollout h l → 1 ≤ l → OwnDecides (rollout_in h p.rollout w.rollout) (action_in h p)
 at_place h p w l f least o =
     let x = w.rollout in
-    let g = group_of (size_of x) x.plan.groups p.position in
-    let place = in_its_group (size_of x) x.plan.groups p.position w.sound.some_groups w.sound.enough w.low w.high in
-    let found = find_holding x p.rollout h 1 x.plan.groups g p.position w.sound.some_groups place.2 (omega (arith, place.3)) place.0 place.1 in
+    let own = its_group h p w in
+    let found = find_holding x p.rollout h _ p.position w.sound own in
     subst (λ i. effects_of (view_of (rollout_in h p.rollout x) i) o ≡ own_effects (own_view_of (rollout_in h p.rollout x) i) o) (sym (ap number_of_group found))
-    (in_group x p.rollout g l h f place.2 place.3 least o)
+    (in_group x p.rollout _ l h f own.first own.last least o)
 
 pub own_group_decides : OwnGroupDecides
 own_group_decides h k a x valid numbered there =

@@ -1,20 +1,17 @@
 -- The words of statuses are those of the records of a command list.
-use Rattle.std.proofs.Common.{◌≡◌, ◌≤◌, ℕ, zero, suc, Bool, true, false, ◌&&◌, cond, List, [], ◌∷◌, Option, Some, None, refl, ap, sym, ◌∙◌, arith}
+use Rattle.std.proofs.Common.{◌≡◌, ℕ, zero, suc, Bool, true, false, ◌&&◌, cond, List, [], ◌∷◌, Option, Some, None, refl, ap, sym, ◌∙◌}
 use Rattle.std.specs.List.{list_all, list_any}
 use Rattle.std.specs.Prelude.{is_none}
 use Rattle.std.proofs.lemmas.Bool.{false≢true, or_parts}
-use Rattle.rollout_machine.specs.Actions.{ActionPlace}
 use Rattle.rollout_machine.specs.CommandList.{CommandList}
-use Rattle.rollout_machine.specs.Effects.{HasSoundPlan, IsInGroup}
 use Rattle.rollout_machine.specs.Ranges.{each_from}
 use Rattle.rollout_machine.specs.Records.{Approval, group_in, approval_of, action_in, records}
 use Rattle.rollout_machine.specs.declared.records.GroupRecord.{GroupRecord}
 use Rattle.rollout_machine.specs.declared.records.ActionRecord.{ActionRecord}
-use Rattle.rollout_machine.specs.Progress.{is_rollout_started, is_group_started, is_paused}
-use Rattle.rollout_machine.specs.Rollouts.{Rollout, rollout_at}
-use Rattle.rollout_machine.specs.StateWords.{RolloutWord, GroupWord, ActionWord, all_final, word_from, group_holding, group_is_started, is_started_in, has_started, TargetWord, Unknown, Pending, InSync, InError, word_by_last, started_actions_of}
-use Rattle.rollout_machine.proofs.Ties.{find_holding}
-use Rattle.rollout_machine.proofs.Whole.{rollout_numbered}
+use Rattle.rollout_machine.specs.Progress.{is_rollout_started, is_paused}
+use Rattle.rollout_machine.specs.Rollouts.{Rollout}
+use Rattle.rollout_machine.specs.StateWords.{RolloutWord, GroupWord, ActionWord, all_final, word_from, has_started, TargetWord, Unknown, Pending, InSync, InError, word_by_last, started_actions_of}
+use Rattle.rollout_machine.proofs.Valid.{has_started_is}
 use Rattle.campaign_core.specs.StatusWords.{is_final, group_word_from, action_word_from, status_of_group, FollowsRollout, FollowsGroup, FollowsAction, last_word, last_outcome, target_word_from, FollowsTarget}
 use Rattle.campaign_core.specs.declared.status_words.RolloutStatus.{RolloutStatus}
 use Rattle.campaign_core.specs.declared.status_words.GroupStatus.{GroupStatus}
@@ -45,18 +42,9 @@ rollout_follows s groups over word all is x r h status whole =
 pub group_follows : (started : Bool) (s : GroupStatus) (word : GroupWord) → word ≡ group_word_from started s → FollowsGroup started s word
 group_follows started s word is x r i h begun status = is ∙ ap (λ (b : Bool). group_word_from b s) begun ∙ ap (group_word_from (is_rollout_started r h)) status
 
--- the record's word on an action's group is the list's
-group_begun : (x : Rollout) (i : ℕ) (p : ActionPlace) (h : CommandList) → rollout_at h p.rollout ≡ Some x → HasSoundPlan x → 1 ≤ i → i ≤ x.plan.groups → IsInGroup x i p.position
-    → is_group_started x p.rollout i h ≡ has_started (records h) (action_in h p)
-unfolding records
-group_begun x i p h there sound first last within =
-    let held : group_holding p.position (each_from (group_in x p.rollout h) 1 x.plan.groups) ≡ Some (group_in x p.rollout h i) =
-    find_holding x p.rollout h 1 x.plan.groups i p.position sound.some_groups first (omega (arith, last)) within.low (omega (arith, within.low, within.high)) in
-    sym (ap (λ o. is_started_in o (action_in h p)) (rollout_numbered h p.rollout x there) ∙ ap group_is_started held)
-
 pub action_follows : (s : ActionStatus) (word : ActionWord) → word ≡ action_word_from s → FollowsAction s word
 action_follows s word is x i p h status =
-    let begun : s.started ≡ has_started (records h) (action_in h p) = status.started ∙ group_begun x i p h status.there status.sound status.first status.last status.within in
+    let begun : s.started ≡ has_started (records h) (action_in h p) = status.started ∙ sym (has_started_is h h p x i status.there status.sound (record { first = status.first; last = status.last; within = status.within })) in
     is ∙ (λ j. action_word_from (record { outcome = status.outcome j; started = begun j; canceling = status.canceling j }))
 
 -- ---- targets

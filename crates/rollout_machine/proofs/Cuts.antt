@@ -1,79 +1,91 @@
--- The cutting rule: groups follow one another, none is empty, and no position is in two.
-use Rattle.std.proofs.Common.{◌≡◌, ℕ, zero, suc, ◌+◌, ◌-◌, ◌*◌, ◌/◌, ◌<◌, ◌≤◌, inl, inr, arith}
+-- Groups follow one another, none is empty, and each member is in one of them and in no two.
+use Rattle.std.proofs.Common.{◌≡◌, ℕ, zero, suc, ◌+◌, ◌-◌, ◌*◌, ◌/◌, ◌<◌, ◌≤◌, Bool, true, false, cond, nat_le, inl, inr, refl, sym, subst, arith}
 use Rattle.std.proofs.lemmas.Nat.{le-div}
-use Rattle.std.proofs.lemmas.Bool.{cases_order}
-use Rattle.std.proofs.Math.Nat.{div-mul-le_self, lt-div-mul-add, div-lt_iff_lt-mul}
-use Rattle.rollout_machine.specs.Groups.{last_position, first_position, group_size}
+use Rattle.std.proofs.lemmas.Bool.{and_parts, cases_order, le-leb, leb-false, leb-true}
+use Rattle.std.proofs.Math.Nat.{div-mul-le_self, div-lt_iff_lt-mul}
+use Rattle.rollout_machine.specs.Effects.{HasSoundPlan, IsInGroup}
+use Rattle.rollout_machine.specs.Groups.{IsCut, holds_position, last_position}
+use Rattle.rollout_machine.specs.Rollouts.{Rollout, bounds_in, last_of, size_in, size_of}
 
-pub div_grows : (a b n : ℕ) → 0 < n → a ≤ b → a / n ≤ b / n
-div_grows a b n pos le = le-div (a / n) b n pos (omega (arith, div-mul-le_self a n))
-
-pub last_grows : (m n i k : ℕ) → 0 < n → i ≤ k → last_position m n i ≤ last_position m n k
-last_grows m n i k pos le = div_grows (i * m) (k * m) n pos (scaled i k m le)
+-- The cut into even groups is one. Nothing else need know how it is computed.
+pub even_is_cut : (m n : ℕ) → 1 ≤ n → n ≤ m → IsCut (last_position m n) m n
+even_is_cut m n some enough = record {
+  begins = (let top : 0 * m / n < 1 = (div-lt_iff_lt-mul {x = 0 * m} {y = 1} some).1 (omega arith) in omega arith);
+  rises = λ i k less. le-div (i * m / n) (k * m) n some (omega (arith, div-mul-le_self (i * m) n, scaled i k m less));
+  grows = λ i less. le-div (i * m / n + 1) ((i + 1) * m) n some (omega (arith, div-mul-le_self (i * m) n));
+  whole =
+      let low : m ≤ n * m / n = le-div m (n * m) n some (omega arith) in
+      let top : n * m / n < m + 1 = (div-lt_iff_lt-mul {x = n * m} {y = m + 1} some).1 (omega arith) in
+      omega arith;
+}
   where
     scaled : (i k m : ℕ) → i ≤ k → i * m ≤ k * m
-    scaled i k m le = grind arith
+    scaled i k m less = grind arith
 
-grows_by_one : (a m n : ℕ) → 0 < n → n ≤ m → a / n + 1 ≤ (a + m) / n
-grows_by_one a m n pos le =
-    let low : a / n * n ≤ a = div-mul-le_self a n in
-    le-div (a / n + 1) (a + m) n pos (omega arith)
+-- ---- a group holds what is between its bounds
 
-pub size_positive : (m n i : ℕ) → 1 ≤ n → n ≤ m → 1 ≤ i → 1 ≤ group_size m n i
-size_positive m n zero a b c = absurd (omega arith)
-size_positive m n (suc k) a b c =
-    let more : (k * m) / n + 1 ≤ (k * m + m) / n = grows_by_one (k * m) m n a b in
-    let e : suc k * m ≡ k * m + m = omega arith in
-    let f : suc k - 1 ≡ k = omega arith in
-    rw (e, f) (omega arith)
+up_to : (first last j : ℕ) → first ≤ j → j < first + ((last + 1) - first) → j ≤ last
+up_to first last j low high = omega arith
 
--- where a group ends
-pub ends_at : (m n i : ℕ) → 1 ≤ n → 1 ≤ i → first_position m n i + group_size m n i ≡ last_position m n i + 1
-ends_at m n i a b =
-    let le : last_position m n (i - 1) ≤ last_position m n i = last_grows m n (i - 1) i a (omega arith) in
+below : (first last j : ℕ) → first ≤ j → j ≤ last → j < first + ((last + 1) - first)
+below first last j low high = omega arith
+
+pub held : (x : Rollout) (i j : ℕ) → IsInGroup x i j → holds_position j (bounds_in x i) ≡ true
+held x i j w = rw (le-leb _ _ w.low, le-leb _ _ (up_to _ _ _ w.low w.high)) refl
+
+pub in_bounds : (x : Rollout) (i j : ℕ) → holds_position j (bounds_in x i) ≡ true → IsInGroup x i j
+in_bounds x i j e =
+    let parts = and_parts _ _ e in
+    let low = leb-true _ _ parts.0 in
+    record { low = low; high = below _ _ _ low (leb-true _ _ parts.1) }
+
+-- ---- each group has a member
+
+pub size_positive : (x : Rollout) (i : ℕ) → HasSoundPlan x → 1 ≤ i → i ≤ x.plan.groups → 1 ≤ size_in x i
+size_positive x i sound a b =
+    let before : i - 1 + 1 ≡ i = omega arith in
+    let more : last_of x (i - 1) + 1 ≤ last_of x i = subst (λ k. last_of x (i - 1) + 1 ≤ last_of x k) before (sound.cut.grows (i - 1) (omega arith)) in
     omega arith
 
--- no position is in two groups
-pub one_group : (m n g i j : ℕ) → 1 ≤ n → 1 ≤ g → 1 ≤ i → first_position m n g ≤ j → j < first_position m n g + group_size m n g → first_position m n i ≤ j → j < first_position m n i + group_size m n i → i ≡ g
-one_group m n g i j a b c lg ug li ui = elim (cases_order i g) [
+-- ---- each member is in one
+
+-- the first group, up to number n, that ends at the position or behind it
+abbrev pub group_up_to : (ℕ → ℕ) → ℕ → ℕ → ℕ
+group_up_to last j zero = 0
+group_up_to last j (suc n) = cond (nat_le j (last n)) (group_up_to last j n) (suc n)
+
+abbrev pub group_of : Rollout → ℕ → ℕ
+group_of x j = group_up_to (last_of x) j x.plan.groups
+
+-- g is one of the first n groups, and holds member j
+pub record IsAmong (x : Rollout) (n g j : ℕ) : Type 0 where
+  pub first : 1 ≤ g
+  pub last : g ≤ n
+  pub within : IsInGroup x g j
+
+abbrev pub IsOwnGroup : Rollout → ℕ → ℕ → Type 0
+IsOwnGroup x g j = IsAmong x x.plan.groups g j
+
+among : (x : Rollout) (n j : ℕ) → last_of x 0 ≡ 0 → 1 ≤ j → j ≤ last_of x n → IsAmong x n (group_up_to (last_of x) j n) j
+among x zero j begins low high = absurd (omega arith)
+among x (suc n) j begins low high = go (nat_le j (last_of x n)) refl (among x n j begins low)
+  where
+    back : suc n - 1 ≡ n
+    back = omega arith
+
+    go : (b : Bool) → nat_le j (last_of x n) ≡ b → (j ≤ last_of x n → IsAmong x n (group_up_to (last_of x) j n) j) → IsAmong x (suc n) (cond b (group_up_to (last_of x) j n) (suc n)) j
+    go true is before = let w = before (leb-true _ _ is) in record { first = w.first; last = omega (arith, w.last); within = w.within }
+    go false is before =
+        let past : last_of x (suc n - 1) + 1 ≤ j = rw back (omega (arith, leb-false _ _ is)) in
+        record { first = omega arith; last = omega arith; within = record { low = past; high = below _ _ _ past high } }
+
+pub in_its_group : (x : Rollout) (j : ℕ) → HasSoundPlan x → 1 ≤ j → j ≤ size_of x → IsOwnGroup x (group_of x j) j
+in_its_group x j sound low high = among x x.plan.groups j sound.cut.begins low (subst (λ m. j ≤ m) (sym sound.cut.whole) high)
+
+-- and in no two
+pub one_group : (x : Rollout) (g i j : ℕ) → HasSoundPlan x → 1 ≤ g → 1 ≤ i → IsInGroup x g j → IsInGroup x i j → i ≡ g
+one_group x g i j sound a b w v = elim (cases_order i g) [
   | inl same ↦ same
-  | inr (inl less) ↦ (let le : last_position m n i ≤ last_position m n (g - 1) = last_grows m n i (g - 1) a (omega arith) in absurd (omega (arith, ends_at m n i a c)))
-  | inr (inr more) ↦ (let le : last_position m n g ≤ last_position m n (i - 1) = last_grows m n g (i - 1) a (omega arith) in absurd (omega (arith, ends_at m n g a b)))
+  | inr (inl less) ↦ absurd (omega (arith, sound.cut.rises i (g - 1) (omega arith)))
+  | inr (inr more) ↦ absurd (omega (arith, sound.cut.rises g (i - 1) (omega arith)))
 ]
-
--- the last group ends with the last member
-pub all_cut : (m n : ℕ) → 1 ≤ n → last_position m n n ≡ m
-all_cut m n a =
-    let low : m ≤ (n * m) / n = le-div m (n * m) n a (omega arith) in
-    let high : (n * m) / n * n ≤ n * m = div-mul-le_self (n * m) n in
-    let top : (n * m) / n < m + 1 = (div-lt_iff_lt-mul {x = n * m} {y = m + 1} a).1 (omega arith) in
-    omega arith
-
-scale : (i k m : ℕ) → i ≤ k → i * m ≤ k * m
-scale i k m le = grind arith
-
-some_product : (j n : ℕ) → 1 ≤ j → 1 ≤ n → 1 ≤ j * n
-some_product zero n a b = absurd (omega arith)
-some_product (suc j) n a b = omega arith
-
-one_less : (g m : ℕ) → 1 ≤ g → (g - 1) * m + m ≡ g * m
-one_less zero m a = absurd (omega arith)
-one_less (suc k) m a = let e : suc k - 1 ≡ k = omega arith in rw e (omega arith)
-
--- the number of the group that holds a position, in closed form
-abbrev pub group_of : ℕ → ℕ → ℕ → ℕ
-group_of m n j = (j * n + (m - 1)) / m
-
--- a position is in that group
-pub in_its_group : (m n j : ℕ) → 1 ≤ n → n ≤ m → 1 ≤ j → j ≤ m → (first_position m n (group_of m n j) ≤ j) × (j ≤ last_position m n (group_of m n j)) × (1 ≤ group_of m n j) × (group_of m n j ≤ n)
-in_its_group m n j a b c d =
-    let pos : 0 < m = omega arith in
-    let low : group_of m n j * m ≤ j * n + (m - 1) = div-mul-le_self (j * n + (m - 1)) m in
-    let high : j * n + (m - 1) < group_of m n j * m + m = lt-div-mul-add {a = j * n + (m - 1)} {b = m} pos in
-    let product : 1 ≤ j * n = some_product j n c a in
-    let bound : j * n ≤ m * n = scale j m n d in
-    let least : 1 ≤ group_of m n j = le-div 1 (j * n + (m - 1)) m pos (omega arith) in
-    let less : (group_of m n j - 1) * m + m ≡ group_of m n j * m = one_less (group_of m n j) m least in
-    let before : ((group_of m n j - 1) * m) / n < j = (div-lt_iff_lt-mul {x = (group_of m n j - 1) * m} {y = j} a).1 (omega arith) in
-    let most : (j * n + (m - 1)) / m < n + 1 = (div-lt_iff_lt-mul {x = j * n + (m - 1)} {y = n + 1} pos).1 (omega arith) in
-    (omega arith, le-div j (group_of m n j * m) n a (omega arith), least, omega arith)

@@ -47,8 +47,7 @@ no_further x r g l h w e = elim (cases_lt l g) [ inl more ↦ absurd (false≢tr
 -- from a view, one more command moves the last started group by what `opens` says
 moves : (v : RolloutView) (x : Rollout) (r g l : ℕ) (h : CommandList) (c : Command) → IsView v x r g l h → StartedOnly x r h c → (b : Bool) → starts_one_more x r h c l ≡ b → IsLast x r (h ▸ c) (last_with (next_if b v.last.number) l)
 moves v x r g l h c w s b e =
-    let fresh : success_holds x r (suc l) (h ▸ c) ≡ false = no_success x r h c w.sound s w.outcomes (suc l) (omega arith) (w.is_last.beyond (suc l) (omega arith)) in
-    rw (next_is b v.last.number l w.last.number, ← e) (last_after x r h c l w.sound.some_groups w.is_last fresh)
+    rw (next_is b v.last.number l w.last.number, ← e) (last_after x r h c l w.sound.some_groups w.is_last (no_success x r h c w.sound s w.outcomes (suc l) (omega arith) (w.is_last.beyond (suc l) (omega arith))))
 
 -- the last group's success after the command, by the view
 good_now : (v : RolloutView) (x : Rollout) (r g j l : ℕ) (h : CommandList) (c : Command) (o : Outcome) → IsView v x r g l h → GetsOutcome x r g j h c o → 1 ≤ l → reaches (good_after v o) v.last.size v.last.success ≡ success_holds x r l (h ▸ c)

@@ -17,6 +17,7 @@ use Rattle.rollout_machine.specs.Rollouts.{Rollout, rollouts, rollout_at, create
 use Rattle.rollout_machine.specs.StateWords.{word_from, rollout_word, is_finished, RolloutWord}
 use Rattle.rollout_machine.specs.Validity.{IsValid}
 use Rattle.rollout_machine.specs.Verdicts.{verdict, verdict_row, is_running, is_at_pause, is_ready, word_is}
+use Rattle.rollout_machine.proofs.Cuts.{even_is_cut}
 use Rattle.rollout_machine.proofs.Starts.{starts_one_more}
 use Rattle.rollout_machine.proofs.Tallies.{no_error_begins}
 use Rattle.rollout_machine.proofs.Ties.{IsFollowed, follow_on}
@@ -291,7 +292,7 @@ sound_in h (CreateRollout plan) m e zero x d =
     let parts : _ = and_parts _ _ m in
     let more : _ = and_parts _ _ parts.1 in
     let rest : _ = and_parts _ _ more.1 in
-    let made : HasSoundPlan (record { plan = plan; members = members_of plan.filter_text h }) = record { some_groups = leb-true _ _ (and_parts _ _ parts.0).0; enough = few; success = leb-true _ _ (and_parts _ _ more.0).0; error = leb-true _ _ (and_parts _ _ rest.0).0 } in
+    let made : HasSoundPlan (record { plan = plan; members = members_of plan.filter_text h }) = record { some_groups = leb-true _ _ (and_parts _ _ parts.0).0; cut = even_is_cut _ _ (leb-true _ _ (and_parts _ _ parts.0).0) few; success = leb-true _ _ (and_parts _ _ more.0).0; error = leb-true _ _ (and_parts _ _ rest.0).0 } in
     let options : Some (made_rollout plan (members_of plan.filter_text h)) ≡ Some x = d in
     let same : made_rollout plan (members_of plan.filter_text h) ≡ x = cc in
     subst HasSoundPlan same made

@@ -8,22 +8,19 @@ use Rattle.rollout_machine.specs.ByteStrings.{item_numbered, same_bytes}
 use Rattle.rollout_machine.specs.CommandList.{CommandList}
 use Rattle.rollout_machine.specs.Commands.{Bytes, Outcome}
 use Rattle.rollout_machine.specs.Effects.{HasSoundPlan}
-use Rattle.rollout_machine.specs.Groups.{first_position, last_position, group_size}
 use Rattle.rollout_machine.specs.Meanings.{IsOfferable, IsLeastOffer, OfferIsLeast}
 use Rattle.rollout_machine.specs.Offers.{Offer, first_offer, offer}
 use Rattle.rollout_machine.specs.Progress.{is_group_started}
 use Rattle.rollout_machine.specs.Records.{Records, ActionRecord, action_in, records}
-use Rattle.rollout_machine.specs.Rollouts.{size_of, Rollout}
-use Rattle.rollout_machine.specs.StateWords.{is_for, has_started, is_started_in, group_is_started, member_at}
+use Rattle.rollout_machine.specs.Rollouts.{Rollout}
+use Rattle.rollout_machine.specs.StateWords.{is_for, has_started, member_at}
 use Rattle.rollout_machine.specs.Validity.{IsValid}
-use Rattle.rollout_machine.proofs.Cuts.{group_of}
 use Rattle.rollout_machine.proofs.Actions.{get_map}
-use Rattle.rollout_machine.proofs.Valid.{IsPlace, started_here}
+use Rattle.rollout_machine.proofs.Valid.{IsPlace, its_group, has_started_is}
 use Rattle.std.proofs.Common.{zero, ◌+◌, ◌≤◌, ◌<◌, length}
 use Rattle.std.specs.Option.{unwrap_or}
 use Rattle.std.proofs.lemmas.Bool.{false≢true, ltb-true}
-use Rattle.rollout_machine.proofs.Cuts.{in_its_group, ends_at}
-use Rattle.rollout_machine.proofs.Ties.{find_holding}
+use Rattle.rollout_machine.proofs.Cuts.{group_of}
 use Rattle.rollout_machine.proofs.Whole.{rollout_numbered}
 use Rattle.rollout_machine.proofs.Valid.{found_action}
 use Rattle.rollout_machine.proofs.TargetTies.{same_refl, same_true}
@@ -79,9 +76,6 @@ offerable : (h : CommandList) (t : Bytes) (k : ℕ) (p : ActionPlace) → IsVali
 offerable h t k p v e d =
     let w : IsPlace h p = (invariant_of h v).placed k p e in
     let x : Rollout = w.rollout in
-    let g : ℕ = group_of (size_of x) x.plan.groups p.position in
-    let place : _ = in_its_group (size_of x) x.plan.groups p.position w.sound.some_groups w.sound.enough w.low w.high in
-    let ends : first_position (size_of x) x.plan.groups g + group_size (size_of x) x.plan.groups g ≡ last_position (size_of x) x.plan.groups g + 1 = ends_at (size_of x) x.plan.groups g w.sound.some_groups place.2 in
     let parts : (is_none (outcome h p.rollout p.position) ≡ true) × ((is_for (records h) t (action_in h p) && has_started (records h) (action_in h p)) ≡ true) = and_parts _ _ d in
     let more : (is_for (records h) t (action_in h p) ≡ true) × (has_started (records h) (action_in h p) ≡ true) = and_parts _ _ parts.1 in
     record {
@@ -89,17 +83,14 @@ offerable h t k p v e d =
       rollout = x;
       there = w.there;
       member = member_is h t p w more.0;
-      group = g;
-      first = place.2;
-      within = record { low = place.0; high = below _ _ _ _ ends place.1 };
-      started = started_here h p w more.1;
+      group = group_of x p.position;
+      first = (its_group h p w).first;
+      within = (its_group h p w).within;
+      started = sym (has_started_is h h p x _ w.there w.sound (its_group h p w)) ∙ more.1;
       is_open = is_open_of (outcome h p.rollout p.position) parts.0;
     }
-  where
-    below : (s n l j : ℕ) → s + n ≡ l + 1 → j ≤ l → j < s + n
-    below s n l j e u = omega arith
 
-within_groups : (x : Rollout) (r g : ℕ) (h : CommandList) → 1 ≤ x.plan.groups → is_group_started x r g h ≡ true → g ≤ x.plan.groups
+pub within_groups : (x : Rollout) (r g : ℕ) (h : CommandList) → 1 ≤ x.plan.groups → is_group_started x r g h ≡ true → g ≤ x.plan.groups
 within_groups x r zero h s e = omega arith
 within_groups x r (suc zero) h s e = s
 within_groups x r (suc (suc i)) h s e = let parts : _ = and_parts _ _ e in let less : suc i < x.plan.groups = ltb-true _ _ parts.0 in omega (arith, less)
@@ -109,18 +100,12 @@ unfolding records
 candidate h t k p v w =
     let x : Rollout = w.rollout in
     let s : HasSoundPlan x = ((invariant_of h v).follows p.rollout x w.there).sound in
-    let ends : first_position (size_of x) x.plan.groups w.group + group_size (size_of x) x.plan.groups w.group ≡ last_position (size_of x) x.plan.groups w.group + 1 = ends_at (size_of x) x.plan.groups w.group s.some_groups w.first in
-    let top : w.group ≤ x.plan.groups = within_groups x p.rollout w.group h s.some_groups w.started in
     three _ _ _ (ap is_none w.is_open)
     (ap (λ o. same_bytes (member_at o p.position) t) (rollout_numbered h p.rollout x w.there) ∙ (ap (λ o. same_bytes (unwrap_or o []) t) w.member ∙ same_refl t))
-    (ap (λ o. is_started_in o (action_in h p)) (rollout_numbered h p.rollout x w.there)
-    ∙ (ap group_is_started (find_holding x p.rollout h 1 x.plan.groups w.group p.position s.some_groups w.first (omega (arith, top)) w.within.low (last_of _ _ _ _ ends w.within.high)) ∙ w.started))
+    (has_started_is h h p x w.group w.there s (record { first = w.first; last = within_groups x p.rollout w.group h s.some_groups w.started; within = w.within }) ∙ w.started)
   where
     three : (a b c : Bool) → a ≡ true → b ≡ true → c ≡ true → (a && (b && c)) ≡ true
     three a b c e f g = rw (e, f, g) refl
-
-    last_of : (s n l j : ℕ) → s + n ≡ l + 1 → j < s + n → j ≤ l
-    last_of s n l j e u = omega arith
 
 pub offer_is_least : OfferIsLeast
 unfolding records

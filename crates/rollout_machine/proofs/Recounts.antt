@@ -3,25 +3,24 @@ use Rattle.rollout_machine.specs.Actions.{ActionPlace, action_places, new_places
 use Rattle.rollout_machine.specs.CommandList.{CommandList, Make, ◌▸◌}
 use Rattle.rollout_machine.specs.Commands.{Command, Start, Outcome, Good, Bad, Gone}
 use Rattle.rollout_machine.specs.Counts.{is_outcome, tally}
-use Rattle.rollout_machine.specs.Groups.{last_position, holds_position}
+use Rattle.rollout_machine.specs.Groups.{IsCut, holds_position}
 use Rattle.rollout_machine.specs.Kinds.{count_actions, counted_group, counted_rollout, stored_group, stored_rollout, derived}
 use Rattle.rollout_machine.specs.Progress.{is_rollout_started, is_start_of, is_paused}
 use Rattle.rollout_machine.specs.Promises.{StoredSayAll, DerivedFollow}
 use Rattle.rollout_machine.specs.Ranges.{count_from, each_from}
 use Rattle.rollout_machine.specs.Records.{records, action_in, ActionRecord, group_in, rollout_in, rollouts_in, approval_of, GroupRecord}
-use Rattle.rollout_machine.specs.Rollouts.{Rollout, rollout_at, rollouts, size_of, bounds_in, created}
+use Rattle.rollout_machine.specs.Rollouts.{Rollout, rollout_at, rollouts, size_of, bounds_in, last_of, created}
 use Rattle.rollout_machine.specs.StateWords.{is_finished}
 use Rattle.rollout_machine.specs.Validity.{IsValid}
 use Rattle.rollout_machine.specs.Verdicts.{verdict, verdict_row, is_ready}
 use Rattle.rollout_machine.specs.declared.bounds.Bounds.{Bounds}
 use Rattle.rollout_machine.proofs.Counts.{count_same, count_none}
 use Rattle.rollout_machine.proofs.Distinct.{position_at}
-use Rattle.rollout_machine.proofs.Cuts.{last_grows, all_cut}
 use Rattle.rollout_machine.proofs.Induction.{invariant_of, word_at, ready_not_begun, stays_numbered, found_rollout}
 use Rattle.rollout_machine.proofs.Ties.{IsFollowed, groups_go}
 use Rattle.rollout_machine.proofs.Valid.{NoneHolds, none_holds}
 use Rattle.rollout_machine.proofs.Whole.{AllNumbered, from_numbers}
-use Rattle.std.proofs.Common.{◌≡◌, ℕ, zero, suc, ◌+◌, ◌-◌, ◌≤◌, ◌<◌, Bool, true, false, cond, ◌&&◌, ◌||◌, List, [], ◌∷◌, ◌++◌, refl, sym, ◌∙◌, ap, arith, inl, inr, Option, Some, None}
+use Rattle.std.proofs.Common.{◌≡◌, ℕ, zero, suc, ◌+◌, ◌-◌, ◌≤◌, ◌<◌, Bool, true, false, cond, ◌&&◌, ◌||◌, List, [], ◌∷◌, ◌++◌, refl, sym, ◌∙◌, ap, subst, arith, inl, inr, Option, Some, None}
 use Rattle.std.specs.Prelude.{map, nat_eq, nat_le, slice_get}
 use Rattle.std.proofs.lemmas.Bool.{cases_eq, ne_eqb, eq-eqb, lt-leb, le-leb}
 
@@ -164,20 +163,17 @@ tally_is o x r i h v d a u = over_places o r (bounds_in x i) h (action_places h)
       ∙ count_same (λ j. is_counted o r (bounds_in x i) h (record { rollout = r; position = j })) (λ j. holds_position j (bounds_in x i) && is_outcome o (outcome h r j)) 1 (size_of x) (λ j l w. rw (eq-eqb r r refl) refl)
       ∙ parts
     where
-      low : last_position (size_of x) x.plan.groups (i - 1) ≤ last_position (size_of x) x.plan.groups i
-      low = last_grows (size_of x) x.plan.groups (i - 1) i sound.sound.some_groups (omega arith)
-
-      high : last_position (size_of x) x.plan.groups i ≤ size_of x
-      high = let top : last_position (size_of x) x.plan.groups i ≤ last_position (size_of x) x.plan.groups x.plan.groups = last_grows (size_of x) x.plan.groups i x.plan.groups sound.sound.some_groups u in omega (arith, top, all_cut (size_of x) x.plan.groups sound.sound.some_groups)
+      cut : IsCut (last_of x) (size_of x) x.plan.groups
+      cut = sound.sound.cut
 
       split : (k l m : ℕ) → k ≤ l → l ≤ m → (s t : ℕ) × (l ≡ k + s) × (m ≡ k + s + t) × (s ≡ (l + 1) - (k + 1))
       split k l m a b = (l - k, m - l, omega arith, omega arith, omega arith)
 
       parts : count_from (λ j. holds_position j (bounds_in x i) && is_outcome o (outcome h r j)) 1 (size_of x) ≡ tally o x r i h
       parts =
-          let (s, t, es, et, size) = split (last_position (size_of x) x.plan.groups (i - 1)) (last_position (size_of x) x.plan.groups i) (size_of x) low high in
+          let (s, t, es, et, size) = split (last_of x (i - 1)) (last_of x i) (size_of x) (cut.rises (i - 1) i (omega arith)) (subst (λ m. last_of x i ≤ m) cut.whole (cut.rises i x.plan.groups u)) in
           ap (count_from (λ j. holds_position j (bounds_in x i) && is_outcome o (outcome h r j)) 1) et
-          ∙ between (λ j. is_outcome o (outcome h r j)) (bounds_in x i) (last_position (size_of x) x.plan.groups (i - 1)) s t (omega arith) es
+          ∙ between (λ j. is_outcome o (outcome h r j)) (bounds_in x i) (last_of x (i - 1)) s t (omega arith) es
           ∙ ap (count_from (λ j. is_outcome o (outcome h r j)) (bounds_in x i).first) size
 
 -- ---- the records

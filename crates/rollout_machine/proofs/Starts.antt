@@ -51,19 +51,21 @@ next_is x r h c (suc k) w =
     at_next (nat_lt (suc k) x.plan.groups) (next_started x r (suc k) (is_group_started x r (suc k)) h) (is_group_started x r (suc k) (h ▸ c)) (is_group_started x r (suc k) h) _ (is_trigger_of r c)
     (w.beyond (suc (suc k)) (omega arith)) (kept_started x r (suc k) h c was) was
 
-no_further : (x : Rollout) (r : ℕ) (h : CommandList) (c : Command) (l : ℕ) → IsLast x r h l → success_holds x r (suc l) (h ▸ c) ≡ false → (i : ℕ) → suc l < i → is_group_started x r i (h ▸ c) ≡ false
+no_further : (x : Rollout) (r : ℕ) (h : CommandList) (c : Command) (l : ℕ) → IsLast x r h l → (suc l ≤ x.plan.groups → success_holds x r (suc l) (h ▸ c) ≡ false) → (i : ℕ) → suc l < i → is_group_started x r i (h ▸ c) ≡ false
 no_further x r h c l w fresh zero u = refl
 no_further x r h c l w fresh (suc zero) u = absurd (omega arith)
-no_further x r h c l w fresh (suc (suc k)) u =
-    past_next (nat_lt (suc k) x.plan.groups) (next_started x r (suc k) (is_group_started x r (suc k)) h) (is_group_started x r (suc k) (h ▸ c)) (is_group_started x r (suc k) h) (not (is_paused x r (h ▸ c))) (success_holds x r (suc k) (h ▸ c)) (is_trigger_of r c)
-    (w.beyond (suc (suc k)) (omega arith)) (w.beyond (suc k) (omega arith))
-    (elim (cases_eq (suc k) (suc l)) [ inl same ↦ inr (rw same fresh) | inr other ↦ inl (no_further x r h c l w fresh (suc k) (omega arith)) ])
+no_further x r h c l w fresh (suc (suc k)) u = elim (cases_Bool (nat_lt (suc k) x.plan.groups)) [
+  | inr above ↦ rw above refl
+  | inl more ↦ past_next (nat_lt (suc k) x.plan.groups) (next_started x r (suc k) (is_group_started x r (suc k)) h) (is_group_started x r (suc k) (h ▸ c)) (is_group_started x r (suc k) h) (not (is_paused x r (h ▸ c))) (success_holds x r (suc k) (h ▸ c)) (is_trigger_of r c)
+      (w.beyond (suc (suc k)) (omega arith)) (w.beyond (suc k) (omega arith))
+      (elim (cases_eq (suc k) (suc l)) [ inl same ↦ inr (rw same (fresh (omega (arith, same, ltb-true _ _ more)))) | inr other ↦ inl (no_further x r h c l w fresh (suc k) (omega arith)) ])
+]
 
 within_next : (x : Rollout) (r : ℕ) (h : CommandList) (c : Command) (l : ℕ) → 1 ≤ x.plan.groups → l ≤ x.plan.groups → starts_one_more x r h c l ≡ true → suc l ≤ x.plan.groups
 within_next x r h c zero g w e = g
 within_next x r h c (suc k) g w e = elim (cases_Bool (nat_lt (suc k) x.plan.groups)) [ inl t ↦ ltb-true _ _ t | inr f ↦ absurd (false≢true (rw f at e)) ]
 
-last_by : (x : Rollout) (r : ℕ) (h : CommandList) (c : Command) (l : ℕ) → 1 ≤ x.plan.groups → IsLast x r h l → success_holds x r (suc l) (h ▸ c) ≡ false → (b : Bool) → starts_one_more x r h c l ≡ b → IsLast x r (h ▸ c) (cond b (suc l) l)
+last_by : (x : Rollout) (r : ℕ) (h : CommandList) (c : Command) (l : ℕ) → 1 ≤ x.plan.groups → IsLast x r h l → (suc l ≤ x.plan.groups → success_holds x r (suc l) (h ▸ c) ≡ false) → (b : Bool) → starts_one_more x r h c l ≡ b → IsLast x r (h ▸ c) (cond b (suc l) l)
 last_by x r h c l g w fresh true e = record {
   within = within_next x r h c l g w.within e;
   up_to = λ i a u. elim (cases_eq i (suc l)) [ inl same ↦ rw same (next_is x r h c l w ∙ e) | inr other ↦ kept_started x r i h c (w.up_to i a (omega arith)) ];
@@ -76,7 +78,7 @@ last_by x r h c l g w fresh false e = record {
 }
 
 -- At most one group starts in a command: the last started group moves by one where `opens` says so.
-pub last_after : (x : Rollout) (r : ℕ) (h : CommandList) (c : Command) (l : ℕ) → 1 ≤ x.plan.groups → IsLast x r h l → success_holds x r (suc l) (h ▸ c) ≡ false → IsLast x r (h ▸ c) (cond (starts_one_more x r h c l) (suc l) l)
+pub last_after : (x : Rollout) (r : ℕ) (h : CommandList) (c : Command) (l : ℕ) → 1 ≤ x.plan.groups → IsLast x r h l → (suc l ≤ x.plan.groups → success_holds x r (suc l) (h ▸ c) ≡ false) → IsLast x r (h ▸ c) (cond (starts_one_more x r h c l) (suc l) l)
 last_after x r h c l g w fresh = last_by x r h c l g w fresh (starts_one_more x r h c l) refl
 
 pub last_made : (x : Rollout) (r : ℕ) (approval : Bool) → IsLast x r (Make approval) 0

@@ -1,5 +1,5 @@
 -- How one command changes the outcomes and the counts of a rollout's groups.
-use Rattle.std.proofs.Common.{◌≡◌, ℕ, zero, suc, ◌+◌, ◌*◌, ◌≤◌, Bool, true, false, cond, ◌||◌, ◌&&◌, not, refl, sym, ◌∙◌, ap, arith, inl, inr, Option, Some, None}
+use Rattle.std.proofs.Common.{◌≡◌, ℕ, zero, suc, ◌+◌, ◌*◌, ◌≤◌, Bool, true, false, cond, ◌||◌, ◌&&◌, not, refl, sym, ◌∙◌, ap, subst, arith, inl, inr, Option, Some, None}
 use Rattle.std.specs.Prelude.{nat_le, nat_eq}
 use Rattle.std.specs.Option.{option_or}
 use Rattle.std.proofs.lemmas.Bool.{cases_eq, cases_Bool, lt-leb, ne_eqb, false≢true}
@@ -10,7 +10,7 @@ use Rattle.rollout_machine.specs.Counts.{tally, reaches, success_holds, is_outco
 use Rattle.rollout_machine.specs.Effects.{IsInGroup, HasSoundPlan, StartedOnly, OutcomesStarted, GetsOutcome}
 use Rattle.rollout_machine.specs.Progress.{is_group_started, is_paused, error_begins_at, is_pause_of, is_resume_of, is_trigger_of, is_start_of}
 use Rattle.rollout_machine.specs.Ranges.{some_up_to}
-use Rattle.rollout_machine.specs.Rollouts.{Rollout, first_of, size_in, size_of}
+use Rattle.rollout_machine.specs.Rollouts.{Rollout, first_of, size_in}
 use Rattle.rollout_machine.proofs.Counts.{count_same, count_none, count_one, none_up_to, one_up_to}
 use Rattle.rollout_machine.proofs.Cuts.{one_group, size_positive}
 use Rattle.rollout_machine.proofs.Starts.{kept_started}
@@ -36,11 +36,10 @@ still_open x r h c s o i j a w e = elim (cases_Bool (is_on_action h c r j)) [
 ]
 
 -- so it has no success at it
-pub no_success : (x : Rollout) (r : ℕ) (h : CommandList) (c : Command) → HasSoundPlan x → StartedOnly x r h c → OutcomesStarted x r h → (i : ℕ) → 1 ≤ i → is_group_started x r i h ≡ false → success_holds x r i (h ▸ c) ≡ false
-no_success x r h c w s o i a e =
+pub no_success : (x : Rollout) (r : ℕ) (h : CommandList) (c : Command) → HasSoundPlan x → StartedOnly x r h c → OutcomesStarted x r h → (i : ℕ) → 1 ≤ i → is_group_started x r i h ≡ false → i ≤ x.plan.groups → success_holds x r i (h ▸ c) ≡ false
+no_success x r h c w s o i a e b =
     let none : tally Good x r i (h ▸ c) ≡ 0 = count_none _ _ _ (λ j l u. ap (is_outcome Good) (still_open x r h c s o i j a (record { low = l; high = u }) e)) in
-    let some : 1 ≤ size_in x i = size_positive (size_of x) x.plan.groups i w.some_groups w.enough a in
-    rw none (few x.plan.success (size_in x i) w.success some)
+    rw none (few x.plan.success (size_in x i) w.success (size_positive x i w a b))
   where
     few : (s n : ℕ) → 1 ≤ s → 1 ≤ n → nat_le (s * n) (100 * 0) ≡ false
     few zero n a b = absurd (omega arith)
@@ -94,7 +93,7 @@ pub tally_elsewhere : (q : Outcome) (x : Rollout) (r g j : ℕ) (h : CommandList
 tally_elsewhere q x r g j h c o s w i a ne = tally_same q x r i h c (λ k v. others x r g j h c o w k (λ e. ne (place k v e)))
   where
     place : (k : ℕ) → IsInGroup x i k → k ≡ j → i ≡ g
-    place k v e = one_group (size_of x) x.plan.groups g i k s.some_groups w.first a (rw e w.within.low) (rw e w.within.high) v.low v.high
+    place k v e = one_group x g i k s w.first a (subst (IsInGroup x g) (sym e) w.within) v
 
 -- ---- pauses
 

@@ -7,18 +7,17 @@ use Rattle.rollout_machine.specs.Actions.{ActionPlace, action_of, outcome}
 use Rattle.rollout_machine.specs.CommandList.{CommandList, ◌▸◌}
 use Rattle.rollout_machine.specs.Commands.{Command, Cancel, Feedback, CancelFeedback, Resume, TriggerNext, Pause, Start, Outcome, Good, Bad, Gone}
 use Rattle.rollout_machine.specs.Counts.{tally, reaches, success_holds, is_outcome}
-use Rattle.rollout_machine.specs.Effects.{IsLast, HasSoundPlan, StartedOnly, OutcomesStarted, GetsOutcome, IsGroupView, IsView, feedback_pauses, good_after, next_if, starts_next, last_with}
-use Rattle.rollout_machine.specs.Groups.{first_position, last_position}
+use Rattle.rollout_machine.specs.Effects.{IsInGroup, IsLast, HasSoundPlan, StartedOnly, OutcomesStarted, GetsOutcome, IsGroupView, IsView, feedback_pauses, good_after, next_if, starts_next, last_with}
 use Rattle.rollout_machine.specs.Progress.{is_group_started, is_paused, is_pause_of, is_resume_of, is_trigger_of, is_start_of, is_rollout_started}
 use Rattle.rollout_machine.specs.Ranges.{each_from}
 use Rattle.rollout_machine.specs.RecordSteps.{is_item_number, start_group, counted, last_started, group_view, view_from_group, view_of, rollout_after, resumed, triggered, begin_rollout}
 use Rattle.rollout_machine.specs.Records.{Approval, Given, GroupRecord, RolloutRecord, group_in, rollout_in, approval_of, approval_by, decided, decision_on, needs_approval}
-use Rattle.rollout_machine.specs.Rollouts.{Rollout, size_in, bounds_in, size_of}
+use Rattle.rollout_machine.specs.Rollouts.{Rollout, first_of, last_of, size_in, bounds_in}
 use Rattle.rollout_machine.specs.StateWords.{group_holding, group_numbered}
 use Rattle.rollout_machine.specs.declared.bounds.Bounds.{Bounds}
 use Rattle.std.specs.Prelude.{nat_le}
-use Rattle.rollout_machine.proofs.Cuts.{last_grows}
-use Rattle.std.proofs.lemmas.Bool.{le-leb, lt-leb}
+use Rattle.rollout_machine.proofs.Cuts.{IsOwnGroup, held}
+use Rattle.std.proofs.lemmas.Bool.{lt-leb}
 use Rattle.rollout_machine.specs.declared.view.Effects.{Effects}
 use Rattle.rollout_machine.proofs.Starts.{starts_one_more, last_after}
 use Rattle.rollout_machine.proofs.Tallies.{no_success, tally_same, tally_gains, tally_elsewhere, quiet, no_error_begins, outcomes_after}
@@ -51,15 +50,13 @@ find_group x r h a (suc n) i l u = elim (cases_eq a i) [
     apart : (a i : ℕ) → a ≤ i → (a ≡ i → ⊥) → suc a ≤ i
     apart a i l ne = omega arith
 
--- the group that holds a position is found by its bounds
-pub find_holding : (x : Rollout) (r : ℕ) (h : CommandList) (a n g j : ℕ) → 1 ≤ x.plan.groups → a ≤ g → g < a + n → first_position (size_of x) x.plan.groups g ≤ j → j ≤ last_position (size_of x) x.plan.groups g → group_holding j (each_from (group_in x r h) a n) ≡ Some (group_in x r h g)
-find_holding x r h a zero g j s l u p q = absurd (omega arith)
-find_holding x r h a (suc n) g j s l u p q = elim (cases_eq a g) [
-  | inl same ↦ rw same (rw (le-leb _ _ p, le-leb _ _ q) refl)
+holding_from : (x : Rollout) (r : ℕ) (h : CommandList) (a n g j : ℕ) → HasSoundPlan x → a ≤ g → g < a + n → IsInGroup x g j → group_holding j (each_from (group_in x r h) a n) ≡ Some (group_in x r h g)
+holding_from x r h a zero g j s l u w = absurd (omega arith)
+holding_from x r h a (suc n) g j s l u w = elim (cases_eq a g) [
+  | inl same ↦ rw same (rw (held x g j w) refl)
   | inr other ↦ (let less : suc a ≤ g = omega (arith, apart a g l other) in
-      let grows : last_position (size_of x) x.plan.groups a ≤ last_position (size_of x) x.plan.groups (g - 1) = last_grows (size_of x) x.plan.groups a (g - 1) s (omega arith) in
-      let past : nat_le j (last_position (size_of x) x.plan.groups a) ≡ false = lt-leb _ _ (omega arith) in
-      rw past (rw (and_false (nat_le (first_position (size_of x) x.plan.groups a) j)) (find_holding x r h (suc a) n g j s less (omega arith) p q)))
+      let past : nat_le j (last_of x a) ≡ false = lt-leb _ _ (omega (arith, s.cut.rises a (g - 1) (omega arith), w.low)) in
+      rw past (rw (and_false (nat_le (first_of x a) j)) (holding_from x r h (suc a) n g j s less (omega arith) w)))
 ]
   where
     apart : (a i : ℕ) → a ≤ i → (a ≡ i → ⊥) → suc a ≤ i
@@ -68,6 +65,10 @@ find_holding x r h a (suc n) g j s l u p q = elim (cases_eq a g) [
     and_false : (b : Bool) → (b && false) ≡ false
     and_false true = refl
     and_false false = refl
+
+-- the group that holds a position is found by its bounds
+pub find_holding : (x : Rollout) (r : ℕ) (h : CommandList) (g j : ℕ) → HasSoundPlan x → IsOwnGroup x g j → group_holding j (each_from (group_in x r h) 1 x.plan.groups) ≡ Some (group_in x r h g)
+find_holding x r h g j s w = holding_from x r h 1 x.plan.groups g j s w.first (omega (arith, w.last)) w.within
 
 none_last : (x : Rollout) (r l : ℕ) (h : CommandList) → IsLast x r h l → (a n : ℕ) → l < a → last_started (each_from (group_in x r h) a n) ≡ 0
 none_last x r l h w a zero u = refl

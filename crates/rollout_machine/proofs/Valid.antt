@@ -1,5 +1,5 @@
 -- What the verdict on a command gives: it is only on actions of started groups.
-use Rattle.std.proofs.Common.{◌≡◌, ℕ, ◌≤◌, Bool, true, false, ◌||◌, ◌&&◌, not, List, [], ◌∷◌, refl, sym, ◌∙◌, ap, subst, arith, Option, Some, None}
+use Rattle.std.proofs.Common.{◌≡◌, ℕ, ◌≤◌, Bool, true, false, ◌||◌, ◌&&◌, not, List, [], ◌∷◌, refl, sym, ◌∙◌, ap, subst, Option, Some, None}
 use Rattle.std.specs.Prelude.{nat_eq}
 use Rattle.std.specs.Option.{option_map}
 use Rattle.std.proofs.lemmas.Bool.{eqb-true, false≢true, and_parts, or_parts, not-false}
@@ -9,14 +9,12 @@ use Rattle.rollout_machine.specs.CommandList.{CommandList}
 use Rattle.rollout_machine.specs.Commands.{DeviceFeedback, DeploymentWord, CancelWord, Command, Cancel, Feedback, CancelFeedback}
 use Rattle.rollout_machine.specs.Effects.{IsInGroup, HasSoundPlan, StartedOnly}
 use Rattle.rollout_machine.specs.Progress.{is_group_started}
-use Rattle.rollout_machine.specs.Ranges.{each_from}
-use Rattle.rollout_machine.specs.Records.{group_in, action_in, records}
+use Rattle.rollout_machine.specs.Records.{action_in, records}
 use Rattle.rollout_model.specs.declared.refusal.Refusal.{Refusal}
 use Rattle.rollout_machine.specs.Rollouts.{Rollout, rollout_at, size_of}
-use Rattle.rollout_machine.specs.StateWords.{has_started, is_started_in, group_is_started, group_holding, is_for}
+use Rattle.rollout_machine.specs.StateWords.{has_started, is_started_in, group_is_started, is_for}
 use Rattle.rollout_machine.specs.Verdicts.{first_refusal, verdict_row, verdict, is_device_action, on_action}
-use Rattle.rollout_machine.proofs.Cuts.{group_of}
-use Rattle.rollout_machine.proofs.Cuts.{in_its_group, ends_at, one_group}
+use Rattle.rollout_machine.proofs.Cuts.{IsOwnGroup, group_of, in_its_group, one_group}
 use Rattle.rollout_machine.proofs.Ties.{find_holding}
 use Rattle.rollout_machine.proofs.Actions.{numbered_map}
 use Rattle.rollout_machine.proofs.Whole.{rollout_numbered}
@@ -39,15 +37,13 @@ pub record IsPlace (h : CommandList) (p : ActionPlace) : Type 0 where
   pub low : 1 ≤ p.position
   pub high : p.position ≤ size_of rollout
 
--- the record's word on an action's group is the history's
-pub started_here : (h : CommandList) (p : ActionPlace) (w : IsPlace h p) → has_started (records h) (action_in h p) ≡ true → is_group_started w.rollout p.rollout (group_of (size_of w.rollout) w.rollout.plan.groups p.position) h ≡ true
+pub its_group : (h : CommandList) (p : ActionPlace) (w : IsPlace h p) → IsOwnGroup w.rollout (group_of w.rollout p.position) p.position
+its_group h p w = in_its_group w.rollout p.position w.sound w.low w.high
+
+-- the record's word on an action's group is the history's, whenever the action's record is taken
+pub has_started_is : (h h' : CommandList) (p : ActionPlace) (x : Rollout) (g : ℕ) → rollout_at h p.rollout ≡ Some x → HasSoundPlan x → IsOwnGroup x g p.position → has_started (records h) (action_in h' p) ≡ is_group_started x p.rollout g h
 unfolding records
-started_here h p w e =
-    let x = w.rollout in
-    let place : _ = in_its_group (size_of x) x.plan.groups p.position w.sound.some_groups w.sound.enough w.low w.high in
-    let found : group_holding p.position (each_from (group_in x p.rollout h) 1 x.plan.groups) ≡ Some (group_in x p.rollout h (group_of (size_of x) x.plan.groups p.position)) =
-    find_holding x p.rollout h 1 x.plan.groups (group_of (size_of x) x.plan.groups p.position) p.position w.sound.some_groups place.2 (omega (arith, place.3)) place.0 place.1 in
-    sym (ap (λ o. is_started_in o (action_in h p)) (rollout_numbered h p.rollout x w.there) ∙ ap group_is_started found) ∙ e
+has_started_is h h' p x g there sound in_it = ap (λ o. is_started_in o (action_in h' p)) (rollout_numbered h p.rollout x there) ∙ ap group_is_started (find_holding x p.rollout h g p.position sound in_it)
 
 -- so the command is on actions of started groups alone
 only_started : (h : CommandList) (c : Command) (p : ActionPlace) (w : IsPlace h p) → action_of h c ≡ Some p → has_started (records h) (action_in h p) ≡ true → (r : ℕ) (x : Rollout) → rollout_at h r ≡ Some x → StartedOnly x r h c
@@ -67,12 +63,8 @@ only_started h c p w t e r x d = record { started = λ i j a v on. go i j a v (s
       where
         at_group : (i : ℕ) → 1 ≤ i → IsInGroup w.rollout i p.position → is_group_started w.rollout p.rollout i h ≡ true
         at_group i b u =
-            let y = w.rollout in
-            let g = group_of (size_of y) y.plan.groups p.position in
-            let place : _ = in_its_group (size_of y) y.plan.groups p.position w.sound.some_groups w.sound.enough w.low w.high in
-            let ends : _ = ends_at (size_of y) y.plan.groups g w.sound.some_groups place.2 in
-            let same : i ≡ g = one_group (size_of y) y.plan.groups g i p.position w.sound.some_groups place.2 b place.0 (omega (arith, place.1, ends)) u.low u.high in
-            subst (λ (k : ℕ). is_group_started y p.rollout k h ≡ true) (sym same) (started_here h p w e)
+            let same : i ≡ group_of w.rollout p.position = one_group w.rollout _ i p.position w.sound (its_group h p w).first b (its_group h p w).within u in
+            subst (λ (k : ℕ). is_group_started w.rollout p.rollout k h ≡ true) (sym same) (sym (has_started_is h h p w.rollout _ w.there w.sound (its_group h p w)) ∙ e)
 
 -- ---- the rows
 

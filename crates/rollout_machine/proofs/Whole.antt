@@ -1,5 +1,5 @@
 -- The records after one more command are the step of the records before it.
-use Rattle.std.proofs.Common.{◌≡◌, ℕ, zero, suc, ◌+◌, ◌<◌, ◌≤◌, Bool, true, false, cond, ◌&&◌, List, [], ◌∷◌, ◌++◌, refl, sym, ◌∙◌, ap, subst, arith, inl, inr, Option, Some, None}
+use Rattle.std.proofs.Common.{◌≡◌, ℕ, zero, suc, ◌+◌, ◌≤◌, Bool, true, false, cond, ◌&&◌, List, [], ◌∷◌, ◌++◌, refl, sym, ◌∙◌, ap, subst, arith, inl, inr, Option, Some, None}
 use Rattle.std.specs.Prelude.{nat_eq, map, slice_get}
 use Rattle.std.specs.Option.{option_map}
 use Rattle.std.proofs.lemmas.Bool.{cases_eq, cases_lt, ne_eqb, eq-eqb, eqb-true, false≢true, and_parts}
@@ -7,16 +7,14 @@ use Rattle.rollout_machine.specs.Actions.{ActionPlace, action_of, is_on_action, 
 use Rattle.rollout_machine.specs.ByteStrings.{item_numbered}
 use Rattle.rollout_machine.specs.CommandList.{CommandList, ◌▸◌}
 use Rattle.rollout_machine.specs.Commands.{Command, DeviceFeedback, DeploymentWord, CancelWord, AddModule, Cancel, Feedback, CancelFeedback, Resume, TriggerNext, Pause, Start, Outcome, ModuleLabel, SetLabel}
-use Rattle.rollout_machine.specs.Effects.{IsLast, IsInGroup, StartedOnly, HasSoundPlan}
-use Rattle.rollout_machine.specs.Groups.{last_position, first_position, group_size}
+use Rattle.rollout_machine.specs.Effects.{IsLast, StartedOnly, HasSoundPlan}
 use Rattle.rollout_machine.specs.Progress.{is_group_started, is_pause_of, is_resume_of, is_trigger_of, is_start_of}
 use Rattle.rollout_machine.specs.RecordSteps.{change_rollout, rollout_after, resumed, triggered, begin_rollout, rollouts_after_outcome, outcome_if_new, own_group, step_action, step_records, new_action, new_actions}
 use Rattle.rollout_machine.specs.Records.{ArtifactRecord, RolloutRecord, ActionRecord, Records, rollout_in, rollouts_in, action_in, approval_of, decision_on, needs_approval, modules, artifacts, sets, records}
 use Rattle.rollout_machine.specs.Rollouts.{Rollout, rollouts, rollout_at, size_of}
 use Rattle.rollout_machine.specs.StateWords.{number_of_group}
 use Rattle.rollout_machine.specs.Targets.{Target, targets}
-use Rattle.rollout_machine.proofs.Cuts.{group_of}
-use Rattle.rollout_machine.proofs.Cuts.{in_its_group, ends_at}
+use Rattle.rollout_machine.proofs.Cuts.{IsOwnGroup, group_of, in_its_group}
 use Rattle.rollout_machine.proofs.Tallies.{untouched, closed_stays, gives, quiet}
 use Rattle.rollout_machine.proofs.Ties.{find_holding, IsFollowed, IsCalm, calm_rollout, outcome_rollout, resume_rollout, trigger_rollout, pause_rollout, start_rollout, same_approval, silent}
 use Rattle.rollout_machine.proofs.Actions.{append_none, all_actions, calm_actions, numbered_map, map_append, same_action}
@@ -90,30 +88,21 @@ keeps h c q w t r x e o = calm_rollout x r (w.last r) h c (approval_of r h) (w.f
 
 -- the action's rollout, when it gets the outcome o
 gets : (o : Outcome) (h : CommandList) (c : Command) (q : ActionPlace) (x : Rollout) → IsAccepted h c → action_of h c ≡ Some q → rollout_at h q.rollout ≡ Some x → 1 ≤ q.position → q.position ≤ size_of x → outcome h q.rollout q.position ≡ None → outcome (h ▸ c) q.rollout q.position ≡ Some o
-    → rollout_in (h ▸ c) q.rollout x ≡ rollout_after o (group_of (size_of x) x.plan.groups q.position) (rollout_in h q.rollout x)
+    → rollout_in (h ▸ c) q.rollout x ≡ rollout_after o (group_of x q.position) (rollout_in h q.rollout x)
 gets o h c q x w t e a b was now =
     let f : IsFollowed x q.rollout h (w.last q.rollout) = w.follows q.rollout x e in
-    let g : ℕ = group_of (size_of x) x.plan.groups q.position in
-    let place : (first_position (size_of x) x.plan.groups g ≤ q.position) × (q.position ≤ last_position (size_of x) x.plan.groups g) × (1 ≤ g) × (g ≤ x.plan.groups) =
-    in_its_group (size_of x) x.plan.groups q.position f.sound.some_groups f.sound.enough a b in
-    let ends : first_position (size_of x) x.plan.groups g + group_size (size_of x) x.plan.groups g ≡ last_position (size_of x) x.plan.groups g + 1 = ends_at (size_of x) x.plan.groups g f.sound.some_groups place.2 in
-    let within : IsInGroup x g q.position = record { low = place.0; high = below _ _ _ _ ends place.1 } in
+    let g : ℕ = group_of x q.position in
+    let own : IsOwnGroup x g q.position = in_its_group x q.position f.sound a b in
     let on : is_on_action h c q.rollout q.position ≡ true = rw (t, eq-eqb q.rollout q.rollout refl, eq-eqb q.position q.position refl) refl in
-    let st : is_group_started x q.rollout g h ≡ true = (w.started q.rollout x e).started g q.position place.2 within on in
-    outcome_rollout o x q.rollout g q.position (w.last q.rollout) h c f (w.started q.rollout x e) (some_last _ _ _ _ _ f.is_last place.2 st)
-    (record { on = t; within = within; first = place.2; last = place.3; was = was; now = now })
+    let st : is_group_started x q.rollout g h ≡ true = (w.started q.rollout x e).started g q.position own.first own.within on in
+    outcome_rollout o x q.rollout g q.position (w.last q.rollout) h c f (w.started q.rollout x e) (some_last _ _ _ _ _ f.is_last own.first st)
+    (record { on = t; within = own.within; first = own.first; last = own.last; was = was; now = now })
   where
-    below : (s n l j : ℕ) → s + n ≡ l + 1 → j ≤ l → j < s + n
-    below s n l j e u = omega arith
-
     some_last : (x : Rollout) (r g l : ℕ) (h : CommandList) → IsLast x r h l → 1 ≤ g → is_group_started x r g h ≡ true → 1 ≤ l
     some_last x r g l h w a s = elim (cases_lt l g) [ inl more ↦ absurd (false≢true (sym (w.beyond g more) ∙ s)) | inr le ↦ omega arith ]
 
-own_is : (h : CommandList) (q : ActionPlace) (x : Rollout) → HasSoundPlan x → rollout_at h q.rollout ≡ Some x → 1 ≤ q.position → q.position ≤ size_of x → own_group (item_numbered (rollouts_in h 1 (rollouts h)) q.rollout) (action_in h q) ≡ group_of (size_of x) x.plan.groups q.position
-own_is h q x s e a b =
-    let place : _ = in_its_group (size_of x) x.plan.groups q.position s.some_groups s.enough a b in
-    ap (λ o. own_group o (action_in h q)) (rollout_numbered h q.rollout x e)
-    ∙ ap number_of_group (find_holding x q.rollout h 1 x.plan.groups (group_of (size_of x) x.plan.groups q.position) q.position s.some_groups place.2 (omega (arith, place.3)) place.0 place.1)
+own_is : (h : CommandList) (q : ActionPlace) (x : Rollout) → HasSoundPlan x → rollout_at h q.rollout ≡ Some x → 1 ≤ q.position → q.position ≤ size_of x → own_group (item_numbered (rollouts_in h 1 (rollouts h)) q.rollout) (action_in h q) ≡ group_of x q.position
+own_is h q x s e a b = ap (λ o. own_group o (action_in h q)) (rollout_numbered h q.rollout x e) ∙ ap number_of_group (find_holding x q.rollout h _ q.position s (in_its_group x q.position s a b))
 
 pub act_rollouts : (h : CommandList) (c : Command) (q : ActionPlace) (x : Rollout) → IsAccepted h c → action_of h c ≡ Some q → rollout_at h q.rollout ≡ Some x → 1 ≤ q.position → q.position ≤ size_of x
     → rollouts_in (h ▸ c) 1 (rollouts h) ≡ rollouts_after_outcome (outcome_if_new (outcome h q.rollout q.position) (outcome_given c (is_canceling h q.rollout q.position))) (rollouts_in h 1 (rollouts h)) (action_in h q)
@@ -129,12 +118,12 @@ act_rollouts h c q x w t e a b = go (outcome h q.rollout q.position) (outcome_gi
     same_given n = rw n refl
 
     one : (o : Outcome) → outcome h q.rollout q.position ≡ None → outcome_given c (is_canceling h q.rollout q.position) ≡ Some o → (r : ℕ) (y : Rollout) → rollout_at h r ≡ Some y
-        → rollout_in (h ▸ c) r y ≡ cond (nat_eq r q.rollout) (rollout_after o (group_of (size_of x) x.plan.groups q.position) (rollout_in h r y)) (rollout_in h r y)
+        → rollout_in (h ▸ c) r y ≡ cond (nat_eq r q.rollout) (rollout_after o (group_of x q.position) (rollout_in h r y)) (rollout_in h r y)
     one o n gv r y d = elim (cases_eq r q.rollout) [
       | inr other ↦ (let test : nat_eq r q.rollout ≡ false = ne_eqb r q.rollout other in rw test (keeps h c q w t r y d (other_rollout h c q t r (λ s. other (sym s)))))
-      | inl same ↦ (let P : ℕ → Rollout → Type 0 = λ s z. rollout_in (h ▸ c) s z ≡ cond (nat_eq s q.rollout) (rollout_after o (group_of (size_of x) x.plan.groups q.position) (rollout_in h s z)) (rollout_in h s z) in
+      | inl same ↦ (let P : ℕ → Rollout → Type 0 = λ s z. rollout_in (h ▸ c) s z ≡ cond (nat_eq s q.rollout) (rollout_after o (group_of x q.position) (rollout_in h s z)) (rollout_in h s z) in
           let now : outcome (h ▸ c) q.rollout q.position ≡ Some o = gives h c q.rollout q.position on n ∙ same_given n ∙ gv in
-          let own : P q.rollout x = gets o h c q x w t e a b n now ∙ sym (ap (λ v. cond v (rollout_after o (group_of (size_of x) x.plan.groups q.position) (rollout_in h q.rollout x)) (rollout_in h q.rollout x)) (eq-eqb q.rollout q.rollout refl)) in
+          let own : P q.rollout x = gets o h c q x w t e a b n now ∙ sym (ap (λ v. cond v (rollout_after o (group_of x q.position) (rollout_in h q.rollout x)) (rollout_in h q.rollout x)) (eq-eqb q.rollout q.rollout refl)) in
           let options : Some y ≡ Some x = sym d ∙ ap (rollout_at h) same ∙ e in
           let rollout : y ≡ x = cc in
           subst (λ (s : ℕ). P s y) (sym same) (subst (λ (z : Rollout). P q.rollout z) (sym rollout) own))
@@ -144,8 +133,8 @@ act_rollouts h c q x w t e a b = go (outcome h q.rollout q.position) (outcome_gi
     go (Some o) gv e1 e2 = calm (same_outcomes h c q t (closed_stays h c q.rollout q.position o e1 ∙ sym e1))
     go None None e1 e2 = calm (same_outcomes h c q t (gives h c q.rollout q.position on e1 ∙ same_given e1 ∙ e2 ∙ sym e1))
     go None (Some o) e1 e2 =
-        changed q.rollout (rollout_after o (group_of (size_of x) x.plan.groups q.position)) h (h ▸ c) 1 (rollouts h)
-        (from_numbers (λ r y. rollout_in (h ▸ c) r y ≡ cond (nat_eq r q.rollout) (rollout_after o (group_of (size_of x) x.plan.groups q.position) (rollout_in h r y)) (rollout_in h r y)) (rollouts h) (one o e1 e2))
+        changed q.rollout (rollout_after o (group_of x q.position)) h (h ▸ c) 1 (rollouts h)
+        (from_numbers (λ r y. rollout_in (h ▸ c) r y ≡ cond (nat_eq r q.rollout) (rollout_after o (group_of x q.position) (rollout_in h r y)) (rollout_in h r y)) (rollouts h) (one o e1 e2))
         ∙ ap (λ g. change_rollout q.rollout (rollout_after o g) (rollouts_in h 1 (rollouts h))) (sym (own_is h q x (w.follows q.rollout x e).sound e a b))
 
 -- ---- the whole records

@@ -5,8 +5,9 @@ use Rattle.rollout_machine.specs.Actions.{action_of, is_on_action, outcome}
 use Rattle.rollout_machine.specs.CommandList.{CommandList, ◌▸◌}
 use Rattle.rollout_machine.specs.Commands.{Command, Resume, TriggerNext, Outcome, Good, Bad}
 use Rattle.rollout_machine.specs.Counts.{tally, reaches, is_outcome}
+use Rattle.rollout_machine.specs.Groups.{IsCut}
 use Rattle.rollout_machine.specs.Progress.{is_group_started, is_paused}
-use Rattle.rollout_machine.specs.Rollouts.{success_at, error_at, Rollout, first_of, size_in, size_of}
+use Rattle.rollout_machine.specs.Rollouts.{success_at, error_at, Rollout, first_of, last_of, size_in, size_of}
 use Rattle.rollout_machine.specs.declared.view.GroupView.{GroupView}
 use Rattle.rollout_machine.specs.declared.view.RolloutView.{RolloutView}
 use Rattle.rollout_machine.specs.declared.view.Effects.{Effects}
@@ -25,7 +26,7 @@ pub record IsInGroup (x : Rollout) (i j : ℕ) : Type 0 where
 -- the rollout was accepted with these numbers
 pub record HasSoundPlan (x : Rollout) : Type 0 where
   pub some_groups : 1 ≤ x.plan.groups
-  pub enough : x.plan.groups ≤ size_of x
+  pub cut : IsCut (last_of x) (size_of x) x.plan.groups
   pub success : 1 ≤ x.plan.success
   pub error : 1 ≤ x.plan.error
 

@@ -1,7 +1,14 @@
 -- How members are cut into groups.
-use Rattle.std.specs.Prelude.{Bool, ◌&&◌, nat_le, ℕ, ◌+◌, ◌-◌, ◌*◌, ◌/◌, List}
+use Rattle.std.specs.Prelude.{◌≡◌, ◌≤◌, ◌<◌, Bool, ◌&&◌, nat_le, ℕ, ◌+◌, ◌-◌, ◌*◌, ◌/◌, List}
 use Rattle.rollout_machine.specs.declared.bounds.Bounds.{Bounds}
 use Rattle.rollout_machine.specs.Ranges.{each_from}
+
+-- where groups end: they follow one another, each of the n has a member, and the last ends with the last of m members
+pub record IsCut (last : ℕ → ℕ) (m n : ℕ) : Type 0 where
+  pub begins : last 0 ≡ 0
+  pub rises : (i k : ℕ) → i ≤ k → last i ≤ last k
+  pub grows : (i : ℕ) → i < n → last i + 1 ≤ last (i + 1)
+  pub whole : last n ≡ m
 
 -- the last position of group i of m members in n groups
 abbrev pub last_position : ℕ → ℕ → ℕ → ℕ

@@ -52,5 +52,8 @@ bounds_in x i = bounds_at x.plan (size_of x) i
 abbrev pub first_of : Rollout → ℕ → ℕ
 first_of x i = (bounds_in x i).first
 
+abbrev pub last_of : Rollout → ℕ → ℕ
+last_of x i = (bounds_in x i).last
+
 abbrev pub size_in : Rollout → ℕ → ℕ
 size_in x i = size_of_bounds (bounds_in x i)
