@@ -20,7 +20,8 @@ use Rattle.sql_front.proofs.Write.{Adds, adds_known}
 use Rattle.sql_front.proofs.Change.{Updates, Removes, updates_known, removes_known}
 use Rattle.sql_calls.specs.Means.{Means}
 use Rattle.sql_calls.proofs.Selects.{simple, by}
-use Rattle.desk_records.specs.declared.action_texts.TheConstants.{LAST_ACTION, GET_ACTION, LIST_ACTIONS, LIST_TARGET_ACTIONS, PUT_ACTION, SET_ACTION, PUT_FEEDBACK, LIST_ENTRIES, GET_OFFER, SET_OFFER, DROP_OFFER, NEXT_OFFER}
+use Rattle.sql_calls.proofs.Counts.{count_query}
+use Rattle.desk_records.specs.declared.action_texts.TheConstants.{LAST_ACTION, GET_ACTION, LIST_ACTIONS, COUNT_ACTIONS, LIST_TARGET_ACTIONS, PUT_ACTION, SET_ACTION, PUT_FEEDBACK, LIST_ENTRIES, GET_OFFER, LIST_OFFERS, SET_OFFER, DROP_OFFER, NEXT_OFFER}
 use Rattle.desk_records.specs.Schema.{group_table, action_table, feedback_table, offer_table}
 use Rattle.desk_records.proofs.MeaningWords.{means_of, is_equal, is_least, is_most, at_key}
 
@@ -110,6 +111,28 @@ list_actions_queries tree = record {
 
 pub list_actions_is : (s : Schema) (at tree : ℕ) → Stands s (codes "action") at (action_table tree) → Means s LIST_ACTIONS.now (Select (record { lets = []; body = list_actions_query tree }) listed_names)
 list_actions_is s at tree stands = means_of s LIST_ACTIONS.now _ (queries_known _ _ _ _ _ (list_actions_queries tree) s at stands) refl refl
+
+count_actions_queries : (tree : ℕ) → Queries COUNT_ACTIONS.now (codes "action") (action_table tree) (count_query tree) (codes "count(*)" ∷ [])
+unfolding first combine named paging everything
+count_actions_queries tree = record {
+  parsed = _;
+  select = _;
+  page = _;
+  shown = _;
+  read = refl;
+  selects = record { statement = refl; formats = refl; with = refl; others = refl };
+  one = record { source = _; from = refl; table = refl; alias = refl; on = refl; using = refl; is_inner = refl; group = refl; having = refl; shown = (tt, tt); filter = tt; sorts = tt };
+  paged = λ s. refl;
+  named_alone = refl;
+  known = refl;
+  is_body = refl;
+  are_columns = refl;
+  over = refl;
+  fits = refl;
+}
+
+pub count_actions_is : (s : Schema) (at tree : ℕ) → Stands s (codes "action") at (action_table tree) → Means s COUNT_ACTIONS.now (Select (record { lets = []; body = count_query tree }) (codes "count(*)" ∷ []))
+count_actions_is s at tree stands = means_of s COUNT_ACTIONS.now _ (queries_known _ _ _ _ _ (count_actions_queries tree) s at stands) refl refl
 
 abbrev pub of_actor : List Term
 of_actor = at_key 4 0 ∷ []
@@ -247,6 +270,37 @@ get_offer_queries tree = record {
 
 pub get_offer_is : (s : Schema) (at tree : ℕ) → Stands s (codes "offer") at (offer_table tree) → Means s GET_OFFER.now (Select (record { lets = []; body = simple tree of_controller offer_columns }) (codes "action" ∷ codes "kind" ∷ []))
 get_offer_is s at tree stands = means_of s GET_OFFER.now _ (queries_known _ _ _ _ _ (get_offer_queries tree) s at stands) refl refl
+
+abbrev pub owned_names : List (List ℕ)
+owned_names = codes "action" ∷ codes "kind" ∷ codes "controller" ∷ []
+
+abbrev pub owned_columns : List Term
+owned_columns = col 1 2 ∷ col 1 3 ∷ col 1 1 ∷ []
+
+abbrev pub offers_query : ℕ → Query
+offers_query tree = simple tree [] owned_columns
+
+list_offers_queries : (tree : ℕ) → Queries LIST_OFFERS.now (codes "offer") (offer_table tree) (offers_query tree) owned_names
+unfolding first combine named paging everything
+list_offers_queries tree = record {
+  parsed = _;
+  select = _;
+  page = _;
+  shown = _;
+  read = refl;
+  selects = record { statement = refl; formats = refl; with = refl; others = refl };
+  one = record { source = _; from = refl; table = refl; alias = refl; on = refl; using = refl; is_inner = refl; group = refl; having = refl; shown = (tt, (tt, (tt, tt))); filter = tt; sorts = tt };
+  paged = λ s. refl;
+  named_alone = refl;
+  known = refl;
+  is_body = refl;
+  are_columns = refl;
+  over = refl;
+  fits = refl;
+}
+
+pub list_offers_is : (s : Schema) (at tree : ℕ) → Stands s (codes "offer") at (offer_table tree) → Means s LIST_OFFERS.now (Select (record { lets = []; body = offers_query tree }) owned_names)
+list_offers_is s at tree stands = means_of s LIST_OFFERS.now _ (queries_known _ _ _ _ _ (list_offers_queries tree) s at stands) refl refl
 
 abbrev pub offer_values : List Term
 offer_values = col 1 1 ∷ col 0 1 ∷ col 0 2 ∷ []

@@ -17,7 +17,7 @@ use Rattle.sql_front.proofs.Texts.{Queries, queries_known}
 use Rattle.sql_front.proofs.Write.{Adds, adds_known}
 use Rattle.sql_calls.specs.Means.{Means}
 use Rattle.sql_calls.proofs.Selects.{simple, by}
-use Rattle.desk_records.specs.declared.artifact_texts.TheConstants.{FIND_ARTIFACT, LAST_ARTIFACT, GET_ARTIFACT, LIST_ARTIFACTS, GET_PIECE, PUT_ARTIFACT, PUT_PIECE}
+use Rattle.desk_records.specs.declared.artifact_texts.TheConstants.{FIND_ARTIFACT, LAST_ARTIFACT, GET_ARTIFACT, LIST_ARTIFACTS, LIST_ALL_ARTIFACTS, GET_PIECE, PUT_ARTIFACT, PUT_PIECE}
 use Rattle.desk_records.specs.Schema.{artifact_table, piece_table}
 use Rattle.desk_records.proofs.MeaningWords.{means_of, at_key}
 
@@ -129,6 +129,37 @@ list_artifacts_queries tree = record {
 
 pub list_artifacts_is : (s : Schema) (at tree : ℕ) → Stands s (codes "artifact") at (artifact_table tree) → Means s LIST_ARTIFACTS.now (Select (record { lets = []; body = artifacts_query tree }) shown_names)
 list_artifacts_is s at tree stands = means_of s LIST_ARTIFACTS.now _ (queries_known _ _ _ _ _ (list_artifacts_queries tree) s at stands) refl refl
+
+abbrev pub all_names : List (List ℕ)
+all_names = codes "module" ∷ codes "filename" ∷ codes "size" ∷ codes "sha256" ∷ codes "number" ∷ []
+
+abbrev pub all_columns : List Term
+all_columns = col 1 2 ∷ col 1 3 ∷ col 1 4 ∷ col 1 5 ∷ col 1 0 ∷ []
+
+abbrev pub all_artifacts_query : ℕ → Query
+all_artifacts_query tree = by (simple tree [] all_columns) ((col 1 0, record { descending = false; collation = Binary }) ∷ []) (lit (Int (negsuc 0))) (lit (Int (pos 0)))
+
+list_all_artifacts_queries : (tree : ℕ) → Queries LIST_ALL_ARTIFACTS.now (codes "artifact") (artifact_table tree) (all_artifacts_query tree) all_names
+unfolding first combine named paging everything
+list_all_artifacts_queries tree = record {
+  parsed = _;
+  select = _;
+  page = _;
+  shown = _;
+  read = refl;
+  selects = record { statement = refl; formats = refl; with = refl; others = refl };
+  one = record { source = _; from = refl; table = refl; alias = refl; on = refl; using = refl; is_inner = refl; group = refl; having = refl; shown = (tt, (tt, (tt, (tt, (tt, tt))))); filter = tt; sorts = (tt, tt) };
+  paged = λ s. refl;
+  named_alone = refl;
+  known = refl;
+  is_body = refl;
+  are_columns = refl;
+  over = refl;
+  fits = refl;
+}
+
+pub list_all_artifacts_is : (s : Schema) (at tree : ℕ) → Stands s (codes "artifact") at (artifact_table tree) → Means s LIST_ALL_ARTIFACTS.now (Select (record { lets = []; body = all_artifacts_query tree }) all_names)
+list_all_artifacts_is s at tree stands = means_of s LIST_ALL_ARTIFACTS.now _ (queries_known _ _ _ _ _ (list_all_artifacts_queries tree) s at stands) refl refl
 
 abbrev pub at_piece : List Term
 at_piece = at_key 1 0 ∷ at_key 2 1 ∷ []

@@ -38,3 +38,10 @@ pub mod NextOfferRecords
 pub mod GroupOffersMeaning
 mod OfferPuts
 pub mod GroupOfferWrites
+pub mod Membership
+pub mod NumberColumns
+mod TableColumns
+mod AnyRows
+pub mod PlaceRows
+pub mod RolloutRows
+pub mod HeldTables

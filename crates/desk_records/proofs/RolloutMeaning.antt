@@ -19,7 +19,8 @@ use Rattle.sql_front.proofs.Write.{Adds, adds_known}
 use Rattle.sql_front.proofs.Change.{Updates, updates_known}
 use Rattle.sql_calls.specs.Means.{Means}
 use Rattle.sql_calls.proofs.Selects.{simple, by}
-use Rattle.desk_records.specs.declared.rollout_texts.TheConstants.{FIND_ROLLOUT, LAST_ROLLOUT, GET_ROLLOUT, LIST_ROLLOUTS, LIST_MEMBERS, LIST_GROUPS, GET_GROUP, HOLDING_GROUP, GROUP_AND_NEXT, PUT_ROLLOUT, SET_ROLLOUT, PUT_MEMBER, PUT_GROUP, SET_GROUP}
+use Rattle.sql_calls.proofs.Counts.{count_query}
+use Rattle.desk_records.specs.declared.rollout_texts.TheConstants.{FIND_ROLLOUT, LAST_ROLLOUT, GET_ROLLOUT, LIST_ROLLOUTS, LIST_MEMBERS, LIST_PLACES, COUNT_MEMBERS, LIST_GROUPS, COUNT_GROUPS, GET_GROUP, HOLDING_GROUP, GROUP_AND_NEXT, PUT_ROLLOUT, SET_ROLLOUT, PUT_MEMBER, PUT_GROUP, SET_GROUP}
 use Rattle.desk_records.specs.Schema.{rollout_table, member_table, group_table}
 use Rattle.desk_records.proofs.MeaningWords.{means_of, at_key, past, at_least, at_most}
 
@@ -157,11 +158,64 @@ list_members_queries tree = record {
 pub list_members_is : (s : Schema) (at tree : ℕ) → Stands s (codes "member") at (member_table tree) → Means s LIST_MEMBERS.now (Select (record { lets = []; body = list_members_query tree }) (codes "controller" ∷ []))
 list_members_is s at tree stands = means_of s LIST_MEMBERS.now _ (queries_known _ _ _ _ _ (list_members_queries tree) s at stands) refl refl
 
-abbrev pub group_names : List (List ℕ)
-group_names = codes "number" ∷ codes "first_place" ∷ codes "last_place" ∷ codes "started" ∷ codes "ok" ∷ codes "bad" ∷ codes "gone" ∷ []
+abbrev pub placed_names : List (List ℕ)
+placed_names = codes "controller" ∷ codes "place" ∷ []
 
 abbrev pub of_rollout : List Term
 of_rollout = at_key 1 0 ∷ []
+
+abbrev pub placed_columns : List Term
+placed_columns = col 1 3 ∷ col 1 2 ∷ []
+
+abbrev pub places_query : ℕ → Query
+places_query tree = by (simple tree of_rollout placed_columns) ((col 1 2, record { descending = false; collation = Binary }) ∷ []) (lit (Int (negsuc 0))) (lit (Int (pos 0)))
+
+list_places_queries : (tree : ℕ) → Queries LIST_PLACES.now (codes "member") (member_table tree) (places_query tree) placed_names
+unfolding first combine named paging everything
+list_places_queries tree = record {
+  parsed = _;
+  select = _;
+  page = _;
+  shown = _;
+  read = refl;
+  selects = record { statement = refl; formats = refl; with = refl; others = refl };
+  one = record { source = _; from = refl; table = refl; alias = refl; on = refl; using = refl; is_inner = refl; group = refl; having = refl; shown = (tt, (tt, tt)); filter = ((refl, λ cx how x y. refl), tt, tt); sorts = (tt, tt) };
+  paged = λ s. refl;
+  named_alone = refl;
+  known = refl;
+  is_body = refl;
+  are_columns = refl;
+  over = refl;
+  fits = refl;
+}
+
+pub list_places_is : (s : Schema) (at tree : ℕ) → Stands s (codes "member") at (member_table tree) → Means s LIST_PLACES.now (Select (record { lets = []; body = places_query tree }) placed_names)
+list_places_is s at tree stands = means_of s LIST_PLACES.now _ (queries_known _ _ _ _ _ (list_places_queries tree) s at stands) refl refl
+
+count_members_queries : (tree : ℕ) → Queries COUNT_MEMBERS.now (codes "member") (member_table tree) (count_query tree) (codes "count(*)" ∷ [])
+unfolding first combine named paging everything
+count_members_queries tree = record {
+  parsed = _;
+  select = _;
+  page = _;
+  shown = _;
+  read = refl;
+  selects = record { statement = refl; formats = refl; with = refl; others = refl };
+  one = record { source = _; from = refl; table = refl; alias = refl; on = refl; using = refl; is_inner = refl; group = refl; having = refl; shown = (tt, tt); filter = tt; sorts = tt };
+  paged = λ s. refl;
+  named_alone = refl;
+  known = refl;
+  is_body = refl;
+  are_columns = refl;
+  over = refl;
+  fits = refl;
+}
+
+pub count_members_is : (s : Schema) (at tree : ℕ) → Stands s (codes "member") at (member_table tree) → Means s COUNT_MEMBERS.now (Select (record { lets = []; body = count_query tree }) (codes "count(*)" ∷ []))
+count_members_is s at tree stands = means_of s COUNT_MEMBERS.now _ (queries_known _ _ _ _ _ (count_members_queries tree) s at stands) refl refl
+
+abbrev pub group_names : List (List ℕ)
+group_names = codes "number" ∷ codes "first_place" ∷ codes "last_place" ∷ codes "started" ∷ codes "ok" ∷ codes "bad" ∷ codes "gone" ∷ []
 
 abbrev pub group_columns : List Term
 group_columns = col 1 2 ∷ col 1 3 ∷ col 1 4 ∷ col 1 5 ∷ col 1 6 ∷ col 1 7 ∷ col 1 8 ∷ []
@@ -190,6 +244,28 @@ list_groups_queries tree = record {
 
 pub list_groups_is : (s : Schema) (at tree : ℕ) → Stands s (codes "rollout_group") at (group_table tree) → Means s LIST_GROUPS.now (Select (record { lets = []; body = list_groups_query tree }) group_names)
 list_groups_is s at tree stands = means_of s LIST_GROUPS.now _ (queries_known _ _ _ _ _ (list_groups_queries tree) s at stands) refl refl
+
+count_groups_queries : (tree : ℕ) → Queries COUNT_GROUPS.now (codes "rollout_group") (group_table tree) (count_query tree) (codes "count(*)" ∷ [])
+unfolding first combine named paging everything
+count_groups_queries tree = record {
+  parsed = _;
+  select = _;
+  page = _;
+  shown = _;
+  read = refl;
+  selects = record { statement = refl; formats = refl; with = refl; others = refl };
+  one = record { source = _; from = refl; table = refl; alias = refl; on = refl; using = refl; is_inner = refl; group = refl; having = refl; shown = (tt, tt); filter = tt; sorts = tt };
+  paged = λ s. refl;
+  named_alone = refl;
+  known = refl;
+  is_body = refl;
+  are_columns = refl;
+  over = refl;
+  fits = refl;
+}
+
+pub count_groups_is : (s : Schema) (at tree : ℕ) → Stands s (codes "rollout_group") at (group_table tree) → Means s COUNT_GROUPS.now (Select (record { lets = []; body = count_query tree }) (codes "count(*)" ∷ []))
+count_groups_is s at tree stands = means_of s COUNT_GROUPS.now _ (queries_known _ _ _ _ _ (count_groups_queries tree) s at stands) refl refl
 
 abbrev pub of_group : List Term
 of_group = at_key 1 0 ∷ at_key 2 1 ∷ []

@@ -18,3 +18,8 @@ pub mod RolloutRow
 pub mod LedgerSteps
 pub mod EntryRow
 pub mod NextOffers
+pub mod MemberRow
+pub mod Tables
+pub mod Listings
+pub mod TableRows
+pub mod PlaceLists

@@ -10,6 +10,9 @@ pub const GET_ACTION: &str =
 pub const LIST_ACTIONS: &str =
     "SELECT rollout, place, controller, canceling, outcome, notes, entries, number FROM action WHERE rollout = ?1 ORDER BY number LIMIT ?2 OFFSET ?3";
 
+/// How many actions all rollouts have.
+pub const COUNT_ACTIONS: &str = "SELECT count(*) FROM action";
+
 /// The actions of a target, in the order of their numbers: at most as many as the second parameter, after as many as the third.
 pub const LIST_TARGET_ACTIONS: &str =
     "SELECT rollout, place, controller, canceling, outcome, notes, entries, number FROM action WHERE controller = ?1 ORDER BY number LIMIT ?2 OFFSET ?3";
@@ -30,6 +33,9 @@ pub const LIST_ENTRIES: &str =
 
 /// The offer of a target.
 pub const GET_OFFER: &str = "SELECT action, kind FROM offer WHERE controller = ?1";
+
+/// The offers of all targets.
+pub const LIST_OFFERS: &str = "SELECT action, kind, controller FROM offer";
 
 pub const SET_OFFER: &str = "UPDATE offer SET action = ?2, kind = ?3 WHERE controller = ?1";
 

@@ -13,6 +13,10 @@ pub const GET_ARTIFACT: &str =
 pub const LIST_ARTIFACTS: &str =
     "SELECT number, filename, size, sha256 FROM artifact WHERE module = ?1 ORDER BY number";
 
+/// The artifacts of all modules, in the order of their numbers.
+pub const LIST_ALL_ARTIFACTS: &str =
+    "SELECT module, filename, size, sha256, number FROM artifact ORDER BY number";
+
 pub const GET_PIECE: &str = "SELECT bytes FROM piece WHERE artifact = ?1 AND sequence = ?2";
 
 pub const PUT_ARTIFACT: &str =

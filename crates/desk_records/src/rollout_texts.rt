@@ -18,9 +18,19 @@ pub const LIST_ROLLOUTS: &str =
 pub const LIST_MEMBERS: &str =
     "SELECT controller FROM member WHERE rollout = ?1 AND place > ?2 ORDER BY place LIMIT ?3";
 
+/// The members of a rollout with their places, in the order of their places.
+pub const LIST_PLACES: &str =
+    "SELECT controller, place FROM member WHERE rollout = ?1 ORDER BY place";
+
+/// How many members all rollouts have.
+pub const COUNT_MEMBERS: &str = "SELECT count(*) FROM member";
+
 /// The groups of a rollout, in the order of their numbers.
 pub const LIST_GROUPS: &str =
     "SELECT number, first_place, last_place, started, ok, bad, gone FROM rollout_group WHERE rollout = ?1 ORDER BY number";
+
+/// How many groups all rollouts have.
+pub const COUNT_GROUPS: &str = "SELECT count(*) FROM rollout_group";
 
 /// The group of a rollout and a number.
 pub const GET_GROUP: &str =

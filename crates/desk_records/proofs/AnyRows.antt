@@ -1,0 +1,139 @@
+-- What a statement on one table shows, whatever rows the table has: those that pass, in its order.
+use Rattle.std.proofs.Common.{◌≡◌, ◌≤◌, ◌<◌, ℕ, ◌+◌, pos, Bool, true, false, List, [], ◌∷◌, map, filter, length, get_or, true≢false, sym, ap, subst, ◌∙◌, arith, IsPermutation}
+use Rattle.std.specs.List.{AllZip, list_all}
+use Rattle.std.specs.List.Sorted.{IsNonDecreasingBy}
+use Rattle.std.specs.Ordering.{is_lt}
+use Rattle.std.proofs.lemmas.Bool.Decides.{nat_tests}
+use Rattle.std.proofs.lemmas.Int.{ints}
+use Rattle.std.proofs.lemmas.List.{length-map}
+use Rattle.std.proofs.lemmas.List.Elements.{Contains-get_or}
+use Rattle.std.proofs.lemmas.List.Sorted.{length_permutation, IsPermutation-sym, IsNonDecreasingBy-from_all_adjacent}
+use Rattle.sqlite_value.specs.declared.value.Value.TheVariants.{Int}
+use Rattle.sqlite_value.specs.declared.keys.Key.{Key}
+use Rattle.sqlite_value.specs.Order.{Row, column, value_cmp}
+use Rattle.sqlite_value.proofs.OrderLemmas.{value_cmp-Int, then-Equal}
+use Rattle.sqlite.specs.Collation.TheVariants.{Binary}
+use Rattle.sqlite.specs.Query.{Query, IsAnswer, Output, output_cmp, page}
+use Rattle.sqlite.specs.Term.{Term, col}
+use Rattle.sqlite.specs.Tree.{Trees}
+use Rattle.sqlite.specs.Program.{overlay}
+use Rattle.sqlite_rules.specs.Lists.{Has}
+use Rattle.sqlite_rules.proofs.ListLemmas.{has_contained, has_filtered, has_kept, fails_has}
+use Rattle.sql_calls.proofs.Selects.{simple, by, passes, shown_of, shown_in, ordered_rows, IsOrdered}
+use Rattle.desk_records.specs.Listings.{AreBroken, AreSaid, IsAmong, IsSaid}
+use Rattle.desk_records.proofs.Membership.{has_mapped, has_permuted, map_has, mapped_at, same_kept, zip_at, zip_left, zip_length, zip_right}
+
+module _ (tree : ℕ) (test columns : List Term) (order : List (Term × Key)) (limit offset : Term) (params : Row) (db : Trees) (rows : List Row) (are : rows ≡ db tree)
+    (whole : (xs : List Row) → page (by (simple tree test columns) order limit offset) params xs ≡ xs) (p : Row → Bool) (judged : (row : Row) → Has rows row → passes test params row ≡ p row)
+    (shown : List Row) (answer : IsAnswer (by (simple tree test columns) order limit offset) (overlay db []) params shown) where
+  abbrev q : Query
+  q = by (simple tree test columns) order limit offset
+
+  abbrev its : List Row
+  its = filter p rows
+
+  it : IsOrdered q params (filter (passes test params) (db tree)) shown
+  it = ordered_rows tree test columns order limit offset params db shown answer
+
+  kept : filter (passes test params) (db tree) ≡ its
+  kept = ap (filter (passes test params)) (sym are) ∙ same_kept (passes test params) p rows judged
+
+  same : IsPermutation (map (shown_in q params) its) it.ordered
+  same = subst (λ l. IsPermutation (map (shown_in q params) l) it.ordered) kept it.same
+
+  shown_is : shown ≡ map (λ (o : Output). o.1) it.ordered
+  shown_is = it.is ∙ whole (map (λ (o : Output). o.1) it.ordered)
+
+  -- a row that passes, as it is shown
+  pub record IsFrom (o : Output) : Type 0 where
+    pub row : Row
+    pub among : Has rows row
+    pub passes_it : p row ≡ true
+    pub shows : o ≡ shown_in q params row
+
+  from_ordered : (o : Output) → Has it.ordered o → IsFrom o
+  from_ordered o among =
+      let source = has_mapped (shown_in q params) its o (has_permuted _ _ o (IsPermutation-sym _ _ same) among) in
+      let kept_one = has_filtered p rows source.0 source.1 in
+      record { row = source.0; among = kept_one.0; passes_it = kept_one.1; shows = source.2 }
+
+  from_output : (x : Row) → Has shown x → (o : Output) × IsFrom o × (x ≡ o.1)
+  from_output x among =
+      let source = has_mapped (λ (o : Output). o.1) it.ordered x (subst (λ l. Has l x) shown_is among) in
+      (source.0, from_ordered source.0 source.1, source.2)
+
+  pub from_shown : (x : Row) → Has shown x → (row : Row) × Has rows row × (p row ≡ true) × (x ≡ shown_of columns params row)
+  from_shown x among = let o = from_output x among in (o.1.row, o.1.among, o.1.passes_it, o.2 ∙ ap (λ (y : Output). y.1) o.1.shows)
+
+  pub is_shown : (row : Row) → Has rows row → p row ≡ true → Has shown (shown_of columns params row)
+  is_shown row among passes_it =
+      subst (λ l. Has l (shown_of columns params row)) (sym shown_is)
+      (map_has (λ (o : Output). o.1) it.ordered (shown_in q params row) (has_permuted _ _ _ same (map_has (shown_in q params) its row (has_kept p rows row among passes_it))))
+
+  pub count_shown : length shown ≡ length its
+  count_shown = ap length shown_is ∙ length-map it.ordered (λ (o : Output). o.1) ∙ length_permutation _ _ same ∙ length-map its (shown_in q params)
+
+  -- ---- what is read of them
+
+  module _ {A : Type 0} (is : Row → A → Type 0) (says : Row → A → Type 0) (means : (row : Row) → Has rows row → p row ≡ true → (a : A) → is (shown_of columns params row) a → says row a)
+      (found : List A) (reads : AllZip is shown found) where
+    sound : (a : A) → Has found a → IsSaid rows p says a
+    sound a among =
+        let x = zip_right is shown found a reads among in
+        let from = from_shown x.0 x.1 in
+        record { row = from.0; among = from.1; passes = from.2; is = means from.0 from.1 from.2 a (subst (λ y. is y a) from.3 x.2) }
+
+    complete : (row : Row) → Has rows row → p row ≡ true → IsAmong rows p says found row
+    complete row among passes_it =
+        let a = zip_left is shown found _ reads (is_shown row among passes_it) in
+        record { one = a.0; among = a.1; is = means row among passes_it a.0 a.2 }
+
+    pub are_said : AreSaid rows p says found
+    are_said = record { sound = sound; complete = complete; count = zip_length is shown found reads ∙ count_shown }
+
+    -- in the order of a number
+    module _ (key : A → ℕ) (in_order : (low high : Row) (a b : A) → says low a → says high b → is_lt (output_cmp q (shown_in q params high) (shown_in q params low)) ≡ false → key a ≤ key b) where
+      counts : length found ≡ length it.ordered
+      counts = zip_length is shown found reads ∙ ap length shown_is ∙ length-map it.ordered (λ (o : Output). o.1)
+
+      abbrev none : Output
+      none = ([], [])
+
+      from_place : (k : ℕ) → k < length it.ordered → IsFrom (get_or it.ordered k none)
+      from_place k within = from_ordered _ (has_contained it.ordered _ (Contains-get_or it.ordered k none within))
+
+      said_at : (k : ℕ) (d : A) → k < length found → (within : k < length it.ordered) → says (from_place k within).row (get_or found k d)
+      said_at k d few within =
+          let from = from_place k within in
+          let first : is (get_or shown k []) (get_or found k d) = zip_at is shown found k [] d reads (omega (arith, few, zip_length is shown found reads)) in
+          let at : get_or shown k [] ≡ (get_or it.ordered k none).1 = ap (λ l. get_or l k []) shown_is ∙ mapped_at (λ (o : Output). o.1) it.ordered k none in
+          means from.row from.among from.passes_it (get_or found k d) (subst (λ y. is y (get_or found k d)) (at ∙ ap (λ (y : Output). y.1) from.shows) first)
+
+      adjacent : (k : ℕ) (d : A) → k + 1 < length found → key (get_or found k d) ≤ key (get_or found (k + 1) d)
+      adjacent k d few =
+          let low : k < length it.ordered = omega (arith, few, counts) in
+          let high : k + 1 < length it.ordered = omega (arith, few, counts) in
+          let up = it.sorted k none (omega arith) high in
+          in_order (from_place k low).row (from_place (k + 1) high).row (get_or found k d) (get_or found (k + 1) d) (said_at k d (omega (arith, few)) low) (said_at (k + 1) d few high)
+          (subst (λ (x : Output). is_lt (output_cmp q (shown_in q params (from_place (k + 1) high).row) x) ≡ false) (from_place k low).shows
+          (subst (λ (x : Output). is_lt (output_cmp q x (get_or it.ordered k none)) ≡ false) (from_place (k + 1) high).shows up))
+
+      pub rise : IsNonDecreasingBy key found
+      rise = IsNonDecreasingBy-from_all_adjacent key found adjacent
+
+  -- one that breaks a rule
+  pub broken : {A : Type 0} (says : Row → A → Type 0) (keeps : Row → Bool) → ((row : Row) → Has rows row → (a : A) → says row a → keeps (shown_of columns params row) ≡ true) → list_all keeps shown ≡ false → AreBroken rows p says
+  broken says keeps kept_by fails =
+      let x = fails_has keeps shown fails in
+      let from = from_shown x.0 x.1 in
+      record { row = from.0; among = from.1; passes = from.2; breaks = λ a said. absurd (true≢false (sym (kept_by from.0 from.1 a said) ∙ ap keeps (sym from.3) ∙ x.2)) }
+
+-- the order of a column with numbers
+pub number_order : (tree : ℕ) (test columns : List Term) (limit offset : Term) (params : Row) (place : ℕ) (low high : Row) (m n : ℕ) → column low place ≡ Int (pos m) → column high place ≡ Int (pos n)
+    → (let q = by (simple tree test columns) ((col 1 place, record { descending = false; collation = Binary }) ∷ []) limit offset in is_lt (output_cmp q (shown_in q params high) (shown_in q params low)) ≡ false) → m ≤ n
+number_order tree test columns limit offset params place low high m n is_m is_n up =
+    let told : is_lt (value_cmp (column high place) (column low place)) ≡ false = ap is_lt (sym (then-Equal (value_cmp (column high place) (column low place)))) ∙ up in
+    below (rw (is_m, is_n) at told)
+  where
+    below : is_lt (value_cmp (Int (pos n)) (Int (pos m))) ≡ false → m ≤ n
+    below h = let h' = ap is_lt (sym (value_cmp-Int (pos n) (pos m))) ∙ h in grind (arith, ints, nat_tests, h')

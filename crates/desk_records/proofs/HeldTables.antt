@@ -1,0 +1,110 @@
+-- What tables have where a ledger is held, whatever rowids nobody knows.
+use Rattle.std.proofs.Common.{◌≡◌, ◌⊎◌, inl, inr, ◌≤◌, ◌<◌, ℕ, ◌+◌, pos, Bool, true, false, List, [], ◌∷◌, length, slice_get, nat_lt, Some, refl, sym, ap, subst, ◌∙◌, arith}
+use Rattle.std.proofs.lemmas.Bool.Decides.{nat_tests}
+use Rattle.std.proofs.lemmas.List.Sorted.{IsPermutation-sym}
+use Rattle.sqlite_value.specs.declared.value.Value.TheVariants.{Int}
+use Rattle.sqlite_value.specs.Order.{Row}
+use Rattle.sqlite.specs.Effect.{Database}
+use Rattle.sqlite.specs.Table.{Table}
+use Rattle.sqlite_rules.specs.Lists.{Has}
+use Rattle.sqlite_rules.proofs.ListLemmas.{has_either, has_left, has_right}
+use Rattle.sql_calls.specs.Keyed.{AreIn, IsHeldBy, rows_from}
+use Rattle.desk_records.specs.Holds.{HoldsLedger, IsHeld, Ledger}
+use Rattle.desk_records.specs.Parts.{parts_from}
+use Rattle.desk_records.specs.Schema.{Place, table_at}
+use Rattle.desk_records.specs.Tables.{HoldsTables, Tables}
+use Rattle.desk_records.proofs.Membership.{has_permuted}
+
+-- ---- the tables of a ledger
+
+-- where a ledger is held, tables are: the rows of their trees
+abbrev pub rows_of : (db : Database) (l : Ledger) → HoldsLedger db l → Tables
+rows_of db l h p = db.trees (h.spot p).tree
+
+pub are_tables : (db : Database) (l : Ledger) (h : HoldsLedger db l) → HoldsTables db (rows_of db l h)
+are_tables db l h = record { sound = h.sound; spot = h.spot; stands = h.stands; rows = λ p. refl }
+
+some_same : {X : Type 0} (x y : X) → Some x ≡ Some y → x ≡ y
+some_same x y h = cc
+
+-- and they have the ledger's rows, since a table stands in one place
+pub held_rows : (db : Database) (l : Ledger) → HoldsLedger db l → (t : Tables) → HoldsTables db t → (p : Place) → IsHeld l p (t p)
+held_rows db l held t holds p = subst (IsHeld l p) (sym same) (held.rows p)
+  where
+    place : (holds.spot p).at ≡ (held.spot p).at
+    place = some_same _ _ (sym (holds.stands p).named ∙ (held.stands p).named)
+
+    table : table_at p (holds.spot p).tree ≡ table_at p (held.spot p).tree
+    table = some_same _ _ (sym (holds.stands p).got ∙ ap (slice_get db.schema.tables) place ∙ (held.stands p).got)
+
+    same : t p ≡ db.trees (held.spot p).tree
+    same = holds.rows p ∙ ap (λ (x : Table). db.trees x.tree) table
+
+-- ---- rows of numbered things
+
+pub record IsNumbered {Y : Type 0} (f : ℕ → Y → Row) (k : ℕ) (ys : List Y) (row : Row) : Type 0 where
+  pub at : ℕ
+  pub one : Y
+  pub low : k ≤ at
+  pub high : at < k + length ys
+  pub among : Has ys one
+  pub is : row ≡ f at one
+
+pub numbered : {Y : Type 0} (f : ℕ → Y → Row) (k : ℕ) (ys : List Y) (row : Row) → Has (rows_from f k ys) row → IsNumbered f k ys row
+numbered f k [] row among = absurd among
+numbered f k (y ∷ ys) row (inl same) = record { at = k; one = y; low = omega arith; high = omega arith; among = inl refl; is = same }
+numbered f k (y ∷ ys) row (inr among) = let it = numbered f (k + 1) ys row among in record { at = it.at; one = it.one; low = omega (arith, it.low); high = omega (arith, it.high); among = inr it.among; is = it.is }
+
+pub row_numbered : {Y : Type 0} (f : ℕ → Y → Row) (k : ℕ) (ys : List Y) (at : ℕ) → k ≤ at → at < k + length ys → (y : Y) × Has ys y × Has (rows_from f k ys) (f at y)
+row_numbered f k [] at low high = absurd (omega (arith, low, high))
+row_numbered f k (y ∷ ys) at low high = go (nat_lt k at) refl (λ more. row_numbered f (k + 1) ys at (omega (arith, more)) (omega (arith, high)))
+  where
+    go : (b : Bool) → nat_lt k at ≡ b → (k < at → (z : _) × Has ys z × Has (rows_from f (k + 1) ys) (f at z)) → (z : _) × Has (y ∷ ys) z × Has (f k y ∷ rows_from f (k + 1) ys) (f at z)
+    go true is later = let it = later (grind (arith, nat_tests, is)) in (it.0, inr it.1, inr it.2)
+    go false is later = let same : at ≡ k = (let not_above : at ≤ k = grind (arith, nat_tests, is) in omega (arith, not_above, low)) in (y, inl refl, inl (ap (λ n. f n y) same))
+
+-- ---- rows whose numbers nobody knows
+
+content_in : (low : ℕ) (rows xs : List Row) (row : Row) → AreIn low rows xs → Has rows row → (n : ℕ) × (x : Row) × Has xs x × (row ≡ Int (pos n) ∷ x)
+content_in low [] [] row are among = absurd among
+content_in low [] (x ∷ xs) row are among = absurd among
+content_in low (r ∷ rows) [] row are among = absurd are
+content_in low (r ∷ rows) (x ∷ xs) row are (inl same) = (are.0, x, inl refl, same ∙ are.2)
+content_in low (r ∷ rows) (x ∷ xs) row are (inr among) = let it = content_in (are.0 + 1) rows xs row are.3 among in (it.0, it.1, inr it.2, it.3)
+
+row_in : (low : ℕ) (rows xs : List Row) (x : Row) → AreIn low rows xs → Has xs x → (n : ℕ) × Has rows (Int (pos n) ∷ x)
+row_in low [] [] x are among = absurd among
+row_in low [] (y ∷ xs) x are among = absurd are
+row_in low (r ∷ rows) [] x are among = absurd among
+row_in low (r ∷ rows) (y ∷ xs) x are (inl same) = (are.0, inl (ap (λ z. Int (pos are.0) ∷ z) same ∙ sym are.2))
+row_in low (r ∷ rows) (y ∷ xs) x are (inr among) = let it = row_in (are.0 + 1) rows xs x are.3 among in (it.0, inr it.1)
+
+-- what a row has behind its number, and the row of what is wanted
+pub wanted_of : (rows wanted : List Row) (row : Row) → IsHeldBy rows wanted → Has rows row → (n : ℕ) × (x : Row) × Has wanted x × (row ≡ Int (pos n) ∷ x)
+wanted_of rows wanted row held among = let it = content_in 1 rows held.order row held.rising among in (it.0, it.1, has_permuted held.order wanted it.1 (IsPermutation-sym _ _ held.same) it.2, it.3)
+
+pub row_of : (rows wanted : List Row) (x : Row) → IsHeldBy rows wanted → Has wanted x → (n : ℕ) × Has rows (Int (pos n) ∷ x)
+row_of rows wanted x held among = row_in 1 rows held.order x held.rising (has_permuted wanted held.order x held.same among)
+
+-- ---- the parts of numbered records
+
+module _ {X Y : Type 0} (f : ℕ → ℕ → Y → Row) (items : X → List Y) where
+  -- the record, and its number
+  pub record IsPart (n : ℕ) (xs : List X) (row : Row) : Type 0 where
+    pub number : ℕ
+    pub whole : X
+    pub low : n ≤ number
+    pub high : number < n + length xs
+    pub has : Has xs whole
+    pub among : Has (rows_from (f number) 1 (items whole)) row
+    pub others : (other : Row) → Has (rows_from (f number) 1 (items whole)) other → Has (parts_from f items n xs) other
+
+  pub of_part : (n : ℕ) (xs : List X) (row : Row) → Has (parts_from f items n xs) row → IsPart n xs row
+  of_part n [] row among = absurd among
+  of_part n (x ∷ xs) row among = go (has_either (rows_from (f n) 1 (items x)) (parts_from f items (n + 1) xs) row among) (of_part (n + 1) xs row)
+    where
+      go : Has (rows_from (f n) 1 (items x)) row ⊎ Has (parts_from f items (n + 1) xs) row → (Has (parts_from f items (n + 1) xs) row → IsPart (n + 1) xs row) → IsPart n (x ∷ xs) row
+      go (inl here) later = record { number = n; whole = x; low = omega arith; high = omega arith; has = inl refl; among = here; others = λ other its. has_left _ _ other its }
+      go (inr behind) later =
+          let it = later behind in
+          record { number = it.number; whole = it.whole; low = omega (arith, it.low); high = omega (arith, it.high); has = inr it.has; among = it.among; others = λ other its. has_right _ _ other (it.others other its) }

@@ -1,0 +1,99 @@
+-- What columns with a number say of it.
+use Rattle.std.proofs.Common.{◌≡◌, ◌<◌, ◌^◌, [], ◌∷◌, ℕ, ℤ, pos, negsuc, Bool, true, false, cond, Option, Some, None, true≢false, refl, sym, ap, ◌∙◌, arith, nat_eq, nat_lt, nat_le, is_eq, int_cmp}
+use Rattle.std.specs.Option.{option_and_then}
+use Rattle.std.proofs.lemmas.Bool.{and_parts}
+use Rattle.std.proofs.lemmas.Bool.Decides.{nat_tests}
+use Rattle.std.proofs.lemmas.Int.{ints}
+use Rattle.sqlite_value.specs.declared.value.Value.{Value}
+use Rattle.sqlite_value.specs.declared.value.Value.TheVariants.{Null, Int, Real, Text, Blob}
+use Rattle.sqlite_value.specs.Order.{Row, column, value_cmp}
+use Rattle.sqlite_value.proofs.OrderLemmas.{value_cmp-Int, value_cmp-Null}
+use Rattle.sqlite_trees.specs.Tree.{has_rowid, rowid}
+use Rattle.sqlite_sql.specs.Ops.{binary, is_true}
+use Rattle.sqlite_sql.specs.declared.ops.BinaryOp.TheVariants.{Compare}
+use Rattle.sqlite_sql.specs.declared.ops.CompareOp.TheVariants.{Eq}
+use Rattle.sqlite.specs.Collation.TheVariants.{Binary}
+use Rattle.sql_calls.proofs.Selects.{passes}
+use Rattle.rollout_model.specs.Limits.{number_limit}
+use Rattle.rollout_model.specs.Rules.{is_number, number_of}
+use Rattle.desk_records.specs.ArtifactRow.{small_number}
+use Rattle.desk_records.specs.Codes.{number_in}
+use Rattle.desk_records.specs.Listings.{has_at, is_number_of}
+use Rattle.desk_records.proofs.Comparisons.{and_true, judged}
+use Rattle.desk_records.proofs.MeaningWords.{at_key}
+
+-- ---- one number
+
+pub number_is : (v : Value) (n : ℕ) → is_number_of n v ≡ true → v ≡ Int (pos n)
+number_is Null n h = absurd (true≢false (sym h))
+number_is (Int (pos m)) n h = let same : m ≡ n = grind (arith, nat_tests, h) in ap (λ k. Int (pos k)) same
+number_is (Int (negsuc m)) n h = absurd (true≢false (sym h))
+number_is (Real x) n h = absurd (true≢false (sym h))
+number_is (Text t) n h = absurd (true≢false (sym h))
+number_is (Blob b) n h = absurd (true≢false (sym h))
+
+pub is_at : (row : Row) (place n : ℕ) → column row place ≡ Int (pos n) → has_at place n row ≡ true
+is_at row place n h = rw h (grind (arith, nat_tests))
+
+pub small_is : (v : Value) (n : ℕ) → small_number v ≡ Some n → v ≡ Int (pos n)
+small_is Null n h = cc
+small_is (Int (pos m)) n h = go (nat_lt m (2 ^ 32)) h
+  where
+    go : (b : Bool) → cond b (Some m) None ≡ Some n → Int (pos m) ≡ Int (pos n)
+    go true e = let same : m ≡ n = cc in ap (λ k. Int (pos k)) same
+    go false e = cc
+small_is (Int (negsuc m)) n h = cc
+small_is (Real x) n h = cc
+small_is (Text t) n h = cc
+small_is (Blob b) n h = cc
+
+pub is_small : (n : ℕ) → n < 2 ^ 32 → small_number (Int (pos n)) ≡ Some n
+is_small n few = let test : nat_lt n (2 ^ 32) ≡ true = grind (arith, nat_tests, few) in rw test refl
+
+-- ---- a number of a range
+
+good_number : (m n : ℕ) → number_of m ≡ Some n → m ≡ n
+good_number m n h = go (is_number m) h
+  where
+    go : (b : Bool) → cond b (Some m) None ≡ Some n → m ≡ n
+    go true e = cc
+    go false e = absurd cc
+
+pub number_in_is : (v : Value) (n : ℕ) → number_in v ≡ Some n → v ≡ Int (pos n)
+number_in_is v n h = go (small_number v) refl h
+  where
+    go : (o : Option ℕ) → small_number v ≡ o → option_and_then number_of o ≡ Some n → v ≡ Int (pos n)
+    go None is e = absurd cc
+    go (Some m) is e = small_is v m is ∙ ap (λ k. Int (pos k)) (good_number m n e)
+
+pub is_number_in : (n : ℕ) → is_number n ≡ true → number_in (Int (pos n)) ≡ Some n
+is_number_in n good =
+    let high : nat_le n number_limit ≡ true = (and_parts (nat_le 1 n) (nat_le n number_limit) good).1 in
+    let few : n < 2 ^ 32 = grind (arith, nat_tests, high) in
+    rw (is_small n few, good) refl
+
+pub one_number : (v : Value) (m n : ℕ) → v ≡ Int (pos m) → v ≡ Int (pos n) → m ≡ n
+one_number v m n e f = let same : Int (pos m) ≡ Int (pos n) = sym e ∙ f in cc
+
+-- ---- WHERE column = ?1
+
+numbers_equal : (v : ℤ) (n : ℕ) → is_true (binary (Compare Eq Binary) (Int v) (Int (pos n))) ≡ is_number_of n (Int v)
+unfolding binary
+numbers_equal (pos m) n = let same : is_eq (int_cmp (pos m) (pos n)) ≡ nat_eq m n = grind (arith, ints, nat_tests) in rw value_cmp-Int (rw same (judged (nat_eq m n)))
+numbers_equal (negsuc m) n = let never : is_eq (int_cmp (negsuc m) (pos n)) ≡ false = grind (arith, ints, nat_tests) in rw value_cmp-Int (rw never refl)
+
+-- of a column that is a whole number
+pub passes_at : (row : Row) (place n : ℕ) (v : ℤ) → column row place ≡ Int v → (passes (at_key place 0 ∷ []) (Int (pos n) ∷ []) row) ≡ has_at place n row
+passes_at row place n v is = and_true _ ∙ rw is (numbers_equal v n)
+
+-- of the rowid, whatever it is
+pub passes_rowid : (row : Row) (n : ℕ) → passes (at_key 0 0 ∷ []) (Int (pos n) ∷ []) row ≡ has_rowid (pos n) row
+unfolding binary
+passes_rowid row n = and_true _ ∙ go (rowid row)
+  where
+    go : (v : Value) → is_true (binary (Compare Eq Binary) v (Int (pos n))) ≡ is_eq (value_cmp v (Int (pos n)))
+    go Null = sym (ap is_eq (value_cmp-Null (Int (pos n))))
+    go (Int m) = judged _
+    go (Real x) = judged _
+    go (Text t) = judged _
+    go (Blob b) = judged _

@@ -1,0 +1,48 @@
+-- What LIST_PLACES shows, whatever rows the table of members has.
+use Rattle.std.proofs.Common.{◌≡◌, ◌≤◌, ℕ, pos, true, false, List, [], ◌∷◌, Option, Some, None, refl}
+use Rattle.sqlite_value.specs.declared.value.Value.TheVariants.{Null, Int}
+use Rattle.sqlite_value.specs.Order.{Row, column}
+use Rattle.sqlite.specs.Command.TheVariants.{Select}
+use Rattle.sqlite.specs.Effect.{Database, Reads as Shows}
+use Rattle.sqlite.specs.Query.{Query, output_cmp}
+use Rattle.std.specs.Ordering.{is_lt}
+use Rattle.sqlite_rules.specs.Lists.{Has}
+use Rattle.sql_calls.proofs.Selects.{passes, shown_in, shown_of}
+use Rattle.rollout_model.specs.Rules.{is_number}
+use Rattle.desk_records.specs.Listings.{AreRead}
+use Rattle.desk_records.specs.MemberRow.{IsPlacedRow, keeps_member_rules}
+use Rattle.desk_records.specs.PlaceLists.{ListsPlaces, SaysMember, is_of}
+use Rattle.desk_records.specs.Schema.{Members}
+use Rattle.desk_records.specs.Tables.{HoldsTables, Tables}
+use Rattle.desk_records.specs.declared.member_row.PlacedMember.{PlacedMember}
+use Rattle.desk_records.proofs.AnyRows.{are_said, broken, number_order, rise}
+use Rattle.desk_records.proofs.NumberColumns.{is_number_in, number_is, passes_at, small_is}
+use Rattle.desk_records.proofs.RolloutMeaning.{of_rollout, placed_columns, places_query}
+use Rattle.desk_records.proofs.TableColumns.{integer_at}
+
+module _ (db : Database) (t : Tables) (holds : HoldsTables db t) (names : List (List ℕ)) (r : ℕ) (good : is_number r ≡ true) (shown : List Row)
+    (shows : Shows (Select (record { lets = []; body = places_query (holds.spot Members).tree }) names) db (Int (pos r) ∷ []) shown) where
+  abbrev q : Query
+  q = places_query (holds.spot Members).tree
+
+  abbrev params : Row
+  params = Int (pos r) ∷ []
+
+  judged : (row : Row) → Has (t Members) row → passes of_rollout params row ≡ is_of r row
+  judged row among = let it = integer_at db t holds Members row among 0 (record { c = _; there = refl; kind_is = refl; strict = refl; filled = refl; apart = refl }) in passes_at row 1 r it.0 it.1
+
+  means : (row : Row) → Has (t Members) row → is_of r row ≡ true → (m : PlacedMember) → IsPlacedRow (shown_of placed_columns params row) m → SaysMember r row m
+  means row among of m reads = record { rollout_is = rw (number_is (column row 1) r of) (is_number_in r good); place_is = reads.place; id_is = reads.id; word = reads.word }
+
+  kept_by : (row : Row) → Has (t Members) row → (m : PlacedMember) → SaysMember r row m → keeps_member_rules (shown_of placed_columns params row) ≡ true
+  kept_by row among m says = rw (says.word, says.place_is) refl
+
+  in_order : (low high : Row) (m n : PlacedMember) → SaysMember r low m → SaysMember r high n → is_lt (output_cmp q (shown_in q params high) (shown_in q params low)) ≡ false → m.place ≤ n.place
+  in_order low high m n says_m says_n up = number_order (holds.spot Members).tree of_rollout placed_columns q.limit q.offset params 2 low high m.place n.place (small_is _ _ says_m.place_is) (small_is _ _ says_n.place_is) up
+
+  pub lists_places : (found : Option (List PlacedMember)) → AreRead IsPlacedRow keeps_member_rules shown found → ListsPlaces (t Members) r found
+  lists_places (Some members) reads = record {
+    said = are_said (holds.spot Members).tree of_rollout placed_columns q.order q.limit q.offset params db.trees (t Members) (holds.rows Members) (λ xs. refl) (is_of r) judged shown (shows.answer Null) IsPlacedRow (SaysMember r) means members reads;
+    rise = rise (holds.spot Members).tree of_rollout placed_columns q.order q.limit q.offset params db.trees (t Members) (holds.rows Members) (λ xs. refl) (is_of r) judged shown (shows.answer Null) IsPlacedRow (SaysMember r) means members reads (λ (m : PlacedMember). m.place) in_order;
+  }
+  lists_places None fails = broken (holds.spot Members).tree of_rollout placed_columns q.order q.limit q.offset params db.trees (t Members) (holds.rows Members) (λ xs. refl) (is_of r) judged shown (shows.answer Null) (SaysMember r) keeps_member_rules kept_by fails

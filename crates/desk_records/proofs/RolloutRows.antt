@@ -1,0 +1,120 @@
+-- What LAST_ROLLOUT and GET_ROLLOUT show, whatever rows the table of rollouts has.
+use Rattle.std.proofs.Common.{◌≡◌, ◌≤◌, inl, inr, ℕ, pos, negsuc, true, false, List, [], ◌∷◌, map, filter, get_or, take, Option, Some, None, true≢false, refl, sym, ap, subst, ◌∙◌, arith, Ordering, Less, Equal, Greater, int_cmp, is_eq, IsPermutation}
+use Rattle.std.specs.Ordering.{is_lt, ordering_reverse}
+use Rattle.std.proofs.lemmas.Int.{ints}
+use Rattle.std.proofs.lemmas.Bool.Decides.{nat_tests}
+use Rattle.std.proofs.lemmas.List.Sorted.{IsPermutation-sym, ranks_by, sorted_far}
+use Rattle.sqlite_value.specs.declared.value.Value.{Value}
+use Rattle.sqlite_value.specs.declared.value.Value.TheVariants.{Null, Int}
+use Rattle.sqlite_value.specs.Order.{Row, column, value_cmp}
+use Rattle.sqlite_value.proofs.OrderLemmas.{value_cmp-Int, value_cmp_total, then-Equal}
+use Rattle.sqlite_trees.specs.Tree.{has_rowid, rowid}
+use Rattle.sqlite.specs.Command.TheVariants.{Select}
+use Rattle.sqlite.specs.Effect.{Database, Reads as Shows}
+use Rattle.sqlite.specs.Query.{Query, Output, output_cmp}
+use Rattle.sqlite.specs.Term.{col, lit}
+use Rattle.sqlite_sql.proofs.QueryLemmas.{output_cmp_total}
+use Rattle.sqlite_rules.specs.Lists.{Has}
+use Rattle.sqlite_rules.proofs.ListLemmas.{contains_had}
+use Rattle.sql_calls.proofs.Finding.{ShowsFirst}
+use Rattle.sql_calls.proofs.Selects.{IsOrdered, ordered_rows, passes, shown_in, simple}
+use Rattle.desk_records.specs.Listings.{IsLast}
+use Rattle.desk_records.specs.Modules.{IsLastRow}
+use Rattle.desk_records.specs.Schema.{Rollouts}
+use Rattle.desk_records.specs.TableRows.{rollout_shown}
+use Rattle.desk_records.specs.Tables.{HoldsTables, Tables}
+use Rattle.desk_records.proofs.AnyRows.{from_shown, is_shown}
+use Rattle.desk_records.proofs.Membership.{has_mapped, has_permuted, map_has}
+use Rattle.desk_records.proofs.MeaningWords.{at_key}
+use Rattle.desk_records.proofs.NumberColumns.{passes_rowid}
+use Rattle.desk_records.proofs.RolloutMeaning.{last_rollout_query, rollout_columns}
+
+-- ---- the greatest number
+
+equal : (o : Ordering) → is_eq o ≡ true → o ≡ Equal
+equal Less h = absurd (true≢false (sym h))
+equal Equal h = refl
+equal Greater h = absurd (true≢false (sym h))
+
+-- a value that is below no row's number is at least the number
+at_least : (v : Value) (n last : ℕ) → is_eq (value_cmp v (Int (pos n))) ≡ true → is_lt (value_cmp (Int (pos last)) v) ≡ false → n ≤ last
+at_least v n last numbered least =
+    let turned : value_cmp (Int (pos last)) v ≡ value_cmp (Int (pos last)) (Int (pos n)) =
+    value_cmp_total.antisymm (Int (pos last)) v ∙ ap ordering_reverse (value_cmp_total.congr v (Int (pos n)) (Int (pos last)) (equal _ numbered)) ∙ sym (value_cmp_total.antisymm (Int (pos last)) (Int (pos n))) in
+    let h : is_lt (int_cmp (pos last) (pos n)) ≡ false = ap is_lt (sym (value_cmp-Int (pos last) (pos n))) ∙ ap is_lt (sym turned) ∙ least in
+    grind (arith, ints, nat_tests, h)
+
+itself : (n : ℕ) → has_rowid (pos n) (Int (pos n) ∷ []) ≡ true
+itself n = ap is_eq (value_cmp-Int (pos n) (pos n)) ∙ grind (arith, ints, nat_tests)
+
+module _ (db : Database) (t : Tables) (holds : HoldsTables db t) (names : List (List ℕ)) where
+  abbrev tree : ℕ
+  tree = (holds.spot Rollouts).tree
+
+  abbrev q : Query
+  q = last_rollout_query tree
+
+  module _ (shown : List Row) (shows : Shows (Select (record { lets = []; body = q }) names) db [] shown) where
+    it : IsOrdered q [] (filter (passes [] []) (db.trees tree)) shown
+    it = ordered_rows tree [] (col 1 0 ∷ []) q.order q.limit q.offset [] db.trees shown (shows.answer Null)
+
+    all_pass : (rows : List Row) → filter (passes [] []) rows ≡ rows
+    all_pass [] = refl
+    all_pass (row ∷ rows) = ap (λ l. row ∷ l) (all_pass rows)
+
+    same : IsPermutation (map (shown_in q []) (t Rollouts)) it.ordered
+    same = subst (λ l. IsPermutation (map (shown_in q []) l) it.ordered) (all_pass (db.trees tree) ∙ sym (holds.rows Rollouts)) it.same
+
+    is_ordered : (row : Row) → Has (t Rollouts) row → Has it.ordered (shown_in q [] row)
+    is_ordered row among = has_permuted _ _ _ same (map_has (shown_in q []) (t Rollouts) row among)
+
+    from_ordered : (o : Output) → Has it.ordered o → (row : Row) × Has (t Rollouts) row × (o ≡ shown_in q [] row)
+    from_ordered o among = has_mapped (shown_in q []) (t Rollouts) o (has_permuted _ _ o (IsPermutation-sym _ _ same) among)
+
+    -- none before the first one
+    least : (first : Output) (rest : List Output) → it.ordered ≡ first ∷ rest → (row : Row) → Has (t Rollouts) row → is_lt (output_cmp q (shown_in q [] row) first) ≡ false
+    least first rest is row among =
+        let at = contains_had it.ordered (shown_in q [] row) (is_ordered row among) in
+        let far = sorted_far (λ a b. is_lt (output_cmp q a b)) (ranks_by (output_cmp_total q) (λ o. o)) it.ordered it.sorted 0 at.0 (shown_in q [] row) (omega arith) at.1 in
+        let head : get_or it.ordered 0 (shown_in q [] row) ≡ first = ap (λ l. get_or l 0 (shown_in q [] row)) is in
+        subst (λ o. is_lt (output_cmp q (shown_in q [] row) o) ≡ false) head (subst (λ o. is_lt (output_cmp q o (get_or it.ordered 0 (shown_in q [] row))) ≡ false) at.2 far)
+
+    pub shown_last : (row : Row) (tail : List Row) → shown ≡ row ∷ tail → (n : ℕ) → column row 0 ≡ Int (pos n) → IsLast (t Rollouts) n
+    shown_last row tail is n number = go it.ordered refl (sym is ∙ it.is)
+      where
+        go : (os : List Output) → it.ordered ≡ os → row ∷ tail ≡ take 1 (map (λ (o : Output). o.1) os) → IsLast (t Rollouts) n
+        go [] ordered e = absurd cc
+        go (o ∷ rest) ordered e =
+            let source = from_ordered o (subst (λ l. Has l o) (sym ordered) (inl refl)) in
+            let head : row ≡ o.1 = cc in
+            let its : rowid source.0 ≡ Int (pos n) = ap (λ (p : Output). column p.1 0) (sym source.2) ∙ ap (λ r. column r 0) (sym head) ∙ number in
+            let above : (other : Row) → Has (t Rollouts) other → is_lt (value_cmp (Int (pos n)) (rowid other)) ≡ false = λ other among.
+            let h = subst (λ p. is_lt (output_cmp q (shown_in q [] other) p) ≡ false) source.2 (least o rest ordered other among) in
+            let told : is_lt (value_cmp (rowid source.0) (rowid other)) ≡ false = ap is_lt (sym (then-Equal (value_cmp (rowid source.0) (rowid other)))) ∙ h in
+            rw its at told in
+            record {
+              greatest = λ k has. at_least (rowid has.row) k n has.numbered (above has.row has.among);
+              there = inr (record { row = source.0; among = source.1; numbered = ap (λ v. is_eq (value_cmp v (Int (pos n)))) its ∙ itself n });
+            }
+
+    pub shown_none : shown ≡ [] → IsLast (t Rollouts) 0
+    shown_none is = record { greatest = λ k has. absurd (go it.ordered refl (sym is ∙ it.is) _ (is_ordered has.row has.among)); there = inl refl }
+      where
+        go : (os : List Output) → it.ordered ≡ os → [] ≡ take 1 (map (λ (o : Output). o.1) os) → (o : Output) → Has it.ordered o → ⊥
+        go [] ordered e o among = subst (λ l. Has l o) ordered among
+        go (p ∷ rest) ordered e o among = absurd cc
+
+  pub lasts_any : (row : Option Row) → ShowsFirst (Select (record { lets = []; body = q }) names) db [] row → (n : ℕ) → IsLastRow n row → IsLast (t Rollouts) n
+  lasts_any None shows n is = subst (IsLast (t Rollouts)) (sym is) (shown_none [] shows refl)
+  lasts_any (Some row) shows n is = shown_last (row ∷ shows.0) shows.1 row shows.0 refl n is
+
+  -- ---- the rollout of a number
+
+  -- the row that is shown, or that there is none
+  abbrev pub IsShownOf : ℕ → Option Row → Type 0
+  IsShownOf r (Some row) = (source : Row) × Has (t Rollouts) source × (has_rowid (pos r) source ≡ true) × (row ≡ rollout_shown source)
+  IsShownOf r None = (source : Row) → Has (t Rollouts) source → has_rowid (pos r) source ≡ true → ⊥
+
+  pub gets_any : (r : ℕ) (row : Option Row) → ShowsFirst (Select (record { lets = []; body = simple tree (at_key 0 0 ∷ []) rollout_columns }) names) db (Int (pos r) ∷ []) row → IsShownOf r row
+  gets_any r (Some row) shows = from_shown tree (at_key 0 0 ∷ []) rollout_columns [] (lit (Int (negsuc 0))) (lit (Int (pos 0))) (Int (pos r) ∷ []) db.trees (t Rollouts) (holds.rows Rollouts) (λ xs. refl) (has_rowid (pos r)) (λ source among. passes_rowid source r) (row ∷ shows.0) (shows.1.answer Null) row (inl refl)
+  gets_any r None shows = λ source among numbered. is_shown tree (at_key 0 0 ∷ []) rollout_columns [] (lit (Int (negsuc 0))) (lit (Int (pos 0))) (Int (pos r) ∷ []) db.trees (t Rollouts) (holds.rows Rollouts) (λ xs. refl) (has_rowid (pos r)) (λ source among. passes_rowid source r) [] (shows.answer Null) source among numbered

@@ -1,0 +1,93 @@
+-- The columns of the tables of a desk are of their kinds, in each sound database.
+use Rattle.std.proofs.Common.{◌≡◌, ◌||◌, ℕ, zero, suc, ◌+◌, ℤ, Bool, true, false, not, List, [], ◌∷◌, drop, slice_get, Option, Some, true≢false, refl, sym, ap, subst, ◌∙◌, arith, if◌then◌else◌}
+use Rattle.std.proofs.lemmas.Bool.{and_parts}
+use Rattle.sqlite_value.specs.declared.value.Value.{Value}
+use Rattle.sqlite_value.specs.declared.value.Value.TheVariants.{Null, Int, Real, Text, Blob}
+use Rattle.sqlite_value.specs.Order.{Row, column}
+use Rattle.sqlite_sql.specs.Ops.{is_null}
+use Rattle.sqlite_schema.specs.declared.schema.Kind.TheVariants as kind
+use Rattle.sqlite_schema.specs.declared.schema.Column.{Column}
+use Rattle.sqlite_schema.specs.declared.schema.Constraint.TheVariants.{Datatype, NotNull}
+use Rattle.sqlite_schema.specs.Names.{is_key}
+use Rattle.sqlite_schema.specs.Rules.{is_of, suits, are_typed, are_present}
+use Rattle.sqlite_rules.specs.Lists.{Has}
+use Rattle.sqlite_rules.proofs.ListLemmas.{all_has}
+use Rattle.sqlite_keyed.proofs.ListLemmas.{all-slice_get}
+use Rattle.sqlite.specs.Effect.{Database}
+use Rattle.desk_records.specs.Schema.{Place, table_at, table_by}
+use Rattle.desk_records.specs.Tables.{HoldsTables, Tables}
+
+-- a value of each column that is there and isn't the rowid
+typed_from : (key : Option ℕ) (at : ℕ) (columns : List Column) (vs : Row) (k : ℕ) (c : Column) → slice_get columns k ≡ Some c → c.is_strict ≡ true → is_key key (at + k) ≡ false
+    → are_typed key at columns vs ≡ true → is_of c.kind (column vs k) ≡ true
+typed_from key at [] vs k c there strict apart typed = absurd cc
+typed_from key at (x ∷ columns) [] zero c there strict apart typed = refl
+typed_from key at (x ∷ columns) [] (suc k) c there strict apart typed =
+    typed_from key (at + 1) columns [] k c there strict (subst (λ n. is_key key n ≡ false) {y = at + 1 + k} (omega arith) apart) (and_parts _ _ typed).1
+typed_from key at (x ∷ columns) (v ∷ vs) zero c there strict apart typed =
+    let same : x ≡ c = cc in
+    let here : is_key key at ≡ false = subst (λ n. is_key key n ≡ false) {y = at} (omega arith) apart in
+    let its : (if is_key key at then is_null v else suits x v) ≡ true = (and_parts _ _ typed).0 in
+    let suits_it : suits x v ≡ true = rw here at its in
+    let suits_c : suits c v ≡ true = ap (λ (y : Column). suits y v) (sym same) ∙ suits_it in
+    rw strict at suits_c
+typed_from key at (x ∷ columns) (v ∷ vs) (suc k) c there strict apart typed =
+    typed_from key (at + 1) columns vs k c there strict (subst (λ n. is_key key n ≡ false) {y = at + 1 + k} (omega arith) apart) (and_parts _ _ typed).1
+
+present_from : (key : Option ℕ) (at : ℕ) (columns : List Column) (row : Row) (k : ℕ) (c : Column) → slice_get columns k ≡ Some c → c.not_null ≡ true → is_key key (at + k) ≡ false
+    → are_present key at columns row ≡ true → is_null (column row (at + k + 1)) ≡ false
+present_from key at [] row k c there filled apart h = absurd cc
+present_from key at (x ∷ columns) row zero c there filled apart h =
+    let same : x ≡ c = cc in
+    let here : at + 0 ≡ at = omega arith in
+    ap (λ n. is_null (column row (n + 1))) here
+    ∙ is_there (is_key key at) x.not_null _ (ap (is_key key) (sym here) ∙ apart) (ap (λ (y : Column). y.not_null) same ∙ filled) (and_parts _ _ h).0
+  where
+    is_there : (k n v : Bool) → k ≡ false → n ≡ true → (k || not n || not v) ≡ true → v ≡ false
+    is_there true n v e a b = absurd (true≢false e)
+    is_there false false v e a b = absurd (true≢false (sym a))
+    is_there false true true e a b = absurd (true≢false (sym b))
+    is_there false true false e a b = refl
+present_from key at (x ∷ columns) row (suc k) c there filled apart h =
+    let on : at + suc k ≡ at + 1 + k = omega arith in
+    ap (λ n. is_null (column row (n + 1))) on ∙ present_from key (at + 1) columns row k c there filled (ap (is_key key) (sym on) ∙ apart) (and_parts _ _ h).1
+
+number_there : (v : Value) → is_null v ≡ false → is_of kind.Integer v ≡ true → (n : ℤ) × (v ≡ Int n)
+number_there Null a b = absurd (true≢false a)
+number_there (Int n) a b = (n, refl)
+number_there (Real x) a b = absurd (true≢false (sym b))
+number_there (Text t) a b = absurd (true≢false (sym b))
+number_there (Blob t) a b = absurd (true≢false (sym b))
+
+behind : (row : Row) (k : ℕ) → column (drop 1 row) k ≡ column row (suc k)
+behind [] zero = refl
+behind [] (suc k) = refl
+behind (v ∷ row) k = refl
+
+-- a column of whole numbers, which is given and isn't the rowid
+pub record IsInteger (p : Place) (k : ℕ) : Type 0 where
+  pub c : Column
+  pub there : slice_get (table_by p).columns k ≡ Some c
+  pub kind_is : c.kind ≡ kind.Integer
+  pub strict : c.is_strict ≡ true
+  pub filled : c.not_null ≡ true
+  pub apart : is_key (table_by p).key k ≡ false
+
+module _ (db : Database) (t : Tables) (holds : HoldsTables db t) (p : Place) (row : Row) (among : Has (t p) row) where
+  here : Has (db.trees (holds.spot p).tree) row
+  here = subst (λ l. Has l row) (holds.rows p) among
+
+  typed : are_typed (table_by p).key 0 (table_by p).columns (drop 1 row) ≡ true
+  typed =
+      (and_parts _ _ (all_has _ _ row (all-slice_get _ db.schema.tables (holds.spot p).at (table_at p (holds.spot p).tree) (holds.stands p).got (holds.sound.obeys.rules Datatype)) here)).0
+
+  present : are_present (table_by p).key 0 (table_by p).columns row ≡ true
+  present = all_has _ _ row (all-slice_get _ db.schema.tables (holds.spot p).at (table_at p (holds.spot p).tree) (holds.stands p).got (holds.sound.obeys.rules NotNull)) here
+
+  pub integer_at : (k : ℕ) → IsInteger p k → (n : ℤ) × (column row (suc k) ≡ Int n)
+  integer_at k it =
+      let apart : is_key (table_by p).key (0 + k) ≡ false = subst (λ n. is_key (table_by p).key n ≡ false) {x = k} (omega arith) it.apart in
+      let next : 0 + k + 1 ≡ suc k = omega arith in
+      let kept : is_of it.c.kind (column row (suc k)) ≡ true = ap (is_of it.c.kind) (sym (behind row k)) ∙ typed_from (table_by p).key 0 (table_by p).columns (drop 1 row) k it.c it.there it.strict apart typed in
+      let given : is_null (column row (suc k)) ≡ false = ap (λ n. is_null (column row n)) (sym next) ∙ present_from (table_by p).key 0 (table_by p).columns row k it.c it.there it.filled apart present in
+      number_there (column row (suc k)) given (ap (λ kind. is_of kind (column row (suc k))) (sym it.kind_is) ∙ kept)
