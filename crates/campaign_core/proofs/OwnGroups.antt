@@ -24,7 +24,8 @@ use Rattle.rollout_machine.specs.declared.view.Effects.{Effects}
 use Rattle.rollout_machine.specs.declared.view.GroupView.{GroupView}
 use Rattle.rollout_machine.specs.declared.view.RolloutView.{RolloutView}
 use Rattle.campaign_core.proofs.RolloutLemmas.{number_is}
-use Rattle.campaign_core.proofs.PlacedActions.{HasPlace, IsMembers, has_place, is_members}
+use Rattle.rollout_machine.proofs.AtNumbers.{HasPlace, has_place}
+use Rattle.campaign_core.proofs.PlacedActions.{IsMembers, is_members}
 use Rattle.campaign_core.specs.OwnGroups.{FollowsOutcome, IsOwnView, OwnDecides, OwnGroupDecides, effects_by, effects_of, following, own_effects, own_view_of, waits}
 use Rattle.campaign_core.specs.declared.own_group.Following.{Following}
 use Rattle.campaign_core.specs.declared.own_group.Following.TheVariants.{Nothing, Pauses, StartsNext}

@@ -1,11 +1,10 @@
--- An action of a number has a place in the command list.
-use Rattle.std.proofs.Common.{◌≡◌, ℕ, refl, sym, ap, ◌∙◌, Option, Some, None}
-use Rattle.std.specs.Option.{option_map}
-use Rattle.rollout_machine.proofs.Actions.{numbered_map}
+-- An action of a number is of a member of its rollout.
+use Rattle.std.proofs.Common.{◌≡◌, ℕ, sym, ap, ◌∙◌, Some}
+use Rattle.rollout_machine.proofs.AtNumbers.{has_place}
 use Rattle.rollout_machine.proofs.Induction.{invariant_of}
 use Rattle.rollout_machine.proofs.Valid.{IsPlace}
 use Rattle.rollout_machine.proofs.Whole.{rollout_numbered}
-use Rattle.rollout_machine.specs.Actions.{ActionPlace, action_place, action_places}
+use Rattle.rollout_machine.specs.Actions.{ActionPlace}
 use Rattle.rollout_machine.specs.ByteStrings.{item_numbered}
 use Rattle.rollout_machine.specs.CommandList.{CommandList}
 use Rattle.rollout_machine.specs.Records.{action_in, records, rollout_in}
@@ -13,21 +12,7 @@ use Rattle.rollout_machine.specs.declared.records.ActionRecord.{ActionRecord}
 use Rattle.rollout_machine.specs.declared.records.RolloutRecord.{RolloutRecord}
 use Rattle.rollout_machine.specs.Validity.{IsValid}
 
--- the place of an action of a number
-pub record HasPlace (h : CommandList) (k : ℕ) (a : ActionRecord) : Type 0 where
-  pub place : ActionPlace
-  pub numbered : action_place h k ≡ Some place
-  pub is : a ≡ action_in h place
-
-pub has_place : (h : CommandList) (k : ℕ) (a : ActionRecord) → item_numbered (records h).actions k ≡ Some a → HasPlace h k a
-unfolding records
-has_place h k a e = go (action_place h k) refl (sym (numbered_map (action_in h) (action_places h) k) ∙ e)
-  where
-    go : (o : Option ActionPlace) → action_place h k ≡ o → option_map (action_in h) o ≡ Some a → HasPlace h k a
-    go None d e = cc
-    go (Some p) d e = record { place = p; numbered = d; is = cc }
-
--- .. of a member of its rollout
+-- the place of an action of a number is that of a member of its rollout
 pub record IsMembers (h : CommandList) (a : ActionRecord) (x : RolloutRecord) : Type 0 where
   pub place : ActionPlace
   pub is : a ≡ action_in h place

@@ -1,38 +1,24 @@
 -- The records of accepted commands are sound, so a verdict over sound records is that at a command list.
-use Rattle.std.proofs.Common.{◌≡◌, ℕ, zero, suc, ◌+◌, true, false, ◌&&◌, List, [], ◌∷◌, sym, ◌∙◌, ap, subst, arith, Some, Result, Ok, Err}
-use Rattle.std.specs.Prelude.{is_none, nat_eq, slice_get}
-use Rattle.std.specs.Option.{option_map, unwrap_or}
+use Rattle.std.proofs.Common.{◌≡◌, ℕ, true, false, ◌&&◌, sym, ◌∙◌, ap, subst, Some, Result, Ok, Err}
+use Rattle.std.specs.Prelude.{is_none, nat_eq}
 use Rattle.std.proofs.lemmas.Bool.{and_parts, eqb-true}
 use Rattle.rollout_machine.proofs.Distinct.{one_number}
 use Rattle.rollout_machine.proofs.Main.{records_step}
 use Rattle.rollout_machine.specs.Actions.{ActionPlace, cancel_stands}
-use Rattle.rollout_machine.specs.ByteStrings.{item_numbered}
 use Rattle.rollout_machine.specs.CommandList.{CommandList}
 use Rattle.rollout_machine.specs.Commands.{Command}
 use Rattle.rollout_machine.specs.RecordSteps.{is_same_action}
-use Rattle.rollout_machine.specs.Records.{Records, action_in, records, rollouts_in}
+use Rattle.rollout_machine.specs.Records.{Records, action_in, records}
 use Rattle.rollout_machine.specs.declared.records.ActionRecord.{ActionRecord}
-use Rattle.rollout_machine.specs.declared.records.RolloutRecord.{RolloutRecord}
-use Rattle.rollout_machine.specs.Rollouts.{Rollout, rollouts}
 use Rattle.rollout_machine.specs.Validity.{IsValid}
 use Rattle.rollout_machine.specs.declared.outcome.Outcome.{Outcome}
 use Rattle.rollout_model.specs.declared.refusal.Refusal.{Refusal}
 use Rattle.campaign_core.proofs.OwnGroups.{own_group_decides}
-use Rattle.campaign_core.proofs.PlacedActions.{HasPlace, has_place}
+use Rattle.rollout_machine.proofs.AtNumbers.{HasPlace, has_place}
+use Rattle.rollout_machine.proofs.GroupCounts.{groups_are_counted}
 use Rattle.campaign_core.specs.RolloutChecks.{AreSound, Decides, Follows, LeadsTo}
 use Rattle.campaign_core.specs.declared.rollout_checks.RolloutChange.{RolloutChange}
 use Rattle.campaign_core.specs.declared.rollout_checks.RolloutCommandView.{RolloutCommandView}
-
-number_at : (h : CommandList) (a i : ℕ) (xs : List Rollout) (x : RolloutRecord) → slice_get (rollouts_in h a xs) i ≡ Some x → x.number ≡ a + i
-number_at h a i [] x e = cc
-number_at h a zero (y ∷ ys) x e =
-    let n : x.number ≡ a = sym (ap (λ o. unwrap_or (option_map (λ (q : RolloutRecord). q.number) o) a) e) in
-    omega (arith, n)
-number_at h a (suc i) (y ∷ ys) x e = let n : x.number ≡ suc a + i = number_at h (suc a) i ys x e in omega (arith, n)
-
-numbered_from : (h : CommandList) (r : ℕ) (xs : List Rollout) (x : RolloutRecord) → item_numbered (rollouts_in h 1 xs) r ≡ Some x → x.number ≡ r
-numbered_from h zero xs x e = cc
-numbered_from h (suc i) xs x e = let n : x.number ≡ 1 + i = number_at h 1 i xs x e in omega (arith, n)
 
 same_place : (p q : ActionPlace) → (nat_eq q.rollout p.rollout && nat_eq q.position p.position) ≡ true → p ≡ q
 same_place p q t =
@@ -52,13 +38,9 @@ ended h k a o w e =
     let had : (action_in h w.place).outcome ≡ Some o = sym (ap (λ (b : ActionRecord). b.outcome) w.is) ∙ e in
     ap (λ (b : ActionRecord). b.canceling) w.is ∙ ap (λ given. is_none given && cancel_stands h w.place.rollout w.place.position) had
 
-numbers : (h : CommandList) (r : ℕ) (x : RolloutRecord) → item_numbered (records h).rollouts r ≡ Some x → x.number ≡ r
-unfolding records
-numbers h r x e = numbered_from h r (rollouts h) x e
-
 pub records_are_sound : (h : CommandList) → IsValid h → AreSound (records h)
 records_are_sound h valid = record {
-  numbered = numbers h;
+  numbered = λ r x e. (groups_are_counted h r x valid e).number;
   apart = λ j k a b d e t. places_apart h valid j k a b (has_place h j a d) (has_place h k b e) t;
   over = λ k a o d e. ended h k a o (has_place h k a d) e;
   own = λ k a x d e. own_group_decides h k a x valid d e;

@@ -1,4 +1,3 @@
-pub mod LimitLemmas
 pub mod ComposeLemmas
 pub mod AdditionLemmas
 pub mod ArtifactLemmas

@@ -22,7 +22,7 @@ use Rattle.rollout_model.specs.declared.refusal.Refusal.{Refusal}
 use Rattle.rollout_model.specs.declared.refusal.Refusal.TheVariants.{Quota}
 use Rattle.desk_commands.specs.Imports.{HasRoom, IsTooMany, LeavesRoom, PutsAll, PutsRow, ids_after, row_ids, with_row}
 use Rattle.desk_commands.proofs.ByteOrderLemmas.{count_with, same_sym, with_there}
-use Rattle.desk_commands.proofs.LimitLemmas.{few_in_list}
+use Rattle.rollout_machine.proofs.WithinLimits.{limits_hold}
 use Rattle.desk_commands.proofs.TargetLemmas.{found, ids_sorted}
 
 with_targets : Records → List Target → Records
@@ -171,7 +171,7 @@ pub record PutsSoFar (old new : State) (rows : List TargetRow) (left : Option �
       → Sees HoldsLedger new (ledger_of (step_records (records h) (PutTargets rows))) × (HasCleanDisk new → HasRoom left (step_records (records h) (PutTargets rows)))
 
 pub none_put : (a : State) → PutsSoFar a a [] None
-none_put a = record { wears = omega arith; puts = λ h valid was. (was, λ clean. few_in_list h valid) }
+none_put a = record { wears = omega arith; puts = λ h valid was. (was, λ clean. (limits_hold h valid).targets) }
 
 module _ (a b c : State) (rows : List TargetRow) (row : TargetRow) (k : ℕ) (below : k < length rows) (is : row ≡ get_or rows k row) (left : Option ℕ) (so_far : PutsSoFar a b (take k rows) left) {E : Type 0} where
   pub row_refuses : (refusal : Refusal) → PutsRow {E = E} b c row left (Ok (Err refusal)) → {F : Type 0} → PutsAll {E = F} a c rows (Ok (Some refusal))

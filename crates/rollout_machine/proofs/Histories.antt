@@ -2,10 +2,10 @@
 use Rattle.std.proofs.Common.{◌≡◌, ℕ, Bool, true, false, cond, ◌&&◌, List, [], ◌∷◌, ◌++◌, refl, sym, ◌∙◌, subst, inl, inr, Option, Some, None}
 use Rattle.std.specs.Prelude.{is_none}
 use Rattle.std.specs.Option.{option_or}
-use Rattle.rollout_machine.specs.Actions.{HistoryEntry, entries_of, history, is_on_action, outcome, outcome_given, cancel_stands}
+use Rattle.rollout_machine.specs.Actions.{HistoryEntry, entries_of, history, is_on_action, outcome, outcome_given, outcome_said, cancel_stands}
 use Rattle.rollout_machine.specs.CommandList.{CommandList, Make, ◌▸◌}
 use Rattle.rollout_machine.specs.Commands.{Command, Cancel, CancelFeedback, Feedback, Outcome, Gone}
-use Rattle.rollout_machine.specs.Histories.{outcome_said_by, first_outcome, FitsHistory, OutcomesFitHistories}
+use Rattle.rollout_machine.specs.Histories.{first_outcome, FitsHistory, OutcomesFitHistories}
 use Rattle.rollout_machine.proofs.Actions.{append_none}
 use Rattle.rollout_machine.proofs.AtNumbers.{has_place}
 
@@ -16,7 +16,7 @@ or_none (Some x) = refl
 -- entries behind a history that gives no outcome
 first_behind : (es fs : List HistoryEntry) → first_outcome es ≡ None → first_outcome (es ++ fs) ≡ first_outcome fs
 first_behind [] fs none = refl
-first_behind (e ∷ es) fs none = go (outcome_said_by e) none (first_behind es fs)
+first_behind (e ∷ es) fs none = go (outcome_said e.said) none (first_behind es fs)
   where
     go : (o : Option Outcome) → option_or o (first_outcome es) ≡ None → (first_outcome es ≡ None → first_outcome (es ++ fs) ≡ first_outcome fs) → option_or o (first_outcome (es ++ fs)) ≡ first_outcome fs
     go None d ih = ih d

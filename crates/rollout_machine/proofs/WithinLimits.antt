@@ -12,17 +12,17 @@ use Rattle.rollout_machine.specs.Commands.{AddArtifact, Bytes, Command, CreateRo
 use Rattle.rollout_machine.specs.Counts.{is_outcome}
 use Rattle.rollout_machine.specs.Effects.{HasSoundPlan}
 use Rattle.rollout_machine.specs.Filters.{matches}
+use Rattle.rollout_machine.specs.Groups.{IsCut}
 use Rattle.target_filter.specs.Profile.{filter_of}
 use Rattle.rollout_machine.specs.Ranges.{count_from}
 use Rattle.rollout_machine.specs.Records.{action_in, added_artifacts, artifacts, group_in, rollout_in, records, rollouts_in}
-use Rattle.rollout_machine.specs.Rollouts.{Rollout, chosen, created, first_of, members_of, rollout_at, rollouts, size_in, size_of}
+use Rattle.rollout_machine.specs.Rollouts.{Rollout, chosen, created, first_of, last_of, members_of, rollout_at, rollouts, size_in, size_of}
 use Rattle.rollout_machine.specs.Targets.{Target, target_ids, target_in, targets}
 use Rattle.rollout_machine.specs.Validity.{IsValid}
 use Rattle.rollout_machine.specs.Verdicts.{verdict, verdict_row}
 use Rattle.rollout_machine.specs.WithinLimits.{CountsNoMore, IsWithinLimits, LimitsHold}
 use Rattle.rollout_machine.proofs.AtNumbers.{of_group, of_rollout}
 use Rattle.rollout_machine.proofs.Creates.{length_in}
-use Rattle.rollout_machine.proofs.Cuts.{all_cut, ends_at, last_grows}
 use Rattle.rollout_machine.proofs.Induction.{either_numbered, invariant_of}
 use Rattle.rollout_machine.proofs.StartedSizes.{few_actions}
 use Rattle.rollout_machine.proofs.Valid.{NoneHolds, none_holds}
@@ -122,11 +122,15 @@ count_few p first (suc n) = go (p (first + n)) (count_few p first n)
 
 -- a group has no more members than its rollout
 size_few : (x : Rollout) (i : ℕ) → HasSoundPlan x → 1 ≤ i → i ≤ x.plan.groups → size_in x i ≤ size_of x
-size_few x i sound low high =
-    let ends : _ = ends_at (size_of x) x.plan.groups i sound.some_groups low in
-    let before : _ = last_grows (size_of x) x.plan.groups i x.plan.groups sound.some_groups high in
-    let all : _ = all_cut (size_of x) x.plan.groups sound.some_groups in
-    omega (arith, ends, before, all)
+size_few x i sound low high = omega (arith, sound.cut.rises i x.plan.groups high, sound.cut.whole)
+
+-- so a rollout has as many members as groups
+as_many : (last : ℕ → ℕ) (m n : ℕ) → IsCut last m n → (i : ℕ) → i ≤ n → i ≤ last i
+as_many last m n cut zero low = omega arith
+as_many last m n cut (suc i) low =
+    let behind : i + 1 ≡ suc i = omega arith in
+    let more : last i + 1 ≤ last (suc i) = subst (λ k. last i + 1 ≤ last k) behind (cut.grows i (omega (arith, low))) in
+    omega (arith, as_many last m n cut i (omega (arith, low)), more)
 
 group_counts : (h : CommandList) (r : ℕ) (x : Rollout) (i : ℕ) → HasSoundPlan x → 1 ≤ i → i ≤ x.plan.groups → CountsNoMore (size_of x) (group_in x r h i)
 group_counts h r x i sound low high =
@@ -145,7 +149,7 @@ rollout_is_within h valid r x there =
       members = small.members;
       some_groups = sound.some_groups;
       groups = small.groups;
-      enough = sound.enough;
+      enough = omega (arith, as_many (last_of x) (size_of x) x.plan.groups sound.cut x.plan.groups (omega arith), sound.cut.whole);
       counts = λ i g e. let of = of_group h r x i g e in subst (CountsNoMore (size_of x)) (sym of.is) (group_counts h r x i sound of.low of.high);
     }
 

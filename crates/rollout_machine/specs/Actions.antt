@@ -62,6 +62,11 @@ outcome_of_cancel CanceledCancel = Some Gone
 outcome_of_cancel RejectedCancel = None
 outcome_of_cancel (NotedCancel p) = None
 
+-- the outcome that a device's words give, if they give one
+abbrev pub outcome_said : Said → Option Outcome
+outcome_said (OfDeployment word) = outcome_of_deployment word
+outcome_said (OfCancel word) = outcome_of_cancel word
+
 -- the outcome that a command on an open action gives it, where it is canceling or not
 abbrev pub outcome_given : Command → Bool → Option Outcome
 outcome_given (Feedback feedback) canceling = outcome_of_deployment feedback.word

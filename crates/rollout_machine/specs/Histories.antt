@@ -1,21 +1,16 @@
 -- How the outcome of an action fits its history.
 use Rattle.std.specs.Prelude.{◌≡◌, ◌⊎◌, ℕ, List, [], ◌∷◌, Option, Some, None}
 use Rattle.std.specs.Option.{option_or}
-use Rattle.rollout_machine.specs.Actions.{HistoryEntry, DeploymentEntry, CancelEntry, outcome_of_deployment, outcome_of_cancel}
+use Rattle.rollout_machine.specs.Actions.{HistoryEntry, outcome_said}
 use Rattle.rollout_machine.specs.ByteStrings.{item_numbered}
 use Rattle.rollout_machine.specs.CommandList.{CommandList}
 use Rattle.rollout_machine.specs.Commands.{Outcome, Gone}
 use Rattle.rollout_machine.specs.Records.{ActionRecord, records}
 
--- the outcome that an entry gives, if it gives one
-abbrev pub outcome_said_by : HistoryEntry → Option Outcome
-outcome_said_by (DeploymentEntry word details) = outcome_of_deployment word
-outcome_said_by (CancelEntry word details) = outcome_of_cancel word
-
 -- that of the first entry that gives one
 abbrev pub first_outcome : List HistoryEntry → Option Outcome
 first_outcome [] = None
-first_outcome (e ∷ es) = option_or (outcome_said_by e) (first_outcome es)
+first_outcome (e ∷ es) = option_or (outcome_said e.said) (first_outcome es)
 
 -- Where entries give outcomes, the action has that of the first. Where none gives one, it is open, or gone: by a forced cancel, which leaves no entry.
 pub record FitsHistory (outcome : Option Outcome) (history : List HistoryEntry) : Type 0 where

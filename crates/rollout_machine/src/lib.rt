@@ -17,7 +17,7 @@ pub use bounds::Bounds;
 pub use handler::Handler;
 pub use outcome::Outcome;
 pub use records::{ActionRecord, GroupRecord, RolloutRecord};
-pub use said::{outcome_of_cancel, outcome_of_deployment, says_note};
+pub use said::{outcome_of_cancel, outcome_of_deployment, outcome_said, says_note};
 pub use store_failure::{is_failed_store, says_store_failed};
 pub use view::{Effects, GroupView, RolloutView};
 pub use well_formed::command_is_well_formed;

@@ -1,7 +1,7 @@
 //! What the words of a device come to.
 
 ghost use Rattle.std.specs.Prelude.{◌≡◌};
-ghost use Rattle.rollout_machine.specs.Actions.{outcome_of_cancel, outcome_of_deployment};
+ghost use Rattle.rollout_machine.specs.Actions.{outcome_of_cancel, outcome_of_deployment, outcome_said};
 ghost use Rattle.rollout_machine.specs.Verdicts.{says_note};
 
 use crate::outcome::Outcome;
@@ -25,6 +25,16 @@ pub fn outcome_of_cancel(word: CancelWord) -> Option<Outcome>
     match word {
         CancelWord::Closed | CancelWord::Canceled => Some(Outcome::Gone),
         CancelWord::Rejected | CancelWord::Noted(_) => None,
+    }
+}
+
+/// The outcome that the words give, if they give one.
+pub fn outcome_said(said: Said) -> Option<Outcome>
+    ensures { result ≡ outcome_said said }
+{
+    match said {
+        Said::Deployment(word) => outcome_of_deployment(word),
+        Said::Cancel(word) => outcome_of_cancel(word),
     }
 }
 
