@@ -1,4 +1,4 @@
--- What a text on one table means where a ledger is held.
+-- What a text on one table means where a ledger is held, and where tables are held.
 use Rattle.std.proofs.Common.{◌≡◌, ℕ, true, List}
 use Rattle.sqlite.specs.Command.{Command}
 use Rattle.sqlite.specs.Schema.{Schema}
@@ -6,6 +6,7 @@ use Rattle.sql_calls.specs.Means.{Knows, KnowsWrite, Means, writes_rows}
 use Rattle.sql_front.specs.Stands.{Stands}
 use Rattle.desk_records.specs.Schema.{Place, name_of, table_at}
 use Rattle.desk_records.specs.Holds.{HoldsLedger}
+use Rattle.desk_records.specs.Tables.{HoldsTables}
 
 module _ (t : Place) (sql : List ℕ) (command : ℕ → ℕ → Command) (means : (s : Schema) (at tree : ℕ) → Stands s (name_of t) at (table_at t tree) → Means s sql (command at tree)) where
   -- wherever the table stands
@@ -15,3 +16,7 @@ module _ (t : Place) (sql : List ℕ) (command : ℕ → ℕ → Command) (means
   -- .. as a text that writes rows
   abbrev pub ledger_writes : ((at tree : ℕ) → writes_rows (command at tree) ≡ true) → KnowsWrite HoldsLedger sql
   ledger_writes rows = record { knows = ledger_knows; rows = λ db l holds. rows (holds.spot t).at (holds.spot t).tree }
+
+  -- wherever the table stands, whatever rows it has
+  abbrev pub tables_know : Knows HoldsTables sql
+  tables_know db tables holds = record { command = command (holds.spot t).at (holds.spot t).tree; means = means db.schema (holds.spot t).at (holds.spot t).tree (holds.stands t) }

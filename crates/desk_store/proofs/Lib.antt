@@ -15,3 +15,4 @@ pub mod LedgersOfRecords
 pub mod CountingLemmas
 mod NextOfferCalls
 pub mod GroupOfferCalls
+mod RawCalls

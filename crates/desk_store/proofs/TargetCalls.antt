@@ -88,7 +88,7 @@ abbrev pub Counts : Records → ℕ → Type 0
 Counts r count = count ≡ length r.targets
 
 -- a number of 32 bits is below what SQLite counts to
-same_count : (count size : ℕ) (row : Option Row) → IsCount count row → count < 2 ^ 32 → row ≡ Some (Int (pos (min size 9223372036854775807)) ∷ []) → count ≡ size
+pub same_count : (count size : ℕ) (row : Option Row) → IsCount count row → count < 2 ^ 32 → row ≡ Some (Int (pos (min size 9223372036854775807)) ∷ []) → count ≡ size
 same_count count size None h small is = absurd h
 same_count count size (Some row) h small is =
     let it : row ≡ Int (pos (min size 9223372036854775807)) ∷ [] = cc in

@@ -8,6 +8,7 @@ use Rattle.sql_calls.specs.Standing.{Finds, FrameTo, Makes}
 use Rattle.sql_calls.specs.declared.fault.Fault.{Fault}
 use Rattle.rollout_machine.specs.Records.{Records}
 use Rattle.desk_records.specs.Holds.{HoldsLedger, Ledger, ledger_of}
+use Rattle.desk_records.specs.Tables.{HoldsTables, Tables}
 use Rattle.desk_store.specs.declared.change.OpenChange.{OpenChange}
 
 module _ {S : Type 0} (g : Ghosts S) where
@@ -37,3 +38,7 @@ module _ {S : Type 0} (g : Ghosts S) where
   -- the next records are made
   abbrev pub MakesIn : {A E : Type 0} → OpenChange S → OpenChange S → Result A E → (Records → Records → Type 0) → Type 0
   MakesIn old new result Change = Makes HoldsLedger ledger_of (seen_in old) (seen_in new) result Change
+
+  -- the tables answer, whatever rows they have, and stay as they are
+  abbrev pub FindsTables : {A E : Type 0} → OpenChange S → OpenChange S → Result A E → (Tables → A → Type 0) → Type 0
+  FindsTables old new result Answer = Finds HoldsTables (λ (t : Tables). t) (seen_in old) (seen_in new) result Answer

@@ -5,6 +5,7 @@ ghost use Rattle.sqlite.specs.Held.{state};
 ghost use Rattle.sql_calls.specs.Calls.{RunsText, Grows, no_work, failures_in};
 ghost use Rattle.sql_calls.specs.Standing.{Begins};
 ghost use Rattle.desk_records.specs.Holds.{HoldsLedger};
+ghost use Rattle.desk_records.specs.Tables.{HoldsTables};
 ghost use Rattle.desk_store.specs.Texts.{begin_text};
 
 use crate::change::OpenChange;
@@ -64,6 +65,7 @@ impl<S: Alter> DeskStore<S> {
         ensures* refused { sem 𝓛 (store_rests S.row S.Store self.entry result) }
         ensures same_reference { IfOk result (λ c. c.store.ghost_name ≡ self.entry.ghost_name) }
         ensures begun { IfOk result (λ c. Begins HoldsLedger (state S.Store self.old.calls.conn) (state S.Store c.store.now.calls.conn)) }
+        ensures tables { IfOk result (λ c. Begins HoldsTables (state S.Store self.old.calls.conn) (state S.Store c.store.now.calls.conn)) }
         ensures work { IfOk result (λ c. c.store.now.calls.work ≡ self.old.calls.work) }
         ensures grows { IfOk result (λ c. Grows 0 self.old.calls c.store.now.calls) }
     {

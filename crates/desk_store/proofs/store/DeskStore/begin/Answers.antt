@@ -4,6 +4,7 @@ use Rattle.sql_calls.specs.Standing.{Begins, Keeps}
 use Rattle.sql_calls.proofs.Ends.{begin_is}
 use Rattle.sql_calls.proofs.FrameEnds.{begins, fails_to_begin}
 use Rattle.desk_records.specs.Holds.{HoldsLedger}
+use Rattle.desk_records.specs.Tables.{HoldsTables}
 use Rattle.desk_store.specs.Texts.{begin_text}
 use Rattle.desk_store.proofs.store.DeskStore.begin.Goals as goal
 
@@ -11,9 +12,10 @@ pub returns-in-Err : goal.returns-in-Err
 returns-in-Err g c =
     let fails : Keeps HoldsLedger (state g.S.Store c.args.self.now.calls.conn) (state g.S.Store c.start.new.self.calls.conn) =
     fails_to_begin HoldsLedger begin_text _ _ (begin_is _) c.in-Err.fault c.in-Err.ensures.runs in
-    ((refl, (λ w. tt), (fails, c.in-Err.ensures.work, c.in-Err.ensures.grows)), record { refused = tt; same_reference = tt; begun = tt; work = tt; grows = tt })
+    ((refl, (λ w. tt), (fails, c.in-Err.ensures.work, c.in-Err.ensures.grows)), record { refused = tt; same_reference = tt; begun = tt; tables = tt; work = tt; grows = tt })
 
 pub returns-in-Ok : goal.returns-in-Ok
 returns-in-Ok g c =
     let begun : Begins HoldsLedger (state g.S.Store c.args.self.now.calls.conn) (state g.S.Store c.start.new.self.calls.conn) = begins HoldsLedger begin_text _ _ (begin_is _) c.in-Ok.ensures.runs in
-    ((refl, (λ w. refl), tt), record { refused = tt; same_reference = refl; begun = begun; work = c.in-Ok.ensures.work; grows = c.in-Ok.ensures.grows })
+    let tables : Begins HoldsTables (state g.S.Store c.args.self.now.calls.conn) (state g.S.Store c.start.new.self.calls.conn) = begins HoldsTables begin_text _ _ (begin_is _) c.in-Ok.ensures.runs in
+    ((refl, (λ w. refl), tt), record { refused = tt; same_reference = refl; begun = begun; tables = tables; work = c.in-Ok.ensures.work; grows = c.in-Ok.ensures.grows })

@@ -1,0 +1,125 @@
+-- The calls on tables with whatever rows they have.
+use Rattle.std.proofs.Common.{◌≡◌, ◌<◌, ◌^◌, ℕ, min, pos, true, List, [], ◌∷◌, length, Option, Some, None, Ok, Err, Result, IfOk, option_map, Vec, vec_items, refl, sym, ap, subst, ◌∙◌, arith, codes}
+use Rattle.std.specs.declared.alloc.Global.{Global}
+use Rattle.sqlite_value.specs.declared.value.Value.TheVariants.{Null, Int}
+use Rattle.sqlite_value.specs.Order.{Row}
+use Rattle.sqlite_trees.specs.Tree.{has_rowid}
+use Rattle.sqlite.specs.Command.TheVariants.{Select}
+use Rattle.sqlite.specs.Effect.{Database, Reads as Shows}
+use Rattle.sqlite.specs.Schema.{Schema}
+use Rattle.sqlite.specs.State.{State}
+use Rattle.sql_calls.specs.declared.fault.Fault.{Fault}
+use Rattle.sql_calls.specs.Calls.{AsksText, TakesFirst}
+use Rattle.sql_calls.specs.Means.{Knows, Means}
+use Rattle.sql_calls.specs.Standing.{Finds}
+use Rattle.sql_calls.proofs.Counts.{count_query, count_rows}
+use Rattle.sql_calls.proofs.Finding.{ShowsFirst, ask_finds, first_finds}
+use Rattle.sql_calls.proofs.Selects.{simple}
+use Rattle.sql_front.specs.Stands.{Stands}
+use Rattle.rollout_model.specs.Rules.{is_number}
+use Rattle.desk_records.specs.Holds.{HoldsLedger}
+use Rattle.desk_records.specs.Listings.{AreRead, FindsOne, IsLast}
+use Rattle.desk_records.specs.MemberRow.{IsPlacedRow, keeps_member_rules}
+use Rattle.desk_records.specs.Modules.{IsLastRow}
+use Rattle.desk_records.specs.PlaceLists.{ListsPlaces}
+use Rattle.desk_records.specs.RolloutRow.{IsRolloutRow}
+use Rattle.desk_records.specs.Schema.{Members, Place, Rollouts, name_of, table_at}
+use Rattle.desk_records.specs.TableRows.{IsRollout}
+use Rattle.desk_records.specs.Tables.{HoldsTables, Tables}
+use Rattle.desk_records.specs.declared.member_row.PlacedMember.{PlacedMember}
+use Rattle.desk_records.specs.declared.rollout_row.StoredRollout.{StoredRollout}
+use Rattle.desk_records.specs.declared.rollout_texts.TheConstants.{COUNT_MEMBERS, GET_ROLLOUT, LAST_ROLLOUT, LIST_PLACES}
+use Rattle.desk_records.proofs.MeaningWords.{at_key}
+use Rattle.desk_records.proofs.PlaceRows.{lists_places}
+use Rattle.desk_records.proofs.RolloutMeaning.{count_members_is, get_rollout_is, last_rollout_is, last_rollout_query, list_places_is, placed_names, places_query, rollout_columns, rollout_names}
+use Rattle.desk_records.proofs.RolloutRows.{IsShownOf, gets_any, lasts_any}
+use Rattle.desk_store.specs.Rows.{IsCount, IsReadAs}
+use Rattle.desk_store.proofs.Known.{ledger_knows, tables_know}
+use Rattle.desk_store.proofs.TargetCalls.{same_count}
+
+-- what is found of tables
+abbrev pub FindsOf : {A : Type 0} → State → State → Result A Fault → (Tables → A → Type 0) → Type 0
+FindsOf old new out Answer = Finds HoldsTables (λ (t : Tables). t) old new out Answer
+
+-- ---- counts
+
+module _ (p : Place) (sql : List ℕ) (means : (s : Schema) (at tree : ℕ) → Stands s (name_of p) at (table_at p tree) → Means s sql (Select (record { lets = []; body = count_query tree }) (codes "count(*)" ∷ []))) where
+  abbrev pub counted_ledger : Knows HoldsLedger sql
+  counted_ledger = ledger_knows p sql (λ at tree. Select (record { lets = []; body = count_query tree }) (codes "count(*)" ∷ [])) means
+
+  abbrev counted : Knows HoldsTables sql
+  counted = tables_know p sql (λ at tree. Select (record { lets = []; body = count_query tree }) (codes "count(*)" ∷ [])) means
+
+  abbrev pub Counts : Tables → ℕ → Type 0
+  Counts t count = count ≡ length (t p)
+
+  count_shown : (db : Database) (t : Tables) (holds : HoldsTables db t) (row : Option Row) → ShowsFirst (counted db t holds).command db [] row → row ≡ Some (Int (pos (min (length (t p)) 9223372036854775807)) ∷ [])
+  count_shown db t holds None shows = let none = count_rows (holds.spot p).tree [] db.trees [] (shows.answer Null) in absurd cc
+  count_shown db t holds (Some row) shows =
+      let all = count_rows (holds.spot p).tree [] db.trees (row ∷ shows.0) (shows.1.answer Null) in
+      let first : row ≡ Int (pos (min (length (db.trees (holds.spot p).tree)) 9223372036854775807)) ∷ [] = cc in
+      ap Some first ∙ ap (λ (l : List Row). Some (Int (pos (min (length l) 9223372036854775807)) ∷ [])) (sym (holds.rows p))
+
+  answers : (row : Option Row) (out : Result ℕ Fault) → IfOk out (λ n. IsCount n row) → IfOk out (λ n. n < 2 ^ 32)
+      → IfOk out (λ n. (db : Database) (t : Tables) (holds : HoldsTables db t) → ShowsFirst (counted db t holds).command db [] row → Counts t n)
+  answers row (Ok n) is small = λ db t holds shows. same_count n (length (t p)) row is small (count_shown db t holds row shows)
+  answers row (Err e) is small = tt
+
+  pub count_read : (old new : State) (row : Option Row) → TakesFirst old new sql [] (Ok row) → (out : Result ℕ Fault) → IfOk out (λ n. IsCount n row) → IfOk out (λ n. n < 2 ^ 32) → FindsOf old new out Counts
+  count_read old new row h out is small = first_finds HoldsTables (λ (t : Tables). t) sql [] old new Counts counted (λ db t holds at given. tt) row h out (answers row out is small)
+
+-- ---- members
+
+abbrev pub listing : Knows HoldsLedger LIST_PLACES.now
+listing = ledger_knows Members LIST_PLACES.now (λ at tree. Select (record { lets = []; body = places_query tree }) placed_names) list_places_is
+
+abbrev listing_any : Knows HoldsTables LIST_PLACES.now
+listing_any = tables_know Members LIST_PLACES.now (λ at tree. Select (record { lets = []; body = places_query tree }) placed_names) list_places_is
+
+abbrev pub counting : Knows HoldsLedger COUNT_MEMBERS.now
+counting = counted_ledger Members COUNT_MEMBERS.now count_members_is
+
+abbrev pub Places : ℕ → Tables → Option (Vec PlacedMember Global) → Type 0
+Places r t found = ListsPlaces (t Members) r (option_map vec_items found)
+
+pub places_read : (r : ℕ) → is_number r ≡ true → (old new : State) (rows : Vec Row Global) → AsksText old new LIST_PLACES.now (Int (pos r) ∷ []) (Ok rows) → (out : Result (Option (Vec PlacedMember Global)) Fault)
+    → IfOk out (λ found. AreRead IsPlacedRow keeps_member_rules rows.items (option_map vec_items found)) → FindsOf old new out (Places r)
+places_read r good old new rows h out read = ask_finds HoldsTables (λ (t : Tables). t) LIST_PLACES.now (Int (pos r) ∷ []) old new (Places r) listing_any rows h out (answers out read)
+  where
+    answers : (out : Result (Option (Vec PlacedMember Global)) Fault) → IfOk out (λ found. AreRead IsPlacedRow keeps_member_rules rows.items (option_map vec_items found))
+        → IfOk out (λ found. (db : Database) (t : Tables) (holds : HoldsTables db t) → Shows (listing_any db t holds).command db (Int (pos r) ∷ []) rows.items → Places r t found)
+    answers (Ok found) read = λ db t holds shows. lists_places db t holds placed_names r good rows.items shows (option_map vec_items found) read
+    answers (Err e) read = tt
+
+-- ---- rollouts
+
+abbrev ending_any : Knows HoldsTables LAST_ROLLOUT.now
+ending_any = tables_know Rollouts LAST_ROLLOUT.now (λ at tree. Select (record { lets = []; body = last_rollout_query tree }) (codes "number" ∷ [])) last_rollout_is
+
+abbrev getting_any : Knows HoldsTables GET_ROLLOUT.now
+getting_any = tables_know Rollouts GET_ROLLOUT.now (λ at tree. Select (record { lets = []; body = simple tree (at_key 0 0 ∷ []) rollout_columns }) rollout_names) get_rollout_is
+
+abbrev pub Lasts : Tables → ℕ → Type 0
+Lasts t last = IsLast (t Rollouts) last
+
+pub last_read : (old new : State) (row : Option Row) → TakesFirst old new LAST_ROLLOUT.now [] (Ok row) → (out : Result ℕ Fault) → IfOk out (λ n. IsLastRow n row) → FindsOf old new out Lasts
+last_read old new row h out is = first_finds HoldsTables (λ (t : Tables). t) LAST_ROLLOUT.now [] old new Lasts ending_any (λ db t holds at given. tt) row h out (answers out is)
+  where
+    answers : (out : Result ℕ Fault) → IfOk out (λ n. IsLastRow n row) → IfOk out (λ n. (db : Database) (t : Tables) (holds : HoldsTables db t) → ShowsFirst (ending_any db t holds).command db [] row → Lasts t n)
+    answers (Ok n) is = λ db t holds shows. lasts_any db t holds (codes "number" ∷ []) row shows n is
+    answers (Err e) is = tt
+
+abbrev pub Gets : ℕ → Tables → Option StoredRollout → Type 0
+Gets r t found = FindsOne (t Rollouts) (has_rowid (pos r)) IsRollout found
+
+one_found : (db : Database) (t : Tables) (holds : HoldsTables db t) (r : ℕ) (row : Option Row) (found : Option StoredRollout) → IsReadAs IsRolloutRow found row → IsShownOf db t holds rollout_names r row → Gets r t found
+one_found db t holds r None found is none = subst (Gets r t) (sym is) none
+one_found db t holds r (Some row) found is shown = subst (Gets r t) (sym is.1) (record { row = shown.0; among = shown.1; passes = shown.2; is = subst (λ y. IsRolloutRow y is.0) shown.3 is.2 })
+
+pub rollout_read : (r : ℕ) (old new : State) (row : Option Row) → TakesFirst old new GET_ROLLOUT.now (Int (pos r) ∷ []) (Ok row) → (out : Result (Option StoredRollout) Fault) → IfOk out (λ found. IsReadAs IsRolloutRow found row) → FindsOf old new out (Gets r)
+rollout_read r old new row h out is = first_finds HoldsTables (λ (t : Tables). t) GET_ROLLOUT.now (Int (pos r) ∷ []) old new (Gets r) getting_any (λ db t holds at given. tt) row h out (answers out is)
+  where
+    answers : (out : Result (Option StoredRollout) Fault) → IfOk out (λ found. IsReadAs IsRolloutRow found row)
+        → IfOk out (λ found. (db : Database) (t : Tables) (holds : HoldsTables db t) → ShowsFirst (getting_any db t holds).command db (Int (pos r) ∷ []) row → Gets r t found)
+    answers (Ok found) is = λ db t holds shows. one_found db t holds r row found is (gets_any db t holds rollout_names r row shows)
+    answers (Err e) is = tt

@@ -1,0 +1,11 @@
+use Rattle.desk_records.specs.Schema.{Members}
+use Rattle.desk_records.specs.declared.rollout_texts.TheConstants.{COUNT_MEMBERS}
+use Rattle.desk_records.proofs.RolloutMeaning.{count_members_is}
+use Rattle.desk_store.proofs.RawCalls.{count_read, counting}
+use Rattle.desk_store.proofs.change.OpenChange.count_members.Goals as goal
+
+pub returns-clause-reads : goal.returns-clause-reads
+returns-clause-reads g c = count_read Members COUNT_MEMBERS.now count_members_is _ _ c.in_ok-row.row c.in_ok-row.ensures.takes c.counted_in.result c.counted_in.ensures.count c.counted_in.ensures.small
+
+pub first-requires : goal.first-requires
+first-requires g c = counting

@@ -1,0 +1,39 @@
+//! The table of rollouts with whatever rows it has, in a change that is under way.
+
+ghost use Rattle.std.specs.Prelude.{pos};
+ghost use Rattle.sqlite_trees.specs.Tree.{has_rowid};
+ghost use Rattle.desk_records.specs.Listings.{FindsOne, IsLast};
+ghost use Rattle.desk_records.specs.Schema.{Rollouts};
+ghost use Rattle.desk_records.specs.TableRows.{IsRollout};
+ghost use Rattle.desk_store.specs.Changing.{FindsTables, StaysIn};
+ghost use Rattle.desk_store.specs.Counting.{AddsIn};
+
+use crate::change::OpenChange;
+use crate::reading::{last_number, read_optional};
+use desk_records::{GET_ROLLOUT, LAST_ROLLOUT, StoredRollout};
+use rollout_model::RolloutNo;
+use sql_calls::Fault;
+use sqlite::{Alter, params};
+
+impl<'a, S: Alter> OpenChange<'a, S> {
+    /// The greatest number of a rollout, whatever rows there are.
+    pub fn find_last_rollout(&mut self) -> Result<u32, Fault>
+        ensures stays { StaysIn S.Store self.old self.new result }
+        ensures reads { FindsTables S.Store self.old self.new result (λ t last. IsLast (t Rollouts) last) }
+        ensures work { AddsIn 1 1 self.old self.new }
+    {
+        let row = self.first(LAST_ROLLOUT, &[])?;
+        last_number(row)
+    }
+
+    /// The rollout of a number, whatever rows there are. A row that breaks a column's rule is a failed store.
+    pub fn find_rollout(&mut self, number: RolloutNo) -> Result<Option<StoredRollout>, Fault>
+        ensures stays { StaysIn S.Store self.old self.new result }
+        ensures reads { FindsTables S.Store self.old self.new result (λ t found. FindsOne (t Rollouts) (has_rowid (pos number)) IsRollout found) }
+        ensures work { AddsIn 1 1 self.old self.new }
+    {
+        let alloc = self.store.alloc;
+        let row = self.first(GET_ROLLOUT, params![number.get()])?;
+        read_optional(alloc, row)
+    }
+}
