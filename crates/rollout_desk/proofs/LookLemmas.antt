@@ -1,6 +1,6 @@
 -- From the calls of the store to a look at the records.
 use Rattle.std.proofs.Common.{◌≡◌, ◌⊎◌, inl, inr, Ok, Err, Result, refl, sym, subst, arith}
-use Rattle.sqlite.specs.State.{State}
+use Rattle.sqlite.specs.State.{State, HasCleanDisk}
 use Rattle.sql_calls.specs.Standing.{Begins, Doubts, Finds, Keeps, Opens, Rests, Spoiled, Wears}
 use Rattle.sql_calls.proofs.FrameEnds.{rest_shows}
 use Rattle.sql_calls.specs.declared.fault.Fault.{Fault}
@@ -36,16 +36,20 @@ module _ {A : Type 0} (a d : State) (Answer : Records → A → Type 0) where
   unbegun fault refusal is keeps = broken refusal (fails fault refusal is) keeps.wears keeps.rests
 
   module _ (b c : State) (begins : Begins HoldsLedger a b) (result : Result A Refusal) where
-    -- what was read in the change is what was found
-    pub looked : {E : Type 0} (found : A) → ((kept : Ledger) → Opens HoldsLedger b kept → Opens HoldsLedger c kept) → Finds HoldsLedger ledger_of {E = E} b c (Ok found) Answer → EndsLook c d (Ok found) result → Looks HoldsRecords a d result Answer
-    looked found goes reads ends =
-        let wears : Wears a d = omega (arith, begins.wears, reads.wears, ends.wears) in
+    -- what was read in the change
+    pub read : {E : Type 0} (found : A) → Finds HoldsLedger ledger_of {E = E} b c (Ok found) Answer → (r : Records) → Rests HoldsLedger a (ledger_of r) → HasCleanDisk c → Answer r found
+    read found reads r rested clean = (reads.finds r (begins.sees _ (rest_shows HoldsLedger _ _ rested))).1 clean
+
+    -- .. is what was found
+    pub looked : (found : A) → ((kept : Ledger) → Opens HoldsLedger b kept → Opens HoldsLedger c kept) → Wears b c → ((r : Records) → Rests HoldsLedger a (ledger_of r) → HasCleanDisk c → Answer r found) → EndsLook c d (Ok found) result → Looks HoldsRecords a d result Answer
+    looked found goes worn answers ends =
+        let wears : Wears a d = omega (arith, begins.wears, worn, ends.wears) in
         elim ends.ends [
           | inl it ↦ subst (λ x. Looks HoldsRecords a d x Answer) (sym it.0) (record {
             wears = wears;
             looks = λ r was.
                 let rested = rests_ledger a r was in
-                (rests_records d r (it.1 _ (goes _ (begins.opens _ rested)).spoiled), λ clean. (reads.finds r (begins.sees _ (rest_shows HoldsLedger _ _ rested))).1 (omega (arith, clean, ends.wears)));
+                (rests_records d r (it.1 _ (goes _ (begins.opens _ rested)).spoiled), λ clean. answers r rested (omega (arith, clean, ends.wears)));
           })
           | inr it ↦ subst (λ x. Looks HoldsRecords a d x Answer) (sym it.0) (in_doubt StoreFailed refl wears (λ l was. it.1 l (goes l (begins.opens l was)).spoiled))
         ]

@@ -8,3 +8,4 @@ pub mod Promises
 pub mod Looks
 pub mod Downloads
 pub mod Working
+pub mod Verifying

@@ -10,9 +10,11 @@ mod look;
 mod opening;
 mod refusals;
 mod run;
+mod verify;
 
 pub use crate::desk::Desk;
 pub use crate::download::downloads_go_on;
 pub use crate::opening::goes_on_after_crash;
 pub use contents_handler::Download;
 pub use desk_opening::OpenFault;
+pub use desk_verify::{CheckedTable, Damage};

@@ -15,7 +15,7 @@ use sqlite::Alter;
 use std::alloc::Global;
 
 /// Gives a change up, and then what was found in it.
-fn give_up<S: Alter, T: Drop>(
+pub(crate) fn give_up<S: Alter, T: Drop>(
     change: OpenChange<'_, S>,
     found: Result<T, Refusal>,
 ) -> Result<T, Refusal>

@@ -4,7 +4,7 @@ use Rattle.sql_calls.specs.Standing.{Keeps}
 use Rattle.desk_records.specs.Artifacts.{piece_numbered}
 use Rattle.desk_records.specs.Holds.{HoldsLedger, HoldsRecords}
 use Rattle.rollout_desk.specs.Looks.{Looks, bytes_of}
-use Rattle.rollout_desk.proofs.LookLemmas.{looked, look_failed, unbegun}
+use Rattle.rollout_desk.proofs.LookLemmas.{look_failed, looked, read, unbegun}
 use Rattle.rollout_desk.proofs.look.read_piece.Goals as goal
 
 pub returns-in-Err-clause-looks : goal.returns-in-Err-clause-looks
@@ -16,7 +16,7 @@ pub returns-in-Ok-read_piece-clause-looks : goal.returns-in-Ok-read_piece-clause
 returns-in-Ok-read_piece-clause-looks g c =
     let same : c.give_up.new.change.0 ≡ c.store-in-Ok-read_piece-1.given.0 = search rules in
     subst (λ h. Looks HoldsRecords (state g.S.Store c.args.store.now.calls.conn) (state g.S.Store h.calls.conn) c.give_up.result (λ r found. bytes_of found ≡ piece_numbered r.artifacts c.args.number c.args.place)) same
-    (looked _ _ _ _ _ c.in-Ok.ensures.begun _ c.in-Ok-read_piece.found c.in-Ok-read_piece.ensures.stays.frame c.in-Ok-read_piece.ensures.reads c.give_up.ensures.ends)
+    (looked _ _ _ _ _ c.in-Ok.ensures.begun _ c.in-Ok-read_piece.found c.in-Ok-read_piece.ensures.stays.frame c.in-Ok-read_piece.ensures.reads.wears (read _ _ _ _ _ c.in-Ok.ensures.begun c.give_up.result c.in-Ok-read_piece.found c.in-Ok-read_piece.ensures.reads) c.give_up.ensures.ends)
 
 pub returns-in-Err-read_piece-clause-looks : goal.returns-in-Err-read_piece-clause-looks
 returns-in-Err-read_piece-clause-looks g c =

@@ -1,0 +1,58 @@
+-- What a verification says of the tables, and what it leaves of the desk.
+use Rattle.std.specs.Prelude.{◌≡◌, Bool, false, Option, Some, None, Result, Ok, Err, IfOk, Unit, ⊤, ⊥}
+use Rattle.sqlite.specs.State.{State, HasCleanDisk}
+use Rattle.sql_calls.specs.Standing.{Shows}
+use Rattle.rollout_machine.specs.CommandList.{CommandList}
+use Rattle.rollout_machine.specs.Records.{Records, records}
+use Rattle.rollout_machine.specs.Replies.{Refused as RefusedReply}
+use Rattle.rollout_machine.specs.Standing.{Becomes, DeskState, StandsFor}
+use Rattle.rollout_machine.specs.StoreFailures.{is_store}
+use Rattle.rollout_machine.specs.Validity.{IsValid}
+use Rattle.rollout_model.specs.declared.refusal.Refusal.{Refusal}
+use Rattle.desk_records.specs.Tables.{HoldsTables, Tables}
+use Rattle.desk_verify.specs.Agreement.{IsDamage}
+use Rattle.desk_verify.specs.declared.damage.CheckedTable.{CheckedTable}
+use Rattle.desk_verify.specs.declared.damage.Damage.{Damage}
+use Rattle.desk_verify.specs.declared.damage.Damage.TheVariants.{Refused, Table}
+use Rattle.rollout_desk.specs.Downloads.{IsInterruption}
+
+-- ---- inside a change
+
+-- what was found is the first table that doesn't agree, whatever tables are shown
+abbrev pub FindsDamage : State → State → Result (Option CheckedTable) Refusal → Type 0
+FindsDamage old new result = IfOk result (λ found. (t : Tables) → HasCleanDisk new → Shows HoldsTables old t → IsDamage t found)
+
+-- the records of accepted commands are never damaged
+abbrev pub IsNeverDamaged : Records → Option CheckedTable → Type 0
+IsNeverDamaged r found = (h : CommandList) → IsValid h → r ≡ records h → found ≡ None
+
+-- ---- the desk
+
+-- all agree, or this one is the first that doesn't
+abbrev pub SaysOf : Tables → Result (Unit {0}) Damage → Type 0
+SaysOf t (Ok done) = IsDamage t None
+SaysOf t (Err (Table table)) = IsDamage t (Some table)
+SaysOf t (Err (Refused refusal)) = ⊤
+
+-- It is said of the tables that are shown, whatever rows they have.
+abbrev pub Judges : State → State → Result (Unit {0}) Damage → Type 0
+Judges old new result = (t : Tables) → HasCleanDisk new → Shows HoldsTables old t → SaysOf t result
+
+-- a desk that stands for the list goes on, and isn't told of a table; or it is what a refusal makes of it
+abbrev pub GoesOn : {File : Type 0} → CommandList → DeskState File → Result (Unit {0}) Damage → Type 0
+GoesOn h new (Ok done) = StandsFor new h
+GoesOn h new (Err (Table table)) = ⊥
+GoesOn h new (Err (Refused refusal)) = Becomes new h (RefusedReply refusal) None
+
+abbrev pub KeepsDesk : {File : Type 0} → DeskState File → DeskState File → Result (Unit {0}) Damage → Type 0
+KeepsDesk old new result = (h : CommandList) → new.is_clean → StandsFor old h → GoesOn h new result
+
+-- a table, or why none was found out
+abbrev pub MayTell : Damage → Type 0
+MayTell (Table table) = ⊤
+MayTell (Refused refusal) = IsInterruption refusal
+
+-- whether a failed store is told
+abbrev pub tells_damage : Result (Unit {0}) Damage → Bool
+tells_damage (Err (Refused refusal)) = is_store refusal
+tells_damage _ = false
