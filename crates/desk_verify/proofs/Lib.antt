@@ -1,0 +1,4 @@
+mod Counting
+mod Follow
+mod MemberLemmas
+mod Naming

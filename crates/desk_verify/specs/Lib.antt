@@ -1,0 +1,6 @@
+pub mod Names
+pub mod Agreement
+pub mod Rollouts
+pub mod Members
+pub mod Following
+pub mod MemberChecks
