@@ -6,7 +6,6 @@ use Rattle.sql_calls.specs.declared.fault.Fault.{Fault}
 use Rattle.sql_calls.proofs.FrameEnds.{rest_shows}
 use Rattle.desk_records.specs.Holds.{HoldsLedger, HoldsRecords, ledger_of}
 use Rattle.desk_records.specs.Tables.{HoldsTables, Tables}
-use Rattle.desk_records.proofs.HeldTables.{are_tables, rows_of}
 use Rattle.rollout_machine.specs.CommandList.{CommandList}
 use Rattle.rollout_machine.specs.Records.{Records, records}
 use Rattle.rollout_machine.specs.Replies.{Refused as RefusedReply}
@@ -15,9 +14,9 @@ use Rattle.rollout_machine.specs.Validity.{IsValid}
 use Rattle.rollout_machine.specs.StoreFailures.{is_store}
 use Rattle.rollout_model.specs.declared.refusal.Refusal.{Refusal}
 use Rattle.desk_verify.specs.Agreement.{IsDamage}
+use Rattle.desk_verify.specs.Promises.{NamesNone}
 use Rattle.desk_verify.specs.declared.damage.CheckedTable.{CheckedTable}
 use Rattle.desk_verify.specs.declared.damage.Damage.TheVariants.{Refused, Table}
-use Rattle.desk_verify.proofs.NeverTold.{never_told}
 use Rattle.rollout_desk.specs.Desks.{desk_state_at}
 use Rattle.rollout_desk.specs.Looks.{EndsLook, Looks}
 use Rattle.rollout_desk.specs.Verifying.{FindsDamage, GoesOn, IsNeverDamaged, SaysOf}
@@ -31,13 +30,9 @@ module _ (a b c d : State) (found : Option CheckedTable) (reads : Finds HoldsTab
     | inr it ↦ subst (FindsDamage a d) (sym it.0) tt
   ]
 
-  -- a change that sees a ledger sees its tables
-  pub never_damaged : Begins HoldsLedger a b → (r : Records) → Rests HoldsLedger a (ledger_of r) → HasCleanDisk c → IsNeverDamaged r found
-  never_damaged begins r rested clean h valid is =
-      let held = (begins.sees (ledger_of r) (rest_shows HoldsLedger a _ rested)).sees (omega (arith, clean, reads.wears)) in
-      let tables = are_tables b.now (ledger_of r) held.now_holds in
-      let seen : Sees HoldsTables b (rows_of b.now (ledger_of r) held.now_holds) = record { sees = λ _. record { mode = held.mode; is_open = held.is_open; now_holds = tables } } in
-      never_told h valid b.now (subst (λ (x : Records). HoldsRecords b.now x) is held.now_holds) _ tables found ((reads.finds _ seen).1 clean)
+  -- records of accepted commands aren't damaged
+  pub never_damaged : Begins HoldsLedger a b → NamesNone b c {E = Fault} (Ok found) → (r : Records) → Rests HoldsLedger a (ledger_of r) → HasCleanDisk c → IsNeverDamaged r found
+  never_damaged begins never r rested clean h valid is = never h valid (subst (λ (x : Records). Sees HoldsLedger b (ledger_of x)) is (begins.sees (ledger_of r) (rest_shows HoldsLedger a _ rested))) clean
 
 -- ---- the desk
 
