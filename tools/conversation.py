@@ -226,8 +226,8 @@ class Reader:
             return
         (key, text), body = self.item, b"".join(map(body_line, self.body))
         self.item, self.body = None, []
-        if key == "file":
-            self.before.append((key, body))
+        if key in ("file", "database"):
+            self.before.append((key, escaped(text) + body))
         elif key == ">":
             self.process().exchanges.append(Exchange(request_bytes(text, body)))
         elif key == ">>":
@@ -244,7 +244,7 @@ class Reader:
 
     def take(self, key, text):
         self.end_item()
-        if key in (">", ">>", "<", "<<", "file"):
+        if key in (">", ">>", "<", "<<", "file", "database"):
             self.item = key, text
         elif key == "repeats":
             self.last_exchange().repeats = True
@@ -260,8 +260,6 @@ class Reader:
             process.error = text.removeprefix("has ")
         elif key == "sql":
             self.before.append((key, text))
-        elif key == "database":
-            self.before.append((key, escaped(text)))
         elif key == "rows":
             self.process().rows.append((text, []))
         elif key == "pieces":
