@@ -43,5 +43,7 @@ pub mod NumberColumns
 mod TableColumns
 mod AnyRows
 pub mod PlaceRows
+pub mod ArtifactRows
 pub mod RolloutRows
 pub mod HeldTables
+pub mod HeldArtifacts

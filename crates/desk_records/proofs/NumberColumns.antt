@@ -1,5 +1,5 @@
 -- What columns with a number say of it.
-use Rattle.std.proofs.Common.{◌≡◌, ◌<◌, ◌^◌, [], ◌∷◌, ℕ, ℤ, pos, negsuc, Bool, true, false, cond, Option, Some, None, true≢false, refl, sym, ap, ◌∙◌, arith, nat_eq, nat_lt, nat_le, is_eq, int_cmp}
+use Rattle.std.proofs.Common.{◌≡◌, ◌<◌, ◌^◌, ◌&&◌, [], ◌∷◌, ℕ, ℤ, pos, negsuc, Bool, true, false, cond, Option, Some, None, true≢false, refl, sym, ap, ap₂, ◌∙◌, arith, nat_eq, nat_lt, nat_le, is_eq, int_cmp}
 use Rattle.std.specs.Option.{option_and_then}
 use Rattle.std.proofs.lemmas.Bool.{and_parts}
 use Rattle.std.proofs.lemmas.Bool.Decides.{nat_tests}
@@ -85,6 +85,11 @@ numbers_equal (negsuc m) n = let never : is_eq (int_cmp (negsuc m) (pos n)) ≡ 
 -- of a column that is a whole number
 pub passes_at : (row : Row) (place n : ℕ) (v : ℤ) → column row place ≡ Int v → (passes (at_key place 0 ∷ []) (Int (pos n) ∷ []) row) ≡ has_at place n row
 passes_at row place n v is = and_true _ ∙ rw is (numbers_equal v n)
+
+-- of two such columns
+pub passes_two : (row : Row) (first second m n : ℕ) (v w : ℤ) → column row first ≡ Int v → column row second ≡ Int w
+    → (passes (at_key first 0 ∷ at_key second 1 ∷ []) (Int (pos m) ∷ Int (pos n) ∷ []) row) ≡ (has_at first m row && has_at second n row)
+passes_two row first second m n v w is_v is_w = rw (is_v, is_w) (ap₂ ◌&&◌ (numbers_equal v m) (and_true _ ∙ numbers_equal w n))
 
 -- of the rowid, whatever it is
 pub passes_rowid : (row : Row) (n : ℕ) → passes (at_key 0 0 ∷ []) (Int (pos n) ∷ []) row ≡ has_rowid (pos n) row

@@ -1,11 +1,12 @@
 //! The rows of artifacts and of their pieces.
 
-ghost use Rattle.std.specs.Prelude.{◌≡◌, ◌⊎◌, IfOk, IfErr, true, false, Some};
+ghost use Rattle.std.specs.Prelude.{◌≡◌, ◌⊎◌, IfErr, IfNone, IfOk, IfSome, true, false, Some};
 ghost use Rattle.sqlite_value.specs.Order.{column};
 ghost use Rattle.desk_records.specs.ModuleRow.{StoredText};
 ghost use Rattle.desk_records.specs.SetRow.{StoredNumber, has_number};
 ghost use Rattle.desk_records.specs.ArtifactRow.{IsStoredRow, IsArtifactRow, StoredBytes, small_number, has_filename, has_size, has_digest};
 ghost use Rattle.desk_records.specs.ArtifactRow.{has_bytes, broken_stored_column, broken_artifact_column};
+ghost use Rattle.desk_records.specs.ArtifactRow.{IsCheckedRow, keeps_artifact_rules};
 
 use crate::module_row::{Column, RowFault, row_fault};
 use rollout_model::{Artifact, ArtifactNo, Digest, Filename, ModuleNo};
@@ -18,6 +19,16 @@ use std::str;
 pub struct StoredArtifact {
     pub module_number: ModuleNo,
     pub filename: Filename,
+    /// In bytes.
+    pub size: u32,
+    /// By SHA-256 (FIPS 180-4).
+    pub digest: Digest,
+}
+
+/// An artifact as it is checked.
+#[derive(Clone, Copy)]
+pub struct CheckedArtifact {
+    pub number: ArtifactNo,
     /// In bytes.
     pub size: u32,
     /// By SHA-256 (FIPS 180-4).
@@ -53,6 +64,33 @@ pub fn read_artifact(row: &Row) -> Result<Artifact, RowFault>
     Ok(Artifact {
         number,
         filename,
+        size,
+        digest,
+    })
+}
+
+/// The artifact in a row of module, filename, size, digest and number; `None` where a column breaks its rule. Takes no memory.
+pub fn read_checked_artifact(row: &Row) -> Option<CheckedArtifact>
+    ensures some { IfSome result (IsCheckedRow row.now) }
+    ensures none { IfNone result (keeps_artifact_rules row.now ≡ false) }
+{
+    let Ok(_) = module_at(row, 0) else {
+        return None;
+    };
+    let Ok(_) = filename_at(row, 1) else {
+        return None;
+    };
+    let Ok(size) = size_at(row, 2) else {
+        return None;
+    };
+    let Ok(digest) = digest_at(row, 3, Column::ArtifactDigest) else {
+        return None;
+    };
+    let Ok(number) = artifact_at(row, 4) else {
+        return None;
+    };
+    Some(CheckedArtifact {
+        number,
         size,
         digest,
     })

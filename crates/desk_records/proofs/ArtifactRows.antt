@@ -1,0 +1,55 @@
+-- What LIST_ALL_ARTIFACTS and GET_PIECE show, whatever rows their tables have.
+use Rattle.std.proofs.Common.{◌≡◌, ℕ, pos, List, [], ◌∷◌, Option, Some, None, refl}
+use Rattle.std.specs.List.{AllZip}
+use Rattle.sqlite_value.specs.declared.value.Value.TheVariants.{Null, Int}
+use Rattle.sqlite_value.specs.Order.{Row, column}
+use Rattle.sqlite.specs.Command.TheVariants.{Select}
+use Rattle.sqlite.specs.Effect.{Database, Reads as Shows}
+use Rattle.sqlite.specs.Query.{Query}
+use Rattle.sqlite.specs.Term.{col}
+use Rattle.sqlite_rules.specs.Lists.{Has}
+use Rattle.sql_calls.proofs.Selects.{passes, simple}
+use Rattle.rollout_machine.specs.Commands.{Bytes}
+use Rattle.desk_records.specs.ArtifactLists.{ArePieces, ListsArtifacts, any_row, lies_at}
+use Rattle.desk_records.specs.ArtifactRow.{IsCheckedRow, StoredBytes, keeps_artifact_rules}
+use Rattle.desk_records.specs.Listings.{AreRead}
+use Rattle.desk_records.specs.Schema.{Artifacts, Pieces}
+use Rattle.desk_records.specs.TableRows.{IsArtifact, IsPiece}
+use Rattle.desk_records.specs.Tables.{HoldsTables, Tables}
+use Rattle.desk_records.specs.declared.artifact_row.CheckedArtifact.{CheckedArtifact}
+use Rattle.desk_records.proofs.AnyRows.{are_said, broken}
+use Rattle.desk_records.proofs.ArtifactMeaning.{all_artifacts_query, all_columns, at_piece}
+use Rattle.desk_records.proofs.NumberColumns.{passes_two}
+use Rattle.desk_records.proofs.TableColumns.{integer_at}
+
+module _ (db : Database) (t : Tables) (holds : HoldsTables db t) (names : List (List ℕ)) where
+  -- ---- artifacts
+
+  module _ (shown : List Row) (shows : Shows (Select (record { lets = []; body = all_artifacts_query (holds.spot Artifacts).tree }) names) db [] shown) where
+    abbrev all : Query
+    all = all_artifacts_query (holds.spot Artifacts).tree
+
+    pub lists_all : (found : Option (List CheckedArtifact)) → AreRead IsCheckedRow keeps_artifact_rules shown found → ListsArtifacts (t Artifacts) found
+    lists_all (Some artifacts) reads =
+        are_said (holds.spot Artifacts).tree [] all_columns all.order all.limit all.offset [] db.trees (t Artifacts) (holds.rows Artifacts) (λ xs. refl) any_row (λ row among. refl) shown (shows.answer Null)
+        IsCheckedRow IsArtifact (λ row among passes a is. is) artifacts reads
+    lists_all None fails =
+        broken (holds.spot Artifacts).tree [] all_columns all.order all.limit all.offset [] db.trees (t Artifacts) (holds.rows Artifacts) (λ xs. refl) any_row (λ row among. refl) shown (shows.answer Null)
+        IsArtifact keeps_artifact_rules (λ row among a says. says.keeps) fails
+
+  -- ---- the pieces at a place
+
+  module _ (number place : ℕ) (shown : List Row) (shows : Shows (Select (record { lets = []; body = simple (holds.spot Pieces).tree at_piece (col 1 3 ∷ []) }) names) db (Int (pos number) ∷ Int (pos place) ∷ []) shown) where
+    abbrev its : Query
+    its = simple (holds.spot Pieces).tree at_piece (col 1 3 ∷ [])
+
+    judged : (row : Row) → Has (t Pieces) row → passes at_piece (Int (pos number) ∷ Int (pos place) ∷ []) row ≡ lies_at number place row
+    judged row among =
+        let first = integer_at db t holds Pieces row among 0 (record { c = _; there = refl; kind_is = refl; strict = refl; filled = refl; apart = refl }) in
+        let second = integer_at db t holds Pieces row among 1 (record { c = _; there = refl; kind_is = refl; strict = refl; filled = refl; apart = refl }) in
+        passes_two row 1 2 number place first.0 second.0 first.1 second.1
+
+    pub lists_pieces : (pieces : List Bytes) → AllZip (λ row bytes. column row 0 ≡ StoredBytes bytes) shown pieces → ArePieces (t Pieces) number place pieces
+    lists_pieces pieces reads =
+        are_said (holds.spot Pieces).tree at_piece (col 1 3 ∷ []) its.order its.limit its.offset (Int (pos number) ∷ Int (pos place) ∷ []) db.trees (t Pieces) (holds.rows Pieces) (λ xs. refl) (lies_at number place) judged shown (shows.answer Null)
+        (λ row bytes. column row 0 ≡ StoredBytes bytes) IsPiece (λ row among passes bytes is. is) pieces reads
