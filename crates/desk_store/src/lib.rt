@@ -8,6 +8,7 @@ mod change;
 mod codes;
 mod from_row;
 mod group_offers;
+mod raw_artifacts;
 mod raw_members;
 mod raw_rollouts;
 mod reading;
@@ -21,7 +22,7 @@ pub use crate::change::OpenChange;
 pub use crate::rollouts::GroupAndNext;
 pub use crate::store::DeskStore;
 pub use desk_records::{
-    ListedAction, ListedTarget, NewEntry, PlacedMember, SetName, StoredAction, StoredArtifact,
-    StoredRollout, StoredTarget, tell_entry,
+    CheckedArtifact, ListedAction, ListedTarget, NewEntry, PlacedMember, SetName, StoredAction,
+    StoredArtifact, StoredRollout, StoredTarget, tell_entry,
 };
 pub use sql_calls::{Fault, Work};
