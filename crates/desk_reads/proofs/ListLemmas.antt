@@ -7,15 +7,13 @@ use Rattle.sql_calls.proofs.Composing.{finds_as}
 use Rattle.rollout_machine.specs.ByteStrings.{item_numbered}
 use Rattle.rollout_machine.specs.CommandList.{CommandList}
 use Rattle.rollout_machine.specs.Effects.{HasSoundPlan}
-use Rattle.rollout_machine.specs.Groups.{bounds_of, first_position, last_position, size_of_bounds}
 use Rattle.rollout_machine.specs.Ranges.{each_from}
 use Rattle.rollout_machine.specs.Records.{Records, group_in, records, rollout_in, rollouts_in}
-use Rattle.rollout_machine.specs.Rollouts.{Rollout, rollout_at, rollouts, size_of}
+use Rattle.rollout_machine.specs.Rollouts.{Rollout, first_of, rollout_at, rollouts, size_in, size_of}
 use Rattle.rollout_machine.specs.StateWords.{group_numbered, size_of_group}
 use Rattle.rollout_machine.specs.Validity.{IsValid}
 use Rattle.rollout_machine.specs.declared.records.GroupRecord.{GroupRecord}
 use Rattle.rollout_machine.specs.declared.records.RolloutRecord.{RolloutRecord}
-use Rattle.rollout_machine.proofs.Cuts.{all_cut, last_grows}
 use Rattle.rollout_machine.proofs.Induction.{invariant_of, no_record}
 use Rattle.rollout_machine.proofs.Whole.{rollout_numbered}
 use Rattle.desk_records.specs.Holds.{HoldsLedger, ledger_of}
@@ -83,12 +81,8 @@ found_each f i a (suc n) g is = go (nat_eq (f a).number i) is (found_each f i (s
   go true one rest = let same : g ≡ f a = cc in (a, omega arith, omega arith, same)
   go false other rest = let it = rest other in (it.0, omega (arith, it.1), omega (arith, it.2), it.3)
 
-within : (m n k : ℕ) → 1 ≤ n → 1 ≤ k → k < 1 + n → (first_position m n k - 1) + size_of_bounds (bounds_of m n k) ≤ m
-within m n k some least most =
-    let last : last_position m n k ≤ last_position m n n = last_grows m n k n (omega (arith, some)) (omega (arith, most)) in
-    let all = all_cut m n some in
-    let sum : last_position m n (k - 1) ≤ last_position m n k = last_grows m n (k - 1) k (omega (arith, some)) (omega arith) in
-    omega (arith, last, all, sum)
+within : (y : Rollout) (k : ℕ) → HasSoundPlan y → 1 ≤ k → k < 1 + y.plan.groups → (first_of y k - 1) + size_in y k ≤ size_of y
+within y k sound least most = omega (arith, sound.cut.rises k y.plan.groups (omega (arith, most)), sound.cut.whole, sound.cut.rises (k - 1) k (omega arith))
 
 -- its members are some of the rollout's
 pub group_within : (rs : Records) → AreOfList rs → (r : ℕ) (x : RolloutRecord) → item_numbered rs.rollouts r ≡ Some x → (i : ℕ) (g : GroupRecord) → Some g ≡ group_numbered i x.groups → (g.bounds.first - 1) + size_of_group g ≤ length x.members
@@ -96,18 +90,19 @@ group_within rs of r x e i g is =
     let it = made rs of r x e in
     let found = found_each (group_in it.made r of.list) i 1 it.made.plan.groups g (is ∙ ap (λ (q : RolloutRecord). group_numbered i q.groups) it.is) in
     subst (λ (q : RolloutRecord). (g.bounds.first - 1) + size_of_group g ≤ length q.members) (sym it.is)
-    (subst (λ (q : GroupRecord). (q.bounds.first - 1) + size_of_group q ≤ size_of it.made) (sym found.3) (within (size_of it.made) it.made.plan.groups found.0 it.sound.some_groups found.1 found.2))
+    (subst (λ (q : GroupRecord). (q.bounds.first - 1) + size_of_group q ≤ size_of it.made) (sym found.3) (within it.made found.0 it.sound found.1 found.2))
 
 -- ---- its members
 
-last_in_each : (y : Rollout) (r : ℕ) (h : CommandList) (n : ℕ) → n ≡ y.plan.groups → 1 ≤ n → last_place (each_from (group_in y r h) 1 n) ≡ size_of y
-last_in_each y r h n e some =
+last_in_each : (y : Rollout) (r : ℕ) (h : CommandList) → HasSoundPlan y → last_place (each_from (group_in y r h) 1 y.plan.groups) ≡ size_of y
+last_in_each y r h sound =
+    let n = y.plan.groups in
     ap (λ k. last_in (slice_get (each_from (group_in y r h) 1 n) (k - 1))) (each_length (group_in y r h) 1 n)
-    ∙ ap last_in (get_each (group_in y r h) 1 n (n - 1) y.plan.groups (omega (arith, some)) (omega (arith, some, e)))
-    ∙ all_cut (size_of y) y.plan.groups (omega (arith, some, e))
+    ∙ ap last_in (get_each (group_in y r h) 1 n (n - 1) n (omega (arith, sound.some_groups)) (omega (arith, sound.some_groups)))
+    ∙ sound.cut.whole
 
 -- they are as many as the last place
 pub last_is_count : (rs : Records) → AreOfList rs → (r : ℕ) (x : RolloutRecord) → item_numbered rs.rollouts r ≡ Some x → last_place x.groups ≡ length x.members
 last_is_count rs of r x e =
     let it = made rs of r x e in
-    subst (λ (q : RolloutRecord). last_place q.groups ≡ length q.members) (sym it.is) (last_in_each it.made r of.list it.made.plan.groups refl it.sound.some_groups)
+    subst (λ (q : RolloutRecord). last_place q.groups ≡ length q.members) (sym it.is) (last_in_each it.made r of.list it.sound)

@@ -1,15 +1,14 @@
 -- The groups of a rollout that reach a member's place: the one that holds it, and all behind it.
 use Rattle.std.proofs.Common.{◌≡◌, ◌<◌, ◌≤◌, ℕ, zero, suc, ◌+◌, ◌-◌, List, [], ◌∷◌, drop, slice_get, refl, sym, ap, subst, ◌∙◌, arith}
 use Rattle.std.proofs.lemmas.Bool.{le-leb, lt-leb}
-use Rattle.rollout_machine.proofs.Cuts.{group_of, in_its_group, last_grows}
+use Rattle.rollout_machine.proofs.Cuts.{group_of, in_its_group}
 use Rattle.rollout_machine.proofs.Ties.{find_holding}
 use Rattle.rollout_machine.specs.ByteStrings.{item_numbered}
 use Rattle.rollout_machine.specs.CommandList.{CommandList}
-use Rattle.rollout_machine.specs.Effects.{HasSoundPlan}
-use Rattle.rollout_machine.specs.Groups.{first_position, last_position}
+use Rattle.rollout_machine.specs.Effects.{HasSoundPlan, IsInGroup}
 use Rattle.rollout_machine.specs.Ranges.{each_from}
 use Rattle.rollout_machine.specs.Records.{group_in, rollout_in}
-use Rattle.rollout_machine.specs.Rollouts.{Rollout, size_of}
+use Rattle.rollout_machine.specs.Rollouts.{Rollout, last_of, size_of}
 use Rattle.rollout_machine.specs.StateWords.{group_holding, number_of_group}
 use Rattle.rollout_machine.specs.declared.records.GroupRecord.{GroupRecord}
 use Rattle.desk_records.specs.Rollouts.{that_reach}
@@ -34,30 +33,27 @@ pair_of_rest gs j d reach =
     behind = omega arith
 
 module _ (x : Rollout) (r : ℕ) (h : CommandList) (sound : HasSoundPlan x) where
-  abbrev ends : ℕ → ℕ
-  ends = last_position (size_of x) x.plan.groups
-
   abbrev groups_from : ℕ → ℕ → List GroupRecord
   groups_from = each_from (group_in x r h)
 
-  all_reach : (a n j : ℕ) → j ≤ ends a → that_reach j (groups_from a n) ≡ groups_from a n
+  all_reach : (a n j : ℕ) → j ≤ last_of x a → that_reach j (groups_from a n) ≡ groups_from a n
   all_reach a zero j within = refl
-  all_reach a (suc n) j within = rw (le-leb _ _ within) (ap (λ gs. group_in x r h a ∷ gs) (all_reach (suc a) n j (omega (arith, within, last_grows (size_of x) x.plan.groups a (suc a) sound.some_groups (omega arith)))))
+  all_reach a (suc n) j within = rw (le-leb _ _ within) (ap (λ gs. group_in x r h a ∷ gs) (all_reach (suc a) n j (omega (arith, within, sound.cut.rises a (suc a) (omega arith)))))
 
-  rest_reach : (d a n g j : ℕ) → d ≤ n → a + d ≡ g → first_position (size_of x) x.plan.groups g ≤ j → j ≤ ends g → that_reach j (groups_from a n) ≡ drop d (groups_from a n)
-  rest_reach zero a n g j within at low high = all_reach a n j (subst (λ i. j ≤ ends i) (let same : g ≡ a = omega (arith, at) in same) high)
-  rest_reach (suc d) a zero g j within at low high = absurd (omega (arith, within))
-  rest_reach (suc d) a (suc n) g j within at low high =
-      let past : ends a < j = omega (arith, low, last_grows (size_of x) x.plan.groups a (g - 1) sound.some_groups (omega (arith, at))) in
-      rw (lt-leb _ _ past) (rest_reach d (suc a) n g j (omega (arith, within)) (omega (arith, at)) low high)
+  rest_reach : (d a n g j : ℕ) → d ≤ n → a + d ≡ g → IsInGroup x g j → that_reach j (groups_from a n) ≡ drop d (groups_from a n)
+  rest_reach zero a n g j within at it = let same : g ≡ a = omega (arith, at) in all_reach a n j (subst (λ i. j ≤ last_of x i) same (omega (arith, it.low, it.high)))
+  rest_reach (suc d) a zero g j within at it = absurd (omega (arith, within))
+  rest_reach (suc d) a (suc n) g j within at it =
+      let past : last_of x a < j = omega (arith, it.low, sound.cut.rises a (g - 1) (omega (arith, at))) in
+      rw (lt-leb _ _ past) (rest_reach d (suc a) n g j (omega (arith, within)) (omega (arith, at)) it)
 
   -- the two that are read are the group that holds the place, and the group of the next number
   pub group_and_next_is : (j : ℕ) → 1 ≤ j → j ≤ size_of x
       → group_and_next j (rollout_in h r x).groups ≡ record { group = item_numbered (rollout_in h r x).groups (number_of_group (group_holding j (rollout_in h r x).groups)); next = item_numbered (rollout_in h r x).groups (number_of_group (group_holding j (rollout_in h r x).groups) + 1) }
   group_and_next_is j low high =
-      let g = group_of (size_of x) x.plan.groups j in
-      let place = in_its_group (size_of x) x.plan.groups j sound.some_groups sound.enough low high in
-      let found = find_holding x r h 1 x.plan.groups g j sound.some_groups place.2 (omega (arith, place.3)) place.0 place.1 in
-      let number : suc (g - 1) ≡ g = omega (arith, place.2) in
-      let reach = rest_reach (g - 1) 1 x.plan.groups g j (omega (arith, place.2, place.3)) (omega (arith, place.2)) place.0 place.1 in
+      let g = group_of x j in
+      let own = in_its_group x j sound low high in
+      let found = find_holding x r h g j sound own in
+      let number : suc (g - 1) ≡ g = omega (arith, own.first) in
+      let reach = rest_reach (g - 1) 1 x.plan.groups g j (omega (arith, own.first, own.last)) (omega (arith, own.first)) own.within in
       pair_of_rest (groups_from 1 x.plan.groups) j (g - 1) reach ∙ ap (pair (groups_from 1 x.plan.groups)) (number ∙ sym (ap number_of_group found))

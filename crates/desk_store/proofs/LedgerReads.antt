@@ -18,7 +18,7 @@ use Rattle.desk_records.specs.declared.rollout_row.ListedAction.{ListedAction}
 use Rattle.desk_records.specs.declared.rollout_row.StoredAction.{StoredAction}
 use Rattle.desk_records.specs.declared.rollout_row.StoredRollout.{StoredRollout}
 use Rattle.desk_records.specs.Actions.{cancel_code, deployment_code, kind_code, lines_of, outcome_code, told_entry, word_code}
-use Rattle.desk_records.specs.EntryRow.{IsEntryRow, cancel_from, cancel_in, deployment_from, deployment_in, keeps_details}
+use Rattle.desk_records.specs.EntryRow.{IsEntryRow, cancel_from, cancel_in, deployment_from, deployment_in, keeps_details, said_in}
 use Rattle.desk_records.specs.Codes.{coded_in, flag_of, approval_from, outcome_from, flag_in, approval_in, outcome_in}
 use Rattle.desk_records.specs.RolloutRow.{IsRolloutRow, IsGroupRow, IsActionRow, IsListedActionRow, IsOfferRow}
 use Rattle.desk_records.specs.Rollouts.{approval_code, flag}

@@ -24,6 +24,7 @@ use Rattle.rollout_machine.proofs.StoreFailures.{answer_never_stores, failed_tru
 use Rattle.rollout_model.specs.declared.refusal.Refusal.{Refusal}
 use Rattle.rollout_model.specs.declared.refusal.Refusal.TheVariants.{StoreFailed, NoMemory}
 use Rattle.rollout_desk.specs.Desks.{HoldsList, desk_state_at}
+use Rattle.sql_calls.proofs.FrameEnds.{rest_shows}
 use Rattle.sql_calls.specs.declared.fault.Fault.{Fault}
 use Rattle.sql_calls.specs.declared.fault.Fault.TheVariants.{Memory, Store}
 use Rattle.rollout_machine.specs.StoreFailures.{is_failed_store}
@@ -107,7 +108,7 @@ unbegun a b request reply keeps bad = record { wears = keeps.wears; handles = λ
 
 module _ (a b : State) (begins : Begins HoldsLedger a b) (c d : State) where
   seen : (h : CommandList) → StandsFor (desk_state_at HoldsRecords false a) h → Sees HoldsLedger b (ledger_of (records h))
-  seen h was = begins.sees (ledger_of (records h)) (stood a h was)
+  seen h was = begins.sees (ledger_of (records h)) (rest_shows HoldsLedger a _ (stood a h was))
 
   opened : (h : CommandList) → StandsFor (desk_state_at HoldsRecords false a) h → Opens HoldsLedger b (ledger_of (records h))
   opened h was = begins.opens (ledger_of (records h)) (stood a h was)

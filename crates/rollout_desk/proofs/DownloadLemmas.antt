@@ -4,6 +4,7 @@ use Rattle.std.specs.declared.alloc.Global.{Global}
 use Rattle.std.specs.Option.{option_map}
 use Rattle.sqlite.specs.State.{State}
 use Rattle.sql_calls.specs.Standing.{Begins as BeginsChange, Doubts, Finds, Keeps, Opens, Rests, Spoiled, Wears}
+use Rattle.sql_calls.proofs.FrameEnds.{rest_shows}
 use Rattle.sql_calls.specs.declared.fault.Fault.{Fault}
 use Rattle.desk_records.specs.Holds.{HoldsLedger, HoldsRecords, Ledger, ledger_of}
 use Rattle.desk_records.specs.Artifacts.{piece_numbered, pieces_of_artifact}
@@ -227,7 +228,7 @@ module _ (a : State) (device : Credential) (m : ℕ) (filename : Bytes) where
       finds = λ h clean was.
           let rested = stood a h was in (
             stands HoldsRecords d h was.valid (rests_records d (records h) (rests _ (leaves _ (begins.opens _ rested))) clean),
-            (reads.finds (records h) (begins.sees _ rested)).1 (omega (arith, clean, last)),
+            (reads.finds (records h) (begins.sees _ (rest_shows HoldsLedger _ _ rested))).1 (omega (arith, clean, last)),
           );
     }
     given_up (Err refusal) leaves reads last rests = finds_none d refusal (found_inside a b begins c d request (Refused refusal) reads.wears leaves (λ r. IsFound r (Err refusal))

@@ -2,6 +2,7 @@
 use Rattle.std.proofs.Common.{◌≡◌, ◌⊎◌, inl, inr, Ok, Err, Result, refl, sym, subst, arith}
 use Rattle.sqlite.specs.State.{State}
 use Rattle.sql_calls.specs.Standing.{Begins, Doubts, Finds, Keeps, Opens, Rests, Spoiled, Wears}
+use Rattle.sql_calls.proofs.FrameEnds.{rest_shows}
 use Rattle.sql_calls.specs.declared.fault.Fault.{Fault}
 use Rattle.sql_calls.specs.declared.fault.Fault.TheVariants.{Memory, Store}
 use Rattle.desk_records.specs.Holds.{HoldsLedger, HoldsRecords, Ledger, ledger_of}
@@ -44,7 +45,7 @@ module _ {A : Type 0} (a d : State) (Answer : Records → A → Type 0) where
             wears = wears;
             looks = λ r was.
                 let rested = rests_ledger a r was in
-                (rests_records d r (it.1 _ (goes _ (begins.opens _ rested)).spoiled), λ clean. (reads.finds r (begins.sees _ rested)).1 (omega (arith, clean, ends.wears)));
+                (rests_records d r (it.1 _ (goes _ (begins.opens _ rested)).spoiled), λ clean. (reads.finds r (begins.sees _ (rest_shows HoldsLedger _ _ rested))).1 (omega (arith, clean, ends.wears)));
           })
           | inr it ↦ subst (λ x. Looks HoldsRecords a d x Answer) (sym it.0) (in_doubt StoreFailed refl wears (λ l was. it.1 l (goes l (begins.opens l was)).spoiled))
         ]

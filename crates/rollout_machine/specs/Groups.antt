@@ -23,9 +23,6 @@ bounds_of m n i = record { first = first_position m n i; last = last_position m 
 abbrev pub size_of_bounds : Bounds → ℕ
 size_of_bounds b = (b.last + 1) - b.first
 
-abbrev pub group_size : ℕ → ℕ → ℕ → ℕ
-group_size m n i = size_of_bounds (bounds_of m n i)
-
 abbrev pub holds_position : ℕ → Bounds → Bool
 holds_position j b = nat_le b.first j && nat_le j b.last
 

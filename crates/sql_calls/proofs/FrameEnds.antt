@@ -8,7 +8,7 @@ use Rattle.sqlite.specs.State.{State, HasCleanDisk, Survives, CommitsBy}
 use Rattle.sql_calls.specs.declared.fault.Fault.{Fault}
 use Rattle.sql_calls.specs.Calls.{RunsText}
 use Rattle.sql_calls.specs.Means.{Means}
-use Rattle.sql_calls.specs.Standing.{HoldIn, IsAtRest, IsInDoubt, Opens, Rests, Sees, Spoiled, Begins, Keeps, Commits, GivesUp}
+use Rattle.sql_calls.specs.Standing.{HoldIn, IsAtRest, IsInDoubt, Opens, Rests, Sees, Shows, Spoiled, Begins, Keeps, Commits, GivesUp}
 use Rattle.sql_calls.proofs.Framing.{schema_of}
 use Rattle.sql_calls.proofs.Leavings.{refused, crash_kept, never_commits_idle, runs_plain, IsSettled}
 
@@ -16,6 +16,10 @@ module _ {R : Type 0} (Holds : Database → R → Type 0) (s : State) where
   -- outside a change, what is seen is what was committed
   pub still_holds : (r : R) → IsAtRest Holds s r → IsTrue s.is_open → Holds s.now r
   still_holds r it on = subst (λ d. Holds d r) (sym (it.held.ended it.mode on)) (it.held.kept_holds on)
+
+  -- what stands is shown
+  pub rest_shows : (r : R) → Rests Holds s r → Shows Holds s r
+  rest_shows r was clean = let it = was clean in record { mode = it.mode; ended = it.held.ended it.mode; holds = it.held.kept_holds }
 
   -- the transaction had ended by itself
   pub ended : (kept : R) → Spoiled Holds s kept → s.in_transaction ≡ false → Rests Holds s kept
@@ -25,7 +29,7 @@ module _ {R : Type 0} (Holds : Database → R → Type 0) (sql : List ℕ) (old 
   -- ---- a change begins
 
   module _ (means : Means old.now.schema sql Begin) where
-    begun_sees : (r : R) → Rests Holds old r → RunsText old new sql [] (Ok tt) → Sees Holds new r
+    begun_sees : (r : R) → Shows Holds old r → RunsText old new sql [] (Ok tt) → Sees Holds new r
     begun_sees r was h = record {
       sees = λ clean.
           let first = was (omega (arith, h.survives.clean, clean)) in
@@ -34,7 +38,7 @@ module _ {R : Type 0} (Holds : Database → R → Type 0) (sql : List ℕ) (old 
           record {
             mode = shown.mode;
             is_open = shown.is_open;
-            now_holds = subst (λ d. Holds d r) (sym (shown.now_is ∙ first.held.ended first.mode shown.was_open)) (first.held.kept_holds shown.was_open);
+            now_holds = subst (λ d. Holds d r) (sym (shown.now_is ∙ first.ended shown.was_open)) (first.holds shown.was_open);
           };
     }
 

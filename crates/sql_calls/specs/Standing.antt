@@ -35,6 +35,12 @@ module _ {R : Type 0} (Holds : Database → R → Type 0) where
     pub mode : s.in_transaction ≡ false
     pub held : IsSpoiled s r
 
+  -- what a connection shows outside a change; of a crash nothing is said
+  pub record IsShowing (s : State) (r : R) : Type 0 where
+    pub mode : s.in_transaction ≡ false
+    pub ended : IsTrue s.is_open → s.now ≡ s.committed
+    pub holds : IsTrue s.is_open → Holds s.committed r
+
   -- a crash leaves one or the other
   pub record IsInDoubt (s : State) (kept tried : R) : Type 0 where
     pub crash : (db : Trees) → s.may_leave db → HoldIn db kept ⊎ HoldIn db tried
@@ -42,6 +48,9 @@ module _ {R : Type 0} (Holds : Database → R → Type 0) where
   -- All of it is known while the disk is clean.
   abbrev pub Rests : State → R → Type 0
   Rests s r = HasCleanDisk s → IsAtRest s r
+
+  abbrev pub Shows : State → R → Type 0
+  Shows s r = HasCleanDisk s → IsShowing s r
 
   abbrev pub Doubts : State → R → R → Type 0
   Doubts s kept tried = HasCleanDisk s → IsInDoubt s kept tried
@@ -83,11 +92,11 @@ module _ {R : Type 0} (Holds : Database → R → Type 0) where
 
   -- ---- how a change begins and ends
 
-  -- A change begins with what stands.
+  -- A change begins with what stands, and sees what is shown.
   pub record Begins (old new : State) : Type 0 where
     pub wears : Wears old new
     pub opens : (r : R) → Rests old r → Opens new r
-    pub sees : (r : R) → Rests old r → Sees new r
+    pub sees : (r : R) → Shows old r → Sees new r
 
   -- what stands, stands
   pub record Keeps (old new : State) : Type 0 where
