@@ -112,3 +112,7 @@ number_in_least v n h = go (small_number v) h
     go : (o : Option ℕ) → option_and_then number_of o ≡ Some n → 1 ≤ n
     go None e = absurd cc
     go (Some m) e = at_least m (is_number m) refl e
+
+-- a row has its own number
+pub has_own_number : (n : ℕ) (rest : Row) → has_rowid (pos n) (Int (pos n) ∷ rest) ≡ true
+has_own_number n rest = ap is_eq (value_cmp-Int (pos n) (pos n)) ∙ grind (arith, ints, nat_tests)

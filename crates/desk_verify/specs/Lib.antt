@@ -4,3 +4,4 @@ pub mod Rollouts
 pub mod Members
 pub mod Following
 pub mod MemberChecks
+pub mod Promises

@@ -1,7 +1,8 @@
 //! The first table that doesn't agree.
 
 ghost use Rattle.desk_verify.specs.Agreement.{Agrees, Decides, IsDamage};
-ghost use Rattle.desk_store.specs.Changing.{FindsTables, StaysIn};
+ghost use Rattle.desk_verify.specs.Promises.{NamesNone};
+ghost use Rattle.desk_store.specs.Changing.{FindsTables, StaysIn, seen_in};
 
 use crate::damage::CheckedTable;
 use crate::members::check_members;
@@ -19,6 +20,15 @@ const TABLES: [CheckedTable; 5] = [
 
 /// The first table that doesn't agree, if there is one. Nothing is written.
 pub fn find_damage<S: Alter>(change: &mut OpenChange<'_, S>) -> Result<Option<CheckedTable>, Fault>
+    ensures stays { StaysIn S.Store change.old change.new result }
+    ensures judges { FindsTables S.Store change.old change.new result IsDamage }
+    ensures never { NamesNone (seen_in S.Store change.old) (seen_in S.Store change.new) result }
+{
+    check_tables(change)
+}
+
+/// Checks one table after the other, up to the first that doesn't agree.
+fn check_tables<S: Alter>(change: &mut OpenChange<'_, S>) -> Result<Option<CheckedTable>, Fault>
     ensures stays { StaysIn S.Store change.old change.new result }
     ensures judges { FindsTables S.Store change.old change.new result IsDamage }
 {

@@ -3,9 +3,11 @@
 
 mod damage;
 mod finding;
+mod laws;
 mod members;
 mod places;
 mod rollouts;
 
 pub use crate::damage::{CheckedTable, Damage};
 pub use crate::finding::find_damage;
+pub use crate::laws::records_agree;

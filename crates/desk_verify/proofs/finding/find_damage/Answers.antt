@@ -1,7 +1,5 @@
-use Rattle.sql_calls.proofs.Composing.{both_found, finds_as}
-use Rattle.desk_verify.proofs.Naming.{first_named}
+use Rattle.desk_verify.proofs.NeverNamed.{never_named}
 use Rattle.desk_verify.proofs.finding.find_damage.Goals as goal
 
-pub returns-then-not-branch-clause-judges : goal.returns-then-not-branch-clause-judges
-returns-then-not-branch-clause-judges g c =
-    finds_as (both_found c.loop-table.invariant.judged (rw c.if-not-branch.true at c.in_ok-check_table.ensures.judges)) (λ t is. first_named t c.loop-table.table-index c.loop-table-test.true is.0 is.1)
+pub returns-clause-never : goal.returns-clause-never
+returns-clause-never g c = never_named _ _ c.check_tables.result c.check_tables.ensures.judges

@@ -3,7 +3,7 @@ use Rattle.std.specs.List.{AllByRecursion}
 use Rattle.sql_calls.specs.declared.fault.Fault.{Fault}
 use Rattle.desk_store.specs.Changing.{FindsTables, StaysIn}
 use Rattle.desk_verify.specs.Agreement.{Agrees, checked}
-use Rattle.desk_verify.proofs.finding.find_damage.Given as goal
+use Rattle.desk_verify.proofs.finding.check_tables.Given as goal
 
 -- those so far agree
 abbrev pub invariant-loop-table : goal.invariant-loop-table
