@@ -1,5 +1,5 @@
 -- What columns with a number say of it.
-use Rattle.std.proofs.Common.{◌≡◌, ◌<◌, ◌^◌, ◌&&◌, [], ◌∷◌, ℕ, ℤ, pos, negsuc, Bool, true, false, cond, Option, Some, None, true≢false, refl, sym, ap, ap₂, ◌∙◌, arith, nat_eq, nat_lt, nat_le, is_eq, int_cmp}
+use Rattle.std.proofs.Common.{◌≡◌, ◌<◌, ◌≤◌, ◌^◌, ◌&&◌, [], ◌∷◌, ℕ, ℤ, pos, negsuc, Bool, true, false, cond, Option, Some, None, true≢false, refl, sym, ap, ap₂, ◌∙◌, arith, nat_eq, nat_lt, nat_le, is_eq, int_cmp}
 use Rattle.std.specs.Option.{option_and_then}
 use Rattle.std.proofs.lemmas.Bool.{and_parts}
 use Rattle.std.proofs.lemmas.Bool.Decides.{nat_tests}
@@ -102,3 +102,22 @@ passes_rowid row n = and_true _ ∙ go (rowid row)
     go (Real x) = judged _
     go (Text t) = judged _
     go (Blob b) = judged _
+
+-- it is in the range
+pub number_in_good : (v : Value) (n : ℕ) → number_in v ≡ Some n → is_number n ≡ true
+number_in_good v n h = go (small_number v) h
+  where
+    good : (m : ℕ) (b : Bool) → is_number m ≡ b → cond b (Some m) None ≡ Some n → is_number n ≡ true
+    good m true is e = let same : m ≡ n = cc in ap is_number (sym same) ∙ is
+    good m false is e = absurd cc
+
+    go : (o : Option ℕ) → option_and_then number_of o ≡ Some n → is_number n ≡ true
+    go None e = absurd cc
+    go (Some m) e = good m (is_number m) refl e
+
+pub number_in_least : (v : Value) (n : ℕ) → number_in v ≡ Some n → 1 ≤ n
+number_in_least v n h = let low : nat_le 1 n ≡ true = (and_parts (nat_le 1 n) (nat_le n number_limit) (number_in_good v n h)).0 in grind (arith, nat_tests, low)
+
+-- a row has its own number
+pub has_own_number : (n : ℕ) (rest : Row) → has_rowid (pos n) (Int (pos n) ∷ rest) ≡ true
+has_own_number n rest = ap is_eq (value_cmp-Int (pos n) (pos n)) ∙ grind (arith, ints, nat_tests)

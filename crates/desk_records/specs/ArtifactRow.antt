@@ -1,5 +1,5 @@
 -- The rows of artifacts and of their pieces.
-use Rattle.std.specs.Prelude.{◌≡◌, ℕ, ◌^◌, Bool, false, true, not, ◌&&◌, nat_lt, List, Option, Some, None, if◌then◌else◌, pos}
+use Rattle.std.specs.Prelude.{◌≡◌, ℕ, ◌^◌, Bool, false, true, not, nat_lt, List, Option, Some, None, if◌then◌else◌, pos}
 use Rattle.std.specs.Option.{is_some}
 use Rattle.sqlite_value.specs.declared.value.Value.{Value}
 use Rattle.sqlite_value.specs.declared.value.Value.TheVariants.{Int, Text, Blob}
@@ -7,7 +7,6 @@ use Rattle.sqlite_value.specs.Order.{Row, column}
 use Rattle.rollout_model.specs.Rules.{is_filename, is_digest}
 use Rattle.rollout_model.specs.declared.artifact.Artifact.{Artifact}
 use Rattle.rollout_machine.specs.Records.{ArtifactRecord}
-use Rattle.desk_records.specs.declared.artifact_row.CheckedArtifact.{CheckedArtifact}
 use Rattle.desk_records.specs.declared.artifact_row.StoredArtifact.{StoredArtifact}
 use Rattle.desk_records.specs.declared.module_row.Column.{Column}
 use Rattle.desk_records.specs.declared.module_row.Column.TheVariants as rule
@@ -71,20 +70,6 @@ pub record IsArtifactRow (row : Row) (artifact : Artifact) : Type 0 where
 -- the first column that breaks its rule, where the number of the artifact comes first
 abbrev pub broken_artifact_column : Row → Option Column
 broken_artifact_column row = if not (has_number (column row 0)) then Some rule.ArtifactNumber else broken_file_column row
-
--- ---- an artifact that is checked
-
--- each column of module, filename, size, digest and number keeps its rule
-abbrev pub keeps_artifact_rules : Row → Bool
-keeps_artifact_rules row =
-    has_number (column row 0) && (has_filename (column row 1) && (has_size (column row 2) && (has_digest (column row 3) && has_number (column row 4))))
-
--- the row of module, filename, size, digest and number
-pub record IsCheckedRow (row : Row) (artifact : CheckedArtifact) : Type 0 where
-  pub keeps : keeps_artifact_rules row ≡ true
-  pub number : column row 4 ≡ Int (pos artifact.number)
-  pub size : column row 2 ≡ Int (pos artifact.size)
-  pub digest : column row 3 ≡ Blob artifact.digest
 
 -- ---- in records
 

@@ -1,12 +1,11 @@
 //! The rows of artifacts and of their pieces.
 
-ghost use Rattle.std.specs.Prelude.{◌≡◌, ◌⊎◌, IfErr, IfNone, IfOk, IfSome, true, false, Some};
+ghost use Rattle.std.specs.Prelude.{◌≡◌, ◌⊎◌, IfOk, IfErr, true, false, None, Some};
 ghost use Rattle.sqlite_value.specs.Order.{column};
 ghost use Rattle.desk_records.specs.ModuleRow.{StoredText};
 ghost use Rattle.desk_records.specs.SetRow.{StoredNumber, has_number};
 ghost use Rattle.desk_records.specs.ArtifactRow.{IsStoredRow, IsArtifactRow, StoredBytes, small_number, has_filename, has_size, has_digest};
 ghost use Rattle.desk_records.specs.ArtifactRow.{has_bytes, broken_stored_column, broken_artifact_column};
-ghost use Rattle.desk_records.specs.ArtifactRow.{IsCheckedRow, keeps_artifact_rules};
 
 use crate::module_row::{Column, RowFault, row_fault};
 use rollout_model::{Artifact, ArtifactNo, Digest, Filename, ModuleNo};
@@ -25,19 +24,10 @@ pub struct StoredArtifact {
     pub digest: Digest,
 }
 
-/// An artifact as it is checked.
-#[derive(Clone, Copy)]
-pub struct CheckedArtifact {
-    pub number: ArtifactNo,
-    /// In bytes.
-    pub size: u32,
-    /// By SHA-256 (FIPS 180-4).
-    pub digest: Digest,
-}
-
 /// The artifact in a row of module, filename, size and digest. Takes no memory.
 pub fn read_stored_artifact(row: &Row) -> Result<StoredArtifact, RowFault>
     ensures ok { IfOk result (IsStoredRow row.now) }
+    ensures kept { IfOk result (λ it. broken_stored_column row.now ≡ None) }
     ensures err { IfErr result (λ e. (c : _) × (e ≡ RowFault.Broken c) × (broken_stored_column row.now ≡ Some c)) }
 {
     let module_number = module_at(row, 0)?;
@@ -69,33 +59,6 @@ pub fn read_artifact(row: &Row) -> Result<Artifact, RowFault>
     })
 }
 
-/// The artifact in a row of module, filename, size, digest and number; `None` where a column breaks its rule. Takes no memory.
-pub fn read_checked_artifact(row: &Row) -> Option<CheckedArtifact>
-    ensures some { IfSome result (IsCheckedRow row.now) }
-    ensures none { IfNone result (keeps_artifact_rules row.now ≡ false) }
-{
-    let Ok(_) = module_at(row, 0) else {
-        return None;
-    };
-    let Ok(_) = filename_at(row, 1) else {
-        return None;
-    };
-    let Ok(size) = size_at(row, 2) else {
-        return None;
-    };
-    let Ok(digest) = digest_at(row, 3, Column::ArtifactDigest) else {
-        return None;
-    };
-    let Ok(number) = artifact_at(row, 4) else {
-        return None;
-    };
-    Some(CheckedArtifact {
-        number,
-        size,
-        digest,
-    })
-}
-
 /// The bytes in a row of a piece.
 pub fn read_piece(row: &Row) -> Result<Vec<u8>, RowFault>
     ensures ok { IfOk result (λ bytes. column row.now 0 ≡ StoredBytes bytes.items) }
@@ -117,7 +80,8 @@ fn module_at(row: &Row, at: usize) -> Result<ModuleNo, RowFault>
     ModuleNo::new(number).ok_or(broken)
 }
 
-fn artifact_at(row: &Row, at: usize) -> Result<ArtifactNo, RowFault>
+/// The number of an artifact in a column.
+pub(crate) fn artifact_at(row: &Row, at: usize) -> Result<ArtifactNo, RowFault>
     ensures ok { IfOk result (λ number. column row.now at ≡ StoredNumber number) }
     ensures kept { IfOk result (λ number. has_number (column row.now at) ≡ true) }
     ensures err { IfErr result (λ e. (e ≡ RowFault.Broken Column.ArtifactNumber) × (has_number (column row.now at) ≡ false)) }

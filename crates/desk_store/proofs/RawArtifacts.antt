@@ -12,12 +12,13 @@ use Rattle.sql_calls.specs.Calls.{AsksText}
 use Rattle.sql_calls.specs.Means.{Knows}
 use Rattle.sql_calls.proofs.Selects.{simple}
 use Rattle.desk_records.specs.ArtifactLists.{ArePieces, ListsArtifacts}
-use Rattle.desk_records.specs.ArtifactRow.{IsCheckedRow, StoredBytes, keeps_artifact_rules}
+use Rattle.desk_records.specs.ArtifactRow.{StoredBytes}
+use Rattle.desk_records.specs.CheckedRows.{IsCheckedArtifactRow, keeps_artifact_rules}
 use Rattle.desk_records.specs.Holds.{HoldsLedger}
 use Rattle.desk_records.specs.Listings.{AreRead}
 use Rattle.desk_records.specs.Schema.{Artifacts, Pieces}
 use Rattle.desk_records.specs.Tables.{HoldsTables, Tables}
-use Rattle.desk_records.specs.declared.artifact_row.CheckedArtifact.{CheckedArtifact}
+use Rattle.desk_records.specs.declared.checked_rows.CheckedArtifact.{CheckedArtifact}
 use Rattle.desk_records.specs.declared.artifact_texts.TheConstants.{GET_PIECE, LIST_ALL_ARTIFACTS}
 use Rattle.desk_records.proofs.ArtifactMeaning.{all_artifacts_query, all_names, at_piece, get_piece_is, list_all_artifacts_is}
 use Rattle.desk_records.proofs.ArtifactRows.{lists_all, lists_pieces}
@@ -39,8 +40,8 @@ abbrev pub All : Tables → Option (Vec CheckedArtifact Global) → Type 0
 All t found = ListsArtifacts (t Artifacts) (option_map vec_items found)
 
 pub all_read : (old new : State) (rows : Vec Row Global) → AsksText old new LIST_ALL_ARTIFACTS.now [] (Ok rows) → (out : Result (Option (Vec CheckedArtifact Global)) Fault)
-    → IfOk out (λ found. AreRead IsCheckedRow keeps_artifact_rules rows.items (option_map vec_items found)) → FindsOf old new out All
-all_read old new rows = rows_read LIST_ALL_ARTIFACTS.now [] old new listing_any All (λ found. AreRead IsCheckedRow keeps_artifact_rules rows.items (option_map vec_items found)) rows
+    → IfOk out (λ found. AreRead IsCheckedArtifactRow keeps_artifact_rules rows.items (option_map vec_items found)) → FindsOf old new out All
+all_read old new rows = rows_read LIST_ALL_ARTIFACTS.now [] old new listing_any All (λ found. AreRead IsCheckedArtifactRow keeps_artifact_rules rows.items (option_map vec_items found)) rows
     (λ db t holds found shows read. lists_all db t holds all_names rows.items shows (option_map vec_items found) read)
 
 -- ---- the pieces at a place

@@ -2,7 +2,8 @@
 
 ghost use Rattle.std.specs.Prelude.{◌≡◌, Bool, IfNone, IfOk, IfSome, false};
 ghost use Rattle.sqlite_value.specs.Order.{Row, column};
-ghost use Rattle.desk_records.specs.ArtifactRow.{IsArtifactRow, IsCheckedRow, IsStoredRow, StoredBytes, keeps_artifact_rules};
+ghost use Rattle.desk_records.specs.ArtifactRow.{IsArtifactRow, IsStoredRow, StoredBytes};
+ghost use Rattle.desk_records.specs.CheckedRows.{IsCheckedArtifactRow, keeps_artifact_rules};
 ghost use Rattle.desk_records.specs.MemberRow.{IsPlacedRow, keeps_member_rules};
 ghost use Rattle.desk_records.specs.ModuleRow.{IsLabelRow, StoredText};
 ghost use Rattle.desk_records.specs.SetRow.{IsSetNameRow, StoredNumber};
@@ -140,7 +141,7 @@ impl FromRuledRow for PlacedMember {
 
 /// Of module, filename, size, digest and number.
 impl FromRuledRow for CheckedArtifact {
-    ghost is_row = { IsCheckedRow };
+    ghost is_row = { IsCheckedArtifactRow };
 
     ghost keeps = { keeps_artifact_rules };
 
