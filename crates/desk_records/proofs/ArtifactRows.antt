@@ -1,5 +1,5 @@
 -- What LIST_ALL_ARTIFACTS and GET_PIECE show, whatever rows their tables have.
-use Rattle.std.proofs.Common.{◌≡◌, ℕ, pos, List, [], ◌∷◌, Option, Some, None, refl, ap, ◌∙◌}
+use Rattle.std.proofs.Common.{◌≡◌, ℕ, pos, true, List, [], ◌∷◌, Option, Some, None, refl, ap, ◌∙◌}
 use Rattle.std.specs.List.{AllZip}
 use Rattle.std.proofs.lemmas.Bool.{and_parts}
 use Rattle.sqlite_value.specs.declared.value.Value.TheVariants.{Null, Int}
@@ -12,7 +12,7 @@ use Rattle.sqlite_rules.specs.Lists.{Has}
 use Rattle.sql_calls.proofs.Selects.{passes, simple}
 use Rattle.rollout_machine.specs.Commands.{Bytes}
 use Rattle.desk_records.specs.ArtifactLists.{ArePieces, ListsArtifacts, SaysArtifact, any_row, lies_at}
-use Rattle.desk_records.specs.ArtifactRow.{StoredBytes, broken_stored_column}
+use Rattle.desk_records.specs.ArtifactRow.{StoredBytes}
 use Rattle.desk_records.specs.CheckedRows.{IsCheckedArtifactRow, keeps_artifact_rules}
 use Rattle.desk_records.specs.Listings.{AreRead, has_at}
 use Rattle.desk_records.specs.Schema.{Artifacts, Pieces}

@@ -1,5 +1,5 @@
 -- What the artifacts of a list of accepted commands have: the size and the digest of their contents, and columns that keep their rules.
-use Rattle.std.proofs.Common.{◌≡◌, ◌≤◌, ◌<◌, ◌++◌, ◌&&◌, ℕ, zero, suc, ◌+◌, ◌*◌, ◌/◌, ◌%◌, ◌^◌, true, List, [], ◌∷◌, length, All, refl, ap, ◌∙◌, arith, nat_le, length-append}
+use Rattle.std.proofs.Common.{◌≡◌, ◌≤◌, ◌++◌, ◌&&◌, ℕ, zero, suc, ◌*◌, ◌/◌, ◌%◌, ◌^◌, true, List, [], ◌∷◌, length, All, refl, ap, arith, nat_le, length-append}
 use Rattle.std.specs.List.{list_all}
 use Rattle.std.specs.Int.{bytes_high_first}
 use Rattle.std.specs.Prelude.{slice_index}
@@ -78,7 +78,7 @@ all_bytes (x ∷ xs) ys first second = let parts = and_parts (is_byte x) (list_a
 are_bytes : (h : List ℕ) (n : ℕ) → list_all is_byte (digest_bytes h n) ≡ true
 unfolding digest_bytes
 are_bytes h zero = refl
-are_bytes h (suc n) = all_bytes (digest_bytes h n) _ (are_bytes h n) (low_bytes 4 _)
+are_bytes h (suc n) = all_bytes (digest_bytes h n) _ (are_bytes h n) (low_bytes 4 (slice_index h n))
 
 are_long : (h : List ℕ) (n : ℕ) → length (digest_bytes h n) ≡ n * 4
 unfolding digest_bytes
