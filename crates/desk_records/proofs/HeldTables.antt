@@ -1,5 +1,5 @@
 -- What tables have where a ledger is held, whatever rowids nobody knows.
-use Rattle.std.proofs.Common.{◌≡◌, ◌⊎◌, inl, inr, ◌≤◌, ◌<◌, ℕ, ◌+◌, pos, Bool, true, false, List, [], ◌∷◌, filter, length, slice_get, nat_lt, Some, refl, sym, ap, subst, ◌∙◌, arith}
+use Rattle.std.proofs.Common.{◌≡◌, ◌⊎◌, inl, inr, ◌≤◌, ◌<◌, ℕ, suc, ◌+◌, pos, Bool, true, false, List, [], ◌∷◌, filter, length, slice_get, nat_lt, Some, refl, sym, ap, subst, ◌∙◌, arith}
 use Rattle.std.specs.List.{AllZip}
 use Rattle.std.proofs.lemmas.Bool.Decides.{nat_tests}
 use Rattle.std.proofs.lemmas.List.{length-map}
@@ -54,11 +54,16 @@ pub record IsNumbered {Y : Type 0} (f : ℕ → Y → Row) (k : ℕ) (ys : List 
   pub high : at < k + length ys
   pub among : Has ys one
   pub is : row ≡ f at one
+  pub index : ℕ
+  pub at_is : at ≡ k + index
+  pub got : slice_get ys index ≡ Some one
 
 pub numbered : {Y : Type 0} (f : ℕ → Y → Row) (k : ℕ) (ys : List Y) (row : Row) → Has (rows_from f k ys) row → IsNumbered f k ys row
 numbered f k [] row among = absurd among
-numbered f k (y ∷ ys) row (inl same) = record { at = k; one = y; low = omega arith; high = omega arith; among = inl refl; is = same }
-numbered f k (y ∷ ys) row (inr among) = let it = numbered f (k + 1) ys row among in record { at = it.at; one = it.one; low = omega (arith, it.low); high = omega (arith, it.high); among = inr it.among; is = it.is }
+numbered f k (y ∷ ys) row (inl same) = record { at = k; one = y; low = omega arith; high = omega arith; among = inl refl; is = same; index = 0; at_is = omega arith; got = refl }
+numbered f k (y ∷ ys) row (inr among) =
+    let it = numbered f (k + 1) ys row among in
+    record { at = it.at; one = it.one; low = omega (arith, it.low); high = omega (arith, it.high); among = inr it.among; is = it.is; index = suc it.index; at_is = omega (arith, it.at_is); got = it.got }
 
 pub row_numbered : {Y : Type 0} (f : ℕ → Y → Row) (k : ℕ) (ys : List Y) (at : ℕ) → k ≤ at → at < k + length ys → (y : Y) × Has ys y × Has (rows_from f k ys) (f at y)
 row_numbered f k [] at low high = absurd (omega (arith, low, high))

@@ -59,6 +59,9 @@ good_number m n h = go (is_number m) h
     go true e = cc
     go false e = absurd cc
 
+pub is_in_range : (n : ℕ) → 1 ≤ n → n ≤ number_limit → is_number n ≡ true
+is_in_range n low high = grind (arith, nat_tests, low, high)
+
 pub number_in_is : (v : Value) (n : ℕ) → number_in v ≡ Some n → v ≡ Int (pos n)
 number_in_is v n h = go (small_number v) refl h
   where
