@@ -67,10 +67,11 @@ class BadCase(Exception):
 
 @dataclass
 class Exchange:
-    """What goes in, and what comes out before the next is asked."""
+    """What goes in, and what comes out before the next is asked; and whether it is a command that is accepted and changes nothing."""
 
     request: bytes
     reply: bytes = b""
+    repeats: bool = False
 
 
 @dataclass
@@ -205,7 +206,7 @@ def unrolled(lines):
 class Reader:
     """Reads the lines of a case, one after the other."""
 
-    ITEMS = (">", ">>", "<", "<<", "program", "again", "exit", "err", "sql", "database", "file", "rows", "pieces", "awaits")
+    ITEMS = (">", ">>", "<", "<<", "repeats", "program", "again", "exit", "err", "sql", "database", "file", "rows", "pieces", "awaits")
 
     def __init__(self, path):
         self.case, self.item, self.body, self.before = Case(path), None, [], []
@@ -225,23 +226,28 @@ class Reader:
             return
         (key, text), body = self.item, b"".join(map(body_line, self.body))
         self.item, self.body = None, []
-        if key == "file":
-            self.before.append((key, body))
+        if key in ("file", "database"):
+            self.before.append((key, escaped(text) + body))
         elif key == ">":
             self.process().exchanges.append(Exchange(request_bytes(text, body)))
         elif key == ">>":
             self.process().exchanges.append(Exchange(escaped(text) + body))
-        elif not self.process().exchanges:
-            raise BadCase("a reply before the first request")
         elif key == "<":
-            self.process().exchanges[-1].reply += reply_bytes(text, body)
+            self.last_exchange().reply += reply_bytes(text, body)
         elif key == "<<":
-            self.process().exchanges[-1].reply += escaped(text) + body
+            self.last_exchange().reply += escaped(text) + body
+
+    def last_exchange(self):
+        if not self.process().exchanges:
+            raise BadCase("nothing is asked above")
+        return self.process().exchanges[-1]
 
     def take(self, key, text):
         self.end_item()
-        if key in (">", ">>", "<", "<<", "file"):
+        if key in (">", ">>", "<", "<<", "file", "database"):
             self.item = key, text
+        elif key == "repeats":
+            self.last_exchange().repeats = True
         elif key == "program":
             self.begin(shlex.split(text))
         elif key == "again":
@@ -254,8 +260,6 @@ class Reader:
             process.error = text.removeprefix("has ")
         elif key == "sql":
             self.before.append((key, text))
-        elif key == "database":
-            self.before.append((key, escaped(text)))
         elif key == "rows":
             self.process().rows.append((text, []))
         elif key == "pieces":

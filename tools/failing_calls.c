@@ -8,6 +8,7 @@
               on     it and each later one fail
               half   it moves half of its bytes, and each later one that moves bytes the same way fails: a disk that is full, a peer that is gone
               short  it moves one byte
+              each   it and each later one move one byte
               dies   the program ends instead of it
               torn   it moves half of its bytes, and the program ends
               byte   all of them together move FAIL_AT - 1 bytes, and then they fail
@@ -46,8 +47,8 @@ enum { ENDED = 137, FILES = 1024, PATH = 4096 };
 enum kind { NONE, MEMORY, INPUT, OUTPUT, DATABASE, LOG };
 static const char *const KINDS[] = {"", "memory", "input", "output", "database", "log", 0};
 
-enum way { ALONE, ON, HALF, SHORT, DIES, TORN, BYTE, ENDS };
-static const char *const WAYS[] = {"alone", "on", "half", "short", "dies", "torn", "byte", "ends", 0};
+enum way { ALONE, ON, HALF, SHORT, EACH, DIES, TORN, BYTE, ENDS };
+static const char *const WAYS[] = {"alone", "on", "half", "short", "each", "dies", "torn", "byte", "ends", 0};
 
 /* what a call does */
 enum call { ASKS, READS, WRITES };
@@ -137,7 +138,7 @@ static int error_of(enum call call) {
 static int concerns(enum call call, size_t size) {
   if (way == HALF || way == TORN)
     return size > 1 && call == (kind == INPUT ? READS : WRITES);
-  return way != SHORT || (size > 1 && call != ASKS);
+  return (way != SHORT && way != EACH) || (size > 1 && call != ASKS);
 }
 
 /* The error with which a call fails once so many bytes were moved; or none, after which it moves no more than these. */
@@ -164,6 +165,8 @@ static int failure(int of, enum call call, const char *what, size_t *size) {
   seen++;
   if (at && seen > at && (way == ON || way == HALF))
     return error_of(call);
+  if (at && seen > at && way == EACH)
+    *size = 1;
   if (seen != at)
     return 0;
   say(what, *size);
@@ -172,7 +175,7 @@ static int failure(int of, enum call call, const char *what, size_t *size) {
   if (way == ALONE || way == ON)
     return error_of(call);
   ends = way == TORN;
-  *size = way == SHORT ? 1 : *size / 2;
+  *size = way == SHORT || way == EACH ? 1 : *size / 2;
   return 0;
 }
 

@@ -13,4 +13,4 @@ pub mod LedgerEnds
 pub mod Standings
 pub mod Creations
 pub mod Starts
-pub mod Reports
+pub mod FeedbackCommands

@@ -98,7 +98,7 @@ module _ (approval : Bool) {F : Type 0} (out : Result (Unit {0}) F) where
 
     module _ (first : RunsText a b BEGIN.now [] (Ok tt)) (c : State) where
       began : Rests HoldsStage a Free → Changes b Free Free
-      began was = let it = frame.begins HoldsStage BEGIN.now a b (begin_is a.now.schema) first in record { sees = it.sees Free was; spoiled = (it.opens Free was).spoiled }
+      began was = let it = frame.begins HoldsStage BEGIN.now a b (begin_is a.now.schema) first in record { sees = it.sees Free (frame.rest_shows HoldsStage a Free was); spoiled = (it.opens Free was).spoiled }
 
       pub no_tables : {G : Type 0} (e : G) → MakesTables {A = Unit {0}} b c (Err e) → IsErr out → Makes a c approval out
       no_tables e h bad = fails a c (omega (arith, first.survives.clean, h.wears)) bad (λ was clean db left. inl (h.makes (began was) clean db left))

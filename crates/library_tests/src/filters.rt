@@ -19,12 +19,16 @@ const WRONG: [(&str, usize); 12] = [
     ("name==\"\u{e9}\"\u{e9}", 10),
 ];
 
-/// Whether a text is refused for its syntax at this place.
-fn is_wrong_at(alloc: Global, text: &str, at: usize) -> bool {
+fn is_refused_as(alloc: Global, text: &str, wanted: FilterFault) -> bool {
     match Filter::read(alloc, text) {
-        Err(fault) => fault == FilterFault::Syntax { at },
+        Err(fault) => fault == wanted,
         Ok(_) => false,
     }
+}
+
+/// Whether a text is refused for its syntax at this place.
+fn is_wrong_at(alloc: Global, text: &str, at: usize) -> bool {
+    is_refused_as(alloc, text, FilterFault::Syntax { at })
 }
 
 #[test]
@@ -39,15 +43,16 @@ const DEEP: &str = "(((((((((((((((((tag==a)))))))))))))))))";
 
 const DEEP_AND_OPEN: &str = "(((((((((((((((((tag==a";
 
-fn is_too_deep(alloc: Global, text: &str) -> bool {
-    match Filter::read(alloc, text) {
-        Err(fault) => fault == FilterFault::TooDeep,
-        Ok(_) => false,
-    }
-}
+/// A filter of 513 bytes, one more than is read.
+const LONG: &str =
+    "name==a,name==a,name==a,name==a,name==a,name==a,name==a,name==a,name==a,name==a,name==a,name==a,name==a,name==a,name==a,name==a,\
+    name==a,name==a,name==a,name==a,name==a,name==a,name==a,name==a,name==a,name==a,name==a,name==a,name==a,name==a,name==a,name==a,\
+    name==a,name==a,name==a,name==a,name==a,name==a,name==a,name==a,name==a,name==a,name==a,name==a,name==a,name==a,name==a,name==a,\
+    name==a,name==a,name==a,name==a,name==a,name==a,name==a,name==a,name==a,name==a,name==a,name==a,name==a,name==a,name==a,name==abc";
 
 #[test]
 fn deep_texts(rt: HostRuntime) {
-    assert!(rt; is_too_deep(rt.alloc(), DEEP));
+    assert!(rt; is_refused_as(rt.alloc(), DEEP, FilterFault::TooDeep));
     assert!(rt; is_wrong_at(rt.alloc(), DEEP_AND_OPEN, 23));
+    assert!(rt; is_refused_as(rt.alloc(), LONG, FilterFault::TooLong));
 }

@@ -53,7 +53,9 @@ fn the_worked_report(rt: HostRuntime) -> Result<(), Fail> {
     let text = report_of(rt.alloc(), &groups).ok_or("report")?;
     assert_eq!(rt;
         text.as_str(),
-        "rollout 1 spring\nstate running\ngroup  size    ok   bad  gone  open state\n    1     3     2     0     0     1 running\n    2     3     0     0     0     3 running\n    3     4     0     0     0     4 scheduled\ntotal    10     2     0     0     8 running\n"
+        "rollout 1 spring\nstate running\ngroup  size    ok   bad  gone  open state\n    \
+         1     3     2     0     0     1 running\n    2     3     0     0     0     3 running\n    \
+         3     4     0     0     0     4 scheduled\ntotal    10     2     0     0     8 running\n"
     );
     Ok(())
 }
@@ -67,7 +69,9 @@ fn numbers_wider_than_their_columns(rt: HostRuntime) -> Result<(), Fail> {
     let text = report_of(rt.alloc(), &groups).ok_or("report")?;
     assert_eq!(rt;
         text.as_str(),
-        "rollout 1 spring\nstate running\ngroup  size    ok   bad  gone  open state\n1234564294967295     0     0     04294967295 error\n    24294967295     1     0     04294967294 finished\ntotal8589934590     1     0     08589934589 running\n"
+        "rollout 1 spring\nstate running\ngroup  size    ok   bad  gone  open state\n\
+         1234564294967295     0     0     04294967295 error\n    24294967295     1     0     04294967294 finished\n\
+         total8589934590     1     0     08589934589 running\n"
     );
     Ok(())
 }

@@ -75,7 +75,8 @@ const ADD: &[u8] =
     b"POST /rest/v1/softwaremodules HTTP/1.1\r\nContent-Length: 44\r\n\r\n[{\"name\":\"app\",\"type\":\"os\",\"version\":\"1.0\"}]";
 
 const ADDED: &[u8] =
-    b"HTTP/1.1 201 Created\r\nContent-Type: application/json\r\nContent-Length: 66\r\n\r\n[{\"id\":1,\"locked\":false,\"name\":\"app\",\"type\":\"os\",\"version\":\"1.0\"}]";
+    b"HTTP/1.1 201 Created\r\nContent-Type: application/json\r\nContent-Length: 66\r\n\r\n\
+      [{\"id\":1,\"locked\":false,\"name\":\"app\",\"type\":\"os\",\"version\":\"1.0\"}]";
 
 /// Whether so many messages were served of a stream that ended behind the last one, or within one.
 fn is_served(served: Result<Served, ServeFault>, answered: u64, is_cut: bool) -> bool {
