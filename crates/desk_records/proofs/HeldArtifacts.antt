@@ -7,7 +7,7 @@ use Rattle.sqlite_value.specs.Order.{Row}
 use Rattle.sqlite.specs.Effect.{Database}
 use Rattle.sqlite_rules.specs.Lists.{Has}
 use Rattle.rollout_machine.specs.Commands.{Bytes}
-use Rattle.desk_records.specs.ArtifactLists.{ArePieces, lies_at}
+use Rattle.desk_records.specs.FoundPieces.{ArePieces, lies_at}
 use Rattle.desk_records.specs.Artifacts.{artifact_row, piece_numbered, piece_row, pieces_from}
 use Rattle.desk_records.specs.Holds.{HoldsLedger, Ledger}
 use Rattle.desk_records.specs.Schema.{Artifacts, Pieces}

@@ -44,7 +44,7 @@ pub mod NumberColumns
 pub mod TableColumns
 pub mod AnyRows
 pub mod PlaceRows
-pub mod ArtifactRows
+pub mod PieceRows
 pub mod RolloutRows
 pub mod HeldTables
 pub mod HeldArtifacts

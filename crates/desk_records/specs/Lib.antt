@@ -23,5 +23,5 @@ pub mod Tables
 pub mod Listings
 pub mod TableRows
 pub mod PlaceLists
-pub mod ArtifactLists
+pub mod FoundPieces
 pub mod CheckedRows

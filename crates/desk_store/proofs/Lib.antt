@@ -16,4 +16,5 @@ pub mod CountingLemmas
 mod NextOfferCalls
 pub mod GroupOfferCalls
 mod RawCalls
-mod RawArtifacts
+mod RawLists
+mod RawPieces

@@ -1,5 +1,5 @@
 -- The calls on tables with whatever rows they have.
-use Rattle.std.proofs.Common.{◌≡◌, ◌<◌, ◌^◌, ℕ, min, pos, true, List, [], ◌∷◌, length, Option, Some, None, Ok, Err, Result, IfOk, option_map, Vec, vec_items, refl, sym, ap, subst, ◌∙◌, arith, codes}
+use Rattle.std.proofs.Common.{◌≡◌, ◌<◌, ◌^◌, ℕ, min, pos, true, List, [], ◌∷◌, length, Option, Some, None, Ok, Err, Result, IfOk, option_map, Vec, vec_items, sym, ap, subst, ◌∙◌, codes}
 use Rattle.std.specs.declared.alloc.Global.{Global}
 use Rattle.sqlite_value.specs.declared.value.Value.TheVariants.{Null, Int}
 use Rattle.sqlite_value.specs.Order.{Row}
@@ -48,8 +48,8 @@ module _ {A : Type 0} (sql : List ℕ) (params : Row) (old new : State) (knows :
   answered (Ok found) read = λ db t holds shows. means db t holds found shows read
   answered (Err e) read = tt
 
-  pub rows_read : AsksText old new sql params (Ok rows) → (out : Result A Fault) → IfOk out Read → FindsOf old new out Answer
-  rows_read h out read = ask_finds HoldsTables (λ (t : Tables). t) sql params old new Answer knows rows h out (answered out read)
+  pub all_read : AsksText old new sql params (Ok rows) → (out : Result A Fault) → IfOk out Read → FindsOf old new out Answer
+  all_read h out read = ask_finds HoldsTables (λ (t : Tables). t) sql params old new Answer knows rows h out (answered out read)
 
 -- ---- counts
 
@@ -94,7 +94,7 @@ Places r t found = ListsPlaces (t Members) r (option_map vec_items found)
 
 pub places_read : (r : ℕ) → is_number r ≡ true → (old new : State) (rows : Vec Row Global) → AsksText old new LIST_PLACES.now (Int (pos r) ∷ []) (Ok rows) → (out : Result (Option (Vec PlacedMember Global)) Fault)
     → IfOk out (λ found. AreRead IsPlacedRow keeps_member_rules rows.items (option_map vec_items found)) → FindsOf old new out (Places r)
-places_read r good old new rows = rows_read LIST_PLACES.now (Int (pos r) ∷ []) old new listing_any (Places r) (λ found. AreRead IsPlacedRow keeps_member_rules rows.items (option_map vec_items found)) rows
+places_read r good old new rows = all_read LIST_PLACES.now (Int (pos r) ∷ []) old new listing_any (Places r) (λ found. AreRead IsPlacedRow keeps_member_rules rows.items (option_map vec_items found)) rows
     (λ db t holds found shows read. lists_places db t holds placed_names r good rows.items shows (option_map vec_items found) read)
 
 -- ---- rollouts

@@ -1,19 +1,16 @@
 //! What one row is read as.
 
-ghost use Rattle.std.specs.Prelude.{◌≡◌, Bool, IfNone, IfOk, IfSome, false};
+ghost use Rattle.std.specs.Prelude.{◌≡◌, IfOk};
 ghost use Rattle.sqlite_value.specs.Order.{Row, column};
 ghost use Rattle.desk_records.specs.ArtifactRow.{IsArtifactRow, IsStoredRow, StoredBytes};
-ghost use Rattle.desk_records.specs.CheckedRows.{IsCheckedArtifactRow, keeps_artifact_rules};
-ghost use Rattle.desk_records.specs.MemberRow.{IsPlacedRow, keeps_member_rules};
 ghost use Rattle.desk_records.specs.ModuleRow.{IsLabelRow, StoredText};
 ghost use Rattle.desk_records.specs.SetRow.{IsSetNameRow, StoredNumber};
 ghost use Rattle.desk_records.specs.TargetRow.{IsAttributeRow, IsListedTargetRow, IsTargetRow};
 
 use desk_records::{
-    CheckedArtifact, ListedTarget, PlacedMember, RowFault, SetName, StoredArtifact, StoredTarget,
-    read_artifact, read_attribute, read_checked_artifact, read_listed_target, read_module_label,
-    read_piece, read_placed_member, read_set_module, read_set_name, read_stored_artifact,
-    read_stored_target, read_tag,
+    ListedTarget, RowFault, SetName, StoredArtifact, StoredTarget, read_artifact, read_attribute,
+    read_listed_target, read_module_label, read_piece, read_set_module, read_set_name,
+    read_stored_artifact, read_stored_target, read_tag,
 };
 use rollout_model::{Artifact, Attribute, ModuleLabel, ModuleNo, Word};
 use sqlite::Row;
@@ -114,38 +111,5 @@ impl FromRow for Attribute {
 
     fn from_row(alloc: Global, row: &Row) -> Result<Self, RowFault> {
         read_attribute(alloc, row)
-    }
-}
-
-/// What is read of a row of its columns where they keep their rules.
-pub(crate) trait FromRuledRow: Sized + Drop {
-    ghost is_row: { Row → Self → Type 0 };
-
-    ghost keeps: { Row → Bool };
-
-    fn from_ruled_row(row: &Row) -> Option<Self>
-        ensures some { IfSome result (is_row row.now) }
-        ensures none { IfNone result (keeps row.now ≡ false) };
-}
-
-/// Of id and place.
-impl FromRuledRow for PlacedMember {
-    ghost is_row = { IsPlacedRow };
-
-    ghost keeps = { keeps_member_rules };
-
-    fn from_ruled_row(row: &Row) -> Option<Self> {
-        read_placed_member(row)
-    }
-}
-
-/// Of module, filename, size, digest and number.
-impl FromRuledRow for CheckedArtifact {
-    ghost is_row = { IsCheckedArtifactRow };
-
-    ghost keeps = { keeps_artifact_rules };
-
-    fn from_ruled_row(row: &Row) -> Option<Self> {
-        read_checked_artifact(row)
     }
 }

@@ -7,7 +7,8 @@ ghost use Rattle.desk_store.specs.Changing.{FindsTables, StaysIn};
 ghost use Rattle.desk_store.specs.Counting.{AddsIn};
 
 use crate::change::OpenChange;
-use crate::reading::{counted_in, read_ruled};
+use crate::checked_row::read_checked;
+use crate::reading::counted_in;
 use desk_records::{COUNT_MEMBERS, LIST_PLACES, PlacedMember};
 use rollout_model::RolloutNo;
 use sql_calls::Fault;
@@ -22,7 +23,7 @@ impl<'a, S: Alter> OpenChange<'a, S> {
     {
         let alloc = self.store.alloc;
         let rows = self.ask(LIST_PLACES, params![number.get()])?;
-        read_ruled(alloc, &rows)
+        read_checked(alloc, &rows)
     }
 
     /// How many rows the table has.

@@ -1,13 +1,12 @@
 //! What rows and results of statements come to.
 
-ghost use Rattle.std.specs.Prelude.{◌≡◌, ◌<◌, ◌^◌, IfOk, option_map, slice_get, vec_items};
-ghost use Rattle.desk_records.specs.Listings.{AreRead};
+ghost use Rattle.std.specs.Prelude.{◌≡◌, ◌<◌, ◌^◌, IfOk, slice_get};
 ghost use Rattle.desk_records.specs.Modules.{IsLastRow};
 ghost use Rattle.desk_records.specs.TargetRow.{IsAttributeRow};
 ghost use Rattle.desk_store.specs.Rows.{AreReadAs, IsApproval, IsCount, IsReadAs};
 ghost use Rattle.desk_store.specs.Faults.{as_store, fault_of_row};
 
-use crate::from_row::{FromRow, FromRuledRow};
+use crate::from_row::FromRow;
 use desk_records::{RowFault, read_approval};
 use rollout_model::{Attribute, Attributes};
 use sql_calls::{Fault, fault_of};
@@ -66,26 +65,6 @@ pub(crate) fn read_all<T: FromRow>(alloc: Global, rows: &[Row]) -> Result<Vec<T>
         }
     }
     Ok(found)
-}
-
-/// What each row is read as, in order; `None` where one of them breaks a rule.
-pub(crate) fn read_ruled<T: FromRuledRow>(
-    alloc: Global,
-    rows: &[Row],
-) -> Result<Option<Vec<T>>, Fault>
-    ensures { IfOk result (λ found. AreRead T.is_row T.keeps rows.now (option_map vec_items found)) }
-{
-    let mut found = Vec::new(alloc);
-    for row in rows {
-        let Some(one) = T::from_ruled_row(row) else {
-            return Ok(None);
-        };
-        match found.push(one) {
-            Ok(()) => {}
-            Err(_) => return Err(Fault::Memory),
-        }
-    }
-    Ok(Some(found))
 }
 
 /// The attributes in rows of key and value.

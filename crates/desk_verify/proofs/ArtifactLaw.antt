@@ -14,7 +14,7 @@ use Rattle.rollout_machine.specs.Commands.{Bytes}
 use Rattle.rollout_machine.specs.Records.{ArtifactRecord, Records, records}
 use Rattle.rollout_machine.specs.Validity.{IsValid}
 use Rattle.rollout_machine.proofs.WithinLimits.{limits_hold}
-use Rattle.desk_records.specs.ArtifactLists.{ArePieces, SaysArtifact}
+use Rattle.desk_records.specs.FoundPieces.{ArePieces}
 use Rattle.desk_records.specs.ArtifactRow.{stored}
 use Rattle.desk_records.specs.Artifacts.{artifact_row, piece_numbered, pieces_in, pieces_of_artifact}
 use Rattle.desk_records.specs.Holds.{HoldsRecords, ledger_of}
@@ -25,6 +25,7 @@ use Rattle.desk_records.proofs.HeldArtifacts.{held_artifact, held_pieces}
 use Rattle.desk_records.proofs.HeldTables.{IsNumbered}
 use Rattle.desk_records.proofs.NumberColumns.{is_in_range, is_number_in, is_small}
 use Rattle.desk_records.proofs.WholeArtifacts.{IsWhole, KeepsRules, all_keep, all_whole, digest_is_one}
+use Rattle.desk_store.specs.RawLists.{SaysArtifact}
 use Rattle.desk_verify.specs.Artifacts.{AgreesArtifacts, HasPieces}
 
 -- its row says it

@@ -12,13 +12,14 @@ use Rattle.sqlite_rules.proofs.ListLemmas.{all_from, all_has}
 use Rattle.artifact_pieces.specs.Digests.{digest_of}
 use Rattle.artifact_pieces.specs.Pieces.{piece_count}
 use Rattle.rollout_machine.specs.Commands.{Bytes}
-use Rattle.desk_records.specs.ArtifactLists.{ArePieces, ListsArtifacts, SaysArtifact}
+use Rattle.desk_records.specs.FoundPieces.{ArePieces}
 use Rattle.desk_records.specs.Artifacts.{pieces_in}
 use Rattle.desk_records.specs.Schema.{Artifacts, Pieces}
 use Rattle.desk_records.specs.Tables.{Tables}
 use Rattle.desk_records.specs.declared.checked_rows.CheckedArtifact.{CheckedArtifact}
 use Rattle.desk_records.proofs.NumberColumns.{number_in_is, one_number}
 use Rattle.desk_records.proofs.PieceLists.{count_pieces}
+use Rattle.desk_store.specs.RawLists.{ListsRows, SaysArtifact, any_row}
 use Rattle.desk_verify.specs.Agreement.{Decides}
 use Rattle.desk_verify.specs.ArtifactChecks.{HasDigest, HashesPieces}
 use Rattle.desk_verify.specs.Artifacts.{AgreesArtifacts, IsWhole}
@@ -84,10 +85,10 @@ same_whole t row a b says_a says_b whole =
       end = subst (λ n. ArePieces (t Pieces) n (length (pieces_in whole.contents) + 1) []) number whole.end;
     }
 
-pub row_broken : (t : Tables) → ListsArtifacts (t Artifacts) None → Decides (AgreesArtifacts t) false
+pub row_broken : (t : Tables) → ListsRows (t Artifacts) any_row SaysArtifact None → Decides (AgreesArtifacts t) false
 row_broken t broken agree = let it = agree broken.row broken.among in broken.breaks it.artifact it.is
 
-pub by_each : (t : Tables) (artifacts : List CheckedArtifact) (whole : Bool) → ListsArtifacts (t Artifacts) (Some artifacts) → Decides (AllByRecursion (IsWhole t) artifacts) whole → Decides (AgreesArtifacts t) whole
+pub by_each : (t : Tables) (artifacts : List CheckedArtifact) (whole : Bool) → ListsRows (t Artifacts) any_row SaysArtifact (Some artifacts) → Decides (AllByRecursion (IsWhole t) artifacts) whole → Decides (AgreesArtifacts t) whole
 by_each t artifacts true are each = λ row among.
     let it = are.complete row among refl in
     record { artifact = it.one; is = it.is; whole = all_has (IsWhole t) artifacts it.one each it.among }

@@ -13,7 +13,7 @@ use Rattle.artifact_pieces.specs.Digests.{digest_of}
 use Rattle.artifact_pieces.specs.Pieces.{piece_count}
 use Rattle.rollout_model.specs.Limits.{piece_length}
 use Rattle.rollout_machine.specs.Commands.{Bytes}
-use Rattle.desk_records.specs.ArtifactLists.{ArePieces}
+use Rattle.desk_records.specs.FoundPieces.{ArePieces}
 use Rattle.desk_records.specs.Artifacts.{pieces_in}
 use Rattle.desk_records.specs.Schema.{Pieces}
 use Rattle.desk_records.specs.Tables.{Tables}

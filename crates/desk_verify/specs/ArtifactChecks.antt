@@ -4,7 +4,7 @@ use Rattle.sha2.specs.Hashers.{Holds256}
 use Rattle.sha2.specs.declared.Sha256.{Sha256}
 use Rattle.artifact_pieces.specs.Digests.{digest_of}
 use Rattle.rollout_machine.specs.Commands.{Bytes}
-use Rattle.desk_records.specs.ArtifactLists.{ArePieces}
+use Rattle.desk_records.specs.FoundPieces.{ArePieces}
 use Rattle.desk_records.specs.Schema.{Pieces}
 use Rattle.desk_records.specs.Tables.{Tables}
 use Rattle.desk_verify.specs.Artifacts.{HasPieces}

@@ -4,11 +4,12 @@ use Rattle.sqlite_value.specs.Order.{Row}
 use Rattle.sqlite_rules.specs.Lists.{Has}
 use Rattle.artifact_pieces.specs.Digests.{digest_of}
 use Rattle.rollout_machine.specs.Commands.{Bytes}
-use Rattle.desk_records.specs.ArtifactLists.{ArePieces, SaysArtifact}
+use Rattle.desk_records.specs.FoundPieces.{ArePieces}
 use Rattle.desk_records.specs.Artifacts.{pieces_in}
 use Rattle.desk_records.specs.Schema.{Artifacts, Pieces}
 use Rattle.desk_records.specs.Tables.{Tables}
 use Rattle.desk_records.specs.declared.checked_rows.CheckedArtifact.{CheckedArtifact}
+use Rattle.desk_store.specs.RawLists.{SaysArtifact}
 
 -- the pieces of the contents lie at the places of the artifact from 1 on, each alone at its place
 abbrev pub HasPieces : Tables → ℕ → Bytes → Type 0

@@ -14,8 +14,10 @@ use Rattle.desk_verify.specs.declared.damage.CheckedTable.{CheckedTable}
 
 -- its tables agree
 abbrev pub RecordsAgree : Type 0
-RecordsAgree = (h : CommandList) → IsValid h → (db : Database) (t : Tables) → HoldsRecords db (records h) → HoldsTables db t → AllByRecursion (Agrees t) checked
+RecordsAgree = (h : CommandList) → IsValid h → (db : Database) (t : Tables) → HoldsRecords db (records h) → HoldsTables db t
+    → AllByRecursion (Agrees t) checked
 
 -- where a change sees such records, no table is named
 abbrev pub NamesNone : {E : Type 0} → State → State → Result (Option CheckedTable) E → Type 0
-NamesNone old new result = (h : CommandList) → IsValid h → Sees HoldsLedger old (ledger_of (records h)) → HasCleanDisk new → IfOk result (λ found. found ≡ None)
+NamesNone old new result = (h : CommandList) → IsValid h → Sees HoldsLedger old (ledger_of (records h)) → HasCleanDisk new
+    → IfOk result (λ found. found ≡ None)

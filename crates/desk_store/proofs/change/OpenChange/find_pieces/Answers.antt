@@ -4,7 +4,7 @@ use Rattle.sqlite.specs.Held.{state}
 use Rattle.sql_calls.specs.Calls.{AsksText}
 use Rattle.desk_records.specs.declared.artifact_texts.TheConstants.{GET_PIECE}
 use Rattle.desk_store.proofs.ArtifactCalls.{taking}
-use Rattle.desk_store.proofs.RawArtifacts.{pieces_read}
+use Rattle.desk_store.proofs.RawPieces.{pieces_read}
 use Rattle.desk_store.proofs.change.OpenChange.find_pieces.Goals as goal
 
 pub returns-clause-reads : goal.returns-clause-reads

@@ -1,5 +1,0 @@
-use Rattle.desk_store.proofs.ReadLemmas.{read_more}
-use Rattle.desk_store.proofs.reading.read_ruled.Goals as goal
-
-pub loop-row-preserved : goal.loop-row-preserved
-loop-row-preserved g c = rw c.in-Ok.ensures.items (read_more g.T.FromRuledRow.is_row c.args.rows.now c.loop-row.found.items c.loop-row.row-index _ _ c.loop-row-test.true c.row-item.is c.loop-row.invariant c.in-Some.ensures.some)
