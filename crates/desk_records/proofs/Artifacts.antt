@@ -104,31 +104,36 @@ same_artifacts n before a bytes = same_rows artifact_row a (and_piece a bytes) (
 
 -- ---- a piece at its place
 
+-- the test of a piece's number and place
+abbrev pub Names : ℕ → ℕ → (Row → Bool) → Type 0
+Names number sequence p = (n place : ℕ) (bytes : Bytes) → p (piece_row n place bytes) ≡ (nat_eq n number && nat_eq place sequence)
+
+of_artifact : (number sequence : ℕ) (p : Row → Bool) → Names number sequence p → (place : ℕ) (bytes : Bytes) → p (piece_row number place bytes) ≡ nat_eq place sequence
+of_artifact number sequence p names place bytes = let same : nat_eq number number ≡ true = grind (arith, nat_tests) in names number place bytes ∙ rw same refl
+
+others : (number sequence : ℕ) (p : Row → Bool) → Names number sequence p → (n place : ℕ) (bytes : Bytes) → nat_eq n number ≡ false → p (piece_row n place bytes) ≡ false
+others number sequence p names n place bytes apart = names n place bytes ∙ rw apart refl
+
+found_in : (number sequence : ℕ) (p : Row → Bool) → Names number sequence p → (ps : List Bytes) → filter p (rows_from (piece_row number) 1 ps) ≡ option_to_list (option_map (piece_row number sequence) (item_numbered ps sequence))
+found_in number zero p names ps = none_after (piece_row number) p zero (of_artifact number zero p names) 1 ps (omega arith)
+found_in number (suc k) p names ps =
+    let next : 1 + k ≡ suc k = omega arith in
+    at_place (piece_row number) p 1 k (λ place bytes. of_artifact number (suc k) p names place bytes ∙ ap (nat_eq place) (sym next)) ps
+    ∙ ap (λ n. option_to_list (option_map (piece_row number n) (slice_get ps k))) next
+
+pub its_piece : (artifacts : List ArtifactRecord) (number sequence : ℕ) (p : Row → Bool) → Names number sequence p → 1 ≤ number
+    → filter p (pieces_from 1 artifacts) ≡ option_to_list (option_map (piece_row number sequence) (piece_numbered artifacts number sequence))
+its_piece artifacts zero sequence p names least = absurd (omega (arith, least))
+its_piece artifacts (suc k) sequence p names least =
+    its_parts piece_row pieces p (suc k) (others (suc k) sequence p names) pieces_of_artifact refl (λ a. refl) 1 k (omega arith) artifacts
+    ∙ found_in (suc k) sequence p names (pieces_of_artifact (slice_get artifacts k))
+
 module _ (tree : ℕ) (db : Database) (artifacts : List ArtifactRecord) (held : IsHeldBy (db.trees tree) (pieces_from 1 artifacts)) (names : List (List ℕ)) where
   abbrev is_at : ℕ → ℕ → Row → Bool
   is_at number sequence = on_content (passes at_piece (Int (pos number) ∷ Int (pos sequence) ∷ []))
 
-  names_it : (number sequence n place : ℕ) (bytes : Bytes) → is_at number sequence (piece_row n place bytes) ≡ (nat_eq n number && nat_eq place sequence)
+  names_it : (number sequence : ℕ) → Names number sequence (is_at number sequence)
   names_it number sequence n place bytes = rw (numbers_equal n number, numbers_equal place sequence, and_true (nat_eq place sequence)) refl
-
-  of_artifact : (number sequence place : ℕ) (bytes : Bytes) → is_at number sequence (piece_row number place bytes) ≡ nat_eq place sequence
-  of_artifact number sequence place bytes = let same : nat_eq number number ≡ true = grind (arith, nat_tests) in names_it number sequence number place bytes ∙ rw same refl
-
-  others : (number sequence n place : ℕ) (bytes : Bytes) → nat_eq n number ≡ false → is_at number sequence (piece_row n place bytes) ≡ false
-  others number sequence n place bytes apart = names_it number sequence n place bytes ∙ rw apart refl
-
-  found_in : (number sequence : ℕ) (ps : List Bytes) → filter (is_at number sequence) (rows_from (piece_row number) 1 ps) ≡ option_to_list (option_map (piece_row number sequence) (item_numbered ps sequence))
-  found_in number zero ps = none_after (piece_row number) (is_at number zero) zero (λ place bytes. of_artifact number zero place bytes) 1 ps (omega arith)
-  found_in number (suc k) ps =
-      let next : 1 + k ≡ suc k = omega arith in
-      at_place (piece_row number) (is_at number (suc k)) 1 k (λ place bytes. of_artifact number (suc k) place bytes ∙ ap (nat_eq place) (sym next)) ps
-      ∙ ap (λ n. option_to_list (option_map (piece_row number n) (slice_get ps k))) next
-
-  its_piece : (number sequence : ℕ) → 1 ≤ number → filter (is_at number sequence) (pieces_from 1 artifacts) ≡ option_to_list (option_map (piece_row number sequence) (piece_numbered artifacts number sequence))
-  its_piece zero sequence least = absurd (omega (arith, least))
-  its_piece (suc k) sequence least =
-      its_parts piece_row pieces (is_at (suc k) sequence) (suc k) (others (suc k) sequence) pieces_of_artifact refl (λ a. refl) 1 k (omega arith) artifacts
-      ∙ found_in (suc k) sequence (pieces_of_artifact (slice_get artifacts k))
 
   abbrev query : Query
   query = simple tree at_piece (col 1 3 ∷ [])
@@ -142,7 +147,7 @@ module _ (tree : ℕ) (db : Database) (artifacts : List ArtifactRecord) (held : 
       let params = Int (pos number) ∷ Int (pos sequence) ∷ [] in
       let f = shown number sequence in
       let seen = held_seen (passes at_piece params) (λ id x. refl) f (λ id x. refl) (db.trees tree) (pieces_from 1 artifacts) held in
-      subst (λ l. IsPermutation (map (on_content f) l) rows) (its_piece number sequence least) (IsPermutation-trans _ _ _ seen (simple_rows tree at_piece (col 1 3 ∷ []) params db.trees rows (shows.answer Null)))
+      subst (λ l. IsPermutation (map (on_content f) l) rows) (its_piece artifacts number sequence (is_at number sequence) (names_it number sequence) least) (IsPermutation-trans _ _ _ seen (simple_rows tree at_piece (col 1 3 ∷ []) params db.trees rows (shows.answer Null)))
 
   pub gets_piece : (number sequence : ℕ) → 1 ≤ number → (row : Option Row) → ShowsFirst (Select (record { lets = []; body = query }) names) db (Int (pos number) ∷ Int (pos sequence) ∷ []) row
       → row ≡ option_map (λ bytes. Blob bytes ∷ []) (piece_numbered artifacts number sequence)

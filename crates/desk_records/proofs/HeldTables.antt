@@ -1,19 +1,24 @@
 -- What tables have where a ledger is held, whatever rowids nobody knows.
-use Rattle.std.proofs.Common.{◌≡◌, ◌⊎◌, inl, inr, ◌≤◌, ◌<◌, ℕ, ◌+◌, pos, Bool, true, false, List, [], ◌∷◌, length, slice_get, nat_lt, Some, refl, sym, ap, subst, ◌∙◌, arith}
+use Rattle.std.proofs.Common.{◌≡◌, ◌⊎◌, inl, inr, ◌≤◌, ◌<◌, ℕ, suc, ◌+◌, pos, Bool, true, false, List, [], ◌∷◌, filter, length, slice_get, nat_lt, Some, refl, sym, ap, subst, ◌∙◌, arith}
+use Rattle.std.specs.List.{AllZip}
 use Rattle.std.proofs.lemmas.Bool.Decides.{nat_tests}
-use Rattle.std.proofs.lemmas.List.Sorted.{IsPermutation-sym}
-use Rattle.sqlite_value.specs.declared.value.Value.TheVariants.{Int}
+use Rattle.std.proofs.lemmas.List.{length-map}
+use Rattle.std.proofs.lemmas.List.Sorted.{IsPermutation-sym, length_permutation}
+use Rattle.sqlite_value.specs.declared.value.Value.{Value}
+use Rattle.sqlite_value.specs.declared.value.Value.TheVariants.{Int, Null}
 use Rattle.sqlite_value.specs.Order.{Row}
 use Rattle.sqlite.specs.Effect.{Database}
 use Rattle.sqlite.specs.Table.{Table}
 use Rattle.sqlite_rules.specs.Lists.{Has}
-use Rattle.sqlite_rules.proofs.ListLemmas.{has_either, has_left, has_right}
+use Rattle.sqlite_rules.proofs.ListLemmas.{has_either, has_filtered, has_kept, has_left, has_right}
 use Rattle.sql_calls.specs.Keyed.{AreIn, IsHeldBy, rows_from}
+use Rattle.sql_calls.proofs.KeyedRows.{IsBlind, held_seen, on_content}
 use Rattle.desk_records.specs.Holds.{HoldsLedger, IsHeld, Ledger}
+use Rattle.desk_records.specs.Listings.{AreSaid}
 use Rattle.desk_records.specs.Parts.{parts_from}
 use Rattle.desk_records.specs.Schema.{Place, table_at}
 use Rattle.desk_records.specs.Tables.{HoldsTables, Tables}
-use Rattle.desk_records.proofs.Membership.{has_permuted}
+use Rattle.desk_records.proofs.Membership.{has_permuted, zip_left, zip_length, zip_right}
 
 -- ---- the tables of a ledger
 
@@ -49,11 +54,16 @@ pub record IsNumbered {Y : Type 0} (f : ℕ → Y → Row) (k : ℕ) (ys : List 
   pub high : at < k + length ys
   pub among : Has ys one
   pub is : row ≡ f at one
+  pub index : ℕ
+  pub at_is : at ≡ k + index
+  pub got : slice_get ys index ≡ Some one
 
 pub numbered : {Y : Type 0} (f : ℕ → Y → Row) (k : ℕ) (ys : List Y) (row : Row) → Has (rows_from f k ys) row → IsNumbered f k ys row
 numbered f k [] row among = absurd among
-numbered f k (y ∷ ys) row (inl same) = record { at = k; one = y; low = omega arith; high = omega arith; among = inl refl; is = same }
-numbered f k (y ∷ ys) row (inr among) = let it = numbered f (k + 1) ys row among in record { at = it.at; one = it.one; low = omega (arith, it.low); high = omega (arith, it.high); among = inr it.among; is = it.is }
+numbered f k (y ∷ ys) row (inl same) = record { at = k; one = y; low = omega arith; high = omega arith; among = inl refl; is = same; index = 0; at_is = omega arith; got = refl }
+numbered f k (y ∷ ys) row (inr among) =
+    let it = numbered f (k + 1) ys row among in
+    record { at = it.at; one = it.one; low = omega (arith, it.low); high = omega (arith, it.high); among = inr it.among; is = it.is; index = suc it.index; at_is = omega (arith, it.at_is); got = it.got }
 
 pub row_numbered : {Y : Type 0} (f : ℕ → Y → Row) (k : ℕ) (ys : List Y) (at : ℕ) → k ≤ at → at < k + length ys → (y : Y) × Has ys y × Has (rows_from f k ys) (f at y)
 row_numbered f k [] at low high = absurd (omega (arith, low, high))
@@ -85,6 +95,22 @@ wanted_of rows wanted row held among = let it = content_in 1 rows held.order row
 
 pub row_of : (rows wanted : List Row) (x : Row) → IsHeldBy rows wanted → Has wanted x → (n : ℕ) × Has rows (Int (pos n) ∷ x)
 row_of rows wanted x held among = row_in 1 rows held.order x held.rising (has_permuted wanted held.order x held.same among)
+
+-- what they say whose test doesn't see the number
+module _ {A : Type 0} (p : Row → Bool) (blind : IsBlind p) (says : Row → A → Type 0) (whatever : (id : Value) (x : Row) (a : A) → says (Null ∷ x) a → says (id ∷ x) a) where
+  pub held_said : (rows wanted : List Row) (found : List A) → IsHeldBy rows wanted → AllZip (λ x a. says (Null ∷ x) a) (filter (on_content p) wanted) found → AreSaid rows p says found
+  held_said rows wanted found held reads = record {
+    sound = λ a among.
+        let x = zip_right _ (filter (on_content p) wanted) found a reads among in
+        let kept = has_filtered (on_content p) wanted x.0 x.1 in
+        let row = row_of rows wanted x.0 held kept.0 in
+        record { row = Int (pos row.0) ∷ x.0; among = row.1; passes = blind _ x.0 ∙ kept.1; is = whatever _ x.0 a x.2 };
+    complete = λ row among passes.
+        let x = wanted_of rows wanted row held among in
+        let a = zip_left _ (filter (on_content p) wanted) found x.1 reads (has_kept (on_content p) wanted x.1 x.2 (sym (blind _ x.1) ∙ ap p (sym x.3) ∙ passes)) in
+        record { one = a.0; among = a.1; is = subst (λ r. says r a.0) (sym x.3) (whatever _ x.1 a.0 a.2) };
+    count = zip_length _ (filter (on_content p) wanted) found reads ∙ sym (length-map (filter (on_content p) wanted) (on_content p)) ∙ sym (length_permutation _ _ (held_seen p blind p blind rows wanted held)) ∙ length-map (filter p rows) p;
+  }
 
 -- ---- the parts of numbered records
 

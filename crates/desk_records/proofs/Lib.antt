@@ -12,7 +12,7 @@ pub mod Targets
 pub mod Attributes
 mod NumberedReads
 mod Parts
-mod PieceLists
+pub mod PieceLists
 mod PartReads
 pub mod Sets
 pub mod EachPlace
@@ -22,6 +22,7 @@ mod RowLemmas
 pub mod Modules
 pub mod SetRecords
 pub mod Artifacts
+pub mod WholeArtifacts
 pub mod ArtifactRecords
 pub mod TargetRecords
 pub mod AttributeRecords
@@ -43,5 +44,7 @@ pub mod NumberColumns
 pub mod TableColumns
 pub mod AnyRows
 pub mod PlaceRows
+pub mod PieceRows
 pub mod RolloutRows
 pub mod HeldTables
+pub mod HeldArtifacts

@@ -1,5 +1,5 @@
 -- What columns with a number say of it.
-use Rattle.std.proofs.Common.{◌≡◌, ◌<◌, ◌≤◌, ◌^◌, [], ◌∷◌, ℕ, ℤ, pos, negsuc, Bool, true, false, cond, Option, Some, None, true≢false, refl, sym, ap, ◌∙◌, arith, nat_eq, nat_lt, nat_le, is_eq, int_cmp}
+use Rattle.std.proofs.Common.{◌≡◌, ◌<◌, ◌≤◌, ◌^◌, ◌&&◌, [], ◌∷◌, ℕ, ℤ, pos, negsuc, Bool, true, false, cond, Option, Some, None, true≢false, refl, sym, ap, ap₂, ◌∙◌, arith, nat_eq, nat_lt, nat_le, is_eq, int_cmp}
 use Rattle.std.specs.Option.{option_and_then}
 use Rattle.std.proofs.lemmas.Bool.{and_parts}
 use Rattle.std.proofs.lemmas.Bool.Decides.{nat_tests}
@@ -59,6 +59,9 @@ good_number m n h = go (is_number m) h
     go true e = cc
     go false e = absurd cc
 
+pub is_in_range : (n : ℕ) → 1 ≤ n → n ≤ number_limit → is_number n ≡ true
+is_in_range n low high = grind (arith, nat_tests, low, high)
+
 pub number_in_is : (v : Value) (n : ℕ) → number_in v ≡ Some n → v ≡ Int (pos n)
 number_in_is v n h = go (small_number v) refl h
   where
@@ -86,6 +89,11 @@ numbers_equal (negsuc m) n = let never : is_eq (int_cmp (negsuc m) (pos n)) ≡ 
 pub passes_at : (row : Row) (place n : ℕ) (v : ℤ) → column row place ≡ Int v → (passes (at_key place 0 ∷ []) (Int (pos n) ∷ []) row) ≡ has_at place n row
 passes_at row place n v is = and_true _ ∙ rw is (numbers_equal v n)
 
+-- of two such columns
+pub passes_two : (row : Row) (first second m n : ℕ) (v w : ℤ) → column row first ≡ Int v → column row second ≡ Int w
+    → (passes (at_key first 0 ∷ at_key second 1 ∷ []) (Int (pos m) ∷ Int (pos n) ∷ []) row) ≡ (has_at first m row && has_at second n row)
+passes_two row first second m n v w is_v is_w = rw (is_v, is_w) (ap₂ ◌&&◌ (numbers_equal v m) (and_true _ ∙ numbers_equal w n))
+
 -- of the rowid, whatever it is
 pub passes_rowid : (row : Row) (n : ℕ) → passes (at_key 0 0 ∷ []) (Int (pos n) ∷ []) row ≡ has_rowid (pos n) row
 unfolding binary
@@ -98,20 +106,20 @@ passes_rowid row n = and_true _ ∙ go (rowid row)
     go (Text t) = judged _
     go (Blob b) = judged _
 
-pub number_in_least : (v : Value) (n : ℕ) → number_in v ≡ Some n → 1 ≤ n
-number_in_least v n h = go (small_number v) h
+-- it is in the range
+pub number_in_good : (v : Value) (n : ℕ) → number_in v ≡ Some n → is_number n ≡ true
+number_in_good v n h = go (small_number v) h
   where
-    at_least : (m : ℕ) (b : Bool) → is_number m ≡ b → cond b (Some m) None ≡ Some n → 1 ≤ n
-    at_least m true good e =
-        let same : m ≡ n = cc in
-        let low : nat_le 1 m ≡ true = (and_parts (nat_le 1 m) (nat_le m number_limit) good).0 in
-        let least : 1 ≤ m = grind (arith, nat_tests, low) in
-        omega (arith, least, same)
-    at_least m false bad e = absurd cc
+    good : (m : ℕ) (b : Bool) → is_number m ≡ b → cond b (Some m) None ≡ Some n → is_number n ≡ true
+    good m true is e = let same : m ≡ n = cc in ap is_number (sym same) ∙ is
+    good m false is e = absurd cc
 
-    go : (o : Option ℕ) → option_and_then number_of o ≡ Some n → 1 ≤ n
+    go : (o : Option ℕ) → option_and_then number_of o ≡ Some n → is_number n ≡ true
     go None e = absurd cc
-    go (Some m) e = at_least m (is_number m) refl e
+    go (Some m) e = good m (is_number m) refl e
+
+pub number_in_least : (v : Value) (n : ℕ) → number_in v ≡ Some n → 1 ≤ n
+number_in_least v n h = let low : nat_le 1 n ≡ true = (and_parts (nat_le 1 n) (nat_le n number_limit) (number_in_good v n h)).0 in grind (arith, nat_tests, low)
 
 -- a row has its own number
 pub has_own_number : (n : ℕ) (rest : Row) → has_rowid (pos n) (Int (pos n) ∷ rest) ≡ true

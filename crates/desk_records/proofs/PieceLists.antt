@@ -1,16 +1,19 @@
 -- Contents in pieces, and what one more piece makes of them.
-use Rattle.std.proofs.Common.{◌≡◌, ◌≤◌, ◌++◌, ℕ, zero, suc, ◌+◌, ◌*◌, [], ◌∷◌, map, take, drop, length, refl, sym, ap, ap₂, ◌∙◌, arith, length-append}
-use Rattle.std.specs.List.{range_with_len}
+use Rattle.std.proofs.Common.{◌≡◌, ◌≤◌, ◌++◌, ℕ, zero, suc, ◌+◌, ◌*◌, List, [], ◌∷◌, map, take, drop, length, Option, Some, None, refl, sym, ap, ap₂, ◌∙◌, arith, length-append}
+use Rattle.std.specs.List.{flat_map, range_with_len}
+use Rattle.std.specs.Option.{option_map}
+use Rattle.std.specs.Prelude.{slice_get}
 use Rattle.std.proofs.Math.Nat.{sub-zero}
 use Rattle.std.proofs.Math.Seq.{drop-append_seam}
 use Rattle.std.proofs.lemmas.Grind.{div_ceil_times}
 use Rattle.std.proofs.lemmas.List.{length-drop, take_all, take-append-le, drop-append-le}
+use Rattle.std.proofs.lemmas.Option.{slice_get-map}
 use Rattle.std.proofs.lemmas.List.FromFn.{length-map-range_with_len, map-range_with_len_more}
 use Rattle.sqlite_keyed.proofs.ListLemmas.{map-map, map_same}
 use Rattle.rollout_machine.specs.Commands.{Bytes}
 use Rattle.rollout_model.specs.Limits.{piece_length}
-use Rattle.artifact_pieces.specs.Pieces.{piece_at, piece_bytes, piece_count}
-use Rattle.artifact_pieces.proofs.PieceLemmas.{one_piece}
+use Rattle.artifact_pieces.specs.Pieces.{piece_at, piece_bytes, piece_count, pieces_of}
+use Rattle.artifact_pieces.proofs.PieceLemmas.{one_piece, pieces_make_the_whole}
 use Rattle.desk_records.specs.Artifacts.{pieces_in}
 
 -- how many pieces contents have whose last piece has so many bytes
@@ -21,7 +24,7 @@ next_count : (total k last : ℕ) → total ≡ k * piece_length + last → 1 �
 next_count total k last is least limit = let bounds = div_ceil_times total piece_length (omega arith) in omega (arith, bounds.0, bounds.1, is, least, limit)
 
 -- the piece at a place, counted from 0
-abbrev piece : Bytes → ℕ → Bytes
+abbrev pub piece : Bytes → ℕ → Bytes
 piece contents k = take piece_length (drop (k * piece_length) contents)
 
 by_place : (contents : Bytes) (n : ℕ) → piece_count (length contents) ≡ n → pieces_in contents ≡ map (piece contents) (range_with_len 0 n)
@@ -40,6 +43,41 @@ same_pieces contents bytes from (suc n) within = ap₂ ◌∷◌ (same_piece con
 
 last_piece : (contents bytes : Bytes) (k : ℕ) → length contents ≡ k * piece_length → length bytes ≤ piece_length → piece (contents ++ bytes) k ≡ bytes
 last_piece contents bytes k whole limit = ap (λ n. take piece_length (drop n (contents ++ bytes))) (sym whole) ∙ ap (take piece_length) (drop-append_seam contents bytes) ∙ take_all piece_length bytes limit
+
+-- how many there are
+pub count_pieces : (contents : Bytes) → length (pieces_in contents) ≡ piece_count (length contents)
+count_pieces contents = ap length (by_place contents (piece_count (length contents)) refl) ∙ length-map-range_with_len (piece contents) 0 (piece_count (length contents))
+
+nth_in_row : (a n k x : ℕ) → slice_get (range_with_len a n) k ≡ Some x → x ≡ a + k
+nth_in_row a zero k x is = absurd cc
+nth_in_row a (suc n) zero x is = let same : a ≡ x = cc in omega (arith, same)
+nth_in_row a (suc n) (suc k) x is = omega (arith, nth_in_row (a + 1) n k x is)
+
+-- the piece at a place
+pub nth_piece : (contents bytes : Bytes) (k : ℕ) → slice_get (pieces_in contents) k ≡ Some bytes → bytes ≡ piece contents k
+nth_piece contents bytes k is = go (slice_get row k) refl (sym (slice_get-map (piece contents) row k) ∙ ap (λ l. slice_get l k) (sym (by_place contents (piece_count (length contents)) refl)) ∙ is)
+  where
+    row : List ℕ
+    row = range_with_len 0 (piece_count (length contents))
+
+    go : (o : Option ℕ) → slice_get row k ≡ o → option_map (piece contents) (slice_get row k) ≡ Some bytes → bytes ≡ piece contents k
+    go None none mapped = let no : None ≡ Some bytes = sym (ap (option_map (piece contents)) none) ∙ mapped in absurd cc
+    go (Some n) at mapped =
+        let here : n ≡ k = omega (arith, nth_in_row 0 (piece_count (length contents)) k n at) in
+        let it : Some (piece contents n) ≡ Some bytes = sym (ap (option_map (piece contents)) at) ∙ mapped in
+        let same : piece contents n ≡ bytes = cc in
+        sym same ∙ ap (piece contents) here
+
+-- contents of the same pieces are the same
+joined : {X : Type 0} (f : X → Bytes) (xs : List X) → flat_map (λ (b : Bytes). b) (map f xs) ≡ flat_map f xs
+joined f [] = refl
+joined f (x ∷ xs) = ap (λ l. f x ++ l) (joined f xs)
+
+pub same_contents : (a b : Bytes) → pieces_in a ≡ pieces_in b → a ≡ b
+same_contents a b same = sym (whole a) ∙ ap (flat_map (λ (bytes : Bytes). bytes)) same ∙ whole b
+  where
+    whole : (c : Bytes) → flat_map (λ (bytes : Bytes). bytes) (pieces_in c) ≡ c
+    whole c = joined (piece_bytes c) (pieces_of (length c)) ∙ pieces_make_the_whole c
 
 -- how many there are of contents in whole pieces
 pub count_whole : (contents : Bytes) (k : ℕ) → length contents ≡ k * piece_length → length (pieces_in contents) ≡ k

@@ -23,4 +23,5 @@ pub mod Tables
 pub mod Listings
 pub mod TableRows
 pub mod PlaceLists
+pub mod FoundPieces
 pub mod CheckedRows

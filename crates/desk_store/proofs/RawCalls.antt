@@ -41,6 +41,16 @@ use Rattle.desk_store.proofs.TargetCalls.{same_count}
 abbrev pub FindsOf : {A : Type 0} → State → State → Result A Fault → (Tables → A → Type 0) → Type 0
 FindsOf old new out Answer = Finds HoldsTables (λ (t : Tables). t) old new out Answer
 
+-- what is read of the rows that a text shows
+module _ {A : Type 0} (sql : List ℕ) (params : Row) (old new : State) (knows : Knows HoldsTables sql) (Answer : Tables → A → Type 0) (Read : A → Type 0) (rows : Vec Row Global)
+    (means : (db : Database) (t : Tables) (holds : HoldsTables db t) (found : A) → Shows (knows db t holds).command db params rows.items → Read found → Answer t found) where
+  answered : (out : Result A Fault) → IfOk out Read → IfOk out (λ found. (db : Database) (t : Tables) (holds : HoldsTables db t) → Shows (knows db t holds).command db params rows.items → Answer t found)
+  answered (Ok found) read = λ db t holds shows. means db t holds found shows read
+  answered (Err e) read = tt
+
+  pub all_read : AsksText old new sql params (Ok rows) → (out : Result A Fault) → IfOk out Read → FindsOf old new out Answer
+  all_read h out read = ask_finds HoldsTables (λ (t : Tables). t) sql params old new Answer knows rows h out (answered out read)
+
 -- ---- counts
 
 module _ (p : Place) (sql : List ℕ) (means : (s : Schema) (at tree : ℕ) → Stands s (name_of p) at (table_at p tree) → Means s sql (Select (record { lets = []; body = count_query tree }) (codes "count(*)" ∷ []))) where
@@ -84,12 +94,8 @@ Places r t found = ListsPlaces (t Members) r (option_map vec_items found)
 
 pub places_read : (r : ℕ) → is_number r ≡ true → (old new : State) (rows : Vec Row Global) → AsksText old new LIST_PLACES.now (Int (pos r) ∷ []) (Ok rows) → (out : Result (Option (Vec PlacedMember Global)) Fault)
     → IfOk out (λ found. AreRead IsPlacedRow keeps_member_rules rows.items (option_map vec_items found)) → FindsOf old new out (Places r)
-places_read r good old new rows h out read = ask_finds HoldsTables (λ (t : Tables). t) LIST_PLACES.now (Int (pos r) ∷ []) old new (Places r) listing_any rows h out (answers out read)
-  where
-    answers : (out : Result (Option (Vec PlacedMember Global)) Fault) → IfOk out (λ found. AreRead IsPlacedRow keeps_member_rules rows.items (option_map vec_items found))
-        → IfOk out (λ found. (db : Database) (t : Tables) (holds : HoldsTables db t) → Shows (listing_any db t holds).command db (Int (pos r) ∷ []) rows.items → Places r t found)
-    answers (Ok found) read = λ db t holds shows. lists_places db t holds placed_names r good rows.items shows (option_map vec_items found) read
-    answers (Err e) read = tt
+places_read r good old new rows = all_read LIST_PLACES.now (Int (pos r) ∷ []) old new listing_any (Places r) (λ found. AreRead IsPlacedRow keeps_member_rules rows.items (option_map vec_items found)) rows
+    (λ db t holds found shows read. lists_places db t holds placed_names r good rows.items shows (option_map vec_items found) read)
 
 -- ---- rollouts
 

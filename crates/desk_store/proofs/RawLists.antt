@@ -38,12 +38,12 @@ use Rattle.desk_records.specs.declared.rollout_texts.TheConstants.{LIST_GROUPS}
 use Rattle.desk_records.proofs.ActionMeaning.{list_offers_is, owned_columns, owned_names}
 use Rattle.desk_records.proofs.AnyRows.{are_said, broken}
 use Rattle.desk_records.proofs.ArtifactMeaning.{all_artifacts_query, all_columns, all_names, list_all_artifacts_is}
-use Rattle.desk_records.proofs.NumberColumns.{is_number_in, number_is, passes_at, small_is}
+use Rattle.desk_records.proofs.NumberColumns.{is_number_in, number_in_good, number_in_is, number_is, passes_at}
 use Rattle.desk_records.proofs.RolloutMeaning.{group_columns, group_names, list_groups_is, list_groups_query, of_rollout}
 use Rattle.desk_records.proofs.TableColumns.{integer_at}
 use Rattle.desk_store.specs.RawLists.{IsKeptGroupRow, ListsRows, SaysArtifact, SaysGroup, SaysOffer, any_row}
 use Rattle.desk_store.proofs.Known.{ledger_knows, tables_know}
-use Rattle.desk_store.proofs.RawCalls.{FindsOf}
+use Rattle.desk_store.proofs.RawCalls.{FindsOf, all_read}
 
 -- ---- any list of one table
 
@@ -68,26 +68,13 @@ module _ (p : Place) (sql : List ℕ) (test columns : List Term) (order : List (
     lists db t holds shown shows None fails =
         broken (holds.spot p).tree test columns order limit offset params db.trees (t p) (holds.rows p) (whole (holds.spot p).tree) passing (judged db t holds) shown (shows.answer Null) says keeps (λ row among. kept_by row) fails
 
-    answers : (rows : Vec Row Global) (out : Result (Option (Vec A Global)) Fault) → IfOk out (λ found. AreRead is keeps rows.items (option_map vec_items found))
-        → IfOk out (λ found. (db : Database) (t : Tables) (holds : HoldsTables db t) → Shows (listed db t holds).command db params rows.items → Lists t found)
-    answers rows (Ok found) read = λ db t holds shows. lists db t holds rows.items shows (option_map vec_items found) read
-    answers rows (Err e) read = tt
-
     pub rows_read : (old new : State) (rows : Vec Row Global) → AsksText old new sql params (Ok rows) → (out : Result (Option (Vec A Global)) Fault) → IfOk out (λ found. AreRead is keeps rows.items (option_map vec_items found)) → FindsOf old new out Lists
-    rows_read old new rows h out read = ask_finds HoldsTables (λ (t : Tables). t) sql params old new Lists listed rows h out (answers rows out read)
+    rows_read old new rows = all_read sql params old new listed Lists (λ found. AreRead is keeps rows.items (option_map vec_items found)) rows (λ db t holds found shows read. lists db t holds rows.items shows (option_map vec_items found) read)
 
 -- ---- artifacts
 
 good_in : (v : Value) (n : ℕ) → number_in v ≡ Some n → has_number v ≡ true
-good_in v n h = go (small_number v) refl h
-  where
-    kept : (m : ℕ) (b : Bool) → is_number m ≡ b → cond b (Some m) None ≡ Some n → is_number m ≡ true
-    kept m true good e = good
-    kept m false bad e = absurd cc
-
-    go : (o : Option ℕ) → small_number v ≡ o → option_and_then number_of o ≡ Some n → has_number v ≡ true
-    go None is e = absurd cc
-    go (Some m) is e = rw (small_is v m is) (kept m (is_number m) refl e)
+good_in v n h = rw (number_in_is v n h) (number_in_good v n h)
 
 says_artifact : (row : Row) → any_row row ≡ true → (a : CheckedArtifact) → IsCheckedArtifactRow (shown_of all_columns [] row) a → SaysArtifact row a
 says_artifact row any a is = record { number_is = rw is.number (is_number_in a.number (ap has_number (sym is.number) ∙ is.good)); shows = is.artifact; kept = is.kept }

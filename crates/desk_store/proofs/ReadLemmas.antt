@@ -21,6 +21,13 @@ pub read_more : {A : Type 0} (is : Row → A → Type 0) (rows : List Row) (foun
 read_more is rows found at row one within same so_far has =
     subst (λ l. AreReadAs is l (found ++ one ∷ [])) (sym (take_more rows at row within)) (all_zipped_more is (take at rows) found (get_or rows at row) one so_far (subst (λ r. is r one) same has))
 
+-- what is read of the rows, by a part of it
+pub read_mapped : {A B : Type 0} (f : A → B) (is : Row → B → Type 0) (rows : List Row) (found : List A) → AreReadAs (λ row a. is row (f a)) rows found → AreReadAs is rows (map f found)
+read_mapped f is [] [] h = h
+read_mapped f is [] (a ∷ found) h = absurd h
+read_mapped f is (row ∷ rows) [] h = absurd h
+read_mapped f is (row ∷ rows) (a ∷ found) h = (h.0, read_mapped f is rows found h.1)
+
 module _ {A B : Type 0} (is : Row → A → Type 0) (row_of : B → Row) where
   -- what is read of one row tells of what the row was made of, and so does what is read of none
   pub one_read : (Tells : Option A → Option B → Type 0) → Tells None None → ((a : A) (b : B) → is (row_of b) a → Tells (Some a) (Some b))

@@ -1,7 +1,10 @@
+mod PieceChecks
+mod ArtifactLemmas
 mod Counting
 mod Follow
 mod MemberLemmas
 mod Naming
 mod ListMembers
 mod MemberLaw
+mod ArtifactLaw
 pub mod NeverNamed

@@ -1,12 +1,10 @@
 -- The table of members agrees where records of accepted commands are held.
 use Rattle.std.proofs.Common.{◌≡◌, ◌⊎◌, inl, inr, ◌≤◌, ◌<◌, ℕ, zero, suc, ◌+◌, pos, true, List, ◌∷◌, length, refl, sym, ap, subst, ◌∙◌, arith}
-use Rattle.std.proofs.lemmas.Bool.Decides.{nat_tests}
 use Rattle.sqlite_value.specs.declared.value.Value.TheVariants.{Int, Null}
 use Rattle.sqlite_value.specs.Order.{Row}
 use Rattle.sqlite.specs.Effect.{Database}
 use Rattle.sqlite_rules.specs.Lists.{Has}
 use Rattle.sql_calls.specs.Keyed.{IsHeldBy}
-use Rattle.rollout_model.specs.Limits.{rollout_limit}
 use Rattle.rollout_model.specs.Rules.{is_number, is_word}
 use Rattle.rollout_machine.specs.Commands.{Bytes}
 use Rattle.rollout_machine.specs.CommandList.{CommandList}
@@ -19,7 +17,7 @@ use Rattle.desk_records.specs.Schema.{Members, Rollouts}
 use Rattle.desk_records.specs.TableRows.{IsMember}
 use Rattle.desk_records.specs.Tables.{HoldsTables, Tables}
 use Rattle.desk_records.proofs.HeldTables.{IsPart, held_rows, numbered, of_part, row_numbered, row_of, wanted_of}
-use Rattle.desk_records.proofs.NumberColumns.{has_own_number, is_number_in, is_small}
+use Rattle.desk_records.proofs.NumberColumns.{has_own_number, is_in_range, is_number_in, is_small}
 use Rattle.desk_verify.specs.Members.{AgreesMembers, HasPlace}
 use Rattle.desk_verify.specs.Rollouts.{IsThere}
 use Rattle.desk_verify.proofs.ListMembers.{AreIds, few_rollouts, member_ids}
@@ -29,9 +27,6 @@ members_in x = x.members
 
 said : (n number place : ℕ) (id : Bytes) → is_number number ≡ true → place ≤ 10000 → is_word id ≡ true → IsMember (Int (pos n) ∷ member_row number place id) number place id
 said n number place id good few word = record { rollout_is = is_number_in number good; place_is = is_small place (omega (arith, few)); id_is = refl; word = word }
-
-good_number : (n : ℕ) → 1 ≤ n → n ≤ rollout_limit → is_number n ≡ true
-good_number n low high = grind (arith, nat_tests, low, high)
 
 -- a rollout's number is there where the ledger has so many rollouts
 there : (db : Database) (l : Ledger) → HoldsLedger db l → (t : Tables) → HoldsTables db t → (n : ℕ) → 1 ≤ n → n < 1 + length l.records.rollouts → IsThere t n
@@ -45,7 +40,7 @@ members_agree h valid db t held holds row among =
     let it = numbered (member_row of.number) 1 of.whole.members content.1 of.among in
     let ids = member_ids h valid of.whole of.has in
     let is : row ≡ Int (pos content.0) ∷ member_row of.number it.at it.one = content.3 ∙ ap (λ x. Int (pos content.0) ∷ x) it.is in
-    let good = good_number of.number of.low (omega (arith, of.high, few_rollouts h valid)) in
+    let good = is_in_range of.number of.low (omega (arith, of.high, few_rollouts h valid)) in
     record {
       rollout = of.number;
       place = it.at;

@@ -2,6 +2,7 @@
 use Rattle.std.specs.Prelude.{◌≡◌, Bool, true, false, List, [], ◌∷◌, ◌++◌, Option, Some, None, ⊤}
 use Rattle.std.specs.List.{AllByRecursion}
 use Rattle.desk_records.specs.Tables.{Tables}
+use Rattle.desk_verify.specs.Artifacts.{AgreesArtifacts}
 use Rattle.desk_verify.specs.Members.{AgreesMembers}
 use Rattle.desk_verify.specs.declared.damage.CheckedTable.{CheckedTable}
 use Rattle.desk_verify.specs.declared.damage.CheckedTable.TheVariants.{Artifact, Member, RolloutGroup, Action, Offer}
@@ -12,7 +13,7 @@ checked = Artifact ∷ Member ∷ RolloutGroup ∷ Action ∷ Offer ∷ []
 
 -- It has exactly the rows that its rule gives, each column keeping its rule. Of the tables without a rule nothing is asked yet.
 abbrev pub Agrees : Tables → CheckedTable → Type 0
-Agrees t Artifact = ⊤
+Agrees t Artifact = AgreesArtifacts t
 Agrees t Member = AgreesMembers t
 Agrees t RolloutGroup = ⊤
 Agrees t Action = ⊤

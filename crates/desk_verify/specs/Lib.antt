@@ -1,5 +1,7 @@
 pub mod Names
 pub mod Agreement
+pub mod Artifacts
+pub mod ArtifactChecks
 pub mod Rollouts
 pub mod Members
 pub mod Following

@@ -4,6 +4,7 @@ ghost use Rattle.desk_verify.specs.Agreement.{Agrees, Decides, IsDamage};
 ghost use Rattle.desk_verify.specs.Promises.{NamesNone};
 ghost use Rattle.desk_store.specs.Changing.{FindsTables, StaysIn, seen_in};
 
+use crate::artifacts::check_artifacts;
 use crate::damage::CheckedTable;
 use crate::members::check_members;
 use desk_store::{Fault, OpenChange};
@@ -46,10 +47,8 @@ fn check_table<S: Alter>(change: &mut OpenChange<'_, S>, table: CheckedTable) ->
     ensures judges { FindsTables S.Store change.old change.new result (λ t agrees. Decides (Agrees t table) agrees) }
 {
     match table {
+        CheckedTable::Artifact => check_artifacts(change),
         CheckedTable::Member => check_members(change),
-        CheckedTable::Artifact
-        | CheckedTable::RolloutGroup
-        | CheckedTable::Action
-        | CheckedTable::Offer => Ok(true),
+        CheckedTable::RolloutGroup | CheckedTable::Action | CheckedTable::Offer => Ok(true),
     }
 }

@@ -1,6 +1,8 @@
 //! Whether the tables of a desk agree with what each of them is to have, whatever rows they have.
 #![tactic(auto)]
 
+mod artifacts;
+mod contents;
 mod damage;
 mod finding;
 mod laws;

@@ -28,7 +28,8 @@ use Rattle.std.specs.Option.{unwrap_or}
 use Rattle.std.specs.List.{list_any}
 use Rattle.std.proofs.lemmas.Bool.{and_parts, eqb-true, false≢true}
 use Rattle.sqlite_keyed.proofs.SliceLemmas.{All-find}
-use Rattle.rollout_desk.proofs.PieceLemmas.{IsWhole, all_whole, is_whole}
+use Rattle.desk_records.proofs.WholeArtifacts.{IsWhole, all_whole}
+use Rattle.rollout_desk.proofs.PieceLemmas.{is_whole}
 use Rattle.rollout_desk.specs.Promises.{Describes, DownloadsItsOffer, IsPromised, IsTarget, KeepsToOffers, NamesItsOffer, ShowsWhole, asker, offer_named}
 
 -- ---- the device is a target

@@ -1,0 +1,44 @@
+-- What GET_PIECE shows, whatever rows the table of pieces has.
+use Rattle.std.proofs.Common.{◌≡◌, ℕ, pos, true, List, [], ◌∷◌, refl}
+use Rattle.std.specs.List.{AllZip}
+use Rattle.std.proofs.lemmas.Bool.{and_parts}
+use Rattle.sqlite_value.specs.declared.value.Value.TheVariants.{Null, Int}
+use Rattle.sqlite_value.specs.Order.{Row, column}
+use Rattle.sqlite.specs.Command.TheVariants.{Select}
+use Rattle.sqlite.specs.Effect.{Database, Reads as Shows}
+use Rattle.sqlite.specs.Query.{Query}
+use Rattle.sqlite.specs.Term.{col}
+use Rattle.sqlite_rules.specs.Lists.{Has}
+use Rattle.sql_calls.proofs.Selects.{passes, simple}
+use Rattle.rollout_machine.specs.Commands.{Bytes}
+use Rattle.desk_records.specs.ArtifactRow.{StoredBytes}
+use Rattle.desk_records.specs.FoundPieces.{ArePieces, lies_at}
+use Rattle.desk_records.specs.Listings.{has_at}
+use Rattle.desk_records.specs.Schema.{Pieces}
+use Rattle.desk_records.specs.TableRows.{IsPiece}
+use Rattle.desk_records.specs.Tables.{HoldsTables, Tables}
+use Rattle.desk_records.proofs.AnyRows.{are_said}
+use Rattle.desk_records.proofs.ArtifactMeaning.{at_piece}
+use Rattle.desk_records.proofs.NumberColumns.{number_is, passes_two}
+use Rattle.desk_records.proofs.TableColumns.{integer_at}
+
+module _ (db : Database) (t : Tables) (holds : HoldsTables db t) (names : List (List ℕ)) where
+  module _ (number place : ℕ) (shown : List Row) (shows : Shows (Select (record { lets = []; body = simple (holds.spot Pieces).tree at_piece (col 1 3 ∷ []) }) names) db (Int (pos number) ∷ Int (pos place) ∷ []) shown) where
+    abbrev its : Query
+    its = simple (holds.spot Pieces).tree at_piece (col 1 3 ∷ [])
+
+    judged : (row : Row) → Has (t Pieces) row → passes at_piece (Int (pos number) ∷ Int (pos place) ∷ []) row ≡ lies_at number place row
+    judged row among =
+        let first = integer_at db t holds Pieces row among 0 (record { c = _; there = refl; kind_is = refl; strict = refl; filled = refl; apart = refl }) in
+        let second = integer_at db t holds Pieces row among 1 (record { c = _; there = refl; kind_is = refl; strict = refl; filled = refl; apart = refl }) in
+        passes_two row 1 2 number place first.0 second.0 first.1 second.1
+
+    means : (row : Row) → Has (t Pieces) row → lies_at number place row ≡ true → (bytes : Bytes) → column row 3 ≡ StoredBytes bytes → IsPiece row number place bytes
+    means row among lies bytes is =
+        let parts = and_parts (has_at 1 number row) (has_at 2 place row) lies in
+        record { number_is = number_is (column row 1) number parts.0; sequence_is = number_is (column row 2) place parts.1; bytes_are = is }
+
+    pub lists_pieces : (pieces : List Bytes) → AllZip (λ row bytes. column row 0 ≡ StoredBytes bytes) shown pieces → ArePieces (t Pieces) number place pieces
+    lists_pieces pieces reads =
+        are_said (holds.spot Pieces).tree at_piece (col 1 3 ∷ []) its.order its.limit its.offset (Int (pos number) ∷ Int (pos place) ∷ []) db.trees (t Pieces) (holds.rows Pieces) (λ xs. refl) (lies_at number place) judged shown (shows.answer Null)
+        (λ row bytes. column row 0 ≡ StoredBytes bytes) (λ row bytes. IsPiece row number place bytes) means pieces reads

@@ -1,0 +1,98 @@
+-- What the reads of the tables of artifacts and pieces come to.
+use Rattle.std.proofs.Common.{◌≡◌, ℕ, suc, ◌+◌, Bool, true, false, not, true≢false, List, [], ◌∷◌, map, length, nat_eq, Vec, vec_items, Option, Some, None, refl, sym, ap, subst, ◌∙◌, arith}
+use Rattle.std.specs.List.{AllByRecursion}
+use Rattle.std.specs.Cmp.Lexicographic.{pointwise}
+use Rattle.std.specs.declared.alloc.Global.{Global}
+use Rattle.std.proofs.lemmas.Bool.Decides.{Decides-eqb, nat_tests}
+use Rattle.std.proofs.lemmas.Slice.Eq.{slice_eq-Decides}
+use Rattle.sqlite_value.specs.declared.value.Value.TheVariants.{Blob, Int}
+use Rattle.sqlite_value.specs.Order.{Row, column}
+use Rattle.sqlite_rules.specs.Lists.{Has}
+use Rattle.sqlite_rules.proofs.ListLemmas.{all_from, all_has}
+use Rattle.artifact_pieces.specs.Digests.{digest_of}
+use Rattle.artifact_pieces.specs.Pieces.{piece_count}
+use Rattle.rollout_machine.specs.Commands.{Bytes}
+use Rattle.desk_records.specs.FoundPieces.{ArePieces}
+use Rattle.desk_records.specs.Artifacts.{pieces_in}
+use Rattle.desk_records.specs.Schema.{Artifacts, Pieces}
+use Rattle.desk_records.specs.Tables.{Tables}
+use Rattle.desk_records.specs.declared.checked_rows.CheckedArtifact.{CheckedArtifact}
+use Rattle.desk_records.proofs.NumberColumns.{number_in_is, one_number}
+use Rattle.desk_records.proofs.PieceLists.{count_pieces}
+use Rattle.desk_store.specs.RawLists.{ListsRows, SaysArtifact, any_row}
+use Rattle.desk_verify.specs.Agreement.{Decides}
+use Rattle.desk_verify.specs.ArtifactChecks.{HasDigest, HashesPieces}
+use Rattle.desk_verify.specs.Artifacts.{AgreesArtifacts, IsWhole}
+use Rattle.desk_verify.proofs.PieceChecks.{none_found, one_whole}
+
+-- ---- one artifact
+
+pub are_other : (xs ys : Bytes) (r : Bool) → r ≡ not (pointwise nat_eq xs ys) → r ≡ true → xs ≡ ys → ⊥
+are_other xs ys r is told same = true≢false (sym told ∙ is ∙ ap not ((slice_eq-Decides Decides-eqb xs ys (pointwise nat_eq xs ys) refl).1 same))
+
+pub are_same : (xs ys : Bytes) (r : Bool) → r ≡ not (pointwise nat_eq xs ys) → r ≡ false → xs ≡ ys
+are_same xs ys r is told = (slice_eq-Decides Decides-eqb xs ys (pointwise nat_eq xs ys) refl).0 (not_not (pointwise nat_eq xs ys) (sym is ∙ told))
+  where
+    not_not : (b : Bool) → not b ≡ false → b ≡ true
+    not_not true h = refl
+    not_not false h = absurd (true≢false h)
+
+pub no_contents : (t : Tables) (a : CheckedArtifact) → HashesPieces t a.number a.artifact.size None → Decides (IsWhole t a) false
+no_contents t a none whole = none whole.contents whole.size whole.pieces
+
+pub other_digest : (t : Tables) (a : CheckedArtifact) (digest : Bytes) → HashesPieces t a.number a.artifact.size (Some digest) → (digest ≡ a.artifact.digest → ⊥) → Decides (IsWhole t a) false
+other_digest t a digest has other whole =
+    let same = one_whole t a.number has.contents whole.contents (has.long ∙ sym whole.size) has.pieces whole.pieces in
+    other (has.is ∙ ap digest_of same ∙ whole.digest)
+
+-- what lies behind the last piece decides
+pub by_end : (t : Tables) (a : CheckedArtifact) (digest : Bytes) (behind : List (Vec ℕ Global)) (count place : ℕ) (none : Bool) → HashesPieces t a.number a.artifact.size (Some digest) → digest ≡ a.artifact.digest → count ≡ piece_count a.artifact.size
+    → place ≡ count + 1 → ArePieces (t Pieces) a.number place (map vec_items behind) → none ≡ nat_eq (length behind) 0 → Decides (IsWhole t a) none
+by_end t a digest behind count place none has is so_many at lies is_none = subst (Decides (IsWhole t a)) (sym is_none) (go behind lies)
+  where
+    here : (contents : Bytes) → length contents ≡ a.artifact.size → place ≡ length (pieces_in contents) + 1
+    here contents long = let many = count_pieces contents ∙ ap piece_count long in omega (arith, at, so_many, many)
+
+    some : (n : ℕ) → nat_eq (suc n) 0 ≡ false
+    some n = grind (arith, nat_tests)
+
+    go : (behind : List (Vec ℕ Global)) → ArePieces (t Pieces) a.number place (map vec_items behind) → Decides (IsWhole t a) (nat_eq (length behind) 0)
+    go [] lies = record {
+      contents = has.contents;
+      size = has.long;
+      digest = sym has.is ∙ is;
+      pieces = has.pieces;
+      end = subst (λ n. ArePieces (t Pieces) a.number n []) (here has.contents has.long) lies;
+    }
+    go (piece ∷ more) lies = subst (Decides (IsWhole t a)) (sym (some (length more))) (λ whole.
+        let none = none_found (t Pieces) a.number place (piece.items ∷ map vec_items more) (subst (λ n. ArePieces (t Pieces) a.number n []) (sym (here whole.contents whole.size)) whole.end) lies in
+        omega (arith, none))
+
+-- ---- all of them
+
+-- a row says one artifact
+same_whole : (t : Tables) (row : Row) (a b : CheckedArtifact) → SaysArtifact row a → SaysArtifact row b → IsWhole t a → IsWhole t b
+same_whole t row a b says_a says_b whole =
+    let number : a.number ≡ b.number = one_number (column row 0) a.number b.number (number_in_is _ _ says_a.number_is) (number_in_is _ _ says_b.number_is) in
+    let size : a.artifact.size ≡ b.artifact.size = one_number (column row 4) a.artifact.size b.artifact.size says_a.shows.size says_b.shows.size in
+    let both : Blob a.artifact.digest ≡ Blob b.artifact.digest = sym says_a.shows.digest ∙ says_b.shows.digest in
+    let digest : a.artifact.digest ≡ b.artifact.digest = cc in
+    record {
+      contents = whole.contents;
+      size = whole.size ∙ size;
+      digest = whole.digest ∙ digest;
+      pieces = λ k piece is. subst (λ n. ArePieces (t Pieces) n (k + 1) (piece ∷ [])) number (whole.pieces k piece is);
+      end = subst (λ n. ArePieces (t Pieces) n (length (pieces_in whole.contents) + 1) []) number whole.end;
+    }
+
+pub row_broken : (t : Tables) → ListsRows (t Artifacts) any_row SaysArtifact None → Decides (AgreesArtifacts t) false
+row_broken t broken agree = let it = agree broken.row broken.among in broken.breaks it.artifact it.is
+
+pub by_each : (t : Tables) (artifacts : List CheckedArtifact) (whole : Bool) → ListsRows (t Artifacts) any_row SaysArtifact (Some artifacts) → Decides (AllByRecursion (IsWhole t) artifacts) whole → Decides (AgreesArtifacts t) whole
+by_each t artifacts true are each = λ row among.
+    let it = are.complete row among refl in
+    record { artifact = it.one; is = it.is; whole = all_has (IsWhole t) artifacts it.one each it.among }
+by_each t artifacts false are other = λ agree. other (all_from (IsWhole t) artifacts (λ a among.
+    let said = are.sound a among in
+    let it = agree said.row said.among in
+    same_whole t said.row it.artifact a it.is said.is it.whole))

@@ -1,0 +1,148 @@
+-- What is found at the places of an artifact, one after the other.
+use Rattle.std.proofs.Common.{◌≡◌, ◌≤◌, ◌<◌, ◌⊎◌, inl, inr, ◌++◌, ℕ, zero, suc, ◌+◌, ◌-◌, ◌*◌, Bool, true, false, List, [], ◌∷◌, length, map, slice_get, get_or, min, take, drop, Vec, vec_items, Option, Some, None, refl, sym, ap, ap₂, subst, ◌∙◌, arith, length-append}
+use Rattle.std.specs.declared.alloc.Global.{Global}
+use Rattle.std.proofs.lemmas.Grind.{div_ceil_times}
+use Rattle.std.proofs.lemmas.List.{length-drop, length-take}
+use Rattle.std.proofs.lemmas.Option.{slice_get_cases, slice_get_within}
+use Rattle.sqlite_value.specs.declared.value.Value.TheVariants.{Blob}
+use Rattle.sqlite_value.specs.Order.{Row, column}
+use Rattle.sqlite_rules.specs.Lists.{Has}
+use Rattle.sha2.specs.Hashers.{Holds256}
+use Rattle.sha2.specs.declared.Sha256.{Sha256}
+use Rattle.artifact_pieces.specs.Digests.{digest_of}
+use Rattle.artifact_pieces.specs.Pieces.{piece_count}
+use Rattle.rollout_model.specs.Limits.{piece_length}
+use Rattle.rollout_machine.specs.Commands.{Bytes}
+use Rattle.desk_records.specs.FoundPieces.{ArePieces}
+use Rattle.desk_records.specs.Artifacts.{pieces_in}
+use Rattle.desk_records.specs.Schema.{Pieces}
+use Rattle.desk_records.specs.Tables.{Tables}
+use Rattle.desk_records.proofs.PieceLists.{count_pieces, count_whole, nth_piece, one_more, same_contents}
+use Rattle.desk_verify.specs.ArtifactChecks.{HasDigest, HashesPiece, HashesPieces, IsHashed}
+use Rattle.desk_verify.specs.Artifacts.{HasPieces}
+
+-- ---- what lies at one place
+
+only : {X : Type 0} (x y : X) → Has (x ∷ []) y → y ≡ x
+only x y (inl same) = same
+only x y (inr none) = absurd none
+
+-- where a piece lies alone, it is all that is found
+pub alone : (rows : List Row) (number place : ℕ) (piece : Bytes) (found : List Bytes) → ArePieces rows number place (piece ∷ []) → ArePieces rows number place found → found ≡ piece ∷ []
+alone rows number place piece found one all = go found all (all.count ∙ sym one.count)
+  where
+    go : (found : List Bytes) → ArePieces rows number place found → length found ≡ 1 → found ≡ piece ∷ []
+    go [] all count = absurd (omega (arith, count))
+    go (x ∷ []) all count =
+        let it = all.sound x (inl refl) in
+        let other = one.complete it.row it.among it.passes in
+        let same : Blob x ≡ Blob other.one = sym it.is.bytes_are ∙ other.is.bytes_are in
+        let bytes : x ≡ other.one = cc in
+        ap (λ (b : Bytes). b ∷ []) (bytes ∙ only piece other.one other.among)
+    go (x ∷ y ∷ found) all count = absurd (omega (arith, count))
+
+-- where none lies, none is found
+pub none_found : (rows : List Row) (number place : ℕ) (found : List Bytes) → ArePieces rows number place [] → ArePieces rows number place found → length found ≡ 0
+none_found rows number place found none all = all.count ∙ sym none.count
+
+-- one of another length is none of this length
+pub other_length : (t : Tables) (number place size : ℕ) (found : List (Vec ℕ Global)) (one : Vec ℕ Global) → length found ≡ 1 → one ≡ get_or found 0 one → (length one.items ≡ size → ⊥) → ArePieces (t Pieces) number place (map vec_items found)
+    → (piece : Bytes) → length piece ≡ size → ArePieces (t Pieces) number place (piece ∷ []) → ⊥
+other_length t number place size [] one single is other all piece long lies = absurd (omega (arith, single))
+other_length t number place size (x ∷ []) one single is other all piece long lies =
+    let same : x.items ∷ [] ≡ piece ∷ [] = alone (t Pieces) number place piece (x.items ∷ []) lies all in
+    let bytes : x.items ≡ piece = cc in
+    other (ap (λ (v : Vec ℕ Global). length v.items) is ∙ ap length bytes ∙ long)
+other_length t number place size (x ∷ y ∷ found) one single is other all piece long lies = absurd (omega (arith, single))
+
+-- ---- one place after the other
+
+-- the first pieces of contents of this size were hashed
+pub record IsHashedTo (t : Tables) (number size k : ℕ) (hasher : Sha256) : Type 0 where
+  pub contents : Bytes
+  pub holds : Holds256 hasher contents
+  pub long : length contents ≡ min (k * piece_length) size
+  pub count : length (pieces_in contents) ≡ k
+  pub pieces : HasPieces t number contents
+
+pub none_hashed : (t : Tables) (number size : ℕ) (hasher : Sha256) → Holds256 hasher [] → IsHashedTo t number size 0 hasher
+none_hashed t number size hasher holds = record {
+  contents = [];
+  holds = holds;
+  long = omega arith;
+  count = count_whole [] 0 refl;
+  pieces = λ k piece is. absurd (let within = slice_get_within (pieces_in []) k piece is in let none = count_whole [] 0 refl in omega (arith, within, none));
+}
+
+pushed : {X : Type 0} (xs : List X) (x : X) (k : ℕ) (y : X) → slice_get (xs ++ x ∷ []) k ≡ Some y → (slice_get xs k ≡ Some y) ⊎ ((k ≡ length xs) × (y ≡ x))
+pushed [] x zero y is = let same : x ≡ y = cc in inr (refl, sym same)
+pushed [] x (suc k) y is = absurd cc
+pushed (z ∷ xs) x zero y is = inl is
+pushed (z ∷ xs) x (suc k) y is = elim (pushed xs x k y is) [ inl it ↦ inl it | inr it ↦ inr (ap suc it.0, it.1) ]
+
+-- a place before the last is within the contents
+within_size : (size k : ℕ) → k < piece_count size → k * piece_length < size
+within_size size k few = let bounds = div_ceil_times size piece_length (omega arith) in omega (arith, few, bounds.0, bounds.1)
+
+pub more_hashed : (t : Tables) (number size k asked : ℕ) (old new : Sha256) → k < piece_count size → asked ≡ min (size - k * piece_length) piece_length → IsHashedTo t number size k old → IsHashed t number (k + 1) asked old new → IsHashedTo t number size (k + 1) new
+more_hashed t number size k asked old new few is so_far next = record {
+  contents = so_far.contents ++ next.piece;
+  holds = next.hashed so_far.contents so_far.holds;
+  long = let sum = length-append so_far.contents next.piece in omega (arith, sum, whole, next.long, is, within);
+  count = let sum = length-append (pieces_in so_far.contents) (next.piece ∷ []) in ap length grown ∙ omega (arith, sum, so_far.count);
+  pieces = λ at piece is. found at piece (pushed (pieces_in so_far.contents) next.piece at piece (subst (λ l. slice_get l at ≡ Some piece) grown is));
+}
+  where
+    within : k * piece_length < size
+    within = within_size size k few
+
+    whole : length so_far.contents ≡ k * piece_length
+    whole = omega (arith, so_far.long, within)
+
+    grown : pieces_in (so_far.contents ++ next.piece) ≡ pieces_in so_far.contents ++ next.piece ∷ []
+    grown = one_more so_far.contents next.piece k whole (omega (arith, next.long, is, within)) (omega (arith, next.long, is))
+
+    found : (at : ℕ) (piece : Bytes) → (slice_get (pieces_in so_far.contents) at ≡ Some piece) ⊎ ((at ≡ length (pieces_in so_far.contents)) × (piece ≡ next.piece)) → ArePieces (t Pieces) number (at + 1) (piece ∷ [])
+    found at piece (inl earlier) = so_far.pieces at piece earlier
+    found at piece (inr last) =
+        let here : k + 1 ≡ at + 1 = omega (arith, last.0, so_far.count) in
+        subst (λ n. ArePieces (t Pieces) number n (piece ∷ [])) here (subst (λ (b : Bytes). ArePieces (t Pieces) number (k + 1) (b ∷ [])) (sym last.1) next.lies)
+
+-- all were hashed
+pub all_hashed : (t : Tables) (number size : ℕ) (hasher : Sha256) (digest : Bytes) → IsHashedTo t number size (piece_count size) hasher → ((contents : Bytes) → Holds256 hasher contents → digest ≡ digest_of contents) → HashesPieces t number size (Some digest)
+all_hashed t number size hasher digest so_far is = record {
+  contents = so_far.contents;
+  long = let bounds = div_ceil_times size piece_length (omega arith) in omega (arith, so_far.long, bounds.0);
+  pieces = so_far.pieces;
+  is = is so_far.contents so_far.holds;
+}
+
+-- contents of this size have a piece at each place, of the length that is asked for
+pub none_fits : (t : Tables) (number size k asked : ℕ) → k < piece_count size → asked ≡ min (size - k * piece_length) piece_length → ((piece : Bytes) → length piece ≡ asked → ArePieces (t Pieces) number (k + 1) (piece ∷ []) → ⊥)
+    → HashesPieces t number size None
+none_fits t number size k asked few is fails contents long has = go (slice_get_cases (pieces_in contents) k).1
+  where
+    many : length (pieces_in contents) ≡ piece_count size
+    many = count_pieces contents ∙ ap piece_count long
+
+    go : ((piece : Bytes) × (k < length (pieces_in contents)) × (slice_get (pieces_in contents) k ≡ Some piece) × (get_or (pieces_in contents) k piece ≡ piece)) ⊎ ((length (pieces_in contents) ≤ k) × (slice_get (pieces_in contents) k ≡ None)) → ⊥
+    go (inl it) =
+        let same = ap length (nth_piece contents it.0 k it.2) in
+        let taken = length-take piece_length (drop (k * piece_length) contents) in
+        let left = length-drop (k * piece_length) contents in
+        fails it.0 (omega (arith, same, taken, left, long, is)) (has k it.0 it.2)
+    go (inr past) = absurd (omega (arith, past.0, many, few))
+
+-- ---- the artifact as a whole
+
+same_lists : {X : Type 0} (xs ys : List X) → length xs ≡ length ys → ((k : ℕ) (x y : X) → slice_get xs k ≡ Some x → slice_get ys k ≡ Some y → x ≡ y) → xs ≡ ys
+same_lists [] [] long same = refl
+same_lists [] (y ∷ ys) long same = absurd (omega (arith, long))
+same_lists (x ∷ xs) [] long same = absurd (omega (arith, long))
+same_lists (x ∷ xs) (y ∷ ys) long same = ap₂ ◌∷◌ (same 0 x y refl refl) (same_lists xs ys (omega (arith, long)) (λ k a b. same (suc k) a b))
+
+-- contents of one size whose pieces an artifact has are the same
+pub one_whole : (t : Tables) (number : ℕ) (a b : Bytes) → length a ≡ length b → HasPieces t number a → HasPieces t number b → a ≡ b
+one_whole t number a b long has_a has_b =
+    same_contents a b (same_lists (pieces_in a) (pieces_in b) (count_pieces a ∙ ap piece_count long ∙ sym (count_pieces b)) (λ k x y is_x is_y.
+    let both : x ∷ [] ≡ y ∷ [] = alone (t Pieces) number (k + 1) y (x ∷ []) (has_b k y is_y) (has_a k x is_x) in cc))
