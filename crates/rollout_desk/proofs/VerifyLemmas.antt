@@ -34,6 +34,13 @@ module _ (a b c d : State) (found : Option CheckedTable) (reads : Finds HoldsTab
   pub never_damaged : Begins HoldsLedger a b → NamesNone b c {E = Fault} (Ok found) → (r : Records) → Rests HoldsLedger a (ledger_of r) → HasCleanDisk c → IsNeverDamaged r found
   never_damaged begins never r rested clean h valid is = never h valid (subst (λ (x : Records). Sees HoldsLedger b (ledger_of x)) is (begins.sees (ledger_of r) (rest_shows HoldsLedger a _ rested))) clean
 
+-- nothing was found
+pub none_found : (a c d : State) (refusal : Refusal) (result : Result (Option CheckedTable) Refusal) → EndsLook c d (Err refusal) result → FindsDamage a d result
+none_found a c d refusal result ends = elim ends.ends [
+  | inl it ↦ subst (FindsDamage a d) (sym it.0) tt
+  | inr it ↦ subst (FindsDamage a d) (sym it.0) tt
+]
+
 -- ---- the desk
 
 module _ (was : Bool) (a d : State) (runs : was ≡ false) where

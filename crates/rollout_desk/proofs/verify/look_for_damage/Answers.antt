@@ -1,0 +1,36 @@
+use Rattle.std.proofs.Common.{◌≡◌, subst, rules}
+use Rattle.sqlite.specs.Held.{state}
+use Rattle.sql_calls.specs.Standing.{Keeps}
+use Rattle.desk_records.specs.Holds.{HoldsLedger, HoldsRecords}
+use Rattle.rollout_desk.specs.Looks.{Looks}
+use Rattle.rollout_desk.specs.Verifying.{FindsDamage, IsNeverDamaged}
+use Rattle.rollout_desk.proofs.LookLemmas.{look_failed, looked, unbegun}
+use Rattle.rollout_desk.proofs.VerifyLemmas.{judged, never_damaged, none_found}
+use Rattle.rollout_desk.proofs.verify.look_for_damage.Goals as goal
+
+pub returns-in-Err-clause-looks : goal.returns-in-Err-clause-looks
+returns-in-Err-clause-looks g c =
+    let kept : Keeps HoldsLedger (state g.S.Store c.args.store.now.calls.conn) (state g.S.Store c.begin.follows.lender-at-none.calls.conn) = search rules in
+    unbegun _ _ _ c.in-Err.fault _ c.refusal_of.ensures kept
+
+pub returns-in-Ok-find_damage-clause-judges : goal.returns-in-Ok-find_damage-clause-judges
+returns-in-Ok-find_damage-clause-judges g c =
+    let same : c.give_up.new.change.0 ≡ c.store-in-Ok-find_damage-1.given.0 = search rules in
+    subst (λ h. FindsDamage (state g.S.Store c.args.store.now.calls.conn) (state g.S.Store h.calls.conn) c.give_up.result) same
+    (judged _ _ _ _ c.in-Ok-find_damage.found c.in-Ok-find_damage.ensures.judges c.in-Ok.ensures.tables c.give_up.result c.give_up.ensures.ends)
+
+pub returns-in-Ok-find_damage-clause-looks : goal.returns-in-Ok-find_damage-clause-looks
+returns-in-Ok-find_damage-clause-looks g c =
+    let same : c.give_up.new.change.0 ≡ c.store-in-Ok-find_damage-1.given.0 = search rules in
+    subst (λ h. Looks HoldsRecords (state g.S.Store c.args.store.now.calls.conn) (state g.S.Store h.calls.conn) c.give_up.result IsNeverDamaged) same
+    (looked _ _ _ _ _ c.in-Ok.ensures.begun _ c.in-Ok-find_damage.found c.in-Ok-find_damage.ensures.stays.frame c.in-Ok-find_damage.ensures.judges.wears
+    (never_damaged _ _ _ _ c.in-Ok-find_damage.found c.in-Ok-find_damage.ensures.judges c.in-Ok.ensures.begun c.in-Ok-find_damage.ensures.never) c.give_up.ensures.ends)
+
+pub returns-in-Err-find_damage-clause-judges : goal.returns-in-Err-find_damage-clause-judges
+returns-in-Err-find_damage-clause-judges g c = none_found _ _ _ _ _ c.give_up-in-Err-find_damage.ensures.ends
+
+pub returns-in-Err-find_damage-clause-looks : goal.returns-in-Err-find_damage-clause-looks
+returns-in-Err-find_damage-clause-looks g c =
+    let same : c.give_up-in-Err-find_damage.new.change.0 ≡ c.store-in-Err-find_damage-1.given.0 = search rules in
+    subst (λ h. Looks HoldsRecords (state g.S.Store c.args.store.now.calls.conn) (state g.S.Store h.calls.conn) c.give_up-in-Err-find_damage.result IsNeverDamaged) same
+    (look_failed _ _ _ _ _ c.in-Ok.ensures.begun _ c.in-Err-find_damage.fault _ c.in-Err-find_damage.ensures.stays.frame c.in-Err-find_damage.ensures.judges.wears c.refusal_of-in-Err-find_damage.ensures c.give_up-in-Err-find_damage.ensures.ends)
