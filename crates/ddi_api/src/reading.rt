@@ -110,7 +110,7 @@ fn read_download(
     Ok(Request::Ask(Query::Download(device, module_number, filename)))
 }
 
-fn read_feedback(
+fn read_deployment_feedback(
     alloc: Global,
     device: Credential,
     message: &Message<'_>,
@@ -163,7 +163,7 @@ fn read_call(
     match call {
         DeviceCall::Poll => read_poll(alloc, device, message),
         DeviceCall::ShowDeployment => read_show_deployment(alloc, device, message),
-        DeviceCall::Feedback => read_feedback(alloc, device, message),
+        DeviceCall::Feedback => read_deployment_feedback(alloc, device, message),
         DeviceCall::ShowCancel => read_show_cancel(alloc, device, message),
         DeviceCall::CancelFeedback => read_cancel_feedback(alloc, device, message),
         DeviceCall::PutAttributes => read_put_attributes(alloc, device, message),
