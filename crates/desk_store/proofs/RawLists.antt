@@ -1,6 +1,6 @@
 -- The lists of tables with whatever rows they have.
-use Rattle.std.proofs.Common.{◌≡◌, ℕ, pos, negsuc, Bool, true, false, cond, List, [], ◌∷◌, Option, Some, None, Ok, Err, Result, IfOk, option_map, Vec, vec_items, refl, sym, ap, ◌∙◌}
-use Rattle.std.specs.Option.{is_none, option_and_then}
+use Rattle.std.proofs.Common.{◌≡◌, ℕ, pos, negsuc, Bool, true, List, [], ◌∷◌, Option, Some, None, Ok, Result, IfOk, option_map, Vec, vec_items, refl, sym, ap, ◌∙◌}
+use Rattle.std.specs.Option.{is_none}
 use Rattle.std.specs.declared.alloc.Global.{Global}
 use Rattle.sqlite_value.specs.declared.value.Value.{Value}
 use Rattle.sqlite_value.specs.declared.value.Value.TheVariants.{Null, Int}
@@ -16,12 +16,10 @@ use Rattle.sqlite_rules.specs.Lists.{Has}
 use Rattle.sql_calls.specs.declared.fault.Fault.{Fault}
 use Rattle.sql_calls.specs.Calls.{AsksText}
 use Rattle.sql_calls.specs.Means.{Knows, Means}
-use Rattle.sql_calls.proofs.Finding.{ask_finds}
 use Rattle.sql_calls.proofs.Selects.{by, passes, shown_of, simple}
 use Rattle.sql_front.specs.Stands.{Stands}
 use Rattle.rollout_machine.specs.declared.records.GroupRecord.{GroupRecord}
-use Rattle.rollout_model.specs.Rules.{is_number, number_of}
-use Rattle.desk_records.specs.ArtifactRow.{small_number}
+use Rattle.rollout_model.specs.Rules.{is_number}
 use Rattle.desk_records.specs.CheckedRows.{IsCheckedArtifactRow, IsOwnedOfferRow, keeps_artifact_rules, keeps_offer_rules}
 use Rattle.desk_records.specs.Codes.{number_in}
 use Rattle.desk_records.specs.Holds.{HoldsLedger}

@@ -1,13 +1,12 @@
 -- What the reads of the tables of artifacts and pieces come to.
-use Rattle.std.proofs.Common.{◌≡◌, ℕ, suc, ◌+◌, Bool, true, false, not, true≢false, List, [], ◌∷◌, map, length, nat_eq, Vec, vec_items, Option, Some, None, refl, sym, ap, subst, ◌∙◌, arith}
+use Rattle.std.proofs.Common.{◌≡◌, ℕ, suc, ◌+◌, Bool, true, false, not, true≢false, List, [], ◌∷◌, map, length, nat_eq, Vec, vec_items, Some, None, refl, sym, ap, subst, ◌∙◌, arith}
 use Rattle.std.specs.List.{AllByRecursion}
 use Rattle.std.specs.Cmp.Lexicographic.{pointwise}
 use Rattle.std.specs.declared.alloc.Global.{Global}
 use Rattle.std.proofs.lemmas.Bool.Decides.{Decides-eqb, nat_tests}
 use Rattle.std.proofs.lemmas.Slice.Eq.{slice_eq-Decides}
-use Rattle.sqlite_value.specs.declared.value.Value.TheVariants.{Blob, Int}
+use Rattle.sqlite_value.specs.declared.value.Value.TheVariants.{Blob}
 use Rattle.sqlite_value.specs.Order.{Row, column}
-use Rattle.sqlite_rules.specs.Lists.{Has}
 use Rattle.sqlite_rules.proofs.ListLemmas.{all_from, all_has}
 use Rattle.artifact_pieces.specs.Digests.{digest_of}
 use Rattle.artifact_pieces.specs.Pieces.{piece_count}
@@ -21,7 +20,7 @@ use Rattle.desk_records.proofs.NumberColumns.{number_in_is, one_number}
 use Rattle.desk_records.proofs.PieceLists.{count_pieces}
 use Rattle.desk_store.specs.RawLists.{ListsRows, SaysArtifact, any_row}
 use Rattle.desk_verify.specs.Agreement.{Decides}
-use Rattle.desk_verify.specs.ArtifactChecks.{HasDigest, HashesPieces}
+use Rattle.desk_verify.specs.ArtifactChecks.{HashesPieces}
 use Rattle.desk_verify.specs.Artifacts.{AgreesArtifacts, IsWhole}
 use Rattle.desk_verify.proofs.PieceChecks.{none_found, one_whole}
 

@@ -13,7 +13,8 @@ use Rattle.desk_store.specs.RawLists.{SaysArtifact}
 
 -- the pieces of the contents lie at the places of the artifact from 1 on, each alone at its place
 abbrev pub HasPieces : Tables → ℕ → Bytes → Type 0
-HasPieces t number contents = (k : ℕ) (piece : Bytes) → slice_get (pieces_in contents) k ≡ Some piece → ArePieces (t Pieces) number (k + 1) (piece ∷ [])
+HasPieces t number contents =
+    (k : ℕ) (piece : Bytes) → slice_get (pieces_in contents) k ≡ Some piece → ArePieces (t Pieces) number (k + 1) (piece ∷ [])
 
 -- some contents have the size and the digest of the artifact, it has their pieces, and none behind the last
 pub record IsWhole (t : Tables) (a : CheckedArtifact) : Type 0 where
