@@ -7,9 +7,9 @@ use Rattle.clap.specs.Words.{Row, Text, first_of, kind_of, takes}
 use Rattle.clap.specs.declared.error.Error.{Error}
 use Rattle.clap.specs.declared.error.kind.ErrorKind.{ErrorKind}
 use Rattle.clap.specs.declared.error.kind.ErrorKind.TheVariants.{OutOfMemory}
-use Rattle.desk_server.specs.declared.order.Order.TheVariants.{Run, Serve, Import, Report}
+use Rattle.desk_server.specs.declared.order.Order.TheVariants.{Run, Serve, Import, Report, Verify}
 use Rattle.stream_server.specs.declared.interface.Interface.{Interface}
-use Rattle.desk_server.specs.Orders.{AreRefused, IsImport, IsReport, NamesOrder, NamesSetup, interface_word, number_given, program_app}
+use Rattle.desk_server.specs.Orders.{AreRefused, IsImport, IsReport, IsVerify, NamesOrder, NamesSetup, interface_word, number_given, program_app}
 
 -- no value is given
 pub no_value : {A : Type 0} (found : Option A) (value : A) → None ≡ found → found ≡ Some value → ⊥
@@ -47,6 +47,7 @@ no_connections rows none (Serve setup port connections, serve) =
 no_connections rows none (Run setup, is) = other_name (codes "serve") (codes "run") rows is.rows refl is.subcommand
 no_connections rows none (Import db file, is) = other_name (codes "serve") (codes "import") rows is.rows refl is.subcommand
 no_connections rows none (Report db rollout, is) = other_name (codes "serve") (codes "report") rows is.rows refl is.subcommand
+no_connections rows none (Verify db, is) = other_name (codes "serve") (codes "verify") rows is.rows refl is.subcommand
 
 -- the values of `import` name no order where they aren't a database and a file
 pub no_import : (rows : List Row) → ((db file : Text) → ¬ IsImport (Some (codes "import", rows)) db file) → ¬ NamesOrder (Some (codes "import", rows))
@@ -54,6 +55,7 @@ no_import rows never (Import db file, is) = never db.now file.now is
 no_import rows never (Run setup, is) = other_name (codes "import") (codes "run") rows is.rows refl is.subcommand
 no_import rows never (Serve setup port connections, is) = other_name (codes "import") (codes "serve") rows is.rows refl is.subcommand
 no_import rows never (Report db rollout, is) = other_name (codes "import") (codes "report") rows is.rows refl is.subcommand
+no_import rows never (Verify db, is) = other_name (codes "import") (codes "verify") rows is.rows refl is.subcommand
 
 -- the values of `report` name no order where they aren't a database and a rollout's number
 pub no_report : (rows : List Row) → ((db : Text) (rollout : ℕ) → ¬ IsReport (Some (codes "report", rows)) db rollout) → ¬ NamesOrder (Some (codes "report", rows))
@@ -61,6 +63,15 @@ no_report rows never (Report db rollout, is) = never db.now rollout is
 no_report rows never (Run setup, is) = other_name (codes "report") (codes "run") rows is.rows refl is.subcommand
 no_report rows never (Serve setup port connections, is) = other_name (codes "report") (codes "serve") rows is.rows refl is.subcommand
 no_report rows never (Import db file, is) = other_name (codes "report") (codes "import") rows is.rows refl is.subcommand
+no_report rows never (Verify db, is) = other_name (codes "report") (codes "verify") rows is.rows refl is.subcommand
+
+-- the values of `verify` name no order where they aren't a database
+pub no_verify : (rows : List Row) → ((db : Text) → ¬ IsVerify (Some (codes "verify", rows)) db) → ¬ NamesOrder (Some (codes "verify", rows))
+no_verify rows never (Verify db, is) = never db.now is
+no_verify rows never (Run setup, is) = other_name (codes "verify") (codes "run") rows is.rows refl is.subcommand
+no_verify rows never (Serve setup port connections, is) = other_name (codes "verify") (codes "serve") rows is.rows refl is.subcommand
+no_verify rows never (Import db file, is) = other_name (codes "verify") (codes "import") rows is.rows refl is.subcommand
+no_verify rows never (Report db rollout, is) = other_name (codes "verify") (codes "report") rows is.rows refl is.subcommand
 
 -- words that `clap` takes are refused for want of memory alone
 pub refused_by_clap : (words : List Text) (kind : ErrorKind) → (takes program_app words ≡ true → kind ≡ OutOfMemory) → kind ≢ OutOfMemory

@@ -3,4 +3,5 @@ pub mod Program
 pub mod Imports
 pub mod Telling
 pub mod ReportOrders
+pub mod Verifications
 pub mod AfterCrash

@@ -7,7 +7,7 @@ use Rattle.stream_server.specs.declared.interface.Interface.{Interface}
 use Rattle.stream_server.specs.declared.interface.Interface.TheVariants.{Devices, Management, Both}
 use Rattle.desk_server.specs.declared.order.Setup.{Setup}
 use Rattle.desk_server.specs.declared.order.Order.{Order}
-use Rattle.desk_server.specs.declared.order.Order.TheVariants.{Run, Serve, Import, Report}
+use Rattle.desk_server.specs.declared.order.Order.TheVariants.{Run, Serve, Import, Report, Verify}
 
 -- ---- what the command line is made of
 
@@ -57,8 +57,14 @@ report_app = with_rule (with_rule (new_app (codes "report")) db_rule) rollout_ru
 abbrev pub serving_app : App
 serving_app = with_subcommand (with_subcommand (new_app (codes "fwdesk")) run_app.top) serve_app.top
 
+abbrev pub asking_app : App
+asking_app = with_subcommand (with_subcommand serving_app import_app.top) report_app.top
+
+abbrev pub verify_app : App
+verify_app = with_rule (new_app (codes "verify")) db_rule
+
 abbrev pub program_app : App
-program_app = with_subcommand (with_subcommand serving_app import_app.top) report_app.top
+program_app = with_subcommand asking_app verify_app.top
 
 -- ---- the order
 
@@ -116,12 +122,19 @@ pub record IsReport (found : Option (Text × List Row)) (db : Text) (rollout : �
   pub db_is : first_of (codes "db") rows ≡ Some db
   pub rollout_is : number_given 1 2147483647 (first_of (codes "rollout") rows) ≡ Some rollout
 
+-- the subcommand `verify` was met, with this value
+pub record IsVerify (found : Option (Text × List Row)) (db : Text) : Type 0 where
+  pub rows : List Row
+  pub subcommand : found ≡ Some (codes "verify", rows)
+  pub db_is : first_of (codes "db") rows ≡ Some db
+
 -- what the words name, in the way that `clap` defines the matches of a simple command
 abbrev pub IsOrder : Option (Text × List Row) → Order → Type 0
 IsOrder found (Run setup) = IsRun found setup
 IsOrder found (Serve setup port connections) = IsServe found setup port connections
 IsOrder found (Import db file) = IsImport found db.now file.now
 IsOrder found (Report db rollout) = IsReport found db.now rollout
+IsOrder found (Verify db) = IsVerify found db.now
 
 -- whether a new desk asks for approval of each rollout: where `run` and `serve` were told so
 abbrev pub asks_approval : Order → Bool
@@ -129,6 +142,7 @@ asks_approval (Run setup) = setup.approval
 asks_approval (Serve setup port connections) = setup.approval
 asks_approval (Import db file) = false
 asks_approval (Report db rollout) = false
+asks_approval (Verify db) = false
 
 -- what the words name is an order
 abbrev pub NamesOrder : Option (Text × List Row) → Type 0

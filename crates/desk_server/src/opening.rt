@@ -22,6 +22,7 @@ impl<'a> Order<'a> {
             Order::Serve { setup, .. } => setup.db,
             Order::Import { db, .. } => db,
             Order::Report { db, .. } => db,
+            Order::Verify { db } => db,
         }
     }
 
@@ -34,6 +35,7 @@ impl<'a> Order<'a> {
             Order::Serve { setup, .. } => setup.approval,
             Order::Import { .. } => false,
             Order::Report { .. } => false,
+            Order::Verify { .. } => false,
         }
     }
 }

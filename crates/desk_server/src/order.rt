@@ -5,7 +5,7 @@ ghost use Rattle.std.specs.Option.{option_map};
 ghost use Rattle.clap.specs.Words.{rule_of, app_of, rows_of, found_of, first_of, kind_of, subcommand_of, subcommand_rows_of};
 ghost use Rattle.clap.specs.declared.builder.command.Command.TheViews.{out-Command as fields_of};
 ghost use Rattle.desk_server.specs.Orders.{db_rule, interface_rule, approval_rule, port_rule, connections_rule, file_rule, run_app, port_app};
-ghost use Rattle.desk_server.specs.Orders.{serve_app, import_app, rollout_rule, report_app, serving_app, program_app};
+ghost use Rattle.desk_server.specs.Orders.{serve_app, import_app, rollout_rule, report_app, verify_app, serving_app, asking_app, program_app};
 ghost use Rattle.desk_server.specs.Orders.{interface_word, is_given, number_given, IsSetup, NamesSetup, IsOrder, NamesOrder, AreFaultless, AreRefused};
 
 use clap::error::ErrorKind;
@@ -51,6 +51,11 @@ pub enum Order<'a> {
         db: &'a str,
         rollout: RolloutNo,
     },
+    /// Prints whether the tables agree with what they are to have.
+    Verify {
+        /// The path of the database.
+        db: &'a str,
+    },
 }
 
 /// Why the words name no order.
@@ -78,7 +83,7 @@ impl Misuse {
 
     fn text(self) -> &'static str {
         match self {
-            Misuse::Subcommand => "a subcommand is needed: run, serve, import, report",
+            Misuse::Subcommand => "a subcommand is needed: run, serve, import, report, verify",
             Misuse::Interface => "the interface is one of: ddi, mgmt, both",
             Misuse::Port => "the port is a number from 1 to 65535",
             Misuse::Connections => "the connections are a number from 1 to 1000000",
@@ -215,6 +220,14 @@ fn report<'a>(alloc: Global) -> Result<Command<'a>, AllocError>
     with_db.arg(rollout(alloc))
 }
 
+fn verify<'a>(alloc: Global) -> Result<Command<'a>, AllocError>
+    ensures app { IfOk result (λ c. app_of c ≡ verify_app) }
+    ensures local { IfOk result (λ c. (fields_of c).has_globals ≡ false) }
+{
+    let verify = Command::new(alloc, "verify").about("Prints ok, or the first damaged table");
+    verify.arg(db(alloc))
+}
+
 /// The program with the subcommands that serve.
 fn serving<'a>(alloc: Global) -> Result<Command<'a>, AllocError>
     ensures app { IfOk result (λ c. app_of c ≡ serving_app) }
@@ -225,13 +238,21 @@ fn serving<'a>(alloc: Global) -> Result<Command<'a>, AllocError>
     with_run.subcommand(serve)
 }
 
-fn program<'a>(alloc: Global) -> Result<Command<'a>, AllocError>
-    ensures app { IfOk result (λ c. app_of c ≡ program_app) }
+/// The same with those that ask once and end.
+fn asking<'a>(alloc: Global) -> Result<Command<'a>, AllocError>
+    ensures app { IfOk result (λ c. app_of c ≡ asking_app) }
 {
     let import = import(alloc)?;
     let report = report(alloc)?;
     let with_import = serving(alloc)?.subcommand(import)?;
     with_import.subcommand(report)
+}
+
+fn program<'a>(alloc: Global) -> Result<Command<'a>, AllocError>
+    ensures app { IfOk result (λ c. app_of c ≡ program_app) }
+{
+    let verify = verify(alloc)?;
+    asking(alloc)?.subcommand(verify)
 }
 
 fn interface_of(word: &str) -> Option<Interface>
@@ -364,6 +385,17 @@ fn report_of<'a>(matches: &ArgMatches<'a>) -> Result<Order<'a>, Misuse>
     Ok(Order::Report { db, rollout })
 }
 
+/// The order that the values of `verify` name.
+fn verify_of<'a>(matches: &ArgMatches<'a>) -> Result<Order<'a>, Misuse>
+    ensures ok { IfOk result (IsOrder (Some (codes "verify", rows_of (found_of matches.now)))) }
+    ensures err { IfErr result (λ misuse. ¬ NamesOrder (Some (codes "verify", rows_of (found_of matches.now)))) }
+{
+    let Some(db) = matches.get_str("db") else {
+        return Err(Misuse::File);
+    };
+    Ok(Order::Verify { db })
+}
+
 /// The order that the matches of the program name.
 fn order_of<'a>(matches: &ArgMatches<'a>) -> Result<Order<'a>, Misuse>
     ensures ok { IfOk result (IsOrder (subcommand_rows_of matches.now)) }
@@ -380,6 +412,9 @@ fn order_of<'a>(matches: &ArgMatches<'a>) -> Result<Order<'a>, Misuse>
     }
     if let Some(report) = matches.subcommand_matches("report") {
         return report_of(report);
+    }
+    if let Some(verify) = matches.subcommand_matches("verify") {
+        return verify_of(verify);
     }
     Err(Misuse::Subcommand)
 }

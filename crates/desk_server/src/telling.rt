@@ -53,7 +53,7 @@ fn tell_refusal<E: Write>(alloc: Global, errors: &mut Watched<E>, refusal: Refus
 }
 
 /// Writes a text out, and tells of a fault.
-fn print_or_tell<W: Write, E: Write>(
+pub(crate) fn print_or_tell<W: Write, E: Write>(
     text: &str,
     output: &mut Watched<W>,
     errors: &mut Watched<E>,
@@ -80,7 +80,7 @@ fn tell_no_memory<E: Write>(errors: &mut Watched<E>) -> u8
 }
 
 /// Tells why it was refused.
-fn refuse<E: Write>(alloc: Global, refusal: Refusal, errors: &mut Watched<E>) -> u8
+pub(crate) fn refuse<E: Write>(alloc: Global, refusal: Refusal, errors: &mut Watched<E>) -> u8
     ensures { (out : Option (List ℕ)) (failed : Bool) → Refuses refusal out out (E.contents (inner_of errors.old)) (E.contents (inner_of errors.new))
         (has_failed errors.new) failed failed result }
 {

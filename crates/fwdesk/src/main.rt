@@ -3,8 +3,8 @@
 
 use desk_opening::OpenFault;
 use desk_server::{
-    Order, Setup, carry_out, carry_out_import, carry_out_on, carry_out_report, listen_address,
-    open_for, read_order,
+    Order, Setup, carry_out, carry_out_import, carry_out_on, carry_out_report, carry_out_verify,
+    listen_address, open_for, read_order,
 };
 use http_wire::Watched;
 use rollout_desk::Desk;
@@ -104,6 +104,12 @@ fn carry_out_over(rt: &HostRuntime, alloc: Global, order: &Order<'_>, desk: &mut
             alloc,
             desk,
             *rollout,
+            &mut Watched::new(rt.stdout()),
+            &mut Watched::new(rt.stderr()),
+        ),
+        Order::Verify { .. } => carry_out_verify(
+            alloc,
+            desk,
             &mut Watched::new(rt.stdout()),
             &mut Watched::new(rt.stderr()),
         ),

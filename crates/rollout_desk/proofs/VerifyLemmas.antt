@@ -1,5 +1,5 @@
 -- From what a change sees of the tables to what a verification says.
-use Rattle.std.proofs.Common.{◌≡◌, ◌≢◌, inl, inr, Bool, true, false, Option, Some, None, Result, Ok, Err, IfOk, Unit, refl, sym, subst, ap, ◌∙◌, arith}
+use Rattle.std.proofs.Common.{◌≡◌, ◌≢◌, inl, inr, Bool, true, false, Option, Some, None, Result, Ok, Err, IfOk, refl, sym, subst, ap, ◌∙◌, arith}
 use Rattle.sqlite.specs.State.{State, HasCleanDisk}
 use Rattle.sql_calls.specs.Standing.{Begins, Finds, Rests, Sees, Shows}
 use Rattle.sql_calls.specs.declared.fault.Fault.{Fault}

@@ -1,5 +1,5 @@
 -- What a verification says of the tables, and what it leaves of the desk.
-use Rattle.std.specs.Prelude.{◌≡◌, Bool, false, Option, Some, None, Result, Ok, Err, IfOk, Unit, ⊤, ⊥}
+use Rattle.std.specs.Prelude.{◌≡◌, Bool, false, Option, Some, None, Result, Ok, Err, IfOk, ⊤}
 use Rattle.sqlite.specs.State.{State, HasCleanDisk}
 use Rattle.sql_calls.specs.Standing.{Shows}
 use Rattle.rollout_machine.specs.CommandList.{CommandList}

@@ -1,0 +1,88 @@
+//! The order `verify`.
+
+ghost use Rattle.std.specs.Prelude.{◌≡◌, [], IfErr, IfOk, IsOkAnd};
+ghost use Rattle.std.specs.Io.KnownBytes.{Appends};
+ghost use Rattle.sqlite.specs.Held.{state};
+ghost use Rattle.http_wire.specs.Watched.{inner_of, has_failed};
+ghost use Rattle.rollout_desk.specs.DeskStates.{desk_state};
+ghost use Rattle.desk_server.specs.Program.{Tells, open_line};
+ghost use Rattle.desk_server.specs.Verifications.{TellsFound, Verifies, damage_line};
+
+use crate::program::{FAILED, open_line, tell};
+use crate::telling::{print_or_tell, refuse};
+use desk_opening::OpenFault;
+use http_wire::Watched;
+use rollout_desk::{CheckedTable, Damage, Desk};
+use sqlite::Alter;
+use std::alloc::Global;
+use std::io::Write;
+
+fn damage_line(table: CheckedTable) -> &'static str
+    ensures { result.now ≡ damage_line table }
+{
+    match table {
+        CheckedTable::Artifact => "damage artifact\n",
+        CheckedTable::Member => "damage member\n",
+        CheckedTable::RolloutGroup => "damage rollout_group\n",
+        CheckedTable::Action => "damage action\n",
+        CheckedTable::Offer => "damage offer\n",
+    }
+}
+
+/// Tells what was found, and answers the exit status: 0 where all agree, and else 1.
+fn tell_found<W: Write, E: Write>(
+    alloc: Global,
+    found: Result<(), Damage>,
+    output: &mut Watched<W>,
+    errors: &mut Watched<E>,
+) -> u8
+    ensures { TellsFound found (W.contents (inner_of output.old)) (W.contents (inner_of output.new))
+        (E.contents (inner_of errors.old)) (E.contents (inner_of errors.new)) (has_failed errors.new) (has_failed output.old) (has_failed output.new) result }
+{
+    match found {
+        Ok(()) => print_or_tell("ok\n", output, errors),
+        Err(Damage::Table(table)) => {
+            let _printed = print_or_tell(damage_line(table), output, errors);
+            FAILED
+        }
+        Err(Damage::Refused(refusal)) => refuse(alloc, refusal, errors),
+    }
+}
+
+/// Looks whether the tables of the desk agree, and tells what was found.
+fn verify<W: Write, E: Write, S: Alter>(
+    alloc: Global,
+    desk: &mut Desk<S>,
+    output: &mut Watched<W>,
+    errors: &mut Watched<E>,
+) -> u8
+    ensures { Verifies (state S.Store desk.old.store.calls.conn) (state S.Store desk.new.store.calls.conn) (desk_state S.Store desk.old)
+        (desk_state S.Store desk.new) (W.contents (inner_of output.old)) (W.contents (inner_of output.new))
+        (E.contents (inner_of errors.old)) (E.contents (inner_of errors.new)) (has_failed errors.new) (has_failed output.old) (has_failed output.new) result }
+{
+    let found = desk.verify();
+    tell_found(alloc, found, output, errors)
+}
+
+/// Carries the order `verify` out over the desk, or tells why there is none, and answers the exit status.
+pub fn carry_out_verify<W: Write, E: Write, S: Alter>(
+    alloc: Global,
+    desk: &mut Result<Desk<S>, OpenFault>,
+    output: &mut Watched<W>,
+    errors: &mut Watched<E>,
+) -> u8
+    ensures unopened { IfErr desk.old (λ fault. (result ≡ 1) × Appends (W.contents (inner_of output.old)) (W.contents (inner_of output.new)) []
+        × Tells (E.contents (inner_of errors.old)) (E.contents (inner_of errors.new)) (has_failed errors.new) (open_line fault)) }
+    ensures carries_out { IfOk desk.old (λ before. IsOkAnd desk.new (λ after. Verifies
+        (state S.Store before.store.calls.conn) (state S.Store after.store.calls.conn) (desk_state S.Store before) (desk_state S.Store after)
+        (W.contents (inner_of output.old)) (W.contents (inner_of output.new))
+        (E.contents (inner_of errors.old)) (E.contents (inner_of errors.new)) (has_failed errors.new) (has_failed output.old) (has_failed output.new) result)) }
+{
+    match desk {
+        Err(fault) => {
+            tell(errors, open_line(*fault));
+            FAILED
+        }
+        Ok(desk) => verify(alloc, desk, output, errors),
+    }
+}
