@@ -40,8 +40,8 @@ mod OfferPuts
 pub mod GroupOfferWrites
 pub mod Membership
 pub mod NumberColumns
-mod TableColumns
-mod AnyRows
+pub mod TableColumns
+pub mod AnyRows
 pub mod PlaceRows
 pub mod RolloutRows
 pub mod HeldTables

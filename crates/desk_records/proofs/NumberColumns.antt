@@ -1,5 +1,5 @@
 -- What columns with a number say of it.
-use Rattle.std.proofs.Common.{◌≡◌, ◌<◌, ◌^◌, [], ◌∷◌, ℕ, ℤ, pos, negsuc, Bool, true, false, cond, Option, Some, None, true≢false, refl, sym, ap, ◌∙◌, arith, nat_eq, nat_lt, nat_le, is_eq, int_cmp}
+use Rattle.std.proofs.Common.{◌≡◌, ◌<◌, ◌≤◌, ◌^◌, [], ◌∷◌, ℕ, ℤ, pos, negsuc, Bool, true, false, cond, Option, Some, None, true≢false, refl, sym, ap, ◌∙◌, arith, nat_eq, nat_lt, nat_le, is_eq, int_cmp}
 use Rattle.std.specs.Option.{option_and_then}
 use Rattle.std.proofs.lemmas.Bool.{and_parts}
 use Rattle.std.proofs.lemmas.Bool.Decides.{nat_tests}
@@ -97,3 +97,22 @@ passes_rowid row n = and_true _ ∙ go (rowid row)
     go (Real x) = judged _
     go (Text t) = judged _
     go (Blob b) = judged _
+
+pub number_in_least : (v : Value) (n : ℕ) → number_in v ≡ Some n → 1 ≤ n
+number_in_least v n h = go (small_number v) h
+  where
+    at_least : (m : ℕ) (b : Bool) → is_number m ≡ b → cond b (Some m) None ≡ Some n → 1 ≤ n
+    at_least m true good e =
+        let same : m ≡ n = cc in
+        let low : nat_le 1 m ≡ true = (and_parts (nat_le 1 m) (nat_le m number_limit) good).0 in
+        let least : 1 ≤ m = grind (arith, nat_tests, low) in
+        omega (arith, least, same)
+    at_least m false bad e = absurd cc
+
+    go : (o : Option ℕ) → option_and_then number_of o ≡ Some n → 1 ≤ n
+    go None e = absurd cc
+    go (Some m) e = at_least m (is_number m) refl e
+
+-- a row has its own number
+pub has_own_number : (n : ℕ) (rest : Row) → has_rowid (pos n) (Int (pos n) ∷ rest) ≡ true
+has_own_number n rest = ap is_eq (value_cmp-Int (pos n) (pos n)) ∙ grind (arith, ints, nat_tests)

@@ -26,7 +26,7 @@ use Rattle.desk_records.specs.Tables.{HoldsTables, Tables}
 use Rattle.desk_records.proofs.AnyRows.{from_shown, is_shown}
 use Rattle.desk_records.proofs.Membership.{has_mapped, has_permuted, map_has}
 use Rattle.desk_records.proofs.MeaningWords.{at_key}
-use Rattle.desk_records.proofs.NumberColumns.{passes_rowid}
+use Rattle.desk_records.proofs.NumberColumns.{has_own_number, passes_rowid}
 use Rattle.desk_records.proofs.RolloutMeaning.{last_rollout_query, rollout_columns}
 
 -- ---- the greatest number
@@ -43,9 +43,6 @@ at_least v n last numbered least =
     value_cmp_total.antisymm (Int (pos last)) v ∙ ap ordering_reverse (value_cmp_total.congr v (Int (pos n)) (Int (pos last)) (equal _ numbered)) ∙ sym (value_cmp_total.antisymm (Int (pos last)) (Int (pos n))) in
     let h : is_lt (int_cmp (pos last) (pos n)) ≡ false = ap is_lt (sym (value_cmp-Int (pos last) (pos n))) ∙ ap is_lt (sym turned) ∙ least in
     grind (arith, ints, nat_tests, h)
-
-itself : (n : ℕ) → has_rowid (pos n) (Int (pos n) ∷ []) ≡ true
-itself n = ap is_eq (value_cmp-Int (pos n) (pos n)) ∙ grind (arith, ints, nat_tests)
 
 module _ (db : Database) (t : Tables) (holds : HoldsTables db t) (names : List (List ℕ)) where
   abbrev tree : ℕ
@@ -94,7 +91,7 @@ module _ (db : Database) (t : Tables) (holds : HoldsTables db t) (names : List (
             rw its at told in
             record {
               greatest = λ k has. at_least (rowid has.row) k n has.numbered (above has.row has.among);
-              there = inr (record { row = source.0; among = source.1; numbered = ap (λ v. is_eq (value_cmp v (Int (pos n)))) its ∙ itself n });
+              there = inr (record { row = source.0; among = source.1; numbered = ap (λ v. is_eq (value_cmp v (Int (pos n)))) its ∙ has_own_number n [] });
             }
 
     pub shown_none : shown ≡ [] → IsLast (t Rollouts) 0

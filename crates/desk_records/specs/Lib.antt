@@ -23,3 +23,4 @@ pub mod Tables
 pub mod Listings
 pub mod TableRows
 pub mod PlaceLists
+pub mod CheckedRows

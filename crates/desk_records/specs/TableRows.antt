@@ -1,13 +1,52 @@
 -- What rows of tables say, each column keeping its rule.
-use Rattle.std.specs.Prelude.{◌≡◌, ℕ, true, ◌∷◌, [], Some}
-use Rattle.sqlite_value.specs.declared.value.Value.TheVariants.{Text}
+use Rattle.std.specs.Prelude.{◌≡◌, ℕ, true, List, ◌∷◌, [], None, Some, pos}
+use Rattle.sqlite_value.specs.declared.value.Value.TheVariants.{Blob, Int, Text}
 use Rattle.sqlite_value.specs.Order.{Row, column}
 use Rattle.rollout_machine.specs.Commands.{Bytes}
-use Rattle.desk_records.specs.ArtifactRow.{small_number}
+use Rattle.rollout_machine.specs.declared.records.GroupRecord.{GroupRecord}
+use Rattle.rollout_model.specs.declared.rollout.Offer.{Offer}
+use Rattle.desk_records.specs.ArtifactRow.{IsStoredRow, broken_stored_column, small_number}
 use Rattle.desk_records.specs.Codes.{number_in}
-use Rattle.desk_records.specs.RolloutRow.{IsRolloutRow}
+use Rattle.desk_records.specs.RolloutRow.{IsActionRow, IsGroupRow, IsOfferRow, IsRolloutRow, broken_action_column, broken_group_column}
 use Rattle.desk_records.specs.TargetRow.{has_word}
+use Rattle.desk_records.specs.declared.artifact_row.StoredArtifact.{StoredArtifact}
+use Rattle.desk_records.specs.declared.rollout_row.StoredAction.{StoredAction}
 use Rattle.desk_records.specs.declared.rollout_row.StoredRollout.{StoredRollout}
+
+-- ---- what is shown of a row
+
+abbrev pub artifact_shown : Row → Row
+artifact_shown row = column row 2 ∷ column row 3 ∷ column row 4 ∷ column row 5 ∷ column row 0 ∷ []
+
+abbrev pub rollout_shown : Row → Row
+rollout_shown row = column row 2 ∷ column row 3 ∷ column row 4 ∷ column row 5 ∷ column row 6 ∷ column row 7 ∷ column row 8 ∷ column row 9
+    ∷ column row 10 ∷ []
+
+abbrev pub group_shown : Row → Row
+group_shown row = column row 2 ∷ column row 3 ∷ column row 4 ∷ column row 5 ∷ column row 6 ∷ column row 7 ∷ column row 8 ∷ []
+
+abbrev pub action_shown : Row → Row
+action_shown row = column row 2 ∷ column row 3 ∷ column row 4 ∷ column row 5 ∷ column row 6 ∷ column row 7 ∷ column row 8 ∷ column row 0 ∷ []
+
+abbrev pub offer_shown : Row → Row
+offer_shown row = column row 2 ∷ column row 3 ∷ column row 1 ∷ []
+
+-- ---- what it says
+
+-- the artifact of a number
+pub record IsArtifact (row : Row) (number : ℕ) (a : StoredArtifact) : Type 0 where
+  pub number_is : number_in (column row 0) ≡ Some number
+  pub shows : IsStoredRow (artifact_shown row) a
+  pub kept : broken_stored_column (artifact_shown row) ≡ None
+
+-- the piece of an artifact at a place of the sequence
+pub record IsPiece (row : Row) (number sequence : ℕ) (bytes : Bytes) : Type 0 where
+  pub number_is : column row 1 ≡ Int (pos number)
+  pub sequence_is : column row 2 ≡ Int (pos sequence)
+  pub bytes_are : column row 3 ≡ Blob bytes
+
+abbrev pub IsRollout : Row → StoredRollout → Type 0
+IsRollout row x = IsRolloutRow (rollout_shown row) x
 
 -- a member of a rollout, at its place
 pub record IsMember (row : Row) (rollout place : ℕ) (id : Bytes) : Type 0 where
@@ -16,9 +55,20 @@ pub record IsMember (row : Row) (rollout place : ℕ) (id : Bytes) : Type 0 wher
   pub id_is : column row 3 ≡ Text id
   pub word : has_word (column row 3) ≡ true
 
--- what is shown of a rollout's row
-abbrev pub rollout_shown : Row → Row
-rollout_shown row = column row 2 ∷ column row 3 ∷ column row 4 ∷ column row 5 ∷ column row 6 ∷ column row 7 ∷ column row 8 ∷ column row 9 ∷ column row 10 ∷ []
+-- a group of a rollout
+pub record IsGroup (row : Row) (rollout : ℕ) (g : GroupRecord) : Type 0 where
+  pub rollout_is : number_in (column row 1) ≡ Some rollout
+  pub shows : IsGroupRow (group_shown row) g
+  pub kept : broken_group_column (group_shown row) ≡ None
 
-abbrev pub IsRollout : Row → StoredRollout → Type 0
-IsRollout row x = IsRolloutRow (rollout_shown row) x
+-- the action of a number
+pub record IsAction (row : Row) (number : ℕ) (a : StoredAction) : Type 0 where
+  pub number_is : number_in (column row 0) ≡ Some number
+  pub shows : IsActionRow (action_shown row) a
+  pub kept : broken_action_column (action_shown row) ≡ None
+
+-- what a target is offered
+pub record IsOffer (row : Row) (id : Bytes) (o : Offer) : Type 0 where
+  pub id_is : column row 1 ≡ Text id
+  pub word : has_word (column row 1) ≡ true
+  pub shows : IsOfferRow (offer_shown row) o

@@ -1,6 +1,6 @@
 //! The rows of artifacts and of their pieces.
 
-ghost use Rattle.std.specs.Prelude.{◌≡◌, ◌⊎◌, IfOk, IfErr, true, false, Some};
+ghost use Rattle.std.specs.Prelude.{◌≡◌, ◌⊎◌, IfOk, IfErr, true, false, None, Some};
 ghost use Rattle.sqlite_value.specs.Order.{column};
 ghost use Rattle.desk_records.specs.ModuleRow.{StoredText};
 ghost use Rattle.desk_records.specs.SetRow.{StoredNumber, has_number};
@@ -27,6 +27,7 @@ pub struct StoredArtifact {
 /// The artifact in a row of module, filename, size and digest. Takes no memory.
 pub fn read_stored_artifact(row: &Row) -> Result<StoredArtifact, RowFault>
     ensures ok { IfOk result (IsStoredRow row.now) }
+    ensures kept { IfOk result (λ it. broken_stored_column row.now ≡ None) }
     ensures err { IfErr result (λ e. (c : _) × (e ≡ RowFault.Broken c) × (broken_stored_column row.now ≡ Some c)) }
 {
     let module_number = module_at(row, 0)?;
@@ -79,7 +80,8 @@ fn module_at(row: &Row, at: usize) -> Result<ModuleNo, RowFault>
     ModuleNo::new(number).ok_or(broken)
 }
 
-fn artifact_at(row: &Row, at: usize) -> Result<ArtifactNo, RowFault>
+/// The number of an artifact in a column.
+pub(crate) fn artifact_at(row: &Row, at: usize) -> Result<ArtifactNo, RowFault>
     ensures ok { IfOk result (λ number. column row.now at ≡ StoredNumber number) }
     ensures kept { IfOk result (λ number. has_number (column row.now at) ≡ true) }
     ensures err { IfErr result (λ e. (e ≡ RowFault.Broken Column.ArtifactNumber) × (has_number (column row.now at) ≡ false)) }

@@ -1,6 +1,6 @@
 //! The rows of rollouts, of their groups, of actions and of offers.
 
-ghost use Rattle.std.specs.Prelude.{◌≡◌, ◌⊎◌, IfOk, IfErr, true, false, Some};
+ghost use Rattle.std.specs.Prelude.{◌≡◌, ◌⊎◌, IfOk, IfErr, true, false, None, Some};
 ghost use Rattle.sqlite_value.specs.Order.{column};
 ghost use Rattle.desk_records.specs.ModuleRow.{StoredText};
 ghost use Rattle.desk_records.specs.RolloutRow.{IsActionRow, IsGroupRow, IsListedActionRow, IsOfferRow, IsRolloutRow, broken_action_column};
@@ -80,6 +80,7 @@ pub fn read_stored_rollout(alloc: Global, row: &Row) -> Result<StoredRollout, Ro
 /// The group in a row of its number, first and last place, started and counts. Takes no memory.
 pub fn read_group(row: &Row) -> Result<GroupRecord, RowFault>
     ensures ok { IfOk result (IsGroupRow row.now) }
+    ensures kept { IfOk result (λ it. broken_group_column row.now ≡ None) }
     ensures err { IfErr result (λ e. (c : _) × (e ≡ RowFault.Broken c) × (broken_group_column row.now ≡ Some c)) }
 {
     let number = number_at(row, 0).ok_or(RowFault::Broken(Column::GroupNumber))?;
@@ -103,6 +104,7 @@ pub fn read_group(row: &Row) -> Result<GroupRecord, RowFault>
 /// The action in a row without its number. Takes no memory.
 pub fn read_stored_action(row: &Row) -> Result<StoredAction, RowFault>
     ensures ok { IfOk result (IsActionRow row.now) }
+    ensures kept { IfOk result (λ it. broken_action_column row.now ≡ None) }
     ensures err { IfErr result (λ e. (c : _) × (e ≡ RowFault.Broken c) × (broken_action_column row.now ≡ Some c)) }
 {
     let rollout = numbered_at(row, 0).ok_or(RowFault::Broken(Column::ActionRollout))?;
@@ -126,6 +128,7 @@ pub fn read_stored_action(row: &Row) -> Result<StoredAction, RowFault>
 /// The action in a row with its number at the end. Takes no memory.
 pub fn read_listed_action(row: &Row) -> Result<ListedAction, RowFault>
     ensures ok { IfOk result (IsListedActionRow row.now) }
+    ensures kept { IfOk result (λ it. broken_listed_action_column row.now ≡ None) }
     ensures err { IfErr result (λ e. (c : _) × (e ≡ RowFault.Broken c) × (broken_listed_action_column row.now ≡ Some c)) }
 {
     let action = read_stored_action(row)?;
@@ -136,6 +139,7 @@ pub fn read_listed_action(row: &Row) -> Result<ListedAction, RowFault>
 /// The offer in a row of action and kind. Takes no memory.
 pub fn read_offer(row: &Row) -> Result<Offer, RowFault>
     ensures ok { IfOk result (IsOfferRow row.now) }
+    ensures kept { IfOk result (λ it. broken_offer_column row.now ≡ None) }
     ensures err { IfErr result (λ e. (c : _) × (e ≡ RowFault.Broken c) × (broken_offer_column row.now ≡ Some c)) }
 {
     let action = numbered_at(row, 0).ok_or(RowFault::Broken(Column::OfferAction))?;

@@ -16,3 +16,4 @@ pub mod CountingLemmas
 mod NextOfferCalls
 pub mod GroupOfferCalls
 mod RawCalls
+mod RawLists

@@ -5,3 +5,4 @@ pub mod Texts
 pub mod Lending
 pub mod Changing
 pub mod GroupPairs
+pub mod RawLists

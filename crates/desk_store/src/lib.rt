@@ -5,10 +5,14 @@ mod actions;
 mod artifacts;
 mod attributes;
 mod change;
+mod checked_row;
 mod codes;
 mod from_row;
 mod group_offers;
+mod raw_artifacts;
+mod raw_groups;
 mod raw_members;
+mod raw_offers;
 mod raw_rollouts;
 mod reading;
 mod rollouts;
@@ -21,7 +25,7 @@ pub use crate::change::OpenChange;
 pub use crate::rollouts::GroupAndNext;
 pub use crate::store::DeskStore;
 pub use desk_records::{
-    ListedAction, ListedTarget, NewEntry, PlacedMember, SetName, StoredAction, StoredArtifact,
-    StoredRollout, StoredTarget, tell_entry,
+    CheckedArtifact, ListedAction, ListedTarget, NewEntry, OwnedOffer, PlacedMember, SetName,
+    StoredAction, StoredArtifact, StoredRollout, StoredTarget, tell_entry,
 };
 pub use sql_calls::{Fault, Work};

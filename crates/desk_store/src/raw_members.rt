@@ -1,37 +1,18 @@
 //! The table of members with whatever rows it has, in a change that is under way.
 
-ghost use Rattle.std.specs.Prelude.{◌≡◌, ◌≤◌, ◌+◌, IfOk, length, option_map, vec_items};
-ghost use Rattle.desk_records.specs.Listings.{AreRead};
-ghost use Rattle.desk_records.specs.MemberRow.{IsPlacedRow, keeps_member_rules};
+ghost use Rattle.std.specs.Prelude.{◌≡◌, ◌≤◌, ◌+◌, length, option_map, vec_items};
 ghost use Rattle.desk_records.specs.PlaceLists.{ListsPlaces};
 ghost use Rattle.desk_records.specs.Schema.{Members};
 ghost use Rattle.desk_store.specs.Changing.{FindsTables, StaysIn};
 ghost use Rattle.desk_store.specs.Counting.{AddsIn};
 
 use crate::change::OpenChange;
+use crate::checked_row::read_checked;
 use crate::reading::counted_in;
-use desk_records::{COUNT_MEMBERS, LIST_PLACES, PlacedMember, read_placed_member};
+use desk_records::{COUNT_MEMBERS, LIST_PLACES, PlacedMember};
 use rollout_model::RolloutNo;
 use sql_calls::Fault;
-use sqlite::{Alter, Row, params};
-use std::alloc::Global;
-
-/// The member in each row; `None` where one of them breaks a rule.
-fn read_places(alloc: Global, rows: &[Row]) -> Result<Option<Vec<PlacedMember>>, Fault>
-    ensures { IfOk result (λ found. AreRead IsPlacedRow keeps_member_rules rows.now (option_map vec_items found)) }
-{
-    let mut members = Vec::new(alloc);
-    for row in rows {
-        let Some(member) = read_placed_member(row) else {
-            return Ok(None);
-        };
-        match members.push(member) {
-            Ok(()) => {}
-            Err(_) => return Err(Fault::Memory),
-        }
-    }
-    Ok(Some(members))
-}
+use sqlite::{Alter, params};
 
 impl<'a, S: Alter> OpenChange<'a, S> {
     /// The members of a rollout in the order of their places, whatever rows there are; `None` where a row of it breaks a column's rule.
@@ -42,7 +23,7 @@ impl<'a, S: Alter> OpenChange<'a, S> {
     {
         let alloc = self.store.alloc;
         let rows = self.ask(LIST_PLACES, params![number.get()])?;
-        read_places(alloc, &rows)
+        read_checked(alloc, &rows)
     }
 
     /// How many rows the table has.

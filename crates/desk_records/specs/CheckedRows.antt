@@ -1,0 +1,43 @@
+-- What rows that are checked are read as.
+use Rattle.std.specs.Prelude.{◌≡◌, Bool, true, ◌&&◌, None, Some, pos}
+use Rattle.std.specs.Option.{is_none, is_some}
+use Rattle.sqlite_value.specs.declared.value.Value.TheVariants.{Int, Text}
+use Rattle.sqlite_value.specs.Order.{Row, column}
+use Rattle.desk_records.specs.ArtifactRow.{IsStoredRow, broken_stored_column, has_size, small_number}
+use Rattle.desk_records.specs.Codes.{outcome_in}
+use Rattle.desk_records.specs.RolloutRow.{IsOfferRow, broken_offer_column}
+use Rattle.desk_records.specs.SetRow.{has_number}
+use Rattle.desk_records.specs.TargetRow.{has_word}
+use Rattle.desk_records.specs.declared.checked_rows.CheckedArtifact.{CheckedArtifact}
+use Rattle.desk_records.specs.declared.checked_rows.CountedAction.{CountedAction}
+use Rattle.desk_records.specs.declared.checked_rows.OwnedOffer.{OwnedOffer}
+
+-- ---- the row of module, filename, size, digest and number
+
+pub record IsCheckedArtifactRow (row : Row) (a : CheckedArtifact) : Type 0 where
+  pub artifact : IsStoredRow row a.artifact
+  pub kept : broken_stored_column row ≡ None
+  pub number : column row 4 ≡ Int (pos a.number)
+  pub good : has_number (column row 4) ≡ true
+
+abbrev pub keeps_artifact_rules : Row → Bool
+keeps_artifact_rules row = is_none (broken_stored_column row) && has_number (column row 4)
+
+-- ---- the row of action, kind and id
+
+pub record IsOwnedOfferRow (row : Row) (o : OwnedOffer) : Type 0 where
+  pub offer : IsOfferRow row o.offer
+  pub id : column row 2 ≡ Text o.id
+  pub word : has_word (column row 2) ≡ true
+
+abbrev pub keeps_offer_rules : Row → Bool
+keeps_offer_rules row = is_none (broken_offer_column row) && has_word (column row 2)
+
+-- ---- what is counted of the row of an action
+
+pub record IsCountedRow (row : Row) (a : CountedAction) : Type 0 where
+  pub place : small_number (column row 1) ≡ Some a.place
+  pub outcome : outcome_in (column row 4) ≡ Some a.outcome
+
+abbrev pub keeps_counted_rules : Row → Bool
+keeps_counted_rules row = has_size (column row 1) && is_some (outcome_in (column row 4))

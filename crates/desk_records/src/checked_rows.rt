@@ -1,0 +1,76 @@
+//! Rows that are read to be checked: an artifact with its number, an offer with its target, an action as it is counted.
+
+ghost use Rattle.std.specs.Prelude.{◌≡◌, IfNone, IfSome, false};
+ghost use Rattle.desk_records.specs.CheckedRows.{IsCheckedArtifactRow, IsCountedRow, IsOwnedOfferRow};
+ghost use Rattle.desk_records.specs.CheckedRows.{keeps_artifact_rules, keeps_counted_rules, keeps_offer_rules};
+
+use crate::artifact_row::{StoredArtifact, artifact_at, number_at, read_stored_artifact};
+use crate::codes::outcome_at;
+use crate::rollout_row::read_offer;
+use crate::target_row::id_at;
+use rollout_machine::Outcome;
+use rollout_model::{ArtifactNo, ControllerId, Offer};
+use sqlite::Row;
+
+/// An artifact and its number.
+#[derive(Clone, Copy)]
+pub struct CheckedArtifact {
+    pub number: ArtifactNo,
+    pub artifact: StoredArtifact,
+}
+
+/// What a target is offered.
+#[derive(Clone, Copy)]
+pub struct OwnedOffer {
+    pub id: ControllerId,
+    pub offer: Offer,
+}
+
+/// What a group counts of an action.
+#[derive(Clone, Copy)]
+pub struct CountedAction {
+    pub place: u32,
+    pub outcome: Option<Outcome>,
+}
+
+/// The artifact in a row of module, filename, size, digest and number; `None` where a column breaks its rule. Takes no memory.
+pub fn read_checked_artifact(row: &Row) -> Option<CheckedArtifact>
+    ensures some { IfSome result (IsCheckedArtifactRow row.now) }
+    ensures none { IfNone result (keeps_artifact_rules row.now ≡ false) }
+{
+    let Ok(artifact) = read_stored_artifact(row) else {
+        return None;
+    };
+    let Ok(number) = artifact_at(row, 4) else {
+        return None;
+    };
+    Some(CheckedArtifact { number, artifact })
+}
+
+/// The offer in a row of action, kind and id; `None` where a column breaks its rule. Takes no memory.
+pub fn read_owned_offer(row: &Row) -> Option<OwnedOffer>
+    ensures some { IfSome result (IsOwnedOfferRow row.now) }
+    ensures none { IfNone result (keeps_offer_rules row.now ≡ false) }
+{
+    let Ok(offer) = read_offer(row) else {
+        return None;
+    };
+    let Ok(id) = id_at(row, 2) else {
+        return None;
+    };
+    Some(OwnedOffer { id, offer })
+}
+
+/// Place and outcome in the row of a listed action; `None` where one of both breaks its rule. Takes no memory.
+pub fn read_counted_action(row: &Row) -> Option<CountedAction>
+    ensures some { IfSome result (IsCountedRow row.now) }
+    ensures none { IfNone result (keeps_counted_rules row.now ≡ false) }
+{
+    let Some(place) = number_at(row, 1) else {
+        return None;
+    };
+    let Some(outcome) = outcome_at(row, 4) else {
+        return None;
+    };
+    Some(CountedAction { place, outcome })
+}

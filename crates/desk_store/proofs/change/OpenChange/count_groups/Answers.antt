@@ -1,0 +1,11 @@
+use Rattle.desk_records.specs.Schema.{Groups}
+use Rattle.desk_records.specs.declared.rollout_texts.TheConstants.{COUNT_GROUPS}
+use Rattle.desk_records.proofs.RolloutMeaning.{count_groups_is}
+use Rattle.desk_store.proofs.RawCalls.{count_read, counted_ledger}
+use Rattle.desk_store.proofs.change.OpenChange.count_groups.Goals as goal
+
+pub returns-clause-reads : goal.returns-clause-reads
+returns-clause-reads g c = count_read Groups COUNT_GROUPS.now count_groups_is _ _ c.in_ok-row.row c.in_ok-row.ensures.takes c.counted_in.result c.counted_in.ensures.count c.counted_in.ensures.small
+
+pub first-requires : goal.first-requires
+first-requires g c = counted_ledger Groups COUNT_GROUPS.now count_groups_is

@@ -1,0 +1,94 @@
+//! What is read of rows that are checked: each of them, or that one breaks a rule.
+
+ghost use Rattle.std.specs.Prelude.{◌≡◌, Bool, IfNone, IfOk, IfSome, None, false, option_map, vec_items};
+ghost use Rattle.std.specs.Option.{is_none};
+ghost use Rattle.sqlite_value.specs.Order.{Row};
+ghost use Rattle.desk_records.specs.CheckedRows.{IsCheckedArtifactRow, IsOwnedOfferRow, keeps_artifact_rules, keeps_offer_rules};
+ghost use Rattle.desk_records.specs.Listings.{AreRead};
+ghost use Rattle.desk_records.specs.MemberRow.{IsPlacedRow, keeps_member_rules};
+ghost use Rattle.desk_records.specs.RolloutRow.{IsGroupRow, broken_group_column};
+ghost use Rattle.desk_store.specs.RawLists.{IsKeptGroupRow};
+
+use desk_records::{
+    CheckedArtifact, OwnedOffer, PlacedMember, read_checked_artifact, read_group, read_owned_offer,
+    read_placed_member,
+};
+use rollout_machine::GroupRecord;
+use sql_calls::Fault;
+use sqlite::Row;
+use std::alloc::Global;
+
+/// What is read of a row whose columns keep their rules.
+pub(crate) trait FromCheckedRow: Sized + Drop {
+    ghost is_row: { Row → Self → Type 0 };
+
+    ghost keeps_rules: { Row → Bool };
+
+    fn from_checked_row(row: &Row) -> Option<Self>
+        ensures some { IfSome result (is_row row.now) }
+        ensures none { IfNone result (keeps_rules row.now ≡ false) };
+}
+
+/// Of id and place.
+impl FromCheckedRow for PlacedMember {
+    ghost is_row = { IsPlacedRow };
+
+    ghost keeps_rules = { keeps_member_rules };
+
+    fn from_checked_row(row: &Row) -> Option<Self> {
+        read_placed_member(row)
+    }
+}
+
+/// Of module, filename, size, digest and number.
+impl FromCheckedRow for CheckedArtifact {
+    ghost is_row = { IsCheckedArtifactRow };
+
+    ghost keeps_rules = { keeps_artifact_rules };
+
+    fn from_checked_row(row: &Row) -> Option<Self> {
+        read_checked_artifact(row)
+    }
+}
+
+/// Of action, kind and id.
+impl FromCheckedRow for OwnedOffer {
+    ghost is_row = { IsOwnedOfferRow };
+
+    ghost keeps_rules = { keeps_offer_rules };
+
+    fn from_checked_row(row: &Row) -> Option<Self> {
+        read_owned_offer(row)
+    }
+}
+
+/// Of number, first and last place, started and counts.
+impl FromCheckedRow for GroupRecord {
+    ghost is_row = { IsKeptGroupRow };
+
+    ghost keeps_rules = { λ row. is_none (broken_group_column row) };
+
+    fn from_checked_row(row: &Row) -> Option<Self> {
+        read_group(row).ok()
+    }
+}
+
+/// What each row is read as, in order; `None` where one of them breaks a rule.
+pub(crate) fn read_checked<T: FromCheckedRow>(
+    alloc: Global,
+    rows: &[Row],
+) -> Result<Option<Vec<T>>, Fault>
+    ensures { IfOk result (λ found. AreRead T.is_row T.keeps_rules rows.now (option_map vec_items found)) }
+{
+    let mut found = Vec::new(alloc);
+    for row in rows {
+        let Some(one) = T::from_checked_row(row) else {
+            return Ok(None);
+        };
+        match found.push(one) {
+            Ok(()) => {}
+            Err(_) => return Err(Fault::Memory),
+        }
+    }
+    Ok(Some(found))
+}

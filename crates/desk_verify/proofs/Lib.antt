@@ -1,0 +1,7 @@
+mod Counting
+mod Follow
+mod MemberLemmas
+mod Naming
+mod ListMembers
+mod MemberLaw
+pub mod NeverNamed

@@ -1,0 +1,74 @@
+-- The table of members agrees where records of accepted commands are held.
+use Rattle.std.proofs.Common.{◌≡◌, ◌⊎◌, inl, inr, ◌≤◌, ◌<◌, ℕ, zero, suc, ◌+◌, pos, true, List, ◌∷◌, length, refl, sym, ap, subst, ◌∙◌, arith}
+use Rattle.std.proofs.lemmas.Bool.Decides.{nat_tests}
+use Rattle.sqlite_value.specs.declared.value.Value.TheVariants.{Int, Null}
+use Rattle.sqlite_value.specs.Order.{Row}
+use Rattle.sqlite.specs.Effect.{Database}
+use Rattle.sqlite_rules.specs.Lists.{Has}
+use Rattle.sql_calls.specs.Keyed.{IsHeldBy}
+use Rattle.rollout_model.specs.Limits.{rollout_limit}
+use Rattle.rollout_model.specs.Rules.{is_number, is_word}
+use Rattle.rollout_machine.specs.Commands.{Bytes}
+use Rattle.rollout_machine.specs.CommandList.{CommandList}
+use Rattle.rollout_machine.specs.Records.{Records, records}
+use Rattle.rollout_machine.specs.Validity.{IsValid}
+use Rattle.rollout_machine.specs.declared.records.RolloutRecord.{RolloutRecord}
+use Rattle.desk_records.specs.Holds.{HoldsLedger, HoldsRecords, Ledger, ledger_of}
+use Rattle.desk_records.specs.Rollouts.{member_row, members_from, rollout_row, told_rollout}
+use Rattle.desk_records.specs.Schema.{Members, Rollouts}
+use Rattle.desk_records.specs.TableRows.{IsMember}
+use Rattle.desk_records.specs.Tables.{HoldsTables, Tables}
+use Rattle.desk_records.proofs.HeldTables.{IsPart, held_rows, numbered, of_part, row_numbered, row_of, wanted_of}
+use Rattle.desk_records.proofs.NumberColumns.{has_own_number, is_number_in, is_small}
+use Rattle.desk_verify.specs.Members.{AgreesMembers, HasPlace}
+use Rattle.desk_verify.specs.Rollouts.{IsThere}
+use Rattle.desk_verify.proofs.ListMembers.{AreIds, few_rollouts, member_ids}
+
+abbrev members_in : RolloutRecord → List Bytes
+members_in x = x.members
+
+said : (n number place : ℕ) (id : Bytes) → is_number number ≡ true → place ≤ 10000 → is_word id ≡ true → IsMember (Int (pos n) ∷ member_row number place id) number place id
+said n number place id good few word = record { rollout_is = is_number_in number good; place_is = is_small place (omega (arith, few)); id_is = refl; word = word }
+
+good_number : (n : ℕ) → 1 ≤ n → n ≤ rollout_limit → is_number n ≡ true
+good_number n low high = grind (arith, nat_tests, low, high)
+
+-- a rollout's number is there where the ledger has so many rollouts
+there : (db : Database) (l : Ledger) → HoldsLedger db l → (t : Tables) → HoldsTables db t → (n : ℕ) → 1 ≤ n → n < 1 + length l.records.rollouts → IsThere t n
+there db l held t holds n low high =
+    let it = row_numbered rollout_row 1 l.records.rollouts n low high in
+    record { row = rollout_row n it.0; among = subst (λ rows. Has rows (rollout_row n it.0)) (sym (held_rows db l held t holds Rollouts)) it.2; numbered = has_own_number n (Null ∷ told_rollout it.0) }
+
+pub members_agree : (h : CommandList) → IsValid h → (db : Database) (t : Tables) → HoldsRecords db (records h) → HoldsTables db t → AgreesMembers t
+members_agree h valid db t held holds row among =
+    let of = of_part member_row members_in 1 rs.rollouts content.1 content.2 in
+    let it = numbered (member_row of.number) 1 of.whole.members content.1 of.among in
+    let ids = member_ids h valid of.whole of.has in
+    let is : row ≡ Int (pos content.0) ∷ member_row of.number it.at it.one = content.3 ∙ ap (λ x. Int (pos content.0) ∷ x) it.is in
+    let good = good_number of.number of.low (omega (arith, of.high, few_rollouts h valid)) in
+    record {
+      rollout = of.number;
+      place = it.at;
+      id = it.one;
+      is = subst (λ r. IsMember r of.number it.at it.one) (sym is) (said content.0 of.number it.at it.one good (omega (arith, it.high, ids.few)) (ids.words it.one it.among));
+      there = there db (ledger_of rs) held t holds of.number of.low of.high;
+      follows = follows content.1 of ids good it.at it.low it.high;
+    }
+  where
+    rs : Records
+    rs = records h
+
+    rows : IsHeldBy (t Members) (members_from 1 (records h).rollouts)
+    rows = held_rows db (ledger_of (records h)) held t holds Members
+
+    content : (n : ℕ) × (x : Row) × Has (members_from 1 (records h).rollouts) x × (row ≡ Int (pos n) ∷ x)
+    content = wanted_of (t Members) (members_from 1 (records h).rollouts) row rows among
+
+    follows : (x : Row) (of : IsPart member_row members_in 1 (records h).rollouts x) → AreIds of.whole.members → is_number of.number ≡ true → (p : ℕ) → 1 ≤ p → p < 1 + length of.whole.members
+        → (p ≡ 1) ⊎ ((before : ℕ) × (p ≡ before + 1) × HasPlace t of.number before)
+    follows x of ids good zero low high = absurd (omega (arith, low))
+    follows x of ids good (suc zero) low high = inl refl
+    follows x of ids good (suc (suc b)) low high =
+        let other = row_numbered (member_row of.number) 1 of.whole.members (suc b) (omega arith) (omega (arith, high)) in
+        let behind = row_of (t Members) (members_from 1 (records h).rollouts) _ rows (of.others _ other.2) in
+        inr (suc b, omega arith, record { row = Int (pos behind.0) ∷ member_row of.number (suc b) other.0; among = behind.1; id = other.0; is = said behind.0 of.number (suc b) other.0 good (omega (arith, high, ids.few)) (ids.words other.0 other.1) })

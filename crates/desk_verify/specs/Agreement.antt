@@ -1,0 +1,37 @@
+-- When the tables of a desk agree, and what a verification says of them.
+use Rattle.std.specs.Prelude.{◌≡◌, Bool, true, false, List, [], ◌∷◌, ◌++◌, Option, Some, None, ⊤}
+use Rattle.std.specs.List.{AllByRecursion}
+use Rattle.desk_records.specs.Tables.{Tables}
+use Rattle.desk_verify.specs.Members.{AgreesMembers}
+use Rattle.desk_verify.specs.declared.damage.CheckedTable.{CheckedTable}
+use Rattle.desk_verify.specs.declared.damage.CheckedTable.TheVariants.{Artifact, Member, RolloutGroup, Action, Offer}
+
+-- the tables in the order in which they are checked
+abbrev pub checked : List CheckedTable
+checked = Artifact ∷ Member ∷ RolloutGroup ∷ Action ∷ Offer ∷ []
+
+-- It has exactly the rows that its rule gives, each column keeping its rule. Of the tables without a rule nothing is asked yet.
+abbrev pub Agrees : Tables → CheckedTable → Type 0
+Agrees t Artifact = ⊤
+Agrees t Member = AgreesMembers t
+Agrees t RolloutGroup = ⊤
+Agrees t Action = ⊤
+Agrees t Offer = ⊤
+
+-- those before it agree, and it doesn't
+pub record NamesFirst (t : Tables) (table : CheckedTable) : Type 0 where
+  pub before : List CheckedTable
+  pub after : List CheckedTable
+  pub order : checked ≡ before ++ table ∷ after
+  pub agree : AllByRecursion (Agrees t) before
+  pub differs : Agrees t table → ⊥
+
+-- the first table that doesn't agree, or all agree
+abbrev pub IsDamage : Tables → Option CheckedTable → Type 0
+IsDamage t None = AllByRecursion (Agrees t) checked
+IsDamage t (Some table) = NamesFirst t table
+
+-- the answer of a check
+abbrev pub Decides : Type 0 → Bool → Type 0
+Decides P true = P
+Decides P false = P → ⊥

@@ -1,0 +1,7 @@
+pub mod Names
+pub mod Agreement
+pub mod Rollouts
+pub mod Members
+pub mod Following
+pub mod MemberChecks
+pub mod Promises

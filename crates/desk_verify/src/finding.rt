@@ -1,0 +1,55 @@
+//! The first table that doesn't agree.
+
+ghost use Rattle.desk_verify.specs.Agreement.{Agrees, Decides, IsDamage};
+ghost use Rattle.desk_verify.specs.Promises.{NamesNone};
+ghost use Rattle.desk_store.specs.Changing.{FindsTables, StaysIn, seen_in};
+
+use crate::damage::CheckedTable;
+use crate::members::check_members;
+use desk_store::{Fault, OpenChange};
+use sqlite::Alter;
+
+/// The tables in the order in which they are checked.
+const TABLES: [CheckedTable; 5] = [
+    CheckedTable::Artifact,
+    CheckedTable::Member,
+    CheckedTable::RolloutGroup,
+    CheckedTable::Action,
+    CheckedTable::Offer,
+];
+
+/// The first table that doesn't agree, if there is one. Nothing is written.
+pub fn find_damage<S: Alter>(change: &mut OpenChange<'_, S>) -> Result<Option<CheckedTable>, Fault>
+    ensures stays { StaysIn S.Store change.old change.new result }
+    ensures judges { FindsTables S.Store change.old change.new result IsDamage }
+    ensures never { NamesNone (seen_in S.Store change.old) (seen_in S.Store change.new) result }
+{
+    check_tables(change)
+}
+
+/// Checks one table after the other, up to the first that doesn't agree.
+fn check_tables<S: Alter>(change: &mut OpenChange<'_, S>) -> Result<Option<CheckedTable>, Fault>
+    ensures stays { StaysIn S.Store change.old change.new result }
+    ensures judges { FindsTables S.Store change.old change.new result IsDamage }
+{
+    for table in &TABLES {
+        if !check_table(change, *table)? {
+            return Ok(Some(*table));
+        }
+    }
+    Ok(None)
+}
+
+/// Whether the table agrees.
+fn check_table<S: Alter>(change: &mut OpenChange<'_, S>, table: CheckedTable) -> Result<bool, Fault>
+    ensures stays { StaysIn S.Store change.old change.new result }
+    ensures judges { FindsTables S.Store change.old change.new result (λ t agrees. Decides (Agrees t table) agrees) }
+{
+    match table {
+        CheckedTable::Member => check_members(change),
+        CheckedTable::Artifact
+        | CheckedTable::RolloutGroup
+        | CheckedTable::Action
+        | CheckedTable::Offer => Ok(true),
+    }
+}

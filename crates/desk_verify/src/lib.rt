@@ -1,0 +1,13 @@
+//! Whether the tables of a desk agree with what each of them is to have, whatever rows they have.
+#![tactic(auto)]
+
+mod damage;
+mod finding;
+mod laws;
+mod members;
+mod places;
+mod rollouts;
+
+pub use crate::damage::{CheckedTable, Damage};
+pub use crate::finding::find_damage;
+pub use crate::laws::records_agree;
