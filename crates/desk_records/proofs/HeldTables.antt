@@ -1,5 +1,5 @@
 -- What tables have where a ledger is held, whatever rowids nobody knows.
-use Rattle.std.proofs.Common.{◌≡◌, ◌⊎◌, inl, inr, ◌≤◌, ◌<◌, ℕ, ◌+◌, pos, Bool, true, false, List, [], ◌∷◌, length, slice_get, nat_lt, Some, refl, sym, ap, subst, ◌∙◌, arith}
+use Rattle.std.proofs.Common.{◌≡◌, ◌⊎◌, inl, inr, ◌≤◌, ◌<◌, ℕ, suc, ◌+◌, pos, Bool, true, false, List, [], ◌∷◌, length, slice_get, nat_lt, Some, refl, sym, ap, subst, ◌∙◌, arith}
 use Rattle.std.proofs.lemmas.Bool.Decides.{nat_tests}
 use Rattle.std.proofs.lemmas.List.Sorted.{IsPermutation-sym}
 use Rattle.sqlite_value.specs.declared.value.Value.TheVariants.{Int}
@@ -49,11 +49,16 @@ pub record IsNumbered {Y : Type 0} (f : ℕ → Y → Row) (k : ℕ) (ys : List 
   pub high : at < k + length ys
   pub among : Has ys one
   pub is : row ≡ f at one
+  pub index : ℕ
+  pub at_is : at ≡ k + index
+  pub got : slice_get ys index ≡ Some one
 
 pub numbered : {Y : Type 0} (f : ℕ → Y → Row) (k : ℕ) (ys : List Y) (row : Row) → Has (rows_from f k ys) row → IsNumbered f k ys row
 numbered f k [] row among = absurd among
-numbered f k (y ∷ ys) row (inl same) = record { at = k; one = y; low = omega arith; high = omega arith; among = inl refl; is = same }
-numbered f k (y ∷ ys) row (inr among) = let it = numbered f (k + 1) ys row among in record { at = it.at; one = it.one; low = omega (arith, it.low); high = omega (arith, it.high); among = inr it.among; is = it.is }
+numbered f k (y ∷ ys) row (inl same) = record { at = k; one = y; low = omega arith; high = omega arith; among = inl refl; is = same; index = 0; at_is = omega arith; got = refl }
+numbered f k (y ∷ ys) row (inr among) =
+    let it = numbered f (k + 1) ys row among in
+    record { at = it.at; one = it.one; low = omega (arith, it.low); high = omega (arith, it.high); among = inr it.among; is = it.is; index = suc it.index; at_is = omega (arith, it.at_is); got = it.got }
 
 pub row_numbered : {Y : Type 0} (f : ℕ → Y → Row) (k : ℕ) (ys : List Y) (at : ℕ) → k ≤ at → at < k + length ys → (y : Y) × Has ys y × Has (rows_from f k ys) (f at y)
 row_numbered f k [] at low high = absurd (omega (arith, low, high))
@@ -98,13 +103,27 @@ module _ {X Y : Type 0} (f : ℕ → ℕ → Y → Row) (items : X → List Y) w
     pub has : Has xs whole
     pub among : Has (rows_from (f number) 1 (items whole)) row
     pub others : (other : Row) → Has (rows_from (f number) 1 (items whole)) other → Has (parts_from f items n xs) other
+    pub index : ℕ
+    pub number_is : number ≡ n + index
+    pub got : slice_get xs index ≡ Some whole
 
   pub of_part : (n : ℕ) (xs : List X) (row : Row) → Has (parts_from f items n xs) row → IsPart n xs row
   of_part n [] row among = absurd among
   of_part n (x ∷ xs) row among = go (has_either (rows_from (f n) 1 (items x)) (parts_from f items (n + 1) xs) row among) (of_part (n + 1) xs row)
     where
       go : Has (rows_from (f n) 1 (items x)) row ⊎ Has (parts_from f items (n + 1) xs) row → (Has (parts_from f items (n + 1) xs) row → IsPart (n + 1) xs row) → IsPart n (x ∷ xs) row
-      go (inl here) later = record { number = n; whole = x; low = omega arith; high = omega arith; has = inl refl; among = here; others = λ other its. has_left _ _ other its }
+      go (inl here) later = record { number = n; whole = x; low = omega arith; high = omega arith; has = inl refl; among = here; others = λ other its. has_left _ _ other its; index = 0; number_is = omega arith; got = refl }
       go (inr behind) later =
           let it = later behind in
-          record { number = it.number; whole = it.whole; low = omega (arith, it.low); high = omega (arith, it.high); has = inr it.has; among = it.among; others = λ other its. has_right _ _ other (it.others other its) }
+          record {
+            number = it.number;
+            whole = it.whole;
+            low = omega (arith, it.low);
+            high = omega (arith, it.high);
+            has = inr it.has;
+            among = it.among;
+            others = λ other its. has_right _ _ other (it.others other its);
+            index = suc it.index;
+            number_is = omega (arith, it.number_is);
+            got = it.got;
+          }

@@ -43,5 +43,7 @@ pub mod NumberColumns
 pub mod TableColumns
 pub mod AnyRows
 pub mod PlaceRows
+pub mod ActionRows
 pub mod RolloutRows
 pub mod HeldTables
+pub mod HeldCounts

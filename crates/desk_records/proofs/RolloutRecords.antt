@@ -1,9 +1,8 @@
 -- What is read of rollouts and groups, where a ledger is held.
-use Rattle.std.proofs.Common.{◌≡◌, ◌≤◌, ◌&&◌, ℕ, ◌+◌, pos, negsuc, List, [], ◌∷◌, map, filter, take, drop, find, length, slice_get, Bool, true, false, cond, ◌++◌, reverse, Option, Some, None, option_map, refl, sym, ap, subst, ◌∙◌, arith, nat_eq, nat_le, nat_lt}
+use Rattle.std.proofs.Common.{◌≡◌, ◌≤◌, ◌&&◌, ℕ, ◌+◌, pos, negsuc, List, [], ◌∷◌, map, filter, take, drop, find, length, slice_get, Bool, true, false, cond, Option, Some, option_map, refl, ap, ◌∙◌, arith, nat_eq, nat_le, nat_lt}
 use Rattle.std.specs.List.{list_any}
-use Rattle.std.specs.Option.{is_some, option_or}
+use Rattle.std.specs.Option.{is_some}
 use Rattle.std.proofs.lemmas.List.{take-map}
-use Rattle.std.proofs.lemmas.Option.{slice_get-map}
 use Rattle.std.proofs.lemmas.Bool.Decides.{nat_tests}
 use Rattle.sqlite_value.specs.declared.value.Value.TheVariants.{Null, Int, Text}
 use Rattle.sqlite_value.specs.Order.{Row}

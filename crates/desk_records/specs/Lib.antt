@@ -24,3 +24,4 @@ pub mod Listings
 pub mod TableRows
 pub mod PlaceLists
 pub mod CheckedRows
+pub mod CountedActions

@@ -1,5 +1,5 @@
 -- What rows of tables say, each column keeping its rule.
-use Rattle.std.specs.Prelude.{◌≡◌, ℕ, true, List, ◌∷◌, [], None, Some, pos}
+use Rattle.std.specs.Prelude.{◌≡◌, ℕ, true, ◌∷◌, [], None, Some, pos}
 use Rattle.sqlite_value.specs.declared.value.Value.TheVariants.{Blob, Int, Text}
 use Rattle.sqlite_value.specs.Order.{Row, column}
 use Rattle.rollout_machine.specs.Commands.{Bytes}
