@@ -17,3 +17,4 @@ mod NextOfferCalls
 pub mod GroupOfferCalls
 mod RawCalls
 mod RawLists
+mod RawActionCalls
