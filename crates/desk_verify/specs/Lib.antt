@@ -3,5 +3,6 @@ pub mod Agreement
 pub mod Rollouts
 pub mod Members
 pub mod Following
+pub mod Judged
 pub mod MemberChecks
 pub mod Promises
