@@ -6,3 +6,6 @@ pub mod Following
 pub mod Judged
 pub mod MemberChecks
 pub mod Promises
+pub mod Groups
+pub mod Cuts
+pub mod GroupChecks

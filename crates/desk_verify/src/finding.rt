@@ -5,6 +5,7 @@ ghost use Rattle.desk_verify.specs.Promises.{NamesNone};
 ghost use Rattle.desk_store.specs.Changing.{FindsTables, StaysIn, seen_in};
 
 use crate::damage::CheckedTable;
+use crate::groups::check_groups;
 use crate::members::check_members;
 use desk_store::{Fault, OpenChange};
 use sqlite::Alter;
@@ -47,9 +48,7 @@ fn check_table<S: Alter>(change: &mut OpenChange<'_, S>, table: CheckedTable) ->
 {
     match table {
         CheckedTable::Member => check_members(change),
-        CheckedTable::Artifact
-        | CheckedTable::RolloutGroup
-        | CheckedTable::Action
-        | CheckedTable::Offer => Ok(true),
+        CheckedTable::RolloutGroup => check_groups(change),
+        CheckedTable::Artifact | CheckedTable::Action | CheckedTable::Offer => Ok(true),
     }
 }

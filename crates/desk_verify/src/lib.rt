@@ -1,8 +1,10 @@
 //! Whether the tables of a desk agree with what each of them is to have, whatever rows they have.
 #![tactic(auto)]
 
+mod cuts;
 mod damage;
 mod finding;
+mod groups;
 mod laws;
 mod members;
 mod places;
