@@ -1,5 +1,5 @@
 -- What a statement on one table shows, whatever rows the table has: those that pass, in its order.
-use Rattle.std.proofs.Common.{◌≡◌, ◌≤◌, ◌<◌, ℕ, ◌+◌, pos, Bool, true, false, List, [], ◌∷◌, map, filter, length, get_or, true≢false, sym, ap, subst, ◌∙◌, arith, IsPermutation}
+use Rattle.std.proofs.Common.{◌≡◌, ◌≤◌, ◌<◌, ℕ, ◌+◌, ◌&&◌, pos, Bool, true, false, List, [], ◌∷◌, map, filter, length, get_or, true≢false, sym, ap, subst, ◌∙◌, arith, IsPermutation}
 use Rattle.std.specs.List.{AllZip, list_all}
 use Rattle.std.specs.List.Sorted.{IsNonDecreasingBy}
 use Rattle.std.specs.Ordering.{is_lt}
@@ -21,7 +21,7 @@ use Rattle.sqlite_rules.specs.Lists.{Has}
 use Rattle.sqlite_rules.proofs.ListLemmas.{has_contained, has_filtered, has_kept, fails_has}
 use Rattle.sql_calls.proofs.Selects.{simple, by, passes, shown_of, shown_in, ordered_rows, IsOrdered}
 use Rattle.desk_records.specs.Listings.{AreBroken, AreSaid, IsAmong, IsSaid}
-use Rattle.desk_records.proofs.Membership.{has_mapped, has_permuted, map_has, mapped_at, same_kept, zip_at, zip_left, zip_length, zip_right}
+use Rattle.desk_records.proofs.Membership.{has_mapped, has_permuted, map_has, mapped_at, mapped_pass, both_pass, permuted_pass, same_kept, zip_at, zip_left, zip_length, zip_right}
 
 module _ (tree : ℕ) (test columns : List Term) (order : List (Term × Key)) (limit offset : Term) (params : Row) (db : Trees) (rows : List Row) (are : rows ≡ db tree)
     (whole : (xs : List Row) → page (by (simple tree test columns) order limit offset) params xs ≡ xs) (p : Row → Bool) (judged : (row : Row) → Has rows row → passes test params row ≡ p row)
@@ -72,6 +72,12 @@ module _ (tree : ℕ) (test columns : List Term) (order : List (Term × Key)) (l
 
   pub count_shown : length shown ≡ length its
   count_shown = ap length shown_is ∙ length-map it.ordered (λ (o : Output). o.1) ∙ length_permutation _ _ same ∙ length-map its (shown_in q params)
+
+  -- as many of them pass another test as rows do
+  pub tested_shown : (test : Row → Bool) → length (filter test shown) ≡ length (filter (λ row. p row && test (shown_of columns params row)) rows)
+  tested_shown test =
+      ap (λ l. length (filter test l)) shown_is ∙ mapped_pass (λ (o : Output). o.1) test it.ordered ∙ permuted_pass (λ (o : Output). test o.1) _ _ same
+      ∙ mapped_pass (shown_in q params) (λ (o : Output). test o.1) its ∙ both_pass p (λ row. test (shown_of columns params row)) rows
 
   -- ---- what is read of them
 

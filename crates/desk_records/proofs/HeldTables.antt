@@ -124,13 +124,27 @@ module _ {X Y : Type 0} (f : ℕ → ℕ → Y → Row) (items : X → List Y) w
     pub has : Has xs whole
     pub among : Has (rows_from (f number) 1 (items whole)) row
     pub others : (other : Row) → Has (rows_from (f number) 1 (items whole)) other → Has (parts_from f items n xs) other
+    pub index : ℕ
+    pub number_is : number ≡ n + index
+    pub got : slice_get xs index ≡ Some whole
 
   pub of_part : (n : ℕ) (xs : List X) (row : Row) → Has (parts_from f items n xs) row → IsPart n xs row
   of_part n [] row among = absurd among
   of_part n (x ∷ xs) row among = go (has_either (rows_from (f n) 1 (items x)) (parts_from f items (n + 1) xs) row among) (of_part (n + 1) xs row)
     where
       go : Has (rows_from (f n) 1 (items x)) row ⊎ Has (parts_from f items (n + 1) xs) row → (Has (parts_from f items (n + 1) xs) row → IsPart (n + 1) xs row) → IsPart n (x ∷ xs) row
-      go (inl here) later = record { number = n; whole = x; low = omega arith; high = omega arith; has = inl refl; among = here; others = λ other its. has_left _ _ other its }
+      go (inl here) later = record { number = n; whole = x; low = omega arith; high = omega arith; has = inl refl; among = here; others = λ other its. has_left _ _ other its; index = 0; number_is = omega arith; got = refl }
       go (inr behind) later =
           let it = later behind in
-          record { number = it.number; whole = it.whole; low = omega (arith, it.low); high = omega (arith, it.high); has = inr it.has; among = it.among; others = λ other its. has_right _ _ other (it.others other its) }
+          record {
+            number = it.number;
+            whole = it.whole;
+            low = omega (arith, it.low);
+            high = omega (arith, it.high);
+            has = inr it.has;
+            among = it.among;
+            others = λ other its. has_right _ _ other (it.others other its);
+            index = suc it.index;
+            number_is = omega (arith, it.number_is);
+            got = it.got;
+          }

@@ -45,6 +45,8 @@ pub mod TableColumns
 pub mod AnyRows
 pub mod PlaceRows
 pub mod PieceRows
+pub mod ActionRows
 pub mod RolloutRows
 pub mod HeldTables
 pub mod HeldArtifacts
+pub mod HeldCounts

@@ -1,7 +1,8 @@
 -- Membership in lists that are mapped, zipped or put in another order, and how many pass a test.
-use Rattle.std.proofs.Common.{◌≡◌, ◌⊎◌, inl, inr, ◌≤◌, ℕ, zero, suc, ◌<◌, List, [], ◌∷◌, map, filter, length, Bool, true, false, cond, refl, sym, ap, subst, ◌∙◌, arith, IsPermutation, get_or}
-use Rattle.std.specs.List.{AllZip}
-use Rattle.std.proofs.lemmas.List.Sorted.{Contains-permutation}
+use Rattle.std.proofs.Common.{◌≡◌, ◌⊎◌, inl, inr, ◌≤◌, ℕ, zero, suc, ◌<◌, ◌&&◌, Option, Some, None, filter_map, List, [], ◌∷◌, map, filter, length, Bool, true, false, cond, refl, sym, ap, subst, ◌∙◌, arith, IsPermutation, get_or}
+use Rattle.std.specs.List.{AllZip, cons_option}
+use Rattle.std.proofs.lemmas.List.Sorted.{Contains-permutation, sum_by-IsPermutation}
+use Rattle.std.proofs.lemmas.List.Sums.{length-filter}
 use Rattle.sqlite_rules.specs.Lists.{Has}
 use Rattle.sqlite_rules.proofs.ListLemmas.{has_contained, contains_had}
 
@@ -61,6 +62,40 @@ all_pass p (y ∷ xs) same x among = go (p y) refl same (λ fewer it. all_pass p
 pub each_passes : {X : Type 0} (p : X → Bool) (xs : List X) → ((x : X) → Has xs x → p x ≡ true) → length (filter p xs) ≡ length xs
 each_passes p [] each = refl
 each_passes p (x ∷ xs) each = rw (each x (inl refl)) (ap suc (each_passes p xs (λ y among. each y (inr among))))
+
+-- of mapped ones
+pub mapped_pass : {X Y : Type 0} (f : X → Y) (p : Y → Bool) (xs : List X) → length (filter p (map f xs)) ≡ length (filter (λ x. p (f x)) xs)
+mapped_pass f p [] = refl
+mapped_pass f p (x ∷ xs) = let more = mapped_pass f p xs in elim (p (f x)) as (λ b. length (cond b (f x ∷ filter p (map f xs)) (filter p (map f xs))) ≡ length (cond b (x ∷ filter (λ y. p (f y)) xs) (filter (λ y. p (f y)) xs))) [ true ↦ ap suc more | false ↦ more ]
+
+-- of those that passed another test
+pub both_pass : {X : Type 0} (p q : X → Bool) (xs : List X) → length (filter q (filter p xs)) ≡ length (filter (λ x. p x && q x) xs)
+both_pass p q [] = refl
+both_pass p q (x ∷ xs) = go (p x) (q x) refl refl (both_pass p q xs)
+  where
+    go : (a b : Bool) → p x ≡ a → q x ≡ b → length (filter q (filter p xs)) ≡ length (filter (λ y. p y && q y) xs)
+        → length (filter q (cond (p x) (x ∷ filter p xs) (filter p xs))) ≡ length (cond (p x && q x) (x ∷ filter (λ y. p y && q y) xs) (filter (λ y. p y && q y) xs))
+    go true true is its more = rw (is, its) (ap suc more)
+    go true false is its more = rw (is, its) more
+    go false b is its more = rw is more
+
+-- of what is found in them
+pub picked_pass : {X Y : Type 0} (f : X → Option Y) (p : Y → Bool) (q : X → Bool) → ((x : X) (y : Y) → f x ≡ Some y → q x ≡ p y) → ((x : X) → f x ≡ None → q x ≡ false)
+    → (xs : List X) → length (filter p (filter_map f xs)) ≡ length (filter q xs)
+picked_pass f p q some none [] = refl
+picked_pass {Y = Y} f p q some none (x ∷ xs) = go (f x) refl (picked_pass f p q some none xs)
+  where
+    go : (o : Option Y) → f x ≡ o → length (filter p (filter_map f xs)) ≡ length (filter q xs) → length (filter p (cons_option (f x) (filter_map f xs))) ≡ length (cond (q x) (x ∷ filter q xs) (filter q xs))
+    go None is more = rw (is, none x is) more
+    go (Some y) is more = rw (is, some x y is) (pushed (p y) more)
+      where
+        pushed : (b : Bool) → length (filter p (filter_map f xs)) ≡ length (filter q xs) → length (cond b (y ∷ filter p (filter_map f xs)) (filter p (filter_map f xs))) ≡ length (cond b (x ∷ filter q xs) (filter q xs))
+        pushed true same = ap suc same
+        pushed false same = same
+
+-- in another order
+pub permuted_pass : {X : Type 0} (p : X → Bool) (xs ys : List X) → IsPermutation xs ys → length (filter p ys) ≡ length (filter p xs)
+permuted_pass p xs ys same = length-filter p ys ∙ sum_by-IsPermutation (λ x. cond (p x) 1 0) xs ys same ∙ sym (length-filter p xs)
 
 -- ---- by places
 

@@ -85,9 +85,12 @@ unfolding binary
 numbers_equal (pos m) n = let same : is_eq (int_cmp (pos m) (pos n)) ≡ nat_eq m n = grind (arith, ints, nat_tests) in rw value_cmp-Int (rw same (judged (nat_eq m n)))
 numbers_equal (negsuc m) n = let never : is_eq (int_cmp (negsuc m) (pos n)) ≡ false = grind (arith, ints, nat_tests) in rw value_cmp-Int (rw never refl)
 
--- of a column that is a whole number
+-- of a column that is a whole number, whatever parameters follow
+pub passes_first : (row more : Row) (place n : ℕ) (v : ℤ) → column row place ≡ Int v → (passes (at_key place 0 ∷ []) (Int (pos n) ∷ more) row) ≡ has_at place n row
+passes_first row more place n v is = and_true _ ∙ rw is (numbers_equal v n)
+
 pub passes_at : (row : Row) (place n : ℕ) (v : ℤ) → column row place ≡ Int v → (passes (at_key place 0 ∷ []) (Int (pos n) ∷ []) row) ≡ has_at place n row
-passes_at row place n v is = and_true _ ∙ rw is (numbers_equal v n)
+passes_at row place n v is = passes_first row [] place n v is
 
 -- of two such columns
 pub passes_two : (row : Row) (first second m n : ℕ) (v w : ℤ) → column row first ≡ Int v → column row second ≡ Int w

@@ -1,5 +1,5 @@
 -- What LIST_PLACES shows, whatever rows the table of members has.
-use Rattle.std.proofs.Common.{◌≡◌, ◌≤◌, ℕ, pos, true, false, List, [], ◌∷◌, Option, Some, None, refl}
+use Rattle.std.proofs.Common.{◌≡◌, ◌≤◌, ℕ, pos, true, false, List, [], ◌∷◌, length, filter, Option, Some, None, refl}
 use Rattle.sqlite_value.specs.declared.value.Value.TheVariants.{Null, Int}
 use Rattle.sqlite_value.specs.Order.{Row, column}
 use Rattle.sqlite.specs.Command.TheVariants.{Select}
@@ -15,7 +15,7 @@ use Rattle.desk_records.specs.PlaceLists.{ListsPlaces, SaysMember, is_of}
 use Rattle.desk_records.specs.Schema.{Members}
 use Rattle.desk_records.specs.Tables.{HoldsTables, Tables}
 use Rattle.desk_records.specs.declared.member_row.PlacedMember.{PlacedMember}
-use Rattle.desk_records.proofs.AnyRows.{are_said, broken, number_order, rise}
+use Rattle.desk_records.proofs.AnyRows.{are_said, broken, count_shown, number_order, rise}
 use Rattle.desk_records.proofs.NumberColumns.{is_number_in, number_is, passes_at, small_is}
 use Rattle.desk_records.proofs.RolloutMeaning.{of_rollout, placed_columns, places_query}
 use Rattle.desk_records.proofs.TableColumns.{integer_at}
@@ -46,3 +46,7 @@ module _ (db : Database) (t : Tables) (holds : HoldsTables db t) (names : List (
     rise = rise (holds.spot Members).tree of_rollout placed_columns q.order q.limit q.offset params db.trees (t Members) (holds.rows Members) (λ xs. refl) (is_of r) judged shown (shows.answer Null) IsPlacedRow (SaysMember r) means members reads (λ (m : PlacedMember). m.place) in_order;
   }
   lists_places None fails = broken (holds.spot Members).tree of_rollout placed_columns q.order q.limit q.offset params db.trees (t Members) (holds.rows Members) (λ xs. refl) (is_of r) judged shown (shows.answer Null) (SaysMember r) keeps_member_rules kept_by fails
+
+  -- as many as the rollout has rows
+  pub counts_places : length shown ≡ length (filter (is_of r) (t Members))
+  counts_places = count_shown (holds.spot Members).tree of_rollout placed_columns q.order q.limit q.offset params db.trees (t Members) (holds.rows Members) (λ xs. refl) (is_of r) judged shown (shows.answer Null)

@@ -1,5 +1,5 @@
 -- What LAST_ROLLOUT and GET_ROLLOUT show, whatever rows the table of rollouts has.
-use Rattle.std.proofs.Common.{◌≡◌, ◌≤◌, inl, inr, ℕ, pos, negsuc, true, false, List, [], ◌∷◌, map, filter, get_or, take, Option, Some, None, true≢false, refl, sym, ap, subst, ◌∙◌, arith, Ordering, Less, Equal, Greater, int_cmp, is_eq, IsPermutation}
+use Rattle.std.proofs.Common.{◌≡◌, ◌≤◌, inl, inr, ℕ, pos, negsuc, true, false, List, [], ◌∷◌, map, filter, get_or, take, length, slice_get, Option, Some, None, true≢false, refl, sym, ap, subst, ◌∙◌, arith, Ordering, Less, Equal, Greater, int_cmp, is_eq, IsPermutation}
 use Rattle.std.specs.Ordering.{is_lt, ordering_reverse}
 use Rattle.std.proofs.lemmas.Int.{ints}
 use Rattle.std.proofs.lemmas.Bool.Decides.{nat_tests}
@@ -107,11 +107,32 @@ module _ (db : Database) (t : Tables) (holds : HoldsTables db t) (names : List (
 
   -- ---- the rollout of a number
 
+  -- a row of this number, and each is shown as this
+  pub record IsShownAs (r : ℕ) (row : Row) : Type 0 where
+    pub source : Row
+    pub among : Has (t Rollouts) source
+    pub numbered : has_rowid (pos r) source ≡ true
+    pub each : (other : Row) → Has (t Rollouts) other → has_rowid (pos r) other ≡ true → row ≡ rollout_shown other
+
   -- the row that is shown, or that there is none
   abbrev pub IsShownOf : ℕ → Option Row → Type 0
-  IsShownOf r (Some row) = (source : Row) × Has (t Rollouts) source × (has_rowid (pos r) source ≡ true) × (row ≡ rollout_shown source)
+  IsShownOf r (Some row) = IsShownAs r row
   IsShownOf r None = (source : Row) → Has (t Rollouts) source → has_rowid (pos r) source ≡ true → ⊥
 
-  pub gets_any : (r : ℕ) (row : Option Row) → ShowsFirst (Select (record { lets = []; body = simple tree (at_key 0 0 ∷ []) rollout_columns }) names) db (Int (pos r) ∷ []) row → IsShownOf r row
-  gets_any r (Some row) shows = from_shown tree (at_key 0 0 ∷ []) rollout_columns [] (lit (Int (negsuc 0))) (lit (Int (pos 0))) (Int (pos r) ∷ []) db.trees (t Rollouts) (holds.rows Rollouts) (λ xs. refl) (has_rowid (pos r)) (λ source among. passes_rowid source r) (row ∷ shows.0) (shows.1.answer Null) row (inl refl)
-  gets_any r None shows = λ source among numbered. is_shown tree (at_key 0 0 ∷ []) rollout_columns [] (lit (Int (negsuc 0))) (lit (Int (pos 0))) (Int (pos r) ∷ []) db.trees (t Rollouts) (holds.rows Rollouts) (λ xs. refl) (has_rowid (pos r)) (λ source among. passes_rowid source r) [] (shows.answer Null) source among numbered
+  module _ (r : ℕ) (shown : List Row) (few : length shown ≤ 1) (shows : Shows (Select (record { lets = []; body = simple tree (at_key 0 0 ∷ []) rollout_columns }) names) db (Int (pos r) ∷ []) shown) where
+    numbered_shown : (other : Row) → Has (t Rollouts) other → has_rowid (pos r) other ≡ true → Has shown (rollout_shown other)
+    numbered_shown = is_shown tree (at_key 0 0 ∷ []) rollout_columns [] (lit (Int (negsuc 0))) (lit (Int (pos 0))) (Int (pos r) ∷ []) db.trees (t Rollouts) (holds.rows Rollouts) (λ xs. refl) (has_rowid (pos r)) (λ source among. passes_rowid source r) shown (shows.answer Null)
+
+    pub gets_any : IsShownOf r (slice_get shown 0)
+    gets_any = go shown refl
+      where
+        go : (rows : List Row) → shown ≡ rows → IsShownOf r (slice_get rows 0)
+        go [] is = λ other among its. subst (λ l. Has l (rollout_shown other)) is (numbered_shown other among its)
+        go (row ∷ []) is =
+            let from = from_shown tree (at_key 0 0 ∷ []) rollout_columns [] (lit (Int (negsuc 0))) (lit (Int (pos 0))) (Int (pos r) ∷ []) db.trees (t Rollouts) (holds.rows Rollouts) (λ xs. refl) (has_rowid (pos r)) (λ source among. passes_rowid source r) shown (shows.answer Null) row (subst (λ l. Has l row) (sym is) (inl refl)) in
+            record { source = from.0; among = from.1; numbered = from.2; each = λ other there its. alone (rollout_shown other) (subst (λ l. Has l (rollout_shown other)) is (numbered_shown other there its)) }
+          where
+            alone : (x : Row) → Has (row ∷ []) x → row ≡ x
+            alone x (inl same) = sym same
+            alone x (inr none) = absurd none
+        go (row ∷ second ∷ rows) is = absurd (omega (arith, few, ap length is))

@@ -1,9 +1,10 @@
 -- What rows that are checked are read as.
-use Rattle.std.specs.Prelude.{◌≡◌, Bool, true, ◌&&◌, None, Some, pos}
-use Rattle.std.specs.Option.{is_none, is_some}
+use Rattle.std.specs.Prelude.{◌≡◌, Bool, true, ◌&&◌, Option, None, pos}
+use Rattle.std.specs.Option.{is_none, option_and_then, option_map}
+use Rattle.sqlite_value.specs.declared.value.Value.{Value}
 use Rattle.sqlite_value.specs.declared.value.Value.TheVariants.{Int, Text}
 use Rattle.sqlite_value.specs.Order.{Row, column}
-use Rattle.desk_records.specs.ArtifactRow.{IsStoredRow, broken_stored_column, has_size, small_number}
+use Rattle.desk_records.specs.ArtifactRow.{IsStoredRow, broken_stored_column, small_number}
 use Rattle.desk_records.specs.Codes.{outcome_in}
 use Rattle.desk_records.specs.RolloutRow.{IsOfferRow, broken_offer_column}
 use Rattle.desk_records.specs.SetRow.{has_number}
@@ -35,9 +36,10 @@ keeps_offer_rules row = is_none (broken_offer_column row) && has_word (column ro
 
 -- ---- what is counted of the row of an action
 
-pub record IsCountedRow (row : Row) (a : CountedAction) : Type 0 where
-  pub place : small_number (column row 1) ≡ Some a.place
-  pub outcome : outcome_in (column row 4) ≡ Some a.outcome
+-- the action in the columns of place and outcome; none where one of the two breaks its rule
+abbrev pub counted_in : Value → Value → Option CountedAction
+counted_in place outcome = option_and_then (λ at. option_map (λ ended. record { place = at; outcome = ended }) (outcome_in outcome)) (small_number place)
 
-abbrev pub keeps_counted_rules : Row → Bool
-keeps_counted_rules row = has_size (column row 1) && is_some (outcome_in (column row 4))
+-- in a row that has its place second and its outcome fifth
+abbrev pub counted_of : Row → Option CountedAction
+counted_of row = counted_in (column row 1) (column row 4)

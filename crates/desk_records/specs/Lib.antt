@@ -25,3 +25,4 @@ pub mod TableRows
 pub mod PlaceLists
 pub mod FoundPieces
 pub mod CheckedRows
+pub mod CountedActions

@@ -52,9 +52,14 @@ module _ {A : Type 0} (rows : List Row) (test : Row → Bool) (says : Row → A 
     pub passes : test row ≡ true
     pub breaks : (a : A) → says row a → ⊥
 
-  -- one row that passes the test, or none does
+  -- a row passes the test, and each that does says this
+  pub record IsOnly (a : A) : Type 0 where
+    pub said : IsSaid a
+    pub each : (row : Row) → Has rows row → test row ≡ true → says row a
+
+  -- what the rows say that pass the test, or none does
   abbrev pub FindsOne : Option A → Type 0
-  FindsOne (Some a) = IsSaid a
+  FindsOne (Some a) = IsOnly a
   FindsOne None = (row : Row) → Has rows row → test row ≡ true → ⊥
 
 -- the greatest rowid that is a number, and 0 where there is no row

@@ -1,8 +1,8 @@
 //! Rows that are read to be checked: an artifact with its number, an offer with its target, an action as it is counted.
 
 ghost use Rattle.std.specs.Prelude.{◌≡◌, IfNone, IfSome, false};
-ghost use Rattle.desk_records.specs.CheckedRows.{IsCheckedArtifactRow, IsCountedRow, IsOwnedOfferRow};
-ghost use Rattle.desk_records.specs.CheckedRows.{keeps_artifact_rules, keeps_counted_rules, keeps_offer_rules};
+ghost use Rattle.desk_records.specs.CheckedRows.{IsCheckedArtifactRow, IsOwnedOfferRow, counted_of};
+ghost use Rattle.desk_records.specs.CheckedRows.{keeps_artifact_rules, keeps_offer_rules};
 
 use crate::artifact_row::{StoredArtifact, artifact_at, number_at, read_stored_artifact};
 use crate::codes::outcome_at;
@@ -63,14 +63,9 @@ pub fn read_owned_offer(row: &Row) -> Option<OwnedOffer>
 
 /// Place and outcome in the row of a listed action; `None` where one of both breaks its rule. Takes no memory.
 pub fn read_counted_action(row: &Row) -> Option<CountedAction>
-    ensures some { IfSome result (IsCountedRow row.now) }
-    ensures none { IfNone result (keeps_counted_rules row.now ≡ false) }
+    ensures { result ≡ counted_of row.now }
 {
-    let Some(place) = number_at(row, 1) else {
-        return None;
-    };
-    let Some(outcome) = outcome_at(row, 4) else {
-        return None;
-    };
+    let place = number_at(row, 1)?;
+    let outcome = outcome_at(row, 4)?;
     Some(CountedAction { place, outcome })
 }

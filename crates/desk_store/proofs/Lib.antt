@@ -18,3 +18,4 @@ pub mod GroupOfferCalls
 mod RawCalls
 mod RawLists
 mod RawPieces
+mod RawActionCalls

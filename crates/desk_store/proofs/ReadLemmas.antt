@@ -1,7 +1,8 @@
 -- Rows that are read, whatever they are read as.
-use Rattle.std.proofs.Common.{◌≡◌, ◌<◌, ◌++◌, ◌+◌, ℕ, get_or, take, List, [], ◌∷◌, length, map, Option, Some, None, option_map, Ok, Err, Result, IfOk, Vec, refl, sym, ap₂, subst}
+use Rattle.std.proofs.Common.{◌≡◌, ◌<◌, ◌++◌, ◌+◌, ℕ, get_or, take, List, [], ◌∷◌, length, map, Option, Some, None, option_map, Ok, Err, Result, IfOk, Vec, refl, sym, ap₂, subst, filter_map, ap, ◌∙◌}
 use Rattle.std.proofs.lemmas.List.{take_more}
 use Rattle.std.proofs.lemmas.Slice.Zip.{all_zipped_more}
+use Rattle.std.specs.List.{cons_option}
 use Rattle.std.specs.declared.alloc.Global.{Global}
 use Rattle.sqlite_value.specs.Order.{Row}
 use Rattle.sqlite.specs.Effect.{Database, Reads as Shows}
@@ -27,6 +28,22 @@ read_mapped f is [] [] h = h
 read_mapped f is [] (a ∷ found) h = absurd h
 read_mapped f is (row ∷ rows) [] h = absurd h
 read_mapped f is (row ∷ rows) (a ∷ found) h = (h.0, read_mapped f is rows found h.1)
+
+-- a further row, and what is picked of it
+module _ {A : Type 0} (pick : Row → Option A) where
+  picked_push : (rows : List Row) (row : Row) → filter_map pick (rows ++ row ∷ []) ≡ filter_map pick rows ++ cons_option (pick row) []
+  picked_push [] row = refl
+  picked_push (r ∷ rows) row = go (pick r) (picked_push rows row)
+    where
+      go : (o : Option A) → filter_map pick (rows ++ row ∷ []) ≡ filter_map pick rows ++ cons_option (pick row) [] → cons_option o (filter_map pick (rows ++ row ∷ [])) ≡ cons_option o (filter_map pick rows) ++ cons_option (pick row) []
+      go None more = more
+      go (Some a) more = ap (λ l. a ∷ l) more
+
+  pub pick_more : (rows : List Row) (found : List A) (at : ℕ) (row : Row) (one : Option A) → at < length rows → row ≡ get_or rows at row → found ≡ filter_map pick (take at rows) → one ≡ pick row
+      → found ++ cons_option one [] ≡ filter_map pick (take (at + 1) rows)
+  pick_more rows found at row one within same so_far is =
+      ap (λ l. l ++ cons_option one []) so_far ∙ ap (λ o. filter_map pick (take at rows) ++ cons_option o []) (is ∙ ap pick same)
+      ∙ sym (ap (filter_map pick) (take_more rows at row within) ∙ picked_push (take at rows) (get_or rows at row))
 
 module _ {A B : Type 0} (is : Row → A → Type 0) (row_of : B → Row) where
   -- what is read of one row tells of what the row was made of, and so does what is read of none

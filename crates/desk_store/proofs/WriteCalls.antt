@@ -18,7 +18,7 @@ use Rattle.desk_records.specs.declared.action_texts.TheConstants.{PUT_ACTION, SE
 use Rattle.desk_records.specs.declared.rollout_texts.TheConstants.{PUT_ROLLOUT, SET_ROLLOUT, PUT_MEMBER, PUT_GROUP, SET_GROUP}
 use Rattle.desk_records.specs.Actions.{Tally}
 use Rattle.desk_records.specs.declared.new_entry.NewEntry.{NewEntry}
-use Rattle.desk_records.specs.Holds.{HoldsLedger, HoldsRecords, Ledger, ledger_of}
+use Rattle.desk_records.specs.Holds.{HoldsLedger, Ledger}
 use Rattle.desk_records.specs.LedgerSteps.{AddsRollout, SetsRollout, AddsMember, AddsGroup, SetsGroup, AddsAction, SetsAction, AddsEntry, SetsOffer, with_offer}
 use Rattle.desk_records.specs.Rollouts.{member_row}
 use Rattle.desk_records.specs.Schema.{Rollouts, Members, Groups, Actions, Feedbacks, Offers}

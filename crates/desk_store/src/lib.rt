@@ -9,6 +9,7 @@ mod checked_row;
 mod codes;
 mod from_row;
 mod group_offers;
+mod raw_actions;
 mod raw_artifacts;
 mod raw_groups;
 mod raw_members;
@@ -25,7 +26,7 @@ pub use crate::change::OpenChange;
 pub use crate::rollouts::GroupAndNext;
 pub use crate::store::DeskStore;
 pub use desk_records::{
-    CheckedArtifact, ListedAction, ListedTarget, NewEntry, OwnedOffer, PlacedMember, SetName,
-    StoredAction, StoredArtifact, StoredRollout, StoredTarget, tell_entry,
+    CheckedArtifact, CountedAction, ListedAction, ListedTarget, NewEntry, OwnedOffer, PlacedMember,
+    SetName, StoredAction, StoredArtifact, StoredRollout, StoredTarget, tell_entry,
 };
 pub use sql_calls::{Fault, Work};

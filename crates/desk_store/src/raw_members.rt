@@ -1,14 +1,14 @@
 //! The table of members with whatever rows it has, in a change that is under way.
 
-ghost use Rattle.std.specs.Prelude.{◌≡◌, ◌≤◌, ◌+◌, length, option_map, vec_items};
-ghost use Rattle.desk_records.specs.PlaceLists.{ListsPlaces};
+ghost use Rattle.std.specs.Prelude.{◌≡◌, ◌≤◌, ◌+◌, filter, length, option_map, vec_items};
+ghost use Rattle.desk_records.specs.PlaceLists.{ListsPlaces, is_of};
 ghost use Rattle.desk_records.specs.Schema.{Members};
 ghost use Rattle.desk_store.specs.Changing.{FindsTables, StaysIn};
 ghost use Rattle.desk_store.specs.Counting.{AddsIn};
 
 use crate::change::OpenChange;
 use crate::checked_row::read_checked;
-use crate::reading::counted_in;
+use crate::reading::{counted_in, row_count};
 use desk_records::{COUNT_MEMBERS, LIST_PLACES, PlacedMember};
 use rollout_model::RolloutNo;
 use sql_calls::Fault;
@@ -24,6 +24,16 @@ impl<'a, S: Alter> OpenChange<'a, S> {
         let alloc = self.store.alloc;
         let rows = self.ask(LIST_PLACES, params![number.get()])?;
         read_checked(alloc, &rows)
+    }
+
+    /// How many rows of the table are of a rollout, whatever rows there are.
+    pub fn count_places(&mut self, number: RolloutNo) -> Result<u32, Fault>
+        ensures stays { StaysIn S.Store self.old self.new result }
+        ensures reads { FindsTables S.Store self.old self.new result (λ t count. count ≡ length (filter (is_of number) (t Members))) }
+        ensures work { self.new.store.now.calls.work.statements ≤ self.old.store.now.calls.work.statements + 1 }
+    {
+        let rows = self.ask(LIST_PLACES, params![number.get()])?;
+        row_count(&rows)
     }
 
     /// How many rows the table has.

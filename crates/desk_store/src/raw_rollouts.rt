@@ -9,7 +9,7 @@ ghost use Rattle.desk_store.specs.Changing.{FindsTables, StaysIn};
 ghost use Rattle.desk_store.specs.Counting.{AddsIn};
 
 use crate::change::OpenChange;
-use crate::reading::{last_number, read_optional};
+use crate::reading::{last_number, read_at};
 use desk_records::{GET_ROLLOUT, LAST_ROLLOUT, StoredRollout};
 use rollout_model::RolloutNo;
 use sql_calls::Fault;
@@ -26,14 +26,14 @@ impl<'a, S: Alter> OpenChange<'a, S> {
         last_number(row)
     }
 
-    /// The rollout of a number, whatever rows there are. A row that breaks a column's rule is a failed store.
+    /// The rollout of a number, whatever rows there are. A row that breaks a column's rule, or a second row of the number, is a failed store.
     pub fn find_rollout(&mut self, number: RolloutNo) -> Result<Option<StoredRollout>, Fault>
         ensures stays { StaysIn S.Store self.old self.new result }
         ensures reads { FindsTables S.Store self.old self.new result (λ t found. FindsOne (t Rollouts) (has_rowid (pos number)) IsRollout found) }
         ensures work { AddsIn 1 1 self.old self.new }
     {
         let alloc = self.store.alloc;
-        let row = self.first(GET_ROLLOUT, params![number.get()])?;
-        read_optional(alloc, row)
+        let rows = self.few(GET_ROLLOUT, params![number.get()], 1)?;
+        read_at(alloc, &rows, 0)
     }
 }

@@ -1,6 +1,6 @@
 //! What rows and results of statements come to.
 
-ghost use Rattle.std.specs.Prelude.{◌≡◌, ◌<◌, ◌^◌, IfOk, slice_get};
+ghost use Rattle.std.specs.Prelude.{◌≡◌, ◌<◌, ◌^◌, IfOk, length, slice_get};
 ghost use Rattle.desk_records.specs.Modules.{IsLastRow};
 ghost use Rattle.desk_records.specs.TargetRow.{IsAttributeRow};
 ghost use Rattle.desk_store.specs.Rows.{AreReadAs, IsApproval, IsCount, IsReadAs};
@@ -103,6 +103,16 @@ pub(crate) fn counted_in(row: Option<Row>) -> Result<u32, Fault>
         Ok(number) => Ok(number),
         Err(error) => Err(fault_of(error)),
     }
+}
+
+/// How many rows there are.
+pub(crate) fn row_count(rows: &[Row]) -> Result<u32, Fault>
+    ensures { IfOk result (λ n. n ≡ length rows.now) }
+{
+    let Ok(count) = u32::try_from(rows.len()) else {
+        return Err(Fault::Store);
+    };
+    Ok(count)
 }
 
 /// Whether rollouts wait for approval, in the desk's row.

@@ -2,9 +2,11 @@
 use Rattle.std.proofs.Common.{◌≡◌, ◌≤◌, ◌||◌, ℕ, zero, suc, ◌+◌, Bool, true, false, cond, List, [], ◌∷◌, filter, length, refl, sym, ap, ◌∙◌, arith, nat_eq}
 use Rattle.std.proofs.lemmas.Bool.Decides.{nat_tests}
 use Rattle.sqlite_value.specs.Order.{Row, column}
+use Rattle.sqlite_rules.specs.Lists.{Has}
 use Rattle.desk_records.specs.Listings.{has_at}
+use Rattle.desk_records.proofs.Membership.{all_pass, each_passes}
 use Rattle.desk_records.proofs.NumberColumns.{number_is, one_number}
-use Rattle.desk_verify.specs.MemberChecks.{within}
+use Rattle.desk_verify.specs.Judged.{AreJudged, within}
 
 pub either : (a b : Bool) → (a || b) ≡ true → a ≡ false → b ≡ true
 either true b h is = cc
@@ -55,3 +57,29 @@ module _ (place : ℕ) where
   pub none_within : (rows : List Row) → filter (within place 0) rows ≡ []
   none_within [] = refl
   none_within (row ∷ rows) = none_within rows
+
+-- ---- the rows that are judged
+
+module _ (place : ℕ) (rows : List Row) (Is : Row → Type 0) where
+  pub none_judged : AreJudged rows Is (within place 0) 0
+  none_judged = record { each = λ row among h. absurd cc; all = sym (ap length (none_within place rows)) }
+
+  pub more_judged : (n listed count sum : ℕ) → AreJudged rows Is (within place n) listed → AreJudged rows Is (has_at place (suc n)) count → sum ≡ listed + count → AreJudged rows Is (within place (suc n)) sum
+  more_judged n listed count sum so_far one is = record { each = each; all = (let it = one_more place n rows in omega (arith, is, so_far.all, one.all, it)) }
+    where
+      each : (row : Row) → Has rows row → within place (suc n) row ≡ true → Is row
+      each row among h = go (within place n row) refl
+        where
+          go : (b : Bool) → within place n row ≡ b → Is row
+          go true it = so_far.each row among it
+          go false it = one.each row among (either (within place n row) (has_at place (suc n) row) h it)
+
+  -- where as many are listed as there are, none is of a rollout that isn't there
+  pub all_judged : (last listed all : ℕ) → AreJudged rows Is (within place last) listed → all ≡ length rows → nat_eq listed all ≡ true → (row : Row) → Has rows row → Is row
+  all_judged last listed all so_far is same row among = so_far.each row among (all_pass (within place last) rows (let e : listed ≡ all = grind (arith, nat_tests, same) in omega (arith, e, is, so_far.all)) row among)
+
+  pub judged_all : (last listed all : ℕ) → AreJudged rows Is (within place last) listed → all ≡ length rows → ((row : Row) → Has rows row → within place last row ≡ true) → nat_eq listed all ≡ true
+  judged_all last listed all so_far is each =
+      let e = each_passes (within place last) rows each in
+      let same : listed ≡ all = omega (arith, so_far.all, e, is) in
+      grind (arith, nat_tests, same)

@@ -3,6 +3,8 @@ mod ArtifactLemmas
 mod Counting
 mod Follow
 mod MemberLemmas
+mod GroupLemmas
+mod GroupLaw
 mod Naming
 mod ListMembers
 mod MemberLaw

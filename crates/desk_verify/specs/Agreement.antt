@@ -3,6 +3,7 @@ use Rattle.std.specs.Prelude.{◌≡◌, Bool, true, false, List, [], ◌∷◌,
 use Rattle.std.specs.List.{AllByRecursion}
 use Rattle.desk_records.specs.Tables.{Tables}
 use Rattle.desk_verify.specs.Artifacts.{AgreesArtifacts}
+use Rattle.desk_verify.specs.Groups.{AgreesGroups}
 use Rattle.desk_verify.specs.Members.{AgreesMembers}
 use Rattle.desk_verify.specs.declared.damage.CheckedTable.{CheckedTable}
 use Rattle.desk_verify.specs.declared.damage.CheckedTable.TheVariants.{Artifact, Member, RolloutGroup, Action, Offer}
@@ -15,7 +16,7 @@ checked = Artifact ∷ Member ∷ RolloutGroup ∷ Action ∷ Offer ∷ []
 abbrev pub Agrees : Tables → CheckedTable → Type 0
 Agrees t Artifact = AgreesArtifacts t
 Agrees t Member = AgreesMembers t
-Agrees t RolloutGroup = ⊤
+Agrees t RolloutGroup = AgreesGroups t
 Agrees t Action = ⊤
 Agrees t Offer = ⊤
 

@@ -5,5 +5,9 @@ pub mod ArtifactChecks
 pub mod Rollouts
 pub mod Members
 pub mod Following
+pub mod Judged
 pub mod MemberChecks
 pub mod Promises
+pub mod Groups
+pub mod Cuts
+pub mod GroupChecks

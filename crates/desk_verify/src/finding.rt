@@ -6,6 +6,7 @@ ghost use Rattle.desk_store.specs.Changing.{FindsTables, StaysIn, seen_in};
 
 use crate::artifacts::check_artifacts;
 use crate::damage::CheckedTable;
+use crate::groups::check_groups;
 use crate::members::check_members;
 use desk_store::{Fault, OpenChange};
 use sqlite::Alter;
@@ -49,6 +50,7 @@ fn check_table<S: Alter>(change: &mut OpenChange<'_, S>, table: CheckedTable) ->
     match table {
         CheckedTable::Artifact => check_artifacts(change),
         CheckedTable::Member => check_members(change),
-        CheckedTable::RolloutGroup | CheckedTable::Action | CheckedTable::Offer => Ok(true),
+        CheckedTable::RolloutGroup => check_groups(change),
+        CheckedTable::Action | CheckedTable::Offer => Ok(true),
     }
 }

@@ -3,8 +3,10 @@
 
 mod artifacts;
 mod contents;
+mod cuts;
 mod damage;
 mod finding;
+mod groups;
 mod laws;
 mod members;
 mod places;

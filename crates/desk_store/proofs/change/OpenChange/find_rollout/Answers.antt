@@ -1,7 +1,7 @@
 use Rattle.std.proofs.Common.{[], ◌∷◌, pos, Ok}
 use Rattle.sqlite_value.specs.declared.value.Value.TheVariants.{Int}
 use Rattle.sqlite.specs.Held.{state}
-use Rattle.sql_calls.specs.Calls.{TakesFirst}
+use Rattle.sql_calls.specs.Calls.{AsksFew}
 use Rattle.desk_records.specs.declared.rollout_texts.TheConstants.{GET_ROLLOUT}
 use Rattle.desk_store.proofs.RawCalls.{rollout_read}
 use Rattle.desk_store.proofs.RolloutCalls.{getting}
@@ -9,9 +9,9 @@ use Rattle.desk_store.proofs.change.OpenChange.find_rollout.Goals as goal
 
 pub returns-clause-reads : goal.returns-clause-reads
 returns-clause-reads g c =
-    let it : TakesFirst (state g.S.Store c.args.self.now.store.now.calls.conn) (state g.S.Store c.first.new.self.store.now.calls.conn) GET_ROLLOUT.now (Int (pos c.args.number) ∷ []) (Ok c.in_ok-row.row) =
-    rw (c.params-to_sql.ensures, c.get.ensures.value) at c.in_ok-row.ensures.takes in
-    rollout_read c.args.number _ _ c.in_ok-row.row it c.read_optional.result c.read_optional.ensures
+    let it : AsksFew (state g.S.Store c.args.self.now.store.now.calls.conn) (state g.S.Store c.few.new.self.store.now.calls.conn) GET_ROLLOUT.now (Int (pos c.args.number) ∷ []) 1 (Ok c.in_ok-rows.rows) =
+    rw (c.params-to_sql.ensures, c.get.ensures.value) at c.in_ok-rows.ensures.asks in
+    rollout_read c.args.number _ _ c.in_ok-rows.rows it c.read_at.result (rw c.deref.ensures.value at c.read_at.ensures)
 
-pub first-requires : goal.first-requires
-first-requires g c = getting
+pub few-requires : goal.few-requires
+few-requires g c = getting

@@ -1,0 +1,39 @@
+-- What LIST_ACTIONS shows where it is asked for all of a rollout, whatever rows the table of actions has.
+use Rattle.std.proofs.Common.{◌≡◌, ℕ, pos, negsuc, List, [], ◌∷◌, filter, filter_map, length, refl, ap, ◌∙◌}
+use Rattle.sqlite_value.specs.declared.value.Value.TheVariants.{Null, Int}
+use Rattle.sqlite_value.specs.Order.{Row}
+use Rattle.sqlite.specs.Command.TheVariants.{Select}
+use Rattle.sqlite.specs.Effect.{Database, Reads as Shows}
+use Rattle.sqlite.specs.Query.{Query}
+use Rattle.sqlite_rules.specs.Lists.{Has}
+use Rattle.sql_calls.proofs.Selects.{passes}
+use Rattle.desk_records.specs.CheckedRows.{counted_of}
+use Rattle.desk_records.specs.CountedActions.{AreCounted, passes_if_there}
+use Rattle.desk_records.specs.Listings.{has_at}
+use Rattle.desk_records.specs.Schema.{Actions}
+use Rattle.desk_records.specs.Tables.{HoldsTables, Tables}
+use Rattle.desk_records.specs.declared.checked_rows.CountedAction.{CountedAction}
+use Rattle.desk_records.proofs.ActionMeaning.{list_actions_query, listed_columns, of_rollout}
+use Rattle.desk_records.proofs.AnyRows.{tested_shown}
+use Rattle.desk_records.proofs.Membership.{picked_pass}
+use Rattle.desk_records.proofs.NumberColumns.{passes_first}
+use Rattle.desk_records.proofs.TableColumns.{integer_at}
+
+module _ (db : Database) (t : Tables) (holds : HoldsTables db t) (names : List (List ℕ)) (r : ℕ) (shown : List Row)
+    (shows : Shows (Select (record { lets = []; body = list_actions_query (holds.spot Actions).tree }) names) db (Int (pos r) ∷ Int (negsuc 0) ∷ Int (pos 0) ∷ []) shown) where
+  abbrev q : Query
+  q = list_actions_query (holds.spot Actions).tree
+
+  abbrev params : Row
+  params = Int (pos r) ∷ Int (negsuc 0) ∷ Int (pos 0) ∷ []
+
+  judged : (row : Row) → Has (t Actions) row → passes of_rollout params row ≡ has_at 2 r row
+  judged row among = let it = integer_at db t holds Actions row among 1 (record { c = _; there = refl; kind_is = refl; strict = refl; filled = refl; apart = refl }) in passes_first row (Int (negsuc 0) ∷ Int (pos 0) ∷ []) 2 r it.0 it.1
+
+  pub counts_actions : (found : List CountedAction) → found ≡ filter_map counted_of shown → AreCounted (t Actions) r found
+  counts_actions found is = record {
+    by = λ test.
+        ap (λ l. length (filter test l)) is
+        ∙ picked_pass counted_of test (λ row. passes_if_there test (counted_of row)) (λ row a its. ap (passes_if_there test) its) (λ row none. ap (passes_if_there test) none) shown
+        ∙ tested_shown (holds.spot Actions).tree of_rollout listed_columns q.order q.limit q.offset params db.trees (t Actions) (holds.rows Actions) (λ xs. refl) (has_at 2 r) judged shown (shows.answer Null) (λ row. passes_if_there test (counted_of row));
+  }

@@ -1,0 +1,241 @@
+-- The table of groups agrees where records of accepted commands are held.
+use Rattle.std.proofs.Common.{◌≡◌, inl, inr, ◌≤◌, ◌<◌, ◌^◌, ◌&&◌, ℕ, zero, suc, ◌+◌, ◌-◌, pos, Bool, true, false, cond, List, [], ◌∷◌, filter, length, map, slice_get, zip, nat_eq, nat_lt, Option, Some, None, refl, sym, ap, subst, ◌∙◌, arith, is_eq}
+use Rattle.std.proofs.lemmas.Bool.Decides.{nat_tests}
+use Rattle.std.proofs.lemmas.Int.{ints}
+use Rattle.sqlite_value.specs.declared.value.Value.TheVariants.{Int, Null}
+use Rattle.sqlite_value.specs.Order.{Row, column}
+use Rattle.sqlite_value.proofs.OrderLemmas.{value_cmp-Int}
+use Rattle.sqlite_trees.specs.Tree.{has_rowid}
+use Rattle.sqlite.specs.Effect.{Database}
+use Rattle.sqlite_rules.specs.Lists.{Has}
+use Rattle.sql_calls.specs.Keyed.{rows_from}
+use Rattle.rollout_model.specs.Limits.{group_limit}
+use Rattle.rollout_model.specs.Rules.{is_group_count, is_number}
+use Rattle.rollout_machine.specs.ByteStrings.{item_numbered}
+use Rattle.rollout_machine.specs.CommandList.{CommandList}
+use Rattle.rollout_machine.specs.Commands.{Bytes}
+use Rattle.rollout_machine.specs.Counts.{is_outcome}
+use Rattle.rollout_machine.specs.GroupCounts.{HasCountedGroups, IsCountedGroup}
+use Rattle.rollout_machine.specs.Groups.{IsCut, bounds_of, holds_position, last_position}
+use Rattle.rollout_machine.specs.Kinds.{count_actions}
+use Rattle.rollout_machine.specs.Records.{Records, records}
+use Rattle.rollout_machine.specs.Validity.{IsValid}
+use Rattle.rollout_machine.specs.WithinLimits.{AreWithinLimits, IsWithinLimits}
+use Rattle.rollout_machine.specs.declared.bounds.Bounds.{Bounds}
+use Rattle.rollout_machine.specs.declared.outcome.Outcome.{Outcome}
+use Rattle.rollout_machine.specs.declared.outcome.Outcome.TheVariants.{Good, Bad, Gone}
+use Rattle.rollout_machine.specs.declared.records.ActionRecord.{ActionRecord}
+use Rattle.rollout_machine.specs.declared.records.GroupRecord.{GroupRecord}
+use Rattle.rollout_machine.specs.declared.records.RolloutRecord.{RolloutRecord}
+use Rattle.rollout_machine.proofs.Cuts.{even_is_cut}
+use Rattle.rollout_machine.proofs.GroupCounts.{groups_are_counted}
+use Rattle.rollout_machine.proofs.MemberActions.{actions_follow_members}
+use Rattle.rollout_machine.proofs.WithinLimits.{limits_hold}
+use Rattle.desk_records.specs.Actions.{action_row, outcome_code, tally_of}
+use Rattle.desk_records.specs.CheckedRows.{counted_in}
+use Rattle.desk_records.specs.Codes.{flag_in, group_count_in}
+use Rattle.desk_records.specs.CountedActions.{is_counted, passes_if_there}
+use Rattle.desk_records.specs.Holds.{HoldsRecords, ledger_of}
+use Rattle.desk_records.specs.Listings.{has_at}
+use Rattle.desk_records.specs.PlaceLists.{is_of}
+use Rattle.desk_records.specs.RolloutRow.{broken_group_column}
+use Rattle.desk_records.specs.Rollouts.{flag, group_row, groups_from, members_from, rollout_row, told_rollout}
+use Rattle.desk_records.specs.Schema.{Actions, Groups, Members, Rollouts}
+use Rattle.desk_records.specs.TableRows.{IsGroup}
+use Rattle.desk_records.specs.Tables.{HoldsTables, Tables}
+use Rattle.desk_records.proofs.HeldCounts.{at_place, has_place, held_passing, item_row, own_parts, part_among, place_within}
+use Rattle.desk_records.proofs.HeldTables.{held_rows, numbered, of_part, row_of, wanted_of}
+use Rattle.desk_records.proofs.NumberColumns.{has_own_number, is_number_in}
+use Rattle.desk_verify.specs.Groups.{AgreesGroups, HasGroup, HasGroupCount, IsInRollout, IsRightGroup, ended_in, has_ended, members_in}
+
+-- ---- rows
+
+flag_is : (b : Bool) → flag_in (Int (pos (flag b))) ≡ Some b
+flag_is true = refl
+flag_is false = refl
+
+few_is : (n : ℕ) → n < 2 ^ 32 → nat_lt n (2 ^ 32) ≡ true
+few_is n few = grind (arith, nat_tests, few)
+
+kept_group : (i first last ok bad gone : ℕ) (b : Bool) → i < 2 ^ 32 → first < 2 ^ 32 → last < 2 ^ 32 → ok < 2 ^ 32 → bad < 2 ^ 32 → gone < 2 ^ 32
+    → broken_group_column (Int (pos i) ∷ Int (pos first) ∷ Int (pos last) ∷ Int (pos (flag b)) ∷ Int (pos ok) ∷ Int (pos bad) ∷ Int (pos gone) ∷ []) ≡ None
+kept_group i first last ok bad gone true a b c d e f = rw (few_is i a, few_is first b, few_is last c, few_is ok d, few_is bad e, few_is gone f) refl
+kept_group i first last ok bad gone false a b c d e f = rw (few_is i a, few_is first b, few_is last c, few_is ok d, few_is bad e, few_is gone f) refl
+
+group_count_is : (n : ℕ) → 1 ≤ n → n ≤ group_limit → group_count_in (Int (pos n)) ≡ Some n
+group_count_is n low high =
+    let good : is_group_count n ≡ true = grind (arith, nat_tests, low, high) in
+    let few : nat_lt n (2 ^ 32) ≡ true = grind (arith, nat_tests, high) in
+    rw (few, good) refl
+
+counted_is : (place : ℕ) (ended : Option Outcome) → place < 2 ^ 32 → counted_in (Int (pos place)) (Int (pos (outcome_code ended))) ≡ Some (record { place = place; outcome = ended })
+counted_is place None few = rw (few_is place few) refl
+counted_is place (Some Good) few = rw (few_is place few) refl
+counted_is place (Some Bad) few = rw (few_is place few) refl
+counted_is place (Some Gone) few = rw (few_is place few) refl
+
+one_rowid : (at r : ℕ) (rest : Row) → has_rowid (pos r) (Int (pos at) ∷ rest) ≡ true → at ≡ r
+one_rowid at r rest h = let same = sym (ap is_eq (value_cmp-Int (pos at) (pos r))) ∙ h in grind (arith, ints, nat_tests, same)
+
+-- ---- counts
+
+-- a group counts in the rows what it counts in the records
+count_rows : (rollouts : List RolloutRecord) (r : ℕ) (bounds : Bounds) (outcome : Outcome) (k : ℕ) (actions : List ActionRecord) → ((a : ActionRecord) → Has actions a → a.position < 2 ^ 32)
+    → length (filter (is_counted r (has_ended bounds outcome)) (rows_from (action_row rollouts) k (zip actions (map tally_of actions)))) ≡ count_actions outcome r bounds actions
+count_rows rollouts r bounds outcome k [] few = refl
+count_rows rollouts r bounds outcome k (a ∷ actions) few =
+    go (nat_eq a.rollout r && (holds_position a.position bounds && is_outcome outcome a.outcome)) (ap (λ o. nat_eq a.rollout r && passes_if_there (has_ended bounds outcome) o) (counted_is a.position a.outcome (few a (inl refl)))) refl
+    (count_rows rollouts r bounds outcome (k + 1) actions (λ b among. few b (inr among)))
+  where
+    test : Row → Bool
+    test = is_counted r (has_ended bounds outcome)
+
+    rest : List Row
+    rest = rows_from (action_row rollouts) (k + 1) (zip actions (map tally_of actions))
+
+    row : Row
+    row = action_row rollouts k (a, tally_of a)
+
+    passes : Bool
+    passes = nat_eq a.rollout r && (holds_position a.position bounds && is_outcome outcome a.outcome)
+
+    go : (b : Bool) → test row ≡ passes → passes ≡ b → length (filter test rest) ≡ count_actions outcome r bounds actions → length (cond (test row) (row ∷ filter test rest) (filter test rest)) ≡ count_actions outcome r bounds actions + cond passes 1 0
+    go true is its more = rw (is, its) (omega (arith, more))
+    go false is its more = rw (is, its) (omega (arith, more))
+
+-- ---- the law
+
+abbrev groups_in : RolloutRecord → List GroupRecord
+groups_in x = x.groups
+
+module _ (h : CommandList) (valid : IsValid h) (db : Database) (t : Tables) (held : HoldsRecords db (records h)) (holds : HoldsTables db t) where
+  rs : Records
+  rs = records h
+
+  limits : AreWithinLimits (records h)
+  limits = limits_hold h valid
+
+  -- ---- actions
+
+  few_places : (a : ActionRecord) → Has (records h).actions a → a.position < 2 ^ 32
+  few_places a among =
+      let at = has_place (records h).actions a among in
+      let of = (actions_follow_members h valid).of_members (suc at.0) a at.1 in
+      go a.position of.rollout (limits.each a.rollout of.rollout of.there) of.target of.member
+    where
+      go : (p : ℕ) (x : RolloutRecord) → IsWithinLimits x → (target : Bytes) → item_numbered x.members p ≡ Some target → p < 2 ^ 32
+      go zero x within target e = omega arith
+      go (suc k) x within target e = let less = place_within x.members k target e in omega (arith, less, within.members)
+
+  ended_are : (r : ℕ) (bounds : Bounds) (outcome : Outcome) → ended_in t r bounds outcome ≡ count_actions outcome r bounds (records h).actions
+  ended_are r bounds outcome =
+      ap (λ rows. length (filter (is_counted r (has_ended bounds outcome)) rows)) (held_rows db (ledger_of (records h)) held t holds Actions)
+      ∙ count_rows (records h).rollouts r bounds outcome 1 (records h).actions few_places
+
+  -- ---- one rollout
+
+  module _ (d : ℕ) (x : RolloutRecord) (got : slice_get (records h).rollouts d ≡ Some x) where
+    within : IsWithinLimits x
+    within = limits.each (suc d) x got
+
+    good : is_number (suc d) ≡ true
+    good = let less = place_within (records h).rollouts d x got in let few = limits.rollouts in grind (arith, nat_tests, less, few)
+
+    members_are : members_in t (suc d) ≡ length x.members
+    members_are =
+        held_passing (is_of (suc d)) (has_at 0 (suc d)) (λ n row. refl) (t Members) (members_from 1 (records h).rollouts) (held_rows db (ledger_of (records h)) held t holds Members)
+        ∙ own_parts _ (λ (y : RolloutRecord). y.members) 1 (suc d) d (records h).rollouts x (omega arith) got
+
+    there : HasGroupCount t (suc d) x.plan.groups
+    there = record {
+      row = rollout_row (suc d) x;
+      among = subst (λ rows. Has rows (rollout_row (suc d) x)) (sym (held_rows db (ledger_of (records h)) held t holds Rollouts)) (item_row rollout_row 1 (suc d) d (records h).rollouts x (omega arith) got);
+      numbered = has_own_number (suc d) (Null ∷ told_rollout x);
+      says = group_count_is x.plan.groups within.some_groups within.groups;
+    }
+
+    -- ---- one group
+
+    module _ (e : ℕ) (g : GroupRecord) (got_group : slice_get x.groups e ≡ Some g) where
+      all : HasCountedGroups (records h) (suc d) x
+      all = groups_are_counted h (suc d) x valid got
+
+      its : IsCountedGroup (records h) (suc d) x (suc e) g
+      its = all.each (suc e) g got_group
+
+      high : suc e ≤ x.plan.groups
+      high = let less = place_within x.groups e g got_group in omega (arith, less, all.as_many)
+
+      cut : IsCut (last_position (length x.members) x.plan.groups) (length x.members) x.plan.groups
+      cut = even_is_cut (length x.members) x.plan.groups within.some_groups within.enough
+
+      few_at : (i : ℕ) → i ≤ x.plan.groups → last_position (length x.members) x.plan.groups i ≤ length x.members
+      few_at i low = let rises = cut.rises i x.plan.groups low in omega (arith, rises, cut.whole)
+
+      is_group : (n : ℕ) → IsGroup (Int (pos n) ∷ group_row (suc d) (suc e) g) (suc d) g
+      is_group n =
+          let counts = within.counts (suc e) g got_group in
+          let members = within.members in
+          let first : g.bounds.first ≡ last_position (length x.members) x.plan.groups (suc e - 1) + 1 = ap (λ (b : Bounds). b.first) its.bounds in
+          let last : g.bounds.last ≡ last_position (length x.members) x.plan.groups (suc e) = ap (λ (b : Bounds). b.last) its.bounds in
+          let few_first = few_at (suc e - 1) (omega (arith, high)) in
+          let few_last = few_at (suc e) high in
+          record {
+            rollout_is = is_number_in (suc d) good;
+            shows = record { number = ap (λ i. Int (pos i)) (sym its.number); first = refl; last = refl; started = flag_is g.started; ok = refl; bad = refl; gone = refl };
+            kept = kept_group (suc e) g.bounds.first g.bounds.last g.ok g.bad g.gone g.started (omega (arith, high, within.groups)) (omega (arith, first, few_first, members)) (omega (arith, last, few_last, members))
+                (omega (arith, counts.ok, members)) (omega (arith, counts.bad, members)) (omega (arith, counts.gone, members));
+          }
+
+      right : IsRightGroup t (suc d) x.plan.groups g
+      right = record {
+        low = omega (arith, its.number);
+        high = omega (arith, its.number, high);
+        bounds = its.bounds ∙ ap (λ m. bounds_of m x.plan.groups (suc e)) (sym members_are) ∙ ap (bounds_of (members_in t (suc d)) x.plan.groups) (sym its.number);
+        ok = its.ok ∙ sym (ended_are (suc d) g.bounds Good);
+        bad = its.bad ∙ sym (ended_are (suc d) g.bounds Bad);
+        gone = its.gone ∙ sym (ended_are (suc d) g.bounds Gone);
+      }
+
+      in_rollout : (n : ℕ) → IsInRollout t (Int (pos n) ∷ group_row (suc d) (suc e) g)
+      in_rollout n = record { rollout = suc d; n = x.plan.groups; group = g; is = is_group n; there = there; enough = omega (arith, within.enough, members_are); right = right }
+
+      has_group : HasGroup t (suc d) (suc e)
+      has_group =
+          let part = part_among group_row groups_in 1 (suc d) d (records h).rollouts x (group_row (suc d) (suc e) g) (omega arith) got (item_row (group_row (suc d)) 1 (suc e) e x.groups g (omega arith) got_group) in
+          let row = row_of (t Groups) (groups_from 1 (records h).rollouts) (group_row (suc d) (suc e) g) (held_rows db (ledger_of (records h)) held t holds Groups) part in
+          record { row = Int (pos row.0) ∷ group_row (suc d) (suc e) g; among = row.1; group = g; is = is_group row.0; number = its.number }
+
+  -- ---- all of them
+
+  each : (row : Row) → Has (t Groups) row → IsInRollout t row
+  each row among =
+      let content = wanted_of (t Groups) (groups_from 1 (records h).rollouts) row (held_rows db (ledger_of (records h)) held t holds Groups) among in
+      let of = of_part group_row groups_in 1 (records h).rollouts content.1 content.2 in
+      let item = numbered (group_row of.number) 1 of.whole.groups content.1 of.among in
+      let at : of.number ≡ suc of.index = omega (arith, of.number_is) in
+      let place : item.at ≡ suc item.index = omega (arith, item.at_is) in
+      let is : row ≡ Int (pos content.0) ∷ group_row (suc of.index) (suc item.index) item.one =
+      content.3 ∙ ap (λ y. Int (pos content.0) ∷ y) (item.is ∙ ap (λ k. group_row k item.at item.one) at ∙ ap (λ k. group_row (suc of.index) k item.one) place) in
+      subst (IsInRollout t) (sym is) (in_rollout of.index of.whole of.got item.index item.one item.got content.0)
+
+  missing_none : (rollout n i : ℕ) → 1 ≤ rollout → HasGroupCount t rollout n → 1 ≤ i → i ≤ n → HasGroup t rollout i
+  missing_none rollout n i first has low high =
+      let it = numbered rollout_row 1 (records h).rollouts has.row (subst (λ rows. Has rows has.row) (held_rows db (ledger_of (records h)) held t holds Rollouts) has.among) in
+      let own : it.at ≡ rollout = one_rowid it.at rollout (Null ∷ told_rollout it.one) (ap (has_rowid (pos rollout)) (sym it.is) ∙ has.numbered) in
+      let at : suc it.index ≡ rollout = (let k = it.at_is in omega (arith, k, own)) in
+      let kept = within it.index it.one it.got in
+      let told : group_count_in (Int (pos it.one.plan.groups)) ≡ Some n = ap (λ (r : Row). group_count_in (column r 5)) (sym it.is) ∙ has.says in
+      let same : Some it.one.plan.groups ≡ Some n = sym (group_count_is it.one.plan.groups kept.some_groups kept.groups) ∙ told in
+      let many : it.one.plan.groups ≡ n = cc in
+      subst (λ r. HasGroup t r i) at (go it.index it.one it.got i low (omega (arith, high, many)))
+    where
+      go : (d : ℕ) (x : RolloutRecord) (got : slice_get (records h).rollouts d ≡ Some x) (i : ℕ) → 1 ≤ i → i ≤ x.plan.groups → HasGroup t (suc d) i
+      go d x got zero low high = absurd (omega (arith, low))
+      go d x got (suc e) low high =
+          let as_many = (groups_are_counted h (suc d) x valid got).as_many in
+          let one = at_place x.groups e (omega (arith, high, as_many)) in
+          has_group d x got e one.0 one.1
+
+  pub groups_agree : AgreesGroups t
+  groups_agree = record { each = each; all = missing_none }
