@@ -22,16 +22,16 @@ use Rattle.rollout_desk.specs.Looks.{EndsLook, Looks}
 use Rattle.rollout_desk.specs.Verifying.{FindsDamage, GoesOn, IsNeverDamaged, SaysOf}
 use Rattle.rollout_desk.proofs.ApplyLemmas.{becomes_doubt, becomes_list, no_memory_is_no_failure, stands}
 
-module _ (a b c d : State) (found : Option CheckedTable) (reads : Finds HoldsTables (λ (t : Tables). t) {E = Fault} b c (Ok found) IsDamage) where
+module _ (a b c : State) (found : Option CheckedTable) (reads : Finds HoldsTables (λ (t : Tables). t) {E = Fault} b c (Ok found) IsDamage) where
   -- of whatever tables were shown before it
-  pub judged : Begins HoldsTables a b → (result : Result (Option CheckedTable) Refusal) → EndsLook c d (Ok found) result → FindsDamage a d result
-  judged begins result ends = elim ends.ends [
+  pub judged : (d : State) → Begins HoldsTables a b → (result : Result (Option CheckedTable) Refusal) → EndsLook c d (Ok found) result → FindsDamage a d result
+  judged d begins result ends = elim ends.ends [
     | inl it ↦ subst (FindsDamage a d) (sym it.0) (λ t clean shown. (reads.finds t (begins.sees t shown)).1 (omega (arith, clean, ends.wears)))
     | inr it ↦ subst (FindsDamage a d) (sym it.0) tt
   ]
 
   -- records of accepted commands aren't damaged
-  pub never_damaged : Begins HoldsLedger a b → NamesNone b c {E = Fault} (Ok found) → (r : Records) → Rests HoldsLedger a (ledger_of r) → HasCleanDisk c → IsNeverDamaged r found
+  pub never_damaged : Begins HoldsLedger a b → NamesNone {E = Fault} b c (Ok found) → (r : Records) → Rests HoldsLedger a (ledger_of r) → HasCleanDisk c → IsNeverDamaged r found
   never_damaged begins never r rested clean h valid is = never h valid (subst (λ (x : Records). Sees HoldsLedger b (ledger_of x)) is (begins.sees (ledger_of r) (rest_shows HoldsLedger a _ rested))) clean
 
 -- nothing was found

@@ -17,17 +17,20 @@ pub returns-in-Ok-find_damage-clause-judges : goal.returns-in-Ok-find_damage-cla
 returns-in-Ok-find_damage-clause-judges g c =
     let same : c.give_up.new.change.0 ≡ c.store-in-Ok-find_damage-1.given.0 = search rules in
     subst (λ h. FindsDamage (state g.S.Store c.args.store.now.calls.conn) (state g.S.Store h.calls.conn) c.give_up.result) same
-    (judged _ _ _ _ c.in-Ok-find_damage.found c.in-Ok-find_damage.ensures.judges c.in-Ok.ensures.tables c.give_up.result c.give_up.ensures.ends)
+    (judged _ _ _ c.in-Ok-find_damage.found c.in-Ok-find_damage.ensures.judges _ c.in-Ok.ensures.tables c.give_up.result c.give_up.ensures.ends)
 
 pub returns-in-Ok-find_damage-clause-looks : goal.returns-in-Ok-find_damage-clause-looks
 returns-in-Ok-find_damage-clause-looks g c =
     let same : c.give_up.new.change.0 ≡ c.store-in-Ok-find_damage-1.given.0 = search rules in
     subst (λ h. Looks HoldsRecords (state g.S.Store c.args.store.now.calls.conn) (state g.S.Store h.calls.conn) c.give_up.result IsNeverDamaged) same
     (looked _ _ _ _ _ c.in-Ok.ensures.begun _ c.in-Ok-find_damage.found c.in-Ok-find_damage.ensures.stays.frame c.in-Ok-find_damage.ensures.judges.wears
-    (never_damaged _ _ _ _ c.in-Ok-find_damage.found c.in-Ok-find_damage.ensures.judges c.in-Ok.ensures.begun c.in-Ok-find_damage.ensures.never) c.give_up.ensures.ends)
+    (never_damaged _ _ _ c.in-Ok-find_damage.found c.in-Ok-find_damage.ensures.judges c.in-Ok.ensures.begun c.in-Ok-find_damage.ensures.never) c.give_up.ensures.ends)
 
 pub returns-in-Err-find_damage-clause-judges : goal.returns-in-Err-find_damage-clause-judges
-returns-in-Err-find_damage-clause-judges g c = none_found _ _ _ _ _ c.give_up-in-Err-find_damage.ensures.ends
+returns-in-Err-find_damage-clause-judges g c =
+    let same : c.give_up-in-Err-find_damage.new.change.0 ≡ c.store-in-Err-find_damage-1.given.0 = search rules in
+    subst (λ h. FindsDamage (state g.S.Store c.args.store.now.calls.conn) (state g.S.Store h.calls.conn) c.give_up-in-Err-find_damage.result) same
+    (none_found _ _ _ _ _ c.give_up-in-Err-find_damage.ensures.ends)
 
 pub returns-in-Err-find_damage-clause-looks : goal.returns-in-Err-find_damage-clause-looks
 returns-in-Err-find_damage-clause-looks g c =
