@@ -16,7 +16,7 @@ pub returns-in-Ok-read_piece-clause-looks : goal.returns-in-Ok-read_piece-clause
 returns-in-Ok-read_piece-clause-looks g c =
     let same : c.give_up.new.change.0 ≡ c.store-in-Ok-read_piece-1.given.0 = search rules in
     subst (λ h. Looks HoldsRecords (state g.S.Store c.args.store.now.calls.conn) (state g.S.Store h.calls.conn) c.give_up.result (λ r found. bytes_of found ≡ piece_numbered r.artifacts c.args.number c.args.place)) same
-    (looked _ _ _ _ _ c.in-Ok.ensures.begun _ c.in-Ok-read_piece.found c.in-Ok-read_piece.ensures.stays.frame c.in-Ok-read_piece.ensures.reads.wears (read _ _ _ _ _ c.in-Ok.ensures.begun c.give_up.result c.in-Ok-read_piece.found c.in-Ok-read_piece.ensures.reads) c.give_up.ensures.ends)
+    (looked _ _ _ _ _ c.in-Ok.ensures.begun _ c.in-Ok-read_piece.found c.in-Ok-read_piece.ensures.stays.frame c.in-Ok-read_piece.ensures.reads.wears (read _ (state g.S.Store c.args.store.now.calls.conn) _ _ _ c.in-Ok.ensures.begun c.give_up.result c.in-Ok-read_piece.found c.in-Ok-read_piece.ensures.reads) c.give_up.ensures.ends)
 
 pub returns-in-Err-read_piece-clause-looks : goal.returns-in-Err-read_piece-clause-looks
 returns-in-Err-read_piece-clause-looks g c =
