@@ -13,14 +13,19 @@ use Rattle.desk_server.specs.Telling.{Prints, Refuses}
 abbrev pub damage_line : CheckedTable → List ℕ
 damage_line table = codes "damage " ++ table_name table ++ codes "\n"
 
--- `ok`; or the line of the table, and then the status is 1 however it is written; or why it wasn't found out
+-- the line of the table, and then the status is 1 however it is written; or why it wasn't found out
+abbrev pub TellsDamage : Damage → Option (List ℕ) → Option (List ℕ) → Option (List ℕ) → Option (List ℕ) → Bool → Bool → Bool → ℕ → Type 0
+TellsDamage (Table table) out out_new told told_new telling_fails failed_write writing_fails status =
+    (printed : ℕ) × Prints (damage_line table) out out_new told told_new telling_fails failed_write writing_fails printed × (status ≡ 1)
+TellsDamage (Refused refusal) out out_new told told_new telling_fails failed_write writing_fails status =
+    Refuses refusal out out_new told told_new telling_fails failed_write writing_fails status
+
+-- `ok`, or the damage
 abbrev pub TellsFound : Result (Unit {0}) Damage → Option (List ℕ) → Option (List ℕ) → Option (List ℕ) → Option (List ℕ) → Bool → Bool → Bool → ℕ → Type 0
 TellsFound (Ok done) out out_new told told_new telling_fails failed_write writing_fails status =
     Prints (codes "ok\n") out out_new told told_new telling_fails failed_write writing_fails status
-TellsFound (Err (Table table)) out out_new told told_new telling_fails failed_write writing_fails status =
-    (printed : ℕ) × Prints (damage_line table) out out_new told told_new telling_fails failed_write writing_fails printed × (status ≡ 1)
-TellsFound (Err (Refused refusal)) out out_new told told_new telling_fails failed_write writing_fails status =
-    Refuses refusal out out_new told told_new telling_fails failed_write writing_fails status
+TellsFound (Err damage) out out_new told told_new telling_fails failed_write writing_fails status =
+    TellsDamage damage out out_new told told_new telling_fails failed_write writing_fails status
 
 -- The desk, over a connection of one state and then of another, looked whether its tables agree, and that is told.
 pub record Verifies {File : Type 0} (was now : State) (old new : DeskState File) (out out_new told told_new : Option (List ℕ))

@@ -6,7 +6,7 @@ ghost use Rattle.sqlite.specs.Held.{state};
 ghost use Rattle.http_wire.specs.Watched.{inner_of, has_failed};
 ghost use Rattle.rollout_desk.specs.DeskStates.{desk_state};
 ghost use Rattle.desk_server.specs.Program.{Tells, open_line};
-ghost use Rattle.desk_server.specs.Verifications.{TellsFound, Verifies, damage_line};
+ghost use Rattle.desk_server.specs.Verifications.{TellsDamage, TellsFound, Verifies, damage_line};
 
 use crate::program::{FAILED, open_line, tell};
 use crate::telling::{print_or_tell, refuse};
@@ -29,6 +29,25 @@ fn damage_line(table: CheckedTable) -> &'static str
     }
 }
 
+/// Tells of a table that doesn't agree, or why none was found out.
+fn tell_damage<W: Write, E: Write>(
+    alloc: Global,
+    damage: Damage,
+    output: &mut Watched<W>,
+    errors: &mut Watched<E>,
+) -> u8
+    ensures { TellsDamage damage (W.contents (inner_of output.old)) (W.contents (inner_of output.new))
+        (E.contents (inner_of errors.old)) (E.contents (inner_of errors.new)) (has_failed errors.new) (has_failed output.old) (has_failed output.new) result }
+{
+    match damage {
+        Damage::Table(table) => {
+            let _printed = print_or_tell(damage_line(table), output, errors);
+            FAILED
+        }
+        Damage::Refused(refusal) => refuse(alloc, refusal, errors),
+    }
+}
+
 /// Tells what was found, and answers the exit status: 0 where all agree, and else 1.
 fn tell_found<W: Write, E: Write>(
     alloc: Global,
@@ -41,11 +60,7 @@ fn tell_found<W: Write, E: Write>(
 {
     match found {
         Ok(()) => print_or_tell("ok\n", output, errors),
-        Err(Damage::Table(table)) => {
-            let _printed = print_or_tell(damage_line(table), output, errors);
-            FAILED
-        }
-        Err(Damage::Refused(refusal)) => refuse(alloc, refusal, errors),
+        Err(damage) => tell_damage(alloc, damage, output, errors),
     }
 }
 
