@@ -4,7 +4,8 @@ use Rattle.std.specs.Option.{option_or}
 use Rattle.rollout_machine.specs.ByteStrings.{item_numbered}
 use Rattle.rollout_machine.specs.CommandList.{CommandList, Make, ◌▸◌}
 use Rattle.rollout_machine.specs.Commands.{Bytes, DeploymentWord, CancelWord, Succeeded, Failed, Rejected, Noted, ClosedCancel, CanceledCancel}
-use Rattle.rollout_machine.specs.Commands.{RejectedCancel, NotedCancel, Command, Start, Cancel, Feedback, CancelFeedback, DeviceFeedback, Outcome, Good, Bad, Gone}
+use Rattle.rollout_machine.specs.Commands.{RejectedCancel, NotedCancel, Command, Start, Cancel, Feedback, CancelFeedback, DeviceFeedback}
+use Rattle.rollout_machine.specs.Commands.{Outcome, Good, Bad, Gone}
 use Rattle.rollout_machine.specs.Rollouts.{Rollout, rollout_at, size_of}
 -- an entry of an action's history, and what a device says of an action
 pub use Rattle.rollout_model.specs.declared.feedback.HistoryEntry.{HistoryEntry}

@@ -20,7 +20,8 @@ fn after_feedback(
     word: DeploymentWord,
 ) -> Result<Option<ActionChange>, Refusal>
     ensures { MatchResult result
-        (λ c. (feedback_refusal word own_action.now ≡ None) × (c ≡ change_if_open own_action.now.action (outcome_of_deployment word) own_action.now.action.canceling))
+        (λ c. (feedback_refusal word own_action.now ≡ None)
+        × (c ≡ change_if_open own_action.now.action (outcome_of_deployment word) own_action.now.action.canceling))
         (λ refusal. feedback_refusal word own_action.now ≡ Some refusal) }
 {
     let action = own_action.action;
