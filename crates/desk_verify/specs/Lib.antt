@@ -11,3 +11,5 @@ pub mod Promises
 pub mod Groups
 pub mod Cuts
 pub mod GroupChecks
+pub mod Actions
+pub mod Offers
