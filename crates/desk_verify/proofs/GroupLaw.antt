@@ -50,7 +50,7 @@ use Rattle.desk_verify.specs.Groups.{AgreesGroups, HasGroup, HasGroupCount, IsIn
 
 -- ---- rows
 
-flag_is : (b : Bool) → flag_in (Int (pos (flag b))) ≡ Some b
+pub flag_is : (b : Bool) → flag_in (Int (pos (flag b))) ≡ Some b
 flag_is true = refl
 flag_is false = refl
 
@@ -74,7 +74,7 @@ counted_is place (Some Good) few = rw (few_is place few) refl
 counted_is place (Some Bad) few = rw (few_is place few) refl
 counted_is place (Some Gone) few = rw (few_is place few) refl
 
-one_rowid : (at r : ℕ) (rest : Row) → has_rowid (pos r) (Int (pos at) ∷ rest) ≡ true → at ≡ r
+pub one_rowid : (at r : ℕ) (rest : Row) → has_rowid (pos r) (Int (pos at) ∷ rest) ≡ true → at ≡ r
 one_rowid at r rest h = let same = sym (ap is_eq (value_cmp-Int (pos at) (pos r))) ∙ h in grind (arith, ints, nat_tests, same)
 
 -- ---- counts
@@ -117,7 +117,7 @@ module _ (h : CommandList) (valid : IsValid h) (db : Database) (t : Tables) (hel
 
   -- ---- actions
 
-  few_places : (a : ActionRecord) → Has (records h).actions a → a.position < 2 ^ 32
+  pub few_places : (a : ActionRecord) → Has (records h).actions a → a.position < 2 ^ 32
   few_places a among =
       let at = has_place (records h).actions a among in
       let of = (actions_follow_members h valid).of_members (suc at.0) a at.1 in

@@ -9,5 +9,6 @@ mod GroupLaw
 mod Naming
 mod ListMembers
 mod MemberLaw
+mod ActionLaw
 mod ArtifactLaw
 pub mod NeverNamed
