@@ -8,5 +8,6 @@ mod GroupLaw
 mod Naming
 mod ListMembers
 mod MemberLaw
+mod OfferLaw
 mod ArtifactLaw
 pub mod NeverNamed
