@@ -8,6 +8,7 @@ mod GroupLaw
 mod Naming
 mod ListMembers
 mod MemberLaw
+mod OfferLemmas
 mod OfferLaw
 mod ArtifactLaw
 pub mod NeverNamed
