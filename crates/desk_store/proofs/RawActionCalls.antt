@@ -20,13 +20,10 @@ use Rattle.desk_records.proofs.ActionMeaning.{list_actions_is, list_actions_quer
 use Rattle.desk_records.proofs.ActionRows.{counts_actions}
 use Rattle.desk_store.proofs.Known.{tables_know}
 use Rattle.desk_store.proofs.RawCalls.{FindsOf}
+use Rattle.desk_store.proofs.RawLists.{all_of}
 
 abbrev acting_any : Knows HoldsTables LIST_ACTIONS.now
 acting_any = tables_know Actions LIST_ACTIONS.now (λ at tree. Select (record { lets = []; body = list_actions_query tree }) listed_names) list_actions_is
-
--- the parameters that ask for all
-abbrev pub all_of : ℕ → Row
-all_of r = Int (pos r) ∷ Int (negsuc 0) ∷ Int (pos 0) ∷ []
 
 abbrev pub CountsOf : ℕ → Tables → Vec CountedAction Global → Type 0
 CountsOf r t found = AreCounted (t Actions) r found.items

@@ -1,6 +1,7 @@
 mod PieceChecks
 mod ArtifactLemmas
 mod Counting
+mod RolloutLemmas
 mod Follow
 mod MemberLemmas
 mod GroupLemmas

@@ -4,7 +4,9 @@ use Rattle.sqlite_value.specs.Order.{Row, column}
 use Rattle.sqlite_trees.specs.Tree.{has_rowid}
 use Rattle.sqlite_rules.specs.Lists.{Has}
 use Rattle.rollout_machine.specs.Actions.{Said, outcome_said}
-use Rattle.rollout_machine.specs.Commands.{Bytes, Gone, Outcome}
+use Rattle.rollout_machine.specs.Commands.{Bytes}
+use Rattle.rollout_machine.specs.declared.outcome.Outcome.{Outcome}
+use Rattle.rollout_machine.specs.declared.outcome.Outcome.TheVariants.{Gone}
 use Rattle.desk_records.specs.Codes.{flag_in}
 use Rattle.desk_records.specs.EntryRow.{said_by}
 use Rattle.desk_records.specs.Listings.{has_at}
