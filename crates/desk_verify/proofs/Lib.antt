@@ -10,5 +10,7 @@ mod Naming
 mod ListMembers
 mod MemberLaw
 mod ActionLaw
+mod OfferLemmas
+mod OfferLaw
 mod ArtifactLaw
 pub mod NeverNamed

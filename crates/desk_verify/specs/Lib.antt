@@ -13,3 +13,5 @@ pub mod Cuts
 pub mod GroupChecks
 pub mod Actions
 pub mod Offers
+pub mod OfferChecks
+pub mod Stubs

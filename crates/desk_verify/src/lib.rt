@@ -9,8 +9,10 @@ mod finding;
 mod groups;
 mod laws;
 mod members;
+mod offers;
 mod places;
 mod rollouts;
+mod stubs;
 
 pub use crate::damage::{CheckedTable, Damage};
 pub use crate::finding::find_damage;
