@@ -6,10 +6,10 @@ use Rattle.rollout_machine.specs.Actions.{HistoryEntry}
 use Rattle.rollout_machine.specs.Commands.{Bytes}
 use Rattle.rollout_machine.specs.declared.records.GroupRecord.{GroupRecord}
 use Rattle.rollout_model.specs.declared.rollout.Offer.{Offer}
-use Rattle.desk_records.specs.ArtifactRow.{IsStoredRow, broken_stored_column, small_number}
+use Rattle.desk_records.specs.ArtifactRow.{IsStoredRow, broken_stored_column, has_size, small_number}
 use Rattle.desk_records.specs.Codes.{number_in}
 use Rattle.desk_records.specs.EntryRow.{IsEntryRow}
-use Rattle.desk_records.specs.RolloutRow.{IsActionRow, IsGroupRow, IsOfferRow, IsRolloutRow, broken_action_column, broken_group_column}
+use Rattle.desk_records.specs.RolloutRow.{IsActionRow, IsGroupRow, IsOfferRow, IsRolloutRow, broken_group_column}
 use Rattle.desk_records.specs.TargetRow.{has_word}
 use Rattle.desk_records.specs.declared.artifact_row.StoredArtifact.{StoredArtifact}
 use Rattle.desk_records.specs.declared.rollout_row.StoredAction.{StoredAction}
@@ -66,11 +66,12 @@ pub record IsGroup (row : Row) (rollout : ℕ) (g : GroupRecord) : Type 0 where
   pub shows : IsGroupRow (group_shown row) g
   pub kept : broken_group_column (group_shown row) ≡ None
 
--- the action of a number
+-- The action of a number. Its counts are whole numbers of any size, since nothing limits the entries of a history.
 pub record IsAction (row : Row) (number : ℕ) (a : StoredAction) : Type 0 where
   pub number_is : number_in (column row 0) ≡ Some number
   pub shows : IsActionRow (action_shown row) a
-  pub kept : broken_action_column (action_shown row) ≡ None
+  pub place : has_size (column row 3) ≡ true
+  pub word : has_word (column row 4) ≡ true
 
 -- the entry of an action's history at a place of its sequence
 pub record IsEntry (row : Row) (sequence : ℕ) (entry : HistoryEntry) : Type 0 where

@@ -43,7 +43,8 @@ fn read_counted(alloc: Global, rows: &[Row]) -> Result<Vec<CountedAction>, Fault
 }
 
 impl<'a, S: Alter> OpenChange<'a, S> {
-    /// The action of a number, whatever rows there are. A row that breaks a column's rule, or a second row of the number, is a failed store.
+    /// The action of a number, whatever rows there are. A row that breaks a column's rule, or a second row of the
+    /// number, is a failed store.
     pub fn find_action(&mut self, number: ActionNo) -> Result<Option<StoredAction>, Fault>
         ensures stays { StaysIn S.Store self.old self.new result }
         ensures reads { FindsTables S.Store self.old self.new result (λ t found. FindsOne (t Actions) (has_rowid (pos number)) SaysNumbered found) }
@@ -69,7 +70,8 @@ impl<'a, S: Alter> OpenChange<'a, S> {
         read_checked(alloc, &rows)
     }
 
-    /// The history of an action, whatever rows there are. A row of it that breaks a column's rule is a failed store.
+    /// The history of an action, whatever rows there are. A row of it that breaks a column's rule is a failed
+    /// store.
     pub fn list_history(&mut self, number: ActionNo) -> Result<Vec<SequencedEntry>, Fault>
         ensures stays { StaysIn S.Store self.old self.new result }
         ensures reads { FindsTables S.Store self.old self.new result (λ t found. AreSaid (t Feedbacks) (has_at 1 number) SaysEntry found.items) }

@@ -117,7 +117,7 @@ module _ (h : CommandList) (valid : IsValid h) (db : Database) (t : Tables) (hel
 
   -- ---- actions
 
-  few_places : (a : ActionRecord) → Has (records h).actions a → a.position < 2 ^ 32
+  pub few_places : (a : ActionRecord) → Has (records h).actions a → a.position < 2 ^ 32
   few_places a among =
       let at = has_place (records h).actions a among in
       let of = (actions_follow_members h valid).of_members (suc at.0) a at.1 in

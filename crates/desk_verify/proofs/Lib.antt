@@ -9,6 +9,7 @@ mod GroupLaw
 mod Naming
 mod ListMembers
 mod MemberLaw
+mod ActionLaw
 mod OfferLemmas
 mod OfferLaw
 mod ArtifactLaw

@@ -25,10 +25,10 @@ use Rattle.desk_verify.specs.Members.{AgreesMembers, HasPlace}
 use Rattle.desk_verify.specs.Rollouts.{IsThere}
 use Rattle.desk_verify.proofs.ListMembers.{AreIds, member_ids}
 
-abbrev members_in : RolloutRecord → List Bytes
+abbrev pub members_in : RolloutRecord → List Bytes
 members_in x = x.members
 
-said : (n number place : ℕ) (id : Bytes) → is_number number ≡ true → place ≤ 10000 → is_word id ≡ true → IsMember (Int (pos n) ∷ member_row number place id) number place id
+pub said : (n number place : ℕ) (id : Bytes) → is_number number ≡ true → place ≤ 10000 → is_word id ≡ true → IsMember (Int (pos n) ∷ member_row number place id) number place id
 said n number place id good few word = record { rollout_is = is_number_in number good; place_is = is_small place (omega (arith, few)); id_is = refl; word = word }
 
 -- a rollout's number is there where the ledger has so many rollouts

@@ -13,6 +13,7 @@ use Rattle.desk_records.proofs.HeldTables.{are_tables, rows_of}
 use Rattle.desk_verify.specs.Agreement.{Agrees, IsDamage, NamesFirst, checked}
 use Rattle.desk_verify.specs.Promises.{NamesNone, RecordsAgree}
 use Rattle.desk_verify.specs.declared.damage.CheckedTable.{CheckedTable}
+use Rattle.desk_verify.proofs.ActionLaw.{actions_agree}
 use Rattle.desk_verify.proofs.ArtifactLaw.{artifacts_agree}
 use Rattle.desk_verify.proofs.GroupLaw.{groups_agree}
 use Rattle.desk_verify.proofs.MemberLaw.{members_agree}
