@@ -14,4 +14,3 @@ pub mod GroupChecks
 pub mod Actions
 pub mod Offers
 pub mod OfferChecks
-pub mod Stubs

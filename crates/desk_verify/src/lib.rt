@@ -12,7 +12,6 @@ mod members;
 mod offers;
 mod places;
 mod rollouts;
-mod stubs;
 
 pub use crate::damage::{CheckedTable, Damage};
 pub use crate::finding::find_damage;
