@@ -9,5 +9,9 @@ mod Naming
 mod ListMembers
 mod MemberLaw
 mod ActionLaw
+mod Rising
+mod HistoryLemmas
+mod TurnLemmas
+mod ActionLemmas
 mod ArtifactLaw
 pub mod NeverNamed

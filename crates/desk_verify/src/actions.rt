@@ -1,0 +1,78 @@
+//! The check of the actions of one rollout.
+
+ghost use Rattle.std.specs.Prelude.{◌≡◌, length, option_map, vec_items};
+ghost use Rattle.desk_records.specs.Schema.{Actions};
+ghost use Rattle.desk_store.specs.Changing.{FindsTables, StaysIn};
+ghost use Rattle.desk_verify.specs.ActionChecks.{AreMembersInTurn, AreWhole, ListsActions};
+ghost use Rattle.desk_verify.specs.Actions.{AgreesActions, IsRightAction};
+ghost use Rattle.desk_verify.specs.RolloutChecks.{HasRollout, JudgesOne};
+
+use crate::histories::fit_histories;
+use crate::stubs::list_all_actions;
+use crate::turns::{are_for, count_on, numbers_rise};
+use desk_store::{Fault, ListedAction, OpenChange, PlacedMember, StoredRollout};
+use rollout_model::RolloutNo;
+use sqlite::Alter;
+
+/// How many actions a rollout has, where they agree.
+pub(crate) fn check_actions_of<S: Alter>(
+    change: &mut OpenChange<'_, S>,
+    number: RolloutNo,
+    rollout: &StoredRollout,
+) -> Result<Option<u32>, Fault>
+    ensures stays { StaysIn S.Store change.old change.new result }
+    ensures judges { FindsTables S.Store change.old change.new result
+        (λ t count. HasRollout t number rollout.now → JudgesOne Actions 2 IsRightAction AreWhole AgreesActions t number count) }
+{
+    let Some(actions) = actions_of(change, number)? else {
+        return Ok(None);
+    };
+    if !rollout.started {
+        return Ok(if actions.is_empty() { Some(0) } else { None });
+    }
+    let members = members_of(change, number)?;
+    if !are_for(&members, &actions) {
+        return Ok(None);
+    }
+    if !fit_histories(change, &actions)? {
+        return Ok(None);
+    }
+    match u32::try_from(actions.len()) {
+        Ok(count) => Ok(Some(count)),
+        Err(_) => Err(Fault::Store),
+    }
+}
+
+/// The actions of a rollout, where they keep the columns' rules. Two of one number are a failed store.
+fn actions_of<S: Alter>(
+    change: &mut OpenChange<'_, S>,
+    number: RolloutNo,
+) -> Result<Option<Vec<ListedAction>>, Fault>
+    ensures stays { StaysIn S.Store change.old change.new result }
+    ensures reads { FindsTables S.Store change.old change.new result (λ t found. ListsActions t number (option_map vec_items found)) }
+{
+    let Some(actions) = list_all_actions(change, number)? else {
+        return Ok(None);
+    };
+    if !numbers_rise(&actions) {
+        return Err(Fault::Store);
+    }
+    Ok(Some(actions))
+}
+
+/// The members of a rollout, whose places were judged before: a row that breaks a rule, and a place that isn't in its turn, are a failed store.
+fn members_of<S: Alter>(
+    change: &mut OpenChange<'_, S>,
+    number: RolloutNo,
+) -> Result<Vec<PlacedMember>, Fault>
+    ensures stays { StaysIn S.Store change.old change.new result }
+    ensures reads { FindsTables S.Store change.old change.new result (λ t members. AreMembersInTurn t number members.items) }
+{
+    let Some(members) = change.list_places(number)? else {
+        return Err(Fault::Store);
+    };
+    if !count_on(&members) {
+        return Err(Fault::Store);
+    }
+    Ok(members)
+}
