@@ -210,13 +210,13 @@ pub put_feedback_is : (s : Schema) (at tree : ℕ) → Stands s (codes "feedback
 put_feedback_is s at tree stands = means_of s PUT_FEEDBACK.now _ (adds_known _ _ (feedback_table tree) _ (put_feedback_adds tree) s at stands) refl refl
 
 abbrev pub entry_names : List (List ℕ)
-entry_names = codes "kind" ∷ codes "word" ∷ codes "details" ∷ []
+entry_names = codes "kind" ∷ codes "word" ∷ codes "details" ∷ codes "sequence" ∷ []
 
 abbrev pub of_action : List Term
 of_action = at_key 1 0 ∷ []
 
 abbrev pub entry_columns : List Term
-entry_columns = col 1 3 ∷ col 1 4 ∷ col 1 5 ∷ []
+entry_columns = col 1 3 ∷ col 1 4 ∷ col 1 5 ∷ col 1 2 ∷ []
 
 abbrev pub list_entries_query : ℕ → Query
 list_entries_query tree = by (simple tree of_action entry_columns) ((col 1 2, record { descending = false; collation = Binary }) ∷ []) (col 0 1) (col 0 2)
@@ -230,7 +230,7 @@ list_entries_queries tree = record {
   shown = _;
   read = refl;
   selects = record { statement = refl; formats = refl; with = refl; others = refl };
-  one = record { source = _; from = refl; table = refl; alias = refl; on = refl; using = refl; is_inner = refl; group = refl; having = refl; shown = (tt, (tt, (tt, tt))); filter = ((refl, λ cx how x y. refl), tt, tt); sorts = (tt, tt) };
+  one = record { source = _; from = refl; table = refl; alias = refl; on = refl; using = refl; is_inner = refl; group = refl; having = refl; shown = (tt, (tt, (tt, (tt, tt)))); filter = ((refl, λ cx how x y. refl), tt, tt); sorts = (tt, tt) };
   paged = λ s. refl;
   named_alone = refl;
   known = refl;

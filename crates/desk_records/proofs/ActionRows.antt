@@ -16,8 +16,7 @@ use Rattle.desk_records.specs.declared.checked_rows.CountedAction.{CountedAction
 use Rattle.desk_records.proofs.ActionMeaning.{list_actions_query, listed_columns, of_rollout}
 use Rattle.desk_records.proofs.AnyRows.{tested_shown}
 use Rattle.desk_records.proofs.Membership.{picked_pass}
-use Rattle.desk_records.proofs.NumberColumns.{passes_first}
-use Rattle.desk_records.proofs.TableColumns.{integer_at}
+use Rattle.desk_records.proofs.TableColumns.{passes_integer}
 
 module _ (db : Database) (t : Tables) (holds : HoldsTables db t) (names : List (List ℕ)) (r : ℕ) (shown : List Row)
     (shows : Shows (Select (record { lets = []; body = list_actions_query (holds.spot Actions).tree }) names) db (Int (pos r) ∷ Int (negsuc 0) ∷ Int (pos 0) ∷ []) shown) where
@@ -28,7 +27,7 @@ module _ (db : Database) (t : Tables) (holds : HoldsTables db t) (names : List (
   params = Int (pos r) ∷ Int (negsuc 0) ∷ Int (pos 0) ∷ []
 
   judged : (row : Row) → Has (t Actions) row → passes of_rollout params row ≡ has_at 2 r row
-  judged row among = let it = integer_at db t holds Actions row among 1 (record { c = _; there = refl; kind_is = refl; strict = refl; filled = refl; apart = refl }) in passes_first row (Int (negsuc 0) ∷ Int (pos 0) ∷ []) 2 r it.0 it.1
+  judged row among = passes_integer db t holds Actions row among 1 (record { c = _; there = refl; kind_is = refl; strict = refl; filled = refl; apart = refl }) r (Int (negsuc 0) ∷ Int (pos 0) ∷ [])
 
   pub counts_actions : (found : List CountedAction) → found ≡ filter_map counted_of shown → AreCounted (t Actions) r found
   counts_actions found is = record {

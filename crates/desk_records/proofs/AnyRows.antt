@@ -1,5 +1,5 @@
 -- What a statement on one table shows, whatever rows the table has: those that pass, in its order.
-use Rattle.std.proofs.Common.{◌≡◌, ◌≤◌, ◌<◌, ℕ, ◌+◌, ◌&&◌, pos, Bool, true, false, List, [], ◌∷◌, map, filter, length, get_or, true≢false, sym, ap, subst, ◌∙◌, arith, IsPermutation}
+use Rattle.std.proofs.Common.{◌≡◌, inl, ◌≤◌, ◌<◌, ℕ, ◌+◌, ◌&&◌, pos, Bool, true, false, List, [], ◌∷◌, map, filter, length, get_or, true≢false, refl, sym, ap, subst, ◌∙◌, arith, IsPermutation}
 use Rattle.std.specs.List.{AllZip, list_all}
 use Rattle.std.specs.List.Sorted.{IsNonDecreasingBy}
 use Rattle.std.specs.Ordering.{is_lt}
@@ -20,8 +20,8 @@ use Rattle.sqlite.specs.Program.{overlay}
 use Rattle.sqlite_rules.specs.Lists.{Has}
 use Rattle.sqlite_rules.proofs.ListLemmas.{has_contained, has_filtered, has_kept, fails_has}
 use Rattle.sql_calls.proofs.Selects.{simple, by, passes, shown_of, shown_in, ordered_rows, IsOrdered}
-use Rattle.desk_records.specs.Listings.{AreBroken, AreSaid, IsAmong, IsSaid}
-use Rattle.desk_records.proofs.Membership.{has_mapped, has_permuted, map_has, mapped_at, mapped_pass, both_pass, permuted_pass, same_kept, zip_at, zip_left, zip_length, zip_right}
+use Rattle.desk_records.specs.Listings.{AreBroken, AreSaid, IsAmong, IsOnly, IsSaid}
+use Rattle.desk_records.proofs.Membership.{has_alone, has_mapped, has_permuted, map_has, mapped_at, mapped_pass, both_pass, permuted_pass, same_kept, zip_at, zip_left, zip_length, zip_right}
 
 module _ (tree : ℕ) (test columns : List Term) (order : List (Term × Key)) (limit offset : Term) (params : Row) (db : Trees) (rows : List Row) (are : rows ≡ db tree)
     (whole : (xs : List Row) → page (by (simple tree test columns) order limit offset) params xs ≡ xs) (p : Row → Bool) (judged : (row : Row) → Has rows row → passes test params row ≡ p row)
@@ -78,6 +78,23 @@ module _ (tree : ℕ) (test columns : List Term) (order : List (Term × Key)) (l
   tested_shown test =
       ap (λ l. length (filter test l)) shown_is ∙ mapped_pass (λ (o : Output). o.1) test it.ordered ∙ permuted_pass (λ (o : Output). test o.1) _ _ same
       ∙ mapped_pass (shown_in q params) (λ (o : Output). test o.1) its ∙ both_pass p (λ row. test (shown_of columns params row)) rows
+
+  -- ---- what is read of the only one
+
+  module _ {A : Type 0} (is : Row → A → Type 0) (says : Row → A → Type 0) (means : (row : Row) → Has rows row → p row ≡ true → (a : A) → is (shown_of columns params row) a → says row a)
+      (x : Row) (alone : shown ≡ x ∷ []) (a : A) (reads : is x a) where
+    each_says : (row : Row) → Has rows row → p row ≡ true → says row a
+    each_says row among passes_it =
+        means row among passes_it a (subst (λ y. is y a) (sym (has_alone x _ (subst (λ l. Has l (shown_of columns params row)) alone (is_shown row among passes_it)))) reads)
+
+    pub is_only : IsOnly rows p says a
+    is_only =
+        let from = from_shown x (subst (λ l. Has l x) (sym alone) (inl refl)) in
+        record { said = record { row = from.0; among = from.1; passes = from.2; is = each_says from.0 from.1 from.2 }; each = each_says }
+
+  -- where none is shown
+  pub none_passes : shown ≡ [] → (row : Row) → Has rows row → p row ≡ true → ⊥
+  none_passes none row among passes_it = subst (λ l. Has l (shown_of columns params row)) none (is_shown row among passes_it)
 
   -- ---- what is read of them
 

@@ -41,6 +41,7 @@ mod OfferPuts
 pub mod GroupOfferWrites
 pub mod Membership
 pub mod NumberColumns
+pub mod TextColumns
 pub mod TableColumns
 pub mod AnyRows
 pub mod PlaceRows

@@ -19,6 +19,10 @@ map_has f [] x among = absurd among
 map_has f (y ∷ xs) x (inl same) = inl (ap f same)
 map_has f (y ∷ xs) x (inr among) = inr (map_has f xs x among)
 
+pub has_alone : {X : Type 0} (x y : X) → Has (x ∷ []) y → y ≡ x
+has_alone x y (inl same) = same
+has_alone x y (inr none) = absurd none
+
 pub zip_left : {A B : Type 0} (R : A → B → Type 0) (xs : List A) (ys : List B) (x : A) → AllZip R xs ys → Has xs x → (y : B) × Has ys y × R x y
 zip_left R [] [] x all among = absurd among
 zip_left R [] (y ∷ ys) x all among = absurd all

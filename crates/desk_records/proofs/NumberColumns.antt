@@ -89,9 +89,6 @@ numbers_equal (negsuc m) n = let never : is_eq (int_cmp (negsuc m) (pos n)) ≡ 
 pub passes_first : (row more : Row) (place n : ℕ) (v : ℤ) → column row place ≡ Int v → (passes (at_key place 0 ∷ []) (Int (pos n) ∷ more) row) ≡ has_at place n row
 passes_first row more place n v is = and_true _ ∙ rw is (numbers_equal v n)
 
-pub passes_at : (row : Row) (place n : ℕ) (v : ℤ) → column row place ≡ Int v → (passes (at_key place 0 ∷ []) (Int (pos n) ∷ []) row) ≡ has_at place n row
-passes_at row place n v is = passes_first row [] place n v is
-
 -- of two such columns
 pub passes_two : (row : Row) (first second m n : ℕ) (v w : ℤ) → column row first ≡ Int v → column row second ≡ Int w
     → (passes (at_key first 0 ∷ at_key second 1 ∷ []) (Int (pos m) ∷ Int (pos n) ∷ []) row) ≡ (has_at first m row && has_at second n row)

@@ -16,9 +16,9 @@ use Rattle.desk_records.specs.Schema.{Members}
 use Rattle.desk_records.specs.Tables.{HoldsTables, Tables}
 use Rattle.desk_records.specs.declared.member_row.PlacedMember.{PlacedMember}
 use Rattle.desk_records.proofs.AnyRows.{are_said, broken, count_shown, number_order, rise}
-use Rattle.desk_records.proofs.NumberColumns.{is_number_in, number_is, passes_at, small_is}
+use Rattle.desk_records.proofs.NumberColumns.{is_number_in, number_is, small_is}
 use Rattle.desk_records.proofs.RolloutMeaning.{of_rollout, placed_columns, places_query}
-use Rattle.desk_records.proofs.TableColumns.{integer_at}
+use Rattle.desk_records.proofs.TableColumns.{passes_integer}
 
 module _ (db : Database) (t : Tables) (holds : HoldsTables db t) (names : List (List ℕ)) (r : ℕ) (good : is_number r ≡ true) (shown : List Row)
     (shows : Shows (Select (record { lets = []; body = places_query (holds.spot Members).tree }) names) db (Int (pos r) ∷ []) shown) where
@@ -29,7 +29,7 @@ module _ (db : Database) (t : Tables) (holds : HoldsTables db t) (names : List (
   params = Int (pos r) ∷ []
 
   judged : (row : Row) → Has (t Members) row → passes of_rollout params row ≡ is_of r row
-  judged row among = let it = integer_at db t holds Members row among 0 (record { c = _; there = refl; kind_is = refl; strict = refl; filled = refl; apart = refl }) in passes_at row 1 r it.0 it.1
+  judged row among = passes_integer db t holds Members row among 0 (record { c = _; there = refl; kind_is = refl; strict = refl; filled = refl; apart = refl }) r []
 
   means : (row : Row) → Has (t Members) row → is_of r row ≡ true → (m : PlacedMember) → IsPlacedRow (shown_of placed_columns params row) m → SaysMember r row m
   means row among of m reads = record { rollout_is = rw (number_is (column row 1) r of) (is_number_in r good); place_is = reads.place; id_is = reads.id; word = reads.word }

@@ -1,5 +1,5 @@
--- What LAST_ROLLOUT and GET_ROLLOUT show, whatever rows the table of rollouts has.
-use Rattle.std.proofs.Common.{◌≡◌, ◌≤◌, inl, inr, ℕ, pos, negsuc, true, false, List, [], ◌∷◌, map, filter, get_or, take, length, slice_get, Option, Some, None, true≢false, refl, sym, ap, subst, ◌∙◌, arith, Ordering, Less, Equal, Greater, int_cmp, is_eq, IsPermutation}
+-- What LAST_ROLLOUT shows, whatever rows the table of rollouts has.
+use Rattle.std.proofs.Common.{◌≡◌, ◌≤◌, inl, inr, ℕ, pos, true, false, List, [], ◌∷◌, map, filter, get_or, take, Option, Some, None, true≢false, refl, sym, ap, subst, ◌∙◌, arith, Ordering, Less, Equal, Greater, int_cmp, is_eq, IsPermutation}
 use Rattle.std.specs.Ordering.{is_lt, ordering_reverse}
 use Rattle.std.proofs.lemmas.Int.{ints}
 use Rattle.std.proofs.lemmas.Bool.Decides.{nat_tests}
@@ -8,26 +8,23 @@ use Rattle.sqlite_value.specs.declared.value.Value.{Value}
 use Rattle.sqlite_value.specs.declared.value.Value.TheVariants.{Null, Int}
 use Rattle.sqlite_value.specs.Order.{Row, column, value_cmp}
 use Rattle.sqlite_value.proofs.OrderLemmas.{value_cmp-Int, value_cmp_total, then-Equal}
-use Rattle.sqlite_trees.specs.Tree.{has_rowid, rowid}
+use Rattle.sqlite_trees.specs.Tree.{rowid}
 use Rattle.sqlite.specs.Command.TheVariants.{Select}
 use Rattle.sqlite.specs.Effect.{Database, Reads as Shows}
 use Rattle.sqlite.specs.Query.{Query, Output, output_cmp}
-use Rattle.sqlite.specs.Term.{col, lit}
+use Rattle.sqlite.specs.Term.{col}
 use Rattle.sqlite_sql.proofs.QueryLemmas.{output_cmp_total}
 use Rattle.sqlite_rules.specs.Lists.{Has}
 use Rattle.sqlite_rules.proofs.ListLemmas.{contains_had}
 use Rattle.sql_calls.proofs.Finding.{ShowsFirst}
-use Rattle.sql_calls.proofs.Selects.{IsOrdered, ordered_rows, passes, shown_in, simple}
+use Rattle.sql_calls.proofs.Selects.{IsOrdered, ordered_rows, passes, shown_in}
 use Rattle.desk_records.specs.Listings.{IsLast}
 use Rattle.desk_records.specs.Modules.{IsLastRow}
 use Rattle.desk_records.specs.Schema.{Rollouts}
-use Rattle.desk_records.specs.TableRows.{rollout_shown}
 use Rattle.desk_records.specs.Tables.{HoldsTables, Tables}
-use Rattle.desk_records.proofs.AnyRows.{from_shown, is_shown}
 use Rattle.desk_records.proofs.Membership.{has_mapped, has_permuted, map_has}
-use Rattle.desk_records.proofs.MeaningWords.{at_key}
-use Rattle.desk_records.proofs.NumberColumns.{has_own_number, passes_rowid}
-use Rattle.desk_records.proofs.RolloutMeaning.{last_rollout_query, rollout_columns}
+use Rattle.desk_records.proofs.NumberColumns.{has_own_number}
+use Rattle.desk_records.proofs.RolloutMeaning.{last_rollout_query}
 
 -- ---- the greatest number
 
@@ -104,35 +101,3 @@ module _ (db : Database) (t : Tables) (holds : HoldsTables db t) (names : List (
   pub lasts_any : (row : Option Row) → ShowsFirst (Select (record { lets = []; body = q }) names) db [] row → (n : ℕ) → IsLastRow n row → IsLast (t Rollouts) n
   lasts_any None shows n is = subst (IsLast (t Rollouts)) (sym is) (shown_none [] shows refl)
   lasts_any (Some row) shows n is = shown_last (row ∷ shows.0) shows.1 row shows.0 refl n is
-
-  -- ---- the rollout of a number
-
-  -- a row of this number, and each is shown as this
-  pub record IsShownAs (r : ℕ) (row : Row) : Type 0 where
-    pub source : Row
-    pub among : Has (t Rollouts) source
-    pub numbered : has_rowid (pos r) source ≡ true
-    pub each : (other : Row) → Has (t Rollouts) other → has_rowid (pos r) other ≡ true → row ≡ rollout_shown other
-
-  -- the row that is shown, or that there is none
-  abbrev pub IsShownOf : ℕ → Option Row → Type 0
-  IsShownOf r (Some row) = IsShownAs r row
-  IsShownOf r None = (source : Row) → Has (t Rollouts) source → has_rowid (pos r) source ≡ true → ⊥
-
-  module _ (r : ℕ) (shown : List Row) (few : length shown ≤ 1) (shows : Shows (Select (record { lets = []; body = simple tree (at_key 0 0 ∷ []) rollout_columns }) names) db (Int (pos r) ∷ []) shown) where
-    numbered_shown : (other : Row) → Has (t Rollouts) other → has_rowid (pos r) other ≡ true → Has shown (rollout_shown other)
-    numbered_shown = is_shown tree (at_key 0 0 ∷ []) rollout_columns [] (lit (Int (negsuc 0))) (lit (Int (pos 0))) (Int (pos r) ∷ []) db.trees (t Rollouts) (holds.rows Rollouts) (λ xs. refl) (has_rowid (pos r)) (λ source among. passes_rowid source r) shown (shows.answer Null)
-
-    pub gets_any : IsShownOf r (slice_get shown 0)
-    gets_any = go shown refl
-      where
-        go : (rows : List Row) → shown ≡ rows → IsShownOf r (slice_get rows 0)
-        go [] is = λ other among its. subst (λ l. Has l (rollout_shown other)) is (numbered_shown other among its)
-        go (row ∷ []) is =
-            let from = from_shown tree (at_key 0 0 ∷ []) rollout_columns [] (lit (Int (negsuc 0))) (lit (Int (pos 0))) (Int (pos r) ∷ []) db.trees (t Rollouts) (holds.rows Rollouts) (λ xs. refl) (has_rowid (pos r)) (λ source among. passes_rowid source r) shown (shows.answer Null) row (subst (λ l. Has l row) (sym is) (inl refl)) in
-            record { source = from.0; among = from.1; numbered = from.2; each = λ other there its. alone (rollout_shown other) (subst (λ l. Has l (rollout_shown other)) is (numbered_shown other there its)) }
-          where
-            alone : (x : Row) → Has (row ∷ []) x → row ≡ x
-            alone x (inl same) = sym same
-            alone x (inr none) = absurd none
-        go (row ∷ second ∷ rows) is = absurd (omega (arith, few, ap length is))

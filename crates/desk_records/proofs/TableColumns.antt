@@ -1,5 +1,5 @@
 -- The columns of the tables of a desk are of their kinds, in each sound database.
-use Rattle.std.proofs.Common.{◌≡◌, ◌||◌, ℕ, zero, suc, ◌+◌, ℤ, Bool, true, false, not, List, [], ◌∷◌, drop, slice_get, Option, Some, true≢false, refl, sym, ap, subst, ◌∙◌, arith, if◌then◌else◌}
+use Rattle.std.proofs.Common.{◌≡◌, ◌||◌, ℕ, zero, suc, ◌+◌, ℤ, Bool, true, false, not, pos, List, [], ◌∷◌, drop, slice_get, Option, Some, true≢false, refl, sym, ap, subst, ◌∙◌, arith, if◌then◌else◌}
 use Rattle.std.proofs.lemmas.Bool.{and_parts}
 use Rattle.sqlite_value.specs.declared.value.Value.{Value}
 use Rattle.sqlite_value.specs.declared.value.Value.TheVariants.{Null, Int, Real, Text, Blob}
@@ -14,8 +14,12 @@ use Rattle.sqlite_rules.specs.Lists.{Has}
 use Rattle.sqlite_rules.proofs.ListLemmas.{all_has}
 use Rattle.sqlite_keyed.proofs.ListLemmas.{all-slice_get}
 use Rattle.sqlite.specs.Effect.{Database}
+use Rattle.sql_calls.proofs.Selects.{passes}
+use Rattle.desk_records.specs.Listings.{has_at}
 use Rattle.desk_records.specs.Schema.{Place, table_at, table_by}
 use Rattle.desk_records.specs.Tables.{HoldsTables, Tables}
+use Rattle.desk_records.proofs.MeaningWords.{at_key}
+use Rattle.desk_records.proofs.NumberColumns.{passes_first}
 
 -- a value of each column that is there and isn't the rowid
 typed_from : (key : Option ℕ) (at : ℕ) (columns : List Column) (vs : Row) (k : ℕ) (c : Column) → slice_get columns k ≡ Some c → c.is_strict ≡ true → is_key key (at + k) ≡ false
@@ -91,3 +95,7 @@ module _ (db : Database) (t : Tables) (holds : HoldsTables db t) (p : Place) (ro
       let kept : is_of it.c.kind (column row (suc k)) ≡ true = ap (is_of it.c.kind) (sym (behind row k)) ∙ typed_from (table_by p).key 0 (table_by p).columns (drop 1 row) k it.c it.there it.strict apart typed in
       let given : is_null (column row (suc k)) ≡ false = ap (λ n. is_null (column row n)) (sym next) ∙ present_from (table_by p).key 0 (table_by p).columns row k it.c it.there it.filled apart present in
       number_there (column row (suc k)) given (ap (λ kind. is_of kind (column row (suc k))) (sym it.kind_is) ∙ kept)
+
+  -- WHERE column = ?1, whatever parameters follow
+  pub passes_integer : (k : ℕ) → IsInteger p k → (n : ℕ) (more : Row) → passes (at_key (suc k) 0 ∷ []) (Int (pos n) ∷ more) row ≡ has_at (suc k) n row
+  passes_integer k it n more = let its = integer_at k it in passes_first row more (suc k) n its.0 its.1

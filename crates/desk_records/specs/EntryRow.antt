@@ -1,15 +1,17 @@
 -- What rows of entries of histories are read as.
-use Rattle.std.specs.Prelude.{◌≡◌, ◌≢◌, ◌⊎◌, ℕ, Bool, true, false, nat_eq, List, [], ◌∷◌, Option, Some, None, if◌then◌else◌}
+use Rattle.std.specs.Prelude.{◌≡◌, ◌≢◌, ◌⊎◌, ℕ, pos, Bool, true, false, nat_eq, List, [], ◌∷◌, Option, Some, None, if◌then◌else◌}
 use Rattle.std.specs.Option.{is_some, option_map}
 use Rattle.sqlite_value.specs.declared.value.Value.{Value}
-use Rattle.sqlite_value.specs.declared.value.Value.TheVariants.{Text}
+use Rattle.sqlite_value.specs.declared.value.Value.TheVariants.{Int, Text}
 use Rattle.sqlite_value.specs.Order.{Row, column}
 use Rattle.rollout_machine.specs.Actions.{HistoryEntry, Said, OfDeployment, OfCancel}
 use Rattle.rollout_machine.specs.Commands.{Bytes, DeploymentWord, CancelWord, Proceeding, Scheduled, Resumed, Succeeded, Failed, Rejected, Noted}
 use Rattle.rollout_machine.specs.Commands.{ClosedCancel, CanceledCancel, RejectedCancel, NotedCancel}
 use Rattle.rollout_model.specs.Rules.{are_details}
 use Rattle.desk_records.specs.Actions.{lines_of}
+use Rattle.desk_records.specs.ArtifactRow.{has_size}
 use Rattle.desk_records.specs.Codes.{coded_in, first_broken, flag_in}
+use Rattle.desk_records.specs.declared.entry_row.SequencedEntry.{SequencedEntry}
 use Rattle.desk_records.specs.declared.module_row.Column.{Column}
 use Rattle.desk_records.specs.declared.module_row.Column.TheVariants as rule
 
@@ -58,3 +60,12 @@ broken_word row = first_broken ((is_some (flag_in (column row 0)), rule.EntryKin
 -- the first column that breaks its rule
 abbrev pub BreaksEntry : Row → Column → Type 0
 BreaksEntry row c = (broken_word row ≡ Some c) ⊎ ((broken_word row ≡ None) × (c ≡ rule.EntryDetails) × HasNoDetails (column row 2))
+
+-- the row of an entry with its sequence at the end
+pub record IsSequencedRow (row : Row) (sequenced : SequencedEntry) : Type 0 where
+  pub entry : IsEntryRow row sequenced.entry
+  pub sequence : column row 3 ≡ Int (pos sequenced.sequence)
+
+-- the sequence breaks its rule, or it keeps it and this is the first of the others that breaks its own
+abbrev pub BreaksSequenced : Row → Column → Type 0
+BreaksSequenced row c = ((has_size (column row 3) ≡ false) × (c ≡ rule.EntrySequence)) ⊎ ((has_size (column row 3) ≡ true) × BreaksEntry row c)

@@ -2,10 +2,12 @@
 use Rattle.std.specs.Prelude.{◌≡◌, ◌≤◌, ◌⊎◌, ℕ, Bool, true, false, List, length, filter, pos, nat_eq, Option, Some, None}
 use Rattle.std.specs.List.{AllZip, list_all}
 use Rattle.sqlite_value.specs.declared.value.Value.{Value}
-use Rattle.sqlite_value.specs.declared.value.Value.TheVariants.{Int}
+use Rattle.sqlite_value.specs.declared.value.Value.TheVariants.{Int, Text}
 use Rattle.sqlite_value.specs.Order.{Row, column}
 use Rattle.sqlite_rules.specs.Lists.{Has}
 use Rattle.sqlite_trees.specs.Tree.{has_rowid}
+use Rattle.rollout_machine.specs.ByteStrings.{same_bytes}
+use Rattle.rollout_machine.specs.Commands.{Bytes}
 
 -- ---- which rows
 
@@ -16,6 +18,14 @@ is_number_of n _ = false
 -- the column at this place has this number
 abbrev pub has_at : ℕ → ℕ → Row → Bool
 has_at place n row = is_number_of n (column row place)
+
+abbrev pub is_text_of : Bytes → Value → Bool
+is_text_of text (Text t) = same_bytes t text
+is_text_of text _ = false
+
+-- the column at this place has this text
+abbrev pub has_text_at : ℕ → Bytes → Row → Bool
+has_text_at place text row = is_text_of text (column row place)
 
 -- a row has this rowid
 pub record HasNumber (rows : List Row) (n : ℕ) : Type 0 where

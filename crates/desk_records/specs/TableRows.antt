@@ -2,11 +2,13 @@
 use Rattle.std.specs.Prelude.{◌≡◌, ℕ, true, ◌∷◌, [], None, Some, pos}
 use Rattle.sqlite_value.specs.declared.value.Value.TheVariants.{Blob, Int, Text}
 use Rattle.sqlite_value.specs.Order.{Row, column}
+use Rattle.rollout_machine.specs.Actions.{HistoryEntry}
 use Rattle.rollout_machine.specs.Commands.{Bytes}
 use Rattle.rollout_machine.specs.declared.records.GroupRecord.{GroupRecord}
 use Rattle.rollout_model.specs.declared.rollout.Offer.{Offer}
 use Rattle.desk_records.specs.ArtifactRow.{IsStoredRow, broken_stored_column, has_size, small_number}
 use Rattle.desk_records.specs.Codes.{number_in}
+use Rattle.desk_records.specs.EntryRow.{IsEntryRow}
 use Rattle.desk_records.specs.RolloutRow.{IsActionRow, IsGroupRow, IsOfferRow, IsRolloutRow, broken_group_column}
 use Rattle.desk_records.specs.TargetRow.{has_word}
 use Rattle.desk_records.specs.declared.artifact_row.StoredArtifact.{StoredArtifact}
@@ -27,6 +29,9 @@ group_shown row = column row 2 ∷ column row 3 ∷ column row 4 ∷ column row 
 
 abbrev pub action_shown : Row → Row
 action_shown row = column row 2 ∷ column row 3 ∷ column row 4 ∷ column row 5 ∷ column row 6 ∷ column row 7 ∷ column row 8 ∷ column row 0 ∷ []
+
+abbrev pub entry_shown : Row → Row
+entry_shown row = column row 3 ∷ column row 4 ∷ column row 5 ∷ []
 
 abbrev pub offer_shown : Row → Row
 offer_shown row = column row 2 ∷ column row 3 ∷ column row 1 ∷ []
@@ -67,6 +72,11 @@ pub record IsAction (row : Row) (number : ℕ) (a : StoredAction) : Type 0 where
   pub shows : IsActionRow (action_shown row) a
   pub place : has_size (column row 3) ≡ true
   pub word : has_word (column row 4) ≡ true
+
+-- the entry of an action's history at a place of its sequence
+pub record IsEntry (row : Row) (sequence : ℕ) (entry : HistoryEntry) : Type 0 where
+  pub sequence_is : column row 2 ≡ Int (pos sequence)
+  pub shows : IsEntryRow (entry_shown row) entry
 
 -- what a target is offered
 pub record IsOffer (row : Row) (id : Bytes) (o : Offer) : Type 0 where

@@ -29,7 +29,7 @@ pub const PUT_FEEDBACK: &str =
 
 /// The history of an action, in its order: at most as many entries as the second parameter, after as many as the third.
 pub const LIST_ENTRIES: &str =
-    "SELECT kind, word, details FROM feedback WHERE action = ?1 ORDER BY sequence LIMIT ?2 OFFSET ?3";
+    "SELECT kind, word, details, sequence FROM feedback WHERE action = ?1 ORDER BY sequence LIMIT ?2 OFFSET ?3";
 
 /// The offer of a target.
 pub const GET_OFFER: &str = "SELECT action, kind FROM offer WHERE controller = ?1";

@@ -4,7 +4,8 @@ ghost use Rattle.std.specs.Prelude.{◌≡◌, ◌⊎◌, IfOk, IfErr, IfSome, I
 ghost use Rattle.sqlite_value.specs.Order.{column};
 ghost use Rattle.desk_records.specs.Actions.{lines_of};
 ghost use Rattle.rollout_model.specs.Rules.{details_of};
-ghost use Rattle.desk_records.specs.EntryRow.{BreaksEntry, HasNoDetails, IsEntryRow, broken_word, cancel_in, deployment_in, said_in};
+ghost use Rattle.desk_records.specs.EntryRow.{BreaksEntry, BreaksSequenced, HasNoDetails, IsEntryRow, IsSequencedRow};
+ghost use Rattle.desk_records.specs.EntryRow.{broken_word, cancel_in, deployment_in, said_in};
 ghost use Rattle.desk_records.specs.ModuleRow.{StoredText};
 
 use crate::artifact_row::number_at;
@@ -17,6 +18,13 @@ use sqlite_value::value::ValueRef;
 use std::alloc::{AllocError, Global};
 use std::str;
 
+/// An entry with its place in the sequence of its action's history.
+#[derive(Drop)]
+pub struct SequencedEntry {
+    pub sequence: u32,
+    pub entry: HistoryEntry,
+}
+
 /// The entry in a row of kind, word and details.
 pub fn read_entry(alloc: Global, row: &Row) -> Result<HistoryEntry, RowFault>
     ensures ok { IfOk result (IsEntryRow row.now) }
@@ -25,6 +33,16 @@ pub fn read_entry(alloc: Global, row: &Row) -> Result<HistoryEntry, RowFault>
     let said = said_at(row)?;
     let details = details_at(alloc, row, 2)?;
     Ok(HistoryEntry { said, details })
+}
+
+/// The entry in a row of kind, word, details and sequence.
+pub fn read_sequenced_entry(alloc: Global, row: &Row) -> Result<SequencedEntry, RowFault>
+    ensures ok { IfOk result (IsSequencedRow row.now) }
+    ensures err { IfErr result (λ e. (e ≡ RowFault.Memory) ⊎ ((c : _) × (e ≡ RowFault.Broken c) × BreaksSequenced row.now c)) }
+{
+    let sequence = number_at(row, 3).ok_or(RowFault::Broken(Column::EntrySequence))?;
+    let entry = read_entry(alloc, row)?;
+    Ok(SequencedEntry { sequence, entry })
 }
 
 /// What is said by kind and word.

@@ -56,6 +56,7 @@ pub enum Column {
     EntryKind,
     EntryWord,
     EntryDetails,
+    EntrySequence,
     OfferAction,
     OfferKind,
 }

@@ -31,12 +31,12 @@ use Rattle.desk_records.specs.Schema.{Actions, Feedbacks, Offers}
 use Rattle.desk_records.proofs.MeaningWords.{at_key}
 use Rattle.desk_records.proofs.ActionMeaning.{last_action_query, action_columns, action_names, listed_names, list_actions_query, list_target_actions_query, list_entries_query, entry_names, of_controller, offer_columns, last_action_is, get_action_is, list_actions_is, list_target_actions_is, list_entries_is, get_offer_is}
 use Rattle.desk_records.proofs.ActionRecords.{shown_action, told_listed, lasts_action, gets_action, lists_actions, lists_target_actions, told_offer, gets_offer}
-use Rattle.desk_records.proofs.EntryRecords.{lists_entries}
+use Rattle.desk_records.proofs.EntryRecords.{lists_entries, told_part}
 use Rattle.desk_store.specs.Rows.{AreReadAs, IsReadAs}
 use Rattle.desk_store.proofs.Known.{ledger_knows}
 use Rattle.desk_store.proofs.LedgerReads.{both_mapped, one_action, one_listed, one_offer, same_entries}
 use Rattle.desk_store.proofs.ModuleCalls.{one_last}
-use Rattle.desk_store.proofs.ReadLemmas.{asks_all, takes_one}
+use Rattle.desk_store.proofs.ReadLemmas.{asks_all, read_parts, takes_one}
 
 -- ---- what the texts mean where a ledger is held
 
@@ -114,7 +114,7 @@ entries_read number limit offset least old new rows h out are_read =
     answers (Ok found) is = λ db l holds shown keep.
         let all = history_of (item_numbered l.records.actions number) in
         same_entries found.items (part l) (kept_to keeps_details limit (drop offset all) (kept_from keeps_details offset all keep))
-        (subst (λ rs. AreReadAs IsEntryRow rs found.items) (lists_entries db l holds entry_names number limit offset least rows.items shown) is)
+        (subst (λ rs. AreReadAs IsEntryRow rs found.items) (lists_entries db l holds entry_names number limit offset least rows.items shown) (read_parts told_part IsEntryRow rows.items found.items is))
     answers (Err e) is = tt
 
 -- ---- offers

@@ -17,5 +17,6 @@ mod NextOfferCalls
 pub mod GroupOfferCalls
 mod RawCalls
 mod RawLists
+mod RawFinds
 mod RawPieces
 mod RawActionCalls

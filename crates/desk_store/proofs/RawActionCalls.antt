@@ -1,7 +1,6 @@
 -- The calls on the table of actions with whatever rows it has.
-use Rattle.std.proofs.Common.{◌≡◌, ℕ, pos, negsuc, [], ◌∷◌, filter_map, Ok, Err, Result, IfOk, Vec}
+use Rattle.std.proofs.Common.{◌≡◌, ℕ, [], filter_map, Ok, Err, Result, IfOk, Vec}
 use Rattle.std.specs.declared.alloc.Global.{Global}
-use Rattle.sqlite_value.specs.declared.value.Value.TheVariants.{Int}
 use Rattle.sqlite_value.specs.Order.{Row}
 use Rattle.sqlite.specs.Command.TheVariants.{Select}
 use Rattle.sqlite.specs.Effect.{Database, Reads as Shows}
@@ -20,13 +19,10 @@ use Rattle.desk_records.proofs.ActionMeaning.{list_actions_is, list_actions_quer
 use Rattle.desk_records.proofs.ActionRows.{counts_actions}
 use Rattle.desk_store.proofs.Known.{tables_know}
 use Rattle.desk_store.proofs.RawCalls.{FindsOf}
+use Rattle.desk_store.proofs.RawLists.{all_of}
 
 abbrev acting_any : Knows HoldsTables LIST_ACTIONS.now
 acting_any = tables_know Actions LIST_ACTIONS.now (λ at tree. Select (record { lets = []; body = list_actions_query tree }) listed_names) list_actions_is
-
--- the parameters that ask for all
-abbrev pub all_of : ℕ → Row
-all_of r = Int (pos r) ∷ Int (negsuc 0) ∷ Int (pos 0) ∷ []
 
 abbrev pub CountsOf : ℕ → Tables → Vec CountedAction Global → Type 0
 CountsOf r t found = AreCounted (t Actions) r found.items

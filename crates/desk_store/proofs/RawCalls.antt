@@ -1,42 +1,33 @@
 -- The calls on tables with whatever rows they have.
-use Rattle.std.proofs.Common.{◌≡◌, ◌<◌, ◌≤◌, ◌^◌, ℕ, min, pos, Bool, true, false, cond, nat_le, List, [], ◌∷◌, filter, length, slice_get, Option, Some, None, Ok, Err, Result, IfOk, option_map, Vec, vec_items, refl, sym, ap, subst, ◌∙◌, arith, codes}
+use Rattle.std.proofs.Common.{◌≡◌, ◌<◌, ◌^◌, ℕ, min, pos, true, List, [], ◌∷◌, filter, length, Option, Some, None, Ok, Err, Result, IfOk, option_map, Vec, vec_items, sym, ap, ◌∙◌, codes}
 use Rattle.std.specs.declared.alloc.Global.{Global}
-use Rattle.std.proofs.lemmas.Bool.Decides.{nat_tests}
 use Rattle.sqlite_value.specs.declared.value.Value.TheVariants.{Null, Int}
 use Rattle.sqlite_value.specs.Order.{Row}
-use Rattle.sqlite_trees.specs.Tree.{has_rowid}
 use Rattle.sqlite.specs.Command.TheVariants.{Select}
 use Rattle.sqlite.specs.Effect.{Database, Reads as Shows}
 use Rattle.sqlite.specs.Schema.{Schema}
 use Rattle.sqlite.specs.State.{State}
-use Rattle.sqlite_rules.specs.Lists.{Has}
 use Rattle.sql_calls.specs.declared.fault.Fault.{Fault}
-use Rattle.sql_calls.specs.declared.fault.Fault.TheVariants.{Store}
-use Rattle.sql_calls.specs.Calls.{AsksFew, AsksText, TakesFirst, few_of}
+use Rattle.sql_calls.specs.Calls.{AsksFew, AsksText, TakesFirst}
 use Rattle.sql_calls.specs.Means.{Knows, Means}
 use Rattle.sql_calls.specs.Standing.{Finds}
 use Rattle.sql_calls.proofs.Counts.{count_query, count_rows}
 use Rattle.sql_calls.proofs.Finding.{ShowsFirst, ask_finds, few_finds, first_finds}
-use Rattle.sql_calls.proofs.Selects.{simple}
 use Rattle.sql_front.specs.Stands.{Stands}
 use Rattle.rollout_model.specs.Rules.{is_number}
 use Rattle.desk_records.specs.Holds.{HoldsLedger}
-use Rattle.desk_records.specs.Listings.{AreRead, FindsOne, IsLast}
+use Rattle.desk_records.specs.Listings.{AreRead, IsLast}
 use Rattle.desk_records.specs.MemberRow.{IsPlacedRow, keeps_member_rules}
 use Rattle.desk_records.specs.Modules.{IsLastRow}
 use Rattle.desk_records.specs.PlaceLists.{ListsPlaces, is_of}
-use Rattle.desk_records.specs.RolloutRow.{IsRolloutRow}
 use Rattle.desk_records.specs.Schema.{Members, Place, Rollouts, name_of, table_at}
-use Rattle.desk_records.specs.TableRows.{IsRollout}
 use Rattle.desk_records.specs.Tables.{HoldsTables, Tables}
 use Rattle.desk_records.specs.declared.member_row.PlacedMember.{PlacedMember}
-use Rattle.desk_records.specs.declared.rollout_row.StoredRollout.{StoredRollout}
-use Rattle.desk_records.specs.declared.rollout_texts.TheConstants.{COUNT_MEMBERS, GET_ROLLOUT, LAST_ROLLOUT, LIST_PLACES}
-use Rattle.desk_records.proofs.MeaningWords.{at_key}
+use Rattle.desk_records.specs.declared.rollout_texts.TheConstants.{COUNT_MEMBERS, LAST_ROLLOUT, LIST_PLACES}
 use Rattle.desk_records.proofs.PlaceRows.{counts_places, lists_places}
-use Rattle.desk_records.proofs.RolloutMeaning.{count_members_is, get_rollout_is, last_rollout_is, last_rollout_query, list_places_is, placed_names, places_query, rollout_columns, rollout_names}
-use Rattle.desk_records.proofs.RolloutRows.{IsShownOf, gets_any, lasts_any}
-use Rattle.desk_store.specs.Rows.{IsCount, IsReadAs}
+use Rattle.desk_records.proofs.RolloutMeaning.{count_members_is, last_rollout_is, last_rollout_query, list_places_is, placed_names, places_query}
+use Rattle.desk_records.proofs.RolloutRows.{lasts_any}
+use Rattle.desk_store.specs.Rows.{IsCount}
 use Rattle.desk_store.proofs.Known.{ledger_knows, tables_know}
 use Rattle.desk_store.proofs.TargetCalls.{same_count}
 
@@ -53,6 +44,9 @@ module _ {A : Type 0} (sql : List ℕ) (params : Row) (old new : State) (knows :
 
   pub all_read : AsksText old new sql params (Ok rows) → (out : Result A Fault) → IfOk out Read → FindsOf old new out Answer
   all_read h out read = ask_finds HoldsTables (λ (t : Tables). t) sql params old new Answer knows rows h out (answered out read)
+
+  pub few_read : (most : ℕ) → AsksFew old new sql params most (Ok rows) → (out : Result A Fault) → IfOk out Read → FindsOf old new out Answer
+  few_read most h out read = few_finds HoldsTables (λ (t : Tables). t) sql params old new Answer knows most rows h out (answered out read)
 
 -- ---- counts
 
@@ -114,9 +108,6 @@ place_count_read r good old new rows h out is = ask_finds HoldsTables (λ (t : T
 abbrev ending_any : Knows HoldsTables LAST_ROLLOUT.now
 ending_any = tables_know Rollouts LAST_ROLLOUT.now (λ at tree. Select (record { lets = []; body = last_rollout_query tree }) (codes "number" ∷ [])) last_rollout_is
 
-abbrev getting_any : Knows HoldsTables GET_ROLLOUT.now
-getting_any = tables_know Rollouts GET_ROLLOUT.now (λ at tree. Select (record { lets = []; body = simple tree (at_key 0 0 ∷ []) rollout_columns }) rollout_names) get_rollout_is
-
 abbrev pub Lasts : Tables → ℕ → Type 0
 Lasts t last = IsLast (t Rollouts) last
 
@@ -125,29 +116,4 @@ last_read old new row h out is = first_finds HoldsTables (λ (t : Tables). t) LA
   where
     answers : (out : Result ℕ Fault) → IfOk out (λ n. IsLastRow n row) → IfOk out (λ n. (db : Database) (t : Tables) (holds : HoldsTables db t) → ShowsFirst (ending_any db t holds).command db [] row → Lasts t n)
     answers (Ok n) is = λ db t holds shows. lasts_any db t holds (codes "number" ∷ []) row shows n is
-    answers (Err e) is = tt
-
-abbrev pub Gets : ℕ → Tables → Option StoredRollout → Type 0
-Gets r t found = FindsOne (t Rollouts) (has_rowid (pos r)) IsRollout found
-
-one_found : (db : Database) (t : Tables) (holds : HoldsTables db t) (r : ℕ) (row : Option Row) (found : Option StoredRollout) → IsReadAs IsRolloutRow found row → IsShownOf db t holds rollout_names r row → Gets r t found
-one_found db t holds r None found is none = subst (Gets r t) (sym is) none
-one_found db t holds r (Some row) found is shown =
-    let says : (other : Row) → Has (t Rollouts) other → has_rowid (pos r) other ≡ true → IsRollout other is.0 = λ other among numbered. subst (λ y. IsRolloutRow y is.0) (shown.each other among numbered) is.2 in
-    subst (Gets r t) (sym is.1) (record { said = record { row = shown.source; among = shown.among; passes = shown.numbered; is = says shown.source shown.among shown.numbered }; each = says })
-
-one_at_most : (rows : Vec Row Global) (answer : Result (Vec Row Global) Fault) → Ok rows ≡ few_of 1 answer → length rows.items ≤ 1
-one_at_most rows (Ok all) e = go (nat_le (length all.items) 1) refl e
-  where
-    go : (b : Bool) → nat_le (length all.items) 1 ≡ b → Ok rows ≡ cond b (Ok all) (Err Store) → length rows.items ≤ 1
-    go true few same = let it : rows ≡ all = cc in subst (λ (v : Vec Row Global). length v.items ≤ 1) (sym it) (grind (arith, nat_tests, few))
-    go false few same = absurd cc
-one_at_most rows (Err fault) e = absurd cc
-
-pub rollout_read : (r : ℕ) (old new : State) (rows : Vec Row Global) → AsksFew old new GET_ROLLOUT.now (Int (pos r) ∷ []) 1 (Ok rows) → (out : Result (Option StoredRollout) Fault) → IfOk out (λ found. IsReadAs IsRolloutRow found (slice_get rows.items 0)) → FindsOf old new out (Gets r)
-rollout_read r old new rows h out is = few_finds HoldsTables (λ (t : Tables). t) GET_ROLLOUT.now (Int (pos r) ∷ []) old new (Gets r) getting_any 1 rows h out (answers out is)
-  where
-    answers : (out : Result (Option StoredRollout) Fault) → IfOk out (λ found. IsReadAs IsRolloutRow found (slice_get rows.items 0))
-        → IfOk out (λ found. (db : Database) (t : Tables) (holds : HoldsTables db t) → Shows (getting_any db t holds).command db (Int (pos r) ∷ []) rows.items → Gets r t found)
-    answers (Ok found) is = λ db t holds shows. one_found db t holds r (slice_get rows.items 0) found is (gets_any db t holds rollout_names r rows.items (one_at_most rows h.answer h.few) shows)
     answers (Err e) is = tt

@@ -1,6 +1,6 @@
 -- The lists of tables with whatever rows they have.
 use Rattle.std.proofs.Common.{◌≡◌, ℕ, pos, negsuc, Bool, true, List, [], ◌∷◌, Option, Some, None, Ok, Result, IfOk, option_map, Vec, vec_items, refl, sym, ap, ◌∙◌}
-use Rattle.std.specs.Option.{is_none}
+use Rattle.std.specs.Option.{is_none, option_or}
 use Rattle.std.specs.declared.alloc.Global.{Global}
 use Rattle.sqlite_value.specs.declared.value.Value.{Value}
 use Rattle.sqlite_value.specs.declared.value.Value.TheVariants.{Null, Int}
@@ -11,7 +11,7 @@ use Rattle.sqlite.specs.Effect.{Database, Reads as Shows}
 use Rattle.sqlite.specs.Query.{page}
 use Rattle.sqlite.specs.Schema.{Schema}
 use Rattle.sqlite.specs.State.{State}
-use Rattle.sqlite.specs.Term.{Term, lit}
+use Rattle.sqlite.specs.Term.{Term, col, lit}
 use Rattle.sqlite_rules.specs.Lists.{Has}
 use Rattle.sql_calls.specs.declared.fault.Fault.{Fault}
 use Rattle.sql_calls.specs.Calls.{AsksText}
@@ -23,23 +23,27 @@ use Rattle.rollout_model.specs.Rules.{is_number}
 use Rattle.desk_records.specs.CheckedRows.{IsCheckedArtifactRow, IsOwnedOfferRow, keeps_artifact_rules, keeps_offer_rules}
 use Rattle.desk_records.specs.Codes.{number_in}
 use Rattle.desk_records.specs.Holds.{HoldsLedger}
-use Rattle.desk_records.specs.Listings.{AreRead, has_at}
-use Rattle.desk_records.specs.RolloutRow.{broken_group_column}
-use Rattle.desk_records.specs.Schema.{Artifacts, Groups, Offers, Place, name_of, table_at}
+use Rattle.desk_records.specs.Listings.{AreRead, AreSaid, has_at}
+use Rattle.desk_records.specs.EntryRow.{IsSequencedRow}
+use Rattle.desk_records.specs.RolloutRow.{broken_action_column, broken_group_column, broken_listed_action_column}
+use Rattle.desk_records.specs.Schema.{Actions, Artifacts, Feedbacks, Groups, Offers, Place, name_of, table_at}
 use Rattle.desk_records.specs.SetRow.{has_number}
 use Rattle.desk_records.specs.Tables.{HoldsTables, Tables}
-use Rattle.desk_records.specs.declared.action_texts.TheConstants.{LIST_OFFERS}
+use Rattle.desk_records.specs.declared.action_texts.TheConstants.{LIST_ACTIONS, LIST_ENTRIES, LIST_OFFERS}
 use Rattle.desk_records.specs.declared.artifact_texts.TheConstants.{LIST_ALL_ARTIFACTS}
 use Rattle.desk_records.specs.declared.checked_rows.CheckedArtifact.{CheckedArtifact}
 use Rattle.desk_records.specs.declared.checked_rows.OwnedOffer.{OwnedOffer}
+use Rattle.desk_records.specs.declared.entry_row.SequencedEntry.{SequencedEntry}
+use Rattle.desk_records.specs.declared.rollout_row.ListedAction.{ListedAction}
 use Rattle.desk_records.specs.declared.rollout_texts.TheConstants.{LIST_GROUPS}
-use Rattle.desk_records.proofs.ActionMeaning.{list_offers_is, owned_columns, owned_names}
+use Rattle.desk_records.proofs.ActionMeaning.{entry_columns, entry_names, list_actions_is, list_actions_query, list_entries_is, list_entries_query, list_offers_is, listed_columns, listed_names, of_action, of_rollout as of_its_rollout, owned_columns, owned_names}
 use Rattle.desk_records.proofs.AnyRows.{are_said, broken}
 use Rattle.desk_records.proofs.ArtifactMeaning.{all_artifacts_query, all_columns, all_names, list_all_artifacts_is}
-use Rattle.desk_records.proofs.NumberColumns.{is_number_in, number_in_good, number_in_is, number_is, passes_at}
+use Rattle.desk_records.proofs.NumberColumns.{is_number_in, number_in_good, number_in_is, number_is}
 use Rattle.desk_records.proofs.RolloutMeaning.{group_columns, group_names, list_groups_is, list_groups_query, of_rollout}
-use Rattle.desk_records.proofs.TableColumns.{integer_at}
-use Rattle.desk_store.specs.RawLists.{IsKeptGroupRow, ListsRows, SaysArtifact, SaysGroup, SaysOffer, any_row}
+use Rattle.desk_records.proofs.TableColumns.{passes_integer}
+use Rattle.desk_store.specs.RawLists.{IsKeptActionRow, IsKeptGroupRow, ListsRows, SaysAction, SaysArtifact, SaysEntry, SaysGroup, SaysOffer, any_row}
+use Rattle.desk_store.specs.Rows.{AreReadAs}
 use Rattle.desk_store.proofs.Known.{ledger_knows, tables_know}
 use Rattle.desk_store.proofs.RawCalls.{FindsOf, all_read}
 
@@ -55,19 +59,27 @@ module _ (p : Place) (sql : List ℕ) (test columns : List Term) (order : List (
 
   module _ (params : Row) (whole : (tree : ℕ) (xs : List Row) → page (by (simple tree test columns) order limit offset) params xs ≡ xs)
       (passing : Row → Bool) (judged : (db : Database) (t : Tables) → HoldsTables db t → (row : Row) → Has (t p) row → passes test params row ≡ passing row)
-      {A : Type 0} (is : Row → A → Type 0) (keeps : Row → Bool) (says : Row → A → Type 0) (means_so : (row : Row) → passing row ≡ true → (a : A) → is (shown_of columns params row) a → says row a)
-      (kept_by : (row : Row) (a : A) → says row a → keeps (shown_of columns params row) ≡ true) where
-    abbrev Lists : Tables → Option (Vec A Global) → Type 0
-    Lists t found = ListsRows (t p) passing says (option_map vec_items found)
-
-    lists : (db : Database) (t : Tables) (holds : HoldsTables db t) (shown : List Row) → Shows (listed db t holds).command db params shown → (found : Option (List A)) → AreRead is keeps shown found → ListsRows (t p) passing says found
-    lists db t holds shown shows (Some found) read =
+      {A : Type 0} (is : Row → A → Type 0) (says : Row → A → Type 0) (means_so : (row : Row) → passing row ≡ true → (a : A) → is (shown_of columns params row) a → says row a) where
+    said : (db : Database) (t : Tables) (holds : HoldsTables db t) (shown : List Row) → Shows (listed db t holds).command db params shown → (found : List A) → AreReadAs is shown found → AreSaid (t p) passing says found
+    said db t holds shown shows found read =
         are_said (holds.spot p).tree test columns order limit offset params db.trees (t p) (holds.rows p) (whole (holds.spot p).tree) passing (judged db t holds) shown (shows.answer Null) is says (λ row among. means_so row) found read
-    lists db t holds shown shows None fails =
-        broken (holds.spot p).tree test columns order limit offset params db.trees (t p) (holds.rows p) (whole (holds.spot p).tree) passing (judged db t holds) shown (shows.answer Null) says keeps (λ row among. kept_by row) fails
 
-    pub rows_read : (old new : State) (rows : Vec Row Global) → AsksText old new sql params (Ok rows) → (out : Result (Option (Vec A Global)) Fault) → IfOk out (λ found. AreRead is keeps rows.items (option_map vec_items found)) → FindsOf old new out Lists
-    rows_read old new rows = all_read sql params old new listed Lists (λ found. AreRead is keeps rows.items (option_map vec_items found)) rows (λ db t holds found shows read. lists db t holds rows.items shows (option_map vec_items found) read)
+    -- where each row is read
+    pub each_read : (old new : State) (rows : Vec Row Global) → AsksText old new sql params (Ok rows) → (out : Result (Vec A Global) Fault) → IfOk out (λ found. AreReadAs is rows.items found.items) → FindsOf old new out (λ t found. AreSaid (t p) passing says found.items)
+    each_read old new rows = all_read sql params old new listed (λ t found. AreSaid (t p) passing says found.items) (λ found. AreReadAs is rows.items found.items) rows (λ db t holds found shows read. said db t holds rows.items shows found.items read)
+
+    -- where they are read until one breaks a rule
+    module _ (keeps : Row → Bool) (kept_by : (row : Row) (a : A) → says row a → keeps (shown_of columns params row) ≡ true) where
+      abbrev Lists : Tables → Option (Vec A Global) → Type 0
+      Lists t found = ListsRows (t p) passing says (option_map vec_items found)
+
+      lists : (db : Database) (t : Tables) (holds : HoldsTables db t) (shown : List Row) → Shows (listed db t holds).command db params shown → (found : Option (List A)) → AreRead is keeps shown found → ListsRows (t p) passing says found
+      lists db t holds shown shows (Some found) read = said db t holds shown shows found read
+      lists db t holds shown shows None fails =
+          broken (holds.spot p).tree test columns order limit offset params db.trees (t p) (holds.rows p) (whole (holds.spot p).tree) passing (judged db t holds) shown (shows.answer Null) says keeps (λ row among. kept_by row) fails
+
+      pub rows_read : (old new : State) (rows : Vec Row Global) → AsksText old new sql params (Ok rows) → (out : Result (Option (Vec A Global)) Fault) → IfOk out (λ found. AreRead is keeps rows.items (option_map vec_items found)) → FindsOf old new out Lists
+      rows_read old new rows = all_read sql params old new listed Lists (λ found. AreRead is keeps rows.items (option_map vec_items found)) rows (λ db t holds found shows read. lists db t holds rows.items shows (option_map vec_items found) read)
 
 -- ---- artifacts
 
@@ -85,7 +97,7 @@ artifacts_known = listed_ledger Artifacts LIST_ALL_ARTIFACTS.now [] all_columns 
 
 pub artifacts_read : (old new : State) (rows : Vec Row Global) → AsksText old new LIST_ALL_ARTIFACTS.now [] (Ok rows) → (out : Result (Option (Vec CheckedArtifact Global)) Fault) → IfOk out (λ found. AreRead IsCheckedArtifactRow keeps_artifact_rules rows.items (option_map vec_items found))
     → FindsOf old new out (λ t found. ListsRows (t Artifacts) any_row SaysArtifact (option_map vec_items found))
-artifacts_read = rows_read Artifacts LIST_ALL_ARTIFACTS.now [] all_columns (all_artifacts_query 0).order (lit (Int (negsuc 0))) (lit (Int (pos 0))) all_names list_all_artifacts_is [] (λ tree xs. refl) any_row (λ db t holds row among. refl) IsCheckedArtifactRow keeps_artifact_rules SaysArtifact says_artifact kept_artifact
+artifacts_read = rows_read Artifacts LIST_ALL_ARTIFACTS.now [] all_columns (all_artifacts_query 0).order (lit (Int (negsuc 0))) (lit (Int (pos 0))) all_names list_all_artifacts_is [] (λ tree xs. refl) any_row (λ db t holds row among. refl) IsCheckedArtifactRow SaysArtifact says_artifact keeps_artifact_rules kept_artifact
 
 -- ---- offers
 
@@ -100,13 +112,13 @@ offers_known = listed_ledger Offers LIST_OFFERS.now [] owned_columns [] (lit (In
 
 pub offers_read : (old new : State) (rows : Vec Row Global) → AsksText old new LIST_OFFERS.now [] (Ok rows) → (out : Result (Option (Vec OwnedOffer Global)) Fault) → IfOk out (λ found. AreRead IsOwnedOfferRow keeps_offer_rules rows.items (option_map vec_items found))
     → FindsOf old new out (λ t found. ListsRows (t Offers) any_row SaysOffer (option_map vec_items found))
-offers_read = rows_read Offers LIST_OFFERS.now [] owned_columns [] (lit (Int (negsuc 0))) (lit (Int (pos 0))) owned_names list_offers_is [] (λ tree xs. refl) any_row (λ db t holds row among. refl) IsOwnedOfferRow keeps_offer_rules SaysOffer says_offer kept_offer
+offers_read = rows_read Offers LIST_OFFERS.now [] owned_columns [] (lit (Int (negsuc 0))) (lit (Int (pos 0))) owned_names list_offers_is [] (λ tree xs. refl) any_row (λ db t holds row among. refl) IsOwnedOfferRow SaysOffer says_offer keeps_offer_rules kept_offer
 
 -- ---- groups
 
 module _ (r : ℕ) (good : is_number r ≡ true) where
   of_it : (db : Database) (t : Tables) → HoldsTables db t → (row : Row) → Has (t Groups) row → passes of_rollout (Int (pos r) ∷ []) row ≡ has_at 1 r row
-  of_it db t holds row among = let it = integer_at db t holds Groups row among 0 (record { c = _; there = refl; kind_is = refl; strict = refl; filled = refl; apart = refl }) in passes_at row 1 r it.0 it.1
+  of_it db t holds row among = passes_integer db t holds Groups row among 0 (record { c = _; there = refl; kind_is = refl; strict = refl; filled = refl; apart = refl }) r []
 
   says_group : (row : Row) → has_at 1 r row ≡ true → (g : GroupRecord) → IsKeptGroupRow (shown_of group_columns (Int (pos r) ∷ []) row) g → SaysGroup r row g
   says_group row of g is = record { rollout_is = rw (number_is (column row 1) r of) (is_number_in r good); shows = is.group; kept = is.kept }
@@ -116,4 +128,38 @@ module _ (r : ℕ) (good : is_number r ≡ true) where
 
   pub groups_read : (old new : State) (rows : Vec Row Global) → AsksText old new LIST_GROUPS.now (Int (pos r) ∷ []) (Ok rows) → (out : Result (Option (Vec GroupRecord Global)) Fault) → IfOk out (λ found. AreRead IsKeptGroupRow (λ row. is_none (broken_group_column row)) rows.items (option_map vec_items found))
       → FindsOf old new out (λ t found. ListsRows (t Groups) (has_at 1 r) (SaysGroup r) (option_map vec_items found))
-  groups_read = rows_read Groups LIST_GROUPS.now of_rollout group_columns (list_groups_query 0).order (lit (Int (negsuc 0))) (lit (Int (pos 0))) group_names list_groups_is (Int (pos r) ∷ []) (λ tree xs. refl) (has_at 1 r) of_it IsKeptGroupRow (λ row. is_none (broken_group_column row)) (SaysGroup r) says_group kept_group
+  groups_read = rows_read Groups LIST_GROUPS.now of_rollout group_columns (list_groups_query 0).order (lit (Int (negsuc 0))) (lit (Int (pos 0))) group_names list_groups_is (Int (pos r) ∷ []) (λ tree xs. refl) (has_at 1 r) of_it IsKeptGroupRow (SaysGroup r) says_group (λ row. is_none (broken_group_column row)) kept_group
+
+-- ---- actions and their histories
+
+-- the parameters that ask for all
+abbrev pub all_of : ℕ → Row
+all_of n = Int (pos n) ∷ Int (negsuc 0) ∷ Int (pos 0) ∷ []
+
+none_first : {A : Type 0} (o more : Option A) → option_or o more ≡ None → o ≡ None
+none_first None more h = refl
+none_first (Some a) more h = absurd cc
+
+module _ (n : ℕ) where
+  of_its : (db : Database) (t : Tables) → HoldsTables db t → (row : Row) → Has (t Actions) row → passes of_its_rollout (all_of n) row ≡ has_at 2 n row
+  of_its db t holds row among = passes_integer db t holds Actions row among 1 (record { c = _; there = refl; kind_is = refl; strict = refl; filled = refl; apart = refl }) n (Int (negsuc 0) ∷ Int (pos 0) ∷ [])
+
+  says_action : (row : Row) → has_at 2 n row ≡ true → (a : ListedAction) → IsKeptActionRow (shown_of listed_columns (all_of n) row) a → SaysAction row a
+  says_action row of a is = record { number_is = is.action.number; shows = is.action.action; kept = none_first (broken_action_column (shown_of listed_columns (all_of n) row)) _ is.kept }
+
+  kept_action : (row : Row) (a : ListedAction) → SaysAction row a → is_none (broken_listed_action_column (shown_of listed_columns (all_of n) row)) ≡ true
+  kept_action row a says = rw (says.kept, says.number_is) refl
+
+  pub actions_read : (old new : State) (rows : Vec Row Global) → AsksText old new LIST_ACTIONS.now (all_of n) (Ok rows) → (out : Result (Option (Vec ListedAction Global)) Fault)
+      → IfOk out (λ found. AreRead IsKeptActionRow (λ row. is_none (broken_listed_action_column row)) rows.items (option_map vec_items found)) → FindsOf old new out (λ t found. ListsRows (t Actions) (has_at 2 n) SaysAction (option_map vec_items found))
+  actions_read = rows_read Actions LIST_ACTIONS.now of_its_rollout listed_columns (list_actions_query 0).order (col 0 1) (col 0 2) listed_names list_actions_is (all_of n) (λ tree xs. refl) (has_at 2 n) of_its IsKeptActionRow SaysAction says_action (λ row. is_none (broken_listed_action_column row)) kept_action
+
+  of_action_it : (db : Database) (t : Tables) → HoldsTables db t → (row : Row) → Has (t Feedbacks) row → passes of_action (all_of n) row ≡ has_at 1 n row
+  of_action_it db t holds row among = passes_integer db t holds Feedbacks row among 0 (record { c = _; there = refl; kind_is = refl; strict = refl; filled = refl; apart = refl }) n (Int (negsuc 0) ∷ Int (pos 0) ∷ [])
+
+  says_entry : (row : Row) → has_at 1 n row ≡ true → (e : SequencedEntry) → IsSequencedRow (shown_of entry_columns (all_of n) row) e → SaysEntry row e
+  says_entry row of e is = record { sequence_is = is.sequence; shows = is.entry }
+
+  pub history_read : (old new : State) (rows : Vec Row Global) → AsksText old new LIST_ENTRIES.now (all_of n) (Ok rows) → (out : Result (Vec SequencedEntry Global) Fault) → IfOk out (λ found. AreReadAs IsSequencedRow rows.items found.items)
+      → FindsOf old new out (λ t found. AreSaid (t Feedbacks) (has_at 1 n) SaysEntry found.items)
+  history_read = each_read Feedbacks LIST_ENTRIES.now of_action entry_columns (list_entries_query 0).order (col 0 1) (col 0 2) entry_names list_entries_is (all_of n) (λ tree xs. refl) (has_at 1 n) of_action_it IsSequencedRow SaysEntry says_entry

@@ -29,6 +29,13 @@ read_mapped f is [] (a ∷ found) h = absurd h
 read_mapped f is (row ∷ rows) [] h = absurd h
 read_mapped f is (row ∷ rows) (a ∷ found) h = (h.0, read_mapped f is rows found h.1)
 
+-- what is read of each row by a part of it
+pub read_parts : {A : Type 0} (part : Row → Row) (is : Row → A → Type 0) (rows : List Row) (found : List A) → AreReadAs (λ row a. is (part row) a) rows found → AreReadAs is (map part rows) found
+read_parts part is [] [] h = h
+read_parts part is [] (a ∷ found) h = absurd h
+read_parts part is (row ∷ rows) [] h = absurd h
+read_parts part is (row ∷ rows) (a ∷ found) h = (h.0, read_parts part is rows found h.1)
+
 -- a further row, and what is picked of it
 module _ {A : Type 0} (pick : Row → Option A) where
   picked_push : (rows : List Row) (row : Row) → filter_map pick (rows ++ row ∷ []) ≡ filter_map pick rows ++ cons_option (pick row) []

@@ -1,12 +1,17 @@
--- What is listed of a table, whatever rows it has.
+-- What is listed or found of a table, whatever rows it has.
 use Rattle.std.specs.Prelude.{◌≡◌, ℕ, Bool, true, List, Option, Some, None}
 use Rattle.sqlite_value.specs.Order.{Row}
+use Rattle.rollout_machine.specs.Commands.{Bytes}
 use Rattle.rollout_machine.specs.declared.records.GroupRecord.{GroupRecord}
+use Rattle.rollout_model.specs.declared.rollout.Offer.{Offer}
 use Rattle.desk_records.specs.Listings.{AreBroken, AreSaid}
-use Rattle.desk_records.specs.RolloutRow.{IsGroupRow, broken_group_column}
-use Rattle.desk_records.specs.TableRows.{IsArtifact, IsGroup, IsOffer}
+use Rattle.desk_records.specs.RolloutRow.{IsActionRow, IsGroupRow, IsListedActionRow, broken_group_column, broken_listed_action_column}
+use Rattle.desk_records.specs.TableRows.{IsAction, IsArtifact, IsEntry, IsGroup, IsOffer, action_shown}
 use Rattle.desk_records.specs.declared.checked_rows.CheckedArtifact.{CheckedArtifact}
 use Rattle.desk_records.specs.declared.checked_rows.OwnedOffer.{OwnedOffer}
+use Rattle.desk_records.specs.declared.entry_row.SequencedEntry.{SequencedEntry}
+use Rattle.desk_records.specs.declared.rollout_row.ListedAction.{ListedAction}
+use Rattle.desk_records.specs.declared.rollout_row.StoredAction.{StoredAction}
 
 -- what the rows say that pass the test, or one of them breaks a rule
 abbrev pub ListsRows : {A : Type 0} → List Row → (Row → Bool) → (Row → A → Type 0) → Option (List A) → Type 0
@@ -26,7 +31,26 @@ SaysOffer row o = IsOffer row o.id o.offer
 abbrev pub SaysGroup : ℕ → Row → GroupRecord → Type 0
 SaysGroup rollout row g = IsGroup row rollout g
 
+abbrev pub SaysAction : Row → ListedAction → Type 0
+SaysAction row a = IsAction row a.number a.action
+
+abbrev pub SaysEntry : Row → SequencedEntry → Type 0
+SaysEntry row e = IsEntry row e.sequence e.entry
+
+-- the action of a number that is known
+abbrev pub SaysNumbered : Row → StoredAction → Type 0
+SaysNumbered row a = IsActionRow (action_shown row) a
+
+-- what the target of an id is offered
+abbrev pub SaysOfferOf : Bytes → Row → Offer → Type 0
+SaysOfferOf id row o = IsOffer row id o
+
 -- the row of a group, each column keeping its rule
 pub record IsKeptGroupRow (row : Row) (g : GroupRecord) : Type 0 where
   pub group : IsGroupRow row g
   pub kept : broken_group_column row ≡ None
+
+-- the row of an action with its number at the end, each column keeping its rule
+pub record IsKeptActionRow (row : Row) (a : ListedAction) : Type 0 where
+  pub action : IsListedActionRow row a
+  pub kept : broken_listed_action_column row ≡ None

@@ -5,7 +5,7 @@ ghost use Rattle.std.specs.List.{list_all, zip};
 ghost use Rattle.std.specs.Option.{option_map};
 ghost use Rattle.rollout_machine.specs.ByteStrings.{item_numbered};
 ghost use Rattle.desk_records.specs.Actions.{history_of};
-ghost use Rattle.desk_records.specs.EntryRow.{IsEntryRow, keeps_details};
+ghost use Rattle.desk_records.specs.EntryRow.{IsEntryRow, IsSequencedRow, keeps_details};
 ghost use Rattle.desk_records.specs.LedgerSteps.{AddsAction, AddsEntry, SetsAction, SetsOffer, with_offer};
 ghost use Rattle.desk_records.specs.NextOffers.{next_offer};
 ghost use Rattle.desk_records.specs.RolloutRow.{IsActionRow, IsListedActionRow, IsOfferRow, actions_for, actions_of, stored_action};
@@ -19,8 +19,8 @@ use crate::reading::{last_number, read_all, read_optional};
 use desk_records::{
     DROP_OFFER, GET_ACTION, GET_OFFER, LAST_ACTION, LIST_ACTIONS, LIST_ENTRIES,
     LIST_TARGET_ACTIONS, ListedAction, NEXT_OFFER, NewEntry, PUT_ACTION, PUT_FEEDBACK, RowFault,
-    SET_ACTION, SET_OFFER, StoredAction, read_entry, read_listed_action, read_offer,
-    read_stored_action,
+    SET_ACTION, SET_OFFER, SequencedEntry, StoredAction, read_entry, read_listed_action,
+    read_offer, read_sequenced_entry, read_stored_action,
 };
 use rollout_machine::Outcome;
 use rollout_model::{ActionNo, ControllerId, HistoryEntry, Offer, Page, RolloutNo};
@@ -61,6 +61,15 @@ impl FromRow for HistoryEntry {
 
     fn from_row(alloc: Global, row: &Row) -> Result<Self, RowFault> {
         read_entry(alloc, row)
+    }
+}
+
+/// Of kind, word, details and sequence.
+impl FromRow for SequencedEntry {
+    ghost is_row = { IsSequencedRow };
+
+    fn from_row(alloc: Global, row: &Row) -> Result<Self, RowFault> {
+        read_sequenced_entry(alloc, row)
     }
 }
 

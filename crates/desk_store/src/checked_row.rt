@@ -6,12 +6,12 @@ ghost use Rattle.sqlite_value.specs.Order.{Row};
 ghost use Rattle.desk_records.specs.CheckedRows.{IsCheckedArtifactRow, IsOwnedOfferRow, keeps_artifact_rules, keeps_offer_rules};
 ghost use Rattle.desk_records.specs.Listings.{AreRead};
 ghost use Rattle.desk_records.specs.MemberRow.{IsPlacedRow, keeps_member_rules};
-ghost use Rattle.desk_records.specs.RolloutRow.{IsGroupRow, broken_group_column};
-ghost use Rattle.desk_store.specs.RawLists.{IsKeptGroupRow};
+ghost use Rattle.desk_records.specs.RolloutRow.{broken_group_column, broken_listed_action_column};
+ghost use Rattle.desk_store.specs.RawLists.{IsKeptActionRow, IsKeptGroupRow};
 
 use desk_records::{
-    CheckedArtifact, OwnedOffer, PlacedMember, read_checked_artifact, read_group, read_owned_offer,
-    read_placed_member,
+    CheckedArtifact, ListedAction, OwnedOffer, PlacedMember, read_checked_artifact, read_group,
+    read_listed_action, read_owned_offer, read_placed_member,
 };
 use rollout_machine::GroupRecord;
 use sql_calls::Fault;
@@ -70,6 +70,17 @@ impl FromCheckedRow for GroupRecord {
 
     fn from_checked_row(row: &Row) -> Option<Self> {
         read_group(row).ok()
+    }
+}
+
+/// Of all, its number at the end.
+impl FromCheckedRow for ListedAction {
+    ghost is_row = { IsKeptActionRow };
+
+    ghost keeps_rules = { λ row. is_none (broken_listed_action_column row) };
+
+    fn from_checked_row(row: &Row) -> Option<Self> {
+        read_listed_action(row).ok()
     }
 }
 

@@ -27,6 +27,6 @@ pub use crate::rollouts::GroupAndNext;
 pub use crate::store::DeskStore;
 pub use desk_records::{
     CheckedArtifact, CountedAction, ListedAction, ListedTarget, NewEntry, OwnedOffer, PlacedMember,
-    SetName, StoredAction, StoredArtifact, StoredRollout, StoredTarget, tell_entry,
+    SequencedEntry, SetName, StoredAction, StoredArtifact, StoredRollout, StoredTarget, tell_entry,
 };
 pub use sql_calls::{Fault, Work};

@@ -1,14 +1,23 @@
-//! The table of actions with whatever rows it has, in a change that is under way.
+//! The tables of actions and their histories with whatever rows they have, in a change that is under way.
 
-ghost use Rattle.std.specs.Prelude.{◌≡◌, ◌≤◌, ◌+◌, IfOk, filter_map};
+ghost use Rattle.std.specs.Prelude.{◌≡◌, ◌≤◌, ◌+◌, IfOk, filter_map, option_map, pos, vec_items};
+ghost use Rattle.sqlite_trees.specs.Tree.{has_rowid};
 ghost use Rattle.desk_records.specs.CheckedRows.{counted_of};
 ghost use Rattle.desk_records.specs.CountedActions.{AreCounted};
-ghost use Rattle.desk_records.specs.Schema.{Actions};
+ghost use Rattle.desk_records.specs.Listings.{AreSaid, FindsOne, has_at};
+ghost use Rattle.desk_records.specs.Schema.{Actions, Feedbacks};
 ghost use Rattle.desk_store.specs.Changing.{FindsTables, StaysIn};
+ghost use Rattle.desk_store.specs.Counting.{AddsIn};
+ghost use Rattle.desk_store.specs.RawLists.{ListsRows, SaysAction, SaysEntry, SaysNumbered};
 
 use crate::change::OpenChange;
-use desk_records::{CountedAction, LIST_ACTIONS, read_counted_action};
-use rollout_model::RolloutNo;
+use crate::checked_row::read_checked;
+use crate::reading::{read_all, read_at};
+use desk_records::{
+    CountedAction, GET_ACTION, LIST_ACTIONS, LIST_ENTRIES, ListedAction, SequencedEntry,
+    StoredAction, read_counted_action,
+};
+use rollout_model::{ActionNo, RolloutNo};
 use sql_calls::Fault;
 use sqlite::{Alter, Row, params};
 use std::alloc::Global;
@@ -34,6 +43,45 @@ fn read_counted(alloc: Global, rows: &[Row]) -> Result<Vec<CountedAction>, Fault
 }
 
 impl<'a, S: Alter> OpenChange<'a, S> {
+    /// The action of a number, whatever rows there are. A row that breaks a column's rule, or a second row of the
+    /// number, is a failed store.
+    pub fn find_action(&mut self, number: ActionNo) -> Result<Option<StoredAction>, Fault>
+        ensures stays { StaysIn S.Store self.old self.new result }
+        ensures reads { FindsTables S.Store self.old self.new result (λ t found. FindsOne (t Actions) (has_rowid (pos number)) SaysNumbered found) }
+        ensures work { AddsIn 1 1 self.old self.new }
+    {
+        let alloc = self.store.alloc;
+        let rows = self.few(GET_ACTION, params![number.get()], 1)?;
+        read_at(alloc, &rows, 0)
+    }
+
+    /// The actions of a rollout, whatever rows there are; `None` where a row of it breaks a column's rule.
+    pub fn list_all_actions(
+        &mut self,
+        number: RolloutNo,
+    ) -> Result<Option<Vec<ListedAction>>, Fault>
+        ensures stays { StaysIn S.Store self.old self.new result }
+        ensures reads { FindsTables S.Store self.old self.new result
+            (λ t found. ListsRows (t Actions) (has_at 2 number) SaysAction (option_map vec_items found)) }
+        ensures work { self.new.store.now.calls.work.statements ≤ self.old.store.now.calls.work.statements + 1 }
+    {
+        let alloc = self.store.alloc;
+        let rows = self.ask(LIST_ACTIONS, params![number.get(), ALL, 0_u32])?;
+        read_checked(alloc, &rows)
+    }
+
+    /// The history of an action, whatever rows there are. A row of it that breaks a column's rule is a failed
+    /// store.
+    pub fn list_history(&mut self, number: ActionNo) -> Result<Vec<SequencedEntry>, Fault>
+        ensures stays { StaysIn S.Store self.old self.new result }
+        ensures reads { FindsTables S.Store self.old self.new result (λ t found. AreSaid (t Feedbacks) (has_at 1 number) SaysEntry found.items) }
+        ensures work { self.new.store.now.calls.work.statements ≤ self.old.store.now.calls.work.statements + 1 }
+    {
+        let alloc = self.store.alloc;
+        let rows = self.ask(LIST_ENTRIES, params![number.get(), ALL, 0_u32])?;
+        read_all(alloc, &rows)
+    }
+
     /// The actions of a rollout as a count takes them, whatever rows there are: one that breaks the rule of its place or outcome is left out.
     pub fn list_counted_actions(&mut self, number: RolloutNo) -> Result<Vec<CountedAction>, Fault>
         ensures stays { StaysIn S.Store self.old self.new result }

@@ -105,7 +105,7 @@ count_rows rollouts r bounds outcome k (a ∷ actions) few =
 
 -- ---- the law
 
-abbrev groups_in : RolloutRecord → List GroupRecord
+abbrev pub groups_in : RolloutRecord → List GroupRecord
 groups_in x = x.groups
 
 module _ (h : CommandList) (valid : IsValid h) (db : Database) (t : Tables) (held : HoldsRecords db (records h)) (holds : HoldsTables db t) where
@@ -172,7 +172,7 @@ module _ (h : CommandList) (valid : IsValid h) (db : Database) (t : Tables) (hel
       few_at : (i : ℕ) → i ≤ x.plan.groups → last_position (length x.members) x.plan.groups i ≤ length x.members
       few_at i low = let rises = cut.rises i x.plan.groups low in omega (arith, rises, cut.whole)
 
-      is_group : (n : ℕ) → IsGroup (Int (pos n) ∷ group_row (suc d) (suc e) g) (suc d) g
+      pub is_group : (n : ℕ) → IsGroup (Int (pos n) ∷ group_row (suc d) (suc e) g) (suc d) g
       is_group n =
           let counts = within.counts (suc e) g got_group in
           let members = within.members in
@@ -200,24 +200,42 @@ module _ (h : CommandList) (valid : IsValid h) (db : Database) (t : Tables) (hel
       in_rollout : (n : ℕ) → IsInRollout t (Int (pos n) ∷ group_row (suc d) (suc e) g)
       in_rollout n = record { rollout = suc d; n = x.plan.groups; group = g; is = is_group n; there = there; enough = omega (arith, within.enough, members_are); right = right }
 
-      has_group : HasGroup t (suc d) (suc e)
-      has_group =
+      -- a row is it
+      pub group_lies : (row : Row) × Has (t Groups) row × IsGroup row (suc d) g
+      group_lies =
           let part = part_among group_row groups_in 1 (suc d) d (records h).rollouts x (group_row (suc d) (suc e) g) (omega arith) got (item_row (group_row (suc d)) 1 (suc e) e x.groups g (omega arith) got_group) in
           let row = row_of (t Groups) (groups_from 1 (records h).rollouts) (group_row (suc d) (suc e) g) (held_rows db (ledger_of (records h)) held t holds Groups) part in
-          record { row = Int (pos row.0) ∷ group_row (suc d) (suc e) g; among = row.1; group = g; is = is_group row.0; number = its.number }
+          (Int (pos row.0) ∷ group_row (suc d) (suc e) g, row.1, is_group row.0)
+
+      has_group : HasGroup t (suc d) (suc e)
+      has_group = record { row = group_lies.0; among = group_lies.1; group = g; is = group_lies.2; number = its.number }
 
   -- ---- all of them
 
-  each : (row : Row) → Has (t Groups) row → IsInRollout t row
-  each row among =
+  -- the group that a row is
+  pub record IsOneOf (row : Row) : Type 0 where
+    pub index : ℕ
+    pub whole : RolloutRecord
+    pub got : slice_get (records h).rollouts index ≡ Some whole
+    pub at : ℕ
+    pub group : GroupRecord
+    pub got_group : slice_get whole.groups at ≡ Some group
+    pub n : ℕ
+    pub is : row ≡ Int (pos n) ∷ group_row (suc index) (suc at) group
+
+  pub one_of : (row : Row) → Has (t Groups) row → IsOneOf row
+  one_of row among =
       let content = wanted_of (t Groups) (groups_from 1 (records h).rollouts) row (held_rows db (ledger_of (records h)) held t holds Groups) among in
       let of = of_part group_row groups_in 1 (records h).rollouts content.1 content.2 in
       let item = numbered (group_row of.number) 1 of.whole.groups content.1 of.among in
       let at : of.number ≡ suc of.index = omega (arith, of.number_is) in
       let place : item.at ≡ suc item.index = omega (arith, item.at_is) in
-      let is : row ≡ Int (pos content.0) ∷ group_row (suc of.index) (suc item.index) item.one =
-      content.3 ∙ ap (λ y. Int (pos content.0) ∷ y) (item.is ∙ ap (λ k. group_row k item.at item.one) at ∙ ap (λ k. group_row (suc of.index) k item.one) place) in
-      subst (IsInRollout t) (sym is) (in_rollout of.index of.whole of.got item.index item.one item.got content.0)
+      let own : content.1 ≡ group_row (suc of.index) (suc item.index) item.one = item.is ∙ ap (λ k. group_row k item.at item.one) at ∙ ap (λ k. group_row (suc of.index) k item.one) place in
+      let is : row ≡ Int (pos content.0) ∷ group_row (suc of.index) (suc item.index) item.one = content.3 ∙ ap (λ y. Int (pos content.0) ∷ y) own in
+      record { index = of.index; whole = of.whole; got = of.got; at = item.index; group = item.one; got_group = item.got; n = content.0; is = is }
+
+  each : (row : Row) → Has (t Groups) row → IsInRollout t row
+  each row among = let of = one_of row among in subst (IsInRollout t) (sym of.is) (in_rollout of.index of.whole of.got of.at of.group of.got_group of.n)
 
   missing_none : (rollout n i : ℕ) → 1 ≤ rollout → HasGroupCount t rollout n → 1 ≤ i → i ≤ n → HasGroup t rollout i
   missing_none rollout n i first has low high =

@@ -14,7 +14,7 @@ use Rattle.rollout_machine.specs.declared.outcome.Outcome.{Outcome}
 use Rattle.rollout_machine.specs.declared.outcome.Outcome.TheVariants.{Good, Bad, Gone}
 use Rattle.rollout_machine.specs.declared.records.GroupRecord.{GroupRecord}
 use Rattle.desk_records.specs.CountedActions.{AreCounted}
-use Rattle.desk_records.specs.Listings.{FindsOne, HasNumber, IsLast, has_at}
+use Rattle.desk_records.specs.Listings.{HasNumber, IsOnly, has_at}
 use Rattle.desk_records.specs.Schema.{Actions, Groups, Rollouts}
 use Rattle.desk_records.specs.TableRows.{IsGroup, IsRollout}
 use Rattle.desk_records.specs.Tables.{Tables}
@@ -24,10 +24,10 @@ use Rattle.desk_records.proofs.NumberColumns.{is_at, number_in_is, number_in_lea
 use Rattle.desk_store.specs.RawLists.{ListsRows, SaysGroup}
 use Rattle.desk_verify.specs.Agreement.{Decides}
 use Rattle.desk_verify.specs.Cuts.{are_right, counts_them, has_each, has_number, is_cut, is_right, same_bounds}
-use Rattle.desk_verify.specs.GroupChecks.{AreGroups, HasEach, IsGroupCount, JudgesGroups, JudgesGroupsOf}
+use Rattle.desk_verify.specs.GroupChecks.{HasEach, IsGroupCount}
 use Rattle.desk_verify.specs.Groups.{AgreesGroups, HasGroupCount, IsInRollout, IsRightGroup, ended_in, has_ended, members_in}
-use Rattle.desk_verify.specs.Judged.{within}
-use Rattle.desk_verify.proofs.Counting.{all_judged, is_within, judged_all, more_judged, none_judged}
+use Rattle.desk_verify.specs.RolloutChecks.{AreAllChecked, IsChecked}
+use Rattle.desk_verify.proofs.RolloutLemmas.{decided}
 
 -- ---- a row is one group of one rollout
 
@@ -53,7 +53,7 @@ of_rollout row r g it = is_at row 1 r (number_in_is _ _ it.rollout_is)
 
 -- ---- how many groups a rollout is to have
 
-pub found_count : (t : Tables) (r : ℕ) (found : StoredRollout) → FindsOne (t Rollouts) (has_rowid (pos r)) IsRollout (Some found) → IsGroupCount t r found.plan.groups
+pub found_count : (t : Tables) (r : ℕ) (found : StoredRollout) → IsOnly (t Rollouts) (has_rowid (pos r)) IsRollout found → IsGroupCount t r found.plan.groups
 found_count t r found one = record {
   there = record { row = one.said.row; among = one.said.among; numbered = one.said.passes; says = one.said.is.groups };
   only = λ k has. (let it = one.each has.row has.among has.numbered in let same : Some k ≡ Some found.plan.groups = sym has.says ∙ it.groups in cc);
@@ -145,7 +145,7 @@ module _ (t : Tables) (r n m : ℕ) (count : IsGroupCount t r n) (are : m ≡ me
       let high : nat_le g.number n ≡ true = grind (arith, nat_tests, right.high) in
       rw (enough, low, high, same, counts g.bounds Good g.ok right.ok, counts g.bounds Bad g.bad right.bad, counts g.bounds Gone g.gone right.gone) refl
 
-  pub fits : are_right m n actions groups ≡ true → (many : ℕ) → many ≡ length groups → JudgesGroupsOf t r (Some many)
+  pub fits : are_right m n actions groups ≡ true → (many : ℕ) → many ≡ length groups → IsChecked Groups 1 IsInRollout HasEach t r many
   fits h many is = record {
     rows = record {
       each = λ row among of.
@@ -154,7 +154,7 @@ module _ (t : Tables) (r n m : ℕ) (count : IsGroupCount t r n) (are : m ≡ me
           record { rollout = r; n = n; group = one.one; is = one.is; there = count.there; enough = it.0; right = it.1 };
       all = is ∙ listed.count;
     };
-    each = λ rollout low high. (let same : r ≡ rollout = omega (arith, low, high) in subst (HasEach t) same has_all);
+    whole = has_all;
   }
     where
       both : (list_all (is_right m n actions) groups ≡ true) × (has_each groups n ≡ true)
@@ -187,52 +187,21 @@ module _ (t : Tables) (r n m : ℕ) (count : IsGroupCount t r n) (are : m ≡ me
           let group : has.group ≡ one.one = one_group has.row r r has.group one.one has.is one.is in
           some_from (λ (g : GroupRecord). nat_eq g.number i) groups one.one one.among (equal_to one.one.number i (sym (ap (λ (g : GroupRecord). g.number) group) ∙ has.number))
 
-  pub fails : are_right m n actions groups ≡ false → JudgesGroupsOf t r None
+  pub fails : are_right m n actions groups ≡ false → 1 ≤ r → AgreesGroups t → ⊥
   fails h first agree = true≢false (sym (agreeing first agree) ∙ h)
 
 -- a row that breaks a rule
-pub fails_broken : (t : Tables) (r : ℕ) → ListsRows (t Groups) (has_at 1 r) (SaysGroup r) None → JudgesGroupsOf t r None
-fails_broken t r broken first agree =
+pub fails_broken : (t : Tables) (r : ℕ) → ListsRows (t Groups) (has_at 1 r) (SaysGroup r) None → AgreesGroups t → ⊥
+fails_broken t r broken agree =
     let it = agree.each broken.row broken.among in
     let rollout : it.rollout ≡ r = one_number (column broken.row 1) it.rollout r (number_in_is _ _ it.is.rollout_is) (number_is (column broken.row 1) r broken.passes) in
     broken.breaks it.group (subst (λ k. IsGroup broken.row k it.group) rollout it.is)
 
 -- ---- all of them
 
-pub none_yet : (t : Tables) → JudgesGroups t 0 (Some 0)
-none_yet t = record { rows = none_judged 1 (t Groups) (IsInRollout t); each = λ rollout low high. absurd (omega (arith, low, high)) }
-
-pub more : (t : Tables) (n listed count sum r : ℕ) → JudgesGroups t n (Some listed) → r ≡ n + 1 → JudgesGroupsOf t r (Some count) → sum ≡ listed + count → JudgesGroups t (n + 1) (Some sum)
-more t n listed count sum r so_far number judged is = subst (λ k. JudgesGroups t k (Some sum)) on (record { rows = more_judged 1 (t Groups) (IsInRollout t) n listed count sum so_far.rows one.rows is; each = each })
-  where
-    on : suc n ≡ n + 1
-    on = omega arith
-
-    one : AreGroups t (has_at 1 (suc n)) (suc n) (suc n) count
-    one = subst (λ k. AreGroups t (has_at 1 k) k k count) (number ∙ sym on) judged
-
-    each : (rollout : ℕ) → 1 ≤ rollout → rollout ≤ suc n → HasEach t rollout
-    each rollout low high = go (nat_eq rollout (suc n)) refl
-      where
-        go : (b : Bool) → nat_eq rollout (suc n) ≡ b → HasEach t rollout
-        go true same = let it : rollout ≡ suc n = grind (arith, nat_tests, same) in one.each rollout (omega (arith, it)) (omega (arith, it))
-        go false other = so_far.each rollout low (grind (arith, nat_tests, other, high))
-
-pub one_fails : (t : Tables) (n last r : ℕ) → r ≡ n + 1 → JudgesGroupsOf t r None → JudgesGroups t last None
-one_fails t n last r number judged = judged (omega (arith, number))
-
--- as many as there are: none is of a rollout that isn't there
-pub agrees : (t : Tables) (last listed all : ℕ) → IsLast (t Rollouts) last → JudgesGroups t last (Some listed) → all ≡ length (t Groups) → Decides (AgreesGroups t) (nat_eq listed all)
-agrees t last listed all ends so_far is = go (nat_eq listed all) refl
-  where
-    each_within : AgreesGroups t → (row : Row) → Has (t Groups) row → within 1 last row ≡ true
-    each_within agree row among =
-        let it = agree.each row among in
-        is_within 1 last it.rollout row (number_in_least (column row 1) it.rollout it.is.rollout_is) (ends.greatest it.rollout (is_there t it.rollout it.n it.there)) (of_rollout row it.rollout it.group it.is)
-
-    go : (b : Bool) → nat_eq listed all ≡ b → Decides (AgreesGroups t) b
-    go true same = record {
-      each = all_judged 1 (t Groups) (IsInRollout t) last listed all so_far.rows is same;
-      all = λ rollout n i low has. so_far.each rollout low (ends.greatest rollout (is_there t rollout n has)) n i has;
-    }
-    go false other = λ agree. absurd (true≢false (sym (judged_all 1 (t Groups) (IsInRollout t) last listed all so_far.rows is (each_within agree)) ∙ other))
+-- the groups of all rollouts that are there, where there are no more
+pub agrees : (t : Tables) (listed all : ℕ) → AreAllChecked Groups 1 IsInRollout HasEach t listed → all ≡ length (t Groups) → Decides (AgreesGroups t) (nat_eq listed all)
+agrees t listed all checked is = decided Groups 1 IsInRollout HasEach AgreesGroups t listed all checked is
+    (λ each whole. record { each = each; all = λ rollout n i low has. whole rollout low (is_there t rollout n has) n i has })
+    (λ agree row among. let it = agree.each row among in
+        record { rollout = it.rollout; low = number_in_least (column row 1) it.rollout it.is.rollout_is; there = is_there t it.rollout it.n it.there; of = of_rollout row it.rollout it.group it.is })

@@ -1,6 +1,7 @@
 mod PieceChecks
 mod ArtifactLemmas
 mod Counting
+mod RolloutLemmas
 mod Follow
 mod MemberLemmas
 mod GroupLemmas
@@ -13,5 +14,7 @@ mod Rising
 mod HistoryLemmas
 mod TurnLemmas
 mod ActionLemmas
+mod OfferLemmas
+mod OfferLaw
 mod ArtifactLaw
 pub mod NeverNamed

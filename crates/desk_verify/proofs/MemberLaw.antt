@@ -5,12 +5,15 @@ use Rattle.sqlite_value.specs.Order.{Row}
 use Rattle.sqlite.specs.Effect.{Database}
 use Rattle.sqlite_rules.specs.Lists.{Has}
 use Rattle.sql_calls.specs.Keyed.{IsHeldBy}
+use Rattle.rollout_model.specs.Limits.{target_limit}
 use Rattle.rollout_model.specs.Rules.{is_number, is_word}
 use Rattle.rollout_machine.specs.Commands.{Bytes}
 use Rattle.rollout_machine.specs.CommandList.{CommandList}
 use Rattle.rollout_machine.specs.Records.{Records, records}
 use Rattle.rollout_machine.specs.Validity.{IsValid}
 use Rattle.rollout_machine.specs.declared.records.RolloutRecord.{RolloutRecord}
+use Rattle.rollout_machine.proofs.WithinLimits.{limits_hold}
+use Rattle.rollout_machine.specs.WithinLimits.{IsWithinLimits}
 use Rattle.desk_records.specs.Holds.{HoldsLedger, HoldsRecords, Ledger, ledger_of}
 use Rattle.desk_records.specs.Rollouts.{member_row, members_from, rollout_row, told_rollout}
 use Rattle.desk_records.specs.Schema.{Members, Rollouts}
@@ -20,7 +23,7 @@ use Rattle.desk_records.proofs.HeldTables.{IsPart, held_rows, numbered, of_part,
 use Rattle.desk_records.proofs.NumberColumns.{has_own_number, is_in_range, is_number_in, is_small}
 use Rattle.desk_verify.specs.Members.{AgreesMembers, HasPlace}
 use Rattle.desk_verify.specs.Rollouts.{IsThere}
-use Rattle.desk_verify.proofs.ListMembers.{AreIds, few_rollouts, member_ids}
+use Rattle.desk_verify.proofs.ListMembers.{AreIds, member_ids}
 
 abbrev pub members_in : RolloutRecord → List Bytes
 members_in x = x.members
@@ -38,16 +41,19 @@ pub members_agree : (h : CommandList) → IsValid h → (db : Database) (t : Tab
 members_agree h valid db t held holds row among =
     let of = of_part member_row members_in 1 rs.rollouts content.1 content.2 in
     let it = numbered (member_row of.number) 1 of.whole.members content.1 of.among in
+    let few = (limits_hold h valid).rollouts in
+    let within : IsWithinLimits of.whole = (limits_hold h valid).each (suc of.index) of.whole of.got in
+    let members = within.members in
     let ids = member_ids h valid of.whole of.has in
     let is : row ≡ Int (pos content.0) ∷ member_row of.number it.at it.one = content.3 ∙ ap (λ x. Int (pos content.0) ∷ x) it.is in
-    let good = is_in_range of.number of.low (omega (arith, of.high, few_rollouts h valid)) in
+    let good = is_in_range of.number of.low (omega (arith, of.high, few)) in
     record {
       rollout = of.number;
       place = it.at;
       id = it.one;
-      is = subst (λ r. IsMember r of.number it.at it.one) (sym is) (said content.0 of.number it.at it.one good (omega (arith, it.high, ids.few)) (ids.words it.one it.among));
+      is = subst (λ r. IsMember r of.number it.at it.one) (sym is) (said content.0 of.number it.at it.one good (omega (arith, it.high, members)) (ids it.one it.among));
       there = there db (ledger_of rs) held t holds of.number of.low of.high;
-      follows = follows content.1 of ids good it.at it.low it.high;
+      follows = follows content.1 of members ids good it.at it.low it.high;
     }
   where
     rs : Records
@@ -59,11 +65,11 @@ members_agree h valid db t held holds row among =
     content : (n : ℕ) × (x : Row) × Has (members_from 1 (records h).rollouts) x × (row ≡ Int (pos n) ∷ x)
     content = wanted_of (t Members) (members_from 1 (records h).rollouts) row rows among
 
-    follows : (x : Row) (of : IsPart member_row members_in 1 (records h).rollouts x) → AreIds of.whole.members → is_number of.number ≡ true → (p : ℕ) → 1 ≤ p → p < 1 + length of.whole.members
+    follows : (x : Row) (of : IsPart member_row members_in 1 (records h).rollouts x) → length of.whole.members ≤ target_limit → AreIds of.whole.members → is_number of.number ≡ true → (p : ℕ) → 1 ≤ p → p < 1 + length of.whole.members
         → (p ≡ 1) ⊎ ((before : ℕ) × (p ≡ before + 1) × HasPlace t of.number before)
-    follows x of ids good zero low high = absurd (omega (arith, low))
-    follows x of ids good (suc zero) low high = inl refl
-    follows x of ids good (suc (suc b)) low high =
+    follows x of members ids good zero low high = absurd (omega (arith, low))
+    follows x of members ids good (suc zero) low high = inl refl
+    follows x of members ids good (suc (suc b)) low high =
         let other = row_numbered (member_row of.number) 1 of.whole.members (suc b) (omega arith) (omega (arith, high)) in
         let behind = row_of (t Members) (members_from 1 (records h).rollouts) _ rows (of.others _ other.2) in
-        inr (suc b, omega arith, record { row = Int (pos behind.0) ∷ member_row of.number (suc b) other.0; among = behind.1; id = other.0; is = said behind.0 of.number (suc b) other.0 good (omega (arith, high, ids.few)) (ids.words other.0 other.1) })
+        inr (suc b, omega arith, record { row = Int (pos behind.0) ∷ member_row of.number (suc b) other.0; among = behind.1; id = other.0; is = said behind.0 of.number (suc b) other.0 good (omega (arith, high, members)) (ids other.0 other.1) })

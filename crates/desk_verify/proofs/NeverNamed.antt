@@ -17,6 +17,7 @@ use Rattle.desk_verify.proofs.ActionLaw.{actions_agree}
 use Rattle.desk_verify.proofs.ArtifactLaw.{artifacts_agree}
 use Rattle.desk_verify.proofs.GroupLaw.{groups_agree}
 use Rattle.desk_verify.proofs.MemberLaw.{members_agree}
+use Rattle.desk_verify.proofs.OfferLaw.{offers_agree}
 
 -- each table that has a rule, in the order of the tables
 pub all_agree : RecordsAgree

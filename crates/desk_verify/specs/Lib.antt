@@ -6,7 +6,7 @@ pub mod Rollouts
 pub mod Members
 pub mod Following
 pub mod Judged
-pub mod MemberChecks
+pub mod RolloutChecks
 pub mod Promises
 pub mod Groups
 pub mod Cuts
@@ -15,3 +15,5 @@ pub mod Actions
 pub mod RolloutChecks
 pub mod ActionChecks
 pub mod Offers
+pub mod OfferChecks
+pub mod Stubs

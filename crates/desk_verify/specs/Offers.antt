@@ -41,7 +41,7 @@ pub record IsRightOffer (t : Tables) (row : Row) : Type 0 where
   pub is : IsOffer row id offer
   pub action : StoredAction
   pub of : HasNumberedAction t offer.action action
-  pub open : action.outcome ≡ None
+  pub is_open : action.outcome ≡ None
   pub target : action.target ≡ id
   pub canceling : action.canceling ≡ offer.canceling
   pub started : IsInStartedGroup t action.rollout action.position
@@ -58,7 +58,7 @@ pub record IsOffered (t : Tables) (id : Bytes) (number : ℕ) : Type 0 where
 pub record IsDue (t : Tables) (row : Row) (number : ℕ) (action : StoredAction) : Type 0 where
   pub among : Has (t Actions) row
   pub is : IsAction row number action
-  pub open : action.outcome ≡ None
+  pub is_open : action.outcome ≡ None
   pub there : IsThere t action.rollout
   pub started : IsInStartedGroup t action.rollout action.position
 

@@ -1,5 +1,5 @@
 -- The check of a table whose rows are each of a rollout: those of one rollout, and those of all.
-use Rattle.std.specs.Prelude.{◌≡◌, ◌≤◌, ℕ, Option, Some, None, pos}
+use Rattle.std.specs.Prelude.{◌≤◌, ℕ, Option, Some, None, pos}
 use Rattle.sqlite_value.specs.Order.{Row}
 use Rattle.sqlite_trees.specs.Tree.{has_rowid}
 use Rattle.desk_records.specs.Listings.{IsLast, IsOnly, has_at}

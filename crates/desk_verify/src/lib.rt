@@ -11,6 +11,7 @@ mod groups;
 mod histories;
 mod laws;
 mod members;
+mod offers;
 mod places;
 mod rollouts;
 mod stubs;

@@ -1,25 +1,84 @@
-//! The rollouts, from the first to the last.
+//! The checks that go from rollout to rollout.
 
+ghost use Rattle.std.specs.Prelude.{◌≡◌, ℕ, IfOk};
+ghost use Rattle.sqlite_value.specs.Order.{Row};
+ghost use Rattle.desk_records.specs.Schema.{Place};
+ghost use Rattle.desk_records.specs.Tables.{Tables};
 ghost use Rattle.desk_store.specs.Changing.{FindsTables, StaysIn};
-ghost use Rattle.desk_verify.specs.Rollouts.{IsNumberOf};
+ghost use Rattle.desk_verify.specs.RolloutChecks.{HasRollout, JudgesAll, JudgesOne};
 
-use desk_store::{Fault, OpenChange};
+use desk_store::{Fault, OpenChange, StoredRollout};
 use rollout_model::RolloutNo;
 use sqlite::Alter;
 
-/// The number of a rollout that has to be there. None of this number, or one whose row breaks a rule, is a failed store.
-pub(crate) fn rollout_of<S: Alter>(
+/// A rollout that is there.
+#[derive(Drop)]
+pub(crate) struct NumberedRollout {
+    pub(crate) number: RolloutNo,
+    pub(crate) rollout: StoredRollout,
+}
+
+/// A table whose rows are each of a rollout.
+pub(crate) trait ByRollout<S: Alter> {
+    ghost table: { Place };
+
+    // where a row has its rollout's number
+    ghost column: { ℕ };
+
+    // how each row is to be
+    ghost is_right: { Tables → Row → Type 0 };
+
+    // that a rollout has what it is to have
+    ghost is_whole: { Tables → ℕ → Type 0 };
+
+    ghost agrees: { Tables → Type 0 };
+
+    /// How many rows are of the rollout; `None` where the table doesn't agree.
+    fn check_rollout(
+        change: &mut OpenChange<'_, S>,
+        rollout: &NumberedRollout,
+    ) -> Result<Option<u32>, Fault>
+        ensures stays { StaysIn S.Store change.old change.new result }
+        ensures judges { FindsTables S.Store change.old change.new result
+            (λ t count. HasRollout t rollout.now.number rollout.now.rollout → JudgesOne table column is_right is_whole agrees t rollout.now.number count) };
+}
+
+/// How many rows are of rollouts that are there; `None` where the table doesn't agree.
+pub(crate) fn check_rollouts<T: ByRollout<S>, S: Alter>(
+    change: &mut OpenChange<'_, S>,
+) -> Result<Option<u32>, Fault>
+    ensures stays { StaysIn S.Store change.old change.new result }
+    ensures judges { FindsTables S.Store change.old change.new result (λ t count. JudgesAll T.table T.column T.is_right T.is_whole T.agrees t count) }
+{
+    let last = change.find_last_rollout()?;
+    let mut listed: u32 = 0;
+    for before in 0..last {
+        let rollout = rollout_of(change, before + 1)?;
+        let Some(count) = T::check_rollout(change, &rollout)? else {
+            return Ok(None);
+        };
+        listed = match listed.checked_add(count) {
+            Some(sum) => sum,
+            None => return Err(Fault::Store),
+        };
+    }
+    Ok(Some(listed))
+}
+
+/// The rollout of a number, which has to be there: none of this number, or one whose row breaks a rule, is a failed store.
+fn rollout_of<S: Alter>(
     change: &mut OpenChange<'_, S>,
     number: u32,
-) -> Result<RolloutNo, Fault>
+) -> Result<NumberedRollout, Fault>
     ensures stays { StaysIn S.Store change.old change.new result }
-    ensures reads { FindsTables S.Store change.old change.new result (λ t rollout. IsNumberOf t number rollout) }
+    ensures number { IfOk result (λ it. it.number ≡ number) }
+    ensures reads { FindsTables S.Store change.old change.new result (λ t it. HasRollout t it.number it.rollout) }
 {
-    let Some(rollout) = RolloutNo::new(number) else {
+    let Some(number) = RolloutNo::new(number) else {
         return Err(Fault::Store);
     };
-    match change.find_rollout(rollout)? {
-        Some(_) => Ok(rollout),
+    match change.find_rollout(number)? {
+        Some(rollout) => Ok(NumberedRollout { number, rollout }),
         None => Err(Fault::Store),
     }
 }

@@ -3,7 +3,7 @@ use Rattle.sqlite_value.specs.declared.value.Value.TheVariants.{Int}
 use Rattle.sqlite.specs.Held.{state}
 use Rattle.sql_calls.specs.Calls.{AsksFew}
 use Rattle.desk_records.specs.declared.rollout_texts.TheConstants.{GET_ROLLOUT}
-use Rattle.desk_store.proofs.RawCalls.{rollout_read}
+use Rattle.desk_store.proofs.RawFinds.{rollout_read}
 use Rattle.desk_store.proofs.RolloutCalls.{getting}
 use Rattle.desk_store.proofs.change.OpenChange.find_rollout.Goals as goal
 

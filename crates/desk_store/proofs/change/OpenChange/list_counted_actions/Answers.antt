@@ -3,7 +3,8 @@ use Rattle.sqlite.specs.Held.{state}
 use Rattle.sql_calls.specs.Calls.{AsksText}
 use Rattle.desk_records.specs.declared.action_texts.TheConstants.{LIST_ACTIONS}
 use Rattle.desk_store.proofs.ActionCalls.{listing}
-use Rattle.desk_store.proofs.RawActionCalls.{all_of, counted_read}
+use Rattle.desk_store.proofs.RawActionCalls.{counted_read}
+use Rattle.desk_store.proofs.RawLists.{all_of}
 use Rattle.desk_store.proofs.change.OpenChange.list_counted_actions.Goals as goal
 
 pub returns-clause-reads : goal.returns-clause-reads

@@ -1,0 +1,35 @@
+-- What columns with a text say of it.
+use Rattle.std.proofs.Common.{◌≡◌, [], ◌∷◌, ℕ, true, true≢false, refl, sym, ap, ◌∙◌}
+use Rattle.sqlite_value.specs.declared.value.Value.{Value}
+use Rattle.sqlite_value.specs.declared.value.Value.TheVariants.{Null, Int, Real, Text, Blob}
+use Rattle.sqlite_value.specs.Order.{Row, column}
+use Rattle.sqlite_value.proofs.OrderLemmas.{value_cmp-apart}
+use Rattle.sqlite_sql.specs.Ops.{binary, is_true}
+use Rattle.sqlite_sql.specs.declared.ops.BinaryOp.TheVariants.{Compare}
+use Rattle.sqlite_sql.specs.declared.ops.CompareOp.TheVariants.{Eq}
+use Rattle.sqlite.specs.Collation.TheVariants.{Binary}
+use Rattle.sql_calls.proofs.Selects.{passes}
+use Rattle.rollout_machine.specs.Commands.{Bytes}
+use Rattle.rollout_machine.proofs.TargetTies.{same_true}
+use Rattle.desk_records.specs.Listings.{has_text_at, is_text_of}
+use Rattle.desk_records.proofs.Comparisons.{and_true, words_equal}
+use Rattle.desk_records.proofs.MeaningWords.{at_key}
+
+pub text_is : (v : Value) (text : Bytes) → is_text_of text v ≡ true → v ≡ Text text
+text_is Null text h = absurd (true≢false (sym h))
+text_is (Int n) text h = absurd (true≢false (sym h))
+text_is (Real x) text h = absurd (true≢false (sym h))
+text_is (Text t) text h = ap Text (same_true t text h)
+text_is (Blob b) text h = absurd (true≢false (sym h))
+
+-- WHERE column = ?1, whatever the column has: a value of another kind is no text
+pub passes_text : (row : Row) (place : ℕ) (text : Bytes) → passes (at_key place 0 ∷ []) (Text text ∷ []) row ≡ has_text_at place text row
+unfolding binary
+passes_text row place text = and_true _ ∙ go (column row place)
+  where
+    go : (v : Value) → is_true (binary (Compare Eq Binary) v (Text text)) ≡ is_text_of text v
+    go Null = refl
+    go (Int n) = rw (value_cmp-apart (Int n) (Text text) (λ e. cc)) refl
+    go (Real x) = rw (value_cmp-apart (Real x) (Text text) (λ e. cc)) refl
+    go (Text t) = words_equal t text
+    go (Blob b) = rw (value_cmp-apart (Blob b) (Text text) (λ e. cc)) refl

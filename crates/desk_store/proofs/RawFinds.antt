@@ -1,0 +1,95 @@
+-- The reads of one row of a table, whatever rows the table has.
+use Rattle.std.proofs.Common.{◌≡◌, ◌≤◌, ℕ, pos, negsuc, Bool, true, List, [], ◌∷◌, length, slice_get, nat_le, cond, false, Option, Ok, Err, Result, IfOk, Vec, refl, sym, subst, arith, codes}
+use Rattle.std.specs.declared.alloc.Global.{Global}
+use Rattle.std.proofs.lemmas.Bool.Decides.{nat_tests}
+use Rattle.sqlite_value.specs.declared.value.Value.TheVariants.{Null, Int, Text}
+use Rattle.sqlite_value.specs.Order.{Row, column}
+use Rattle.sqlite_trees.specs.Tree.{has_rowid}
+use Rattle.sqlite.specs.Command.TheVariants.{Select}
+use Rattle.sqlite.specs.Effect.{Database, Reads as Shows}
+use Rattle.sqlite.specs.Schema.{Schema}
+use Rattle.sqlite.specs.State.{State}
+use Rattle.sqlite.specs.Term.{Term, lit}
+use Rattle.sqlite_rules.specs.Lists.{Has}
+use Rattle.sql_calls.specs.declared.fault.Fault.{Fault}
+use Rattle.sql_calls.specs.declared.fault.Fault.TheVariants.{Store}
+use Rattle.sql_calls.specs.Calls.{AsksFew, few_of}
+use Rattle.sql_calls.specs.Means.{Knows, Means}
+use Rattle.sql_calls.proofs.Selects.{passes, shown_of, simple}
+use Rattle.sql_front.specs.Stands.{Stands}
+use Rattle.rollout_machine.specs.Commands.{Bytes}
+use Rattle.rollout_model.specs.Rules.{is_word}
+use Rattle.rollout_model.specs.declared.rollout.Offer.{Offer}
+use Rattle.desk_records.specs.Listings.{FindsOne, has_text_at}
+use Rattle.desk_records.specs.RolloutRow.{IsActionRow, IsOfferRow, IsRolloutRow}
+use Rattle.desk_records.specs.Schema.{Actions, Offers, Place, Rollouts, name_of, table_at}
+use Rattle.desk_records.specs.TableRows.{IsRollout}
+use Rattle.desk_records.specs.Tables.{HoldsTables, Tables}
+use Rattle.desk_records.specs.declared.action_texts.TheConstants.{GET_ACTION, GET_OFFER}
+use Rattle.desk_records.specs.declared.rollout_row.StoredAction.{StoredAction}
+use Rattle.desk_records.specs.declared.rollout_row.StoredRollout.{StoredRollout}
+use Rattle.desk_records.specs.declared.rollout_texts.TheConstants.{GET_ROLLOUT}
+use Rattle.desk_records.proofs.ActionMeaning.{action_columns, action_names, get_action_is, get_offer_is, of_controller, offer_columns}
+use Rattle.desk_records.proofs.AnyRows.{is_only, none_passes}
+use Rattle.desk_records.proofs.MeaningWords.{at_key}
+use Rattle.desk_records.proofs.NumberColumns.{passes_rowid}
+use Rattle.desk_records.proofs.RolloutMeaning.{get_rollout_is, rollout_columns, rollout_names}
+use Rattle.desk_records.proofs.TextColumns.{passes_text, text_is}
+use Rattle.desk_store.specs.RawLists.{SaysNumbered, SaysOfferOf}
+use Rattle.desk_store.specs.Rows.{IsReadAs}
+use Rattle.desk_store.proofs.Known.{tables_know}
+use Rattle.desk_store.proofs.RawCalls.{FindsOf, few_read}
+
+-- ---- any read of one table
+
+one_at_most : (rows : Vec Row Global) (answer : Result (Vec Row Global) Fault) → Ok rows ≡ few_of 1 answer → length rows.items ≤ 1
+one_at_most rows (Ok all) e = go (nat_le (length all.items) 1) refl e
+  where
+    go : (b : Bool) → nat_le (length all.items) 1 ≡ b → Ok rows ≡ cond b (Ok all) (Err Store) → length rows.items ≤ 1
+    go true few same = let it : rows ≡ all = cc in subst (λ (v : Vec Row Global). length v.items ≤ 1) (sym it) (grind (arith, nat_tests, few))
+    go false few same = absurd cc
+one_at_most rows (Err fault) e = absurd cc
+
+module _ (p : Place) (sql : List ℕ) (test columns : List Term) (names : List (List ℕ))
+    (means : (s : Schema) (at tree : ℕ) → Stands s (name_of p) at (table_at p tree) → Means s sql (Select (record { lets = []; body = simple tree test columns }) names)) where
+  abbrev found_by : Knows HoldsTables sql
+  found_by = tables_know p sql (λ at tree. Select (record { lets = []; body = simple tree test columns }) names) means
+
+  module _ (params : Row) (passing : Row → Bool) (judged : (db : Database) (t : Tables) → HoldsTables db t → (row : Row) → Has (t p) row → passes test params row ≡ passing row)
+      {A : Type 0} (is : Row → A → Type 0) (says : Row → A → Type 0) (means_so : (row : Row) → passing row ≡ true → (a : A) → is (shown_of columns params row) a → says row a) where
+    abbrev pub FindsIt : Tables → Option A → Type 0
+    FindsIt t found = FindsOne (t p) passing says found
+
+    finds : (db : Database) (t : Tables) (holds : HoldsTables db t) (shown : List Row) → length shown ≤ 1 → Shows (found_by db t holds).command db params shown → (found : Option A) → IsReadAs is found (slice_get shown 0) → FindsIt t found
+    finds db t holds [] few shows found read =
+        subst (FindsIt t) (sym read) (none_passes (holds.spot p).tree test columns [] (lit (Int (negsuc 0))) (lit (Int (pos 0))) params db.trees (t p) (holds.rows p) (λ xs. refl) passing (judged db t holds) [] (shows.answer Null) refl)
+    finds db t holds (x ∷ []) few shows found read =
+        subst (FindsIt t) (sym read.1)
+        (is_only (holds.spot p).tree test columns [] (lit (Int (negsuc 0))) (lit (Int (pos 0))) params db.trees (t p) (holds.rows p) (λ xs. refl) passing (judged db t holds) (x ∷ []) (shows.answer Null) is says (λ row among. means_so row) x refl read.0 read.2)
+    finds db t holds (x ∷ y ∷ more) few shows found read = absurd (omega (arith, few))
+
+    pub one_read : (old new : State) (rows : Vec Row Global) → AsksFew old new sql params 1 (Ok rows) → (out : Result (Option A) Fault) → IfOk out (λ found. IsReadAs is found (slice_get rows.items 0)) → FindsOf old new out FindsIt
+    one_read old new rows h = few_read sql params old new found_by FindsIt (λ found. IsReadAs is found (slice_get rows.items 0)) rows (λ db t holds found shows read. finds db t holds rows.items (one_at_most rows h.answer h.few) shows found read) 1 h
+
+-- ---- by a number
+
+pub rollout_read : (r : ℕ) (old new : State) (rows : Vec Row Global) → AsksFew old new GET_ROLLOUT.now (Int (pos r) ∷ []) 1 (Ok rows) → (out : Result (Option StoredRollout) Fault) → IfOk out (λ found. IsReadAs IsRolloutRow found (slice_get rows.items 0))
+    → FindsOf old new out (λ t found. FindsOne (t Rollouts) (has_rowid (pos r)) IsRollout found)
+rollout_read r = one_read Rollouts GET_ROLLOUT.now (at_key 0 0 ∷ []) rollout_columns rollout_names get_rollout_is (Int (pos r) ∷ []) (has_rowid (pos r)) (λ db t holds row among. passes_rowid row r) IsRolloutRow IsRollout (λ row numbered x is. is)
+
+says_numbered : (params row : Row) (a : StoredAction) → IsActionRow (shown_of action_columns params row) a → SaysNumbered row a
+says_numbered params row a is = record { rollout = is.rollout; position = is.position; target = is.target; canceling = is.canceling; outcome = is.outcome; notes = is.notes; entries = is.entries }
+
+pub action_read : (k : ℕ) (old new : State) (rows : Vec Row Global) → AsksFew old new GET_ACTION.now (Int (pos k) ∷ []) 1 (Ok rows) → (out : Result (Option StoredAction) Fault) → IfOk out (λ found. IsReadAs IsActionRow found (slice_get rows.items 0))
+    → FindsOf old new out (λ t found. FindsOne (t Actions) (has_rowid (pos k)) SaysNumbered found)
+action_read k = one_read Actions GET_ACTION.now (at_key 0 0 ∷ []) action_columns action_names get_action_is (Int (pos k) ∷ []) (has_rowid (pos k)) (λ db t holds row among. passes_rowid row k) IsActionRow SaysNumbered (λ row numbered. says_numbered (Int (pos k) ∷ []) row)
+
+-- ---- by a text
+
+module _ (id : Bytes) (word : is_word id ≡ true) where
+  says_offer_of : (row : Row) → has_text_at 1 id row ≡ true → (o : Offer) → IsOfferRow (shown_of offer_columns (Text id ∷ []) row) o → SaysOfferOf id row o
+  says_offer_of row of o is = let its = text_is (column row 1) id of in record { id_is = its; word = rw its word; shows = record { action = is.action; canceling = is.canceling } }
+
+  pub offer_read : (old new : State) (rows : Vec Row Global) → AsksFew old new GET_OFFER.now (Text id ∷ []) 1 (Ok rows) → (out : Result (Option Offer) Fault) → IfOk out (λ found. IsReadAs IsOfferRow found (slice_get rows.items 0))
+      → FindsOf old new out (λ t found. FindsOne (t Offers) (has_text_at 1 id) (SaysOfferOf id) found)
+  offer_read = one_read Offers GET_OFFER.now of_controller offer_columns (codes "action" ∷ codes "kind" ∷ []) get_offer_is (Text id ∷ []) (has_text_at 1 id) (λ db t holds row among. passes_text row 1 id) IsOfferRow (SaysOfferOf id) says_offer_of

@@ -1,0 +1,106 @@
+-- What the reads of the tables of offers, actions and groups come to.
+use Rattle.std.proofs.Common.{◌≡◌, ◌≤◌, ◌&&◌, ℕ, Bool, true, false, List, [], ◌∷◌, is_none, length, nat_le, Option, Some, None, true≢false, refl, sym, ap, subst, ◌∙◌, arith, pos}
+use Rattle.std.proofs.lemmas.Bool.{and_from, and_parts}
+use Rattle.std.proofs.lemmas.Bool.Decides.{nat_tests}
+use Rattle.sqlite_value.specs.declared.value.Value.{Value}
+use Rattle.sqlite_value.specs.declared.value.Value.TheVariants.{Text}
+use Rattle.sqlite_value.specs.Order.{Row, column}
+use Rattle.sqlite_trees.specs.Tree.{has_rowid}
+use Rattle.sqlite_rules.specs.Lists.{Has}
+use Rattle.sqlite_rules.proofs.ListLemmas.{all_from, all_has, some_from, some_has}
+use Rattle.rollout_model.specs.declared.rollout.Offer.{Offer}
+use Rattle.rollout_machine.specs.Commands.{Bytes}
+use Rattle.rollout_machine.specs.Groups.{holds_position}
+use Rattle.rollout_machine.specs.declared.records.GroupRecord.{GroupRecord}
+use Rattle.rollout_machine.proofs.TargetTies.{same_refl}
+use Rattle.desk_records.specs.Listings.{FindsOne, has_at}
+use Rattle.desk_records.specs.RolloutRow.{IsActionRow}
+use Rattle.desk_records.specs.Schema.{Actions, Groups, Offers}
+use Rattle.desk_records.specs.TableRows.{IsAction, IsGroup, IsOffer, action_shown}
+use Rattle.desk_records.specs.Tables.{Tables}
+use Rattle.desk_records.specs.declared.checked_rows.OwnedOffer.{OwnedOffer}
+use Rattle.desk_records.specs.declared.rollout_row.ListedAction.{ListedAction}
+use Rattle.desk_records.specs.declared.rollout_row.StoredAction.{StoredAction}
+use Rattle.desk_records.proofs.NumberColumns.{is_at, number_in_is, number_is, one_number}
+use Rattle.desk_store.specs.RawLists.{ListsRows, SaysGroup}
+use Rattle.desk_verify.specs.Agreement.{Decides}
+use Rattle.desk_verify.specs.OfferChecks.{Fits, IsRight, WaitsForNone, holds_started, is_due, is_started_at}
+use Rattle.desk_verify.specs.Offers.{IsInStartedGroup, IsOffered}
+use Rattle.desk_verify.specs.Stubs.{has_text_at}
+use Rattle.desk_verify.proofs.GroupLemmas.{one_group}
+
+-- ---- a row says one thing
+
+one_in : {X : Type 0} (read : Option X) (x y : X) → read ≡ Some x → read ≡ Some y → x ≡ y
+one_in read x y is other = let same : Some x ≡ Some y = sym is ∙ other in cc
+
+one_text : (v : Value) (a b : Bytes) → v ≡ Text a → v ≡ Text b → a ≡ b
+one_text v a b is other = let same : Text a ≡ Text b = sym is ∙ other in cc
+
+one_action : (row : Row) (a b : StoredAction) → IsActionRow (action_shown row) a → IsActionRow (action_shown row) b → a ≡ b
+one_action row a b is other =
+    let rollout = one_in _ a.rollout b.rollout is.rollout other.rollout in
+    let position = one_number (column row 3) a.position b.position is.position other.position in
+    let target = one_text (column row 4) a.target b.target is.target other.target in
+    let canceling = one_in _ a.canceling b.canceling is.canceling other.canceling in
+    let outcome = one_in _ a.outcome b.outcome is.outcome other.outcome in
+    let notes = one_number (column row 7) a.notes b.notes is.notes other.notes in
+    let entries = one_number (column row 8) a.entries b.entries is.entries other.entries in
+    λ i. record { rollout = rollout i; position = position i; target = target i; canceling = canceling i; outcome = outcome i; notes = notes i; entries = entries i }
+
+has_id : (row : Row) (id : Bytes) (o : Offer) → IsOffer row id o → has_text_at 1 id row ≡ true
+has_id row id o is = rw is.id_is (same_refl id)
+
+-- ---- groups
+
+pub started_tells : (t : Tables) (r place : ℕ) (groups : List GroupRecord) → ListsRows (t Groups) (has_at 1 r) (SaysGroup r) (Some groups) → Decides (IsInStartedGroup t r place) (holds_started groups place)
+started_tells t r place groups listed = go (holds_started groups place) refl
+  where
+    go : (b : Bool) → holds_started groups place ≡ b → Decides (IsInStartedGroup t r place) b
+    go true is =
+        let found = some_has (is_started_at place) groups is in
+        let both = and_parts (holds_position place found.0.bounds) found.0.started found.2 in
+        let said = listed.sound found.0 found.1 in
+        record { row = said.row; among = said.among; group = found.0; is = said.is; holds = both.0; started = both.1 }
+    go false is = λ it. (
+        let one = listed.complete it.row it.among (is_at it.row 1 r (number_in_is _ _ it.is.rollout_is)) in
+        let group = one_group it.row r r it.group one.one it.is one.is in
+        let starts : is_started_at place it.group ≡ true = and_from _ _ it.holds it.started in
+        absurd (true≢false (sym (some_from (is_started_at place) groups one.one one.among (subst (λ g. is_started_at place g ≡ true) group starts)) ∙ is))
+    )
+
+-- ---- one offer
+
+abbrev FindsAction : Tables → ℕ → Option StoredAction → Type 0
+FindsAction t number = FindsOne (t Actions) (has_rowid (pos number)) (λ row a. IsActionRow (action_shown row) a)
+
+pub no_action : (t : Tables) (owned : OwnedOffer) → FindsAction t owned.offer.action None → Decides (IsRight t owned) false
+no_action t owned none it = none it.of.row it.of.among it.of.numbered
+
+its_action : (t : Tables) (owned : OwnedOffer) (action : StoredAction) → FindsAction t owned.offer.action (Some action) → (it : IsRight t owned) → it.action ≡ action
+its_action t owned action one it = one_action it.of.row it.action action it.of.shows (one.each it.of.row it.of.among it.of.numbered)
+
+pub other_action : (t : Tables) (owned : OwnedOffer) (action : StoredAction) → FindsAction t owned.offer.action (Some action) → (Fits action owned → ⊥) → Decides (IsRight t owned) false
+other_action t owned action one other it = other (subst (λ a. Fits a owned) (its_action t owned action one it) it.fits)
+
+pub by_group : (t : Tables) (owned : OwnedOffer) (action : StoredAction) → FindsAction t owned.offer.action (Some action) → Fits action owned → (started : Bool) → Decides (IsInStartedGroup t action.rollout action.position) started
+    → Decides (IsRight t owned) started
+by_group t owned action one fits true started =
+    record { action = action; of = record { row = one.said.row; among = one.said.among; numbered = one.said.passes; shows = one.said.is }; fits = fits; started = started }
+by_group t owned action one fits false none = λ it. none (subst (λ (a : StoredAction). IsInStartedGroup t a.rollout a.position) (its_action t owned action one it) it.started)
+
+-- ---- one action
+
+abbrev FindsOffer : Tables → Bytes → Option Offer → Type 0
+FindsOffer t id = FindsOne (t Offers) (has_text_at 1 id) (λ row o. IsOffer row id o)
+
+pub no_offer : (t : Tables) (id : Bytes) (number : ℕ) → FindsOffer t id None → Decides (IsOffered t id number) false
+no_offer t id number none it = none it.row it.among (has_id it.row id it.offer it.is)
+
+-- an action that isn't due waits for none
+pub not_due : (t : Tables) (groups : List GroupRecord) (listed : ListedAction) → is_due groups listed.action ≡ false → WaitsForNone t groups listed
+not_due t groups listed other due = absurd (true≢false (sym due ∙ other))
+
+pub if_due : (t : Tables) (groups : List GroupRecord) (listed : ListedAction) → is_due groups listed.action ≡ true → (offered : Bool) → Decides (IsOffered t listed.action.target listed.number) offered → Decides (WaitsForNone t groups listed) offered
+if_due t groups listed due true offered = λ h. offered
+if_due t groups listed due false none = λ waits. none (waits due)

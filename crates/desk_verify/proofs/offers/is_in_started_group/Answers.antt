@@ -1,0 +1,12 @@
+use Rattle.std.proofs.Common.{◌≡◌, sym, subst}
+use Rattle.sql_calls.proofs.Composing.{finds_as}
+use Rattle.desk_verify.specs.Agreement.{Decides}
+use Rattle.desk_verify.specs.OfferChecks.{holds_started}
+use Rattle.desk_verify.specs.Offers.{IsInStartedGroup}
+use Rattle.desk_verify.proofs.OfferLemmas.{started_tells}
+use Rattle.desk_verify.proofs.offers.is_in_started_group.Goals as goal
+
+pub returns-in-Some-clause-judges : goal.returns-in-Some-clause-judges
+returns-in-Some-clause-judges g c =
+    let told : c.holds_started.result ≡ holds_started c.in-Some.groups.items c.args.place = rw c.deref.ensures.value at c.holds_started.ensures in
+    finds_as (rw c.in-Some.is at c.in_ok-groups.ensures.reads) (λ t is. subst (Decides (IsInStartedGroup t c.args.rollout c.args.place)) (sym told) (started_tells t c.args.rollout c.args.place c.in-Some.groups.items is))

@@ -1,0 +1,10 @@
+use Rattle.std.proofs.Common.{sym, ◌∙◌}
+use Rattle.sql_calls.specs.declared.fault.Fault.{Fault}
+use Rattle.sql_calls.proofs.Composing.{found_then, known}
+use Rattle.desk_verify.proofs.OfferLemmas.{if_due}
+use Rattle.desk_verify.proofs.offers.waits_for_none.Goals as goal
+
+pub returns-clause-judges : goal.returns-clause-judges
+returns-clause-judges g c =
+    found_then {A = Unit {0}} {E = Fault} {x = tt} {P = λ t u. Unit {0}} (known (λ t. tt)) c.is_offered.result c.is_offered.ensures.judges
+    (λ t offered any is. if_due t c.args.groups.now c.args.listed.now (sym c.is_due.ensures ∙ c.if-not-is_due.false) offered is)

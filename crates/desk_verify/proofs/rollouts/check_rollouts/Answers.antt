@@ -1,0 +1,29 @@
+use Rattle.std.proofs.Common.{◌≡◌, ◌+◌, arith, rules, subst}
+use Rattle.sql_calls.proofs.Composing.{both_found, finds_as}
+use Rattle.desk_verify.specs.RolloutChecks.{AreChecked}
+use Rattle.desk_verify.proofs.RolloutLemmas.{none_yet, one_more}
+use Rattle.desk_verify.proofs.rollouts.check_rollouts.Goals as goal
+
+pub loop-before-init : goal.loop-before-init
+loop-before-init g c = record { stays = search rules; judged = finds_as c.in_ok-last.ensures.reads (λ t is. (is, none_yet g.T.ByRollout.table g.T.ByRollout.column g.T.ByRollout.is_right g.T.ByRollout.is_whole t)) }
+
+pub returns-in_default-clause-judges : goal.returns-in_default-clause-judges
+returns-in_default-clause-judges g c = finds_as (both_found c.loop-before.invariant.judged (both_found c.in_ok-rollout.ensures.reads (rw c.in_default.is at c.in_ok-count.ensures.judges))) (λ t is. is.1.1 is.1.0)
+
+pub loop-before-preserved : goal.loop-before-preserved
+loop-before-preserved g c =
+    let sum : c.in-Some-checked_add.sum ≡ c.loop-before.listed + c.in-Some.count = grind (arith, c.in-Some-checked_add.ensures) in
+    record {
+      stays = search rules;
+      judged = finds_as (both_found c.loop-before.invariant.judged (both_found c.in_ok-rollout.ensures.reads (rw c.in-Some.is at c.in_ok-count.ensures.judges)))
+          (λ t is. (
+            is.0.0,
+            one_more g.T.ByRollout.table g.T.ByRollout.column g.T.ByRollout.is_right g.T.ByRollout.is_whole t c.loop-before.before c.loop-before.listed c.in-Some.count c.in-Some-checked_add.sum c.in_ok-rollout.rollout.number
+            is.0.1 c.in_ok-rollout.ensures.number (is.1.1 is.1.0) sum,
+          ));
+    }
+
+pub returns-clause-judges : goal.returns-clause-judges
+returns-clause-judges g c =
+    let last : c.loop-before.before ≡ c.in_ok-last.last = omega (arith, c.loop-before-test.false, c.loop-before.auto.before-end) in
+    finds_as c.loop-before.invariant.judged (λ t is. record { last = c.in_ok-last.last; is_last = is.0; checked = subst (λ n. AreChecked g.T.ByRollout.table g.T.ByRollout.column g.T.ByRollout.is_right g.T.ByRollout.is_whole t n c.loop-before.listed) last is.1 })

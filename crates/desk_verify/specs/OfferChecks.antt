@@ -1,0 +1,49 @@
+-- The check of one offer, and of the actions of one rollout.
+use Rattle.std.specs.Prelude.{◌≡◌, ◌&&◌, ℕ, Bool, true, List, is_none, None}
+use Rattle.std.specs.List.{list_any}
+use Rattle.sqlite_value.specs.Order.{Row}
+use Rattle.rollout_machine.specs.Groups.{holds_position}
+use Rattle.rollout_machine.specs.declared.records.GroupRecord.{GroupRecord}
+use Rattle.desk_records.specs.Tables.{Tables}
+use Rattle.desk_records.specs.declared.checked_rows.OwnedOffer.{OwnedOffer}
+use Rattle.desk_records.specs.declared.rollout_row.ListedAction.{ListedAction}
+use Rattle.desk_records.specs.declared.rollout_row.StoredAction.{StoredAction}
+use Rattle.desk_verify.specs.Offers.{HasNumberedAction, IsDue, IsInStartedGroup, IsOffered}
+
+-- ---- groups
+
+abbrev pub is_started_at : ℕ → GroupRecord → Bool
+is_started_at place group = holds_position place group.bounds && group.started
+
+-- a started one of these holds the place
+abbrev pub holds_started : List GroupRecord → ℕ → Bool
+holds_started groups place = list_any (is_started_at place) groups
+
+-- ---- one offer
+
+-- the action is open, of the target, and to be canceled where the offer says so
+pub record Fits (action : StoredAction) (owned : OwnedOffer) : Type 0 where
+  pub is_open : action.outcome ≡ None
+  pub target : action.target ≡ owned.id
+  pub canceling : action.canceling ≡ owned.offer.canceling
+
+-- it is of such an action, in a started group
+pub record IsRight (t : Tables) (owned : OwnedOffer) : Type 0 where
+  pub action : StoredAction
+  pub of : HasNumberedAction t owned.offer.action action
+  pub fits : Fits action owned
+  pub started : IsInStartedGroup t action.rollout action.position
+
+-- ---- the actions of one rollout
+
+-- it is open, and a started one of the groups holds its place
+abbrev pub is_due : List GroupRecord → StoredAction → Bool
+is_due groups action = is_none action.outcome && holds_started groups action.position
+
+-- where it is due, its target is offered it, or one before it
+abbrev pub WaitsForNone : Tables → List GroupRecord → ListedAction → Type 0
+WaitsForNone t groups listed = is_due groups listed.action ≡ true → IsOffered t listed.action.target listed.number
+
+-- so is the action of the row
+abbrev pub RowWaitsForNone : Tables → Row → Type 0
+RowWaitsForNone t row = (number : ℕ) (action : StoredAction) → IsDue t row number action → IsOffered t action.target number

@@ -1,0 +1,134 @@
+//! The check of the table of offers.
+
+ghost use Rattle.std.specs.Prelude.{◌≡◌};
+ghost use Rattle.std.specs.List.{AllByRecursion};
+ghost use Rattle.desk_store.specs.Changing.{FindsTables, StaysIn};
+ghost use Rattle.desk_verify.specs.Agreement.{Decides};
+ghost use Rattle.desk_verify.specs.OfferChecks.{Fits, IsRight, WaitsForNone, holds_started, is_due, is_started_at};
+ghost use Rattle.desk_verify.specs.Offers.{IsInStartedGroup, IsOffered};
+
+use crate::stubs::{find_action, find_offer, list_all_actions};
+use desk_store::{Fault, ListedAction, OpenChange, OwnedOffer, StoredAction};
+use rollout_machine::GroupRecord;
+use rollout_model::{ActionNo, ControllerId, RolloutNo};
+use sqlite::Alter;
+
+/// Whether each of the offers is right.
+fn are_right<S: Alter>(
+    change: &mut OpenChange<'_, S>,
+    offers: &[OwnedOffer],
+) -> Result<bool, Fault>
+    ensures stays { StaysIn S.Store change.old change.new result }
+    ensures judges { FindsTables S.Store change.old change.new result (λ t right. Decides (AllByRecursion (IsRight t) offers.now) right) }
+{
+    for offer in offers {
+        if !is_right(change, offer)? {
+            return Ok(false);
+        }
+    }
+    Ok(true)
+}
+
+/// Whether an open action of the target is offered as it is to be done, and its group is started.
+fn is_right<S: Alter>(change: &mut OpenChange<'_, S>, owned: &OwnedOffer) -> Result<bool, Fault>
+    ensures stays { StaysIn S.Store change.old change.new result }
+    ensures judges { FindsTables S.Store change.old change.new result (λ t right. Decides (IsRight t owned.now) right) }
+{
+    let Some(action) = find_action(change, owned.offer.action)? else {
+        return Ok(false);
+    };
+    if !fits(&action, owned) {
+        return Ok(false);
+    }
+    is_in_started_group(change, action.rollout, action.position)
+}
+
+/// Whether the action is open, of the target, and to be canceled where the offer says so.
+fn fits(action: &StoredAction, owned: &OwnedOffer) -> bool
+    ensures { Decides (Fits action.now owned.now) result }
+{
+    action.outcome.is_none()
+        && action.target == owned.id
+        && action.canceling == owned.offer.canceling
+}
+
+/// Whether a started group of the rollout holds the place. A row of its groups that breaks a rule is a failed store.
+fn is_in_started_group<S: Alter>(
+    change: &mut OpenChange<'_, S>,
+    rollout: RolloutNo,
+    place: u32,
+) -> Result<bool, Fault>
+    ensures stays { StaysIn S.Store change.old change.new result }
+    ensures judges { FindsTables S.Store change.old change.new result (λ t started. Decides (IsInStartedGroup t rollout place) started) }
+{
+    match change.list_groups(rollout)? {
+        Some(groups) => Ok(holds_started(&groups, place)),
+        None => Err(Fault::Store),
+    }
+}
+
+/// Whether a started one of the groups holds the place.
+fn holds_started(groups: &[GroupRecord], place: u32) -> bool
+    ensures { result ≡ holds_started groups.now place }
+{
+    groups.iter().any(|group| is_started_at(group, place))
+}
+
+fn is_started_at(group: &GroupRecord, place: u32) -> bool
+    ensures { result ≡ is_started_at place group.now }
+{
+    group.bounds.first <= place && place <= group.bounds.last && group.started
+}
+
+/// Whether each action that is due waits for none: its target is offered it, or one before it.
+fn wait_for_none<S: Alter>(
+    change: &mut OpenChange<'_, S>,
+    groups: &[GroupRecord],
+    actions: &[ListedAction],
+) -> Result<bool, Fault>
+    ensures stays { StaysIn S.Store change.old change.new result }
+    ensures judges { FindsTables S.Store change.old change.new result (λ t none. Decides (AllByRecursion (WaitsForNone t groups.now) actions.now) none) }
+{
+    for listed in actions {
+        if !waits_for_none(change, groups, listed)? {
+            return Ok(false);
+        }
+    }
+    Ok(true)
+}
+
+fn waits_for_none<S: Alter>(
+    change: &mut OpenChange<'_, S>,
+    groups: &[GroupRecord],
+    listed: &ListedAction,
+) -> Result<bool, Fault>
+    ensures stays { StaysIn S.Store change.old change.new result }
+    ensures judges { FindsTables S.Store change.old change.new result (λ t none. Decides (WaitsForNone t groups.now listed.now) none) }
+{
+    if !is_due(groups, &listed.action) {
+        return Ok(true);
+    }
+    is_offered(change, &listed.action.target, listed.number)
+}
+
+/// Whether the action is open, and a started one of the groups holds its place.
+fn is_due(groups: &[GroupRecord], action: &StoredAction) -> bool
+    ensures { result ≡ is_due groups.now action.now }
+{
+    action.outcome.is_none() && holds_started(groups, action.position)
+}
+
+/// Whether the target is offered an action of no greater number.
+fn is_offered<S: Alter>(
+    change: &mut OpenChange<'_, S>,
+    id: &ControllerId,
+    number: ActionNo,
+) -> Result<bool, Fault>
+    ensures stays { StaysIn S.Store change.old change.new result }
+    ensures judges { FindsTables S.Store change.old change.new result (λ t offered. Decides (IsOffered t id.now number) offered) }
+{
+    match find_offer(change, id)? {
+        Some(offer) => Ok(offer.action.get() <= number.get()),
+        None => Ok(false),
+    }
+}
