@@ -19,7 +19,7 @@ use Rattle.desk_records.specs.declared.rollout_row.ListedAction.{ListedAction}
 use Rattle.desk_records.specs.declared.rollout_row.StoredAction.{StoredAction}
 use Rattle.desk_records.specs.declared.rollout_row.StoredRollout.{StoredRollout}
 use Rattle.desk_records.proofs.NumberColumns.{is_at, number_in_is, number_is, one_number, small_is}
-use Rattle.desk_verify.specs.ActionChecks.{AreActionsInTurn, AreMembersInTurn, AreWhole, FitsHistory, ListsActions, are_for, is_for}
+use Rattle.desk_verify.specs.ActionChecks.{AreActionsInTurn, AreMembersInTurn, AreWhole, FitsHistory, ListsActions, are_for, count_none, is_for}
 use Rattle.desk_verify.specs.Actions.{AgreesActions, AreInOrder, FitsEntries, HasAction, HasActions, HasMember, IsRightAction, IsStarted}
 use Rattle.desk_verify.specs.RolloutChecks.{HasRollout, IsChecked, JudgesOne}
 use Rattle.desk_verify.proofs.TurnLemmas.{AreFollowing, AreTurns, following, is_own, own_is, turns}
@@ -66,7 +66,7 @@ module _ (t : Tables) (r : ℕ) (rollout : StoredRollout) (there : HasRollout t 
 
   -- ---- that isn't started
 
-  pub none_of : rollout.started ≡ false → ListsActions t r (Some []) → IsChecked Actions 2 IsRightAction AreWhole t r 0
+  none_of : rollout.started ≡ false → ListsActions t r (Some []) → IsChecked Actions 2 IsRightAction AreWhole t r 0
   none_of waits listed = record {
     rows = record { each = λ row among of. absurd (listed.said.complete row among of).among; all = listed.said.count };
     whole = record {
@@ -75,12 +75,16 @@ module _ (t : Tables) (r : ℕ) (rollout : StoredRollout) (there : HasRollout t 
     };
   }
 
-  pub one_of_none : rollout.started ≡ false → (x : ListedAction) (actions : List ListedAction) → ListsActions t r (Some (x ∷ actions)) → AgreesActions t → ⊥
+  one_of_none : rollout.started ≡ false → (x : ListedAction) (actions : List ListedAction) → ListsActions t r (Some (x ∷ actions)) → AgreesActions t → ⊥
   one_of_none waits x actions listed agree =
       let said = listed.said.sound x (inl refl) in
       let it = agree.each said.row said.among in
       let own = own_rollout said.row r it.number it.action it.is said.passes in
       true≢false (sym (said_started (subst (IsStarted t) own it.started)) ∙ waits)
+
+  pub waiting : rollout.started ≡ false → (actions : List ListedAction) → ListsActions t r (Some actions) → JudgesOne Actions 2 IsRightAction AreWhole AgreesActions t r (count_none actions)
+  waiting waits [] listed = none_of waits listed
+  waiting waits (x ∷ actions) listed = one_of_none waits x actions listed
 
   -- ---- that is started
 

@@ -95,6 +95,11 @@ ListsActions t rollout None = AreBroken (t Actions) (has_at 2 rollout) SaysActio
 
 -- ---- one rollout
 
+-- one that isn't started has none
+abbrev pub count_none : List ListedAction → Option ℕ
+count_none [] = Some 0
+count_none (a ∷ actions) = None
+
 -- where the rollout is started it has an action for each member, and its actions are in the members' order
 pub record AreWhole (t : Tables) (rollout : ℕ) : Type 0 where
   pub all : IsStarted t rollout → HasActions t rollout

@@ -3,7 +3,7 @@
 ghost use Rattle.std.specs.Prelude.{◌≡◌, length, option_map, vec_items};
 ghost use Rattle.desk_records.specs.Schema.{Actions};
 ghost use Rattle.desk_store.specs.Changing.{FindsTables, StaysIn};
-ghost use Rattle.desk_verify.specs.ActionChecks.{AreMembersInTurn, AreWhole, ListsActions};
+ghost use Rattle.desk_verify.specs.ActionChecks.{AreMembersInTurn, AreWhole, ListsActions, count_none};
 ghost use Rattle.desk_verify.specs.Actions.{AgreesActions, IsRightAction};
 ghost use Rattle.desk_verify.specs.RolloutChecks.{HasRollout, JudgesOne};
 
@@ -28,7 +28,7 @@ pub(crate) fn check_actions_of<S: Alter>(
         return Ok(None);
     };
     if !rollout.started {
-        return Ok(if actions.is_empty() { Some(0) } else { None });
+        return Ok(count_none(&actions));
     }
     let members = members_of(change, number)?;
     if !are_for(&members, &actions) {
@@ -41,6 +41,13 @@ pub(crate) fn check_actions_of<S: Alter>(
         Ok(count) => Ok(Some(count)),
         Err(_) => Err(Fault::Store),
     }
+}
+
+/// How many actions a rollout has that isn't started, where it has none.
+fn count_none(actions: &[ListedAction]) -> Option<u32>
+    ensures { result ≡ count_none actions.now }
+{
+    if actions.is_empty() { Some(0) } else { None }
 }
 
 /// The actions of a rollout, where they keep the columns' rules. Two of one number are a failed store.
