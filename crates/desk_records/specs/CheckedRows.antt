@@ -1,12 +1,12 @@
 -- What rows that are checked are read as.
-use Rattle.std.specs.Prelude.{◌≡◌, Bool, true, ◌&&◌, Option, None, pos}
+use Rattle.std.specs.Prelude.{◌≡◌, Bool, true, false, not, ◌&&◌, ◌||◌, ◌^◌, nat_lt, Option, None, pos}
 use Rattle.std.specs.Option.{is_none, option_and_then, option_map}
 use Rattle.sqlite_value.specs.declared.value.Value.{Value}
 use Rattle.sqlite_value.specs.declared.value.Value.TheVariants.{Int, Text}
 use Rattle.sqlite_value.specs.Order.{Row, column}
 use Rattle.desk_records.specs.ArtifactRow.{IsStoredRow, broken_stored_column, small_number}
 use Rattle.desk_records.specs.Codes.{outcome_in}
-use Rattle.desk_records.specs.RolloutRow.{IsOfferRow, broken_offer_column}
+use Rattle.desk_records.specs.RolloutRow.{IsOfferRow, broken_listed_action_column, broken_offer_column}
 use Rattle.desk_records.specs.SetRow.{has_number}
 use Rattle.desk_records.specs.TargetRow.{has_word}
 use Rattle.desk_records.specs.declared.checked_rows.CheckedArtifact.{CheckedArtifact}
@@ -33,6 +33,20 @@ pub record IsOwnedOfferRow (row : Row) (o : OwnedOffer) : Type 0 where
 
 abbrev pub keeps_offer_rules : Row → Bool
 keeps_offer_rules row = is_none (broken_offer_column row) && has_word (column row 2)
+
+-- ---- the row of an action with its number at the end
+
+-- it is a whole number of more than 32 bits
+abbrev pub is_wide : Value → Bool
+is_wide (Int (pos n)) = not (nat_lt n (2 ^ 32))
+is_wide _ = false
+
+-- A count of notes or entries that is too large to be read breaks no rule.
+abbrev pub has_wide_count : Row → Bool
+has_wide_count row = is_wide (column row 5) || is_wide (column row 6)
+
+abbrev pub keeps_action_rules : Row → Bool
+keeps_action_rules row = is_none (broken_listed_action_column row) || has_wide_count row
 
 -- ---- what is counted of the row of an action
 

@@ -1,8 +1,9 @@
 //! Rows that are read to be checked: an artifact with its number, an offer with its target, an action as it is counted.
 
 ghost use Rattle.std.specs.Prelude.{◌≡◌, IfNone, IfSome, false};
+ghost use Rattle.sqlite_value.specs.Order.{column};
 ghost use Rattle.desk_records.specs.CheckedRows.{IsCheckedArtifactRow, IsOwnedOfferRow, counted_of};
-ghost use Rattle.desk_records.specs.CheckedRows.{keeps_artifact_rules, keeps_offer_rules};
+ghost use Rattle.desk_records.specs.CheckedRows.{has_wide_count, is_wide, keeps_artifact_rules, keeps_offer_rules};
 
 use crate::artifact_row::{StoredArtifact, artifact_at, number_at, read_stored_artifact};
 use crate::codes::outcome_at;
@@ -11,6 +12,7 @@ use crate::target_row::id_at;
 use rollout_machine::Outcome;
 use rollout_model::{ArtifactNo, ControllerId, Offer};
 use sqlite::Row;
+use sqlite_value::value::ValueRef;
 
 /// An artifact and its number.
 #[derive(Clone, Copy)]
@@ -59,6 +61,22 @@ pub fn read_owned_offer(row: &Row) -> Option<OwnedOffer>
         return None;
     };
     Some(OwnedOffer { id, offer })
+}
+
+/// Whether a count in the row of a listed action is too large to be read. Takes no memory.
+pub fn has_wide_count(row: &Row) -> bool
+    ensures { result ≡ has_wide_count row.now }
+{
+    is_wide_at(row, 5) || is_wide_at(row, 6)
+}
+
+fn is_wide_at(row: &Row, at: usize) -> bool
+    ensures { result ≡ is_wide (column row.now at) }
+{
+    match row.get_ref(at) {
+        Ok(ValueRef::Int(number)) => number > i64::from(u32::MAX),
+        _ => false,
+    }
 }
 
 /// Place and outcome in the row of a listed action; `None` where one of both breaks its rule. Takes no memory.

@@ -1,6 +1,6 @@
 -- The lists of tables with whatever rows they have.
-use Rattle.std.proofs.Common.{◌≡◌, ℕ, pos, negsuc, Bool, true, List, [], ◌∷◌, Option, Some, None, Ok, Result, IfOk, option_map, Vec, vec_items, refl, sym, ap, ◌∙◌}
-use Rattle.std.specs.Option.{is_none, option_or}
+use Rattle.std.proofs.Common.{◌≡◌, ◌||◌, ◌^◌, ℕ, nat_lt, pos, negsuc, Bool, true, false, not, List, [], ◌∷◌, Option, Some, None, Ok, Result, IfOk, option_map, Vec, vec_items, refl, sym, ap, ◌∙◌}
+use Rattle.std.specs.Option.{is_none, is_some, option_or}
 use Rattle.std.specs.declared.alloc.Global.{Global}
 use Rattle.sqlite_value.specs.declared.value.Value.{Value}
 use Rattle.sqlite_value.specs.declared.value.Value.TheVariants.{Null, Int}
@@ -20,15 +20,19 @@ use Rattle.sql_calls.proofs.Selects.{by, passes, shown_of, simple}
 use Rattle.sql_front.specs.Stands.{Stands}
 use Rattle.rollout_machine.specs.declared.records.GroupRecord.{GroupRecord}
 use Rattle.rollout_model.specs.Rules.{is_number}
-use Rattle.desk_records.specs.CheckedRows.{IsCheckedArtifactRow, IsOwnedOfferRow, keeps_artifact_rules, keeps_offer_rules}
-use Rattle.desk_records.specs.Codes.{number_in}
+use Rattle.desk_records.specs.ArtifactRow.{has_size, small_number}
+use Rattle.desk_records.specs.CheckedRows.{IsCheckedArtifactRow, IsOwnedOfferRow, is_wide, keeps_action_rules, keeps_artifact_rules, keeps_offer_rules}
+use Rattle.desk_records.specs.Codes.{first_broken, flag_in, number_in, outcome_in}
 use Rattle.desk_records.specs.Holds.{HoldsLedger}
 use Rattle.desk_records.specs.Listings.{AreRead, AreSaid, has_at}
 use Rattle.desk_records.specs.EntryRow.{IsSequencedRow}
-use Rattle.desk_records.specs.RolloutRow.{broken_action_column, broken_group_column, broken_listed_action_column}
+use Rattle.desk_records.specs.RolloutRow.{broken_group_column, broken_listed_action_column}
 use Rattle.desk_records.specs.Schema.{Actions, Artifacts, Feedbacks, Groups, Offers, Place, name_of, table_at}
 use Rattle.desk_records.specs.SetRow.{has_number}
 use Rattle.desk_records.specs.Tables.{HoldsTables, Tables}
+use Rattle.desk_records.specs.TargetRow.{has_word}
+use Rattle.desk_records.specs.declared.module_row.Column.{Column}
+use Rattle.desk_records.specs.declared.module_row.Column.TheVariants as rule
 use Rattle.desk_records.specs.declared.action_texts.TheConstants.{LIST_ACTIONS, LIST_ENTRIES, LIST_OFFERS}
 use Rattle.desk_records.specs.declared.artifact_texts.TheConstants.{LIST_ALL_ARTIFACTS}
 use Rattle.desk_records.specs.declared.checked_rows.CheckedArtifact.{CheckedArtifact}
@@ -136,30 +140,53 @@ module _ (r : ℕ) (good : is_number r ≡ true) where
 abbrev pub all_of : ℕ → Row
 all_of n = Int (pos n) ∷ Int (negsuc 0) ∷ Int (pos 0) ∷ []
 
-none_first : {A : Type 0} (o more : Option A) → option_or o more ≡ None → o ≡ None
-none_first None more h = refl
-none_first (Some a) more h = absurd cc
+-- where no column breaks its rule, place and id keep theirs
+place_kept : (row : Row) → broken_listed_action_column row ≡ None → (has_size (column row 1) ≡ true) × (has_word (column row 2) ≡ true)
+place_kept row h = go (is_some (number_in (column row 0))) (has_size (column row 1)) (has_word (column row 2))
+    ((is_some (flag_in (column row 3)), rule.ActionCanceling) ∷ (is_some (outcome_in (column row 4)), rule.ActionOutcome) ∷ (has_size (column row 5), rule.ActionNotes) ∷ (has_size (column row 6), rule.ActionEntries) ∷ [])
+    (first_broken ((is_some (number_in (column row 7)), rule.ActionNumber) ∷ [])) h
+  where
+    go : (rollout place word : Bool) (more : List (Bool × Column)) (last : Option Column) → option_or (first_broken ((rollout, rule.ActionRollout) ∷ (place, rule.ActionPlace) ∷ (word, rule.TargetId) ∷ more)) last ≡ None → (place ≡ true) × (word ≡ true)
+    go true true true more last h = (refl, refl)
+    go true true false more last h = absurd cc
+    go true false word more last h = absurd cc
+    go false place word more last h = absurd cc
+
+-- a count is small, or too large to be read
+small_or_wide : (n : ℕ) → is_some (small_number (Int (pos n))) ≡ not (is_wide (Int (pos n)))
+small_or_wide n = go (nat_lt n (2 ^ 32)) refl
+  where
+    go : (b : Bool) → nat_lt n (2 ^ 32) ≡ b → is_some (small_number (Int (pos n))) ≡ not (is_wide (Int (pos n)))
+    go true few = rw few refl
+    go false many = rw many refl
 
 module _ (n : ℕ) where
-  of_its : (db : Database) (t : Tables) → HoldsTables db t → (row : Row) → Has (t Actions) row → passes of_its_rollout (all_of n) row ≡ has_at 2 n row
-  of_its db t holds row among = passes_integer db t holds Actions row among 1 (record { c = _; there = refl; kind_is = refl; strict = refl; filled = refl; apart = refl }) n (Int (negsuc 0) ∷ Int (pos 0) ∷ [])
+  judges_action : (db : Database) (t : Tables) → HoldsTables db t → (row : Row) → Has (t Actions) row → passes of_its_rollout (all_of n) row ≡ has_at 2 n row
+  judges_action db t holds row among = passes_integer db t holds Actions row among 1 (record { c = _; there = refl; kind_is = refl; strict = refl; filled = refl; apart = refl }) n (Int (negsuc 0) ∷ Int (pos 0) ∷ [])
 
   says_action : (row : Row) → has_at 2 n row ≡ true → (a : ListedAction) → IsKeptActionRow (shown_of listed_columns (all_of n) row) a → SaysAction row a
-  says_action row of a is = record { number_is = is.action.number; shows = is.action.action; kept = none_first (broken_action_column (shown_of listed_columns (all_of n) row)) _ is.kept }
+  says_action row of a is = record { number_is = is.action.number; shows = is.action.action; place = (place_kept (shown_of listed_columns (all_of n) row) is.kept).0; word = (place_kept (shown_of listed_columns (all_of n) row) is.kept).1 }
 
-  kept_action : (row : Row) (a : ListedAction) → SaysAction row a → is_none (broken_listed_action_column (shown_of listed_columns (all_of n) row)) ≡ true
-  kept_action row a says = rw (says.kept, says.number_is) refl
+  kept_action : (row : Row) (a : ListedAction) → SaysAction row a → keeps_action_rules (shown_of listed_columns (all_of n) row) ≡ true
+  kept_action row a says =
+      rw (says.shows.rollout, says.place, says.word, says.shows.canceling, says.shows.outcome, says.shows.notes, says.shows.entries, says.number_is, small_or_wide a.action.notes, small_or_wide a.action.entries)
+      (go (is_wide (Int (pos a.action.notes))) (is_wide (Int (pos a.action.entries))))
+    where
+      go : (notes entries : Bool) → (is_none (option_or (first_broken ((not notes, rule.ActionNotes) ∷ (not entries, rule.ActionEntries) ∷ [])) None) || (notes || entries)) ≡ true
+      go true entries = refl
+      go false true = refl
+      go false false = refl
 
   pub actions_read : (old new : State) (rows : Vec Row Global) → AsksText old new LIST_ACTIONS.now (all_of n) (Ok rows) → (out : Result (Option (Vec ListedAction Global)) Fault)
-      → IfOk out (λ found. AreRead IsKeptActionRow (λ row. is_none (broken_listed_action_column row)) rows.items (option_map vec_items found)) → FindsOf old new out (λ t found. ListsRows (t Actions) (has_at 2 n) SaysAction (option_map vec_items found))
-  actions_read = rows_read Actions LIST_ACTIONS.now of_its_rollout listed_columns (list_actions_query 0).order (col 0 1) (col 0 2) listed_names list_actions_is (all_of n) (λ tree xs. refl) (has_at 2 n) of_its IsKeptActionRow SaysAction says_action (λ row. is_none (broken_listed_action_column row)) kept_action
+      → IfOk out (λ found. AreRead IsKeptActionRow keeps_action_rules rows.items (option_map vec_items found)) → FindsOf old new out (λ t found. ListsRows (t Actions) (has_at 2 n) SaysAction (option_map vec_items found))
+  actions_read = rows_read Actions LIST_ACTIONS.now of_its_rollout listed_columns (list_actions_query 0).order (col 0 1) (col 0 2) listed_names list_actions_is (all_of n) (λ tree xs. refl) (has_at 2 n) judges_action IsKeptActionRow SaysAction says_action keeps_action_rules kept_action
 
-  of_action_it : (db : Database) (t : Tables) → HoldsTables db t → (row : Row) → Has (t Feedbacks) row → passes of_action (all_of n) row ≡ has_at 1 n row
-  of_action_it db t holds row among = passes_integer db t holds Feedbacks row among 0 (record { c = _; there = refl; kind_is = refl; strict = refl; filled = refl; apart = refl }) n (Int (negsuc 0) ∷ Int (pos 0) ∷ [])
+  judges_entry : (db : Database) (t : Tables) → HoldsTables db t → (row : Row) → Has (t Feedbacks) row → passes of_action (all_of n) row ≡ has_at 1 n row
+  judges_entry db t holds row among = passes_integer db t holds Feedbacks row among 0 (record { c = _; there = refl; kind_is = refl; strict = refl; filled = refl; apart = refl }) n (Int (negsuc 0) ∷ Int (pos 0) ∷ [])
 
   says_entry : (row : Row) → has_at 1 n row ≡ true → (e : SequencedEntry) → IsSequencedRow (shown_of entry_columns (all_of n) row) e → SaysEntry row e
   says_entry row of e is = record { sequence_is = is.sequence; shows = is.entry }
 
   pub history_read : (old new : State) (rows : Vec Row Global) → AsksText old new LIST_ENTRIES.now (all_of n) (Ok rows) → (out : Result (Vec SequencedEntry Global) Fault) → IfOk out (λ found. AreReadAs IsSequencedRow rows.items found.items)
       → FindsOf old new out (λ t found. AreSaid (t Feedbacks) (has_at 1 n) SaysEntry found.items)
-  history_read = each_read Feedbacks LIST_ENTRIES.now of_action entry_columns (list_entries_query 0).order (col 0 1) (col 0 2) entry_names list_entries_is (all_of n) (λ tree xs. refl) (has_at 1 n) of_action_it IsSequencedRow SaysEntry says_entry
+  history_read = each_read Feedbacks LIST_ENTRIES.now of_action entry_columns (list_entries_query 0).order (col 0 1) (col 0 2) entry_names list_entries_is (all_of n) (λ tree xs. refl) (has_at 1 n) judges_entry IsSequencedRow SaysEntry says_entry

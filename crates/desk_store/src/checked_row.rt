@@ -3,30 +3,31 @@
 ghost use Rattle.std.specs.Prelude.{◌≡◌, Bool, IfNone, IfOk, IfSome, None, false, option_map, vec_items};
 ghost use Rattle.std.specs.Option.{is_none};
 ghost use Rattle.sqlite_value.specs.Order.{Row};
-ghost use Rattle.desk_records.specs.CheckedRows.{IsCheckedArtifactRow, IsOwnedOfferRow, keeps_artifact_rules, keeps_offer_rules};
+ghost use Rattle.desk_records.specs.CheckedRows.{IsCheckedArtifactRow, IsOwnedOfferRow};
+ghost use Rattle.desk_records.specs.CheckedRows.{keeps_action_rules, keeps_artifact_rules, keeps_offer_rules};
 ghost use Rattle.desk_records.specs.Listings.{AreRead};
 ghost use Rattle.desk_records.specs.MemberRow.{IsPlacedRow, keeps_member_rules};
-ghost use Rattle.desk_records.specs.RolloutRow.{broken_group_column, broken_listed_action_column};
+ghost use Rattle.desk_records.specs.RolloutRow.{broken_group_column};
 ghost use Rattle.desk_store.specs.RawLists.{IsKeptActionRow, IsKeptGroupRow};
 
 use desk_records::{
-    CheckedArtifact, ListedAction, OwnedOffer, PlacedMember, read_checked_artifact, read_group,
-    read_listed_action, read_owned_offer, read_placed_member,
+    CheckedArtifact, ListedAction, OwnedOffer, PlacedMember, has_wide_count, read_checked_artifact,
+    read_group, read_listed_action, read_owned_offer, read_placed_member,
 };
 use rollout_machine::GroupRecord;
 use sql_calls::Fault;
 use sqlite::Row;
 use std::alloc::Global;
 
-/// What is read of a row whose columns keep their rules.
+/// What is read of a row whose columns keep their rules: `None` where one breaks its own, a failed store where one can't be read.
 pub(crate) trait FromCheckedRow: Sized + Drop {
     ghost is_row: { Row → Self → Type 0 };
 
     ghost keeps_rules: { Row → Bool };
 
-    fn from_checked_row(row: &Row) -> Option<Self>
-        ensures some { IfSome result (is_row row.now) }
-        ensures none { IfNone result (keeps_rules row.now ≡ false) };
+    fn from_checked_row(row: &Row) -> Result<Option<Self>, Fault>
+        ensures some { IfOk result (λ found. IfSome found (is_row row.now)) }
+        ensures none { IfOk result (λ found. IfNone found (keeps_rules row.now ≡ false)) };
 }
 
 /// Of id and place.
@@ -35,8 +36,8 @@ impl FromCheckedRow for PlacedMember {
 
     ghost keeps_rules = { keeps_member_rules };
 
-    fn from_checked_row(row: &Row) -> Option<Self> {
-        read_placed_member(row)
+    fn from_checked_row(row: &Row) -> Result<Option<Self>, Fault> {
+        Ok(read_placed_member(row))
     }
 }
 
@@ -46,8 +47,8 @@ impl FromCheckedRow for CheckedArtifact {
 
     ghost keeps_rules = { keeps_artifact_rules };
 
-    fn from_checked_row(row: &Row) -> Option<Self> {
-        read_checked_artifact(row)
+    fn from_checked_row(row: &Row) -> Result<Option<Self>, Fault> {
+        Ok(read_checked_artifact(row))
     }
 }
 
@@ -57,8 +58,8 @@ impl FromCheckedRow for OwnedOffer {
 
     ghost keeps_rules = { keeps_offer_rules };
 
-    fn from_checked_row(row: &Row) -> Option<Self> {
-        read_owned_offer(row)
+    fn from_checked_row(row: &Row) -> Result<Option<Self>, Fault> {
+        Ok(read_owned_offer(row))
     }
 }
 
@@ -68,8 +69,8 @@ impl FromCheckedRow for GroupRecord {
 
     ghost keeps_rules = { λ row. is_none (broken_group_column row) };
 
-    fn from_checked_row(row: &Row) -> Option<Self> {
-        read_group(row).ok()
+    fn from_checked_row(row: &Row) -> Result<Option<Self>, Fault> {
+        Ok(read_group(row).ok())
     }
 }
 
@@ -77,10 +78,14 @@ impl FromCheckedRow for GroupRecord {
 impl FromCheckedRow for ListedAction {
     ghost is_row = { IsKeptActionRow };
 
-    ghost keeps_rules = { λ row. is_none (broken_listed_action_column row) };
+    ghost keeps_rules = { keeps_action_rules };
 
-    fn from_checked_row(row: &Row) -> Option<Self> {
-        read_listed_action(row).ok()
+    fn from_checked_row(row: &Row) -> Result<Option<Self>, Fault> {
+        match read_listed_action(row) {
+            Ok(action) => Ok(Some(action)),
+            Err(_) if has_wide_count(row) => Err(Fault::Store),
+            Err(_) => Ok(None),
+        }
     }
 }
 
@@ -93,7 +98,7 @@ pub(crate) fn read_checked<T: FromCheckedRow>(
 {
     let mut found = Vec::new(alloc);
     for row in rows {
-        let Some(one) = T::from_checked_row(row) else {
+        let Some(one) = T::from_checked_row(row)? else {
             return Ok(None);
         };
         match found.push(one) {

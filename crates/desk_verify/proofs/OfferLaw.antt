@@ -47,10 +47,12 @@ use Rattle.desk_records.proofs.HeldCounts.{has_place as place_of, item_row}
 use Rattle.desk_records.proofs.HeldTables.{held_rows, numbered, row_of, wanted_of}
 use Rattle.desk_records.proofs.Membership.{has_mapped, map_has}
 use Rattle.desk_records.proofs.NumberColumns.{has_own_number, is_in_range, is_number_in, number_in_is, one_number}
+use Rattle.desk_verify.specs.OfferChecks.{is_started_at}
 use Rattle.desk_verify.specs.Offers.{AgreesOffers, HasNumberedAction, IsDue, IsInStartedGroup, IsOffered, IsRightOffer}
 use Rattle.desk_verify.proofs.GroupLaw.{flag_is, group_lies, is_group, one_of}
 use Rattle.desk_verify.proofs.GroupLemmas.{one_group, one_rollout}
 use Rattle.desk_verify.proofs.ListMembers.{member_ids}
+use Rattle.desk_verify.proofs.OfferLemmas.{none_ended}
 
 -- ---- lists
 
@@ -76,14 +78,6 @@ outcome_is None = refl
 outcome_is (Some Good) = refl
 outcome_is (Some Bad) = refl
 outcome_is (Some Gone) = refl
-
-none_ended : (ended : Option Outcome) → is_none ended ≡ true → ended ≡ None
-none_ended None e = refl
-none_ended (Some outcome) e = cc
-
--- the group is started, and holds the place
-abbrev is_started_at : ℕ → GroupRecord → Bool
-is_started_at place g = holds_position place g.bounds && g.started
 
 -- ---- the law
 
@@ -130,7 +124,7 @@ module _ (h : CommandList) (valid : IsValid h) (db : Database) (t : Tables) (hel
       let of = (actions_follow_members h valid).of_members (suc d) a at in
       let ids = member_ids h valid of.rollout (has_numbered (records h).rollouts a.rollout of.rollout of.there) in
       let named : actor_of (records h).rollouts a ≡ of.target = ap (λ o. member_at o a.position) of.there ∙ ap (λ o. unwrap_or o []) of.member in
-      ap is_word named ∙ ids.words of.target (has_numbered of.rollout.members a.position of.target of.member)
+      ap is_word named ∙ ids of.target (has_numbered of.rollout.members a.position of.target of.member)
 
   -- ---- started groups
 

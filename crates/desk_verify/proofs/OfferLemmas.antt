@@ -1,5 +1,6 @@
 -- What the reads of the tables of offers, actions and groups come to.
-use Rattle.std.proofs.Common.{◌≡◌, ◌≤◌, ◌&&◌, ℕ, Bool, true, false, List, [], ◌∷◌, is_none, length, nat_le, Option, Some, None, true≢false, refl, sym, ap, subst, ◌∙◌, arith, pos}
+use Rattle.std.proofs.Common.{◌≡◌, ◌≤◌, ◌&&◌, ℕ, Bool, true, false, List, [], ◌∷◌, is_none, is_some, length, Option, Some, None, true≢false, refl, sym, ap, subst, ◌∙◌, arith, pos}
+use Rattle.std.specs.List.{AllByRecursion}
 use Rattle.std.proofs.lemmas.Bool.{and_from, and_parts}
 use Rattle.std.proofs.lemmas.Bool.Decides.{nat_tests}
 use Rattle.sqlite_value.specs.declared.value.Value.{Value}
@@ -11,9 +12,10 @@ use Rattle.sqlite_rules.proofs.ListLemmas.{all_from, all_has, some_from, some_ha
 use Rattle.rollout_model.specs.declared.rollout.Offer.{Offer}
 use Rattle.rollout_machine.specs.Commands.{Bytes}
 use Rattle.rollout_machine.specs.Groups.{holds_position}
+use Rattle.rollout_machine.specs.declared.outcome.Outcome.{Outcome}
 use Rattle.rollout_machine.specs.declared.records.GroupRecord.{GroupRecord}
 use Rattle.rollout_machine.proofs.TargetTies.{same_refl}
-use Rattle.desk_records.specs.Listings.{FindsOne, has_at}
+use Rattle.desk_records.specs.Listings.{FindsOne, has_at, has_text_at}
 use Rattle.desk_records.specs.RolloutRow.{IsActionRow}
 use Rattle.desk_records.specs.Schema.{Actions, Groups, Offers}
 use Rattle.desk_records.specs.TableRows.{IsAction, IsGroup, IsOffer, action_shown}
@@ -21,13 +23,31 @@ use Rattle.desk_records.specs.Tables.{Tables}
 use Rattle.desk_records.specs.declared.checked_rows.OwnedOffer.{OwnedOffer}
 use Rattle.desk_records.specs.declared.rollout_row.ListedAction.{ListedAction}
 use Rattle.desk_records.specs.declared.rollout_row.StoredAction.{StoredAction}
-use Rattle.desk_records.proofs.NumberColumns.{is_at, number_in_is, number_is, one_number}
-use Rattle.desk_store.specs.RawLists.{ListsRows, SaysGroup}
+use Rattle.desk_records.specs.declared.rollout_row.StoredRollout.{StoredRollout}
+use Rattle.desk_records.proofs.NumberColumns.{is_at, number_in_is, number_in_least, number_is, one_number}
+use Rattle.desk_store.specs.RawLists.{ListsRows, SaysAction, SaysGroup, SaysNumbered, SaysOffer, SaysOfferOf, any_row}
 use Rattle.desk_verify.specs.Agreement.{Decides}
-use Rattle.desk_verify.specs.OfferChecks.{Fits, IsRight, WaitsForNone, holds_started, is_due, is_started_at}
-use Rattle.desk_verify.specs.Offers.{IsInStartedGroup, IsOffered}
-use Rattle.desk_verify.specs.Stubs.{has_text_at}
+use Rattle.desk_verify.specs.OfferChecks.{Fits, IsRight, RowWaitsForNone, WaitsForNone, holds_started, is_due, is_started_at}
+use Rattle.desk_verify.specs.Offers.{AgreesOffers, HasNumberedAction, IsDue, IsInStartedGroup, IsOffered, IsRightOffer}
+use Rattle.desk_verify.specs.RolloutChecks.{HasRollout, IsChecked, JudgesAll}
+use Rattle.desk_verify.specs.Rollouts.{IsThere}
+use Rattle.desk_verify.proofs.Counting.{is_within}
 use Rattle.desk_verify.proofs.GroupLemmas.{one_group}
+use Rattle.desk_verify.proofs.RolloutLemmas.{rollout_there}
+
+-- ---- what is decided
+
+so_if : {P : Type 0} (b : Bool) → Decides P b → b ≡ true → P
+so_if true so is = so
+so_if false so is = cc
+
+if_so : {P : Type 0} (b : Bool) → Decides P b → P → b ≡ true
+if_so true so it = refl
+if_so false so it = absurd (so it)
+
+pub none_ended : (ended : Option Outcome) → is_none ended ≡ true → ended ≡ None
+none_ended None is = refl
+none_ended (Some outcome) is = cc
 
 -- ---- a row says one thing
 
@@ -67,12 +87,12 @@ started_tells t r place groups listed = go (holds_started groups place) refl
         let group = one_group it.row r r it.group one.one it.is one.is in
         let starts : is_started_at place it.group ≡ true = and_from _ _ it.holds it.started in
         absurd (true≢false (sym (some_from (is_started_at place) groups one.one one.among (subst (λ g. is_started_at place g ≡ true) group starts)) ∙ is))
-    )
+        )
 
 -- ---- one offer
 
 abbrev FindsAction : Tables → ℕ → Option StoredAction → Type 0
-FindsAction t number = FindsOne (t Actions) (has_rowid (pos number)) (λ row a. IsActionRow (action_shown row) a)
+FindsAction t number = FindsOne (t Actions) (has_rowid (pos number)) SaysNumbered
 
 pub no_action : (t : Tables) (owned : OwnedOffer) → FindsAction t owned.offer.action None → Decides (IsRight t owned) false
 no_action t owned none it = none it.of.row it.of.among it.of.numbered
@@ -92,7 +112,7 @@ by_group t owned action one fits false none = λ it. none (subst (λ (a : Stored
 -- ---- one action
 
 abbrev FindsOffer : Tables → Bytes → Option Offer → Type 0
-FindsOffer t id = FindsOne (t Offers) (has_text_at 1 id) (λ row o. IsOffer row id o)
+FindsOffer t id = FindsOne (t Offers) (has_text_at 1 id) (SaysOfferOf id)
 
 pub no_offer : (t : Tables) (id : Bytes) (number : ℕ) → FindsOffer t id None → Decides (IsOffered t id number) false
 no_offer t id number none it = none it.row it.among (has_id it.row id it.offer it.is)
@@ -104,3 +124,78 @@ not_due t groups listed other due = absurd (true≢false (sym due ∙ other))
 pub if_due : (t : Tables) (groups : List GroupRecord) (listed : ListedAction) → is_due groups listed.action ≡ true → (offered : Bool) → Decides (IsOffered t listed.action.target listed.number) offered → Decides (WaitsForNone t groups listed) offered
 if_due t groups listed due true offered = λ h. offered
 if_due t groups listed due false none = λ waits. none (waits due)
+
+-- ---- the actions of one rollout
+
+module _ (t : Tables) (r : ℕ) (rollout : StoredRollout) (groups : List GroupRecord) (listed : ListsRows (t Groups) (has_at 1 r) (SaysGroup r) (Some groups)) (actions : List ListedAction)
+    (acted : ListsRows (t Actions) (has_at 2 r) SaysAction (Some actions)) where
+  its_rollout : (row : Row) (number : ℕ) (action : StoredAction) → IsAction row number action → has_at 2 r row ≡ true → action.rollout ≡ r
+  its_rollout row number action is of = one_number (column row 2) action.rollout r (number_in_is _ _ is.shows.rollout) (number_is (column row 2) r of)
+
+  pub none_waits : (count : ℕ) → AllByRecursion (WaitsForNone t groups) actions → count ≡ length actions → IsChecked Actions 2 RowWaitsForNone (λ t r. Unit) t r count
+  none_waits count none is = record { rows = record { each = each; all = is ∙ acted.count }; whole = tt }
+    where
+      each : (row : Row) → Has (t Actions) row → has_at 2 r row ≡ true → RowWaitsForNone t row
+      each row among of number action due =
+          let one = acted.complete row among of in
+          let started = subst (λ k. IsInStartedGroup t k action.position) (its_rollout row number action due.is of) due.started in
+          let is_so : is_due groups action ≡ true = and_from _ _ (ap is_none due.is_open) (if_so _ (started_tells t r action.position groups listed) started) in
+          let same : one.one.action ≡ action = one_action row one.one.action action one.is.shows due.is.shows in
+          let own : one.one.number ≡ number = one_in _ one.one.number number one.is.number_is due.is.number_is in
+          let waits = all_has (WaitsForNone t groups) actions one.one none one.among (subst (λ a. is_due groups a ≡ true) (sym same) is_so) in
+          subst (λ k. IsOffered t action.target k) own (subst (λ (a : StoredAction). IsOffered t a.target one.one.number) same waits)
+
+  pub one_waits : HasRollout t r rollout → (AllByRecursion (WaitsForNone t groups) actions → ⊥) → AgreesOffers t → ⊥
+  one_waits has some agree = some (all_from (WaitsForNone t groups) actions each)
+    where
+      each : (one : ListedAction) → Has actions one → WaitsForNone t groups one
+      each one among due =
+          let said = acted.sound one among in
+          let both = and_parts (is_none one.action.outcome) (holds_started groups one.action.position) due in
+          let at = sym (its_rollout said.row one.number one.action said.is said.passes) in
+          agree.all said.row one.number one.action (record {
+            among = said.among;
+            is = said.is;
+            is_open = none_ended one.action.outcome both.0;
+            there = subst (IsThere t) at (rollout_there t r rollout has);
+            started = subst (λ k. IsInStartedGroup t k one.action.position) at (so_if _ (started_tells t r one.action.position groups listed) both.1);
+          })
+
+-- ---- all of them
+
+pub row_broken : (t : Tables) → ListsRows (t Offers) any_row SaysOffer None → Decides (AgreesOffers t) false
+row_broken t broken agree = let it = agree.each broken.row broken.among in broken.breaks (record { id = it.id; offer = it.offer }) it.is
+
+module _ (t : Tables) (offers : List OwnedOffer) (listed : ListsRows (t Offers) any_row SaysOffer (Some offers)) where
+  pub one_wrong : Decides (AllByRecursion (IsRight t) offers) false → Decides (AgreesOffers t) false
+  one_wrong some agree = some (all_from (IsRight t) offers each)
+    where
+      each : (owned : OwnedOffer) → Has offers owned → IsRight t owned
+      each owned among =
+          let said = listed.sound owned among in
+          let it = agree.each said.row said.among in
+          let id = one_text (column said.row 1) it.id owned.id it.is.id_is said.is.id_is in
+          let number = one_in _ it.offer.action owned.offer.action it.is.shows.action said.is.shows.action in
+          let canceling = one_in _ it.offer.canceling owned.offer.canceling it.is.shows.canceling said.is.shows.canceling in
+          record {
+            action = it.action;
+            of = subst (λ k. HasNumberedAction t k it.action) number it.of;
+            fits = record { is_open = it.is_open; target = it.target ∙ id; canceling = it.canceling ∙ canceling };
+            started = it.started;
+          }
+
+  pub agrees : AllByRecursion (IsRight t) offers → (found : Option ℕ) → JudgesAll Actions 2 RowWaitsForNone (λ t r. Unit) AgreesOffers t found → Decides (AgreesOffers t) (is_some found)
+  agrees right None waits = waits
+  agrees right (Some count) checked = record { each = each; all = all }
+    where
+      each : (row : Row) → Has (t Offers) row → IsRightOffer t row
+      each row among =
+          let one = listed.complete row among refl in
+          let it = all_has (IsRight t) offers one.one right one.among in
+          record { id = one.one.id; offer = one.one.offer; is = one.is; action = it.action; of = it.of; is_open = it.fits.is_open; target = it.fits.target; canceling = it.fits.canceling; started = it.started }
+
+      all : (row : Row) (number : ℕ) (action : StoredAction) → IsDue t row number action → IsOffered t action.target number
+      all row number action due =
+          let low = number_in_least (column row 2) action.rollout due.is.shows.rollout in
+          let high = checked.is_last.greatest action.rollout due.there in
+          checked.checked.rows.each row due.among (is_within 2 checked.last action.rollout row low high (is_at row 2 action.rollout (number_in_is (column row 2) action.rollout due.is.shows.rollout))) number action due

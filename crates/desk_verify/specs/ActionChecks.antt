@@ -17,6 +17,7 @@ use Rattle.desk_records.specs.declared.entry_row.SequencedEntry.{SequencedEntry}
 use Rattle.desk_records.specs.declared.member_row.PlacedMember.{PlacedMember}
 use Rattle.desk_records.specs.declared.rollout_row.ListedAction.{ListedAction}
 use Rattle.desk_records.specs.declared.rollout_row.StoredAction.{StoredAction}
+use Rattle.desk_store.specs.RawLists.{SaysAction}
 use Rattle.desk_verify.specs.Actions.{AreInOrder, FitsEntries, GivesFirst, GivesOutcome, HasActions, IsStarted}
 
 -- ---- turns
@@ -79,9 +80,6 @@ FitsHistory t a = FitsEntries t a.number a.action.outcome
 pub record AreMembersInTurn (t : Tables) (rollout : ℕ) (members : List PlacedMember) : Type 0 where
   pub said : AreSaid (t Members) (is_of rollout) (SaysMember rollout) members
   pub turn : count_on 0 members ≡ true
-
-abbrev pub SaysAction : Row → ListedAction → Type 0
-SaysAction row a = IsAction row a.number a.action
 
 -- its actions, each number once
 pub record AreActionsInTurn (t : Tables) (rollout : ℕ) (actions : List ListedAction) : Type 0 where

@@ -16,4 +16,3 @@ pub mod RolloutChecks
 pub mod ActionChecks
 pub mod Offers
 pub mod OfferChecks
-pub mod Stubs

@@ -1,46 +1,66 @@
-//! The check of the actions of one rollout.
+//! The check of the table of actions.
 
-ghost use Rattle.std.specs.Prelude.{◌≡◌, length, option_map, vec_items};
+ghost use Rattle.std.specs.Prelude.{◌≡◌, option_map, vec_items};
 ghost use Rattle.desk_records.specs.Schema.{Actions};
 ghost use Rattle.desk_store.specs.Changing.{FindsTables, StaysIn};
 ghost use Rattle.desk_verify.specs.ActionChecks.{AreMembersInTurn, AreWhole, ListsActions, count_none};
 ghost use Rattle.desk_verify.specs.Actions.{AgreesActions, IsRightAction};
-ghost use Rattle.desk_verify.specs.RolloutChecks.{HasRollout, JudgesOne};
+ghost use Rattle.desk_verify.specs.Agreement.{Decides};
 
 use crate::histories::fit_histories;
-use crate::stubs::list_all_actions;
+use crate::rollouts::{ByRollout, NumberedRollout, check_rollouts};
 use crate::turns::{are_for, count_on, numbers_rise};
-use desk_store::{Fault, ListedAction, OpenChange, PlacedMember, StoredRollout};
+use desk_store::{Fault, ListedAction, OpenChange, PlacedMember};
 use rollout_model::RolloutNo;
 use sqlite::Alter;
 
-/// How many actions a rollout has, where they agree.
-pub(crate) fn check_actions_of<S: Alter>(
-    change: &mut OpenChange<'_, S>,
-    number: RolloutNo,
-    rollout: &StoredRollout,
-) -> Result<Option<u32>, Fault>
+struct Actions;
+
+impl<S: Alter> ByRollout<S> for Actions {
+    ghost table = { Actions };
+
+    ghost column = { 2 };
+
+    ghost is_right = { IsRightAction };
+
+    ghost is_whole = { AreWhole };
+
+    ghost agrees = { AgreesActions };
+
+    fn check_rollout(
+        change: &mut OpenChange<'_, S>,
+        rollout: &NumberedRollout,
+    ) -> Result<Option<u32>, Fault> {
+        let Some(actions) = actions_of(change, rollout.number)? else {
+            return Ok(None);
+        };
+        if !rollout.rollout.started {
+            return Ok(count_none(&actions));
+        }
+        let members = members_of(change, rollout.number)?;
+        if !are_for(&members, &actions) {
+            return Ok(None);
+        }
+        if !fit_histories(change, &actions)? {
+            return Ok(None);
+        }
+        match u32::try_from(actions.len()) {
+            Ok(count) => Ok(Some(count)),
+            Err(_) => Err(Fault::Store),
+        }
+    }
+}
+
+/// Whether the table of actions agrees.
+pub(crate) fn check_actions<S: Alter>(change: &mut OpenChange<'_, S>) -> Result<bool, Fault>
     ensures stays { StaysIn S.Store change.old change.new result }
-    ensures judges { FindsTables S.Store change.old change.new result
-        (λ t count. HasRollout t number rollout.now → JudgesOne Actions 2 IsRightAction AreWhole AgreesActions t number count) }
+    ensures judges { FindsTables S.Store change.old change.new result (λ t agrees. Decides (AgreesActions t) agrees) }
 {
-    let Some(actions) = actions_of(change, number)? else {
-        return Ok(None);
+    let Some(listed) = check_rollouts::<Actions, S>(change)? else {
+        return Ok(false);
     };
-    if !rollout.started {
-        return Ok(count_none(&actions));
-    }
-    let members = members_of(change, number)?;
-    if !are_for(&members, &actions) {
-        return Ok(None);
-    }
-    if !fit_histories(change, &actions)? {
-        return Ok(None);
-    }
-    match u32::try_from(actions.len()) {
-        Ok(count) => Ok(Some(count)),
-        Err(_) => Err(Fault::Store),
-    }
+    let all = change.count_actions()?;
+    Ok(listed == all)
 }
 
 /// How many actions a rollout has that isn't started, where it has none.
@@ -58,7 +78,7 @@ fn actions_of<S: Alter>(
     ensures stays { StaysIn S.Store change.old change.new result }
     ensures reads { FindsTables S.Store change.old change.new result (λ t found. ListsActions t number (option_map vec_items found)) }
 {
-    let Some(actions) = list_all_actions(change, number)? else {
+    let Some(actions) = change.list_all_actions(number)? else {
         return Ok(None);
     };
     if !numbers_rise(&actions) {
@@ -67,7 +87,7 @@ fn actions_of<S: Alter>(
     Ok(Some(actions))
 }
 
-/// The members of a rollout, whose places were judged before: a row that breaks a rule, and a place that isn't in its turn, are a failed store.
+/// The members of a rollout, whose table was judged before: a row that breaks a rule, and two at one place, are a failed store.
 fn members_of<S: Alter>(
     change: &mut OpenChange<'_, S>,
     number: RolloutNo,

@@ -7,7 +7,6 @@ ghost use Rattle.desk_verify.specs.ActionChecks.{FitsHistory, IsGiven, first_sai
 ghost use Rattle.desk_verify.specs.Agreement.{Decides};
 
 use crate::cuts::is_outcome;
-use crate::stubs::list_history;
 use crate::turns::sequences_rise;
 use desk_store::{Fault, ListedAction, OpenChange, SequencedEntry};
 use rollout_machine::{Outcome, outcome_said};
@@ -49,7 +48,7 @@ fn find_given<S: Alter>(
     ensures stays { StaysIn S.Store change.old change.new result }
     ensures reads { FindsTables S.Store change.old change.new result (λ t given. IsGiven t number given) }
 {
-    let entries = list_history(change, number)?;
+    let entries = change.list_history(number)?;
     if !sequences_rise(&entries) {
         return Err(Fault::Store);
     }

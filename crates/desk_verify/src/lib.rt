@@ -14,7 +14,6 @@ mod members;
 mod offers;
 mod places;
 mod rollouts;
-mod stubs;
 mod turns;
 
 pub use crate::damage::{CheckedTable, Damage};

@@ -2,22 +2,69 @@
 
 ghost use Rattle.std.specs.Prelude.{◌≡◌};
 ghost use Rattle.std.specs.List.{AllByRecursion};
+ghost use Rattle.desk_records.specs.Schema.{Actions};
 ghost use Rattle.desk_store.specs.Changing.{FindsTables, StaysIn};
 ghost use Rattle.desk_verify.specs.Agreement.{Decides};
-ghost use Rattle.desk_verify.specs.OfferChecks.{Fits, IsRight, WaitsForNone, holds_started, is_due, is_started_at};
-ghost use Rattle.desk_verify.specs.Offers.{IsInStartedGroup, IsOffered};
+ghost use Rattle.desk_verify.specs.OfferChecks.{Fits, IsRight, RowWaitsForNone, WaitsForNone, holds_started, is_due, is_started_at};
+ghost use Rattle.desk_verify.specs.Offers.{AgreesOffers, IsInStartedGroup, IsOffered};
 
-use crate::stubs::{find_action, find_offer, list_all_actions};
+use crate::rollouts::{ByRollout, NumberedRollout, check_rollouts};
 use desk_store::{Fault, ListedAction, OpenChange, OwnedOffer, StoredAction};
 use rollout_machine::GroupRecord;
 use rollout_model::{ActionNo, ControllerId, RolloutNo};
 use sqlite::Alter;
 
+/// The actions, of which one that is due is to be offered.
+struct Actions;
+
+impl<S: Alter> ByRollout<S> for Actions {
+    ghost table = { Actions };
+
+    ghost column = { 2 };
+
+    ghost is_right = { RowWaitsForNone };
+
+    ghost is_whole = { λ t rollout. Unit };
+
+    ghost agrees = { AgreesOffers };
+
+    fn check_rollout(
+        change: &mut OpenChange<'_, S>,
+        rollout: &NumberedRollout,
+    ) -> Result<Option<u32>, Fault> {
+        let Some(groups) = change.list_groups(rollout.number)? else {
+            return Err(Fault::Store);
+        };
+        let Some(actions) = change.list_all_actions(rollout.number)? else {
+            return Err(Fault::Store);
+        };
+        if !wait_for_none(change, &groups, &actions)? {
+            return Ok(None);
+        }
+        match u32::try_from(actions.len()) {
+            Ok(count) => Ok(Some(count)),
+            Err(_) => Err(Fault::Store),
+        }
+    }
+}
+
+/// Whether the table of offers agrees. A row of actions or groups that breaks a rule is a failed store.
+pub(crate) fn check_offers<S: Alter>(change: &mut OpenChange<'_, S>) -> Result<bool, Fault>
+    ensures stays { StaysIn S.Store change.old change.new result }
+    ensures judges { FindsTables S.Store change.old change.new result (λ t agrees. Decides (AgreesOffers t) agrees) }
+{
+    let Some(offers) = change.list_offers()? else {
+        return Ok(false);
+    };
+    if !are_right(change, &offers)? {
+        return Ok(false);
+    }
+    let none_waits = check_rollouts::<Actions, S>(change)?;
+    Ok(none_waits.is_some())
+}
+
 /// Whether each of the offers is right.
-fn are_right<S: Alter>(
-    change: &mut OpenChange<'_, S>,
-    offers: &[OwnedOffer],
-) -> Result<bool, Fault>
+fn are_right<S: Alter>(change: &mut OpenChange<'_, S>, offers: &[OwnedOffer]) -> Result<bool, Fault>
     ensures stays { StaysIn S.Store change.old change.new result }
     ensures judges { FindsTables S.Store change.old change.new result (λ t right. Decides (AllByRecursion (IsRight t) offers.now) right) }
 {
@@ -34,7 +81,7 @@ fn is_right<S: Alter>(change: &mut OpenChange<'_, S>, owned: &OwnedOffer) -> Res
     ensures stays { StaysIn S.Store change.old change.new result }
     ensures judges { FindsTables S.Store change.old change.new result (λ t right. Decides (IsRight t owned.now) right) }
 {
-    let Some(action) = find_action(change, owned.offer.action)? else {
+    let Some(action) = change.find_action(owned.offer.action)? else {
         return Ok(false);
     };
     if !fits(&action, owned) {
@@ -127,7 +174,7 @@ fn is_offered<S: Alter>(
     ensures stays { StaysIn S.Store change.old change.new result }
     ensures judges { FindsTables S.Store change.old change.new result (λ t offered. Decides (IsOffered t id.now number) offered) }
 {
-    match find_offer(change, id)? {
+    match change.find_offer(id)? {
         Some(offer) => Ok(offer.action.get() <= number.get()),
         None => Ok(false),
     }

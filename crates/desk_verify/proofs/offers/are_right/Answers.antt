@@ -1,0 +1,9 @@
+use Rattle.sqlite_rules.proofs.ListLemmas.{all_has, has_at}
+use Rattle.sql_calls.proofs.Composing.{both_found, finds_as}
+use Rattle.desk_verify.specs.OfferChecks.{IsRight}
+use Rattle.desk_verify.proofs.offers.are_right.Goals as goal
+
+pub returns-then-not-branch-clause-judges : goal.returns-then-not-branch-clause-judges
+returns-then-not-branch-clause-judges g c =
+    let wrong = rw c.if-not-branch.true at c.in_ok-is_right.ensures.judges in
+    finds_as (both_found c.loop-offer.invariant.judged wrong) (λ t is right. is.1 (all_has (IsRight t) c.args.offers.now c.offer-item.result right (has_at c.args.offers.now c.loop-offer.offer-index c.offer-item.result c.loop-offer-test.true c.offer-item.is)))

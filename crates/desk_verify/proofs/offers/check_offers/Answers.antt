@@ -1,0 +1,19 @@
+use Rattle.std.proofs.Common.{sym, subst}
+use Rattle.sql_calls.proofs.Composing.{both_found, finds_as}
+use Rattle.desk_verify.specs.Agreement.{Decides}
+use Rattle.desk_verify.specs.Offers.{AgreesOffers}
+use Rattle.desk_verify.proofs.OfferLemmas.{agrees, one_wrong, row_broken}
+use Rattle.desk_verify.proofs.offers.check_offers.Goals as goal
+
+pub returns-in_default-clause-judges : goal.returns-in_default-clause-judges
+returns-in_default-clause-judges g c = finds_as (rw c.in_default.is at c.in_ok-offers.ensures.reads) row_broken
+
+pub returns-then-not-branch-clause-judges : goal.returns-then-not-branch-clause-judges
+returns-then-not-branch-clause-judges g c =
+    finds_as (both_found (rw c.in-Some.is at c.in_ok-offers.ensures.reads) (rw (c.deref.ensures.value, c.if-not-branch.true) at c.in_ok-are_right.ensures.judges)) (λ t is. one_wrong t c.in-Some.offers.items is.0 is.1)
+
+pub returns-clause-judges : goal.returns-clause-judges
+returns-clause-judges g c =
+    finds_as
+    (both_found (rw c.in-Some.is at c.in_ok-offers.ensures.reads) (both_found (rw (c.deref.ensures.value, c.if-not-branch.false) at c.in_ok-are_right.ensures.judges) c.in_ok-none_waits.ensures.judges))
+    (λ t is. subst (Decides (AgreesOffers t)) (sym c.is_some.ensures) (agrees t c.in-Some.offers.items is.0 is.1.0 c.in_ok-none_waits.none_waits is.1.1))
