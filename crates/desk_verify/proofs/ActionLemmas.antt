@@ -1,5 +1,5 @@
 -- What the reads of the tables of actions, members and rollouts come to.
-use Rattle.std.proofs.Common.{◌≡◌, ◌<◌, ℕ, Bool, true, false, true≢false, List, [], ◌∷◌, length, pos, Option, Some, None, inl, refl, sym, ap, subst, ◌∙◌, arith}
+use Rattle.std.proofs.Common.{◌≡◌, ◌<◌, ℕ, Bool, true, false, true≢false, List, [], ◌∷◌, length, nat_eq, pos, Option, Some, None, inl, refl, sym, ap, subst, ◌∙◌, arith}
 use Rattle.std.specs.List.{AllByRecursion}
 use Rattle.sqlite_value.specs.declared.value.Value.TheVariants.{Int, Text}
 use Rattle.sqlite_value.specs.Order.{Row, column}
@@ -18,10 +18,13 @@ use Rattle.desk_records.specs.declared.member_row.PlacedMember.{PlacedMember}
 use Rattle.desk_records.specs.declared.rollout_row.ListedAction.{ListedAction}
 use Rattle.desk_records.specs.declared.rollout_row.StoredAction.{StoredAction}
 use Rattle.desk_records.specs.declared.rollout_row.StoredRollout.{StoredRollout}
-use Rattle.desk_records.proofs.NumberColumns.{is_at, number_in_is, number_is, one_number, small_is}
+use Rattle.desk_records.proofs.NumberColumns.{is_at, number_in_is, number_in_least, number_is, one_number}
 use Rattle.desk_verify.specs.ActionChecks.{AreActionsInTurn, AreMembersInTurn, AreWhole, FitsHistory, ListsActions, are_for, count_none, is_for}
 use Rattle.desk_verify.specs.Actions.{AgreesActions, AreInOrder, FitsEntries, HasAction, HasActions, HasMember, IsRightAction, IsStarted}
-use Rattle.desk_verify.specs.RolloutChecks.{HasRollout, IsChecked, JudgesOne}
+use Rattle.desk_verify.specs.Agreement.{Decides}
+use Rattle.desk_verify.specs.RolloutChecks.{AreAllChecked, HasRollout, IsChecked, JudgesOne}
+use Rattle.desk_verify.specs.Rollouts.{IsThere}
+use Rattle.desk_verify.proofs.RolloutLemmas.{decided}
 use Rattle.desk_verify.proofs.TurnLemmas.{AreFollowing, AreTurns, following, is_own, own_is, turns}
 
 -- ---- a row is one action
@@ -187,3 +190,25 @@ module _ (t : Tables) (r : ℕ) (rollout : StoredRollout) (there : HasRollout t 
         let number = one_action_number said.row it.number a.number it.action a.action it.is said.is in
         let outcome = ap (λ (x : StoredAction). x.outcome) (one_action said.row it.number a.number it.action a.action it.is said.is) in
         subst (λ k. FitsEntries t k a.action.outcome) number (subst (FitsEntries t it.number) outcome it.fits)))
+
+-- ---- all of them
+
+is_there : (t : Tables) (r : ℕ) → IsStarted t r → IsThere t r
+is_there t r it = record { row = it.row; among = it.among; numbered = it.numbered }
+
+-- the actions of all rollouts that are there, where there are no more
+pub agrees : (t : Tables) (listed all : ℕ) → AreAllChecked Actions 2 IsRightAction AreWhole t listed → all ≡ length (t Actions) → Decides (AgreesActions t) (nat_eq listed all)
+agrees t listed all checked is = decided Actions 2 IsRightAction AreWhole AgreesActions t listed all checked is
+    (λ each whole. record {
+      each = each;
+      all = λ rollout started place id has. (whole rollout (number_in_least (column has.row 1) rollout has.is.rollout_is) (is_there t rollout started)).all started place id has;
+      in_order = λ row other j k a b among others says other_says same. (
+          let it = each row among in
+          let own : it.action.rollout ≡ a.rollout = ap (λ (x : StoredAction). x.rollout) (one_action row it.number j it.action a it.is says) in
+          let there = is_there t a.rollout (subst (IsStarted t) own it.started) in
+          (whole a.rollout (number_in_least (column row 2) a.rollout says.shows.rollout) there).in_order row other j k a b among others says other_says refl (sym same)
+      );
+    })
+    (λ agree row among.
+        let it = agree.each row among in
+        record { rollout = it.action.rollout; low = number_in_least (column row 2) it.action.rollout it.is.shows.rollout; there = is_there t it.action.rollout it.started; of = of_rollout row it.action.rollout it.number it.action it.is refl })
