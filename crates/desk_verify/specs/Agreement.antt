@@ -5,6 +5,7 @@ use Rattle.desk_records.specs.Tables.{Tables}
 use Rattle.desk_verify.specs.Artifacts.{AgreesArtifacts}
 use Rattle.desk_verify.specs.Groups.{AgreesGroups}
 use Rattle.desk_verify.specs.Members.{AgreesMembers}
+use Rattle.desk_verify.specs.Offers.{AgreesOffers}
 use Rattle.desk_verify.specs.declared.damage.CheckedTable.{CheckedTable}
 use Rattle.desk_verify.specs.declared.damage.CheckedTable.TheVariants.{Artifact, Member, RolloutGroup, Action, Offer}
 
@@ -18,7 +19,7 @@ Agrees t Artifact = AgreesArtifacts t
 Agrees t Member = AgreesMembers t
 Agrees t RolloutGroup = AgreesGroups t
 Agrees t Action = ⊤
-Agrees t Offer = ⊤
+Agrees t Offer = AgreesOffers t
 
 -- those before it agree, and it doesn't
 pub record NamesFirst (t : Tables) (table : CheckedTable) : Type 0 where
