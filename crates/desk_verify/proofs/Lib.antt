@@ -10,6 +10,10 @@ mod Naming
 mod ListMembers
 mod MemberLaw
 mod ActionLaw
+mod Rising
+mod HistoryLemmas
+mod TurnLemmas
+mod ActionLemmas
 mod OfferLemmas
 mod OfferLaw
 mod ArtifactLaw
