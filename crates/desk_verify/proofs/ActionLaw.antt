@@ -290,7 +290,7 @@ module _ (h : CommandList) (valid : IsValid h) (db : Database) (t : Tables) (hel
           let it = gave sequence o first.gives in
           let history = outcomes_fit_histories h (suc d) a got in
           history.given o (first_is a.history it.index it.entry o it.lies it.gives (λ j f p at said. (let least = first.first (suc j) p (gives j f p at said) in let k = it.at in omega (arith, least, k))))
-      );
+          );
       not_given = λ none. (outcomes_fit_histories h (suc d) a got).not_given (none_is a.history (λ i e o at said. none (suc i) o (gives i e o at said)));
     }
 
@@ -345,7 +345,7 @@ module _ (h : CommandList) (valid : IsValid h) (db : Database) (t : Tables) (hel
             let m = one.number in
             let n = two.number in
             omega (arith, later, m, n)
-        );
+            );
       }
 
   pub actions_agree : AgreesActions t

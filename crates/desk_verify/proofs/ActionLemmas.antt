@@ -207,8 +207,8 @@ agrees t listed all checked is = decided Actions 2 IsRightAction AreWhole Agrees
           let own : it.action.rollout ≡ a.rollout = ap (λ (x : StoredAction). x.rollout) (one_action row it.number j it.action a it.is says) in
           let there = is_there t a.rollout (subst (IsStarted t) own it.started) in
           (whole a.rollout (number_in_least (column row 2) a.rollout says.shows.rollout) there).in_order row other j k a b among others says other_says refl (sym same)
-      );
+          );
     })
     (λ agree row among.
-        let it = agree.each row among in
-        record { rollout = it.action.rollout; low = number_in_least (column row 2) it.action.rollout it.is.shows.rollout; there = is_there t it.action.rollout it.started; of = of_rollout row it.action.rollout it.number it.action it.is refl })
+    let it = agree.each row among in
+    record { rollout = it.action.rollout; low = number_in_least (column row 2) it.action.rollout it.is.shows.rollout; there = is_there t it.action.rollout it.started; of = of_rollout row it.action.rollout it.number it.action it.is refl })

@@ -204,4 +204,4 @@ pub agrees : (t : Tables) (listed all : ℕ) → AreAllChecked Groups 1 IsInRoll
 agrees t listed all checked is = decided Groups 1 IsInRollout HasEach AgreesGroups t listed all checked is
     (λ each whole. record { each = each; all = λ rollout n i low has. whole rollout low (is_there t rollout n has) n i has })
     (λ agree row among. let it = agree.each row among in
-        record { rollout = it.rollout; low = number_in_least (column row 1) it.rollout it.is.rollout_is; there = is_there t it.rollout it.n it.there; of = of_rollout row it.rollout it.group it.is })
+    record { rollout = it.rollout; low = number_in_least (column row 1) it.rollout it.is.rollout_is; there = is_there t it.rollout it.n it.there; of = of_rollout row it.rollout it.group it.is })

@@ -93,7 +93,7 @@ module _ (t : Tables) (k : ℕ) (entries : List SequencedEntry) (are : AreSaid (
             let same : e.entry ≡ it.entry = only_one sequence_of 0 entries rises e.entry it.entry e.among it.among (omega (arith, less, least, at)) in
             let both : Some p ≡ Some o = sym e.said ∙ ap (λ (x : SequencedEntry). outcome_said x.entry.said) same ∙ it.gives in
             cc
-        );
+            );
       }
 
       go : (o : Option Outcome) → first_said entries ≡ o → IsGiven t k o

@@ -170,10 +170,10 @@ follows last before (m ∷ ms) (x ∷ as') counts rises are = one_further m ms x
                 let place = (is_own its.0 a its.2).0 ∙ ap (λ (n : PlacedMember). n.place) same in
                 let equal = (are.order a x (inr among) (inl refl)).0 (omega (arith, place, at_first)) in
                 omega (arith, number, equal)
-            )
+                )
             | inr later ↦ (its.0, later, its.2)
           ]
-      );
+          );
       its_action = λ n among. (
           let its = are.its_action n (inr among) in
           elim its.1 [
@@ -181,10 +181,10 @@ follows last before (m ∷ ms) (x ∷ as') counts rises are = one_further m ms x
                 let higher = later_place m.place ms rest_ms n among in
                 let place = ap (λ (c : ListedAction). c.action.position) (sym same) ∙ its.2 in
                 omega (arith, higher, place, at_first)
-            )
+                )
             | inr later ↦ (its.0, later, its.2)
           ]
-      );
+          );
       order = λ a b p q. are.order a b (inr p) (inr q);
     }
 

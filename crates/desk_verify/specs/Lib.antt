@@ -12,7 +12,6 @@ pub mod Groups
 pub mod Cuts
 pub mod GroupChecks
 pub mod Actions
-pub mod RolloutChecks
 pub mod ActionChecks
 pub mod Offers
 pub mod OfferChecks
