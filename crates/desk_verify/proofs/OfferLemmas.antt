@@ -33,6 +33,7 @@ use Rattle.desk_verify.specs.RolloutChecks.{HasRollout, IsChecked, JudgesAll}
 use Rattle.desk_verify.specs.Rollouts.{IsThere}
 use Rattle.desk_verify.proofs.Counting.{is_within}
 use Rattle.desk_verify.proofs.GroupLemmas.{one_group}
+use Rattle.desk_verify.proofs.OneRow.{one_action, one_in, one_text}
 use Rattle.desk_verify.proofs.RolloutLemmas.{rollout_there}
 
 -- ---- what is decided
@@ -48,25 +49,6 @@ if_so false so it = absurd (so it)
 pub none_ended : (ended : Option Outcome) → is_none ended ≡ true → ended ≡ None
 none_ended None is = refl
 none_ended (Some outcome) is = cc
-
--- ---- a row says one thing
-
-one_in : {X : Type 0} (read : Option X) (x y : X) → read ≡ Some x → read ≡ Some y → x ≡ y
-one_in read x y is other = let same : Some x ≡ Some y = sym is ∙ other in cc
-
-one_text : (v : Value) (a b : Bytes) → v ≡ Text a → v ≡ Text b → a ≡ b
-one_text v a b is other = let same : Text a ≡ Text b = sym is ∙ other in cc
-
-one_action : (row : Row) (a b : StoredAction) → IsActionRow (action_shown row) a → IsActionRow (action_shown row) b → a ≡ b
-one_action row a b is other =
-    let rollout = one_in _ a.rollout b.rollout is.rollout other.rollout in
-    let position = one_number (column row 3) a.position b.position is.position other.position in
-    let target = one_text (column row 4) a.target b.target is.target other.target in
-    let canceling = one_in _ a.canceling b.canceling is.canceling other.canceling in
-    let outcome = one_in _ a.outcome b.outcome is.outcome other.outcome in
-    let notes = one_number (column row 7) a.notes b.notes is.notes other.notes in
-    let entries = one_number (column row 8) a.entries b.entries is.entries other.entries in
-    λ i. record { rollout = rollout i; position = position i; target = target i; canceling = canceling i; outcome = outcome i; notes = notes i; entries = entries i }
 
 has_id : (row : Row) (id : Bytes) (o : Offer) → IsOffer row id o → has_text_at 1 id row ≡ true
 has_id row id o is = rw is.id_is (same_refl id)
