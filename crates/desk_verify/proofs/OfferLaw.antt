@@ -1,59 +1,50 @@
 -- The table of offers agrees where records of accepted commands are held.
-use Rattle.std.proofs.Common.{◌≡◌, inl, inr, ◌≤◌, ◌<◌, ◌&&◌, ℕ, zero, suc, ◌+◌, pos, Bool, true, false, List, [], ◌∷◌, map, length, slice_get, zip, nat_lt, is_none, Option, Some, None, true≢false, refl, sym, ap, subst, ◌∙◌, arith}
-use Rattle.std.specs.List.{list_any}
-use Rattle.std.specs.Option.{unwrap_or}
+use Rattle.std.proofs.Common.{◌≡◌, inl, inr, ◌≤◌, ℕ, zero, suc, pos, Bool, true, false, ◌∷◌, map, slice_get, nat_lt, is_none, Option, Some, None, true≢false, refl, sym, ap, subst, ◌∙◌, arith}
 use Rattle.std.proofs.lemmas.Bool.{and_from, and_parts}
 use Rattle.std.proofs.lemmas.Bool.Decides.{nat_tests}
-use Rattle.sqlite_value.specs.declared.value.Value.TheVariants.{Int, Null, Text}
-use Rattle.sqlite_value.specs.Order.{Row, column}
-use Rattle.sqlite_trees.specs.Tree.{has_rowid}
+use Rattle.sqlite_value.specs.declared.value.Value.TheVariants.{Int, Null}
+use Rattle.sqlite_value.specs.Order.{Row}
 use Rattle.sqlite.specs.Effect.{Database}
 use Rattle.sqlite_rules.specs.Lists.{Has}
 use Rattle.sqlite_rules.proofs.ListLemmas.{has_filtered, has_got, has_kept, some_from, some_has}
-use Rattle.rollout_model.specs.Rules.{is_number, is_word}
+use Rattle.rollout_model.specs.Rules.{is_word}
 use Rattle.rollout_model.specs.declared.rollout.Offer.{Offer}
-use Rattle.rollout_machine.specs.ByteStrings.{item_numbered, same_bytes}
+use Rattle.rollout_machine.specs.ByteStrings.{item_numbered}
 use Rattle.rollout_machine.specs.CommandList.{CommandList}
 use Rattle.rollout_machine.specs.Commands.{Bytes}
 use Rattle.rollout_machine.specs.Groups.{holds_position}
 use Rattle.rollout_machine.specs.Kinds.{TargetOffer, offer_to}
+use Rattle.rollout_machine.specs.MemberActions.{IsOfMember}
 use Rattle.rollout_machine.specs.Offers.{offer}
-use Rattle.rollout_machine.specs.Records.{Records, records}
-use Rattle.rollout_machine.specs.StateWords.{has_started, is_for, member_at}
+use Rattle.rollout_machine.specs.Records.{records}
+use Rattle.rollout_machine.specs.StateWords.{has_started}
 use Rattle.rollout_machine.specs.Validity.{IsValid}
-use Rattle.rollout_machine.specs.declared.outcome.Outcome.{Outcome}
-use Rattle.rollout_machine.specs.declared.outcome.Outcome.TheVariants.{Good, Bad, Gone}
 use Rattle.rollout_machine.specs.declared.records.ActionRecord.{ActionRecord}
-use Rattle.rollout_machine.specs.declared.records.GroupRecord.{GroupRecord}
 use Rattle.rollout_machine.specs.declared.records.RolloutRecord.{RolloutRecord}
-use Rattle.rollout_machine.proofs.AtNumbers.{has_place, item_within}
+use Rattle.rollout_machine.proofs.AtNumbers.{has_place}
 use Rattle.rollout_machine.proofs.MemberActions.{actions_follow_members}
 use Rattle.rollout_machine.proofs.Meanings.{is_candidate, least_offer, none_from}
 use Rattle.rollout_machine.proofs.Offers.{offered_one}
 use Rattle.rollout_machine.proofs.TargetTies.{same_refl, same_true}
-use Rattle.rollout_machine.proofs.WithinLimits.{limits_hold}
 use Rattle.offer_laws.proofs.AnyGroup.{started_by_any}
-use Rattle.desk_records.specs.Actions.{Tally, action_row, actor_of, outcome_code, tally_of, told_action}
-use Rattle.desk_records.specs.Codes.{flag_in, number_in, outcome_in}
+use Rattle.desk_records.specs.Actions.{action_row, actor_of, tally_of, told_action}
+use Rattle.desk_records.specs.Codes.{number_in}
 use Rattle.desk_records.specs.Holds.{HoldsRecords, ledger_of}
 use Rattle.desk_records.specs.Offers.{HoldsOffers, is_to, offer_row}
-use Rattle.desk_records.specs.RolloutRow.{IsActionRow, stored_action}
-use Rattle.desk_records.specs.Rollouts.{group_row}
-use Rattle.desk_records.specs.Schema.{Actions, Groups, Offers}
-use Rattle.desk_records.specs.TableRows.{IsAction, IsGroup, IsOffer, action_shown}
+use Rattle.desk_records.specs.RolloutRow.{stored_action}
+use Rattle.desk_records.specs.Schema.{Offers}
+use Rattle.desk_records.specs.TableRows.{IsAction, IsGroup, IsOffer}
 use Rattle.desk_records.specs.Tables.{HoldsTables, Tables}
 use Rattle.desk_records.specs.declared.rollout_row.StoredAction.{StoredAction}
-use Rattle.desk_records.proofs.HeldCounts.{has_place as place_of, item_row}
-use Rattle.desk_records.proofs.HeldTables.{held_rows, numbered, row_of, wanted_of}
+use Rattle.desk_records.proofs.HeldCounts.{has_place as place_of}
+use Rattle.desk_records.proofs.HeldTables.{held_rows, row_of, wanted_of}
 use Rattle.desk_records.proofs.Membership.{has_mapped, map_has}
-use Rattle.desk_records.proofs.NumberColumns.{has_own_number, is_in_range, is_number_in, number_in_is, one_number}
+use Rattle.desk_records.proofs.NumberColumns.{has_own_number}
 use Rattle.desk_verify.specs.OfferChecks.{holds_started, is_started_at}
-use Rattle.rollout_machine.specs.MemberActions.{IsOfMember}
 use Rattle.desk_verify.specs.Offers.{AgreesOffers, HasNumberedAction, IsDue, IsInStartedGroup, IsOffered, IsRightOffer}
 use Rattle.desk_verify.proofs.ActionLaw.{among, is_word_of, its_action, says}
 use Rattle.desk_verify.proofs.GroupLaw.{flag_is, group_lies, is_group, one_of}
 use Rattle.desk_verify.proofs.GroupLemmas.{one_group, one_rollout}
-use Rattle.desk_verify.proofs.ListMembers.{member_ids}
 use Rattle.desk_verify.proofs.OfferLemmas.{none_ended}
 use Rattle.desk_verify.proofs.OneRow.{one_action, one_in}
 
@@ -164,13 +155,13 @@ module _ (h : CommandList) (valid : IsValid h) (db : Database) (t : Tables) (hel
 
   -- where the records have such an action, its target is offered one of no greater number
   offered : (d : ℕ) (a : ActionRecord) → slice_get (records h).actions d ≡ Some a → a.outcome ≡ None → IsInStartedGroup t a.rollout a.position → IsOffered t (actor_of (records h).rollouts a) (suc d)
-  offered d a at waits group = go (offer (records h) (actor_of (records h).rollouts a)) refl
+  offered d a at is_open group = go (offer (records h) (actor_of (records h).rollouts a)) refl
     where
       its_member : IsOfMember (records h) a
       its_member = (actions_follow_members h valid).of_members (suc d) a at
 
       candidate : is_candidate (records h) (actor_of (records h).rollouts a) a ≡ true
-      candidate = and_from _ _ (ap is_none waits) (and_from _ _ (same_refl (actor_of (records h).rollouts a)) (started_is d a its_member.rollout at its_member.there ∙ any_group a.rollout its_member.rollout a.position its_member.there group))
+      candidate = and_from _ _ (ap is_none is_open) (and_from _ _ (same_refl (actor_of (records h).rollouts a)) (started_is d a its_member.rollout at its_member.there ∙ any_group a.rollout its_member.rollout a.position its_member.there group))
 
       go : (found : Option Offer) → offer (records h) (actor_of (records h).rollouts a) ≡ found → IsOffered t (actor_of (records h).rollouts a) (suc d)
       go None is = absurd (true≢false (sym candidate ∙ none_from (records h) (actor_of (records h).rollouts a) 1 (records h).actions is d a at))
@@ -190,8 +181,8 @@ module _ (h : CommandList) (valid : IsValid h) (db : Database) (t : Tables) (hel
       let same : action ≡ kept its.action = one_action row action (kept its.action) due.is.shows is.shows in
       let own : suc its.index ≡ number = one_in _ (suc its.index) number is.number_is due.is.number_is in
       let group = subst (λ (a : StoredAction). IsInStartedGroup t a.rollout a.position) same due.started in
-      let waits : its.action.outcome ≡ None = sym (ap (λ (a : StoredAction). a.outcome) same) ∙ due.is_open in
-      subst (λ (a : StoredAction). IsOffered t a.target number) (sym same) (subst (IsOffered t (actor_of (records h).rollouts its.action)) own (offered its.index its.action its.got waits group))
+      let is_open : its.action.outcome ≡ None = sym (ap (λ (a : StoredAction). a.outcome) same) ∙ due.is_open in
+      subst (λ (a : StoredAction). IsOffered t a.target number) (sym same) (subst (IsOffered t (actor_of (records h).rollouts its.action)) own (offered its.index its.action its.got is_open group))
 
   pub offers_agree : AgreesOffers t
   offers_agree = record { each = each; all = all }

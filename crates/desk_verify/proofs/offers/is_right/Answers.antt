@@ -1,5 +1,5 @@
 use Rattle.sql_calls.proofs.Composing.{finds_as, found_then}
-use Rattle.desk_verify.proofs.OfferLemmas.{by_group, no_action, other_action}
+use Rattle.desk_verify.proofs.OfferLemmas.{by_group, other_action}
 use Rattle.desk_verify.proofs.offers.is_right.Goals as goal
 
 pub returns-then-not-fits-clause-judges : goal.returns-then-not-fits-clause-judges
