@@ -20,7 +20,7 @@ use Rattle.rollout_machine.specs.MemberActions.{FollowMembers, IsOfMember}
 use Rattle.rollout_machine.specs.Records.{Records, records}
 use Rattle.rollout_machine.specs.StateWords.{member_at}
 use Rattle.rollout_machine.specs.Validity.{IsValid}
-use Rattle.rollout_machine.specs.WithinLimits.{AreWithinLimits, IsWithinLimits}
+use Rattle.rollout_machine.specs.WithinLimits.{AreWithinLimits}
 use Rattle.rollout_machine.specs.declared.outcome.Outcome.{Outcome}
 use Rattle.rollout_machine.specs.declared.outcome.Outcome.TheVariants.{Good, Bad, Gone}
 use Rattle.rollout_machine.specs.declared.records.ActionRecord.{ActionRecord}
@@ -176,10 +176,9 @@ module _ (h : CommandList) (valid : IsValid h) (db : Database) (t : Tables) (hel
       let part = part_among member_row members_in 1 r of.0 (records h).rollouts x (member_row r p id) (omega (arith, of.1)) of.2 (item_row (member_row r) 1 p at.0 x.members id (omega (arith, at.1)) at.2) in
       let row = row_of (t Members) (members_from 1 (records h).rollouts) (member_row r p id) (held_rows db (ledger_of (records h)) held t holds Members) part in
       let ids = member_ids h valid x (has_got (records h).rollouts of.0 x of.2) in
-      let less = place_within x.members at.0 id at.2 in
-      let within : IsWithinLimits x = limits.each r x there in
-      let few = within.members in
-      record { row = Int (pos row.0) ∷ member_row r p id; among = row.1; is = said row.0 r p id (number_of_rollout r x there) (omega (arith, at.1, less, few)) (ids id (has_got x.members at.0 id at.2)) }
+      let few = place_within x.members at.0 id at.2 in
+      let most = (limits.each r x there).members in
+      record { row = Int (pos row.0) ∷ member_row r p id; among = row.1; is = said row.0 r p id (number_of_rollout r x there) (omega (arith, at.1, few, most)) (ids id (has_got x.members at.0 id at.2)) }
 
   -- the rollout of a number
   record ItsRollout (r : ℕ) : Type 0 where
@@ -223,11 +222,11 @@ module _ (h : CommandList) (valid : IsValid h) (db : Database) (t : Tables) (hel
     member : HasMember t a.rollout a.position (actor_of (records h).rollouts a)
     member = subst (HasMember t a.rollout a.position) (sym actor_is) (has_member a.rollout of.rollout a.position of.target of.there of.member)
 
-    is_word_of : is_word (actor_of (records h).rollouts a) ≡ true
+    pub is_word_of : is_word (actor_of (records h).rollouts a) ≡ true
     is_word_of =
         let it = item_at (records h).rollouts a.rollout of.rollout of.there in
         let at = item_at of.rollout.members a.position of.target of.member in
-        ap is_word actor_is ∙ (member_ids h valid of.rollout (has_got (records h).rollouts it.0 of.rollout it.2)) of.target (has_got of.rollout.members at.0 of.target at.2)
+        ap is_word actor_is ∙ member_ids h valid of.rollout (has_got (records h).rollouts it.0 of.rollout it.2) of.target (has_got of.rollout.members at.0 of.target at.2)
 
     abbrev row : Row
     row = action_row (records h).rollouts (suc d) (a, tally_of a)
@@ -235,12 +234,12 @@ module _ (h : CommandList) (valid : IsValid h) (db : Database) (t : Tables) (hel
     abbrev action : StoredAction
     action = stored_action (records h).rollouts (a, tally_of a)
 
-    among : Has (t Actions) row
+    pub among : Has (t Actions) row
     among =
         subst (λ rows. Has rows row) (sym (held_rows db (ledger_of (records h)) held t holds Actions))
         (item_row (action_row (records h).rollouts) 1 (suc d) d (zip (records h).actions (map tally_of (records h).actions)) (a, tally_of a) (omega arith) (with_tally (records h).actions d a got))
 
-    says : IsAction row (suc d) action
+    pub says : IsAction row (suc d) action
     says =
         let less = place_within (records h).actions d a got in
         let few = limits.actions in
@@ -299,13 +298,13 @@ module _ (h : CommandList) (valid : IsValid h) (db : Database) (t : Tables) (hel
 
   -- ---- all of them
 
-  record ItsAction (row : Row) : Type 0 where
-    index : ℕ
-    action : ActionRecord
-    got : slice_get (records h).actions index ≡ Some action
-    is : row ≡ action_row (records h).rollouts (suc index) (action, tally_of action)
+  pub record ItsAction (row : Row) : Type 0 where
+    pub index : ℕ
+    pub action : ActionRecord
+    pub got : slice_get (records h).actions index ≡ Some action
+    pub is : row ≡ action_row (records h).rollouts (suc index) (action, tally_of action)
 
-  its_action : (row : Row) → Has (t Actions) row → ItsAction row
+  pub its_action : (row : Row) → Has (t Actions) row → ItsAction row
   its_action row among =
       let it = numbered (action_row (records h).rollouts) 1 (zip (records h).actions (map tally_of (records h).actions)) row (subst (λ rows. Has rows row) (held_rows db (ledger_of (records h)) held t holds Actions) among) in
       let own = its_tally (records h).actions it.index it.one it.got in

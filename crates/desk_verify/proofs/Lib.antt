@@ -10,6 +10,7 @@ mod Naming
 mod ListMembers
 mod MemberLaw
 mod ActionLaw
+mod OneRow
 mod Rising
 mod HistoryLemmas
 mod TurnLemmas
