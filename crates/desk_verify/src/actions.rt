@@ -87,7 +87,8 @@ fn actions_of<S: Alter>(
     Ok(Some(actions))
 }
 
-/// The members of a rollout, whose table was judged before: a row that breaks a rule, and two at one place, are a failed store.
+/// The members of a rollout, whose table was judged before: a row that breaks a rule, and two at one place,
+/// are a failed store.
 fn members_of<S: Alter>(
     change: &mut OpenChange<'_, S>,
     number: RolloutNo,

@@ -40,7 +40,8 @@ fn fits_history<S: Alter>(
     Ok(is_fit(given, action.action.outcome))
 }
 
-/// The outcome that the history of an action gives, if it gives one. Two entries at one place of its sequence are a failed store.
+/// The outcome that the history of an action gives, if it gives one. Two entries at one place of its
+/// sequence are a failed store.
 fn find_given<S: Alter>(
     change: &mut OpenChange<'_, S>,
     number: ActionNo,
