@@ -161,8 +161,8 @@ small_or_wide n = go (nat_lt n (2 ^ 32)) refl
     go false many = rw many refl
 
 module _ (n : ℕ) where
-  of_its : (db : Database) (t : Tables) → HoldsTables db t → (row : Row) → Has (t Actions) row → passes of_its_rollout (all_of n) row ≡ has_at 2 n row
-  of_its db t holds row among = passes_integer db t holds Actions row among 1 (record { c = _; there = refl; kind_is = refl; strict = refl; filled = refl; apart = refl }) n (Int (negsuc 0) ∷ Int (pos 0) ∷ [])
+  judges_action : (db : Database) (t : Tables) → HoldsTables db t → (row : Row) → Has (t Actions) row → passes of_its_rollout (all_of n) row ≡ has_at 2 n row
+  judges_action db t holds row among = passes_integer db t holds Actions row among 1 (record { c = _; there = refl; kind_is = refl; strict = refl; filled = refl; apart = refl }) n (Int (negsuc 0) ∷ Int (pos 0) ∷ [])
 
   says_action : (row : Row) → has_at 2 n row ≡ true → (a : ListedAction) → IsKeptActionRow (shown_of listed_columns (all_of n) row) a → SaysAction row a
   says_action row of a is = record { number_is = is.action.number; shows = is.action.action; place = (place_kept (shown_of listed_columns (all_of n) row) is.kept).0; word = (place_kept (shown_of listed_columns (all_of n) row) is.kept).1 }
@@ -179,14 +179,14 @@ module _ (n : ℕ) where
 
   pub actions_read : (old new : State) (rows : Vec Row Global) → AsksText old new LIST_ACTIONS.now (all_of n) (Ok rows) → (out : Result (Option (Vec ListedAction Global)) Fault)
       → IfOk out (λ found. AreRead IsKeptActionRow keeps_action_rules rows.items (option_map vec_items found)) → FindsOf old new out (λ t found. ListsRows (t Actions) (has_at 2 n) SaysAction (option_map vec_items found))
-  actions_read = rows_read Actions LIST_ACTIONS.now of_its_rollout listed_columns (list_actions_query 0).order (col 0 1) (col 0 2) listed_names list_actions_is (all_of n) (λ tree xs. refl) (has_at 2 n) of_its IsKeptActionRow SaysAction says_action keeps_action_rules kept_action
+  actions_read = rows_read Actions LIST_ACTIONS.now of_its_rollout listed_columns (list_actions_query 0).order (col 0 1) (col 0 2) listed_names list_actions_is (all_of n) (λ tree xs. refl) (has_at 2 n) judges_action IsKeptActionRow SaysAction says_action keeps_action_rules kept_action
 
-  of_action_it : (db : Database) (t : Tables) → HoldsTables db t → (row : Row) → Has (t Feedbacks) row → passes of_action (all_of n) row ≡ has_at 1 n row
-  of_action_it db t holds row among = passes_integer db t holds Feedbacks row among 0 (record { c = _; there = refl; kind_is = refl; strict = refl; filled = refl; apart = refl }) n (Int (negsuc 0) ∷ Int (pos 0) ∷ [])
+  judges_entry : (db : Database) (t : Tables) → HoldsTables db t → (row : Row) → Has (t Feedbacks) row → passes of_action (all_of n) row ≡ has_at 1 n row
+  judges_entry db t holds row among = passes_integer db t holds Feedbacks row among 0 (record { c = _; there = refl; kind_is = refl; strict = refl; filled = refl; apart = refl }) n (Int (negsuc 0) ∷ Int (pos 0) ∷ [])
 
   says_entry : (row : Row) → has_at 1 n row ≡ true → (e : SequencedEntry) → IsSequencedRow (shown_of entry_columns (all_of n) row) e → SaysEntry row e
   says_entry row of e is = record { sequence_is = is.sequence; shows = is.entry }
 
   pub history_read : (old new : State) (rows : Vec Row Global) → AsksText old new LIST_ENTRIES.now (all_of n) (Ok rows) → (out : Result (Vec SequencedEntry Global) Fault) → IfOk out (λ found. AreReadAs IsSequencedRow rows.items found.items)
       → FindsOf old new out (λ t found. AreSaid (t Feedbacks) (has_at 1 n) SaysEntry found.items)
-  history_read = each_read Feedbacks LIST_ENTRIES.now of_action entry_columns (list_entries_query 0).order (col 0 1) (col 0 2) entry_names list_entries_is (all_of n) (λ tree xs. refl) (has_at 1 n) of_action_it IsSequencedRow SaysEntry says_entry
+  history_read = each_read Feedbacks LIST_ENTRIES.now of_action entry_columns (list_entries_query 0).order (col 0 1) (col 0 2) entry_names list_entries_is (all_of n) (λ tree xs. refl) (has_at 1 n) judges_entry IsSequencedRow SaysEntry says_entry
