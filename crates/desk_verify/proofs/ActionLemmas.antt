@@ -1,18 +1,14 @@
 -- What the reads of the tables of actions, members and rollouts come to.
-use Rattle.std.proofs.Common.{◌≡◌, ◌<◌, ℕ, Bool, true, false, true≢false, List, [], ◌∷◌, length, nat_eq, pos, Option, Some, None, inl, refl, sym, ap, subst, ◌∙◌, arith}
+use Rattle.std.proofs.Common.{◌≡◌, ◌<◌, ℕ, true, false, true≢false, List, [], ◌∷◌, length, nat_eq, pos, Some, None, inl, refl, sym, ap, subst, ◌∙◌, arith}
 use Rattle.std.specs.List.{AllByRecursion}
 use Rattle.sqlite_value.specs.declared.value.Value.TheVariants.{Int, Text}
 use Rattle.sqlite_value.specs.Order.{Row, column}
-use Rattle.sqlite_trees.specs.Tree.{has_rowid}
 use Rattle.sqlite_rules.specs.Lists.{Has}
 use Rattle.sqlite_rules.proofs.ListLemmas.{all_from, all_has}
 use Rattle.rollout_machine.specs.Commands.{Bytes}
-use Rattle.rollout_machine.specs.declared.outcome.Outcome.{Outcome}
-use Rattle.desk_records.specs.Codes.{number_in}
 use Rattle.desk_records.specs.Listings.{has_at}
-use Rattle.desk_records.specs.PlaceLists.{is_of}
-use Rattle.desk_records.specs.Schema.{Actions, Members, Rollouts}
-use Rattle.desk_records.specs.TableRows.{IsAction, IsMember}
+use Rattle.desk_records.specs.Schema.{Actions}
+use Rattle.desk_records.specs.TableRows.{IsAction}
 use Rattle.desk_records.specs.Tables.{Tables}
 use Rattle.desk_records.specs.declared.member_row.PlacedMember.{PlacedMember}
 use Rattle.desk_records.specs.declared.rollout_row.ListedAction.{ListedAction}
@@ -20,32 +16,18 @@ use Rattle.desk_records.specs.declared.rollout_row.StoredAction.{StoredAction}
 use Rattle.desk_records.specs.declared.rollout_row.StoredRollout.{StoredRollout}
 use Rattle.desk_records.proofs.NumberColumns.{is_at, number_in_is, number_in_least, number_is, one_number}
 use Rattle.desk_verify.specs.ActionChecks.{AreActionsInTurn, AreMembersInTurn, AreWhole, FitsHistory, ListsActions, are_for, count_none, is_for}
-use Rattle.desk_verify.specs.Actions.{AgreesActions, AreInOrder, FitsEntries, HasAction, HasActions, HasMember, IsRightAction, IsStarted}
+use Rattle.desk_verify.specs.Actions.{AgreesActions, AreInOrder, FitsEntries, HasActions, HasMember, IsRightAction, IsStarted}
 use Rattle.desk_verify.specs.Agreement.{Decides}
 use Rattle.desk_verify.specs.RolloutChecks.{AreAllChecked, HasRollout, IsChecked, JudgesOne}
 use Rattle.desk_verify.specs.Rollouts.{IsThere}
+use Rattle.desk_verify.proofs.OneRow.{one_action, one_in}
 use Rattle.desk_verify.proofs.RolloutLemmas.{decided}
 use Rattle.desk_verify.proofs.TurnLemmas.{AreFollowing, AreTurns, following, is_own, own_is, turns}
 
 -- ---- a row is one action
 
-some_same : {X : Type 0} (x y : X) → Some x ≡ Some y → x ≡ y
-some_same x y h = cc
-
 pub one_action_number : (row : Row) (j k : ℕ) (a b : StoredAction) → IsAction row j a → IsAction row k b → j ≡ k
 one_action_number row j k a b p q = one_number (column row 0) j k (number_in_is _ _ p.number_is) (number_in_is _ _ q.number_is)
-
-pub one_action : (row : Row) (j k : ℕ) (a b : StoredAction) → IsAction row j a → IsAction row k b → a ≡ b
-one_action row j k a b p q =
-    let rollout : a.rollout ≡ b.rollout = some_same _ _ (sym p.shows.rollout ∙ q.shows.rollout) in
-    let position : a.position ≡ b.position = one_number (column row 3) a.position b.position p.shows.position q.shows.position in
-    let texts : Text a.target ≡ Text b.target = sym p.shows.target ∙ q.shows.target in
-    let target : a.target ≡ b.target = cc in
-    let canceling : a.canceling ≡ b.canceling = some_same _ _ (sym p.shows.canceling ∙ q.shows.canceling) in
-    let outcome : a.outcome ≡ b.outcome = some_same _ _ (sym p.shows.outcome ∙ q.shows.outcome) in
-    let notes : a.notes ≡ b.notes = one_number (column row 7) a.notes b.notes p.shows.notes q.shows.notes in
-    let entries : a.entries ≡ b.entries = one_number (column row 8) a.entries b.entries p.shows.entries q.shows.entries in
-    λ i. record { rollout = rollout i; position = position i; target = target i; canceling = canceling i; outcome = outcome i; notes = notes i; entries = entries i }
 
 -- it is of this rollout
 own_rollout : (row : Row) (r j : ℕ) (a : StoredAction) → IsAction row j a → has_at 2 r row ≡ true → a.rollout ≡ r
@@ -62,7 +44,7 @@ fails_broken t r broken agree = let it = agree.each broken.row broken.among in b
 
 module _ (t : Tables) (r : ℕ) (rollout : StoredRollout) (there : HasRollout t r rollout) where
   said_started : IsStarted t r → rollout.started ≡ true
-  said_started it = some_same _ _ (sym (there.is.each it.row it.among it.numbered).started ∙ it.says)
+  said_started it = one_in _ _ _ (there.is.each it.row it.among it.numbered).started it.says
 
   is_started : rollout.started ≡ true → IsStarted t r
   is_started started = let it = there.is.said in record { row = it.row; among = it.among; numbered = it.passes; says = it.is.started ∙ ap (λ b. Some b) started }
@@ -105,7 +87,7 @@ module _ (t : Tables) (r : ℕ) (rollout : StoredRollout) (there : HasRollout t 
     its_member place id has =
         let it = placed.said.complete has.row has.among (is_at has.row 1 r (number_in_is _ _ has.is.rollout_is)) in
         let texts : Text it.one.id ≡ Text id = sym it.is.id_is ∙ has.is.id_is in
-        record { one = it.one; among = it.among; place_is = some_same _ _ (sym it.is.place_is ∙ has.is.place_is); id_is = cc }
+        record { one = it.one; among = it.among; place_is = one_in _ _ _ it.is.place_is has.is.place_is; id_is = cc }
 
     pub fits : are_for members actions ≡ true → AllByRecursion (FitsHistory t) actions → (many : ℕ) → many ≡ length actions → IsChecked Actions 2 IsRightAction AreWhole t r many
     fits are histories many is = record {
@@ -146,8 +128,8 @@ module _ (t : Tables) (r : ℕ) (rollout : StoredRollout) (there : HasRollout t 
             let order = ours.order c.one d.one c.among d.among in
             let j_is = one_action_number row j c.one.number a c.one.action is c.is in
             let k_is = one_action_number other k d.one.number b d.one.action other_is d.is in
-            let a_at = ap (λ (x : StoredAction). x.position) (one_action row j c.one.number a c.one.action is c.is) in
-            let b_at = ap (λ (x : StoredAction). x.position) (one_action other k d.one.number b d.one.action other_is d.is) in
+            let a_at = ap (λ (x : StoredAction). x.position) (one_action row a c.one.action is.shows c.is.shows) in
+            let b_at = ap (λ (x : StoredAction). x.position) (one_action other b d.one.action other_is.shows d.is.shows) in
             record {
               apart = λ same. (let it = order.0 (omega (arith, same, a_at, b_at)) in omega (arith, it, j_is, k_is));
               order = λ less. (let it = order.1 (omega (arith, less, a_at, b_at)) in omega (arith, it, j_is, k_is));
@@ -161,7 +143,7 @@ module _ (t : Tables) (r : ℕ) (rollout : StoredRollout) (there : HasRollout t 
             let said = listed.said.sound a among in
             let it = agree.each said.row said.among in
             let rollout = own_rollout said.row r it.number it.action it.is said.passes in
-            let same = one_action said.row it.number a.number it.action a.action it.is said.is in
+            let same = one_action said.row it.action a.action it.is.shows said.is.shows in
             let m = its_member it.action.position it.action.target (subst (λ n. HasMember t n it.action.position it.action.target) rollout it.member) in
             (m.one, m.among, own_is m.one a (ap (λ (x : StoredAction). x.position) (sym same) ∙ sym m.place_is) (ap (λ (x : StoredAction). x.target) (sym same) ∙ sym m.id_is))
 
@@ -169,7 +151,7 @@ module _ (t : Tables) (r : ℕ) (rollout : StoredRollout) (there : HasRollout t 
         all m among =
             let has = agree.all r (is_started started) m.place m.id (has_member m among) in
             let it = listed.said.complete has.row has.among (of_rollout has.row r has.number has.action has.is has.rollout_is) in
-            (it.one, it.among, ap (λ (x : StoredAction). x.position) (one_action has.row it.one.number has.number it.one.action has.action it.is has.is) ∙ has.place_is)
+            (it.one, it.among, ap (λ (x : StoredAction). x.position) (one_action has.row it.one.action has.action it.is.shows has.is.shows) ∙ has.place_is)
 
         order : (a b : ListedAction) → Has actions a → Has actions b → (a.action.position ≡ b.action.position → a.number ≡ b.number) × (a.action.position < b.action.position → a.number < b.number)
         order a b among others =
@@ -188,7 +170,7 @@ module _ (t : Tables) (r : ℕ) (rollout : StoredRollout) (there : HasRollout t 
         let said = listed.said.sound a among in
         let it = agree.each said.row said.among in
         let number = one_action_number said.row it.number a.number it.action a.action it.is said.is in
-        let outcome = ap (λ (x : StoredAction). x.outcome) (one_action said.row it.number a.number it.action a.action it.is said.is) in
+        let outcome = ap (λ (x : StoredAction). x.outcome) (one_action said.row it.action a.action it.is.shows said.is.shows) in
         subst (λ k. FitsEntries t k a.action.outcome) number (subst (FitsEntries t it.number) outcome it.fits)))
 
 -- ---- all of them
@@ -204,7 +186,7 @@ agrees t listed all checked is = decided Actions 2 IsRightAction AreWhole Agrees
       all = λ rollout started place id has. (whole rollout (number_in_least (column has.row 1) rollout has.is.rollout_is) (is_there t rollout started)).all started place id has;
       in_order = λ row other j k a b among others says other_says same. (
           let it = each row among in
-          let own : it.action.rollout ≡ a.rollout = ap (λ (x : StoredAction). x.rollout) (one_action row it.number j it.action a it.is says) in
+          let own : it.action.rollout ≡ a.rollout = ap (λ (x : StoredAction). x.rollout) (one_action row it.action a it.is.shows says.shows) in
           let there = is_there t a.rollout (subst (IsStarted t) own it.started) in
           (whole a.rollout (number_in_least (column row 2) a.rollout says.shows.rollout) there).in_order row other j k a b among others says other_says refl (sym same)
           );

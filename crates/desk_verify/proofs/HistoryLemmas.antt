@@ -1,11 +1,10 @@
 -- What the history of an action that was read comes to.
-use Rattle.std.proofs.Common.{◌≡◌, inl, inr, ◌⊎◌, ◌≤◌, ◌||◌, ℕ, Bool, true, false, true≢false, List, [], ◌∷◌, map, Option, Some, None, refl, sym, ap, subst, ◌∙◌, arith}
+use Rattle.std.proofs.Common.{◌≡◌, inl, inr, ◌⊎◌, ◌≤◌, ℕ, Bool, true, false, true≢false, List, [], ◌∷◌, map, Option, Some, None, refl, sym, ap, ◌∙◌, arith}
 use Rattle.std.specs.Option.{option_or}
-use Rattle.sqlite_value.specs.Order.{Row, column}
+use Rattle.sqlite_value.specs.Order.{column}
 use Rattle.sqlite_rules.specs.Lists.{Has}
-use Rattle.rollout_machine.specs.Actions.{HistoryEntry, Said, outcome_said}
+use Rattle.rollout_machine.specs.Actions.{outcome_said}
 use Rattle.rollout_machine.specs.Counts.{is_outcome}
-use Rattle.rollout_machine.specs.Histories.{first_outcome}
 use Rattle.rollout_machine.specs.declared.outcome.Outcome.{Outcome}
 use Rattle.rollout_machine.specs.declared.outcome.Outcome.TheVariants.{Good, Bad, Gone}
 use Rattle.desk_records.specs.Listings.{AreSaid, has_at}
@@ -15,7 +14,7 @@ use Rattle.desk_records.specs.Tables.{Tables}
 use Rattle.desk_records.specs.declared.entry_row.SequencedEntry.{SequencedEntry}
 use Rattle.desk_records.proofs.NumberColumns.{is_at, number_is, one_number}
 use Rattle.desk_verify.specs.ActionChecks.{IsGiven, IsGivenFirst, first_said, is_fit, rise, sequences_rise}
-use Rattle.desk_verify.specs.Actions.{FitsEntries, GivesFirst, GivesOutcome}
+use Rattle.desk_verify.specs.Actions.{FitsEntries, GivesOutcome}
 use Rattle.desk_verify.specs.Agreement.{Decides}
 use Rattle.desk_verify.proofs.Rising.{above, only_one, rest_rises}
 

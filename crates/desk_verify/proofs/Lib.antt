@@ -1,6 +1,7 @@
 mod PieceChecks
 mod ArtifactLemmas
 mod Counting
+mod OneRow
 mod RolloutLemmas
 mod Follow
 mod MemberLemmas
@@ -10,7 +11,6 @@ mod Naming
 mod ListMembers
 mod MemberLaw
 mod ActionLaw
-mod OneRow
 mod Rising
 mod HistoryLemmas
 mod TurnLemmas
