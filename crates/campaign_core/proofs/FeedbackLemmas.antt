@@ -1,10 +1,10 @@
 -- What feedback comes to, by their views, over sound records.
-use Rattle.std.proofs.Common.{◌≡◌, ℕ, Bool, true, false, cond, ◌&&◌, List, [], ◌∷◌, refl, sym, ◌∙◌, ap, subst, Option, Some, None, Ok}
+use Rattle.std.proofs.Common.{◌≡◌, ℕ, Bool, true, false, cond, ◌&&◌, [], ◌∷◌, refl, sym, ◌∙◌, ap, subst, Option, Some, None, Ok}
 use Rattle.std.specs.Prelude.{is_none, is_some, nat_le, not}
 use Rattle.std.specs.Option.{unwrap_or}
 use Rattle.rollout_machine.specs.Actions.{OfCancel, OfDeployment, entry_of, outcome_of_cancel, outcome_of_deployment}
 use Rattle.rollout_machine.specs.ByteStrings.{item_numbered}
-use Rattle.rollout_machine.specs.Commands.{Bytes, CancelFeedback, CancelWord, CanceledCancel, ClosedCancel, Credential, DeploymentWord, Feedback, DeviceFeedback, NotedCancel, RejectedCancel}
+use Rattle.rollout_machine.specs.Commands.{CancelFeedback, CancelWord, CanceledCancel, ClosedCancel, Credential, DeploymentWord, Feedback, DeviceFeedback, NotedCancel, RejectedCancel}
 use Rattle.rollout_machine.specs.RecordSteps.{step_action}
 use Rattle.rollout_machine.specs.Records.{Records}
 use Rattle.rollout_machine.specs.declared.records.ActionRecord.{ActionRecord}

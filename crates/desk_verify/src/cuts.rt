@@ -2,13 +2,12 @@
 
 ghost use Rattle.std.specs.Prelude.{◌≡◌, count_by};
 ghost use Rattle.std.specs.List.{list_all};
-ghost use Rattle.rollout_machine.specs.Counts.{is_outcome};
 ghost use Rattle.desk_verify.specs.Cuts.{are_right, counts_them, has_each, has_number, is_cut, is_right};
 ghost use Rattle.desk_verify.specs.Groups.{has_ended};
 
 use campaign_core::group_bounds;
 use desk_store::CountedAction;
-use rollout_machine::{Bounds, GroupRecord, Outcome};
+use rollout_machine::{Bounds, GroupRecord, Outcome, is_outcome};
 
 /// Whether these are the groups of a rollout with so many members that is to have so many groups.
 pub(crate) fn are_right(
@@ -95,17 +94,4 @@ fn has_ended(action: &CountedAction, bounds: Bounds, outcome: Outcome) -> bool
     bounds.first <= action.place
         && action.place <= bounds.last
         && is_outcome(outcome, action.outcome)
-}
-
-pub(crate) fn is_outcome(outcome: Outcome, ended: Option<Outcome>) -> bool
-    ensures { result ≡ is_outcome outcome ended }
-{
-    let Some(ended) = ended else {
-        return false;
-    };
-    match outcome {
-        Outcome::Good => matches!(ended, Outcome::Good),
-        Outcome::Bad => matches!(ended, Outcome::Bad),
-        Outcome::Gone => matches!(ended, Outcome::Gone),
-    }
 }

@@ -6,10 +6,9 @@ ghost use Rattle.desk_store.specs.Changing.{FindsTables, StaysIn};
 ghost use Rattle.desk_verify.specs.ActionChecks.{FitsHistory, IsGiven, first_said, is_fit};
 ghost use Rattle.desk_verify.specs.Agreement.{Decides};
 
-use crate::cuts::is_outcome;
 use crate::turns::sequences_rise;
 use desk_store::{Fault, ListedAction, OpenChange, SequencedEntry};
-use rollout_machine::{Outcome, outcome_said};
+use rollout_machine::{Outcome, is_outcome, outcome_said};
 use rollout_model::ActionNo;
 use sqlite::Alter;
 

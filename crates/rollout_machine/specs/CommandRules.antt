@@ -5,7 +5,7 @@ use Rattle.rollout_machine.specs.Commands.{AddArtifact, Cancel, CancelFeedback, 
 use Rattle.rollout_machine.specs.Commands.{SetLabel, PutTargets, Untag, Deny, Approve, AddModule, Feedback, PutAttributes, Tag, Resume, TriggerNext}
 use Rattle.rollout_machine.specs.Commands.{TargetRow, AddSet, Upload, Bytes, Credential}
 use Rattle.rollout_model.specs.Limits.{artifact_size_limit, attribute_limit}
-use Rattle.std.specs.Prelude.{◌≡◌, ℕ, Bool, true, ◌&&◌, nat_le, List, length, Option, Some, None}
+use Rattle.std.specs.Prelude.{◌≡◌, Bool, true, ◌&&◌, nat_le, length, Option, Some, None}
 use Rattle.std.specs.List.{list_all}
 use Rattle.std.specs.Str.{is_utf8}
 

@@ -1,5 +1,5 @@
 -- What a target is offered.
-use Rattle.std.specs.Prelude.{ℕ, suc, Bool, ◌&&◌, cond, List, [], ◌∷◌, Option, Some, None, is_none}
+use Rattle.std.specs.Prelude.{ℕ, suc, ◌&&◌, cond, List, [], ◌∷◌, Option, Some, None, is_none}
 use Rattle.rollout_machine.specs.Commands.{Bytes}
 use Rattle.rollout_machine.specs.Records.{ActionRecord, Records}
 use Rattle.rollout_machine.specs.StateWords.{is_for, has_started}

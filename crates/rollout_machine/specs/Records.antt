@@ -1,17 +1,16 @@
 -- The records of a desk as one finite value, and what they are at a command list.
 use Rattle.std.specs.Prelude.{ℕ, suc, Bool, true, false, cond, nat_eq, List, [], ◌∷◌, ◌++◌, map, length, Option, Some, None}
 use Rattle.std.specs.Option.{option_or}
-use Rattle.rollout_machine.specs.Actions.{ActionPlace, action_places, HistoryEntry, outcome, is_canceling, history}
+use Rattle.rollout_machine.specs.Actions.{ActionPlace, action_places, outcome, is_canceling, history}
 use Rattle.rollout_machine.specs.CommandList.{CommandList, Make, ◌▸◌}
-use Rattle.rollout_machine.specs.Commands.{Bytes, ModuleLabel, SetLabel, Upload, RolloutPlan, Command, AddModule, AddArtifact, AddSet, Approve, Deny}
-use Rattle.rollout_machine.specs.Commands.{Outcome, Good, Bad, Gone}
+use Rattle.rollout_machine.specs.Commands.{Bytes, ModuleLabel, SetLabel, Upload, Command, AddModule, AddArtifact, AddSet, Approve, Deny}
+use Rattle.rollout_machine.specs.Commands.{Good, Bad, Gone}
 use Rattle.rollout_machine.specs.Counts.{tally}
 use Rattle.rollout_machine.specs.Digests.{digest_of}
 use Rattle.rollout_machine.specs.Progress.{is_paused, is_group_started, is_rollout_started}
 use Rattle.rollout_machine.specs.Ranges.{each_from}
 use Rattle.rollout_machine.specs.Rollouts.{Rollout, rollouts, bounds_in}
 use Rattle.rollout_machine.specs.Targets.{Target, targets}
-use Rattle.rollout_machine.specs.declared.bounds.Bounds.{Bounds}
 pub use Rattle.rollout_machine.specs.declared.records.GroupRecord.{GroupRecord}
 pub use Rattle.rollout_machine.specs.declared.records.RolloutRecord.{RolloutRecord}
 pub use Rattle.rollout_machine.specs.declared.records.ActionRecord.{ActionRecord}

@@ -15,7 +15,7 @@ mod well_formed;
 
 pub use bounds::Bounds;
 pub use handler::Handler;
-pub use outcome::Outcome;
+pub use outcome::{Outcome, is_outcome};
 pub use records::{ActionRecord, GroupRecord, RolloutRecord};
 pub use said::{outcome_of_cancel, outcome_of_deployment, outcome_said, says_note};
 pub use store_failure::{is_failed_store, says_store_failed};

@@ -6,7 +6,7 @@ ghost use Rattle.rollout_model.specs.declared.refusal.Refusal.TheVariants.{Close
 ghost use Rattle.campaign_core.specs.RolloutChecks.{device_refusal};
 
 use super::actions::{ActionChange, ActionView};
-use rollout_machine::Outcome;
+use rollout_machine::{Outcome, is_outcome};
 use rollout_model::Refusal;
 
 /// An action of the device that the feedback is from, whose group is started.
@@ -30,11 +30,9 @@ pub struct FeedbackView {
 fn is_same(gives: Option<Outcome>, had: Outcome) -> bool
     ensures { result ≡ same_outcome gives (Some had) }
 {
-    match (gives, had) {
-        (Some(Outcome::Good), Outcome::Good)
-        | (Some(Outcome::Bad), Outcome::Bad)
-        | (Some(Outcome::Gone), Outcome::Gone) => true,
-        (_, _) => false,
+    match gives {
+        Some(given) => is_outcome(given, Some(had)),
+        None => false,
     }
 }
 

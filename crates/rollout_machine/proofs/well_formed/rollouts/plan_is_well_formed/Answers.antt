@@ -1,6 +1,5 @@
-use Rattle.std.proofs.Common.{rules, ◌≡◌, true, refl}
+use Rattle.std.proofs.Common.{rules}
 use Rattle.std.proofs.lemmas.Str.{is_utf8-from_IsUtf8}
-use Rattle.rollout_machine.specs.CommandRules.{is_plan}
 use Rattle.rollout_machine.proofs.well_formed.rollouts.plan_is_well_formed.Goals as goal
 
 -- src/well_formed/rollouts.rt:34:1
