@@ -42,7 +42,7 @@ not_failed reply never = elim (cases_Bool (is_failed_store reply)) [
   | inr other ↦ other
 ]
 
-pub no_memory_is_no_failure : (reply : Reply) → reply ≡ Refused NoMemory → reply ≢ Refused StoreFailed
+no_memory_is_no_failure : (reply : Reply) → reply ≡ Refused NoMemory → reply ≢ Refused StoreFailed
 no_memory_is_no_failure reply is failed = false≢true (sym (ap is_failed_store is) ∙ ap is_failed_store failed)
 
 -- the reply of a fault
@@ -59,13 +59,13 @@ module _ (Holds : Database → Records → Type 0) where
 
   -- ---- what the desk is after a reply
 
-  pub becomes_list : (s : State) (h : CommandList) (reply : Reply) (accepted : Option Command) → reply ≢ Refused StoreFailed → StandsFor (desk_state_at Holds false s) (followed_by h (one accepted)) → Becomes (desk_state_at Holds (is_failed_store reply) s) h reply accepted
+  becomes_list : (s : State) (h : CommandList) (reply : Reply) (accepted : Option Command) → reply ≢ Refused StoreFailed → StandsFor (desk_state_at Holds false s) (followed_by h (one accepted)) → Becomes (desk_state_at Holds (is_failed_store reply) s) h reply accepted
   becomes_list s h reply accepted never standing = record {
     in_doubt = λ failed. absurd (never failed);
     stands = λ other. subst (λ (b : Bool). StandsFor (desk_state_at Holds b s) (followed_by h (one accepted))) (sym (not_failed reply never)) standing;
   }
 
-  pub becomes_doubt : (s : State) (h : CommandList) (reply : Reply) (accepted : Option Command) → reply ≡ Refused StoreFailed → ((db : Trees) → s.may_leave db → HoldsList Holds db h ⊎ HoldsList Holds db (followed_by h (one accepted))) → Becomes (desk_state_at Holds (is_failed_store reply) s) h reply accepted
+  becomes_doubt : (s : State) (h : CommandList) (reply : Reply) (accepted : Option Command) → reply ≡ Refused StoreFailed → ((db : Trees) → s.may_leave db → HoldsList Holds db h ⊎ HoldsList Holds db (followed_by h (one accepted))) → Becomes (desk_state_at Holds (is_failed_store reply) s) h reply accepted
   becomes_doubt s h reply accepted failed crash = record {
     in_doubt = λ is. record { stopped = ap is_failed_store failed; crash = crash };
     stands = λ never. absurd (never failed);
