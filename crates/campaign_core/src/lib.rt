@@ -7,6 +7,7 @@ mod effects;
 mod groups;
 mod own_group;
 mod rollout_checks;
+mod splits;
 mod status_words;
 mod thresholds;
 
@@ -22,6 +23,7 @@ pub use rollout_checks::{
     ResumeView, RolloutChange, RolloutCommandView, StandingView, TriggerView, approve, cancel,
     cancel_feedback, create, deny, feedback, new_rollout, pause, resume, start, trigger,
 };
+pub use splits::{SplitFault, split_bounds, split_groups};
 pub use status_words::{
     ActionStatus, GroupStatus, RolloutStatus, TargetStatus, action_word, group_word, rollout_word,
     target_word,

@@ -5,6 +5,7 @@ ghost use Rattle.rollout_machine.specs.Meanings.{FirstStartedIs, StartedIs, Fina
 ghost use Rattle.rollout_machine.specs.Promises.{OneGroupStarts, OthersStay, NoGroupIsLeft, NamedIsOfferable, DownloadsAreOffered, StoredSayAll};
 ghost use Rattle.rollout_machine.specs.Promises.{DerivedFollow, OffersStay, OffersFollow, NotesGrow};
 ghost use Rattle.rollout_machine.specs.Repeats.{RepeatsLeaveNoTrace};
+ghost use Rattle.rollout_machine.specs.Splits.{FirstEmptyTells, SplitCovers};
 ghost use Rattle.rollout_machine.specs.Validity.{StepsRecords};
 
 /// The records of a list of accepted commands change by one step a command.
@@ -130,4 +131,15 @@ pub fn offers_follow()
 /// An action has as many notes more as its feedback adds.
 pub fn notes_grow()
     ensures { NotesGrow }
+{}
+
+/// The groups of a split by percentages, of which none is empty and the last takes all that is left, follow one another from the first
+/// member to the last.
+pub fn split_covers()
+    ensures { SplitCovers }
+{}
+
+/// No group of a split is empty where none is the first empty one.
+pub fn first_empty_tells()
+    ensures { FirstEmptyTells }
 {}
