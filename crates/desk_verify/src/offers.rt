@@ -134,7 +134,8 @@ fn are_offered_if_due<S: Alter>(
     actions: &[ListedAction],
 ) -> Result<bool, Fault>
     ensures stays { StaysIn S.Store change.old change.new result }
-    ensures judges { FindsTables S.Store change.old change.new result (λ t offered. Decides (AllByRecursion (IsOfferedIfDue t groups.now) actions.now) offered) }
+    ensures judges { FindsTables S.Store change.old change.new result
+        (λ t offered. Decides (AllByRecursion (IsOfferedIfDue t groups.now) actions.now) offered) }
 {
     for listed in actions {
         if !is_offered_if_due(change, groups, listed)? {
