@@ -4,4 +4,5 @@ pub mod Imports
 pub mod Telling
 pub mod ReportOrders
 pub mod Verifications
+pub mod Carrying
 pub mod AfterCrash

@@ -144,6 +144,14 @@ asks_approval (Import db file) = false
 asks_approval (Report db rollout) = false
 asks_approval (Verify db) = false
 
+-- the path of its database
+abbrev pub database_of : Order → Text
+database_of (Run setup) = setup.db.now
+database_of (Serve setup port connections) = setup.db.now
+database_of (Import db file) = db.now
+database_of (Report db rollout) = db.now
+database_of (Verify db) = db.now
+
 -- what the words name is an order
 abbrev pub NamesOrder : Option (Text × List Row) → Type 0
 NamesOrder found = (order : Order) × IsOrder found order

@@ -1,26 +1,20 @@
 //! The order `import`.
 
-ghost use Rattle.std.specs.Prelude.{◌≡◌, ◌≢◌, ◌⊎◌, [], IfErr, IfOk, IsOkAnd, true};
-ghost use Rattle.std.specs.Io.KnownBytes.{Appends};
+ghost use Rattle.std.specs.Prelude.{◌≡◌, ◌≢◌, ◌⊎◌, IfErr, IfOk, true};
 ghost use Rattle.std.specs.Option.{option_map};
 ghost use Rattle.rollout_model.specs.declared.refusal.Refusal.TheVariants.{NoMemory, StoreFailed};
 ghost use Rattle.rollout_machine.specs.Requests.{Asks, Rejected};
 ghost use Rattle.rollout_machine.specs.Standing.{Applies, StaysStopped};
 ghost use Rattle.rollout_machine.specs.Views.{request_of, reply_of};
 ghost use Rattle.http_wire.specs.Watched.{inner_of, has_failed};
-ghost use Rattle.rollout_desk.specs.DeskStates.{desk_state};
 ghost use Rattle.desk_server.specs.Imports.{CarriesOutImport, Imports, asked_by_file};
-ghost use Rattle.desk_server.specs.Program.{Tells, open_line};
 
-use crate::program::{FAILED, open_line, tell};
+use crate::program::{FAILED, tell};
 use crate::telling::tell_reply;
-use desk_opening::OpenFault;
 use http_wire::Watched;
 use mgmt_api::read_file;
-use rollout_desk::Desk;
 use rollout_model::limits::FILE_LENGTH_LIMIT;
 use rollout_model::{Refusal, Reply, Request};
-use sqlite::Alter;
 use std::alloc::Global;
 use std::io::Write;
 use stream_server::Handler;
@@ -66,7 +60,7 @@ fn import<W: Write, E: Write, D: Handler>(
 }
 
 /// Puts the targets of a file, or tells that it can't be read.
-fn import_given<W: Write, E: Write, D: Handler>(
+pub(crate) fn import_given<W: Write, E: Write, D: Handler>(
     alloc: Global,
     desk: &mut D,
     file: Option<&[u8]>,
@@ -83,29 +77,5 @@ fn import_given<W: Write, E: Write, D: Handler>(
             tell(errors, b"fault 6 file\n");
             FAILED
         }
-    }
-}
-
-/// Carries the order `import` out over the desk, or tells why there is none, and answers the exit status. `file` is the file's bytes, of
-/// which those past 1,048,577 may be left out, or None where they can't be read.
-pub fn carry_out_import<W: Write, E: Write, S: Alter>(
-    alloc: Global,
-    desk: &mut Result<Desk<S>, OpenFault>,
-    file: Option<&[u8]>,
-    output: &mut Watched<W>,
-    errors: &mut Watched<E>,
-) -> u8
-    ensures unopened { IfErr desk.old (λ fault. (result ≡ 1) × Appends (W.contents (inner_of output.old)) (W.contents (inner_of output.new)) []
-        × Tells (E.contents (inner_of errors.old)) (E.contents (inner_of errors.new)) (has_failed errors.new) (open_line fault)) }
-    ensures carries_out { IfOk desk.old (λ before. IsOkAnd desk.new (λ after. CarriesOutImport (option_map (λ s. s.now) file.entry)
-        (desk_state S.Store before) (desk_state S.Store after) (W.contents (inner_of output.old)) (W.contents (inner_of output.new))
-        (E.contents (inner_of errors.old)) (E.contents (inner_of errors.new)) (has_failed errors.new) (has_failed output.old) (has_failed output.new) result)) }
-{
-    match desk {
-        Err(fault) => {
-            tell(errors, open_line(*fault));
-            FAILED
-        }
-        Ok(desk) => import_given(alloc, desk, file, output, errors),
     }
 }

@@ -1,14 +1,12 @@
 //! What the program does with an order.
 
-ghost use Rattle.std.specs.Prelude.{◌≡◌, ◌++◌, ◌∷◌, ℕ, List, [], true, Result, is_some, IfErr, IfOk, IsOkAnd};
-ghost use Rattle.std.specs.Io.KnownBytes.{Appends, Consumes};
+ghost use Rattle.std.specs.Prelude.{◌≡◌, ◌++◌, ◌∷◌, ℕ, List, [], true, Result, is_some, IfErr};
 ghost use Rattle.std.specs.Net.Addr.{ipv4_octets};
 ghost use Rattle.http_wire.specs.Watched.{inner_of, has_failed};
 ghost use Rattle.stream_server.specs.declared.served.Served.{Served as Outcome};
 ghost use Rattle.stream_server.specs.declared.served.ServeFault.{ServeFault as Fault};
 ghost use Rattle.stream_server.specs.Headline.{FailsBy};
 ghost use Rattle.desk_server.specs.Program.{fault_line, open_line, listen_line, status_of, Tells, Reports, CarriesOut, Listens, CarriesOutOn};
-ghost use Rattle.rollout_desk.specs.DeskStates.{desk_state};
 ghost use Rattle.stream_server.specs.Parts.{ServesStream};
 
 use crate::Setup;
@@ -69,7 +67,7 @@ pub(crate) fn tell<E: Write>(errors: &mut Watched<E>, line: &[u8])
 }
 
 /// Serves the input to the output, and tells of a fault.
-fn run<R: Read, W: Write, E: Write, D: ContentsHandler>(
+fn serve_input<R: Read, W: Write, E: Write, D: ContentsHandler>(
     alloc: Global,
     desk: &mut D,
     interface: Interface,
@@ -94,8 +92,25 @@ fn run<R: Read, W: Write, E: Write, D: ContentsHandler>(
     }
 }
 
+/// Carries the order `run` out.
+pub(crate) fn run<R: Read, W: Write, E: Write, S: Alter>(
+    alloc: Global,
+    setup: &Setup<'_>,
+    desk: &mut Desk<S>,
+    input: &mut Watched<R>,
+    output: &mut Watched<W>,
+    errors: &mut Watched<E>,
+) -> u8
+    ensures { CarriesOut S.Store setup.now desk.old desk.new (R.remaining (inner_of input.old)) (R.remaining (inner_of input.new))
+        (W.contents (inner_of output.old)) (W.contents (inner_of output.new))
+        (E.contents (inner_of errors.old)) (E.contents (inner_of errors.new)) (has_failed errors.new)
+        (has_failed input.old) (has_failed input.new) (has_failed output.old) (has_failed output.new) result }
+{
+    serve_input(alloc, desk, setup.interface, input, output, errors)
+}
+
 /// The address that the order `serve` listens on: this port of 127.0.0.1, which nobody reaches from another machine.
-pub fn listen_address(port: u16) -> (Ipv4Addr, u16)
+pub(crate) fn listen_address(port: u16) -> (Ipv4Addr, u16)
     ensures local { ipv4_octets result.0 ≡ 127 ∷ 0 ∷ 0 ∷ 1 ∷ [] }
     ensures port { result.1 ≡ port }
 {
@@ -120,7 +135,7 @@ fn listen<D: ContentsHandler>(
 }
 
 /// Serves the connections, and tells of a fault.
-fn run_on<E: Write, D: ContentsHandler>(
+pub(crate) fn serve_on_port<E: Write, D: ContentsHandler>(
     alloc: Global,
     desk: &mut D,
     interface: Interface,
@@ -137,56 +152,5 @@ fn run_on<E: Write, D: ContentsHandler>(
             tell(errors, listen_line(fault));
             FAILED
         }
-    }
-}
-
-/// Carries the order `run` out over the desk, or tells why there is none, and answers the exit status.
-pub fn carry_out<R: Read, W: Write, E: Write, S: Alter>(
-    alloc: Global,
-    setup: &Setup<'_>,
-    desk: &mut Result<Desk<S>, OpenFault>,
-    input: &mut Watched<R>,
-    output: &mut Watched<W>,
-    errors: &mut Watched<E>,
-) -> u8
-    ensures unopened { IfErr desk.old (λ fault. (result ≡ 1) × Consumes (R.remaining (inner_of input.old)) (R.remaining (inner_of input.new)) []
-        × Appends (W.contents (inner_of output.old)) (W.contents (inner_of output.new)) []
-        × Tells (E.contents (inner_of errors.old)) (E.contents (inner_of errors.new)) (has_failed errors.new) (open_line fault)) }
-    ensures carries_out { IfOk desk.old (λ before. IsOkAnd desk.new (λ after. CarriesOut S.Store setup.now before after
-        (R.remaining (inner_of input.old)) (R.remaining (inner_of input.new)) (W.contents (inner_of output.old)) (W.contents (inner_of output.new))
-        (E.contents (inner_of errors.old)) (E.contents (inner_of errors.new)) (has_failed errors.new)
-        (has_failed input.old) (has_failed input.new) (has_failed output.old) (has_failed output.new) result)) }
-{
-    match desk {
-        Err(fault) => {
-            tell(errors, open_line(*fault));
-            FAILED
-        }
-        Ok(desk) => run(alloc, desk, setup.interface, input, output, errors),
-    }
-}
-
-/// Carries the order `serve` out over the desk, or tells why there is none, and answers the exit status. `listener` is None where the port
-/// wasn't taken.
-pub fn carry_out_on<E: Write, S: Alter>(
-    alloc: Global,
-    setup: &Setup<'_>,
-    desk: &mut Result<Desk<S>, OpenFault>,
-    listener: Option<&TcpListener>,
-    connections: u32,
-    errors: &mut Watched<E>,
-) -> u8
-    ensures unopened { IfErr desk.old (λ fault. (result ≡ 1)
-        × Tells (E.contents (inner_of errors.old)) (E.contents (inner_of errors.new)) (has_failed errors.new) (open_line fault)) }
-    ensures carries_out { IfOk desk.old (λ before. IsOkAnd desk.new (λ after. CarriesOutOn setup.now.interface (is_some listener.entry) connections
-        (desk_state S.Store before) (desk_state S.Store after) (E.contents (inner_of errors.old)) (E.contents (inner_of errors.new))
-        (has_failed errors.new) result)) }
-{
-    match desk {
-        Err(fault) => {
-            tell(errors, open_line(*fault));
-            FAILED
-        }
-        Ok(desk) => run_on(alloc, desk, setup.interface, listener, connections, errors),
     }
 }

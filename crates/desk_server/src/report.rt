@@ -1,22 +1,15 @@
 //! The order `report`.
 
-ghost use Rattle.std.specs.Prelude.{◌≡◌, [], IfErr, IfOk, IsOkAnd, true};
-ghost use Rattle.std.specs.Io.KnownBytes.{Appends};
+ghost use Rattle.std.specs.Prelude.{◌≡◌, true};
 ghost use Rattle.rollout_machine.specs.Requests.{Asks, Ask, ShowReport};
 ghost use Rattle.rollout_machine.specs.Standing.{Applies, StaysStopped};
 ghost use Rattle.rollout_machine.specs.Views.{reply_of};
 ghost use Rattle.http_wire.specs.Watched.{inner_of, has_failed};
-ghost use Rattle.rollout_desk.specs.DeskStates.{desk_state};
-ghost use Rattle.desk_server.specs.Program.{Tells, open_line};
 ghost use Rattle.desk_server.specs.ReportOrders.{ReportsRollout};
 
-use crate::program::{FAILED, open_line, tell};
 use crate::telling::tell_reply;
-use desk_opening::OpenFault;
 use http_wire::Watched;
-use rollout_desk::Desk;
 use rollout_model::{Query, Reply, Request, RolloutNo};
-use sqlite::Alter;
 use std::alloc::Global;
 use std::io::Write;
 use stream_server::Handler;
@@ -31,7 +24,7 @@ fn ask<D: Handler>(desk: &mut D, number: RolloutNo) -> Reply
 }
 
 /// Asks the desk for a rollout's report, and tells what it answers.
-fn report<W: Write, E: Write, D: Handler>(
+pub(crate) fn report<W: Write, E: Write, D: Handler>(
     alloc: Global,
     desk: &mut D,
     number: RolloutNo,
@@ -43,27 +36,4 @@ fn report<W: Write, E: Write, D: Handler>(
 {
     let reply = ask(desk, number);
     tell_reply(alloc, &reply, output, errors)
-}
-
-/// Carries the order `report` out over the desk, or tells why there is none, and answers the exit status.
-pub fn carry_out_report<W: Write, E: Write, S: Alter>(
-    alloc: Global,
-    desk: &mut Result<Desk<S>, OpenFault>,
-    number: RolloutNo,
-    output: &mut Watched<W>,
-    errors: &mut Watched<E>,
-) -> u8
-    ensures unopened { IfErr desk.old (λ fault. (result ≡ 1) × Appends (W.contents (inner_of output.old)) (W.contents (inner_of output.new)) []
-        × Tells (E.contents (inner_of errors.old)) (E.contents (inner_of errors.new)) (has_failed errors.new) (open_line fault)) }
-    ensures carries_out { IfOk desk.old (λ before. IsOkAnd desk.new (λ after. ReportsRollout number
-        (desk_state S.Store before) (desk_state S.Store after) (W.contents (inner_of output.old)) (W.contents (inner_of output.new))
-        (E.contents (inner_of errors.old)) (E.contents (inner_of errors.new)) (has_failed errors.new) (has_failed output.old) (has_failed output.new) result)) }
-{
-    match desk {
-        Err(fault) => {
-            tell(errors, open_line(*fault));
-            FAILED
-        }
-        Ok(desk) => report(alloc, desk, number, output, errors),
-    }
 }

@@ -1,16 +1,13 @@
 //! The order `verify`.
 
-ghost use Rattle.std.specs.Prelude.{◌≡◌, [], IfErr, IfOk, IsOkAnd};
-ghost use Rattle.std.specs.Io.KnownBytes.{Appends};
+ghost use Rattle.std.specs.Prelude.{◌≡◌};
 ghost use Rattle.sqlite.specs.Held.{state};
 ghost use Rattle.http_wire.specs.Watched.{inner_of, has_failed};
 ghost use Rattle.rollout_desk.specs.DeskStates.{desk_state};
-ghost use Rattle.desk_server.specs.Program.{Tells, open_line};
 ghost use Rattle.desk_server.specs.Verifications.{TellsDamage, TellsFound, Verifies, damage_line};
 
-use crate::program::{FAILED, open_line, tell};
+use crate::program::FAILED;
 use crate::telling::{print_or_tell, refuse};
-use desk_opening::OpenFault;
 use http_wire::Watched;
 use rollout_desk::{CheckedTable, Damage, Desk};
 use sqlite::Alter;
@@ -65,7 +62,7 @@ fn tell_found<W: Write, E: Write>(
 }
 
 /// Looks whether the tables of the desk agree, and tells what was found.
-fn verify<W: Write, E: Write, S: Alter>(
+pub(crate) fn verify<W: Write, E: Write, S: Alter>(
     alloc: Global,
     desk: &mut Desk<S>,
     output: &mut Watched<W>,
@@ -77,27 +74,4 @@ fn verify<W: Write, E: Write, S: Alter>(
 {
     let found = desk.verify();
     tell_found(alloc, found, output, errors)
-}
-
-/// Carries the order `verify` out over the desk, or tells why there is none, and answers the exit status.
-pub fn carry_out_verify<W: Write, E: Write, S: Alter>(
-    alloc: Global,
-    desk: &mut Result<Desk<S>, OpenFault>,
-    output: &mut Watched<W>,
-    errors: &mut Watched<E>,
-) -> u8
-    ensures unopened { IfErr desk.old (λ fault. (result ≡ 1) × Appends (W.contents (inner_of output.old)) (W.contents (inner_of output.new)) []
-        × Tells (E.contents (inner_of errors.old)) (E.contents (inner_of errors.new)) (has_failed errors.new) (open_line fault)) }
-    ensures carries_out { IfOk desk.old (λ before. IsOkAnd desk.new (λ after. Verifies
-        (state S.Store before.store.calls.conn) (state S.Store after.store.calls.conn) (desk_state S.Store before) (desk_state S.Store after)
-        (W.contents (inner_of output.old)) (W.contents (inner_of output.new))
-        (E.contents (inner_of errors.old)) (E.contents (inner_of errors.new)) (has_failed errors.new) (has_failed output.old) (has_failed output.new) result)) }
-{
-    match desk {
-        Err(fault) => {
-            tell(errors, open_line(*fault));
-            FAILED
-        }
-        Ok(desk) => verify(alloc, desk, output, errors),
-    }
 }

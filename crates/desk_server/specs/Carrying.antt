@@ -1,0 +1,86 @@
+-- What an order comes to on a machine, from the opening of its desk to the exit status.
+use Rattle.std.specs.Prelude.{◌≡◌, ◌⊎◌, ℕ, Bool, List, [], ◌∷◌, Option, Result, IfOk, IfErr}
+use Rattle.sqlite.specs.Held.{state}
+use Rattle.sqlite.specs.Files.{over_files}
+use Rattle.sqlite.specs.Recovery.{Image}
+use Rattle.sqlite_disk.specs.declared.Disk as disk
+use Rattle.sqlite_store.specs.declared.store.FileStore.{FileStore}
+use Rattle.sqlite_trees.specs.declared.store.Store.{Ghosts}
+use Rattle.http_wire.specs.Watched.{inner_of, has_failed}
+use Rattle.http_wire.specs.declared.watched.Watched.{Watched}
+use Rattle.desk_opening.specs.Opening.{IsFailure}
+use Rattle.desk_opening.specs.declared.opening.OpenFault.{OpenFault}
+use Rattle.rollout_machine.specs.Standing.{DeskState}
+use Rattle.rollout_desk.specs.DeskStates.{desk_state}
+use Rattle.rollout_desk.specs.Openings.{ReopensDesk, LeftUnharmed}
+use Rattle.rollout_desk.specs.declared.desk.Desk.{Desk}
+use Rattle.stream_server.specs.declared.interface.Interface.{Interface}
+use Rattle.desk_server.specs.declared.order.Order.{Order}
+use Rattle.desk_server.specs.declared.order.Order.TheVariants.{Run, Serve, Import, Report, Verify}
+use Rattle.desk_server.specs.Orders.{asks_approval, database_of}
+use Rattle.desk_server.specs.Program.{CarriesOut, CarriesOutOn, Tells, open_line}
+use Rattle.desk_server.specs.Imports.{CarriesOutImport}
+use Rattle.desk_server.specs.ReportOrders.{ReportsRollout}
+use Rattle.desk_server.specs.Verifications.{Verifies}
+
+-- what a reader has left or a writer holds, and whether a call of it failed
+pub record Stream : Type 0 where
+  pub bytes : Option (List ℕ)
+  pub failed : Bool
+
+abbrev pub seen : {T : Type 0} → (T → Option (List ℕ)) → Watched T → Stream
+seen bytes_of it = record { bytes = bytes_of (inner_of it); failed = has_failed it }
+
+-- The order's desk couldn't be opened: nothing is read or written, and the fault is told.
+pub record LacksDesk (fault : OpenFault) (input input_new output output_new errors errors_new : Stream) (status : ℕ) : Type 0 where
+  pub status_is : status ≡ 1
+  pub unread : input_new ≡ input
+  pub unwritten : output_new ≡ output
+  pub tells : Tells errors.bytes errors_new.bytes errors_new.failed (open_line fault)
+
+-- a port of 127.0.0.1, which nobody reaches from another machine, was taken or not, and so many of its connections were served
+abbrev pub ServesPort : {File : Type 0} → (List ℕ → ℕ → Bool → Type 0) → ℕ → Interface → ℕ → DeskState File → DeskState File → Stream → Stream → ℕ
+    → Type 0
+ServesPort listens port interface connections old new errors errors_new status =
+    (bound : Bool) × listens (127 ∷ 0 ∷ 0 ∷ 1 ∷ []) port bound
+    × CarriesOutOn interface bound connections old new errors.bytes errors_new.bytes errors_new.failed status
+
+-- the file at this path was read or not, and its targets were put
+abbrev pub ImportsFile : {File : Type 0} → (List ℕ → Option (List ℕ) → Type 0) → List ℕ → DeskState File → DeskState File
+    → Stream → Stream → Stream → Stream → ℕ → Type 0
+ImportsFile reads path old new output output_new errors errors_new status =
+    (file : Option (List ℕ)) × reads path file
+    × CarriesOutImport file old new output.bytes output_new.bytes errors.bytes errors_new.bytes errors_new.failed output.failed output_new.failed status
+
+-- the order was carried out over an opened desk: what each kind of order comes to
+abbrev pub Does : {S : Type 0} → (g : Ghosts S) → (List ℕ → Option (List ℕ) → Type 0) → (List ℕ → ℕ → Bool → Type 0) → Order → Desk S → Desk S
+    → Stream → Stream → Stream → Stream → Stream → Stream → ℕ → Type 0
+Does g reads listens (Run setup) before after input input_new output output_new errors errors_new status =
+    CarriesOut g setup before after input.bytes input_new.bytes output.bytes output_new.bytes errors.bytes errors_new.bytes errors_new.failed
+    input.failed input_new.failed output.failed output_new.failed status
+Does g reads listens (Serve setup port connections) before after input input_new output output_new errors errors_new status =
+    (input_new ≡ input) × (output_new ≡ output)
+    × ServesPort listens port setup.interface connections (desk_state g before) (desk_state g after) errors errors_new status
+Does g reads listens (Import db file) before after input input_new output output_new errors errors_new status =
+    (input_new ≡ input)
+    × ImportsFile reads file.now (desk_state g before) (desk_state g after) output output_new errors errors_new status
+Does g reads listens (Report db rollout) before after input input_new output output_new errors errors_new status =
+    (input_new ≡ input)
+    × ReportsRollout rollout (desk_state g before) (desk_state g after) output.bytes output_new.bytes
+    errors.bytes errors_new.bytes errors_new.failed output.failed output_new.failed status
+Does g reads listens (Verify db) before after input input_new output output_new errors errors_new status =
+    (input_new ≡ input)
+    × Verifies (state g before.store.calls.conn) (state g after.store.calls.conn) (desk_state g before) (desk_state g after)
+    output.bytes output_new.bytes errors.bytes errors_new.bytes errors_new.failed output.failed output_new.failed status
+
+-- The desk at the order's path was opened, with the order's approval where it is new, and the order was carried out over it; or that is told.
+pub record CarriesOutOrder {D : Type 0} (g : disk.Ghosts D) (image : List ℕ → Image) (reads : List ℕ → Option (List ℕ) → Type 0)
+    (listens : List ℕ → ℕ → Bool → Type 0) (order : Order)
+    (input input_new output output_new errors errors_new : Stream) (status : ℕ) : Type 0 where
+  pub opening : Result (Desk (FileStore D g)) OpenFault
+  pub opened : IfOk opening (λ desk. ReopensDesk (image (database_of order)) (desk_state over_files desk) (asks_approval order))
+  pub refused : IfErr opening (λ fault. IsFailure fault
+      ⊎ LeftUnharmed g (λ left. left ≡ image (database_of order)) (image (database_of order)) (asks_approval order) fault)
+  pub unopened : IfErr opening (λ fault. LacksDesk fault input input_new output output_new errors errors_new status)
+  pub does : IfOk opening (λ before. (after : Desk (FileStore D g))
+      × Does over_files reads listens order before after input input_new output output_new errors errors_new status)

@@ -1,0 +1,126 @@
+//! Carrying an order out, from the opening of its desk to the exit status.
+
+ghost use Rattle.std.specs.Prelude.{IsOkAnd, IfErr, IfOk};
+ghost use Rattle.rollout_desk.specs.DeskStates.{desk_state};
+ghost use Rattle.desk_server.specs.Carrying.{CarriesOutOrder, Does, ImportsFile, LacksDesk, ServesPort, seen};
+
+use crate::host::Host;
+use crate::import::import_given;
+use crate::order::{Order, Setup};
+use crate::program::{FAILED, listen_address, open_line, run, serve_on_port, tell};
+use crate::report::report;
+use crate::verify::verify;
+use desk_opening::OpenFault;
+use http_wire::Watched;
+use rollout_desk::Desk;
+use sqlite::Alter;
+use std::alloc::Global;
+use std::io::{Read, Write};
+
+/// Takes the port and serves its connections.
+fn serve_port<H: Host, E: Write, S: Alter>(
+    alloc: Global,
+    host: &mut H,
+    setup: &Setup<'_>,
+    port: u16,
+    connections: u32,
+    desk: &mut Desk<S>,
+    errors: &mut Watched<E>,
+) -> u8
+    ensures { ServesPort H.listens port setup.now.interface connections (desk_state S.Store desk.old) (desk_state S.Store desk.new)
+        (seen E.contents errors.old) (seen E.contents errors.new) result }
+{
+    let (address, port) = listen_address(port);
+    let listener = host.listen(address, port);
+    serve_on_port(
+        alloc,
+        desk,
+        setup.interface,
+        listener.as_ref(),
+        connections,
+        errors,
+    )
+}
+
+/// Reads the file and puts its targets.
+fn import_file<H: Host, W: Write, E: Write, S: Alter>(
+    alloc: Global,
+    host: &mut H,
+    path: &str,
+    desk: &mut Desk<S>,
+    output: &mut Watched<W>,
+    errors: &mut Watched<E>,
+) -> u8
+    ensures { ImportsFile H.reads path.now (desk_state S.Store desk.old) (desk_state S.Store desk.new)
+        (seen W.contents output.old) (seen W.contents output.new) (seen E.contents errors.old) (seen E.contents errors.new) result }
+{
+    let file = host.read(alloc, path);
+    import_given(alloc, desk, file.as_deref(), output, errors)
+}
+
+/// Carries an order out over its desk.
+fn carry_out_over<H: Host, R: Read, W: Write, E: Write, S: Alter>(
+    alloc: Global,
+    order: &Order<'_>,
+    host: &mut H,
+    desk: &mut Desk<S>,
+    input: &mut Watched<R>,
+    output: &mut Watched<W>,
+    errors: &mut Watched<E>,
+) -> u8
+    ensures { Does S.Store H.reads H.listens order.now desk.old desk.new (seen R.remaining input.old) (seen R.remaining input.new)
+        (seen W.contents output.old) (seen W.contents output.new) (seen E.contents errors.old) (seen E.contents errors.new) result }
+{
+    match order {
+        Order::Run(setup) => run(alloc, setup, desk, input, output, errors),
+        Order::Serve {
+            setup,
+            port,
+            connections,
+        } => serve_port(alloc, host, setup, *port, *connections, desk, errors),
+        Order::Import { file, .. } => import_file(alloc, host, file, desk, output, errors),
+        Order::Report { rollout, .. } => report(alloc, desk, *rollout, output, errors),
+        Order::Verify { .. } => verify(alloc, desk, output, errors),
+    }
+}
+
+/// Carries an order out over what the opening of its desk came to.
+fn carry_out_opened<H: Host, R: Read, W: Write, E: Write, S: Alter>(
+    alloc: Global,
+    order: &Order<'_>,
+    host: &mut H,
+    desk: &mut Result<Desk<S>, OpenFault>,
+    input: &mut Watched<R>,
+    output: &mut Watched<W>,
+    errors: &mut Watched<E>,
+) -> u8
+    ensures unopened { IfErr desk.old (λ fault. LacksDesk fault (seen R.remaining input.old) (seen R.remaining input.new)
+        (seen W.contents output.old) (seen W.contents output.new) (seen E.contents errors.old) (seen E.contents errors.new) result) }
+    ensures does { IfOk desk.old (λ before. IsOkAnd desk.new (λ after. Does S.Store H.reads H.listens order.now before after
+        (seen R.remaining input.old) (seen R.remaining input.new) (seen W.contents output.old) (seen W.contents output.new)
+        (seen E.contents errors.old) (seen E.contents errors.new) result)) }
+{
+    match desk {
+        Err(fault) => {
+            tell(errors, open_line(*fault));
+            FAILED
+        }
+        Ok(desk) => carry_out_over(alloc, order, host, desk, input, output, errors),
+    }
+}
+
+/// Carries an order out on a machine, and answers the exit status: opens the order's desk, does what the order asks, and tells what failed.
+pub fn carry_out<H: Host, R: Read, W: Write, E: Write>(
+    alloc: Global,
+    order: &Order<'_>,
+    host: &mut H,
+    input: &mut Watched<R>,
+    output: &mut Watched<W>,
+    errors: &mut Watched<E>,
+) -> u8
+    ensures { CarriesOutOrder H.Disk.Disk H.image H.reads H.listens order.now (seen R.remaining input.old) (seen R.remaining input.new)
+        (seen W.contents output.old) (seen W.contents output.new) (seen E.contents errors.old) (seen E.contents errors.new) result }
+{
+    let mut desk = host.open(order.db(), order.approval());
+    carry_out_opened(alloc, order, host, &mut desk, input, output, errors)
+}

@@ -1,0 +1,49 @@
+//! The machine that an order is carried out on.
+
+ghost use Rattle.std.specs.Prelude.{◌≡◌, ◌⊎◌, ℕ, Bool, List, Option, IfOk, IfErr, is_some, option_map, vec_items};
+ghost use Rattle.std.specs.Net.Addr.{ipv4_octets};
+ghost use Rattle.sqlite.specs.Files.{over_files};
+ghost use Rattle.sqlite.specs.Recovery.{Image};
+ghost use Rattle.desk_opening.specs.Opening.{IsFailure};
+ghost use Rattle.rollout_desk.specs.DeskStates.{desk_state};
+ghost use Rattle.rollout_desk.specs.Openings.{ReopensDesk, LeftUnharmed};
+
+use desk_opening::OpenFault;
+use rollout_desk::Desk;
+use sqlite::FileStore;
+use sqlite_disk::Disk;
+use std::alloc::Global;
+use std::net::{Ipv4Addr, TcpListener};
+
+/// The files and the network of a machine, as the program sees them.
+pub trait Host {
+    /// A file that a database or its log is kept in.
+    type Disk: Disk + Drop;
+
+    /// What the database at a path and its log held as they were opened.
+    ghost image: { List ℕ → Image };
+
+    /// The file at a path has these first bytes, or it can't be read.
+    ghost reads: { List ℕ → Option (List ℕ) → Type 0 };
+
+    /// Whether a port of an address was taken.
+    ghost listens: { List ℕ → ℕ → Bool → Type 0 };
+
+    /// Opens the desk in the database at a path, with the log beside it. A desk that is made for it asks for approval where it is told so.
+    fn open(
+        &mut self,
+        path: &str,
+        approval_if_new: bool,
+    ) -> Result<Desk<FileStore<Self::Disk>>, OpenFault>
+        ensures opened { IfOk result (λ desk. ReopensDesk (image path.now) (desk_state over_files desk) approval_if_new) }
+        ensures refused { IfErr result (λ e. IsFailure e ⊎ LeftUnharmed Self.Disk.Disk (λ left. left ≡ image path.now) (image path.now)
+            approval_if_new e) };
+
+    /// The first bytes of the file at a path, by which one that is too large is known as such. None where it can't be read.
+    fn read(&mut self, alloc: Global, path: &str) -> Option<Vec<u8>>
+        ensures { reads path.now (option_map vec_items result) };
+
+    /// Takes a port of an address. None where that isn't possible.
+    fn listen(&mut self, address: Ipv4Addr, port: u16) -> Option<TcpListener>
+        ensures { listens (ipv4_octets address) port (is_some result) };
+}
