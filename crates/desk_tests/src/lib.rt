@@ -6,6 +6,10 @@ mod asked;
 #[cfg(test)]
 mod calls;
 #[cfg(test)]
+mod forty;
+#[cfg(test)]
+mod fused;
+#[cfg(test)]
 mod memory_of_downloads;
 #[cfg(test)]
 mod runs;

@@ -1,10 +1,10 @@
 //! A download of two pieces where a request for memory may be refused: `tools/each-allocation` refuses each in turn. A piece for
 //! which memory was wanting is the next one again.
 
-use super::asked::adds_module;
+use super::asked::{adds_artifact, adds_module};
 use super::told::{does, download, new_desk, next_piece, refusal_in};
 use rollout_desk::{Desk, Download};
-use rollout_model::{ArtifactNo, Command, Contents, Filename, ModuleNo, Query, Refusal, Upload};
+use rollout_model::{ArtifactNo, Command, ModuleNo, Query, Refusal};
 use sqlite::Alter;
 use std::alloc::Global;
 
@@ -21,17 +21,9 @@ fn two_pieces(alloc: Global) -> Option<Vec<u8>> {
     Some(bytes)
 }
 
-/// Adds an artifact of two pieces to module 1.
+/// Adds an artifact of two pieces.
 fn uploads(alloc: Global) -> Option<Command> {
-    let module_number = ModuleNo::new(1)?;
-    let filename = Filename::read("abc.bin")?;
-    let contents = Contents::from_bytes(two_pieces(alloc)?)?;
-    Some(Command::AddArtifact(Upload {
-        module_number,
-        filename,
-        expected: None,
-        contents,
-    }))
+    adds_artifact("abc.bin", two_pieces(alloc)?)
 }
 
 fn asks_contents() -> Option<Query> {

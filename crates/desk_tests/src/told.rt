@@ -20,6 +20,10 @@ pub(super) fn run<S: Alter>(
     desk.run(requests)
 }
 
+pub(super) fn verifies<S: Alter>(desk: &mut Desk<S>) -> bool {
+    desk.verify().is_ok()
+}
+
 pub(super) fn download<S: Alter>(desk: &mut Desk<S>, query: &Query) -> Result<Download, Reply> {
     desk.download(query)
 }

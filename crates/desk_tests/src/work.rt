@@ -1,13 +1,9 @@
 //! What reports make the store do: those of a rollout of ten thousand members, up to the one that starts its second group.
 
-use super::asked::{adds_module, puts, row_of, text, token};
+use super::asked::{adds_module, adds_set, creates, credential_of, feedback, puts, row_of, starts};
 use super::told::{answer, does, new_desk};
 use rollout_desk::Desk;
-use rollout_model::{
-    ActionNo, Command, ControllerId, Credential, DeploymentWord, Details, DeviceFeedback,
-    FilterText, GroupCount, ModuleList, ModuleNo, Percentage, Query, Reply, Request, RolloutNo,
-    RolloutPlan, SetLabel, SetNo,
-};
+use rollout_model::{Command, ControllerId, DeploymentWord, Query, Reply, Request};
 use sqlite::Alter;
 use std::alloc::Global;
 
@@ -33,75 +29,25 @@ fn puts_members(alloc: Global) -> Option<Command> {
     Some(puts(rows))
 }
 
-/// A set of module 1.
-fn adds_set(alloc: Global) -> Option<Command> {
-    let mut numbers = Vec::new(alloc);
-    numbers.push(ModuleNo::new(1)?).ok()?;
-    let modules = ModuleList::from_numbers(numbers)?;
-    let name = text(alloc, "spring")?;
-    let version = text(alloc, "1")?;
-    Some(Command::AddSet(SetLabel {
-        name,
-        version,
-        modules,
-    }))
-}
-
-/// A rollout of all targets in two groups, of which the second starts at a success of one in a hundred of the first.
-fn creates(alloc: Global) -> Option<Command> {
-    let set_number = SetNo::new(1)?;
-    let groups = GroupCount::new(2)?;
-    let success = Percentage::new(1)?;
-    let error = Percentage::new(100)?;
-    let name = text(alloc, "spring")?;
-    let filter_text = FilterText::from_text(alloc, "name==*").ok()?;
-    Some(Command::CreateRollout(RolloutPlan {
-        name,
-        set_number,
-        filter_text,
-        groups,
-        success,
-        error,
-    }))
-}
-
-fn starts() -> Option<Command> {
-    Some(Command::Start(RolloutNo::new(1)?))
-}
-
-/// Whether a rollout of all members is started.
+/// Whether a rollout of all members is started, whose second group starts at a success of one in a hundred of the first.
 fn begins<S: Alter>(alloc: Global, desk: &mut Desk<S>) -> bool {
     does(desk, adds_module(alloc))
         && does(desk, adds_set(alloc))
         && does(desk, puts_members(alloc))
-        && does(desk, creates(alloc))
-        && does(desk, starts())
-}
-
-fn credential_at(alloc: Global, place: u32) -> Option<Credential> {
-    let id = id_at(alloc, place)?;
-    Some(Credential {
-        id,
-        digest: token(),
-    })
+        && does(desk, creates(alloc, "spring", "name==*", 1))
+        && does(desk, starts(1))
 }
 
 /// The device at a place reports a success.
 fn succeeds(alloc: Global, place: u32) -> Option<Command> {
-    let credential = credential_at(alloc, place)?;
-    let action = ActionNo::new(place)?;
-    let details = Details::from_lines(Vec::new(alloc))?;
-    Some(Command::Feedback(DeviceFeedback {
-        credential,
-        action,
-        word: DeploymentWord::Succeeded,
-        details,
-    }))
+    let id = id_at(alloc, place)?;
+    let succeeded = feedback(alloc, id, place, DeploymentWord::Succeeded)?;
+    Some(Command::Feedback(succeeded))
 }
 
 /// The last member asks what it is offered.
 fn polls(alloc: Global) -> Option<Request> {
-    Some(Request::Ask(Query::Poll(credential_at(alloc, MEMBERS)?)))
+    Some(Request::Ask(Query::Poll(credential_of(id_at(alloc, MEMBERS)?))))
 }
 
 /// Whether a poll is answered by an offer, or by none.
