@@ -8,4 +8,4 @@ pub mod LookLemmas
 pub mod PieceLemmas
 pub mod PromiseLemmas
 pub mod DownloadLemmas
-pub mod VerifyLemmas
+mod VerifyLemmas
