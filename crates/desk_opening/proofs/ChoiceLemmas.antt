@@ -11,20 +11,21 @@ use Rattle.sql_calls.specs.Standing.{Rests}
 use Rattle.sql_calls.proofs.FrameEnds.{still_holds}
 use Rattle.rollout_machine.specs.Records.{Records}
 use Rattle.desk_records.specs.Schema.{Desk, desk_names}
-use Rattle.desk_records.specs.Holds.{HoldsRecords}
+use Rattle.desk_records.specs.Readable.{HoldsPlace, HoldsReadable}
+use Rattle.desk_records.proofs.Readable.{has_desk}
 use Rattle.desk_opening.specs.Making.{HoldsStage, Free, Makes, told}
 use Rattle.desk_opening.specs.declared.opening.OpenFault.{OpenFault}
 use Rattle.desk_opening.specs.declared.opening.OpenFault.TheVariants.{NotDesk, NewerVersion, Memory, Store}
-use Rattle.desk_opening.specs.Opening.{Adopts, HasDeskTables, HasRow, LacksDesk, IsFailure, Tells, FindsTo, OpensDesk, OpensTo, IsKnownOpen}
+use Rattle.desk_opening.specs.Opening.{Adopts, HasDesk, HasRow, LacksDesk, IsFailure, Tells, FindsTo, OpensDesk, OpensTo, IsKnownOpen}
 
 pub used_at : (s : Schema) (at : ℕ) → table_named s (codes "desk") ≡ Some at → is_used s (codes "desk") ≡ true
 used_at s at h = rw h
 
 -- a database that holds records uses the name `desk`
-held_is_used : (old : State) (r : Records) → IsKnownOpen old → Rests HoldsRecords old r → HasCleanDisk old → ¬ LeavesFree old.now.schema desk_names
+held_is_used : (old : State) (r : Records) → IsKnownOpen old → Rests HoldsReadable old r → HasCleanDisk old → ¬ LeavesFree old.now.schema desk_names
 held_is_used old r is_open was clean free =
-    let holds = still_holds HoldsRecords old r (was clean) (is_open clean) in
-    both_ways (is_used old.now.schema (codes "desk")) free.0 (used_at old.now.schema (holds.spot Desk).at (holds.stands Desk).named)
+    let (v, holds) = still_holds HoldsReadable old r (was clean) (is_open clean) in
+    both_ways (is_used old.now.schema (codes "desk")) free.0 (used_at old.now.schema (holds.spot Desk).at (has_desk v (λ t. HoldsPlace v old.now r (holds.spot t) t) holds.tables).0.named)
 
 -- a database that leaves the names free uses none
 free_is_unused : (old : State) → IsKnownOpen old → Rests HoldsStage old Free → HasCleanDisk old → ¬ ¬ LeavesFree old.now.schema desk_names
@@ -37,23 +38,23 @@ finds_failure A db Memory fails = tt
 finds_failure A db Store fails = tt
 
 module _ {A : Type 0} (old new : State) (approval : Bool) where
-  pub adopts : (out : Result A OpenFault) → Adopts old new out → IfOk out (λ _. HasDeskTables old.now.schema) → (¬ LeavesFree old.now.schema desk_names) → OpensDesk old new approval out
-  adopts out h tables used = record { wears = h.keeps.wears; finds = λ clean. finds out tables (h.tells clean); keeps = λ is_open. h.keeps.keeps; makes = λ is_open. go out is_open }
+  pub adopts : (out : Result A OpenFault) → Adopts old new out → (¬ LeavesFree old.now.schema desk_names) → OpensDesk old new approval out
+  adopts out h used = record { wears = h.wears; finds = λ clean. finds out (h.tells clean); takes = λ is_open. h.takes; makes = λ is_open. go out is_open }
     where
-      finds : (result : Result A OpenFault) → IfOk result (λ _. HasDeskTables old.now.schema) → Tells (HasRow old.now) (LacksDesk old.now) result → FindsTo old.now result
-      finds (Ok x) there told = inl (record { tables = there; row = told })
-      finds (Err NotDesk) there told = record { used = used; other = told }
-      finds (Err NewerVersion) there told = told
-      finds (Err Memory) there told = tt
-      finds (Err Store) there told = tt
+      finds : (result : Result A OpenFault) → Tells (λ _. HasDesk old.now) (HasRow old.now) (LacksDesk old.now) result → FindsTo old.now result
+      finds (Ok x) told = inl told
+      finds (Err NotDesk) told = record { used = used; other = told }
+      finds (Err NewerVersion) told = told
+      finds (Err Memory) told = tt
+      finds (Err Store) told = tt
 
       go : (result : Result A OpenFault) → IsKnownOpen old → OpensTo old new approval result
-      go (Ok x) is_open = λ was clean. absurd (free_is_unused old is_open was (omega (arith, h.keeps.wears)) used)
-      go (Err e) is_open = λ was clean db left. absurd (free_is_unused old is_open was (omega (arith, h.keeps.wears)) used)
+      go (Ok x) is_open = λ was clean. absurd (free_is_unused old is_open was (omega (arith, h.wears)) used)
+      go (Err e) is_open = λ was clean db left. absurd (free_is_unused old is_open was (omega (arith, h.wears)) used)
 
   pub makes_new : (out : Result A OpenFault) → IfErr out IsFailure → Makes old new approval out → LeavesFree old.now.schema desk_names → OpensDesk old new approval out
-  makes_new (Ok x) fails h free = record { wears = h.wears; finds = λ _. inr free; keeps = λ is_open r was clean. absurd (held_is_used old r is_open was (omega (arith, h.wears)) free); makes = λ is_open. h.makes }
-  makes_new (Err e) fails h free = record { wears = h.wears; finds = λ _. finds_failure A old.now e fails; keeps = λ is_open r was clean db left. absurd (held_is_used old r is_open was (omega (arith, h.wears)) free); makes = λ is_open. h.makes }
+  makes_new (Ok x) fails h free = record { wears = h.wears; finds = λ _. inr free; takes = λ is_open r was clean. absurd (held_is_used old r is_open was (omega (arith, h.wears)) free); makes = λ is_open. h.makes }
+  makes_new (Err e) fails h free = record { wears = h.wears; finds = λ _. finds_failure A old.now e fails; takes = λ is_open r was clean db left. absurd (held_is_used old r is_open was (omega (arith, h.wears)) free); makes = λ is_open. h.makes }
 
 -- the result is told as another
 pub makes_ok : {A B E F : Type 0} (old new : State) (approval : Bool) (a : A) (b : B) → Makes {E = E} old new approval (Ok a) → Makes {E = F} old new approval (Ok b)
@@ -63,11 +64,10 @@ pub makes_err : {A B E F : Type 0} (old new : State) (approval : Bool) (e : E) (
 makes_err old new approval e f h = record { wears = h.wears; makes = h.makes }
 
 module _ {X : Type 0} (view : X → State) (old : State) (approval : Bool) where
-  pub adopts_ok : (out : Result X (OpenFault × X)) → IfOk out (λ x. Adopts old (view x) (told out)) → IfOk out (λ _. HasDeskTables old.now.schema) → ¬ LeavesFree old.now.schema desk_names
-      → IfOk out (λ x. OpensDesk old (view x) approval (told out))
-  adopts_ok (Ok x) h tables used = adopts old (view x) approval (Ok x) h tables used
-  adopts_ok (Err e) h tables used = tt
+  pub adopts_ok : (out : Result X (OpenFault × X)) → IfOk out (λ x. Adopts old (view x) (told out)) → (¬ LeavesFree old.now.schema desk_names) → IfOk out (λ x. OpensDesk old (view x) approval (told out))
+  adopts_ok (Ok x) h used = adopts old (view x) approval (Ok x) h used
+  adopts_ok (Err e) h used = tt
 
   pub adopts_err : (out : Result X (OpenFault × X)) → IfErr out (λ e. Adopts old (view e.1) (told out)) → (¬ LeavesFree old.now.schema desk_names) → IfErr out (λ e. OpensDesk old (view e.1) approval (told out))
   adopts_err (Ok x) h used = tt
-  adopts_err (Err e) h used = adopts old (view e.1) approval (Err e.0) h tt used
+  adopts_err (Err e) h used = adopts old (view e.1) approval (Err e.0) h used

@@ -13,60 +13,79 @@ use Rattle.sqlite_catalog.specs.Change.{is_used}
 use Rattle.sql_front.specs.Free.{LeavesFree}
 use Rattle.sql_front.specs.Found.{StandsSomewhere}
 use Rattle.rollout_machine.specs.Records.{Records}
-use Rattle.desk_records.specs.Schema.{Place, Desk, table_at, desk_table, desk_names}
-use Rattle.desk_records.specs.Holds.{HoldsRecords, desk_row}
+use Rattle.desk_records.specs.Schema.{Desk, table_at, desk_table, desk_names}
+use Rattle.desk_records.specs.Holds.{desk_row}
+use Rattle.desk_records.specs.Readable.{HoldsAt, HoldsPlace}
+use Rattle.desk_records.specs.Versions.{newest, number_of, places_at}
+use Rattle.desk_records.specs.declared.version.Version.{Version}
+use Rattle.desk_records.proofs.Readable.{has_desk, is_known, one_numbered}
 use Rattle.desk_records.specs.Rollouts.{flag}
 use Rattle.desk_opening.specs.declared.opening.OpenFault.{OpenFault}
 use Rattle.desk_opening.specs.declared.opening.OpenFault.TheVariants.{NotDesk, NewerVersion, Memory, Store}
-use Rattle.desk_opening.specs.Opening.{FindsTo, HasNoRow, HasRow, IsFailure, IsNewerRow, IsOtherRow, LacksDesk}
+use Rattle.desk_opening.specs.Opening.{FindsTo, HasDeskTables, HasNoRow, HasRow, IsDeskRow, IsFailure, IsNewerRow, IsOtherRow, LacksDesk}
 use Rattle.desk_opening.proofs.ChoiceLemmas.{used_at}
+use Rattle.desk_opening.proofs.Tables.{all_kept}
 
 same_some : {X : Type 0} (x y : X) → Some x ≡ Some y → x ≡ y
 same_some x y h = cc
 
-module _ (db : Database) (r : Records) (holds : HoldsRecords db r) where
+module _ (db : Database) (r : Records) (v : Version) (holds : HoldsAt v db r) where
+  desk_held : HoldsPlace v db r (holds.spot Desk) Desk
+  desk_held = has_desk v (λ t. HoldsPlace v db r (holds.spot t) t) holds.tables
+
   desk_tree : (table : StandsSomewhere db.schema (desk_table 0)) → table.tree ≡ (holds.spot Desk).tree
   desk_tree table =
       let spot = holds.spot Desk in
-      let at : table.at ≡ spot.at = same_some table.at spot.at (sym table.stands.named ∙ (holds.stands Desk).named) in
-      let got : Some (desk_table table.tree) ≡ Some (desk_table spot.tree) = sym table.stands.got ∙ ap (slice_get db.schema.tables) at ∙ (holds.stands Desk).got in
+      let stands = desk_held.0 in
+      let at : table.at ≡ spot.at = same_some table.at spot.at (sym table.stands.named ∙ stands.named) in
+      let got : Some (desk_table table.tree) ≡ Some (desk_table spot.tree) = sym table.stands.got ∙ ap (slice_get db.schema.tables) at ∙ stands.got in
       ap (λ (t : Table). t.tree) (same_some (desk_table table.tree) (desk_table spot.tree) got)
 
-  desk_rows : (table : StandsSomewhere db.schema (desk_table 0)) → db.trees table.tree ≡ desk_row r.approval ∷ []
-  desk_rows table = ap db.trees (desk_tree table) ∙ holds.rows Desk
+  desk_rows : (table : StandsSomewhere db.schema (desk_table 0)) → db.trees table.tree ≡ desk_row v r.approval ∷ []
+  desk_rows table = ap db.trees (desk_tree table) ∙ desk_held.1
 
-  only_row : (row : Row) → Has (desk_row r.approval ∷ []) row → row ≡ desk_row r.approval
+  only_row : (row : Row) → Has (desk_row v r.approval ∷ []) row → row ≡ desk_row v r.approval
   only_row row (inl is) = is
   only_row row (inr never) = absurd never
 
   -- the row of number 1 is a desk's
-  row_says : (Says : Row → Type 0) → HasRow db Says → Says (Text (codes "fwdesk") ∷ Int (pos 1) ∷ Int (pos (flag r.approval)) ∷ [])
+  row_says : (Says : Row → Type 0) → HasRow db Says → Says (Text (codes "fwdesk") ∷ Int (pos (number_of v)) ∷ Int (pos (flag r.approval)) ∷ [])
   row_says Says h =
-      let is : h.row ≡ desk_row r.approval = only_row h.row (subst (λ rows. Has rows h.row) (desk_rows h.table) h.among) in
+      let is : h.row ≡ desk_row v r.approval = only_row h.row (subst (λ rows. Has rows h.row) (desk_rows h.table) h.among) in
       subst (λ (row : Row). Says (column row 2 ∷ column row 3 ∷ column row 4 ∷ [])) is h.says
 
   is_no_other : ¬ HasRow db IsOtherRow
-  is_no_other h = (row_says IsOtherRow h).0 (record { format = refl; version = refl })
+  is_no_other h = (row_says IsOtherRow h).0 (v, record { format = refl; version = refl })
 
   is_no_newer : ¬ HasRow db IsNewerRow
   is_no_newer h =
       let it = row_says IsNewerRow h in
-      let version : Int (pos 1) ≡ Int it.number = it.version in
-      let same : pos 1 ≡ it.number = cc in
-      let later : pos 1 <ℤ pos 1 = subst (λ (n : ℤ). pos 1 <ℤ n) (sym same) it.later in
-      absurd (omega (arith, ints, later))
+      let version : Int (pos (number_of v)) ≡ Int it.number = it.version in
+      let same : pos (number_of v) ≡ it.number = cc in
+      let later : pos (number_of newest) <ℤ pos (number_of v) = subst (λ (n : ℤ). pos (number_of newest) <ℤ n) (sym same) it.later in
+      absurd (omega (arith, ints, later, is_known v))
 
   has_row : ¬ HasNoRow db
   unfolding value_cmp lib.Ieee.is_nan lib.Ieee.lt
   has_row h = true≢false (subst (AllByRecursion (λ row. has_rowid (pos 1) row ≡ false)) (desk_rows h.table) h.none).0
 
-  stands_at : (t : Place) → StandsSomewhere db.schema (table_at t 0)
-  stands_at t = let spot = holds.spot t in record { at = spot.at; tree = spot.tree; stands = holds.stands t }
+  table_stands : StandsSomewhere db.schema (desk_table 0)
+  table_stands = let spot = holds.spot Desk in record { at = spot.at; tree = spot.tree; stands = desk_held.0 }
+
+  has_tables : HasDeskTables v db.schema
+  has_tables = record { stands = all_kept _ (λ t. StandsSomewhere db.schema (table_at t 0)) (λ t held. let spot = holds.spot t in record { at = spot.at; tree = spot.tree; stands = held.0 }) (places_at v) holds.tables; free = holds.free }
+
+  -- the row names the version that it is held in
+  same_version : (w : Version) → HasRow db (IsDeskRow w) → w ≡ v
+  same_version w h =
+      let it : Int (pos (number_of v)) ≡ Int (pos (number_of w)) = (row_says (IsDeskRow w) h).version in
+      let numbers : number_of w ≡ number_of v = cc in
+      one_numbered w v numbers
 
   lacks_none : ¬ LacksDesk db
-  lacks_none (inl none) = none (stands_at Desk)
+  lacks_none (inl none) = none table_stands
   lacks_none (inr (inl none)) = has_row none
-  lacks_none (inr (inr tables)) = tables.lacks (record { stands = stands_at })
+  lacks_none (inr (inr tables)) = tables.lacks (subst (λ w. HasDeskTables w db.schema) (sym (same_version tables.version tables.row)) has_tables)
 
   pub held_fails : (A : Type 0) (e : OpenFault) → FindsTo {A = A} db (Err e) → IsFailure e
   held_fails A NotDesk h = elim h.other [ inl other ↦ is_no_other other | inr lacks ↦ lacks_none lacks ]

@@ -1,5 +1,5 @@
 -- What the text of a table has to be.
-use Rattle.std.proofs.Common.{◌≡◌, refl, ℕ, ◌+◌, false, Option, List, [], ◌++◌, codes, Ok, Err, Result}
+use Rattle.std.proofs.Common.{◌≡◌, refl, ℕ, false, Option, List, [], ◌++◌, codes, Ok, Err, Result}
 use Rattle.sqlite_value.specs.declared.keys.Order.{Order}
 use Rattle.sqlite.specs.State.{text_of}
 use Rattle.sqlite_schema.specs.Names.{same_name}

@@ -5,6 +5,7 @@ pub mod Places
 pub mod Tables
 pub mod MakeLemmas
 pub mod RowLemmas
+pub mod VersionLemmas
 pub mod OpeningLemmas
 pub mod ChoiceLemmas
 pub mod HeldLemmas

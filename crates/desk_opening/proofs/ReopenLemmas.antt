@@ -1,5 +1,5 @@
 -- From files that were opened to what the connection stands for.
-use Rattle.std.proofs.Common.{◌≡◌, ◌⊎◌, inl, inr, ℕ, Bool, false, List, Ok, Err, Result, IfOk, IfErr, sym, subst, arith}
+use Rattle.std.proofs.Common.{◌≡◌, ◌⊎◌, inl, inr, ℕ, ◌+◌, Bool, cond, false, Some, ap, List, [], ◌∷◌, map, ◌∙◌, refl, Ok, Err, Result, IfOk, IfErr, sym, subst, arith}
 use Rattle.std.proofs.Math.Logic.{∥∥₁_elim}
 use Rattle.std.proofs.Math.Bool.{Bool-set}
 use mathlib.Core.HLevel.{Π_prop}
@@ -18,7 +18,12 @@ use Rattle.sqlite_store.specs.declared.store.FileStore.{FileStore}
 use Rattle.sqlite_store.specs.FileStore as store
 use Rattle.sqlite_trees.proofs.Doubt.{no_doubt}
 use Rattle.sqlite.specs.State.{State, HasCleanDisk, Opens, IsLive}
-use Rattle.sqlite_catalog.specs.Listing.{IsSound}
+use Rattle.std.specs.List.{AllZip, position_from}
+use Rattle.sqlite_value.specs.Order.{Row}
+use Rattle.sqlite_value.specs.declared.value.Value.TheVariants.{Text}
+use Rattle.sqlite_catalog.specs.Listing.{IsSound, IsViewRow}
+use Rattle.sqlite_schema.specs.Names.{same_name}
+use Rattle.sqlite_schema.specs.declared.schema.View.{View}
 use Rattle.sqlite_catalog.specs.Change.{is_used}
 use Rattle.sql_front.specs.Stands.{Stands}
 use Rattle.sqlite_rules.specs.Lists.{Has}
@@ -28,12 +33,15 @@ use Rattle.sql_calls.proofs.Schemas.{same_indexes, same_tables}
 use Rattle.sql_front.specs.Free.{LeavesFree}
 use Rattle.rollout_machine.specs.Records.{Records}
 use Rattle.desk_records.specs.Schema.{desk_names}
-use Rattle.desk_records.specs.Holds.{HoldsRecords}
+use Rattle.desk_records.specs.Readable.{HoldsPlace, HoldsReadable}
+use Rattle.desk_records.specs.Schema.{name_of}
+use Rattle.desk_records.specs.Versions.{later_than, places_at}
 use Rattle.desk_opening.specs.Making.{HoldsStage, Free, told}
 use Rattle.desk_opening.specs.declared.opening.OpenFault.{OpenFault}
 use Rattle.desk_opening.specs.Opening.{OpensDesk, HasDesk, HasNoDesk, HasRow, IsFailure, IsNewerRow, FindsTo, IsSettled}
 use Rattle.desk_opening.specs.Reopening.{Reopens, Refuses, RefusesStore, LeavesUnharmed, IsLeftOf, BeginsPlain, HoldsDesk, HoldsNone, HoldsNoDesk, HasNewer, IsOpenable, UsesNoName}
 use Rattle.desk_opening.proofs.BlankLemmas.{nothing_is_unused}
+use Rattle.desk_opening.proofs.Tables.{all_kept}
 use Rattle.desk_opening.proofs.HeldLemmas.{held_fails, free_fails}
 
 -- ---- whichever schema an open finds
@@ -41,31 +49,54 @@ use Rattle.desk_opening.proofs.HeldLemmas.{held_fails, free_fails}
 stands_over : (s z : Schema) (name : List ℕ) (at : ℕ) (table : Table) → z.tables ≡ s.tables → Stands s name at table → Stands z name at table
 stands_over s z name at table same stands = record { named = rw same stands.named; got = rw same stands.got; found = rw same stands.found; keyless = rw same stands.keyless; stored = stands.stored }
 
+-- views are known by their names, which stand in the rows
+same_views : (name : List ℕ) (k : ℕ) (rows : List Row) (xs ys : List View) → AllZip IsViewRow rows xs → AllZip IsViewRow rows ys → position_from (λ (x : View). same_name x.name name) k xs ≡ position_from (λ (y : View). same_name y.name name) k ys
+same_views name k [] [] [] h g = refl
+same_views name k [] [] (y ∷ ys) h g = absurd g
+same_views name k [] (x ∷ xs) ys h g = absurd h
+same_views name k (row ∷ rows) [] ys h g = absurd h
+same_views name k (row ∷ rows) (x ∷ xs) [] h g = absurd g
+same_views name k (row ∷ rows) (x ∷ xs) (y ∷ ys) h g =
+    let texts : Text x.name ≡ Text y.name = sym h.0.described.name_is ∙ g.0.described.name_is in
+    let names : x.name ≡ y.name = cc in
+    ap (λ n. cond (same_name n name) (Some k) (position_from (λ (v : View). same_name v.name name) (k + 1) xs)) names ∙ ap (cond (same_name y.name name) (Some k)) (same_views name (k + 1) rows xs ys h.1 g.1)
+
+used_over : (s z : Schema) (trees : Trees) → IsSound s trees → IsSound z trees → (name : List ℕ) → is_used z name ≡ is_used s name
+used_over s z trees was sound name =
+    let views = same_views name 0 _ z.views s.views sound.lists.listed.views was.lists.listed.views in
+    rw (same_tables z s trees sound was, same_indexes z s trees sound was, views) refl
+
+free_over : (s z : Schema) (trees : Trees) → IsSound s trees → IsSound z trees → (names : List (List ℕ)) → LeavesFree s names → LeavesFree z names
+free_over s z trees was sound [] free = tt
+free_over s z trees was sound (name ∷ names) free = (used_over s z trees was sound name ∙ free.0, free_over s z trees was sound names free.1)
+
 -- it finds the records
-holds_over : (z : Schema) (trees : Trees) (r : Records) → IsSound z trees → HoldIn HoldsRecords trees r → HoldsRecords (record { schema = z; trees = trees }) r
-holds_over z trees r sound held =
-    let h = held.1 in
-    let same = same_tables z held.0 trees sound h.sound in
-    record {
-      sound = sound;
-      spot = h.spot;
-      stands = λ t. stands_over held.0 z _ _ _ same (h.stands t);
-      rows = h.rows;
-      sorted = h.sorted;
-      keyed = λ index there. h.keyed index (subst (λ indexes. Has indexes index) (same_indexes z held.0 trees sound h.sound) there);
-    }
+holds_over : (z : Schema) (trees : Trees) (r : Records) → IsSound z trees → HoldIn HoldsReadable trees r → HoldsReadable (record { schema = z; trees = trees }) r
+holds_over z trees r sound (s, (v, h)) =
+    let same = same_tables z s trees sound h.sound in (
+      v,
+      record {
+        sound = sound;
+        spot = h.spot;
+        tables = all_kept _ (λ t. HoldsPlace v (record { schema = z; trees = trees }) r (h.spot t) t) (λ t held. (stands_over s z _ _ _ same held.0, held.1)) (places_at v) h.tables;
+        free = free_over s z trees h.sound sound (map name_of (later_than v)) h.free;
+        tellable = h.tellable;
+        sorted = h.sorted;
+        keyed = λ index there. h.keyed index (subst (λ indexes. Has indexes index) (same_indexes z s trees sound h.sound) there);
+      },
+    )
 
 -- ---- a connection that was just opened
 
-at_rest : (s : State) (r : Records) → IsSettled s → Opens s → IsLive s → HoldIn HoldsRecords s.committed.trees r → IsAtRest HoldsRecords s r
+at_rest : (s : State) (r : Records) → IsSettled s → Opens s → IsLive s → HoldIn HoldsReadable s.committed.trees r → IsAtRest HoldsReadable s r
 at_rest s r settled opens live held =
-    let kept : HoldsRecords s.committed r = holds_over s.committed.schema s.committed.trees r (live opens.is_open).1 held in
+    let kept : HoldsReadable s.committed r = holds_over s.committed.schema s.committed.trees r (live opens.is_open).1 held in
     record {
       mode = opens.autocommit;
       held = record {
         ended = λ _ _. opens.clean;
         kept_holds = λ _. kept;
-        crash = λ db left. subst (λ t. HoldIn HoldsRecords t r) (sym (settled db opens.is_open left)) held;
+        crash = λ db left. subst (λ t. HoldIn HoldsReadable t r) (sym (settled db opens.is_open left)) held;
       };
     }
 
@@ -88,8 +119,8 @@ none_is_prop : (db : Trees) → IsProp (UsesNoName db)
 none_is_prop db = Π_prop λ (s : Schema). Π_prop λ (sound : IsSound s db). AllByRecursion-prop (λ name. is_used s name ≡ false) (λ name. Bool-set (is_used s name) false) desk_names
 
 module _ (image : Image) (found : Trees) (holds : (db : Trees) → HoldsDatabase image db → found ≡ db) where
-  pub found_records : (r : Records) → HoldsDesk HoldsDatabase image r → HoldIn HoldsRecords found r
-  found_records r has = subst (λ t. HoldIn HoldsRecords t r) (sym (∥∥₁_elim has.1 (Trees-set found has.0) (holds has.0))) has.2
+  pub found_records : (r : Records) → HoldsDesk HoldsDatabase image r → HoldIn HoldsReadable found r
+  found_records r has = subst (λ t. HoldIn HoldsReadable t r) (sym (∥∥₁_elim has.1 (Trees-set found has.0) (holds has.0))) has.2
 
   pub found_none : (IsNothing image → UsesNoName found) → HoldsNone HoldsDatabase image → UsesNoName found
   found_none nothing (inl empty) = nothing empty
@@ -97,7 +128,7 @@ module _ (image : Image) (found : Trees) (holds : (db : Trees) → HoldsDatabase
 
 module _ (image : Image) (old : State) (opened : HasCleanDisk old → Opens old × IsLive old) (holds : HasCleanDisk old → (db : Trees) → HoldsDatabase image db → old.committed.trees ≡ db)
     (reads : HasCleanDisk old → AreFoundIn image old.committed.trees) (settled : IsSettled old) where
-  rests : (r : Records) → HoldsDesk HoldsDatabase image r → Rests HoldsRecords old r
+  rests : (r : Records) → HoldsDesk HoldsDatabase image r → Rests HoldsReadable old r
   rests r has clean = let it = opened clean in at_rest old r settled it.0 it.1 (found_records image old.committed.trees (holds clean) r has)
 
   rests_free : HoldsNone HoldsDatabase image → Rests HoldsStage old Free
@@ -115,7 +146,7 @@ module _ (image : Image) (old : State) (opened : HasCleanDisk old → Opens old 
   none clean lacks = let it = opened clean in (old.committed.trees, reads clean, (old.committed.schema, (it.1 it.0.is_open).1, subst (λ d. HasNoDesk d) it.0.clean lacks))
 
   only_fails : (A : Type 0) (e : OpenFault) → HasCleanDisk old → FindsTo {A = A} old.now (Err e) → ((r : Records) × HoldsDesk HoldsDatabase image r) ⊎ HoldsNone HoldsDatabase image → IsFailure e
-  only_fails A e clean finds (inl has) = held_fails old.now has.0 (still_holds HoldsRecords old has.0 (rests has.0 has.1 clean) (opened clean).0.is_open) A e finds
+  only_fails A e clean finds (inl has) = let (v, holds) = still_holds HoldsReadable old has.0 (rests has.0 has.1 clean) (opened clean).0.is_open in held_fails old.now has.0 v holds A e finds
   only_fails A e clean finds (inr nothing) = free_fails A old.now (still_holds HoldsStage old Free (rests_free nothing clean) (opened clean).0.is_open).1 e finds
 
   pub reopens : {X Y : Type 0} (view : X → State) (approval : Bool) (out : Result X (OpenFault × Y)) → IfOk out (λ x. OpensDesk old (view x) approval (told out)) → IfOk out (λ x. Reopens image (view x) approval)
@@ -124,7 +155,7 @@ module _ (image : Image) (old : State) (opened : HasCleanDisk old → Opens old 
       let is_open = λ (clean : HasCleanDisk old). (opened clean).0.is_open in
       record {
         finds = λ clean. found (omega (arith, clean, h.wears)) (h.finds clean);
-        holds = λ r has. h.keeps is_open r (rests r has);
+        holds = λ r has. h.takes is_open r (rests r has);
         makes = λ none. h.makes is_open (rests_free none);
       }
 
@@ -135,7 +166,7 @@ module _ (image : Image) (old : State) (opened : HasCleanDisk old → Opens old 
         newer = λ is. newer (omega (arith, clean, h.wears)) (subst (λ f. FindsTo {A = X} old.now (Err f)) is (h.finds clean));
         none = λ is. none (omega (arith, clean, h.wears)) (subst (λ f. FindsTo {A = X} old.now (Err f)) is (h.finds clean));
         fails = only_fails X e (omega (arith, clean, h.wears)) (h.finds clean);
-        holds = λ r has. h.keeps is_open r (rests r has) clean;
+        holds = λ r has. h.takes is_open r (rests r has) clean;
         makes = λ none. h.makes is_open (rests_free none) clean;
       }
 
@@ -161,4 +192,4 @@ pub begins_plain : {D : Type 0} {g : disk.Ghosts D} (image : Image) (approval : 
     → IfOk out (λ x. OpensDesk (file_state first) (file_state x) approval (told out)) → IfOk out (BeginsPlain image approval)
 begins_plain image approval first found plain (Err e) h = tt
 begins_plain image approval first found plain (Ok x) h =
-    record { first = first; opens = record { wears = h.wears; finds = h.finds; keeps = h.keeps; makes = h.makes }; found = found; plain = plain }
+    record { first = first; opens = record { wears = h.wears; finds = h.finds; takes = h.takes; makes = h.makes }; found = found; plain = plain }

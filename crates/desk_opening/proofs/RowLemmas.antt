@@ -25,6 +25,7 @@ use Rattle.desk_records.proofs.MeaningWords.{is_equal}
 use Rattle.desk_records.proofs.Meaning.{get_desk_is}
 use Rattle.desk_opening.specs.declared.opening.OpenFault.{OpenFault}
 use Rattle.desk_opening.specs.declared.opening.OpenFault.TheVariants.{NotDesk, NewerVersion, Memory, Store}
+use Rattle.desk_records.specs.declared.version.Version.{Version}
 use Rattle.desk_opening.specs.Opening.{HasNoRow, HasRow, ReadsRow, Tells, IsDeskRow, IsNewerRow, IsOtherRow}
 
 judged : (b : Bool) → is_true (from_truth (Some b)) ≡ b
@@ -124,28 +125,28 @@ pub reads_rows : (a b c : State) → RunsText a b (codes "BEGIN") [] (Ok tt) →
 reads_rows a b c first None second clean = reads_none a b c first second clean
 reads_rows a b c first (Some row) second clean = reads_row a b c first row second clean
 
-pub tells_row : {A : Type 0} (db : Database) (row : Row) (out : Result A OpenFault) → HasRow db (λ shown. row ≡ shown) → Tells (λ Says. Says row) ⊥ out → Tells (HasRow db) (HasNoRow db) out
-tells_row db row (Ok a) h told = record { table = h.table; row = h.row; among = h.among; number = h.number; says = subst IsDeskRow h.says told }
+pub tells_row : (db : Database) (row : Row) (out : Result Version OpenFault) → HasRow db (λ shown. row ≡ shown) → Tells (λ v. IsDeskRow v row) (λ Says. Says row) ⊥ out → Tells (λ v. HasRow db (IsDeskRow v)) (HasRow db) (HasNoRow db) out
+tells_row db row (Ok v) h told = record { table = h.table; row = h.row; among = h.among; number = h.number; says = subst (IsDeskRow v) h.says told }
 tells_row db row (Err NotDesk) h (inl told) = inl (record { table = h.table; row = h.row; among = h.among; number = h.number; says = subst IsOtherRow h.says told })
 tells_row db row (Err NotDesk) h (inr never) = absurd never
 tells_row db row (Err NewerVersion) h told = record { table = h.table; row = h.row; among = h.among; number = h.number; says = subst IsNewerRow h.says told }
 tells_row db row (Err Memory) h told = tt
 tells_row db row (Err Store) h told = tt
 
-pub tells_read : {A : Type 0} (db : Database) (found : Option Row) (row : Row) (out : Result A OpenFault) → found ≡ Some row → ReadsRow db found → StandsSomewhere db.schema (desk_table 0) → Tells (λ Says. Says row) ⊥ out
-    → Tells (HasRow db) (HasNoRow db) out
+pub tells_read : (db : Database) (found : Option Row) (row : Row) (out : Result Version OpenFault) → found ≡ Some row → ReadsRow db found → StandsSomewhere db.schema (desk_table 0) → Tells (λ v. IsDeskRow v row) (λ Says. Says row) ⊥ out
+    → Tells (λ v. HasRow db (IsDeskRow v)) (HasRow db) (HasNoRow db) out
 tells_read db found row out is reads stands told = tells_row db row out (subst (ReadsRow db) is reads stands) told
 
 pub tells_none : (db : Database) (found : Option Row) → found ≡ None → ReadsRow db found → StandsSomewhere db.schema (desk_table 0) → HasRow db IsOtherRow ⊎ HasNoRow db
 tells_none db found is reads stands = inr (subst (ReadsRow db) is reads stands)
 
 -- the same of another call, which may lack more
-pub tells_on : (A B : Type 0) (Says : (Row → Type 0) → Type 0) (Lacks More : Type 0) → (Lacks → More) → (e : OpenFault) → Tells {A = A} Says Lacks (Err e) → Tells {A = B} Says More (Err e)
-tells_on A B Says Lacks More more NotDesk (inl told) = inl told
-tells_on A B Says Lacks More more NotDesk (inr lacks) = inr (more lacks)
-tells_on A B Says Lacks More more NewerVersion told = told
-tells_on A B Says Lacks More more Memory told = tt
-tells_on A B Says Lacks More more Store told = tt
+pub tells_on : (A B : Type 0) (Found : A → Type 0) (Other : B → Type 0) (Says : (Row → Type 0) → Type 0) (Lacks More : Type 0) → (Lacks → More) → (e : OpenFault) → Tells Found Says Lacks (Err e) → Tells Other Says More (Err e)
+tells_on A B Found Other Says Lacks More more NotDesk (inl told) = inl told
+tells_on A B Found Other Says Lacks More more NotDesk (inr lacks) = inr (more lacks)
+tells_on A B Found Other Says Lacks More more NewerVersion told = told
+tells_on A B Found Other Says Lacks More more Memory told = tt
+tells_on A B Found Other Says Lacks More more Store told = tt
 
 -- ---- what a row says
 

@@ -28,7 +28,7 @@ use Rattle.sqlite.specs.Files.{HoldsDatabase, IsCleanLeft, FailsToOpenFiles, Nam
 use Rattle.sqlite.proofs.FileLemmas.{is_something}
 use Rattle.sql_calls.specs.Standing.{HoldIn}
 use Rattle.rollout_machine.specs.Records.{Records}
-use Rattle.desk_records.specs.Holds.{HoldsRecords}
+use Rattle.desk_records.specs.Readable.{HoldsReadable}
 use Rattle.desk_opening.specs.declared.opening.OpenFault.{OpenFault}
 use Rattle.desk_opening.specs.declared.opening.OpenFault.TheVariants.{NotDesk, NewerVersion, Memory, Store}
 use Rattle.desk_opening.specs.Opening.{IsFailure}
@@ -103,7 +103,7 @@ module _ {D : Type 0} (g : disk.Ghosts D) (stays : (file : D) → g.may_leave fi
   seen_is = (stays files.log, stays files.db)
 
   pub holds_on : (rest : Leftover D g) → LeavesFiles files rest → (r : Records)
-      → ((image : Image) → before_it image → HoldsDesk HoldsPlain image r) → EachAfter g (λ image. HoldsDesk HoldsPlain image r) (λ db. HoldIn HoldsRecords db r) rest
+      → ((image : Image) → before_it image → HoldsDesk HoldsPlain image r) → EachAfter g (λ image. HoldsDesk HoldsPlain image r) (λ db. HoldIn HoldsReadable db r) rest
   holds_on (left.Files now) leaves r before = λ image out. before image (leaves image out)
   holds_on (left.Unopened now) (inl blank) r before = let seen = before (image_of g files) seen_is in absurd (∥∥₁_elim seen.1 (λ x. absurd x) (λ it. is_something _ _ (whole _ _ it) blank.0))
   holds_on (left.Unopened now) (inr kept) r before = let seen = before (image_of g files) seen_is in λ image may. elim ((kept.4 image may).same) [

@@ -40,6 +40,7 @@ use Rattle.rollout_machine.specs.RecordSteps.{no_records}
 use Rattle.rollout_machine.proofs.Answering.{made_records}
 use Rattle.desk_records.specs.Schema.{Place, Desk, Offers, places, table_at, name_of, desk_table, offer_table}
 use Rattle.sql_calls.specs.Keyed.{IsHeldBy}
+use Rattle.desk_records.specs.Versions.{newest}
 use Rattle.desk_records.specs.Holds.{AreRowsOf, Content, Offered, Ordered, Spot, IsHeld, Unordered, content_of, desk_row, ledger_of}
 use Rattle.desk_records.proofs.Meaning.{desk_terms}
 use Rattle.desk_opening.specs.Places.{create_text_of}
@@ -104,7 +105,7 @@ first_plain = refl
 abbrev pub HoldsTables : Database → List Place → List Place → Type 0
 HoldsTables db made left = HoldsStage db (Partly made left)
 
-all_kept : {X : Type 0} (P Q : X → Type 0) → ((x : X) → P x → Q x) → (xs : List X) → AllByRecursion P xs → AllByRecursion Q xs
+pub all_kept : {X : Type 0} (P Q : X → Type 0) → ((x : X) → P x → Q x) → (xs : List X) → AllByRecursion P xs → AllByRecursion Q xs
 all_kept P Q f [] h = tt
 all_kept P Q f (x ∷ xs) h = (f x h.0, all_kept P Q f xs h.1)
 
@@ -174,7 +175,7 @@ module _ (t : Place) (made left : List Place) (apart : AllByRecursion (HaveNames
 
 -- ---- the row of `desk`
 
-only_row : (approval : Bool) (tree : ℕ) → put_all [] (numbered Chosen [] (map (λ s. cast_row (uncounted (desk_table tree)) (drop 0 s)) (given_rows (uncounted (desk_table tree)) (Int (if approval then pos 1 else pos 0) ∷ []) desk_terms 5))) ≡ desk_row approval ∷ []
+only_row : (approval : Bool) (tree : ℕ) → put_all [] (numbered Chosen [] (map (λ s. cast_row (uncounted (desk_table tree)) (drop 0 s)) (given_rows (uncounted (desk_table tree)) (Int (if approval then pos 1 else pos 0) ∷ []) desk_terms 5))) ≡ desk_row newest approval ∷ []
 only_row true tree = rw (cast_int 1, cast_null)
 only_row false tree = rw (cast_int 1, cast_int 0, cast_null)
 
@@ -222,7 +223,7 @@ module _ (approval : Bool) (old new : State) (text : List ℕ) (count : ℕ) (wa
   made : Inserted here (uncounted (desk_table was.1.0.tree)) (given_rows (uncounted (desk_table was.1.0.tree)) (Int (if approval then pos 1 else pos 0) ∷ []) desk_terms 5) old.now new.now
   made = inserts here was.1.0.at (desk_table was.1.0.tree) desk_terms 5 was.1.0.stands.got old new refl text (Int (if approval then pos 1 else pos 0) ∷ []) count w
 
-  desk_rows : new.now.trees was.1.0.tree ≡ desk_row approval ∷ []
+  desk_rows : new.now.trees was.1.0.tree ≡ desk_row newest approval ∷ []
   desk_rows = made.applies.rows ∙ rw (was.1.0.empty) (only_row approval was.1.0.tree)
 
   found_at : (t : Place) → find (λ (x : Table). x.tree == (at_place t).tree) here.tables ≡ Some (table_at t (at_place t).tree)

@@ -1,5 +1,5 @@
 -- The taking over of a desk that is there.
-use Rattle.std.specs.Prelude.{◌≡◌, ◌<ℤ◌, ℤ, Bool, true, [], ◌∷◌, false, pos, codes, Option, Some, None, Result, Ok, Err, IsTrue, ◌⊎◌}
+use Rattle.std.specs.Prelude.{◌≡◌, ◌<ℤ◌, ℤ, Bool, true, [], ◌∷◌, false, pos, codes, map, Option, Some, None, Result, Ok, Err, IsTrue, ◌⊎◌}
 use Rattle.std.specs.List.{AllByRecursion}
 use Rattle.sqlite_value.specs.declared.value.Value.TheVariants.{Int, Text}
 use Rattle.sqlite_value.specs.Order.{Row, column}
@@ -13,33 +13,41 @@ use Rattle.sql_front.specs.Free.{LeavesFree}
 use Rattle.sql_front.specs.Found.{StandsSomewhere}
 use Rattle.sql_calls.specs.Standing.{Wears, HoldIn, Rests}
 use Rattle.rollout_machine.specs.Records.{Records}
-use Rattle.desk_records.specs.Schema.{Place, table_at, desk_table, desk_names}
+use Rattle.desk_records.specs.Schema.{table_at, desk_table, name_of, desk_names}
 use Rattle.desk_records.specs.Holds.{HoldsRecords}
+use Rattle.desk_records.specs.Readable.{HoldsReadable}
+use Rattle.desk_records.specs.Versions.{later_than, newest, number_of, places_at}
+use Rattle.desk_records.specs.declared.version.Version.{Version}
 use Rattle.desk_opening.specs.declared.opening.OpenFault.{OpenFault}
 use Rattle.desk_opening.specs.declared.opening.OpenFault.TheVariants.{NotDesk, NewerVersion, Memory, Store}
 use Rattle.desk_opening.specs.Making.{HoldsStage, Free, LeavesNoDesk, LeavesDesk, first_records}
 
--- each table is there as the desk makes it
-pub record HasDeskTables (schema : Schema) : Type 0 where
-  pub stands : (t : Place) → StandsSomewhere schema (table_at t 0)
+-- each table of the version is there as the desk makes it, and the names of later ones are free
+pub record HasDeskTables (v : Version) (schema : Schema) : Type 0 where
+  pub stands : AllByRecursion (λ t. StandsSomewhere schema (table_at t 0)) (places_at v)
+  pub free : LeavesFree schema (map name_of (later_than v))
 
 -- ---- the row of `desk`, as format, version and approval
 
--- a row of format `fwdesk` and version 1
-pub record IsDeskRow (row : Row) : Type 0 where
+-- a row of format `fwdesk` and of this version
+pub record IsDeskRow (v : Version) (row : Row) : Type 0 where
   pub format : column row 0 ≡ Text (codes "fwdesk")
-  pub version : column row 1 ≡ Int (pos 1)
+  pub version : column row 1 ≡ Int (pos (number_of v))
 
--- a row of format `fwdesk` and a later version
+-- .. and of a version that the program reads
+abbrev pub IsReadableRow : Row → Type 0
+IsReadableRow row = (v : Version) × IsDeskRow v row
+
+-- a row of format `fwdesk` and of a version later than the newest
 pub record IsNewerRow (row : Row) : Type 0 where
   pub format : column row 0 ≡ Text (codes "fwdesk")
   pub number : ℤ
   pub version : column row 1 ≡ Int number
-  pub later : pos 1 <ℤ number
+  pub later : pos (number_of newest) <ℤ number
 
 -- a row of another format, or of a version below 1
 abbrev pub IsOtherRow : Row → Type 0
-IsOtherRow row = (¬ IsDeskRow row) × (¬ IsNewerRow row)
+IsOtherRow row = (¬ IsReadableRow row) × (¬ IsNewerRow row)
 
 -- The table `desk` stands, and its row of number 1 says this.
 pub record HasRow (db : Database) (Says : Row → Type 0) : Type 0 where
@@ -59,23 +67,29 @@ abbrev pub ReadsRow : Database → Option Row → Type 0
 ReadsRow db (Some row) = StandsSomewhere db.schema (desk_table 0) → HasRow db (λ shown. row ≡ shown)
 ReadsRow db None = StandsSomewhere db.schema (desk_table 0) → HasNoRow db
 
--- What each answer tells of the row: a desk's, where it is taken over, a later version's, where it is refused as that, and another, where it
--- is refused as no desk, unless no row was there to judge.
-abbrev pub Tells : {A : Type 0} → ((Row → Type 0) → Type 0) → Type 0 → Result A OpenFault → Type 0
-Tells Says Lacks (Ok _) = Says IsDeskRow
-Tells Says Lacks (Err NotDesk) = Says IsOtherRow ⊎ Lacks
-Tells Says Lacks (Err NewerVersion) = Says IsNewerRow
-Tells Says Lacks (Err Memory) = Unit {0}
-Tells Says Lacks (Err Store) = Unit {0}
+-- What each answer tells of the row: that it is a desk's, where it is taken over, a later version's, where it is refused as that, and
+-- another, where it is refused as no desk, unless no row was there to judge.
+abbrev pub Tells : {A : Type 0} → (A → Type 0) → ((Row → Type 0) → Type 0) → Type 0 → Result A OpenFault → Type 0
+Tells Found Says Lacks (Ok a) = Found a
+Tells Found Says Lacks (Err NotDesk) = Says IsOtherRow ⊎ Lacks
+Tells Found Says Lacks (Err NewerVersion) = Says IsNewerRow
+Tells Found Says Lacks (Err Memory) = Unit {0}
+Tells Found Says Lacks (Err Store) = Unit {0}
 
--- the row is of this version, and another table is not there as the desk makes it
+-- a database with a desk of a version that the program reads
+pub record HasDesk (db : Database) : Type 0 where
+  pub version : Version
+  pub tables : HasDeskTables version db.schema
+  pub row : HasRow db (IsDeskRow version)
+
+-- the row is of a version that the program reads, and its tables are not there as the desk makes them, or a later one's name is used
 pub record LacksTables (db : Database) : Type 0 where
-  pub row : HasRow db IsDeskRow
-  pub lacks : ¬ HasDeskTables db.schema
+  pub version : Version
+  pub row : HasRow db (IsDeskRow version)
+  pub lacks : ¬ HasDeskTables version db.schema
 
--- The table `desk` is not there as the desk makes it, or has no row of number 1, or the other tables are not there. A later version may
--- have other tables, so they are
--- asked for by this version alone.
+-- The table `desk` is not there as the desk makes it, or has no row of number 1, or the tables of its version are not there. A version
+-- later than the newest may have others, so none are asked for where the row names one.
 abbrev pub LacksDesk : Database → Type 0
 LacksDesk db = (¬ StandsSomewhere db.schema (desk_table 0)) ⊎ HasNoRow db ⊎ LacksTables db
 
@@ -86,26 +100,29 @@ IsFailure NewerVersion = ⊥
 IsFailure Memory = Unit {0}
 IsFailure Store = Unit {0}
 
--- ---- taking over
+-- ---- reading
 
 abbrev pub KeepsTo : {A E : Type 0} → State → State → Result A E → Type 0
-KeepsTo old new (Ok _) = (r : Records) → Rests HoldsRecords old r → Rests HoldsRecords new r
-KeepsTo old new (Err e) = (r : Records) → Rests HoldsRecords old r → HasCleanDisk new → (db : Trees) → new.may_leave db → HoldIn HoldsRecords db r
+KeepsTo old new (Ok _) = (r : Records) → Rests HoldsReadable old r → Rests HoldsReadable new r
+KeepsTo old new (Err e) = (r : Records) → Rests HoldsReadable old r → HasCleanDisk new → (db : Trees) → new.may_leave db → HoldIn HoldsReadable db r
 
 -- Records that stood, stand; at an error every crash still leaves them.
 pub record Keeps {A E : Type 0} (old new : State) (result : Result A E) : Type 0 where
   pub wears : Wears old new
   pub keeps : KeepsTo old new result
 
--- Records that stood, stand, and the answer is by the row of the database as it was.
-pub record Adopts {A : Type 0} (old new : State) (result : Result A OpenFault) : Type 0 where
-  pub keeps : Keeps old new result
-  pub tells : HasCleanDisk new → Tells (HasRow old.now) (LacksDesk old.now) result
+-- ---- taking over
 
--- a database with a desk of this version
-pub record HasDesk (db : Database) : Type 0 where
-  pub tables : HasDeskTables db.schema
-  pub row : HasRow db IsDeskRow
+abbrev pub TakesTo : {A E : Type 0} → State → State → Result A E → Type 0
+TakesTo old new (Ok _) = (r : Records) → Rests HoldsReadable old r → Rests HoldsRecords new r
+TakesTo old new (Err e) = (r : Records) → Rests HoldsReadable old r → HasCleanDisk new → (db : Trees) → new.may_leave db → HoldIn HoldsReadable db r
+
+-- Records that stood in the tables of any version that the program reads stand in those of the newest, and at an error every crash still
+-- leaves them. The answer is by the database as it was.
+pub record Adopts {A : Type 0} (old new : State) (result : Result A OpenFault) : Type 0 where
+  pub wears : Wears old new
+  pub takes : TakesTo old new result
+  pub tells : HasCleanDisk new → Tells (λ _. HasDesk old.now) (HasRow old.now) (LacksDesk old.now) result
 
 -- A name of a desk is used, and by no desk: a table or the row is another's, or is not there.
 pub record HasNoDesk (db : Database) : Type 0 where
@@ -131,11 +148,11 @@ FindsTo db (Err NewerVersion) = HasRow db IsNewerRow
 FindsTo db (Err Memory) = Unit {0}
 FindsTo db (Err Store) = Unit {0}
 
--- A desk that is there is kept. Where no name of a desk is used, a new one is there whole or not at all.
+-- A desk that is there is taken over. Where no name of a desk is used, a new one is there whole or not at all.
 pub record OpensDesk {A : Type 0} (old new : State) (approval : Bool) (result : Result A OpenFault) : Type 0 where
   pub wears : Wears old new
   pub finds : HasCleanDisk new → FindsTo old.now result
-  pub keeps : IsKnownOpen old → KeepsTo old new result
+  pub takes : IsKnownOpen old → TakesTo old new result
   pub makes : IsKnownOpen old → OpensTo old new approval result
 
 -- A law of each store: while it is open, a crash leaves the last commit.

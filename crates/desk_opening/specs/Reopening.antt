@@ -24,6 +24,7 @@ use Rattle.sql_calls.specs.Standing.{HoldIn, Rests}
 use Rattle.rollout_machine.specs.Records.{Records}
 use Rattle.desk_records.specs.Schema.{desk_names}
 use Rattle.desk_records.specs.Holds.{HoldsRecords}
+use Rattle.desk_records.specs.Readable.{HoldsReadable}
 use Rattle.desk_opening.specs.declared.opening.OpenFault.{OpenFault}
 use Rattle.desk_opening.specs.declared.opening.OpenFault.TheVariants.{NotDesk, NewerVersion}
 use Rattle.desk_opening.specs.Making.{LeavesNoDesk, LeavesDesk, first_records}
@@ -43,9 +44,9 @@ pub record HoldsPlain (image : Image) (db : Trees) : Type 0 where
   pub held : HoldsIn size image db
 
 module _ (Holds : Image → Trees → Type 0) where
-  -- the records of a desk
+  -- the records of a desk, in the tables of a version that the program reads
   abbrev pub HoldsDesk : Image → Records → Type 0
-  HoldsDesk image r = (db : Trees) × ∥ Holds image db ∥₁ × HoldIn HoldsRecords db r
+  HoldsDesk image r = (db : Trees) × ∥ Holds image db ∥₁ × HoldIn HoldsReadable db r
 
   -- nothing, or a database that uses no name of a desk
   abbrev pub HoldsNone : Image → Type 0
@@ -53,7 +54,7 @@ module _ (Holds : Image → Trees → Type 0) where
 
 -- ---- opened
 
--- a database with a desk of this version, or one that uses no name of a desk
+-- a database with a desk of a version that the program reads, or one that uses no name of a desk
 abbrev pub IsOpenable : Trees → Type 0
 IsOpenable db = (schema : Schema) × IsSound schema db × (HasDesk (record { schema = schema; trees = db }) ⊎ LeavesFree schema desk_names)
 
@@ -80,7 +81,7 @@ pub record Refuses (image : Image) (may_leave : Trees → Type 0) (approval : Bo
   pub newer : e ≡ NewerVersion → (db : Trees) × AreFoundIn image db × HasNewer db
   pub none : e ≡ NotDesk → (db : Trees) × AreFoundIn image db × HoldsNoDesk db
   pub fails : ((r : Records) × HoldsDesk HoldsDatabase image r) ⊎ HoldsNone HoldsDatabase image → IsFailure e
-  pub holds : (r : Records) → HoldsDesk HoldsDatabase image r → (db : Trees) → may_leave db → HoldIn HoldsRecords db r
+  pub holds : (r : Records) → HoldsDesk HoldsDatabase image r → (db : Trees) → may_leave db → HoldIn HoldsReadable db r
   pub makes : HoldsNone HoldsDatabase image → (db : Trees) → may_leave db → LeavesNoDesk db ⊎ LeavesDesk db (first_records approval)
 
 -- the files are not empty, and hold no database
@@ -100,7 +101,7 @@ module _ {D : Type 0} (g : disk.Ghosts D) where
     pub named : e ≢ NewerVersion
     pub foreign : e ≡ NotDesk → (image : Image) × before image × IsForeign image
     pub holds : (r : Records) → ((image : Image) → before image → HoldsDesk HoldsPlain image r)
-        → EachAfter (λ image. HoldsDesk HoldsPlain image r) (λ db. HoldIn HoldsRecords db r) rest
+        → EachAfter (λ image. HoldsDesk HoldsPlain image r) (λ db. HoldIn HoldsReadable db r) rest
     pub makes : ((image : Image) → before image → HoldsNone HoldsPlain image) → EachAfter (HoldsNone HoldsDatabase) UsesNoName rest
 
 module _ {D : Type 0} {g : disk.Ghosts D} where

@@ -1,6 +1,6 @@
 //! A desk that is there already.
 
-ghost use Rattle.std.specs.Prelude.{◌≡◌, ◌≢◌, IfOk, IfErr, IsTrue, Ok, codes, false};
+ghost use Rattle.std.specs.Prelude.{◌≡◌, ◌≢◌, IfOk, IfErr, IsTrue, MatchOption, Ok, Some, codes, false, map};
 ghost use Rattle.sql_front.specs.Free.{LeavesFree};
 ghost use Rattle.sql_front.specs.Found.{StandsSomewhere};
 ghost use Rattle.std.specs.List.{list_any};
@@ -14,11 +14,12 @@ ghost use Rattle.sqlite.specs.Held.{state};
 ghost use Rattle.sqlite.specs.State.{HasCleanDisk};
 ghost use Rattle.desk_opening.specs.Faults.{fault_row};
 ghost use Rattle.desk_opening.specs.Making.{told};
-ghost use Rattle.desk_opening.specs.Opening.{Adopts, HasDeskTables, HasNoRow, HasRow, IsFailure, IsSettled, Keeps, OpensDesk, ReadsRow, Tells};
+ghost use Rattle.desk_records.specs.Versions.{later_than, places_at};
+ghost use Rattle.desk_opening.specs.Opening.{Adopts, HasDeskTables, HasNoRow, HasRow, IsDeskRow, IsFailure, IsSettled, Keeps, OpensDesk, ReadsRow, Tells};
 
 use crate::desk_table::{DeskTable, TABLES};
 use crate::making::make;
-use desk_records::GET_DESK;
+use desk_records::{GET_DESK, Version};
 use sql_calls::{Calls, Fault, fault_of};
 use sql_front::{stands, uses_name};
 use sqlite::{Alter, Connection, Error, ErrorCode, Row};
@@ -87,18 +88,54 @@ fn has_table(alloc: Global, schema: &Schema, table: DeskTable) -> Result<bool, O
     Ok(stands(schema, &wanted))
 }
 
-/// Whether the schema has all of them.
-fn has_desk_tables(alloc: Global, schema: &Schema) -> Result<bool, OpenFault>
-    ensures found { IfOk result (λ found. IsTrue found → HasDeskTables schema.now) }
-    ensures missing { IfOk result (λ found. found ≡ false → HasDeskTables schema.now → ⊥) }
+/// The tables of a version, in the order in which they are made.
+fn tables_at(version: Version) -> &'static [DeskTable]
+    ensures { map place_of result.now ≡ places_at version }
+{
+    &TABLES[..version.table_count()]
+}
+
+/// The tables of later versions.
+fn tables_after(version: Version) -> &'static [DeskTable]
+    ensures { map place_of result.now ≡ later_than version }
+{
+    &TABLES[version.table_count()..]
+}
+
+/// Whether the schema has all tables of a version, and uses no name of a later one's.
+fn has_tables_of(alloc: Global, schema: &Schema, version: Version) -> Result<bool, OpenFault>
+    ensures found { IfOk result (λ found. IsTrue found → HasDeskTables version schema.now) }
+    ensures missing { IfOk result (λ found. found ≡ false → HasDeskTables version schema.now → ⊥) }
     ensures failed { IfErr result IsFailure }
 {
-    for table in &TABLES {
+    for table in tables_at(version) {
         if !has_table(alloc, schema, *table)? {
             return Ok(false);
         }
     }
-    Ok(true)
+    Ok(!uses_name_of(schema, tables_after(version)))
+}
+
+/// The version whose tables the schema has.
+fn standing_version(alloc: Global, schema: &Schema) -> Result<Option<Version>, OpenFault>
+    ensures found { IfOk result (λ found. MatchOption found ((v : Version) → HasDeskTables v schema.now → ⊥) (λ v. HasDeskTables v schema.now)) }
+    ensures failed { IfErr result IsFailure }
+{
+    if has_tables_of(alloc, schema, Version::One)? {
+        return Ok(Some(Version::One));
+    }
+    Ok(None)
+}
+
+/// Whether it is that one.
+fn is_standing(standing: Option<Version>, version: Version) -> bool
+    ensures yes { IsTrue result → standing ≡ Some version }
+    ensures no { result ≡ false → standing ≢ Some version }
+{
+    match (standing, version) {
+        (Some(Version::One), Version::One) => true,
+        (None, _) => false,
+    }
 }
 
 /// Reads the row of `desk`, and leaves what stood.
@@ -112,16 +149,16 @@ fn read_desk_row<S: Alter>(calls: &mut Calls<S>) -> Result<Option<Row>, Fault>
     Ok(row)
 }
 
-/// Whether the row is a desk's, of this version.
-fn judge(row: &Row) -> Result<(), OpenFault>
-    ensures { Tells (λ Says. Says row.now) ⊥ result }
+/// The version that a desk's row names, if the program reads it.
+fn judge(row: &Row) -> Result<Version, OpenFault>
+    ensures { Tells (λ v. IsDeskRow v row.now) (λ Says. Says row.now) ⊥ result }
 {
     if !has_format(row)? {
         return Err(OpenFault::NotDesk);
     }
     match row.get::<i64>(1) {
-        Ok(1) => Ok(()),
-        Ok(version) if version > 1 => Err(OpenFault::NewerVersion),
+        Ok(1) => Ok(Version::One),
+        Ok(number) if number > 1 => Err(OpenFault::NewerVersion),
         Ok(_) => Err(OpenFault::NotDesk),
         Err(error) => Err(unread(error)),
     }
@@ -161,10 +198,10 @@ pub(crate) fn open_fault(fault: Fault) -> OpenFault
 }
 
 /// Reads the row of `desk`, and judges it.
-fn check_row<S: Alter>(calls: &mut Calls<S>) -> Result<(), OpenFault>
+fn check_row<S: Alter>(calls: &mut Calls<S>) -> Result<Version, OpenFault>
     ensures keeps { Keeps (state S.Store calls.old.conn) (state S.Store calls.new.conn) result }
     ensures tells { HasCleanDisk (state S.Store calls.new.conn) → StandsSomewhere (state S.Store calls.old.conn).now.schema (desk_table 0)
-        → Tells (HasRow (state S.Store calls.old.conn).now) (HasNoRow (state S.Store calls.old.conn).now) result }
+        → Tells (λ v. HasRow (state S.Store calls.old.conn).now (IsDeskRow v)) (HasRow (state S.Store calls.old.conn).now) (HasNoRow (state S.Store calls.old.conn).now) result }
 {
     match read_desk_row(calls) {
         Ok(Some(row)) => judge(&row),
@@ -173,14 +210,15 @@ fn check_row<S: Alter>(calls: &mut Calls<S>) -> Result<(), OpenFault>
     }
 }
 
-/// Takes a database as the desk that it holds. The row of `desk` is judged before the other tables are: a later version may have others. A
-/// connection that is refused is given back.
+/// Takes a database as the desk that it holds. The row of `desk` is judged before the other tables are, which
+/// are those of the version that it names: a later version may have others. A connection that is refused is
+/// given back.
 pub fn adopt<S: Alter + Drop>(
     alloc: Global,
     conn: Connection<S>,
 ) -> Result<Connection<S>, (OpenFault, Connection<S>)>
     ensures adopted { IfOk result (λ adopted. Adopts (state S.Store conn) (state S.Store adopted) (told result)) }
-    ensures whole { IfOk result (λ adopted. HasDeskTables (state S.Store conn).now.schema) }
+    ensures whole { IfOk result (λ adopted. (v : Version) × HasDeskTables v (state S.Store conn).now.schema) }
     ensures refused { IfErr result (λ e. Adopts (state S.Store conn) (state S.Store e.1) (told result)) }
 {
     let has_desk = match has_table(alloc, conn.schema(), DeskTable::Desk) {
@@ -190,15 +228,16 @@ pub fn adopt<S: Alter + Drop>(
     if !has_desk {
         return Err((OpenFault::NotDesk, conn));
     }
-    let is_whole = match has_desk_tables(alloc, conn.schema()) {
-        Ok(is_whole) => is_whole,
+    let standing = match standing_version(alloc, conn.schema()) {
+        Ok(standing) => standing,
         Err(fault) => return Err((fault, conn)),
     };
     let mut calls = Calls::new(conn);
-    if let Err(fault) = check_row(&mut calls) {
-        return Err((fault, calls.into_connection()));
-    }
-    if !is_whole {
+    let version = match check_row(&mut calls) {
+        Ok(version) => version,
+        Err(fault) => return Err((fault, calls.into_connection())),
+    };
+    if !is_standing(standing, version) {
         return Err((OpenFault::NotDesk, calls.into_connection()));
     }
     Ok(calls.into_connection())

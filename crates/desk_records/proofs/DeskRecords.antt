@@ -8,6 +8,7 @@ use Rattle.sqlite.specs.Effect.{Database}
 use Rattle.sql_calls.proofs.Finding.{ShowsFirst}
 use Rattle.sql_calls.proofs.Selects.{passes, shown_of, simple_rows}
 use Rattle.desk_records.specs.Holds.{HoldsLedger, Ledger, desk_row}
+use Rattle.desk_records.specs.Versions.{newest}
 use Rattle.desk_records.specs.Rollouts.{flag}
 use Rattle.desk_records.specs.Schema.{Desk}
 use Rattle.desk_records.proofs.Comparisons.{and_true, numbers_equal}
@@ -25,12 +26,12 @@ first = is_equal (col 1 0) (lit (Int (pos 1))) ∷ []
 abbrev columns : List Term
 columns = col 1 2 ∷ col 1 3 ∷ col 1 4 ∷ []
 
-one_desk : (approval : Bool) → filter (passes first []) (desk_row approval ∷ []) ≡ desk_row approval ∷ []
+one_desk : (approval : Bool) → filter (passes first []) (desk_row newest approval ∷ []) ≡ desk_row newest approval ∷ []
 one_desk approval = rw (and_true _ ∙ numbers_equal 1 1) refl
 
 module _ (db : Database) (l : Ledger) (holds : HoldsLedger db l) (names : List (List ℕ)) where
   -- the row is there
   pub gets_desk : (row : Option Row) → ShowsFirst (Select (record { lets = []; body = desk_query (holds.spot Desk).tree }) names) db [] row → row ≡ Some (told_desk l.records.approval)
-  gets_desk = first_found (shown_of columns []) desk_row (Select (record { lets = []; body = desk_query (holds.spot Desk).tree }) names) db [] (Some l.records.approval) (λ rows shows.
+  gets_desk = first_found (shown_of columns []) (desk_row newest) (Select (record { lets = []; body = desk_query (holds.spot Desk).tree }) names) db [] (Some l.records.approval) (λ rows shows.
       subst (λ kept. IsPermutation (map (shown_of columns []) kept) rows) (ap (filter (passes first [])) (holds.rows Desk) ∙ one_desk l.records.approval)
       (simple_rows (holds.spot Desk).tree first columns [] db.trees rows (shows.answer Null)))

@@ -17,6 +17,7 @@ mod PartReads
 pub mod Sets
 pub mod EachPlace
 pub mod Places
+pub mod Readable
 pub mod HoldsAfter
 mod RowLemmas
 pub mod Modules

@@ -20,11 +20,13 @@ use Rattle.desk_records.specs.Offers.{HoldsOffers}
 use Rattle.desk_records.specs.Parts.{parts_from}
 use Rattle.desk_records.specs.Rollouts.{flag, rollout_row, members_from, groups_from}
 use Rattle.desk_records.specs.Sets.{set_row, places_from}
+use Rattle.desk_records.specs.Versions.{newest, number_of}
+use Rattle.desk_records.specs.declared.version.Version.{Version}
 use Rattle.desk_records.specs.Targets.{target_row, tag_rows, attribute_rows, are_sorted}
 
--- format `fwdesk`, version 1
-abbrev pub desk_row : Bool → Row
-desk_row approval = Int (pos 1) ∷ Null ∷ Text (codes "fwdesk") ∷ Int (pos 1) ∷ Int (pos (flag approval)) ∷ []
+-- format `fwdesk`, and the number of the version
+abbrev pub desk_row : Version → Bool → Row
+desk_row v approval = Int (pos 1) ∷ Null ∷ Text (codes "fwdesk") ∷ Int (pos (number_of v)) ∷ Int (pos (flag approval)) ∷ []
 
 abbrev pub module_row : ℕ → ModuleLabel → Row
 module_row number m = Int (pos number) ∷ Null ∷ Text m.name ∷ Text m.kind ∷ Text m.version ∷ []
@@ -50,23 +52,27 @@ AreRowsOf (Ordered wanted) rows = rows ≡ wanted
 AreRowsOf (Unordered wanted) rows = IsHeldBy rows wanted
 AreRowsOf (Offered offers) rows = HoldsOffers rows offers
 
--- What each table holds: numbered rows in the order of their numbers, all others in any order.
+-- What each table of a version holds: numbered rows in the order of their numbers, all others in any order.
+abbrev pub content_at : Version → Ledger → Place → Content
+content_at v l Desk = Ordered (desk_row v l.records.approval ∷ [])
+content_at v l Modules = Ordered (rows_from module_row 1 l.records.modules)
+content_at v l Sets = Ordered (rows_from set_row 1 l.records.sets)
+content_at v l SetModules = Unordered (places_from 1 l.records.sets)
+content_at v l Artifacts = Ordered (rows_from artifact_row 1 l.records.artifacts)
+content_at v l Pieces = Unordered (pieces_from 1 l.records.artifacts)
+content_at v l Targets = Unordered (map target_row l.records.targets)
+content_at v l TargetTags = Unordered (flat_map tag_rows l.records.targets)
+content_at v l TargetAttributes = Unordered (flat_map attribute_rows l.records.targets)
+content_at v l Rollouts = Ordered (rows_from rollout_row 1 l.records.rollouts)
+content_at v l Members = Unordered (members_from 1 l.records.rollouts)
+content_at v l Groups = Unordered (groups_from 1 l.records.rollouts)
+content_at v l Actions = Ordered (rows_from (action_row l.records.rollouts) 1 (zip l.records.actions l.tallies))
+content_at v l Feedbacks = Unordered (parts_from entry_row (λ (a : ActionRecord). a.history) 1 l.records.actions)
+content_at v l Offers = Offered l.offers
+
+-- .. of the version that the program writes
 abbrev pub content_of : Ledger → Place → Content
-content_of l Desk = Ordered (desk_row l.records.approval ∷ [])
-content_of l Modules = Ordered (rows_from module_row 1 l.records.modules)
-content_of l Sets = Ordered (rows_from set_row 1 l.records.sets)
-content_of l SetModules = Unordered (places_from 1 l.records.sets)
-content_of l Artifacts = Ordered (rows_from artifact_row 1 l.records.artifacts)
-content_of l Pieces = Unordered (pieces_from 1 l.records.artifacts)
-content_of l Targets = Unordered (map target_row l.records.targets)
-content_of l TargetTags = Unordered (flat_map tag_rows l.records.targets)
-content_of l TargetAttributes = Unordered (flat_map attribute_rows l.records.targets)
-content_of l Rollouts = Ordered (rows_from rollout_row 1 l.records.rollouts)
-content_of l Members = Unordered (members_from 1 l.records.rollouts)
-content_of l Groups = Unordered (groups_from 1 l.records.rollouts)
-content_of l Actions = Ordered (rows_from (action_row l.records.rollouts) 1 (zip l.records.actions l.tallies))
-content_of l Feedbacks = Unordered (parts_from entry_row (λ (a : ActionRecord). a.history) 1 l.records.actions)
-content_of l Offers = Offered l.offers
+content_of = content_at newest
 
 abbrev pub IsHeld : Ledger → Place → List Row → Type 0
 IsHeld l t rows = AreRowsOf (content_of l t) rows

@@ -1,7 +1,9 @@
 pub mod ModuleRow
 pub mod Schema
+pub mod Versions
 pub mod Targets
 pub mod Holds
+pub mod Readable
 pub mod Modules
 pub mod Sets
 pub mod SetRow

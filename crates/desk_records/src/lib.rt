@@ -19,6 +19,7 @@ mod table_texts;
 mod target_row;
 mod target_texts;
 mod texts;
+mod version;
 
 pub use crate::action_texts::COUNT_ACTIONS;
 pub use crate::action_texts::DROP_OFFER;
@@ -139,3 +140,4 @@ pub use crate::texts::GET_MODULE;
 pub use crate::texts::LAST_MODULE;
 pub use crate::texts::PUT_DESK;
 pub use crate::texts::PUT_MODULE;
+pub use crate::version::Version;

@@ -2,7 +2,6 @@
 use Rattle.std.proofs.Common.{◌≡◌, ◌≢◌, ◌⊎◌, inl, inr, Bool, false, Option, Some, None, Ok, refl, sym, subst, ap, ◌∙◌, arith}
 use Rattle.std.proofs.lemmas.Bool.{cases_Bool, false≢true}
 use Rattle.sqlite.specs.Tree.{Trees}
-use Rattle.sqlite.specs.Effect.{Database}
 use Rattle.sqlite.specs.State.{State, HasCleanDisk}
 use Rattle.sql_calls.specs.Standing.{HoldIn, IsAtRest, Rests, Doubts, Begins, Keeps, Finds, Opens, Sees, Spoiled, Wears}
 use Rattle.rollout_model.specs.declared.request.Reply as model
@@ -32,6 +31,8 @@ use Rattle.rollout_desk.specs.Changes.{refusal_of_fault, Handles, EndsByCommit, 
 use Rattle.desk_commands.specs.Steps.{Steps}
 use Rattle.desk_commands.specs.declared.step.Step.TheVariants as step
 use Rattle.desk_records.specs.Holds.{HoldsLedger, HoldsRecords, Ledger, ledger_of}
+use Rattle.desk_records.specs.Readable.{HoldsReadable}
+use Rattle.desk_records.proofs.Readable.{newest_is_readable}
 use Rattle.desk_reads.specs.AtLists.{AreOfList}
 
 -- ---- the reply of a failed store
@@ -53,42 +54,45 @@ pub fault_fails : (fault : Fault) (reply : Reply) → reply ≡ Refused (refusal
 fault_fails Memory reply is = inl is
 fault_fails Store reply is = inr is
 
-module _ (Holds : Database → Records → Type 0) where
-  pub stands : (s : State) (h : CommandList) → IsValid h → IsAtRest Holds s (records h) → StandsFor (desk_state_at Holds false s) h
-  stands s h valid rest = record { runs = refl; valid = valid; shows = rest; crash = λ db left. (valid, rest.held.crash db left) }
+-- what the desk keeps is read again
+pub readable : (db : Trees) (r : Records) → HoldIn HoldsRecords db r → HoldIn HoldsReadable db r
+readable db r (schema, holds) = (schema, newest_is_readable (record { schema = schema; trees = db }) r holds)
 
-  -- ---- what the desk is after a reply
+pub stands : (s : State) (h : CommandList) → IsValid h → IsAtRest HoldsRecords s (records h) → StandsFor (desk_state_at HoldsRecords false s) h
+stands s h valid rest = record { runs = refl; valid = valid; shows = rest; crash = λ db left. (valid, readable db (records h) (rest.held.crash db left)) }
 
-  becomes_list : (s : State) (h : CommandList) (reply : Reply) (accepted : Option Command) → reply ≢ Refused StoreFailed → StandsFor (desk_state_at Holds false s) (followed_by h (one accepted)) → Becomes (desk_state_at Holds (is_failed_store reply) s) h reply accepted
-  becomes_list s h reply accepted never standing = record {
-    in_doubt = λ failed. absurd (never failed);
-    stands = λ other. subst (λ (b : Bool). StandsFor (desk_state_at Holds b s) (followed_by h (one accepted))) (sym (not_failed reply never)) standing;
-  }
+-- ---- what the desk is after a reply
 
-  becomes_doubt : (s : State) (h : CommandList) (reply : Reply) (accepted : Option Command) → reply ≡ Refused StoreFailed → ((db : Trees) → s.may_leave db → HoldsList Holds db h ⊎ HoldsList Holds db (followed_by h (one accepted))) → Becomes (desk_state_at Holds (is_failed_store reply) s) h reply accepted
-  becomes_doubt s h reply accepted failed crash = record {
-    in_doubt = λ is. record { stopped = ap is_failed_store failed; crash = crash };
-    stands = λ never. absurd (never failed);
-  }
+becomes_list : (s : State) (h : CommandList) (reply : Reply) (accepted : Option Command) → reply ≢ Refused StoreFailed → StandsFor (desk_state_at HoldsRecords false s) (followed_by h (one accepted)) → Becomes (desk_state_at HoldsRecords (is_failed_store reply) s) h reply accepted
+becomes_list s h reply accepted never standing = record {
+  in_doubt = λ failed. absurd (never failed);
+  stands = λ other. subst (λ (b : Bool). StandsFor (desk_state_at HoldsRecords b s) (followed_by h (one accepted))) (sym (not_failed reply never)) standing;
+}
 
-  module _ (h : CommandList) (valid : IsValid h) (s : State) (request : Request) (reply : Reply) where
-    in_doubt : reply ≡ Refused StoreFailed → ((db : Trees) → s.may_leave db → HoldsList Holds db h ⊎ HoldsList Holds db (followed_by h (one (answer h (Asks request)).accepted))) → AppliesAt h (desk_state_at Holds (is_failed_store reply) s) (Asks request) reply
-    in_doubt failed crash = record { accepted = (answer h (Asks request)).accepted; answers = inr (inl (failed, refl)); becomes = becomes_doubt s h reply _ failed crash }
+becomes_doubt : (s : State) (h : CommandList) (reply : Reply) (accepted : Option Command) → reply ≡ Refused StoreFailed → ((db : Trees) → s.may_leave db → HoldsList db h ⊎ HoldsList db (followed_by h (one accepted))) → Becomes (desk_state_at HoldsRecords (is_failed_store reply) s) h reply accepted
+becomes_doubt s h reply accepted failed crash = record {
+  in_doubt = λ is. record { stopped = ap is_failed_store failed; crash = crash };
+  stands = λ never. absurd (never failed);
+}
 
-    left_alone : reply ≡ Refused StoreFailed → ((db : Trees) → s.may_leave db → HoldIn Holds db (records h)) → AppliesAt h (desk_state_at Holds (is_failed_store reply) s) (Asks request) reply
-    left_alone failed crash = in_doubt failed (λ db left. inl (valid, crash db left))
+module _ (h : CommandList) (valid : IsValid h) (s : State) (request : Request) (reply : Reply) where
+  in_doubt : reply ≡ Refused StoreFailed → ((db : Trees) → s.may_leave db → HoldsList db h ⊎ HoldsList db (followed_by h (one (answer h (Asks request)).accepted))) → AppliesAt h (desk_state_at HoldsRecords (is_failed_store reply) s) (Asks request) reply
+  in_doubt failed crash = record { accepted = (answer h (Asks request)).accepted; answers = inr (inl (failed, refl)); becomes = becomes_doubt s h reply _ failed crash }
 
-    without_memory : reply ≡ Refused NoMemory → IsAtRest Holds s (records h) → AppliesAt h (desk_state_at Holds (is_failed_store reply) s) (Asks request) reply
-    without_memory is rest = record { accepted = None; answers = inl (is, refl); becomes = becomes_list s h reply None (no_memory_is_no_failure reply is) (stands s h valid rest) }
+  left_alone : reply ≡ Refused StoreFailed → ((db : Trees) → s.may_leave db → HoldIn HoldsRecords db (records h)) → AppliesAt h (desk_state_at HoldsRecords (is_failed_store reply) s) (Asks request) reply
+  left_alone failed crash = in_doubt failed (λ db left. inl (valid, readable db (records h) (crash db left)))
 
-    failed : IsFailure reply → IsAtRest Holds s (records h) → AppliesAt h (desk_state_at Holds (is_failed_store reply) s) (Asks request) reply
-    failed (inl is) rest = without_memory is rest
-    failed (inr is) rest = left_alone is rest.held.crash
+  without_memory : reply ≡ Refused NoMemory → IsAtRest HoldsRecords s (records h) → AppliesAt h (desk_state_at HoldsRecords (is_failed_store reply) s) (Asks request) reply
+  without_memory is rest = record { accepted = None; answers = inl (is, refl); becomes = becomes_list s h reply None (no_memory_is_no_failure reply is) (stands s h valid rest) }
 
-    answered : (accepted : Option Command) → record { reply = reply; accepted = accepted } ≡ answer h (Asks request) → StandsFor (desk_state_at Holds false s) (followed_by h (one accepted)) → AppliesAt h (desk_state_at Holds (is_failed_store reply) s) (Asks request) reply
-    answered accepted is standing =
-        let never : reply ≢ Refused StoreFailed = λ failed. answer_never_stores h request (ap (λ (a : Answer). a.reply) (sym is) ∙ failed) in
-        record { accepted = accepted; answers = inr (inr (never, is)); becomes = becomes_list s h reply accepted never standing }
+  failed : IsFailure reply → IsAtRest HoldsRecords s (records h) → AppliesAt h (desk_state_at HoldsRecords (is_failed_store reply) s) (Asks request) reply
+  failed (inl is) rest = without_memory is rest
+  failed (inr is) rest = left_alone is rest.held.crash
+
+  answered : (accepted : Option Command) → record { reply = reply; accepted = accepted } ≡ answer h (Asks request) → StandsFor (desk_state_at HoldsRecords false s) (followed_by h (one accepted)) → AppliesAt h (desk_state_at HoldsRecords (is_failed_store reply) s) (Asks request) reply
+  answered accepted is standing =
+      let never : reply ≢ Refused StoreFailed = λ failed. answer_never_stores h request (ap (λ (a : Answer). a.reply) (sym is) ∙ failed) in
+      record { accepted = accepted; answers = inr (inr (never, is)); becomes = becomes_list s h reply accepted never standing }
 
 -- ---- what stands, said of records and of the ledger that they are kept in
 
@@ -104,7 +108,7 @@ stood s h was = rests_ledger s (records h) (λ clean. was.shows)
 -- ---- no change begins
 
 pub unbegun : (a b : State) (request : Request) (reply : Reply) → Keeps HoldsLedger a b → IsFailure reply → Handles HoldsRecords a b request reply
-unbegun a b request reply keeps bad = record { wears = keeps.wears; handles = λ h clean was. failed HoldsRecords h was.valid b request reply bad (rests_records b (records h) (keeps.rests (ledger_of (records h)) (stood a h was)) clean) }
+unbegun a b request reply keeps bad = record { wears = keeps.wears; handles = λ h clean was. failed h was.valid b request reply bad (rests_records b (records h) (keeps.rests (ledger_of (records h)) (stood a h was)) clean) }
 
 module _ (a b : State) (begins : Begins HoldsLedger a b) (c d : State) where
   seen : (h : CommandList) → StandsFor (desk_state_at HoldsRecords false a) h → Sees HoldsLedger b (ledger_of (records h))
@@ -122,7 +126,7 @@ module _ (a b : State) (begins : Begins HoldsLedger a b) (c d : State) where
   module _ (request : Request) (made : Reply) (wears : Wears b c) (leaves : LeavesSpoiled) where
     lost_alone : (h : CommandList) (reply : Reply) → HasCleanDisk d → StandsFor (desk_state_at HoldsRecords false a) h → reply ≡ Refused StoreFailed
         → ((kept : Ledger) → Spoiled HoldsLedger c kept → Doubts HoldsLedger d kept kept) → AppliesAt h (desk_state_at HoldsRecords (is_failed_store reply) d) (Asks request) reply
-    lost_alone h reply clean was is doubts = left_alone HoldsRecords h was.valid d request reply is (λ db left. elim ((doubts _ (leaves _ (opened h was)) clean).crash db left) [ inl one ↦ one | inr one ↦ one ])
+    lost_alone h reply clean was is doubts = left_alone h was.valid d request reply is (λ db left. elim ((doubts _ (leaves _ (opened h was)) clean).crash db left) [ inl one ↦ one | inr one ↦ one ])
 
     -- what was found inside is the answer, and nothing is accepted
     pub found : (Says : Records → Type 0) → ((h : CommandList) → IsValid h → Says (records h) → record { reply = made; accepted = None } ≡ answer h (Asks request))
@@ -130,8 +134,8 @@ module _ (a b : State) (begins : Begins HoldsLedger a b) (c d : State) where
     found Says means says reply ends = record {
       wears = omega (arith, begins.wears, wears, ends.wears);
       handles = λ h clean was. elim ends.ends [
-        | inl it ↦ answered HoldsRecords h was.valid d request reply None (ap (λ (x : Reply). record { reply = x; accepted = None }) it.0 ∙ means h was.valid (says h was.valid (seen h was) (omega (arith, clean, ends.wears))))
-            (stands HoldsRecords d h was.valid (rests_records d (records h) (it.1 _ (leaves _ (opened h was))) clean))
+        | inl it ↦ answered h was.valid d request reply None (ap (λ (x : Reply). record { reply = x; accepted = None }) it.0 ∙ means h was.valid (says h was.valid (seen h was) (omega (arith, clean, ends.wears))))
+            (stands d h was.valid (rests_records d (records h) (it.1 _ (leaves _ (opened h was))) clean))
         | inr it ↦ lost_alone h reply clean was it.0 it.1
       ];
     }
@@ -141,7 +145,7 @@ module _ (a b : State) (begins : Begins HoldsLedger a b) (c d : State) where
     lost bad reply ends = record {
       wears = omega (arith, begins.wears, wears, ends.wears);
       handles = λ h clean was. elim ends.ends [
-        | inl it ↦ failed HoldsRecords h was.valid d request reply (subst IsFailure (sym it.0) bad) (rests_records d (records h) (it.1 _ (leaves _ (opened h was))) clean)
+        | inl it ↦ failed h was.valid d request reply (subst IsFailure (sym it.0) bad) (rests_records d (records h) (it.1 _ (leaves _ (opened h was))) clean)
         | inr it ↦ lost_alone h reply clean was it.0 it.1
       ];
     }
@@ -173,11 +177,11 @@ module _ (a b : State) (begins : Begins HoldsLedger a b) (c d : State) where
           let longer : IsValid (h ▸ command) = (was.valid, good, facts.0) in
           let is = accepted_step h command was.valid facts.0 in
           elim ends.ends [
-            | inl it ↦ answered HoldsRecords h was.valid d (Do command) reply (Some command) (ap (λ (x : Reply). record { reply = x; accepted = Some command }) (it.0 ∙ facts.1) ∙ sym is)
-                (stands HoldsRecords d (h ▸ command) longer (subst (IsAtRest HoldsRecords d) (sym follows) (rests_records d (step_records r command) (it.1 _ done.0) clean)))
-            | inr it ↦ in_doubt HoldsRecords h was.valid d (Do command) reply it.0 (λ db left. elim ((it.1 _ _ done.0 (spoils goes _ (opened h was)) clean).crash db left) [
-              | inl one ↦ inl (was.valid, one)
-              | inr one ↦ inr (subst (λ (o : Option Command). HoldsList HoldsRecords db (followed_by h (Rattle.rollout_machine.specs.Requests.one o))) (sym (ap (λ (x : Answer). x.accepted) is)) (longer, subst (HoldIn HoldsRecords db) (sym follows) one))
+            | inl it ↦ answered h was.valid d (Do command) reply (Some command) (ap (λ (x : Reply). record { reply = x; accepted = Some command }) (it.0 ∙ facts.1) ∙ sym is)
+                (stands d (h ▸ command) longer (subst (IsAtRest HoldsRecords d) (sym follows) (rests_records d (step_records r command) (it.1 _ done.0) clean)))
+            | inr it ↦ in_doubt h was.valid d (Do command) reply it.0 (λ db left. elim ((it.1 _ _ done.0 (spoils goes _ (opened h was)) clean).crash db left) [
+              | inl one ↦ inl (was.valid, readable db r one)
+              | inr one ↦ inr (subst (λ (o : Option Command). HoldsList db (followed_by h (Rattle.rollout_machine.specs.Requests.one o))) (sym (ap (λ (x : Answer). x.accepted) is)) (longer, readable db _ (subst (HoldIn HoldsRecords db) (sym follows) one)))
             ])
           ];
     }

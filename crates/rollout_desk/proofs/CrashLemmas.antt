@@ -31,7 +31,7 @@ module _ (stopped : Bool) (s : State) (images : Image → Type 0) (leaves : Leav
 
 -- what holds a list is a database
 are_databases : (stopped : Bool) (s : State) → AllHold (desk_state_at HoldsRecords stopped s) → AreDatabases s.may_leave
-are_databases stopped s all file may = let it = (all file may).1.1 in (it.0, it.1.sound)
+are_databases stopped s all file may = let (schema, (v, holds)) = (all file may).1.1 in (schema, holds.sound)
 
 module _ {D : Type 0} {g : Ghosts D} (given old : Held (FileStore D g)) (same : given ≡ old) (now : FileStore D g) (back : Files D) (is : (back.log, back.db) ≡ files now)
     (numbered : IsClean (view now) → IsTrue (view now).is_numbered) (sound : IsClean (view now) → AreDatabases (recovers now))

@@ -60,7 +60,7 @@ module _ (was : Bool) (a b : State) (p : Download) where
       let it = looked.looks (records h) (λ _. standing.shows) in
       let before : p.pieces * piece_length < p.size = omega (arith, more) in
       let next : piece.items ≡ take piece_length (drop (p.pieces * piece_length) contents) = piece_is (records h) p.number p.pieces contents piece.items sends.artifact (it.1 clean) in (
-        subst (λ (x : Bool). StandsFor (desk_state_at HoldsRecords x b) h) (sym runs) (stands HoldsRecords b h standing.valid (it.0 clean)),
+        subst (λ (x : Bool). StandsFor (desk_state_at HoldsRecords x b) h) (sym runs) (stands b h standing.valid (it.0 clean)),
         record { artifact = sends.artifact; size = sends.size },
         record {
           next = next ∙ ap (λ n. take piece_length (drop n contents)) (sym (so_far contents p.size p.pieces sends.size before));
@@ -89,7 +89,7 @@ module _ (was : Bool) (a b : State) (p : Download) where
   own_piece found piece look is runs h clean standing =
       let looked : Looks HoldsRecords a b (Ok (Some piece)) (IsNextPiece p) = subst (λ x. Looks HoldsRecords a b x (IsNextPiece p)) is look in
       let it = looked.looks (records h) (λ _. standing.shows) in
-      (subst (λ (x : Bool). StandsFor (desk_state_at HoldsRecords x b) h) (sym runs) (stands HoldsRecords b h standing.valid (it.0 clean)), next_of h p piece.items (it.1 clean))
+      (subst (λ (x : Bool). StandsFor (desk_state_at HoldsRecords x b) h) (sym runs) (stands b h standing.valid (it.0 clean)), next_of h p piece.items (it.1 clean))
 
 -- ---- the first answer
 
@@ -227,7 +227,7 @@ module _ (a : State) (device : Credential) (m : ℕ) (filename : Bytes) where
       wears = omega (arith, begins.wears, reads.wears, last);
       finds = λ h clean was.
           let rested = stood a h was in (
-            stands HoldsRecords d h was.valid (rests_records d (records h) (rests _ (leaves _ (begins.opens _ rested))) clean),
+            stands d h was.valid (rests_records d (records h) (rests _ (leaves _ (begins.opens _ rested))) clean),
             (reads.finds (records h) (begins.sees _ (rest_shows HoldsLedger _ _ rested))).1 (omega (arith, clean, last)),
           );
     }

@@ -1,17 +1,23 @@
 -- From the calls of the store to a look at the records.
-use Rattle.std.proofs.Common.{◌≡◌, ◌⊎◌, inl, inr, Ok, Err, Result, refl, sym, subst, arith}
+use Rattle.std.proofs.Common.{◌≡◌, ◌⊎◌, inl, inr, Bool, None, Ok, Err, Result, refl, sym, ap, subst, ◌∙◌, arith}
+use Rattle.sqlite.specs.Tree.{Trees}
 use Rattle.sqlite.specs.State.{State, HasCleanDisk}
-use Rattle.sql_calls.specs.Standing.{Begins, Doubts, Finds, Keeps, Opens, Rests, Spoiled, Wears}
+use Rattle.sql_calls.specs.Standing.{Begins, Doubts, Finds, HoldIn, Keeps, Opens, Rests, Spoiled, Wears}
 use Rattle.sql_calls.proofs.FrameEnds.{rest_shows}
 use Rattle.sql_calls.specs.declared.fault.Fault.{Fault}
 use Rattle.sql_calls.specs.declared.fault.Fault.TheVariants.{Memory, Store}
 use Rattle.desk_records.specs.Holds.{HoldsLedger, HoldsRecords, Ledger, ledger_of}
-use Rattle.rollout_machine.specs.Records.{Records}
+use Rattle.rollout_machine.specs.CommandList.{CommandList}
+use Rattle.rollout_machine.specs.Records.{Records, records}
+use Rattle.rollout_machine.specs.Replies.{Refused}
+use Rattle.rollout_machine.specs.Standing.{Becomes, DeskState, IsInDoubt, StandsFor}
+use Rattle.rollout_machine.specs.StoreFailures.{is_store}
 use Rattle.rollout_model.specs.declared.refusal.Refusal.{Refusal}
 use Rattle.rollout_model.specs.declared.refusal.Refusal.TheVariants.{NoMemory, StoreFailed}
 use Rattle.rollout_desk.specs.Looks.{Looks, EndsLook}
 use Rattle.rollout_desk.specs.Changes.{refusal_of_fault}
-use Rattle.rollout_desk.proofs.ApplyLemmas.{rests_ledger, rests_records}
+use Rattle.rollout_desk.specs.Desks.{desk_state_at}
+use Rattle.rollout_desk.proofs.ApplyLemmas.{readable, rests_ledger, rests_records, stands}
 
 -- the refusal of a fault
 abbrev IsFailing : Refusal → Type 0
@@ -62,3 +68,32 @@ module _ {A : Type 0} (a d : State) (Answer : Records → A → Type 0) where
           | inl it ↦ subst (λ x. Looks HoldsRecords a d x Answer) (sym it.0) (broken refusal (fails fault refusal is) wears (λ l was. it.1 l (leaves l (begins.opens l was))))
           | inr it ↦ subst (λ x. Looks HoldsRecords a d x Answer) (sym it.0) (in_doubt StoreFailed refl wears (λ l was. it.1 l (leaves l (begins.opens l was))))
         ]
+
+-- ---- a look that is refused
+
+module _ {A : Type 0} (was : Bool) (a b : State) (Answer : Records → A → Type 0) (h : CommandList) (clean : HasCleanDisk b) (standing : StandsFor (desk_state_at HoldsRecords was a) h) where
+  -- whatever a look finds, a crash leaves what stood
+  left_by : (found : Result A Refusal) → Looks HoldsRecords a b found Answer → (db : Trees) → b.may_leave db → HoldIn HoldsRecords db (records h)
+  left_by (Ok x) look db left = ((look.looks (records h) (λ _. standing.shows)).0 clean).held.crash db left
+  left_by (Err refusal) look db left = elim look.looks [
+    | inl it ↦ (it.1 (records h) (λ _. standing.shows) clean).held.crash db left
+    | inr it ↦ elim ((it.1 (records h) (λ _. standing.shows) clean).crash db left) [ inl one ↦ one | inr one ↦ one ]
+  ]
+
+  -- memory was wanted, or the store failed, and the desk is stopped
+  pub interrupted : (found : Result A Refusal) → Looks HoldsRecords a b found Answer → (refusal : Refusal) → (refusal ≡ StoreFailed) ⊎ (found ≡ Err refusal) → (stopped : Bool) → stopped ≡ is_store refusal
+      → ((refusal ≡ NoMemory) × StandsFor (desk_state_at HoldsRecords stopped b) h) ⊎ ((refusal ≡ StoreFailed) × IsInDoubt (desk_state_at HoldsRecords stopped b) h None)
+  interrupted found look refusal why stopped is = elim why [
+    | inl fails ↦ inr (in_doubt fails)
+    | inr same ↦ elim (subst (λ x. Looks HoldsRecords a b x Answer) same look).looks [
+      | inl it ↦ inl (it.0, subst (λ x. StandsFor (desk_state_at HoldsRecords x b) h) (sym (is ∙ ap is_store it.0)) (stands b h standing.valid (it.1 (records h) (λ _. standing.shows) clean)))
+      | inr it ↦ inr (in_doubt it.0)
+    ]
+  ]
+    where
+      in_doubt : refusal ≡ StoreFailed → (refusal ≡ StoreFailed) × IsInDoubt (desk_state_at HoldsRecords stopped b) h None
+      in_doubt fails = (fails, record { stopped = is ∙ ap is_store fails; crash = λ db left. inl (standing.valid, readable db (records h) (left_by found look db left)) })
+
+pub becomes_refused : (s : DeskState Trees) (h : CommandList) (refusal : Refusal) → ((refusal ≡ NoMemory) × StandsFor s h) ⊎ ((refusal ≡ StoreFailed) × IsInDoubt s h None) → Becomes s h (Refused refusal) None
+becomes_refused s h refusal (inl it) = record { in_doubt = λ is. let other : Refused NoMemory ≡ Refused StoreFailed = sym (ap Refused it.0) ∙ is in absurd (cc); stands = λ _. it.1 }
+becomes_refused s h refusal (inr it) = record { in_doubt = λ _. it.1; stands = λ never. absurd (never (ap Refused it.0)) }

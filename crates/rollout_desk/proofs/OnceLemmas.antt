@@ -16,6 +16,7 @@ use Rattle.rollout_machine.specs.Standing.{StandsFor, IsInDoubt}
 use Rattle.rollout_machine.specs.Validity.{IsValid}
 use Rattle.rollout_machine.proofs.Main.{records_step}
 use Rattle.rollout_machine.proofs.Once.{repeats_leave_no_trace}
+use Rattle.desk_records.specs.Readable.{HoldsReadable}
 use Rattle.rollout_desk.specs.Desks.{HoldsList, desk_state_at}
 use Rattle.rollout_desk.specs.Once.{AnswersOnce, EndsOnce}
 use Rattle.rollout_desk.specs.Runs.{EndsRun, Exchange, IsRun, accepted_in}
@@ -58,18 +59,18 @@ last_once h (x ∷ xs) last is valid =
 -- ---- what the desk stands for
 
 module _ (Holds : Database → Records → Type 0) (stopped : Bool) (s : State) where
-  holds_calm : (file : Trees) (h : CommandList) → HoldsList Holds file h → HoldsList Holds file (without_repeats h)
-  holds_calm file h holds = let it : IsTraceless h = repeats_leave_no_trace h holds.0 in (it.valid, subst (HoldIn Holds file) it.same holds.1)
+  holds_calm : (file : Trees) (h : CommandList) → HoldsList file h → HoldsList file (without_repeats h)
+  holds_calm file h holds = let it : IsTraceless h = repeats_leave_no_trace h holds.0 in (it.valid, subst (HoldIn HoldsReadable file) it.same holds.1)
 
   -- with one more command after it
-  holds_more : (file : Trees) (h : CommandList) (accepted : Option Command) → HoldsList Holds file (followed_by h (one accepted)) → HoldsList Holds file (followed_by (without_repeats h) (one accepted))
+  holds_more : (file : Trees) (h : CommandList) (accepted : Option Command) → HoldsList file (followed_by h (one accepted)) → HoldsList file (followed_by (without_repeats h) (one accepted))
   holds_more file h None holds = holds_calm file h holds
   holds_more file h (Some c) holds =
       let valid = holds.0 in
       let it : IsTraceless h = repeats_leave_no_trace h valid.0 in
       let here = sym (it.verdicts c) ∙ valid.2 in (
         (it.valid, valid.1, here),
-        subst (HoldIn Holds file) (records_step h c valid.0 valid.2 ∙ ap (λ (rs : Records). step_records rs c) it.same ∙ sym (records_step (without_repeats h) c it.valid here)) holds.1,
+        subst (HoldIn HoldsReadable file) (records_step h c valid.0 valid.2 ∙ ap (λ (rs : Records). step_records rs c) it.same ∙ sym (records_step (without_repeats h) c it.valid here)) holds.1,
       )
 
   stands_calm : (h : CommandList) → StandsFor (desk_state_at Holds stopped s) h → StandsFor (desk_state_at Holds stopped s) (without_repeats h)

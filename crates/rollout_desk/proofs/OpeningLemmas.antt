@@ -39,9 +39,10 @@ use Rattle.rollout_desk.specs.declared.desk.Desk.{Desk}
 use Rattle.desk_store.specs.declared.store.DeskStore.{DeskStore}
 use Rattle.std.specs.declared.alloc.Global.{Global}
 use Rattle.rollout_desk.specs.Openings.{ReopensDesk, LeftUnharmed, GivesBack}
+use Rattle.rollout_desk.proofs.ApplyLemmas.{readable}
 
 stands : (s : State) (h : CommandList) → IsValid h → Rests HoldsRecords s (records h) → HasCleanDisk s → StandsFor (desk_state_at HoldsRecords false s) h
-stands s h valid rests clean = record { runs = refl; valid = valid; shows = rests clean; crash = λ db left. (valid, (rests clean).held.crash db left) }
+stands s h valid rests clean = record { runs = refl; valid = valid; shows = rests clean; crash = λ db left. (valid, readable db (records h) ((rests clean).held.crash db left)) }
 
 pub reopened_desk : (image : Image) (approval : Bool) (s : State) → Reopens image s approval → ReopensDesk image (desk_state_at HoldsRecords false s) approval
 reopened_desk image approval s h = record {

@@ -4,22 +4,24 @@ use Rattle.sqlite.specs.Tree.{Trees}
 use Rattle.sqlite.specs.Effect.{Database}
 use Rattle.sqlite.specs.State.{State, HasCleanDisk}
 use Rattle.sql_calls.specs.Standing.{HoldIn, IsAtRest}
+use Rattle.desk_records.specs.Readable.{HoldsReadable}
 use Rattle.rollout_machine.specs.CommandList.{CommandList}
 use Rattle.rollout_machine.specs.Records.{Records, records}
 use Rattle.rollout_machine.specs.Standing.{DeskState}
 use Rattle.rollout_machine.specs.Validity.{IsValid}
 
-module _ (Holds : Database → Records → Type 0) where
-  -- an open of a file with these trees finds the records of the list, whose commands were accepted one after the other
-  abbrev pub HoldsList : Trees → CommandList → Type 0
-  HoldsList trees h = IsValid h × HoldIn Holds trees (records h)
+-- an open of a file with these trees finds the records of the list, whose commands were accepted one after the other, in the tables of a
+-- version that the program reads
+abbrev pub HoldsList : Trees → CommandList → Type 0
+HoldsList trees h = IsValid h × HoldIn HoldsReadable trees (records h)
 
-  -- a desk over a connection of this state
+module _ (Shows : Database → Records → Type 0) where
+  -- a desk over a connection of this state, which shows records by this relation
   abbrev pub desk_state_at : Bool → State → DeskState Trees
   desk_state_at is_stopped s = record {
     is_stopped = is_stopped;
     is_clean = HasCleanDisk s;
-    shows = λ h. IsAtRest Holds s (records h);
+    shows = λ h. IsAtRest Shows s (records h);
     may_leave = s.may_leave;
     holds = HoldsList;
   }

@@ -8,7 +8,7 @@ use Rattle.desk_opening.proofs.opening.open_desk.Goals as goal
 pub returns-then-uses_desk_name-clause-opened : goal.returns-then-uses_desk_name-clause-opened
 returns-then-uses_desk_name-clause-opened g c =
     let used = subst (λ s. LeavesFree s desk_names → ⊥) c.schema.ensures.value (c.uses_desk_name.ensures.used c.if-uses_desk_name.true) in
-    adopts_ok (state g.S.Store) (state g.S.Store c.args.conn) c.args.approval_if_new c.adopt.result c.adopt.ensures.adopted c.adopt.ensures.whole used
+    adopts_ok (state g.S.Store) (state g.S.Store c.args.conn) c.args.approval_if_new c.adopt.result c.adopt.ensures.adopted used
 
 pub returns-then-uses_desk_name-clause-refused : goal.returns-then-uses_desk_name-clause-refused
 returns-then-uses_desk_name-clause-refused g c =

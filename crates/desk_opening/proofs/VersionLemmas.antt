@@ -1,0 +1,30 @@
+-- The tables of a version, as the code lists them.
+use Rattle.std.proofs.Common.{◌≡◌, ◌≤◌, ℕ, Bool, true, false, not, IsTrue, sym, List, [], ◌∷◌, map, length, take, refl, subst}
+use Rattle.std.specs.List.{AllByRecursion, list_any}
+use Rattle.std.proofs.lemmas.Bool.{true≢false}
+use Rattle.std.proofs.lemmas.List.{take_all}
+use Rattle.sqlite.specs.Schema.{Schema}
+use Rattle.sqlite_keyed.proofs.ListLemmas.{none_from_any}
+use Rattle.sqlite_catalog.specs.Change.{is_used}
+use Rattle.sql_front.specs.Free.{LeavesFree}
+use Rattle.desk_records.specs.Schema.{Place, name_of}
+use Rattle.desk_opening.specs.declared.desk_table.DeskTable.{DeskTable}
+use Rattle.desk_opening.specs.Places.{place_of}
+
+all_mapped : {X Y : Type 0} (P : Y → Type 0) (f : X → Y) (xs : List X) → AllByRecursion (λ x. P (f x)) xs → AllByRecursion P (map f xs)
+all_mapped P f [] all = tt
+all_mapped P f (x ∷ xs) all = (all.0, all_mapped P f xs all.1)
+
+module _ (ds : List DeskTable) (places : List Place) (same : map place_of ds ≡ places) where
+  -- what holds of all that a loop has seen, once it has seen them all
+  pub all_seen : (P : Place → Type 0) (n : ℕ) → length ds ≤ n → AllByRecursion (λ d. P (place_of d)) (take n ds) → AllByRecursion P places
+  all_seen P n seen all = subst (AllByRecursion P) same (all_mapped P place_of ds (subst (AllByRecursion (λ d. P (place_of d))) (take_all n ds seen) all))
+
+  pub none_used : (s : Schema) → list_any (λ d. is_used s (name_of (place_of d))) ds ≡ false → LeavesFree s (map name_of places)
+  none_used s none =
+      let each = none_from_any (λ d. is_used s (name_of (place_of d))) ds none in
+      all_mapped (λ name. is_used s name ≡ false) name_of places (subst (AllByRecursion (λ t. is_used s (name_of t) ≡ false)) same (all_mapped (λ t. is_used s (name_of t) ≡ false) place_of ds each))
+
+pub not_used : (used : Bool) → IsTrue (not used) → used ≡ false
+not_used true h = absurd (true≢false (sym h))
+not_used false h = refl

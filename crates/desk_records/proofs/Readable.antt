@@ -1,0 +1,49 @@
+-- The tables of the newest version hold records as the program keeps them.
+use Rattle.std.proofs.Common.{◌≡◌, ◌≤◌, List, [], ◌∷◌, refl, arith}
+use Rattle.std.specs.List.{AllByRecursion}
+use Rattle.sqlite.specs.Effect.{Database}
+use Rattle.rollout_machine.specs.Records.{Records}
+use Rattle.desk_records.specs.Schema.{Place, Desk, places}
+use Rattle.desk_records.specs.Holds.{HoldsRecords}
+use Rattle.desk_records.specs.Readable.{HoldsAt, HoldsPlace, HoldsReadable}
+use Rattle.desk_records.specs.Versions.{newest, number_of, places_at}
+use Rattle.desk_records.specs.declared.version.Version.{Version}
+use Rattle.desk_records.specs.declared.version.Version.TheVariants.{One}
+use Rattle.desk_records.proofs.EachPlace.{each_place}
+
+-- what holds of each place holds of all in a list
+pub of_all : (P : Place → Type 0) → ((t : Place) → P t) → (ts : List Place) → AllByRecursion P ts
+of_all P each [] = tt
+of_all P each (t ∷ ts) = (each t, of_all P each ts)
+
+module _ (db : Database) (r : Records) where
+  pub at_newest : HoldsRecords db r → HoldsAt newest db r
+  at_newest h = record {
+    sound = h.sound;
+    spot = h.spot;
+    tables = of_all (λ t. HoldsPlace newest db r (h.spot t) t) (λ t. (h.stands t, h.rows t)) places;
+    free = tt;
+    tellable = tt;
+    sorted = h.sorted;
+    keyed = h.keyed;
+  }
+
+  pub from_newest : HoldsAt newest db r → HoldsRecords db r
+  from_newest h =
+      let each = each_place (λ t. HoldsPlace newest db r (h.spot t) t) h.tables in
+      record { sound = h.sound; spot = h.spot; stands = λ t. (each t).0; rows = λ t. (each t).1; sorted = h.sorted; keyed = h.keyed }
+
+  pub newest_is_readable : HoldsRecords db r → HoldsReadable db r
+  newest_is_readable h = (newest, at_newest h)
+
+-- ---- of each version
+
+-- the table `desk` is the first
+pub has_desk : (v : Version) (P : Place → Type 0) → AllByRecursion P (places_at v) → P Desk
+has_desk One P all = all.0
+
+pub is_known : (v : Version) → number_of v ≤ number_of newest
+is_known One = omega arith
+
+pub one_numbered : (v w : Version) → number_of v ≡ number_of w → v ≡ w
+one_numbered One One same = refl

@@ -1,0 +1,30 @@
+-- The versions of a desk's schema: the number of each, and its tables.
+use Rattle.std.specs.Prelude.{ℕ, List, take, drop}
+use Rattle.rollout_machine.specs.Records.{Records}
+use Rattle.desk_records.specs.Schema.{Place, places}
+use Rattle.desk_records.specs.declared.version.Version.{Version}
+use Rattle.desk_records.specs.declared.version.Version.TheVariants.{One}
+
+-- the number in the row of `desk`
+abbrev pub number_of : Version → ℕ
+number_of One = 1
+
+-- the one that the program writes
+abbrev pub newest : Version
+newest = One
+
+-- how many tables it has
+abbrev pub table_count_of : Version → ℕ
+table_count_of One = 15
+
+-- its tables, in the order in which they are made
+abbrev pub places_at : Version → List Place
+places_at v = take (table_count_of v) places
+
+-- those of later versions
+abbrev pub later_than : Version → List Place
+later_than v = drop (table_count_of v) places
+
+-- the records have nothing that the version has no table or column for
+abbrev pub IsTellable : Version → Records → Type 0
+IsTellable One r = Unit {0}
