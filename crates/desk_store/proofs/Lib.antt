@@ -20,3 +20,4 @@ mod RawLists
 mod RawFinds
 mod RawPieces
 mod RawActionCalls
+pub mod BlameLemmas

@@ -1,9 +1,9 @@
 //! What rows and results of statements come to.
 
-ghost use Rattle.std.specs.Prelude.{◌≡◌, ◌<◌, ◌^◌, IfOk, length, slice_get};
+ghost use Rattle.std.specs.Prelude.{◌≡◌, ◌<◌, ◌^◌, IfErr, IfOk, length, slice_get};
 ghost use Rattle.desk_records.specs.Modules.{IsLastRow};
 ghost use Rattle.desk_records.specs.TargetRow.{IsAttributeRow};
-ghost use Rattle.desk_store.specs.Rows.{AreReadAs, IsApproval, IsCount, IsReadAs};
+ghost use Rattle.desk_store.specs.Rows.{AreReadAs, HasBroken, IfStore, IsApproval, IsCount, IsReadAs};
 ghost use Rattle.desk_store.specs.Faults.{as_store, fault_of_row};
 
 use crate::from_row::FromRow;
@@ -43,7 +43,8 @@ pub(crate) fn read_at<T: FromRow>(
     rows: &[Row],
     at: usize,
 ) -> Result<Option<T>, Fault>
-    ensures { IfOk result (λ found. IsReadAs T.is_row found (slice_get rows.now at)) }
+    ensures ok { IfOk result (λ found. IsReadAs T.is_row found (slice_get rows.now at)) }
+    ensures err { IfErr result (λ fault. IfStore fault (HasBroken T.is_broken rows.now)) }
 {
     let Some(row) = rows.get(at) else {
         return Ok(None);
@@ -54,7 +55,8 @@ pub(crate) fn read_at<T: FromRow>(
 
 /// What each row is read as, in order.
 pub(crate) fn read_all<T: FromRow>(alloc: Global, rows: &[Row]) -> Result<Vec<T>, Fault>
-    ensures { IfOk result (λ found. AreReadAs T.is_row rows.now found.items) }
+    ensures ok { IfOk result (λ found. AreReadAs T.is_row rows.now found.items) }
+    ensures err { IfErr result (λ fault. IfStore fault (HasBroken T.is_broken rows.now)) }
 {
     let mut found = Vec::new(alloc);
     for row in rows {
@@ -83,7 +85,8 @@ pub(crate) fn read_attributes(alloc: Global, rows: &[Row]) -> Result<Attributes,
 }
 
 fn read_one<T: FromRow>(alloc: Global, row: &Row) -> Result<T, Fault>
-    ensures { IfOk result (T.is_row row.now) }
+    ensures ok { IfOk result (T.is_row row.now) }
+    ensures err { IfErr result (λ fault. IfStore fault (T.is_broken row.now)) }
 {
     match T::from_row(alloc, row) {
         Ok(one) => Ok(one),

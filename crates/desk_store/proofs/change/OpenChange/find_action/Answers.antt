@@ -11,7 +11,7 @@ pub returns-clause-reads : goal.returns-clause-reads
 returns-clause-reads g c =
     let it : AsksFew (state g.S.Store c.args.self.now.store.now.calls.conn) (state g.S.Store c.few.new.self.store.now.calls.conn) GET_ACTION.now (Int (pos c.args.number) ∷ []) 1 (Ok c.in_ok-rows.rows) =
     rw (c.params-to_sql.ensures, c.get.ensures.value) at c.in_ok-rows.ensures.asks in
-    action_read c.args.number _ _ c.in_ok-rows.rows it c.read_at.result (rw c.deref.ensures.value at c.read_at.ensures)
+    action_read c.args.number _ _ c.in_ok-rows.rows it c.read_at.result (rw c.deref.ensures.value at c.read_at.ensures.ok)
 
 pub few-requires : goal.few-requires
 few-requires g c = getting

@@ -11,7 +11,7 @@ pub returns-clause-reads : goal.returns-clause-reads
 returns-clause-reads g c =
     let it : AsksText (state g.S.Store c.args.self.now.store.now.calls.conn) (state g.S.Store c.ask.new.self.store.now.calls.conn) GET_PIECE.now (Int (pos c.args.number) ∷ Int (pos c.args.place) ∷ []) (Ok c.in_ok-rows.rows) =
     rw (c.params-to_sql.ensures, c.params-to_sql-2.ensures, c.get.ensures.value) at c.in_ok-rows.ensures.asks in
-    pieces_read c.args.number c.args.place _ _ c.in_ok-rows.rows it c.read_all.result (rw c.deref.ensures.value at c.read_all.ensures)
+    pieces_read c.args.number c.args.place _ _ c.in_ok-rows.rows it c.read_all.result (rw c.deref.ensures.value at c.read_all.ensures.ok)
 
 pub ask-requires : goal.ask-requires
 ask-requires g c = taking
