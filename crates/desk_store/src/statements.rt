@@ -5,7 +5,7 @@ ghost use Rattle.sqlite.specs.Values.{bound};
 ghost use Rattle.sql_calls.specs.Calls.{AsksFew, AsksText, RunsText, TakesFirst, counts, row_in, rows_in};
 ghost use Rattle.sql_calls.specs.Means.{Knows, KnowsWrite};
 ghost use Rattle.desk_records.specs.Holds.{HoldsLedger};
-ghost use Rattle.desk_store.specs.Blaming.{BlamesTo};
+ghost use Rattle.desk_store.specs.Blaming.{HasCause, Watches};
 ghost use Rattle.desk_store.specs.Changing.{StaysIn, seen_in};
 ghost use Rattle.desk_store.specs.Counting.{AddsIn};
 
@@ -45,7 +45,7 @@ impl<'a, S: Alter> OpenChange<'a, S> {
         requires { Knows HoldsLedger sql.now }
         ensures stays { StaysIn S.Store self.old self.new result }
         ensures asks { AsksFew (seen_in S.Store self.old) (seen_in S.Store self.new) sql.now (bound params.now) most result }
-        ensures blames { IfErr result (λ fault. BlamesTo S.Store (λ t. Unit) self.old self.new result) }
+        ensures blames { IfErr result (λ fault. (watch : _) → Watches S.Store self.old watch → HasCause S.Store self.new watch fault) }
         ensures work { AddsIn 1 most self.old self.new }
     {
         self.store.calls.few(sql, params, most)
