@@ -1,26 +1,24 @@
 -- The table of actions agrees where records of accepted commands are held.
-use Rattle.std.proofs.Common.{◌≡◌, ◌⊎◌, inl, inr, ◌≤◌, ◌<◌, ◌^◌, ℕ, zero, suc, ◌+◌, pos, Bool, true, false, List, [], ◌∷◌, length, map, slice_get, zip, unwrap_or, nat_eq, Option, Some, None, refl, sym, ap, subst, ◌∙◌, arith}
+use Rattle.std.proofs.Common.{◌≡◌, ◌≤◌, ◌<◌, ◌^◌, ℕ, zero, suc, pos, true, false, List, [], ◌∷◌, map, slice_get, zip, unwrap_or, Option, Some, None, refl, sym, ap, subst, ◌∙◌, arith}
 use Rattle.std.specs.Option.{is_some, option_or}
-use Rattle.std.proofs.lemmas.Bool.Decides.{nat_tests}
 use Rattle.sqlite_value.specs.declared.value.Value.TheVariants.{Int, Null}
 use Rattle.sqlite_value.specs.Order.{Row, column}
 use Rattle.sqlite_trees.specs.Tree.{has_rowid}
 use Rattle.sqlite.specs.Effect.{Database}
 use Rattle.sqlite_rules.specs.Lists.{Has}
 use Rattle.sqlite_rules.proofs.ListLemmas.{has_got}
-use Rattle.sql_calls.specs.Keyed.{IsHeldBy, rows_from}
 use Rattle.rollout_model.specs.Rules.{is_number, is_word}
 use Rattle.rollout_machine.specs.Actions.{HistoryEntry, Said, OfDeployment, OfCancel, outcome_said}
 use Rattle.rollout_machine.specs.ByteStrings.{item_numbered}
 use Rattle.rollout_machine.specs.CommandList.{CommandList}
 use Rattle.rollout_machine.specs.Commands.{Bytes, CancelWord, DeploymentWord, Proceeding, Scheduled, Resumed, Succeeded, Failed, Rejected}
 use Rattle.rollout_machine.specs.Commands.{Noted, ClosedCancel, CanceledCancel, RejectedCancel, NotedCancel}
-use Rattle.rollout_machine.specs.Histories.{FitsHistory, first_outcome}
+use Rattle.rollout_machine.specs.Histories.{first_outcome}
 use Rattle.rollout_machine.specs.MemberActions.{FollowMembers, IsOfMember}
-use Rattle.rollout_machine.specs.Records.{Records, records}
+use Rattle.rollout_machine.specs.Records.{records}
 use Rattle.rollout_machine.specs.StateWords.{member_at}
 use Rattle.rollout_machine.specs.Validity.{IsValid}
-use Rattle.rollout_machine.specs.WithinLimits.{AreWithinLimits, IsWithinLimits}
+use Rattle.rollout_machine.specs.WithinLimits.{AreWithinLimits}
 use Rattle.rollout_machine.specs.declared.outcome.Outcome.{Outcome}
 use Rattle.rollout_machine.specs.declared.outcome.Outcome.TheVariants.{Good, Bad, Gone}
 use Rattle.rollout_machine.specs.declared.records.ActionRecord.{ActionRecord}
@@ -28,22 +26,21 @@ use Rattle.rollout_machine.specs.declared.records.RolloutRecord.{RolloutRecord}
 use Rattle.rollout_machine.proofs.Histories.{outcomes_fit_histories}
 use Rattle.rollout_machine.proofs.MemberActions.{actions_follow_members}
 use Rattle.rollout_machine.proofs.WithinLimits.{limits_hold}
-use Rattle.desk_records.specs.Actions.{Tally, action_row, actor_of, entry_row, kind_code, outcome_code, tally_of, told_entry, word_code}
-use Rattle.desk_records.specs.Codes.{flag_in, number_in, outcome_in}
-use Rattle.desk_records.specs.EntryRow.{cancel_in, deployment_in, said_by}
+use Rattle.desk_records.specs.Actions.{Tally, action_row, actor_of, entry_row, kind_code, outcome_code, tally_of, word_code}
+use Rattle.desk_records.specs.Codes.{flag_in, outcome_in}
+use Rattle.desk_records.specs.EntryRow.{said_by}
 use Rattle.desk_records.specs.Holds.{HoldsRecords, ledger_of}
-use Rattle.desk_records.specs.Listings.{has_at, is_number_of}
 use Rattle.desk_records.specs.Parts.{parts_from}
 use Rattle.desk_records.specs.RolloutRow.{stored_action}
-use Rattle.desk_records.specs.Rollouts.{flag, member_row, members_from, rollout_row, told_rollout}
+use Rattle.desk_records.specs.Rollouts.{member_row, members_from, rollout_row, told_rollout}
 use Rattle.desk_records.specs.Schema.{Actions, Feedbacks, Members, Rollouts}
-use Rattle.desk_records.specs.TableRows.{IsAction, IsMember}
+use Rattle.desk_records.specs.TableRows.{IsAction}
 use Rattle.desk_records.specs.Tables.{HoldsTables, Tables}
 use Rattle.desk_records.specs.declared.rollout_row.StoredAction.{StoredAction}
-use Rattle.desk_records.proofs.HeldCounts.{has_place, item_row, part_among, place_within}
+use Rattle.desk_records.proofs.HeldCounts.{item_row, part_among, place_within}
 use Rattle.desk_records.proofs.HeldTables.{held_rows, numbered, of_part, row_of, wanted_of}
 use Rattle.desk_records.proofs.NumberColumns.{has_own_number, is_at, is_in_range, is_number_in, is_small, number_in_is, number_is, one_number, small_is}
-use Rattle.desk_verify.specs.Actions.{AgreesActions, AreInOrder, FitsEntries, GivesFirst, GivesOutcome, HasAction, HasActions, HasMember, IsRightAction, IsStarted}
+use Rattle.desk_verify.specs.Actions.{AgreesActions, AreInOrder, FitsEntries, GivesOutcome, HasActions, HasMember, IsRightAction, IsStarted}
 use Rattle.desk_verify.proofs.GroupLaw.{few_places, flag_is, one_rowid}
 use Rattle.desk_verify.proofs.ListMembers.{member_ids}
 use Rattle.desk_verify.proofs.MemberLaw.{members_in, said}
@@ -176,10 +173,9 @@ module _ (h : CommandList) (valid : IsValid h) (db : Database) (t : Tables) (hel
       let part = part_among member_row members_in 1 r of.0 (records h).rollouts x (member_row r p id) (omega (arith, of.1)) of.2 (item_row (member_row r) 1 p at.0 x.members id (omega (arith, at.1)) at.2) in
       let row = row_of (t Members) (members_from 1 (records h).rollouts) (member_row r p id) (held_rows db (ledger_of (records h)) held t holds Members) part in
       let ids = member_ids h valid x (has_got (records h).rollouts of.0 x of.2) in
-      let less = place_within x.members at.0 id at.2 in
-      let within : IsWithinLimits x = limits.each r x there in
-      let few = within.members in
-      record { row = Int (pos row.0) ∷ member_row r p id; among = row.1; is = said row.0 r p id (number_of_rollout r x there) (omega (arith, at.1, less, few)) (ids id (has_got x.members at.0 id at.2)) }
+      let few = place_within x.members at.0 id at.2 in
+      let most = (limits.each r x there).members in
+      record { row = Int (pos row.0) ∷ member_row r p id; among = row.1; is = said row.0 r p id (number_of_rollout r x there) (omega (arith, at.1, few, most)) (ids id (has_got x.members at.0 id at.2)) }
 
   -- the rollout of a number
   record ItsRollout (r : ℕ) : Type 0 where
@@ -223,11 +219,11 @@ module _ (h : CommandList) (valid : IsValid h) (db : Database) (t : Tables) (hel
     member : HasMember t a.rollout a.position (actor_of (records h).rollouts a)
     member = subst (HasMember t a.rollout a.position) (sym actor_is) (has_member a.rollout of.rollout a.position of.target of.there of.member)
 
-    is_word_of : is_word (actor_of (records h).rollouts a) ≡ true
+    pub is_word_of : is_word (actor_of (records h).rollouts a) ≡ true
     is_word_of =
         let it = item_at (records h).rollouts a.rollout of.rollout of.there in
         let at = item_at of.rollout.members a.position of.target of.member in
-        ap is_word actor_is ∙ (member_ids h valid of.rollout (has_got (records h).rollouts it.0 of.rollout it.2)) of.target (has_got of.rollout.members at.0 of.target at.2)
+        ap is_word actor_is ∙ member_ids h valid of.rollout (has_got (records h).rollouts it.0 of.rollout it.2) of.target (has_got of.rollout.members at.0 of.target at.2)
 
     abbrev row : Row
     row = action_row (records h).rollouts (suc d) (a, tally_of a)
@@ -235,12 +231,12 @@ module _ (h : CommandList) (valid : IsValid h) (db : Database) (t : Tables) (hel
     abbrev action : StoredAction
     action = stored_action (records h).rollouts (a, tally_of a)
 
-    among : Has (t Actions) row
+    pub among : Has (t Actions) row
     among =
         subst (λ rows. Has rows row) (sym (held_rows db (ledger_of (records h)) held t holds Actions))
         (item_row (action_row (records h).rollouts) 1 (suc d) d (zip (records h).actions (map tally_of (records h).actions)) (a, tally_of a) (omega arith) (with_tally (records h).actions d a got))
 
-    says : IsAction row (suc d) action
+    pub says : IsAction row (suc d) action
     says =
         let less = place_within (records h).actions d a got in
         let few = limits.actions in
@@ -290,7 +286,7 @@ module _ (h : CommandList) (valid : IsValid h) (db : Database) (t : Tables) (hel
           let it = gave sequence o first.gives in
           let history = outcomes_fit_histories h (suc d) a got in
           history.given o (first_is a.history it.index it.entry o it.lies it.gives (λ j f p at said. (let least = first.first (suc j) p (gives j f p at said) in let k = it.at in omega (arith, least, k))))
-      );
+          );
       not_given = λ none. (outcomes_fit_histories h (suc d) a got).not_given (none_is a.history (λ i e o at said. none (suc i) o (gives i e o at said)));
     }
 
@@ -299,13 +295,13 @@ module _ (h : CommandList) (valid : IsValid h) (db : Database) (t : Tables) (hel
 
   -- ---- all of them
 
-  record ItsAction (row : Row) : Type 0 where
-    index : ℕ
-    action : ActionRecord
-    got : slice_get (records h).actions index ≡ Some action
-    is : row ≡ action_row (records h).rollouts (suc index) (action, tally_of action)
+  pub record ItsAction (row : Row) : Type 0 where
+    pub index : ℕ
+    pub action : ActionRecord
+    pub got : slice_get (records h).actions index ≡ Some action
+    pub is : row ≡ action_row (records h).rollouts (suc index) (action, tally_of action)
 
-  its_action : (row : Row) → Has (t Actions) row → ItsAction row
+  pub its_action : (row : Row) → Has (t Actions) row → ItsAction row
   its_action row among =
       let it = numbered (action_row (records h).rollouts) 1 (zip (records h).actions (map tally_of (records h).actions)) row (subst (λ rows. Has rows row) (held_rows db (ledger_of (records h)) held t holds Actions) among) in
       let own = its_tally (records h).actions it.index it.one it.got in
@@ -345,7 +341,7 @@ module _ (h : CommandList) (valid : IsValid h) (db : Database) (t : Tables) (hel
             let m = one.number in
             let n = two.number in
             omega (arith, later, m, n)
-        );
+            );
       }
 
   pub actions_agree : AgreesActions t

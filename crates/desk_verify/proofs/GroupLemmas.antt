@@ -27,12 +27,10 @@ use Rattle.desk_verify.specs.Cuts.{are_right, counts_them, has_each, has_number,
 use Rattle.desk_verify.specs.GroupChecks.{HasEach, IsGroupCount}
 use Rattle.desk_verify.specs.Groups.{AgreesGroups, HasGroupCount, IsInRollout, IsRightGroup, ended_in, has_ended, members_in}
 use Rattle.desk_verify.specs.RolloutChecks.{AreAllChecked, IsChecked}
+use Rattle.desk_verify.proofs.OneRow.{one_in}
 use Rattle.desk_verify.proofs.RolloutLemmas.{decided}
 
 -- ---- a row is one group of one rollout
-
-one_flag : (a b : Bool) → Some a ≡ Some b → a ≡ b
-one_flag a b h = cc
 
 pub one_rollout : (row : Row) (r s : ℕ) (g h : GroupRecord) → IsGroup row r g → IsGroup row s h → r ≡ s
 one_rollout row r s g h a b = one_number (column row 1) r s (number_in_is _ _ a.rollout_is) (number_in_is _ _ b.rollout_is)
@@ -42,7 +40,7 @@ one_group row r s g h a b =
     let number : g.number ≡ h.number = one_number (column row 2) g.number h.number a.shows.number b.shows.number in
     let first : g.bounds.first ≡ h.bounds.first = one_number (column row 3) g.bounds.first h.bounds.first a.shows.first b.shows.first in
     let last : g.bounds.last ≡ h.bounds.last = one_number (column row 4) g.bounds.last h.bounds.last a.shows.last b.shows.last in
-    let started : g.started ≡ h.started = one_flag g.started h.started (sym a.shows.started ∙ b.shows.started) in
+    let started : g.started ≡ h.started = one_in _ g.started h.started a.shows.started b.shows.started in
     let ok : g.ok ≡ h.ok = one_number (column row 6) g.ok h.ok a.shows.ok b.shows.ok in
     let bad : g.bad ≡ h.bad = one_number (column row 7) g.bad h.bad a.shows.bad b.shows.bad in
     let gone : g.gone ≡ h.gone = one_number (column row 8) g.gone h.gone a.shows.gone b.shows.gone in
@@ -204,4 +202,4 @@ pub agrees : (t : Tables) (listed all : ℕ) → AreAllChecked Groups 1 IsInRoll
 agrees t listed all checked is = decided Groups 1 IsInRollout HasEach AgreesGroups t listed all checked is
     (λ each whole. record { each = each; all = λ rollout n i low has. whole rollout low (is_there t rollout n has) n i has })
     (λ agree row among. let it = agree.each row among in
-        record { rollout = it.rollout; low = number_in_least (column row 1) it.rollout it.is.rollout_is; there = is_there t it.rollout it.n it.there; of = of_rollout row it.rollout it.group it.is })
+    record { rollout = it.rollout; low = number_in_least (column row 1) it.rollout it.is.rollout_is; there = is_there t it.rollout it.n it.there; of = of_rollout row it.rollout it.group it.is })

@@ -1,6 +1,7 @@
 mod PieceChecks
 mod ArtifactLemmas
 mod Counting
+mod OneRow
 mod RolloutLemmas
 mod Follow
 mod MemberLemmas
@@ -10,6 +11,10 @@ mod Naming
 mod ListMembers
 mod MemberLaw
 mod ActionLaw
+mod Rising
+mod HistoryLemmas
+mod TurnLemmas
+mod ActionLemmas
 mod OfferLemmas
 mod OfferLaw
 mod ArtifactLaw

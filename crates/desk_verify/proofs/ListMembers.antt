@@ -1,11 +1,8 @@
 -- The members of the rollouts of a list of accepted commands are ids.
-use Rattle.std.proofs.Common.{◌≡◌, ◌⊎◌, inl, inr, ◌≤◌, ℕ, suc, ◌+◌, Bool, true, false, cond, List, [], ◌∷◌, map, filter, length, Option, Some, None, refl, sym, ap, subst, ◌∙◌, arith, length-append, nat_le, nat_lt}
+use Rattle.std.proofs.Common.{◌≡◌, ◌⊎◌, inl, inr, ℕ, suc, Bool, true, false, cond, List, [], ◌∷◌, map, filter, Option, Some, None, refl, sym, ap, subst, ◌∙◌}
 use Rattle.std.proofs.lemmas.Bool.{and_parts}
-use Rattle.std.proofs.lemmas.Bool.Decides.{nat_tests}
-use Rattle.std.proofs.lemmas.List.{length-map}
 use Rattle.sqlite_rules.specs.Lists.{Has}
 use Rattle.sqlite_rules.proofs.ListLemmas.{has_either, has_filtered, test_has}
-use Rattle.rollout_model.specs.Limits.{rollout_limit, target_limit}
 use Rattle.rollout_model.specs.Rules.{is_word}
 use Rattle.rollout_machine.specs.ByteStrings.{bytes_below, same_bytes, with_word, with_words}
 use Rattle.rollout_machine.specs.CommandList.{CommandList, Make, ◌▸◌}
@@ -16,12 +13,10 @@ use Rattle.rollout_machine.specs.Records.{records, rollouts_in}
 use Rattle.rollout_machine.specs.Rollouts.{Rollout, chosen, created, rollouts}
 use Rattle.rollout_machine.specs.Targets.{Target, import_rows_of, target_ids, target_in, targets}
 use Rattle.rollout_machine.specs.Validity.{IsValid}
-use Rattle.rollout_machine.specs.Verdicts.{verdict, verdict_row}
 use Rattle.rollout_machine.specs.declared.records.RolloutRecord.{RolloutRecord}
-use Rattle.rollout_machine.proofs.Valid.{NoneHolds, none_holds}
 use Rattle.target_filter.specs.Grammar.{Tree}
 use Rattle.target_filter.specs.Profile.{filter_of}
-use Rattle.desk_records.proofs.Membership.{few_pass, has_mapped}
+use Rattle.desk_records.proofs.Membership.{has_mapped}
 
 -- ---- targets
 

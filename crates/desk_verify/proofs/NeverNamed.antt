@@ -21,7 +21,7 @@ use Rattle.desk_verify.proofs.OfferLaw.{offers_agree}
 
 -- each table that has a rule, in the order of the tables
 pub all_agree : RecordsAgree
-all_agree h valid db t held holds = (artifacts_agree h valid db t held holds, (members_agree h valid db t held holds, (groups_agree h valid db t held holds, (tt, (offers_agree h valid db t held holds, tt)))))
+all_agree h valid db t held holds = (artifacts_agree h valid db t held holds, (members_agree h valid db t held holds, (groups_agree h valid db t held holds, (actions_agree h valid db t held holds, (offers_agree h valid db t held holds, tt)))))
 
 named_agrees : (t : Tables) (table : CheckedTable) → NamesFirst t table → AllByRecursion (Agrees t) checked → ⊥
 named_agrees t table named agree = named.differs (all_has (Agrees t) checked table agree (subst (λ l. Has l table) (sym named.order) (has_right named.before (table ∷ named.after) table (inl refl))))

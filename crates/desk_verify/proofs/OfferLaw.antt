@@ -1,83 +1,52 @@
 -- The table of offers agrees where records of accepted commands are held.
-use Rattle.std.proofs.Common.{◌≡◌, inl, inr, ◌≤◌, ◌<◌, ◌&&◌, ℕ, zero, suc, ◌+◌, pos, Bool, true, false, List, [], ◌∷◌, map, length, slice_get, zip, nat_lt, is_none, Option, Some, None, true≢false, refl, sym, ap, subst, ◌∙◌, arith}
-use Rattle.std.specs.List.{list_any}
-use Rattle.std.specs.Option.{unwrap_or}
+use Rattle.std.proofs.Common.{◌≡◌, inl, inr, ◌≤◌, ℕ, zero, suc, pos, Bool, true, false, ◌∷◌, map, slice_get, nat_lt, is_none, Option, Some, None, true≢false, refl, sym, ap, subst, ◌∙◌, arith}
 use Rattle.std.proofs.lemmas.Bool.{and_from, and_parts}
 use Rattle.std.proofs.lemmas.Bool.Decides.{nat_tests}
-use Rattle.sqlite_value.specs.declared.value.Value.TheVariants.{Int, Null, Text}
-use Rattle.sqlite_value.specs.Order.{Row, column}
-use Rattle.sqlite_trees.specs.Tree.{has_rowid}
+use Rattle.sqlite_value.specs.declared.value.Value.TheVariants.{Int, Null}
+use Rattle.sqlite_value.specs.Order.{Row}
 use Rattle.sqlite.specs.Effect.{Database}
 use Rattle.sqlite_rules.specs.Lists.{Has}
 use Rattle.sqlite_rules.proofs.ListLemmas.{has_filtered, has_got, has_kept, some_from, some_has}
-use Rattle.rollout_model.specs.Rules.{is_number, is_word}
+use Rattle.rollout_model.specs.Rules.{is_word}
 use Rattle.rollout_model.specs.declared.rollout.Offer.{Offer}
-use Rattle.rollout_machine.specs.ByteStrings.{item_numbered, same_bytes}
+use Rattle.rollout_machine.specs.ByteStrings.{item_numbered}
 use Rattle.rollout_machine.specs.CommandList.{CommandList}
 use Rattle.rollout_machine.specs.Commands.{Bytes}
 use Rattle.rollout_machine.specs.Groups.{holds_position}
 use Rattle.rollout_machine.specs.Kinds.{TargetOffer, offer_to}
+use Rattle.rollout_machine.specs.MemberActions.{IsOfMember}
 use Rattle.rollout_machine.specs.Offers.{offer}
-use Rattle.rollout_machine.specs.Records.{Records, records}
-use Rattle.rollout_machine.specs.StateWords.{has_started, is_for, member_at}
+use Rattle.rollout_machine.specs.Records.{records}
+use Rattle.rollout_machine.specs.StateWords.{has_started}
 use Rattle.rollout_machine.specs.Validity.{IsValid}
-use Rattle.rollout_machine.specs.declared.outcome.Outcome.{Outcome}
-use Rattle.rollout_machine.specs.declared.outcome.Outcome.TheVariants.{Good, Bad, Gone}
 use Rattle.rollout_machine.specs.declared.records.ActionRecord.{ActionRecord}
-use Rattle.rollout_machine.specs.declared.records.GroupRecord.{GroupRecord}
 use Rattle.rollout_machine.specs.declared.records.RolloutRecord.{RolloutRecord}
-use Rattle.rollout_machine.proofs.AtNumbers.{has_place, item_within}
+use Rattle.rollout_machine.proofs.AtNumbers.{has_place}
 use Rattle.rollout_machine.proofs.MemberActions.{actions_follow_members}
 use Rattle.rollout_machine.proofs.Meanings.{is_candidate, least_offer, none_from}
 use Rattle.rollout_machine.proofs.Offers.{offered_one}
 use Rattle.rollout_machine.proofs.TargetTies.{same_refl, same_true}
-use Rattle.rollout_machine.proofs.WithinLimits.{limits_hold}
 use Rattle.offer_laws.proofs.AnyGroup.{started_by_any}
-use Rattle.desk_records.specs.Actions.{Tally, action_row, actor_of, outcome_code, tally_of, told_action}
-use Rattle.desk_records.specs.Codes.{flag_in, number_in, outcome_in}
+use Rattle.desk_records.specs.Actions.{action_row, actor_of, tally_of, told_action}
+use Rattle.desk_records.specs.Codes.{number_in}
 use Rattle.desk_records.specs.Holds.{HoldsRecords, ledger_of}
 use Rattle.desk_records.specs.Offers.{HoldsOffers, is_to, offer_row}
-use Rattle.desk_records.specs.RolloutRow.{IsActionRow, stored_action}
-use Rattle.desk_records.specs.Rollouts.{group_row}
-use Rattle.desk_records.specs.Schema.{Actions, Groups, Offers}
-use Rattle.desk_records.specs.TableRows.{IsAction, IsGroup, IsOffer, action_shown}
+use Rattle.desk_records.specs.RolloutRow.{stored_action}
+use Rattle.desk_records.specs.Schema.{Offers}
+use Rattle.desk_records.specs.TableRows.{IsAction, IsGroup, IsOffer}
 use Rattle.desk_records.specs.Tables.{HoldsTables, Tables}
 use Rattle.desk_records.specs.declared.rollout_row.StoredAction.{StoredAction}
-use Rattle.desk_records.proofs.HeldCounts.{has_place as place_of, item_row}
-use Rattle.desk_records.proofs.HeldTables.{held_rows, numbered, row_of, wanted_of}
+use Rattle.desk_records.proofs.HeldCounts.{has_place as place_of}
+use Rattle.desk_records.proofs.HeldTables.{held_rows, row_of, wanted_of}
 use Rattle.desk_records.proofs.Membership.{has_mapped, map_has}
-use Rattle.desk_records.proofs.NumberColumns.{has_own_number, is_in_range, is_number_in, number_in_is, one_number}
-use Rattle.desk_verify.specs.OfferChecks.{is_started_at}
+use Rattle.desk_records.proofs.NumberColumns.{has_own_number}
+use Rattle.desk_verify.specs.OfferChecks.{holds_started, is_started_at}
 use Rattle.desk_verify.specs.Offers.{AgreesOffers, HasNumberedAction, IsDue, IsInStartedGroup, IsOffered, IsRightOffer}
+use Rattle.desk_verify.proofs.ActionLaw.{among, is_word_of, its_action, says}
 use Rattle.desk_verify.proofs.GroupLaw.{flag_is, group_lies, is_group, one_of}
 use Rattle.desk_verify.proofs.GroupLemmas.{one_group, one_rollout}
-use Rattle.desk_verify.proofs.ListMembers.{member_ids}
 use Rattle.desk_verify.proofs.OfferLemmas.{none_ended}
-
--- ---- lists
-
-has_numbered : {X : Type 0} (xs : List X) (k : ℕ) (x : X) → item_numbered xs k ≡ Some x → Has xs x
-has_numbered xs zero x e = absurd cc
-has_numbered xs (suc k) x e = has_got xs k x e
-
--- each beside what is made of it
-beside : {X Y : Type 0} (f : X → Y) (xs : List X) (k : ℕ) (x : X) → slice_get xs k ≡ Some x → slice_get (zip xs (map f xs)) k ≡ Some (x, f x)
-beside f [] k x e = absurd cc
-beside f (y ∷ xs) zero x e = let same : y ≡ x = cc in ap (λ z. Some (z, f z)) same
-beside f (y ∷ xs) (suc k) x e = beside f xs k x e
-
-first_of : {X Y : Type 0} (f : X → Y) (xs : List X) (k : ℕ) (it : X × Y) → slice_get (zip xs (map f xs)) k ≡ Some it → slice_get xs k ≡ Some it.0
-first_of f [] k it e = absurd cc
-first_of f (y ∷ xs) zero it e = let same : (y, f y) ≡ it = cc in ap (λ (z : _ × _). Some z.0) same
-first_of f (y ∷ xs) (suc k) it e = first_of f xs k it e
-
--- ---- columns
-
-outcome_is : (ended : Option Outcome) → outcome_in (Int (pos (outcome_code ended))) ≡ Some ended
-outcome_is None = refl
-outcome_is (Some Good) = refl
-outcome_is (Some Bad) = refl
-outcome_is (Some Gone) = refl
+use Rattle.desk_verify.proofs.OneRow.{one_action, one_in}
 
 -- ---- the law
 
@@ -88,47 +57,20 @@ module _ (h : CommandList) (valid : IsValid h) (db : Database) (t : Tables) (hel
   abbrev kept : ActionRecord → StoredAction
   kept a = stored_action (records h).rollouts (a, tally_of a)
 
-  abbrev row_at : ℕ → ActionRecord → Row
-  row_at n a = action_row (records h).rollouts n (a, tally_of a)
-
-  good_number : (d : ℕ) (a : ActionRecord) → slice_get (records h).actions d ≡ Some a → is_number (suc d) ≡ true
-  good_number d a at = let few = (limits_hold h valid).actions in let within = item_within (records h).actions (suc d) a at in is_in_range (suc d) within.0 (omega (arith, within.1, few))
-
-  shows : (n d : ℕ) (a : ActionRecord) → slice_get (records h).actions d ≡ Some a → IsActionRow (action_shown (row_at n a)) (kept a)
-  shows n d a at =
-      let of = (actions_follow_members h valid).of_members (suc d) a at in
-      let few = (limits_hold h valid).rollouts in
-      let within = item_within (records h).rollouts a.rollout of.rollout of.there in
-      record {
-        rollout = is_number_in a.rollout (is_in_range a.rollout within.0 (omega (arith, within.1, few)));
-        position = refl;
-        target = refl;
-        canceling = flag_is a.canceling;
-        outcome = outcome_is a.outcome;
-        notes = refl;
-        entries = refl;
-      }
+  is_action : (d : ℕ) (a : ActionRecord) → slice_get (records h).actions d ≡ Some a → IsAction (action_row (records h).rollouts (suc d) (a, tally_of a)) (suc d) (kept a)
+  is_action d a at = says h valid db t held holds d a at
 
   has_action : (d : ℕ) (a : ActionRecord) → slice_get (records h).actions d ≡ Some a → HasNumberedAction t (suc d) (kept a)
   has_action d a at = record {
-    row = row_at (suc d) a;
-    among = subst (λ rows. Has rows (row_at (suc d) a)) (sym (held_rows db (ledger_of (records h)) held t holds Actions))
-        (item_row (action_row (records h).rollouts) 1 (suc d) d (zip (records h).actions (map tally_of (records h).actions)) (a, tally_of a) (omega arith) (beside tally_of (records h).actions d a at));
+    row = action_row (records h).rollouts (suc d) (a, tally_of a);
+    among = among h valid db t held holds d a at;
     numbered = has_own_number (suc d) (Null ∷ told_action (records h).rollouts (a, tally_of a));
-    shows = shows (suc d) d a at;
+    shows = (is_action d a at).shows;
   }
-
-  -- its target is an id
-  actor_is : (d : ℕ) (a : ActionRecord) → slice_get (records h).actions d ≡ Some a → is_word (actor_of (records h).rollouts a) ≡ true
-  actor_is d a at =
-      let of = (actions_follow_members h valid).of_members (suc d) a at in
-      let ids = member_ids h valid of.rollout (has_numbered (records h).rollouts a.rollout of.rollout of.there) in
-      let named : actor_of (records h).rollouts a ≡ of.target = ap (λ o. member_at o a.position) of.there ∙ ap (λ o. unwrap_or o []) of.member in
-      ap is_word named ∙ ids of.target (has_numbered of.rollout.members a.position of.target of.member)
 
   -- ---- started groups
 
-  in_group : (r : ℕ) (x : RolloutRecord) (place : ℕ) → item_numbered (records h).rollouts r ≡ Some x → list_any (is_started_at place) x.groups ≡ true → IsInStartedGroup t r place
+  in_group : (r : ℕ) (x : RolloutRecord) (place : ℕ) → item_numbered (records h).rollouts r ≡ Some x → holds_started x.groups place ≡ true → IsInStartedGroup t r place
   in_group zero x place got any = absurd cc
   in_group (suc d) x place got any =
       let found = some_has (is_started_at place) x.groups any in
@@ -137,7 +79,7 @@ module _ (h : CommandList) (valid : IsValid h) (db : Database) (t : Tables) (hel
       let both = and_parts (holds_position place found.0.bounds) found.0.started found.2 in
       record { row = lies.0; among = lies.1; group = found.0; is = lies.2; holds = both.0; started = both.1 }
 
-  any_group : (r : ℕ) (x : RolloutRecord) (place : ℕ) → item_numbered (records h).rollouts r ≡ Some x → IsInStartedGroup t r place → list_any (is_started_at place) x.groups ≡ true
+  any_group : (r : ℕ) (x : RolloutRecord) (place : ℕ) → item_numbered (records h).rollouts r ≡ Some x → IsInStartedGroup t r place → holds_started x.groups place ≡ true
   any_group r x place got it =
       let of = one_of h valid db t held holds it.row it.among in
       let is = subst (λ row. IsGroup row (suc of.index) of.group) (sym of.is) (is_group h valid db t held holds of.index of.whole of.got of.at of.group of.got_group of.n) in
@@ -149,10 +91,10 @@ module _ (h : CommandList) (valid : IsValid h) (db : Database) (t : Tables) (hel
       (subst (λ g. is_started_at place g ≡ true) group (and_from _ _ it.holds it.started))
 
   -- what the action's own group says of it, any group says that holds its place
-  started_is : (d : ℕ) (a : ActionRecord) (x : RolloutRecord) → slice_get (records h).actions d ≡ Some a → item_numbered (records h).rollouts a.rollout ≡ Some x → has_started (records h) a ≡ list_any (is_started_at a.position) x.groups
+  started_is : (d : ℕ) (a : ActionRecord) (x : RolloutRecord) → slice_get (records h).actions d ≡ Some a → item_numbered (records h).rollouts a.rollout ≡ Some x → has_started (records h) a ≡ holds_started x.groups a.position
   started_is d a x at there =
       let of = has_place h (suc d) a at in
-      subst (λ (b : ActionRecord). item_numbered (records h).rollouts b.rollout ≡ Some x → has_started (records h) b ≡ list_any (is_started_at b.position) x.groups) (sym of.is) (started_by_any h (suc d) of.place x valid of.numbered) there
+      subst (λ (b : ActionRecord). item_numbered (records h).rollouts b.rollout ≡ Some x → has_started (records h) b ≡ holds_started x.groups b.position) (sym of.is) (started_by_any h (suc d) of.place x valid of.numbered) there
 
   -- ---- offers
 
@@ -174,15 +116,15 @@ module _ (h : CommandList) (valid : IsValid h) (db : Database) (t : Tables) (hel
       let its : Has (offer_to id (offer (records h) id)) (record { target = id; offer = o }) = subst (λ found. Has (offer_to id found) (record { target = id; offer = o })) (sym is) (inl refl) in
       (has_filtered (is_to id) offers.listed _ (subst (λ l. Has l (record { target = id; offer = o })) (sym (offers.its id)) its)).0
 
-  says : (n : ℕ) (o : TargetOffer) → offer (records h) o.target ≡ Some o.offer → IsOffer (Int (pos n) ∷ offer_row o) o.target o.offer
-  says n o is =
+  is_offer : (n : ℕ) (o : TargetOffer) → offer (records h) o.target ≡ Some o.offer → IsOffer (Int (pos n) ∷ offer_row o) o.target o.offer
+  is_offer n o is =
       let one = offered_one (records h) o.target 1 (records h).actions o.offer is in
       let number : o.offer.action ≡ suc one.index = omega (arith, one.number) in
       let target = same_true (actor_of (records h).rollouts one.action) o.target one.device in
       record {
         id_is = refl;
-        word = ap is_word (sym target) ∙ actor_is one.index one.action one.there;
-        shows = record { action = is_number_in o.offer.action (ap is_number number ∙ good_number one.index one.action one.there); canceling = flag_is o.offer.canceling };
+        word = ap is_word (sym target) ∙ is_word_of h valid db t held holds one.index one.action one.there;
+        shows = record { action = subst (λ k. number_in (Int (pos k)) ≡ Some k) (sym number) (is_action one.index one.action one.there).number_is; canceling = flag_is o.offer.canceling };
       }
 
   right : (n : ℕ) (o : TargetOffer) → offer (records h) o.target ≡ Some o.offer → IsRightOffer t (Int (pos n) ∷ offer_row o)
@@ -193,7 +135,7 @@ module _ (h : CommandList) (valid : IsValid h) (db : Database) (t : Tables) (hel
       record {
         id = o.target;
         offer = o.offer;
-        is = says n o is;
+        is = is_offer n o is;
         action = kept one.action;
         of = subst (λ k. HasNumberedAction t k (kept one.action)) (sym number) (has_action one.index one.action one.there);
         is_open = none_ended one.action.outcome one.is_open;
@@ -211,58 +153,36 @@ module _ (h : CommandList) (valid : IsValid h) (db : Database) (t : Tables) (hel
 
   -- ---- actions that are due
 
-  -- the action that the row is of
-  record IsOf (number : ℕ) (action : StoredAction) : Type 0 where
-    index : ℕ
-    its : ActionRecord
-    got : slice_get (records h).actions index ≡ Some its
-    number_is : suc index ≡ number
-    rollout : its.rollout ≡ action.rollout
-    position : its.position ≡ action.position
-    target : actor_of (records h).rollouts its ≡ action.target
-    outcome : its.outcome ≡ action.outcome
-
-  its_action : (row : Row) (number : ℕ) (action : StoredAction) → Has (t Actions) row → IsAction row number action → IsOf number action
-  its_action row number action among is =
-      let it = numbered (action_row (records h).rollouts) 1 (zip (records h).actions (map tally_of (records h).actions)) row (subst (λ rows. Has rows row) (held_rows db (ledger_of (records h)) held t holds Actions) among) in
-      go it.at it.one it.index it.at_is it.got (subst (λ r. IsAction r number action) it.is is)
+  -- where the records have such an action, its target is offered one of no greater number
+  offered : (d : ℕ) (a : ActionRecord) → slice_get (records h).actions d ≡ Some a → a.outcome ≡ None → IsInStartedGroup t a.rollout a.position → IsOffered t (actor_of (records h).rollouts a) (suc d)
+  offered d a at is_open group = go (offer (records h) (actor_of (records h).rollouts a)) refl
     where
-      go : (at : ℕ) (one : ActionRecord × Tally) (index : ℕ) → at ≡ 1 + index → slice_get (zip (records h).actions (map tally_of (records h).actions)) index ≡ Some one → IsAction (action_row (records h).rollouts at one) number action → IsOf number action
-      go at one index at_is got its =
-          let own : at ≡ number = one_number _ at number refl (number_in_is _ _ its.number_is) in
-          let target : Text (actor_of (records h).rollouts one.0) ≡ Text action.target = its.shows.target in
-          let outcome : Some one.0.outcome ≡ Some action.outcome = sym (outcome_is one.0.outcome) ∙ its.shows.outcome in
-          record {
-            index = index;
-            its = one.0;
-            got = first_of tally_of (records h).actions index one got;
-            number_is = omega (arith, own, at_is);
-            rollout = one_number _ one.0.rollout action.rollout refl (number_in_is _ _ its.shows.rollout);
-            position = one_number _ one.0.position action.position refl its.shows.position;
-            target = cc;
-            outcome = cc;
-          }
+      its_member : IsOfMember (records h) a
+      its_member = (actions_follow_members h valid).of_members (suc d) a at
+
+      candidate : is_candidate (records h) (actor_of (records h).rollouts a) a ≡ true
+      candidate = and_from _ _ (ap is_none is_open) (and_from _ _ (same_refl (actor_of (records h).rollouts a)) (started_is d a its_member.rollout at its_member.there ∙ any_group a.rollout its_member.rollout a.position its_member.there group))
+
+      go : (found : Option Offer) → offer (records h) (actor_of (records h).rollouts a) ≡ found → IsOffered t (actor_of (records h).rollouts a) (suc d)
+      go None is = absurd (true≢false (sym candidate ∙ none_from (records h) (actor_of (records h).rollouts a) 1 (records h).actions is d a at))
+      go (Some o) is =
+          let its : TargetOffer = record { target = actor_of (records h).rollouts a; offer = o } in
+          let row = row_of (t Offers) (map offer_row offers.listed) (offer_row its) offers.held (map_has offer_row offers.listed its (is_listed (actor_of (records h).rollouts a) o is)) in
+          record { row = Int (pos row.0) ∷ offer_row its; among = row.1; offer = o; is = is_offer row.0 its is; least = least (nat_lt (suc d) o.action) refl }
+        where
+          least : (b : Bool) → nat_lt (suc d) o.action ≡ b → o.action ≤ suc d
+          least true less = absurd (true≢false (sym candidate ∙ least_offer (records h) (actor_of (records h).rollouts a) o is (suc d) a at (grind (arith, nat_tests, less))))
+          least false less = grind (arith, nat_tests, less)
 
   all : (row : Row) (number : ℕ) (action : StoredAction) → IsDue t row number action → IsOffered t action.target number
   all row number action due =
-      let of = its_action row number action due.among due.is in
-      let there = (actions_follow_members h valid).of_members (suc of.index) of.its of.got in
-      let group : IsInStartedGroup t of.its.rollout of.its.position = subst (λ r. IsInStartedGroup t r of.its.position) (sym of.rollout) (subst (IsInStartedGroup t action.rollout) (sym of.position) due.started) in
-      let started = started_is of.index of.its there.rollout of.got there.there ∙ any_group of.its.rollout there.rollout of.its.position there.there group in
-      let candidate : is_candidate (records h) action.target of.its ≡ true = and_from _ _ (ap is_none (of.outcome ∙ due.is_open)) (and_from _ _ (ap (λ id. same_bytes id action.target) of.target ∙ same_refl action.target) started) in
-      go of candidate (offer (records h) action.target) refl
-    where
-      go : (of : IsOf number action) → is_candidate (records h) action.target of.its ≡ true → (found : Option Offer) → offer (records h) action.target ≡ found → IsOffered t action.target number
-      go of candidate None is = absurd (true≢false (sym candidate ∙ none_from (records h) action.target 1 (records h).actions is of.index of.its of.got))
-      go of candidate (Some o) is =
-          let row = row_of (t Offers) (map offer_row offers.listed) (offer_row (record { target = action.target; offer = o })) offers.held (map_has offer_row offers.listed _ (is_listed action.target o is)) in
-          record { row = Int (pos row.0) ∷ offer_row (record { target = action.target; offer = o }); among = row.1; offer = o; is = says row.0 (record { target = action.target; offer = o }) is; least = least (nat_lt number o.action) refl }
-        where
-          least : (b : Bool) → nat_lt number o.action ≡ b → o.action ≤ number
-          least true less =
-              let few : number < o.action = grind (arith, nat_tests, less) in
-              absurd (true≢false (sym candidate ∙ least_offer (records h) action.target o is (suc of.index) of.its of.got (omega (arith, few, of.number_is))))
-          least false less = grind (arith, nat_tests, less)
+      let its = its_action h valid db t held holds row due.among in
+      let is = subst (λ r. IsAction r (suc its.index) (kept its.action)) (sym its.is) (is_action its.index its.action its.got) in
+      let same : action ≡ kept its.action = one_action row action (kept its.action) due.is.shows is.shows in
+      let own : suc its.index ≡ number = one_in _ (suc its.index) number is.number_is due.is.number_is in
+      let group = subst (λ (a : StoredAction). IsInStartedGroup t a.rollout a.position) same due.started in
+      let is_open : its.action.outcome ≡ None = sym (ap (λ (a : StoredAction). a.outcome) same) ∙ due.is_open in
+      subst (λ (a : StoredAction). IsOffered t a.target number) (sym same) (subst (IsOffered t (actor_of (records h).rollouts its.action)) own (offered its.index its.action its.got is_open group))
 
   pub offers_agree : AgreesOffers t
   offers_agree = record { each = each; all = all }

@@ -1,10 +1,7 @@
 -- What the reads of the tables of offers, actions and groups come to.
-use Rattle.std.proofs.Common.{◌≡◌, ◌≤◌, ◌&&◌, ℕ, Bool, true, false, List, [], ◌∷◌, is_none, is_some, length, Option, Some, None, true≢false, refl, sym, ap, subst, ◌∙◌, arith, pos}
+use Rattle.std.proofs.Common.{◌≡◌, ℕ, Bool, true, false, List, is_none, is_some, length, Option, Some, None, true≢false, refl, sym, ap, subst, ◌∙◌, pos}
 use Rattle.std.specs.List.{AllByRecursion}
 use Rattle.std.proofs.lemmas.Bool.{and_from, and_parts}
-use Rattle.std.proofs.lemmas.Bool.Decides.{nat_tests}
-use Rattle.sqlite_value.specs.declared.value.Value.{Value}
-use Rattle.sqlite_value.specs.declared.value.Value.TheVariants.{Text}
 use Rattle.sqlite_value.specs.Order.{Row, column}
 use Rattle.sqlite_trees.specs.Tree.{has_rowid}
 use Rattle.sqlite_rules.specs.Lists.{Has}
@@ -16,9 +13,8 @@ use Rattle.rollout_machine.specs.declared.outcome.Outcome.{Outcome}
 use Rattle.rollout_machine.specs.declared.records.GroupRecord.{GroupRecord}
 use Rattle.rollout_machine.proofs.TargetTies.{same_refl}
 use Rattle.desk_records.specs.Listings.{FindsOne, has_at, has_text_at}
-use Rattle.desk_records.specs.RolloutRow.{IsActionRow}
 use Rattle.desk_records.specs.Schema.{Actions, Groups, Offers}
-use Rattle.desk_records.specs.TableRows.{IsAction, IsGroup, IsOffer, action_shown}
+use Rattle.desk_records.specs.TableRows.{IsAction, IsOffer}
 use Rattle.desk_records.specs.Tables.{Tables}
 use Rattle.desk_records.specs.declared.checked_rows.OwnedOffer.{OwnedOffer}
 use Rattle.desk_records.specs.declared.rollout_row.ListedAction.{ListedAction}
@@ -27,12 +23,13 @@ use Rattle.desk_records.specs.declared.rollout_row.StoredRollout.{StoredRollout}
 use Rattle.desk_records.proofs.NumberColumns.{is_at, number_in_is, number_in_least, number_is, one_number}
 use Rattle.desk_store.specs.RawLists.{ListsRows, SaysAction, SaysGroup, SaysNumbered, SaysOffer, SaysOfferOf, any_row}
 use Rattle.desk_verify.specs.Agreement.{Decides}
-use Rattle.desk_verify.specs.OfferChecks.{Fits, IsRight, RowWaitsForNone, WaitsForNone, holds_started, is_due, is_started_at}
+use Rattle.desk_verify.specs.OfferChecks.{Fits, IsRight, IsRowOffered, IsOfferedIfDue, holds_started, is_due, is_started_at}
 use Rattle.desk_verify.specs.Offers.{AgreesOffers, HasNumberedAction, IsDue, IsInStartedGroup, IsOffered, IsRightOffer}
 use Rattle.desk_verify.specs.RolloutChecks.{HasRollout, IsChecked, JudgesAll}
 use Rattle.desk_verify.specs.Rollouts.{IsThere}
 use Rattle.desk_verify.proofs.Counting.{is_within}
 use Rattle.desk_verify.proofs.GroupLemmas.{one_group}
+use Rattle.desk_verify.proofs.OneRow.{one_action, one_in, one_text}
 use Rattle.desk_verify.proofs.RolloutLemmas.{rollout_there}
 
 -- ---- what is decided
@@ -48,25 +45,6 @@ if_so false so it = absurd (so it)
 pub none_ended : (ended : Option Outcome) → is_none ended ≡ true → ended ≡ None
 none_ended None is = refl
 none_ended (Some outcome) is = cc
-
--- ---- a row says one thing
-
-one_in : {X : Type 0} (read : Option X) (x y : X) → read ≡ Some x → read ≡ Some y → x ≡ y
-one_in read x y is other = let same : Some x ≡ Some y = sym is ∙ other in cc
-
-one_text : (v : Value) (a b : Bytes) → v ≡ Text a → v ≡ Text b → a ≡ b
-one_text v a b is other = let same : Text a ≡ Text b = sym is ∙ other in cc
-
-one_action : (row : Row) (a b : StoredAction) → IsActionRow (action_shown row) a → IsActionRow (action_shown row) b → a ≡ b
-one_action row a b is other =
-    let rollout = one_in _ a.rollout b.rollout is.rollout other.rollout in
-    let position = one_number (column row 3) a.position b.position is.position other.position in
-    let target = one_text (column row 4) a.target b.target is.target other.target in
-    let canceling = one_in _ a.canceling b.canceling is.canceling other.canceling in
-    let outcome = one_in _ a.outcome b.outcome is.outcome other.outcome in
-    let notes = one_number (column row 7) a.notes b.notes is.notes other.notes in
-    let entries = one_number (column row 8) a.entries b.entries is.entries other.entries in
-    λ i. record { rollout = rollout i; position = position i; target = target i; canceling = canceling i; outcome = outcome i; notes = notes i; entries = entries i }
 
 has_id : (row : Row) (id : Bytes) (o : Offer) → IsOffer row id o → has_text_at 1 id row ≡ true
 has_id row id o is = rw is.id_is (same_refl id)
@@ -117,13 +95,13 @@ FindsOffer t id = FindsOne (t Offers) (has_text_at 1 id) (SaysOfferOf id)
 pub no_offer : (t : Tables) (id : Bytes) (number : ℕ) → FindsOffer t id None → Decides (IsOffered t id number) false
 no_offer t id number none it = none it.row it.among (has_id it.row id it.offer it.is)
 
--- an action that isn't due waits for none
-pub not_due : (t : Tables) (groups : List GroupRecord) (listed : ListedAction) → is_due groups listed.action ≡ false → WaitsForNone t groups listed
+-- nothing is asked of an action that is not due
+pub not_due : (t : Tables) (groups : List GroupRecord) (listed : ListedAction) → is_due groups listed.action ≡ false → IsOfferedIfDue t groups listed
 not_due t groups listed other due = absurd (true≢false (sym due ∙ other))
 
-pub if_due : (t : Tables) (groups : List GroupRecord) (listed : ListedAction) → is_due groups listed.action ≡ true → (offered : Bool) → Decides (IsOffered t listed.action.target listed.number) offered → Decides (WaitsForNone t groups listed) offered
+pub if_due : (t : Tables) (groups : List GroupRecord) (listed : ListedAction) → is_due groups listed.action ≡ true → (offered : Bool) → Decides (IsOffered t listed.action.target listed.number) offered → Decides (IsOfferedIfDue t groups listed) offered
 if_due t groups listed due true offered = λ h. offered
-if_due t groups listed due false none = λ waits. none (waits due)
+if_due t groups listed due false none = λ any. none (any due)
 
 -- ---- the actions of one rollout
 
@@ -132,23 +110,23 @@ module _ (t : Tables) (r : ℕ) (rollout : StoredRollout) (groups : List GroupRe
   its_rollout : (row : Row) (number : ℕ) (action : StoredAction) → IsAction row number action → has_at 2 r row ≡ true → action.rollout ≡ r
   its_rollout row number action is of = one_number (column row 2) action.rollout r (number_in_is _ _ is.shows.rollout) (number_is (column row 2) r of)
 
-  pub none_waits : (count : ℕ) → AllByRecursion (WaitsForNone t groups) actions → count ≡ length actions → IsChecked Actions 2 RowWaitsForNone (λ t r. Unit) t r count
-  none_waits count none is = record { rows = record { each = each; all = is ∙ acted.count }; whole = tt }
+  pub all_offered : (count : ℕ) → AllByRecursion (IsOfferedIfDue t groups) actions → count ≡ length actions → IsChecked Actions 2 IsRowOffered (λ t r. Unit) t r count
+  all_offered count none is = record { rows = record { each = each; all = is ∙ acted.count }; whole = tt }
     where
-      each : (row : Row) → Has (t Actions) row → has_at 2 r row ≡ true → RowWaitsForNone t row
+      each : (row : Row) → Has (t Actions) row → has_at 2 r row ≡ true → IsRowOffered t row
       each row among of number action due =
           let one = acted.complete row among of in
           let started = subst (λ k. IsInStartedGroup t k action.position) (its_rollout row number action due.is of) due.started in
           let is_so : is_due groups action ≡ true = and_from _ _ (ap is_none due.is_open) (if_so _ (started_tells t r action.position groups listed) started) in
           let same : one.one.action ≡ action = one_action row one.one.action action one.is.shows due.is.shows in
           let own : one.one.number ≡ number = one_in _ one.one.number number one.is.number_is due.is.number_is in
-          let waits = all_has (WaitsForNone t groups) actions one.one none one.among (subst (λ a. is_due groups a ≡ true) (sym same) is_so) in
-          subst (λ k. IsOffered t action.target k) own (subst (λ (a : StoredAction). IsOffered t a.target one.one.number) same waits)
+          let offered = all_has (IsOfferedIfDue t groups) actions one.one none one.among (subst (λ a. is_due groups a ≡ true) (sym same) is_so) in
+          subst (λ k. IsOffered t action.target k) own (subst (λ (a : StoredAction). IsOffered t a.target one.one.number) same offered)
 
-  pub one_waits : HasRollout t r rollout → (AllByRecursion (WaitsForNone t groups) actions → ⊥) → AgreesOffers t → ⊥
-  one_waits has some agree = some (all_from (WaitsForNone t groups) actions each)
+  pub one_not_offered : HasRollout t r rollout → (AllByRecursion (IsOfferedIfDue t groups) actions → ⊥) → AgreesOffers t → ⊥
+  one_not_offered has some agree = some (all_from (IsOfferedIfDue t groups) actions each)
     where
-      each : (one : ListedAction) → Has actions one → WaitsForNone t groups one
+      each : (one : ListedAction) → Has actions one → IsOfferedIfDue t groups one
       each one among due =
           let said = acted.sound one among in
           let both = and_parts (is_none one.action.outcome) (holds_started groups one.action.position) due in
@@ -184,8 +162,8 @@ module _ (t : Tables) (offers : List OwnedOffer) (listed : ListsRows (t Offers) 
             started = it.started;
           }
 
-  pub agrees : AllByRecursion (IsRight t) offers → (found : Option ℕ) → JudgesAll Actions 2 RowWaitsForNone (λ t r. Unit) AgreesOffers t found → Decides (AgreesOffers t) (is_some found)
-  agrees right None waits = waits
+  pub agrees : AllByRecursion (IsRight t) offers → (found : Option ℕ) → JudgesAll Actions 2 IsRowOffered (λ t r. Unit) AgreesOffers t found → Decides (AgreesOffers t) (is_some found)
+  agrees right None differs = differs
   agrees right (Some count) checked = record { each = each; all = all }
     where
       each : (row : Row) → Has (t Offers) row → IsRightOffer t row

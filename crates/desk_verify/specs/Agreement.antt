@@ -1,7 +1,8 @@
 -- When the tables of a desk agree, and what a verification says of them.
-use Rattle.std.specs.Prelude.{◌≡◌, Bool, true, false, List, [], ◌∷◌, ◌++◌, Option, Some, None, ⊤}
+use Rattle.std.specs.Prelude.{◌≡◌, Bool, true, false, List, [], ◌∷◌, ◌++◌, Option, Some, None}
 use Rattle.std.specs.List.{AllByRecursion}
 use Rattle.desk_records.specs.Tables.{Tables}
+use Rattle.desk_verify.specs.Actions.{AgreesActions}
 use Rattle.desk_verify.specs.Artifacts.{AgreesArtifacts}
 use Rattle.desk_verify.specs.Groups.{AgreesGroups}
 use Rattle.desk_verify.specs.Members.{AgreesMembers}
@@ -13,12 +14,12 @@ use Rattle.desk_verify.specs.declared.damage.CheckedTable.TheVariants.{Artifact,
 abbrev pub checked : List CheckedTable
 checked = Artifact ∷ Member ∷ RolloutGroup ∷ Action ∷ Offer ∷ []
 
--- It has exactly the rows that its rule gives, each column keeping its rule. Of the tables without a rule nothing is asked yet.
+-- it has exactly the rows that its rule gives, each column keeping its rule
 abbrev pub Agrees : Tables → CheckedTable → Type 0
 Agrees t Artifact = AgreesArtifacts t
 Agrees t Member = AgreesMembers t
 Agrees t RolloutGroup = AgreesGroups t
-Agrees t Action = ⊤
+Agrees t Action = AgreesActions t
 Agrees t Offer = AgreesOffers t
 
 -- those before it agree, and it doesn't

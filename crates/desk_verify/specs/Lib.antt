@@ -12,5 +12,6 @@ pub mod Groups
 pub mod Cuts
 pub mod GroupChecks
 pub mod Actions
+pub mod ActionChecks
 pub mod Offers
 pub mod OfferChecks

@@ -41,9 +41,9 @@ abbrev pub is_due : List GroupRecord → StoredAction → Bool
 is_due groups action = is_none action.outcome && holds_started groups action.position
 
 -- where it is due, its target is offered it, or one before it
-abbrev pub WaitsForNone : Tables → List GroupRecord → ListedAction → Type 0
-WaitsForNone t groups listed = is_due groups listed.action ≡ true → IsOffered t listed.action.target listed.number
+abbrev pub IsOfferedIfDue : Tables → List GroupRecord → ListedAction → Type 0
+IsOfferedIfDue t groups listed = is_due groups listed.action ≡ true → IsOffered t listed.action.target listed.number
 
 -- so is the action of the row
-abbrev pub RowWaitsForNone : Tables → Row → Type 0
-RowWaitsForNone t row = (number : ℕ) (action : StoredAction) → IsDue t row number action → IsOffered t action.target number
+abbrev pub IsRowOffered : Tables → Row → Type 0
+IsRowOffered t row = (number : ℕ) (action : StoredAction) → IsDue t row number action → IsOffered t action.target number

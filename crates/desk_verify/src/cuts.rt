@@ -97,7 +97,7 @@ fn has_ended(action: &CountedAction, bounds: Bounds, outcome: Outcome) -> bool
         && is_outcome(outcome, action.outcome)
 }
 
-fn is_outcome(outcome: Outcome, ended: Option<Outcome>) -> bool
+pub(crate) fn is_outcome(outcome: Outcome, ended: Option<Outcome>) -> bool
     ensures { result ≡ is_outcome outcome ended }
 {
     let Some(ended) = ended else {

@@ -4,6 +4,7 @@ ghost use Rattle.desk_verify.specs.Agreement.{Agrees, Decides, IsDamage};
 ghost use Rattle.desk_verify.specs.Promises.{NamesNone};
 ghost use Rattle.desk_store.specs.Changing.{FindsTables, StaysIn, seen_in};
 
+use crate::actions::check_actions;
 use crate::artifacts::check_artifacts;
 use crate::damage::CheckedTable;
 use crate::groups::check_groups;
@@ -52,7 +53,7 @@ fn check_table<S: Alter>(change: &mut OpenChange<'_, S>, table: CheckedTable) ->
         CheckedTable::Artifact => check_artifacts(change),
         CheckedTable::Member => check_members(change),
         CheckedTable::RolloutGroup => check_groups(change),
-        CheckedTable::Action => Ok(true),
+        CheckedTable::Action => check_actions(change),
         CheckedTable::Offer => check_offers(change),
     }
 }

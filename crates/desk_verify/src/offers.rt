@@ -5,7 +5,7 @@ ghost use Rattle.std.specs.List.{AllByRecursion};
 ghost use Rattle.desk_records.specs.Schema.{Actions};
 ghost use Rattle.desk_store.specs.Changing.{FindsTables, StaysIn};
 ghost use Rattle.desk_verify.specs.Agreement.{Decides};
-ghost use Rattle.desk_verify.specs.OfferChecks.{Fits, IsRight, RowWaitsForNone, WaitsForNone, holds_started, is_due, is_started_at};
+ghost use Rattle.desk_verify.specs.OfferChecks.{Fits, IsOfferedIfDue, IsRight, IsRowOffered, holds_started, is_due, is_started_at};
 ghost use Rattle.desk_verify.specs.Offers.{AgreesOffers, IsInStartedGroup, IsOffered};
 
 use crate::rollouts::{ByRollout, NumberedRollout, check_rollouts};
@@ -22,7 +22,7 @@ impl<S: Alter> ByRollout<S> for Actions {
 
     ghost column = { 2 };
 
-    ghost is_right = { RowWaitsForNone };
+    ghost is_right = { IsRowOffered };
 
     ghost is_whole = { λ t rollout. Unit };
 
@@ -38,7 +38,7 @@ impl<S: Alter> ByRollout<S> for Actions {
         let Some(actions) = change.list_all_actions(rollout.number)? else {
             return Err(Fault::Store);
         };
-        if !wait_for_none(change, &groups, &actions)? {
+        if !are_offered_if_due(change, &groups, &actions)? {
             return Ok(None);
         }
         match u32::try_from(actions.len()) {
@@ -59,8 +59,8 @@ pub(crate) fn check_offers<S: Alter>(change: &mut OpenChange<'_, S>) -> Result<b
     if !are_right(change, &offers)? {
         return Ok(false);
     }
-    let none_waits = check_rollouts::<Actions, S>(change)?;
-    Ok(none_waits.is_some())
+    let offered = check_rollouts::<Actions, S>(change)?;
+    Ok(offered.is_some())
 }
 
 /// Whether each of the offers is right.
@@ -99,7 +99,7 @@ fn fits(action: &StoredAction, owned: &OwnedOffer) -> bool
         && action.canceling == owned.offer.canceling
 }
 
-/// Whether a started group of the rollout holds the place. A row of its groups that breaks a rule is a failed store.
+/// Whether a started group of the rollout holds the place. A row of a group that breaks a rule is a failed store.
 fn is_in_started_group<S: Alter>(
     change: &mut OpenChange<'_, S>,
     rollout: RolloutNo,
@@ -127,30 +127,30 @@ fn is_started_at(group: &GroupRecord, place: u32) -> bool
     group.bounds.first <= place && place <= group.bounds.last && group.started
 }
 
-/// Whether each action that is due waits for none: its target is offered it, or one before it.
-fn wait_for_none<S: Alter>(
+/// Whether the target of each action that is due is offered it, or one before it.
+fn are_offered_if_due<S: Alter>(
     change: &mut OpenChange<'_, S>,
     groups: &[GroupRecord],
     actions: &[ListedAction],
 ) -> Result<bool, Fault>
     ensures stays { StaysIn S.Store change.old change.new result }
-    ensures judges { FindsTables S.Store change.old change.new result (λ t none. Decides (AllByRecursion (WaitsForNone t groups.now) actions.now) none) }
+    ensures judges { FindsTables S.Store change.old change.new result (λ t offered. Decides (AllByRecursion (IsOfferedIfDue t groups.now) actions.now) offered) }
 {
     for listed in actions {
-        if !waits_for_none(change, groups, listed)? {
+        if !is_offered_if_due(change, groups, listed)? {
             return Ok(false);
         }
     }
     Ok(true)
 }
 
-fn waits_for_none<S: Alter>(
+fn is_offered_if_due<S: Alter>(
     change: &mut OpenChange<'_, S>,
     groups: &[GroupRecord],
     listed: &ListedAction,
 ) -> Result<bool, Fault>
     ensures stays { StaysIn S.Store change.old change.new result }
-    ensures judges { FindsTables S.Store change.old change.new result (λ t none. Decides (WaitsForNone t groups.now listed.now) none) }
+    ensures judges { FindsTables S.Store change.old change.new result (λ t offered. Decides (IsOfferedIfDue t groups.now listed.now) offered) }
 {
     if !is_due(groups, &listed.action) {
         return Ok(true);

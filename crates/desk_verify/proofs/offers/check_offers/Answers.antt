@@ -15,5 +15,5 @@ returns-then-not-branch-clause-judges g c =
 pub returns-clause-judges : goal.returns-clause-judges
 returns-clause-judges g c =
     finds_as
-    (both_found (rw c.in-Some.is at c.in_ok-offers.ensures.reads) (both_found (rw (c.deref.ensures.value, c.if-not-branch.false) at c.in_ok-are_right.ensures.judges) c.in_ok-none_waits.ensures.judges))
-    (λ t is. subst (Decides (AgreesOffers t)) (sym c.is_some.ensures) (agrees t c.in-Some.offers.items is.0 is.1.0 c.in_ok-none_waits.none_waits is.1.1))
+    (both_found (rw c.in-Some.is at c.in_ok-offers.ensures.reads) (both_found (rw (c.deref.ensures.value, c.if-not-branch.false) at c.in_ok-are_right.ensures.judges) c.in_ok-offered.ensures.judges))
+    (λ t is. subst (Decides (AgreesOffers t)) (sym c.is_some.ensures) (agrees t c.in-Some.offers.items is.0 is.1.0 c.in_ok-offered.offered is.1.1))

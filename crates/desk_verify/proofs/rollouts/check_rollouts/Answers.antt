@@ -19,7 +19,7 @@ loop-before-preserved g c =
           (λ t is. (
             is.0.0,
             one_more g.T.ByRollout.table g.T.ByRollout.column g.T.ByRollout.is_right g.T.ByRollout.is_whole t c.loop-before.before c.loop-before.listed c.in-Some.count c.in-Some-checked_add.sum c.in_ok-rollout.rollout.number
-            is.0.1 c.in_ok-rollout.ensures.number (is.1.1 is.1.0) sum,
+                is.0.1 c.in_ok-rollout.ensures.number (is.1.1 is.1.0) sum,
           ));
     }
 

@@ -13,7 +13,7 @@ returns-then-not-are_right-clause-judges g c =
     rw (c.deref.ensures.value, c.deref-2.ensures.value, c.get-count.ensures.value) at (sym c.are_right.ensures ∙ c.if-not-are_right.true) in
     finds_as (both_found c.in_ok-members.ensures.reads (both_found (rw c.in-Some.is at c.in_ok-groups.ensures.reads) c.in_ok-actions.ensures.reads))
     (λ t is its. fails t c.args.rollout.now.number c.args.rollout.now.rollout.plan.groups c.in_ok-members.members (found_count t c.args.rollout.now.number c.args.rollout.now.rollout its.is)
-      is.0 c.in-Some.groups.items is.1.0 c.in_ok-actions.actions.items is.1.1 told its.low)
+    is.0 c.in-Some.groups.items is.1.0 c.in_ok-actions.actions.items is.1.1 told its.low)
 
 pub returns-in-Ok-clause-judges : goal.returns-in-Ok-clause-judges
 returns-in-Ok-clause-judges g c =
@@ -22,4 +22,4 @@ returns-in-Ok-clause-judges g c =
     let count : c.in-Ok.listed ≡ length c.in-Some.groups.items = c.in-Ok.ensures.1 ∙ c.len.ensures ∙ sym c.deref.ensures.len ∙ ap length c.deref.ensures.value in
     finds_as (both_found c.in_ok-members.ensures.reads (both_found (rw c.in-Some.is at c.in_ok-groups.ensures.reads) c.in_ok-actions.ensures.reads))
     (λ t is its. fits t c.args.rollout.now.number c.args.rollout.now.rollout.plan.groups c.in_ok-members.members (found_count t c.args.rollout.now.number c.args.rollout.now.rollout its.is)
-      is.0 c.in-Some.groups.items is.1.0 c.in_ok-actions.actions.items is.1.1 told c.in-Ok.listed count)
+    is.0 c.in-Some.groups.items is.1.0 c.in_ok-actions.actions.items is.1.1 told c.in-Ok.listed count)

@@ -2,7 +2,7 @@ use Rattle.std.proofs.Common.{sym, ◌∙◌}
 use Rattle.sql_calls.specs.declared.fault.Fault.{Fault}
 use Rattle.sql_calls.proofs.Composing.{found_then, known}
 use Rattle.desk_verify.proofs.OfferLemmas.{if_due}
-use Rattle.desk_verify.proofs.offers.waits_for_none.Goals as goal
+use Rattle.desk_verify.proofs.offers.is_offered_if_due.Goals as goal
 
 pub returns-clause-judges : goal.returns-clause-judges
 returns-clause-judges g c =

@@ -1,0 +1,106 @@
+//! The check of the table of actions.
+
+ghost use Rattle.std.specs.Prelude.{◌≡◌, option_map, vec_items};
+ghost use Rattle.desk_records.specs.Schema.{Actions};
+ghost use Rattle.desk_store.specs.Changing.{FindsTables, StaysIn};
+ghost use Rattle.desk_verify.specs.ActionChecks.{AreMembersInTurn, AreWhole, ListsActions, count_none};
+ghost use Rattle.desk_verify.specs.Actions.{AgreesActions, IsRightAction};
+ghost use Rattle.desk_verify.specs.Agreement.{Decides};
+
+use crate::histories::fit_histories;
+use crate::rollouts::{ByRollout, NumberedRollout, check_rollouts};
+use crate::turns::{are_for, count_on, numbers_rise};
+use desk_store::{Fault, ListedAction, OpenChange, PlacedMember};
+use rollout_model::RolloutNo;
+use sqlite::Alter;
+
+struct Actions;
+
+impl<S: Alter> ByRollout<S> for Actions {
+    ghost table = { Actions };
+
+    ghost column = { 2 };
+
+    ghost is_right = { IsRightAction };
+
+    ghost is_whole = { AreWhole };
+
+    ghost agrees = { AgreesActions };
+
+    fn check_rollout(
+        change: &mut OpenChange<'_, S>,
+        rollout: &NumberedRollout,
+    ) -> Result<Option<u32>, Fault> {
+        let Some(actions) = actions_of(change, rollout.number)? else {
+            return Ok(None);
+        };
+        if !rollout.rollout.started {
+            return Ok(count_none(&actions));
+        }
+        let members = members_of(change, rollout.number)?;
+        if !are_for(&members, &actions) {
+            return Ok(None);
+        }
+        if !fit_histories(change, &actions)? {
+            return Ok(None);
+        }
+        match u32::try_from(actions.len()) {
+            Ok(count) => Ok(Some(count)),
+            Err(_) => Err(Fault::Store),
+        }
+    }
+}
+
+/// Whether the table of actions agrees.
+pub(crate) fn check_actions<S: Alter>(change: &mut OpenChange<'_, S>) -> Result<bool, Fault>
+    ensures stays { StaysIn S.Store change.old change.new result }
+    ensures judges { FindsTables S.Store change.old change.new result (λ t agrees. Decides (AgreesActions t) agrees) }
+{
+    let Some(listed) = check_rollouts::<Actions, S>(change)? else {
+        return Ok(false);
+    };
+    let all = change.count_actions()?;
+    Ok(listed == all)
+}
+
+/// How many actions a rollout has that isn't started, where it has none.
+fn count_none(actions: &[ListedAction]) -> Option<u32>
+    ensures { result ≡ count_none actions.now }
+{
+    if actions.is_empty() { Some(0) } else { None }
+}
+
+/// The actions of a rollout, where they keep the columns' rules. Two of one number are a failed store.
+fn actions_of<S: Alter>(
+    change: &mut OpenChange<'_, S>,
+    number: RolloutNo,
+) -> Result<Option<Vec<ListedAction>>, Fault>
+    ensures stays { StaysIn S.Store change.old change.new result }
+    ensures reads { FindsTables S.Store change.old change.new result (λ t found. ListsActions t number (option_map vec_items found)) }
+{
+    let Some(actions) = change.list_all_actions(number)? else {
+        return Ok(None);
+    };
+    if !numbers_rise(&actions) {
+        return Err(Fault::Store);
+    }
+    Ok(Some(actions))
+}
+
+/// The members of a rollout, whose table was judged before: a row that breaks a rule, and two at one place,
+/// are a failed store.
+fn members_of<S: Alter>(
+    change: &mut OpenChange<'_, S>,
+    number: RolloutNo,
+) -> Result<Vec<PlacedMember>, Fault>
+    ensures stays { StaysIn S.Store change.old change.new result }
+    ensures reads { FindsTables S.Store change.old change.new result (λ t members. AreMembersInTurn t number members.items) }
+{
+    let Some(members) = change.list_places(number)? else {
+        return Err(Fault::Store);
+    };
+    if !count_on(&members) {
+        return Err(Fault::Store);
+    }
+    Ok(members)
+}

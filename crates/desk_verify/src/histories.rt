@@ -1,0 +1,79 @@
+//! Whether the outcomes of actions fit their histories.
+
+ghost use Rattle.std.specs.Prelude.{◌≡◌};
+ghost use Rattle.std.specs.List.{AllByRecursion};
+ghost use Rattle.desk_store.specs.Changing.{FindsTables, StaysIn};
+ghost use Rattle.desk_verify.specs.ActionChecks.{FitsHistory, IsGiven, first_said, is_fit};
+ghost use Rattle.desk_verify.specs.Agreement.{Decides};
+
+use crate::cuts::is_outcome;
+use crate::turns::sequences_rise;
+use desk_store::{Fault, ListedAction, OpenChange, SequencedEntry};
+use rollout_machine::{Outcome, outcome_said};
+use rollout_model::ActionNo;
+use sqlite::Alter;
+
+/// Whether the outcome of each action fits its history.
+pub(crate) fn fit_histories<S: Alter>(
+    change: &mut OpenChange<'_, S>,
+    actions: &[ListedAction],
+) -> Result<bool, Fault>
+    ensures stays { StaysIn S.Store change.old change.new result }
+    ensures judges { FindsTables S.Store change.old change.new result (λ t fit. Decides (AllByRecursion (FitsHistory t) actions.now) fit) }
+{
+    for action in actions {
+        if !fits_history(change, action)? {
+            return Ok(false);
+        }
+    }
+    Ok(true)
+}
+
+fn fits_history<S: Alter>(
+    change: &mut OpenChange<'_, S>,
+    action: &ListedAction,
+) -> Result<bool, Fault>
+    ensures stays { StaysIn S.Store change.old change.new result }
+    ensures judges { FindsTables S.Store change.old change.new result (λ t fits. Decides (FitsHistory t action.now) fits) }
+{
+    let given = find_given(change, action.number)?;
+    Ok(is_fit(given, action.action.outcome))
+}
+
+/// The outcome that the history of an action gives, if it gives one. Two entries at one place of its
+/// sequence are a failed store.
+fn find_given<S: Alter>(
+    change: &mut OpenChange<'_, S>,
+    number: ActionNo,
+) -> Result<Option<Outcome>, Fault>
+    ensures stays { StaysIn S.Store change.old change.new result }
+    ensures reads { FindsTables S.Store change.old change.new result (λ t given. IsGiven t number given) }
+{
+    let entries = change.list_history(number)?;
+    if !sequences_rise(&entries) {
+        return Err(Fault::Store);
+    }
+    Ok(first_said(&entries))
+}
+
+/// The outcome of the first entry that gives one.
+fn first_said(entries: &[SequencedEntry]) -> Option<Outcome>
+    ensures { result ≡ first_said entries.now }
+{
+    for entry in entries {
+        if let Some(outcome) = outcome_said(entry.entry.said) {
+            return Some(outcome);
+        }
+    }
+    None
+}
+
+/// Whether an action has the outcome that is given; where none is, it is open or was given up.
+fn is_fit(given: Option<Outcome>, outcome: Option<Outcome>) -> bool
+    ensures { result ≡ is_fit given outcome }
+{
+    match given {
+        Some(given) => is_outcome(given, outcome),
+        None => outcome.is_none() || is_outcome(Outcome::Gone, outcome),
+    }
+}
