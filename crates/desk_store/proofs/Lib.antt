@@ -21,3 +21,4 @@ mod RawFinds
 mod RawPieces
 mod RawActionCalls
 pub mod BlameLemmas
+mod RawBlames

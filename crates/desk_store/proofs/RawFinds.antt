@@ -1,5 +1,5 @@
 -- The reads of one row of a table, whatever rows the table has.
-use Rattle.std.proofs.Common.{◌≡◌, ◌≤◌, ℕ, pos, negsuc, Bool, true, List, [], ◌∷◌, length, slice_get, nat_le, cond, false, Option, Ok, Err, Result, IfErr, IfOk, Vec, refl, sym, subst, arith, codes}
+use Rattle.std.proofs.Common.{◌≡◌, ◌≤◌, ℕ, pos, negsuc, Bool, true, List, [], ◌∷◌, length, slice_get, nat_le, cond, false, Option, Ok, Err, Result, IfOk, Vec, refl, sym, subst, arith, codes}
 use Rattle.std.specs.declared.alloc.Global.{Global}
 use Rattle.std.proofs.lemmas.Bool.Decides.{nat_tests}
 use Rattle.sqlite_value.specs.declared.value.Value.TheVariants.{Null, Int, Text}
@@ -12,7 +12,7 @@ use Rattle.sqlite.specs.State.{State}
 use Rattle.sqlite.specs.Term.{Term, lit}
 use Rattle.sqlite_rules.specs.Lists.{Has}
 use Rattle.sql_calls.specs.declared.fault.Fault.{Fault}
-use Rattle.sql_calls.specs.declared.fault.Fault.TheVariants.{Memory, Store}
+use Rattle.sql_calls.specs.declared.fault.Fault.TheVariants.{Store}
 use Rattle.sql_calls.specs.Calls.{AsksFew, few_of}
 use Rattle.sql_calls.specs.Means.{Knows, Means}
 use Rattle.sql_calls.proofs.Selects.{passes, shown_of, simple}
@@ -21,7 +21,7 @@ use Rattle.rollout_machine.specs.Commands.{Bytes}
 use Rattle.rollout_model.specs.Rules.{is_word}
 use Rattle.rollout_model.specs.declared.rollout.Offer.{Offer}
 use Rattle.desk_records.specs.Listings.{FindsOne, has_text_at}
-use Rattle.desk_records.specs.RolloutRow.{IsActionRow, IsOfferRow, IsRolloutRow, broken_rollout_column}
+use Rattle.desk_records.specs.RolloutRow.{IsActionRow, IsOfferRow, IsRolloutRow}
 use Rattle.desk_records.specs.Schema.{Actions, Offers, Place, Rollouts, name_of, table_at}
 use Rattle.desk_records.specs.TableRows.{IsRollout}
 use Rattle.desk_records.specs.Tables.{HoldsTables, Tables}
@@ -30,19 +30,13 @@ use Rattle.desk_records.specs.declared.rollout_row.StoredAction.{StoredAction}
 use Rattle.desk_records.specs.declared.rollout_row.StoredRollout.{StoredRollout}
 use Rattle.desk_records.specs.declared.rollout_texts.TheConstants.{GET_ROLLOUT}
 use Rattle.desk_records.proofs.ActionMeaning.{action_columns, action_names, get_action_is, get_offer_is, of_controller, offer_columns}
-use Rattle.desk_records.proofs.AnyRows.{from_shown, is_only, none_passes}
+use Rattle.desk_records.proofs.AnyRows.{is_only, none_passes}
 use Rattle.desk_records.proofs.MeaningWords.{at_key}
 use Rattle.desk_records.proofs.NumberColumns.{passes_rowid}
 use Rattle.desk_records.proofs.RolloutMeaning.{get_rollout_is, rollout_columns, rollout_names}
 use Rattle.desk_records.proofs.TextColumns.{passes_text, text_is}
 use Rattle.desk_store.specs.RawLists.{SaysNumbered, SaysOfferOf}
-use Rattle.sqlite.specs.Store.{Ghosts}
-use Rattle.desk_store.specs.Blaming.{Blames, BlamesGiven}
-use Rattle.desk_store.specs.Changing.{seen_in}
-use Rattle.desk_store.specs.Rows.{BreaksRule, HasBroken, IfStore, IsReadAs}
-use Rattle.desk_store.specs.Unreadable.{IsUnreadable, broken_rollout}
-use Rattle.desk_store.specs.declared.change.OpenChange.{OpenChange}
-use Rattle.desk_store.proofs.BlameLemmas.{blamed}
+use Rattle.desk_store.specs.Rows.{IsReadAs}
 use Rattle.desk_store.proofs.Known.{tables_know}
 use Rattle.desk_store.proofs.RawCalls.{FindsOf, few_read}
 
@@ -77,39 +71,11 @@ module _ (p : Place) (sql : List ℕ) (test columns : List Term) (names : List (
     pub one_read : (old new : State) (rows : Vec Row Global) → AsksFew old new sql params 1 (Ok rows) → (out : Result (Option A) Fault) → IfOk out (λ found. IsReadAs is found (slice_get rows.items 0)) → FindsOf old new out FindsIt
     one_read old new rows h = few_read sql params old new found_by FindsIt (λ found. IsReadAs is found (slice_get rows.items 0)) rows (λ db t holds found shows read. finds db t holds rows.items (one_at_most rows h.answer h.few) shows found read) 1 h
 
-    -- each row that is shown is one of the table
-    abbrev AreShown : Tables → Vec Row Global → Type 0
-    AreShown t shown = (x : Row) → Has shown.items x → (row : Row) × Has (t p) row × (passing row ≡ true) × (x ≡ shown_of columns params row)
-
-    shown : (old new : State) (rows : Vec Row Global) → AsksFew old new sql params 1 (Ok rows) → FindsOf old new (Ok rows) AreShown
-    shown old new rows h = few_read sql params old new found_by AreShown (λ found. found ≡ rows) rows
-        (λ db t holds found shows is. subst (AreShown t) (sym is) (from_shown (holds.spot p).tree test columns [] (lit (Int (negsuc 0))) (lit (Int (pos 0))) params db.trees (t p) (holds.rows p) (λ xs. refl) passing (judged db t holds) rows.items (shows.answer Null)))
-        1 h (Ok rows) refl
-
-    -- where what is shown can't be read, a row of the table is to blame
-    pub one_blamed : {S : Type 0} (g : Ghosts S) (Given : Tables → Type 0) (is_broken : Row → Type 0) → ((t : Tables) (row : Row) → Has (t p) row → passing row ≡ true → is_broken (shown_of columns params row) → Given t → IsUnreadable t)
-        → (old new : OpenChange S) (rows : Vec Row Global) → AsksFew (seen_in g old) (seen_in g new) sql params 1 (Ok rows) → old.store.now.calls.failures ≤ new.store.now.calls.failures
-        → (out : Result (Option A) Fault) → IfErr out (λ fault. IfStore fault (HasBroken is_broken rows.items)) → BlamesGiven g Given old new out
-    one_blamed g Given is_broken blames old new rows h grows out broken = blamed (shown (seen_in g old) (seen_in g new) rows h) grows out (go out broken)
-      where
-        unreadable : HasBroken is_broken rows.items → (t : Tables) → AreShown t rows → Given t → IsUnreadable t
-        unreadable it t from given = let its = from it.row it.among in blames t its.0 its.1 its.2 (subst is_broken its.3 it.broken) given
-
-        go : (out : Result (Option A) Fault) → IfErr out (λ fault. IfStore fault (HasBroken is_broken rows.items)) → IfErr out (λ fault. IfStore fault ((t : Tables) → AreShown t rows → Given t → IsUnreadable t))
-        go (Ok found) is = tt
-        go (Err Memory) is = tt
-        go (Err Store) is = unreadable is
-
 -- ---- by a number
 
 pub rollout_read : (r : ℕ) (old new : State) (rows : Vec Row Global) → AsksFew old new GET_ROLLOUT.now (Int (pos r) ∷ []) 1 (Ok rows) → (out : Result (Option StoredRollout) Fault) → IfOk out (λ found. IsReadAs IsRolloutRow found (slice_get rows.items 0))
     → FindsOf old new out (λ t found. FindsOne (t Rollouts) (has_rowid (pos r)) IsRollout found)
 rollout_read r = one_read Rollouts GET_ROLLOUT.now (at_key 0 0 ∷ []) rollout_columns rollout_names get_rollout_is (Int (pos r) ∷ []) (has_rowid (pos r)) (λ db t holds row among. passes_rowid row r) IsRolloutRow IsRollout (λ row numbered x is. is)
-
-pub rollout_blamed : {S : Type 0} (g : Ghosts S) (r : ℕ) (old new : OpenChange S) (rows : Vec Row Global) → AsksFew (seen_in g old) (seen_in g new) GET_ROLLOUT.now (Int (pos r) ∷ []) 1 (Ok rows) → old.store.now.calls.failures ≤ new.store.now.calls.failures
-    → (out : Result (Option StoredRollout) Fault) → IfErr out (λ fault. IfStore fault (HasBroken (λ row. BreaksRule (broken_rollout_column row)) rows.items)) → Blames g old new out
-rollout_blamed g r = one_blamed Rollouts GET_ROLLOUT.now (at_key 0 0 ∷ []) rollout_columns rollout_names get_rollout_is (Int (pos r) ∷ []) (has_rowid (pos r)) (λ db t holds row among. passes_rowid row r) IsRolloutRow IsRollout (λ row numbered x is. is)
-    g (λ t. Unit {0}) (λ row. BreaksRule (broken_rollout_column row)) (λ t row among numbered broken given. broken_rollout row among broken)
 
 says_numbered : (params row : Row) (a : StoredAction) → IsActionRow (shown_of action_columns params row) a → SaysNumbered row a
 says_numbered params row a is = record { rollout = is.rollout; position = is.position; target = is.target; canceling = is.canceling; outcome = is.outcome; notes = is.notes; entries = is.entries }

@@ -153,7 +153,7 @@ place_kept row h = go (is_some (number_in (column row 0))) (has_size (column row
     go false place word more last h = absurd cc
 
 -- a count is small, or too large to be read
-small_or_wide : (n : ℕ) → is_some (small_number (Int (pos n))) ≡ not (is_wide (Int (pos n)))
+pub small_or_wide : (n : ℕ) → is_some (small_number (Int (pos n))) ≡ not (is_wide (Int (pos n)))
 small_or_wide n = go (nat_lt n (2 ^ 32)) refl
   where
     go : (b : Bool) → nat_lt n (2 ^ 32) ≡ b → is_some (small_number (Int (pos n))) ≡ not (is_wide (Int (pos n)))

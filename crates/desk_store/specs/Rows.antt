@@ -1,5 +1,6 @@
 -- What rows are read as, where a relation says what one row is read as.
-use Rattle.std.specs.Prelude.{◌≡◌, ℕ, Bool, List, Option, Some, None}
+use Rattle.std.specs.Prelude.{◌≡◌, ◌<◌, ◌^◌, ℕ, pos, Bool, List, length, Option, Some, None}
+use Rattle.sqlite_value.specs.declared.value.Value.TheVariants.{Int}
 use Rattle.std.specs.List.{AllZip}
 use Rattle.sqlite_value.specs.Order.{Row, column}
 use Rattle.sqlite_rules.specs.Lists.{Has}
@@ -50,3 +51,8 @@ pub record HasBroken (is_broken : Row → Type 0) (rows : List Row) : Type 0 whe
   pub row : Row
   pub among : Has rows row
   pub broken : is_broken row
+
+-- the first column of the row has no number of 32 bits
+abbrev pub HasNoNumber : Option Row → Type 0
+HasNoNumber None = ⊥
+HasNoNumber (Some row) = (0 < length row) → (n : ℕ) → n < 2 ^ 32 → column row 0 ≡ Int (pos n) → ⊥

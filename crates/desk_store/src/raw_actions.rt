@@ -1,6 +1,6 @@
 //! The tables of actions and their histories with whatever rows they have, in a change that is under way.
 
-ghost use Rattle.std.specs.Prelude.{◌≡◌, ◌≤◌, ◌+◌, IfOk, filter_map, option_map, pos, vec_items};
+ghost use Rattle.std.specs.Prelude.{◌≡◌, ◌≤◌, ◌+◌, IfErr, IfOk, filter_map, option_map, pos, vec_items};
 ghost use Rattle.sqlite_trees.specs.Tree.{has_rowid};
 ghost use Rattle.desk_records.specs.CheckedRows.{counted_of};
 ghost use Rattle.desk_records.specs.CountedActions.{AreCounted};
@@ -27,7 +27,8 @@ const ALL: i64 = -1;
 
 /// The actions in rows that keep the rules of place and outcome.
 fn read_counted(alloc: Global, rows: &[Row]) -> Result<Vec<CountedAction>, Fault>
-    ensures { IfOk result (λ found. found.items ≡ filter_map counted_of rows.now) }
+    ensures ok { IfOk result (λ found. found.items ≡ filter_map counted_of rows.now) }
+    ensures err { IfErr result (λ fault. fault ≡ Fault.Memory) }
 {
     let mut found = Vec::new(alloc);
     for row in rows {

@@ -1,9 +1,9 @@
 //! What rows and results of statements come to.
 
-ghost use Rattle.std.specs.Prelude.{◌≡◌, ◌<◌, ◌^◌, IfErr, IfOk, length, slice_get};
+ghost use Rattle.std.specs.Prelude.{◌≡◌, ◌<◌, ◌≤◌, ◌^◌, ◌⊎◌, IfErr, IfOk, None, length, slice_get};
 ghost use Rattle.desk_records.specs.Modules.{IsLastRow};
 ghost use Rattle.desk_records.specs.TargetRow.{IsAttributeRow};
-ghost use Rattle.desk_store.specs.Rows.{AreReadAs, HasBroken, IfStore, IsApproval, IsCount, IsReadAs};
+ghost use Rattle.desk_store.specs.Rows.{AreReadAs, HasBroken, HasNoNumber, IfStore, IsApproval, IsCount, IsReadAs};
 ghost use Rattle.desk_store.specs.Faults.{as_store, fault_of_row};
 
 use crate::from_row::FromRow;
@@ -15,7 +15,8 @@ use std::alloc::Global;
 
 /// The number in the row of the last number, and 0 where there is none.
 pub(crate) fn last_number(row: Option<Row>) -> Result<u32, Fault>
-    ensures { IfOk result (λ n. IsLastRow n row) }
+    ensures ok { IfOk result (λ n. IsLastRow n row) }
+    ensures err { IfErr result (λ fault. IfStore fault (HasNoNumber row)) }
 {
     let Some(row) = row else {
         return Ok(0);
@@ -97,6 +98,7 @@ fn read_one<T: FromRow>(alloc: Global, row: &Row) -> Result<T, Fault>
 /// The number in the row of a count.
 pub(crate) fn counted_in(row: Option<Row>) -> Result<u32, Fault>
     ensures count { IfOk result (λ n. IsCount n row) }
+    ensures err { IfErr result (λ fault. IfStore fault ((row ≡ None) ⊎ HasNoNumber row)) }
     ensures small { IfOk result (λ n. n < 2 ^ 32) }
 {
     let Some(row) = row else {
@@ -110,7 +112,8 @@ pub(crate) fn counted_in(row: Option<Row>) -> Result<u32, Fault>
 
 /// How many rows there are.
 pub(crate) fn row_count(rows: &[Row]) -> Result<u32, Fault>
-    ensures { IfOk result (λ n. n ≡ length rows.now) }
+    ensures ok { IfOk result (λ n. n ≡ length rows.now) }
+    ensures err { IfErr result (λ fault. 2 ^ 32 ≤ length rows.now) }
 {
     let Ok(count) = u32::try_from(rows.len()) else {
         return Err(Fault::Store);

@@ -19,6 +19,7 @@ impl<'a, S: Alter> OpenChange<'a, S> {
     pub(crate) fn first(&mut self, sql: &str, params: &[ValueRef<'_>]) -> Result<Option<Row>, Fault>
         requires { Knows HoldsLedger sql.now }
         ensures stays { StaysIn S.Store self.old self.new result }
+        ensures blames { IfErr result (λ fault. (watch : _) → Watches S.Store self.old watch → HasCause S.Store self.new watch fault) }
         ensures takes { TakesFirst (seen_in S.Store self.old) (seen_in S.Store self.new) sql.now (bound params.now) result }
         ensures work { self.new.store.now.calls.work ≡ counts self.old.store.now.calls.work (row_in result) }
     {
@@ -29,6 +30,7 @@ impl<'a, S: Alter> OpenChange<'a, S> {
     pub(crate) fn ask(&mut self, sql: &str, params: &[ValueRef<'_>]) -> Result<Vec<Row>, Fault>
         requires { Knows HoldsLedger sql.now }
         ensures stays { StaysIn S.Store self.old self.new result }
+        ensures blames { IfErr result (λ fault. (watch : _) → Watches S.Store self.old watch → HasCause S.Store self.new watch fault) }
         ensures asks { AsksText (seen_in S.Store self.old) (seen_in S.Store self.new) sql.now (bound params.now) result }
         ensures work { self.new.store.now.calls.work ≡ counts self.old.store.now.calls.work (rows_in result) }
     {

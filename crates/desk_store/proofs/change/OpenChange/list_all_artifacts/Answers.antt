@@ -2,7 +2,7 @@ use Rattle.desk_store.proofs.RawLists.{artifacts_known, artifacts_read}
 use Rattle.desk_store.proofs.change.OpenChange.list_all_artifacts.Goals as goal
 
 pub returns-clause-reads : goal.returns-clause-reads
-returns-clause-reads g c = artifacts_read _ _ c.in_ok-rows.rows c.in_ok-rows.ensures.asks c.read_checked.result (rw c.deref.ensures.value at c.read_checked.ensures)
+returns-clause-reads g c = artifacts_read _ _ c.in_ok-rows.rows c.in_ok-rows.ensures.asks c.read_checked.result (rw c.deref.ensures.value at c.read_checked.ensures.ok)
 
 pub ask-requires : goal.ask-requires
 ask-requires g c = artifacts_known

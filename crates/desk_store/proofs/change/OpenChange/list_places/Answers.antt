@@ -11,7 +11,7 @@ pub returns-clause-reads : goal.returns-clause-reads
 returns-clause-reads g c =
     let it : AsksText (state g.S.Store c.args.self.now.store.now.calls.conn) (state g.S.Store c.ask.new.self.store.now.calls.conn) LIST_PLACES.now (Int (pos c.args.number) ∷ []) (Ok c.in_ok-rows.rows) =
     rw (c.params-to_sql.ensures, c.get.ensures.value) at c.in_ok-rows.ensures.asks in
-    places_read c.args.number (subst (λ n. is_number n ≡ true) c.get.ensures.value c.get.ensures.number) _ _ c.in_ok-rows.rows it c.read_checked.result (rw c.deref.ensures.value at c.read_checked.ensures)
+    places_read c.args.number (subst (λ n. is_number n ≡ true) c.get.ensures.value c.get.ensures.number) _ _ c.in_ok-rows.rows it c.read_checked.result (rw c.deref.ensures.value at c.read_checked.ensures.ok)
 
 pub ask-requires : goal.ask-requires
 ask-requires g c = listing
