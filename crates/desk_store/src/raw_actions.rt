@@ -6,9 +6,10 @@ ghost use Rattle.desk_records.specs.CheckedRows.{counted_of};
 ghost use Rattle.desk_records.specs.CountedActions.{AreCounted};
 ghost use Rattle.desk_records.specs.Listings.{AreSaid, FindsOne, has_at};
 ghost use Rattle.desk_records.specs.Schema.{Actions, Feedbacks};
+ghost use Rattle.desk_store.specs.Blaming.{Blames, BlamesGiven};
 ghost use Rattle.desk_store.specs.Changing.{FindsTables, StaysIn};
 ghost use Rattle.desk_store.specs.Counting.{AddsIn};
-ghost use Rattle.desk_store.specs.RawLists.{ListsRows, SaysAction, SaysEntry, SaysNumbered};
+ghost use Rattle.desk_store.specs.RawLists.{AreActions, ListsRows, SaysAction, SaysEntry, SaysNumbered};
 
 use crate::change::OpenChange;
 use crate::checked_row::read_checked;
@@ -49,6 +50,7 @@ impl<'a, S: Alter> OpenChange<'a, S> {
     pub fn find_action(&mut self, number: ActionNo) -> Result<Option<StoredAction>, Fault>
         ensures stays { StaysIn S.Store self.old self.new result }
         ensures reads { FindsTables S.Store self.old self.new result (λ t found. FindsOne (t Actions) (has_rowid (pos number)) SaysNumbered found) }
+        ensures blames { BlamesGiven S.Store AreActions self.old self.new result }
         ensures work { AddsIn 1 1 self.old self.new }
     {
         let alloc = self.store.alloc;
@@ -64,6 +66,7 @@ impl<'a, S: Alter> OpenChange<'a, S> {
         ensures stays { StaysIn S.Store self.old self.new result }
         ensures reads { FindsTables S.Store self.old self.new result
             (λ t found. ListsRows (t Actions) (has_at 2 number) SaysAction (option_map vec_items found)) }
+        ensures blames { Blames S.Store self.old self.new result }
         ensures work { self.new.store.now.calls.work.statements ≤ self.old.store.now.calls.work.statements + 1 }
     {
         let alloc = self.store.alloc;
@@ -76,6 +79,7 @@ impl<'a, S: Alter> OpenChange<'a, S> {
     pub fn list_history(&mut self, number: ActionNo) -> Result<Vec<SequencedEntry>, Fault>
         ensures stays { StaysIn S.Store self.old self.new result }
         ensures reads { FindsTables S.Store self.old self.new result (λ t found. AreSaid (t Feedbacks) (has_at 1 number) SaysEntry found.items) }
+        ensures blames { Blames S.Store self.old self.new result }
         ensures work { self.new.store.now.calls.work.statements ≤ self.old.store.now.calls.work.statements + 1 }
     {
         let alloc = self.store.alloc;
@@ -87,6 +91,7 @@ impl<'a, S: Alter> OpenChange<'a, S> {
     pub fn list_counted_actions(&mut self, number: RolloutNo) -> Result<Vec<CountedAction>, Fault>
         ensures stays { StaysIn S.Store self.old self.new result }
         ensures reads { FindsTables S.Store self.old self.new result (λ t found. AreCounted (t Actions) number found.items) }
+        ensures blames { Blames S.Store self.old self.new result }
         ensures work { self.new.store.now.calls.work.statements ≤ self.old.store.now.calls.work.statements + 1 }
     {
         let alloc = self.store.alloc;

@@ -21,6 +21,7 @@ impl<'a, S: Alter> OpenChange<'a, S> {
     pub fn find_last_rollout(&mut self) -> Result<u32, Fault>
         ensures stays { StaysIn S.Store self.old self.new result }
         ensures reads { FindsTables S.Store self.old self.new result (λ t last. IsLast (t Rollouts) last) }
+        ensures blames { Blames S.Store self.old self.new result }
         ensures work { AddsIn 1 1 self.old self.new }
     {
         let row = self.first(LAST_ROLLOUT, &[])?;
