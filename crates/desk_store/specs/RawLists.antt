@@ -1,5 +1,6 @@
 -- What is listed or found of a table, whatever rows it has.
 use Rattle.std.specs.Prelude.{◌≡◌, ℕ, Bool, true, List, Option, Some, None}
+use Rattle.std.specs.List.Sorted.{IsNonDecreasingBy}
 use Rattle.sqlite_value.specs.Order.{Row}
 use Rattle.sqlite_rules.specs.Lists.{Has}
 use Rattle.rollout_machine.specs.Commands.{Bytes}
@@ -47,6 +48,11 @@ SaysNumbered row a = IsActionRow (action_shown row) a
 -- what the target of an id is offered
 abbrev pub SaysOfferOf : Bytes → Row → Offer → Type 0
 SaysOfferOf id row o = IsOffer row id o
+
+-- what was found is in the order of a number
+abbrev pub AreInOrder : {A : Type 0} → (A → ℕ) → Option (List A) → Type 0
+AreInOrder key (Some found) = IsNonDecreasingBy key found
+AreInOrder key None = Unit {0}
 
 -- the row of a group, each column keeping its rule
 pub record IsKeptGroupRow (row : Row) (g : GroupRecord) : Type 0 where

@@ -1,6 +1,7 @@
 //! The tables of actions and their histories with whatever rows they have, in a change that is under way.
 
 ghost use Rattle.std.specs.Prelude.{◌≡◌, ◌≤◌, ◌+◌, IfErr, IfOk, filter_map, option_map, pos, vec_items};
+ghost use Rattle.std.specs.List.Sorted.{IsNonDecreasingBy};
 ghost use Rattle.sqlite_trees.specs.Tree.{has_rowid};
 ghost use Rattle.desk_records.specs.CheckedRows.{counted_of};
 ghost use Rattle.desk_records.specs.CountedActions.{AreCounted};
@@ -9,7 +10,7 @@ ghost use Rattle.desk_records.specs.Schema.{Actions, Feedbacks};
 ghost use Rattle.desk_store.specs.Blaming.{Blames, BlamesGiven};
 ghost use Rattle.desk_store.specs.Changing.{FindsTables, StaysIn};
 ghost use Rattle.desk_store.specs.Counting.{AddsIn};
-ghost use Rattle.desk_store.specs.RawLists.{AreActions, ListsRows, SaysAction, SaysEntry, SaysNumbered};
+ghost use Rattle.desk_store.specs.RawLists.{AreActions, AreInOrder, ListsRows, SaysAction, SaysEntry, SaysNumbered};
 
 use crate::change::OpenChange;
 use crate::checked_row::read_checked;
@@ -66,6 +67,7 @@ impl<'a, S: Alter> OpenChange<'a, S> {
         ensures stays { StaysIn S.Store self.old self.new result }
         ensures reads { FindsTables S.Store self.old self.new result
             (λ t found. ListsRows (t Actions) (has_at 2 number) SaysAction (option_map vec_items found)) }
+        ensures order { FindsTables S.Store self.old self.new result (λ t found. AreInOrder (λ a. a.number) (option_map vec_items found)) }
         ensures blames { Blames S.Store self.old self.new result }
         ensures work { self.new.store.now.calls.work.statements ≤ self.old.store.now.calls.work.statements + 1 }
     {
@@ -79,6 +81,7 @@ impl<'a, S: Alter> OpenChange<'a, S> {
     pub fn list_history(&mut self, number: ActionNo) -> Result<Vec<SequencedEntry>, Fault>
         ensures stays { StaysIn S.Store self.old self.new result }
         ensures reads { FindsTables S.Store self.old self.new result (λ t found. AreSaid (t Feedbacks) (has_at 1 number) SaysEntry found.items) }
+        ensures order { FindsTables S.Store self.old self.new result (λ t found. IsNonDecreasingBy (λ e. e.sequence) found.items) }
         ensures blames { Blames S.Store self.old self.new result }
         ensures work { self.new.store.now.calls.work.statements ≤ self.old.store.now.calls.work.statements + 1 }
     {
