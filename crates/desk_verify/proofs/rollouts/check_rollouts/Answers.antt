@@ -5,7 +5,7 @@ use Rattle.desk_verify.proofs.RolloutLemmas.{none_yet, one_more}
 use Rattle.desk_verify.proofs.rollouts.check_rollouts.Goals as goal
 
 pub loop-before-init : goal.loop-before-init
-loop-before-init g c = record { stays = search rules; judged = finds_as c.in_ok-last.ensures.reads (λ t is. (is, none_yet g.T.ByRollout.table g.T.ByRollout.column g.T.ByRollout.is_right g.T.ByRollout.is_whole t)) }
+loop-before-init g c = record { stays = search rules; blames = search rules; judged = finds_as c.in_ok-last.ensures.reads (λ t is. (is, none_yet g.T.ByRollout.table g.T.ByRollout.column g.T.ByRollout.is_right g.T.ByRollout.is_whole t)) }
 
 pub returns-in_default-clause-judges : goal.returns-in_default-clause-judges
 returns-in_default-clause-judges g c = finds_as (both_found c.loop-before.invariant.judged (both_found c.in_ok-rollout.ensures.reads (rw c.in_default.is at c.in_ok-count.ensures.judges))) (λ t is. is.1.1 is.1.0)
@@ -15,6 +15,7 @@ loop-before-preserved g c =
     let sum : c.in-Some-checked_add.sum ≡ c.loop-before.listed + c.in-Some.count = grind (arith, c.in-Some-checked_add.ensures) in
     record {
       stays = search rules;
+      blames = search rules;
       judged = finds_as (both_found c.loop-before.invariant.judged (both_found c.in_ok-rollout.ensures.reads (rw c.in-Some.is at c.in_ok-count.ensures.judges)))
           (λ t is. (
             is.0.0,
