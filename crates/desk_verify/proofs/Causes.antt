@@ -1,26 +1,39 @@
 -- What a failed store is blamed on in the checks.
-use Rattle.std.proofs.Common.{◌≡◌, ◌≤◌, ◌<◌, ◌^◌, ◌⊎◌, ◌&&◌, inl, inr, ℕ, nat_le, pos, ◌+◌, Bool, not, true, false, cond, List, [], length, filter, Option, Some, None, refl, Ok, Err, Result, sym, ap, subst, ◌∙◌, arith}
+use Rattle.std.proofs.Common.{◌≡◌, ◌≤◌, ◌<◌, ◌^◌, ◌⊎◌, ◌&&◌, inl, inr, ◌≢◌, ℕ, nat_eq, nat_le, nat_lt, pos, ◌+◌, slice_index_or, zero, suc, take, Bool, not, true, false, cond, List, [], ◌∷◌, length, filter, map, Option, Some, None, refl, Ok, Err, Result, sym, ap, subst, ◌∙◌, arith}
 use Rattle.std.proofs.lemmas.List.Filters.{length-filter_both}
 use Rattle.std.proofs.lemmas.Bool.{and_parts}
 use Rattle.std.proofs.lemmas.Bool.Decides.{nat_tests}
+use Rattle.std.specs.List.{AllByRecursion}
 use Rattle.std.specs.Ordering.{is_eq}
 use Rattle.sqlite_value.specs.declared.value.Value.TheVariants.{Int}
 use Rattle.sqlite_value.specs.Order.{Row, column, value_cmp}
 use Rattle.sqlite.specs.Store.{Ghosts}
-use Rattle.sql_calls.specs.Standing.{Wears}
+use Rattle.sqlite.specs.State.{State}
+use Rattle.sql_calls.specs.Standing.{Finds, Wears}
 use Rattle.sql_calls.specs.declared.fault.Fault.{Fault}
 use Rattle.rollout_model.specs.Limits.{number_limit}
 use Rattle.rollout_model.specs.Rules.{is_number, number_of}
 use Rattle.desk_records.specs.Codes.{number_in}
-use Rattle.desk_records.specs.Listings.{HasNumber, IsLast}
-use Rattle.desk_records.specs.Schema.{Place, Rollouts}
+use Rattle.desk_records.specs.Listings.{AreSaid, HasNumber, IsLast}
+use Rattle.desk_records.specs.PlaceLists.{AreMembers}
+use Rattle.desk_records.specs.declared.checked_rows.OwnedOffer.{OwnedOffer}
+use Rattle.desk_records.specs.declared.member_row.PlacedMember.{PlacedMember}
+use Rattle.desk_records.specs.Schema.{Members, Offers, Place, Rollouts}
 use Rattle.desk_records.proofs.NumberColumns.{number_in_good, number_in_is}
-use Rattle.desk_records.specs.Tables.{Tables}
+use Rattle.desk_records.specs.Tables.{HoldsTables, Tables}
 use Rattle.desk_store.specs.Blaming.{BlamesGiven, Watches}
 use Rattle.desk_store.specs.Changing.{FindsTables, seen_in}
-use Rattle.desk_store.specs.Unreadable.{IsUnreadable, large_number, many_rows}
+use Rattle.desk_store.specs.RawLists.{AreActions, AreOffers, SaysOffer, any_row}
+use Rattle.desk_store.specs.Unreadable.{IsUnreadable, large_number, many_rows, rise, twin_members}
 use Rattle.desk_store.specs.declared.change.OpenChange.{OpenChange}
+use Rattle.desk_verify.specs.ActionChecks.{count_on}
+use Rattle.desk_verify.specs.Actions.{AgreesActions}
+use Rattle.desk_verify.specs.Agreement.{AgreeBefore, Agrees, checked}
+use Rattle.desk_verify.specs.declared.damage.CheckedTable.TheVariants.{Artifact}
+use Rattle.desk_verify.specs.Following.{follow}
+use Rattle.desk_verify.specs.Members.{AgreesMembers}
 use Rattle.desk_verify.specs.RolloutChecks.{IsUpTo}
+use Rattle.desk_verify.proofs.Follow.{differs}
 use Rattle.desk_verify.proofs.GroupLaw.{one_rowid}
 
 -- counts that don't fall
@@ -88,3 +101,59 @@ past_limit t n none up = large_number up.there.row up.there.among (go (number_in
     go (Some m) is =
         let same : m ≡ up.last = one_rowid m up.last [] (ap (λ v. is_eq (value_cmp v (Int (pos up.last)))) (sym (number_in_is (column up.there.row 0) m is)) ∙ up.there.numbered) in
         absurd (apart m (number_in_good (column up.there.row 0) m is) (omega (arith, same, up.high)))
+
+-- ---- members
+
+-- places that follow and don't count on don't rise
+pub not_rising : (last : ℕ) (members : List PlacedMember) → follow last members ≡ true → count_on last members ≡ false → rise last (map (λ (m : PlacedMember). m.place) members) ≡ false
+not_rising last [] h k = absurd cc
+not_rising last (m ∷ members) h k =
+    let parts = and_parts (nat_lt 0 m.place) (nat_le m.place (last + 1) && follow m.place members) h in
+    let more = and_parts (nat_le m.place (last + 1)) (follow m.place members) parts.1 in
+    go (nat_lt last m.place) refl more.0 (nat_eq m.place (last + 1)) refl k (λ rest. not_rising m.place members more.1 rest)
+  where
+    go : (b : Bool) → nat_lt last m.place ≡ b → nat_le m.place (last + 1) ≡ true → (one : Bool) → nat_eq m.place (last + 1) ≡ one → (one && count_on m.place members) ≡ false
+        → (count_on m.place members ≡ false → rise m.place (map (λ (m : PlacedMember). m.place) members) ≡ false) → (b && rise m.place (map (λ (m : PlacedMember). m.place) members)) ≡ false
+    go false low high one is k rest = refl
+    go true low high true is k rest = rest k
+    go true low high false is k rest = absurd (omega (arith, above low, below high, other is))
+      where
+        above : nat_lt last m.place ≡ true → last < m.place
+        above h = grind (arith, nat_tests, h)
+
+        below : nat_le m.place (last + 1) ≡ true → m.place ≤ last + 1
+        below h = grind (arith, nat_tests, h)
+
+        other : nat_eq m.place (last + 1) ≡ false → m.place ≢ last + 1
+        other h = grind (arith, nat_tests, h)
+
+-- in a table that agrees, two members have one place
+pub twin_place : (t : Tables) (r : ℕ) (members : List PlacedMember) → AreMembers (t Members) r members → count_on 0 members ≡ false → AgreesMembers t → IsUnreadable t
+twin_place t r members are k agree = twin_members r (record { found = members; said = are.said; in_order = are.rise; twins = go (follow 0 members) refl })
+  where
+    go : (b : Bool) → follow 0 members ≡ b → rise 0 (map (λ (m : PlacedMember). m.place) members) ≡ false
+    go true h = not_rising 0 members h k
+    go false h = absurd (differs t r members are h agree)
+
+-- ---- offers
+
+pub all_offers : (t : Tables) (found : List OwnedOffer) → AreSaid (t Offers) any_row SaysOffer found → AreOffers t
+all_offers t found said row among = let it = said.complete row among refl in (it.one.id, it.one.offer, it.is)
+
+pub all_actions : (t : Tables) → AgreesActions t → AreActions t
+all_actions t agree row among = let it = agree.each row among in (it.number, it.action, it.is)
+
+-- two answers of one call
+pub together : {A : Type 0} {a b : State} {x : A} {P W : Tables → A → Type 0} → Finds HoldsTables (λ (t : Tables). t) {E = Fault} a b (Ok x) P → Finds HoldsTables (λ (t : Tables). t) {E = Fault} a b (Ok x) W → Finds HoldsTables (λ (t : Tables). t) {E = Fault} a b (Ok x) (λ t y. P t y × W t y)
+together one other = record { wears = one.wears; finds = λ t was. ((one.finds t was).0, λ clean. ((one.finds t was).1 clean, (other.finds t was).1 clean)) }
+
+-- ---- the order of the checks
+
+-- those so far are those before
+pub so_far : (t : Tables) (i : ℕ) → i < 5 → AllByRecursion (Agrees t) (take i checked) → AgreeBefore (slice_index_or checked i Artifact) t
+so_far t zero within agree = agree
+so_far t (suc zero) within agree = agree
+so_far t (suc (suc zero)) within agree = agree
+so_far t (suc (suc (suc zero))) within agree = agree
+so_far t (suc (suc (suc (suc zero)))) within agree = agree
+so_far t (suc (suc (suc (suc (suc i))))) within agree = absurd (omega (arith, within))
