@@ -20,3 +20,5 @@ mod RawLists
 mod RawFinds
 mod RawPieces
 mod RawActionCalls
+pub mod BlameLemmas
+mod RawBlames

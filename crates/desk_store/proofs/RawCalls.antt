@@ -54,13 +54,13 @@ module _ (p : Place) (sql : List ℕ) (means : (s : Schema) (at tree : ℕ) → 
   abbrev pub counted_ledger : Knows HoldsLedger sql
   counted_ledger = ledger_knows p sql (λ at tree. Select (record { lets = []; body = count_query tree }) (codes "count(*)" ∷ [])) means
 
-  abbrev counted : Knows HoldsTables sql
+  abbrev pub counted : Knows HoldsTables sql
   counted = tables_know p sql (λ at tree. Select (record { lets = []; body = count_query tree }) (codes "count(*)" ∷ [])) means
 
   abbrev pub Counts : Tables → ℕ → Type 0
   Counts t count = count ≡ length (t p)
 
-  count_shown : (db : Database) (t : Tables) (holds : HoldsTables db t) (row : Option Row) → ShowsFirst (counted db t holds).command db [] row → row ≡ Some (Int (pos (min (length (t p)) 9223372036854775807)) ∷ [])
+  pub count_shown : (db : Database) (t : Tables) (holds : HoldsTables db t) (row : Option Row) → ShowsFirst (counted db t holds).command db [] row → row ≡ Some (Int (pos (min (length (t p)) 9223372036854775807)) ∷ [])
   count_shown db t holds None shows = let none = count_rows (holds.spot p).tree [] db.trees [] (shows.answer Null) in absurd cc
   count_shown db t holds (Some row) shows =
       let all = count_rows (holds.spot p).tree [] db.trees (row ∷ shows.0) (shows.1.answer Null) in
@@ -105,7 +105,7 @@ place_count_read r good old new rows h out is = ask_finds HoldsTables (λ (t : T
 
 -- ---- rollouts
 
-abbrev ending_any : Knows HoldsTables LAST_ROLLOUT.now
+abbrev pub ending_any : Knows HoldsTables LAST_ROLLOUT.now
 ending_any = tables_know Rollouts LAST_ROLLOUT.now (λ at tree. Select (record { lets = []; body = last_rollout_query tree }) (codes "number" ∷ [])) last_rollout_is
 
 abbrev pub Lasts : Tables → ℕ → Type 0

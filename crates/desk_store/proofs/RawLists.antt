@@ -1,5 +1,7 @@
 -- The lists of tables with whatever rows they have.
-use Rattle.std.proofs.Common.{◌≡◌, ◌||◌, ◌^◌, ℕ, nat_lt, pos, negsuc, Bool, true, false, not, List, [], ◌∷◌, Option, Some, None, Ok, Result, IfOk, option_map, Vec, vec_items, refl, sym, ap, ◌∙◌}
+use Rattle.std.proofs.Common.{◌≡◌, ◌≤◌, ◌||◌, ◌^◌, ℕ, nat_lt, pos, negsuc, Bool, true, false, not, List, [], ◌∷◌, Option, Some, None, Ok, Result, IfOk, option_map, Vec, vec_items, refl, sym, ap, ◌∙◌}
+use Rattle.std.specs.List.Sorted.{IsNonDecreasingBy}
+use Rattle.std.specs.Ordering.{is_lt}
 use Rattle.std.specs.Option.{is_none, is_some, option_or}
 use Rattle.std.specs.declared.alloc.Global.{Global}
 use Rattle.sqlite_value.specs.declared.value.Value.{Value}
@@ -8,7 +10,7 @@ use Rattle.sqlite_value.specs.declared.keys.Key.{Key}
 use Rattle.sqlite_value.specs.Order.{Row, column}
 use Rattle.sqlite.specs.Command.TheVariants.{Select}
 use Rattle.sqlite.specs.Effect.{Database, Reads as Shows}
-use Rattle.sqlite.specs.Query.{page}
+use Rattle.sqlite.specs.Query.{output_cmp, page}
 use Rattle.sqlite.specs.Schema.{Schema}
 use Rattle.sqlite.specs.State.{State}
 use Rattle.sqlite.specs.Term.{Term, col, lit}
@@ -16,7 +18,7 @@ use Rattle.sqlite_rules.specs.Lists.{Has}
 use Rattle.sql_calls.specs.declared.fault.Fault.{Fault}
 use Rattle.sql_calls.specs.Calls.{AsksText}
 use Rattle.sql_calls.specs.Means.{Knows, Means}
-use Rattle.sql_calls.proofs.Selects.{by, passes, shown_of, simple}
+use Rattle.sql_calls.proofs.Selects.{by, passes, shown_in, shown_of, simple}
 use Rattle.sql_front.specs.Stands.{Stands}
 use Rattle.rollout_machine.specs.declared.records.GroupRecord.{GroupRecord}
 use Rattle.rollout_model.specs.Rules.{is_number}
@@ -41,12 +43,12 @@ use Rattle.desk_records.specs.declared.entry_row.SequencedEntry.{SequencedEntry}
 use Rattle.desk_records.specs.declared.rollout_row.ListedAction.{ListedAction}
 use Rattle.desk_records.specs.declared.rollout_texts.TheConstants.{LIST_GROUPS}
 use Rattle.desk_records.proofs.ActionMeaning.{entry_columns, entry_names, list_actions_is, list_actions_query, list_entries_is, list_entries_query, list_offers_is, listed_columns, listed_names, of_action, of_rollout as of_its_rollout, owned_columns, owned_names}
-use Rattle.desk_records.proofs.AnyRows.{are_said, broken}
+use Rattle.desk_records.proofs.AnyRows.{are_said, broken, number_order, rise}
 use Rattle.desk_records.proofs.ArtifactMeaning.{all_artifacts_query, all_columns, all_names, list_all_artifacts_is}
 use Rattle.desk_records.proofs.NumberColumns.{is_number_in, number_in_good, number_in_is, number_is}
 use Rattle.desk_records.proofs.RolloutMeaning.{group_columns, group_names, list_groups_is, list_groups_query, of_rollout}
 use Rattle.desk_records.proofs.TableColumns.{passes_integer}
-use Rattle.desk_store.specs.RawLists.{IsKeptActionRow, IsKeptGroupRow, ListsRows, SaysAction, SaysArtifact, SaysEntry, SaysGroup, SaysOffer, any_row}
+use Rattle.desk_store.specs.RawLists.{AreInOrder, IsKeptActionRow, IsKeptGroupRow, ListsRows, SaysAction, SaysArtifact, SaysEntry, SaysGroup, SaysOffer, any_row}
 use Rattle.desk_store.specs.Rows.{AreReadAs}
 use Rattle.desk_store.proofs.Known.{ledger_knows, tables_know}
 use Rattle.desk_store.proofs.RawCalls.{FindsOf, all_read}
@@ -71,6 +73,24 @@ module _ (p : Place) (sql : List ℕ) (test columns : List Term) (order : List (
     -- where each row is read
     pub each_read : (old new : State) (rows : Vec Row Global) → AsksText old new sql params (Ok rows) → (out : Result (Vec A Global) Fault) → IfOk out (λ found. AreReadAs is rows.items found.items) → FindsOf old new out (λ t found. AreSaid (t p) passing says found.items)
     each_read old new rows = all_read sql params old new listed (λ t found. AreSaid (t p) passing says found.items) (λ found. AreReadAs is rows.items found.items) rows (λ db t holds found shows read. said db t holds rows.items shows found.items read)
+
+    -- in the order of a number
+    module _ (key : A → ℕ) (rising : (tree : ℕ) (low high : Row) (a b : A) → says low a → says high b → (let q = by (simple tree test columns) order limit offset in is_lt (output_cmp q (shown_in q params high) (shown_in q params low)) ≡ false) → key a ≤ key b) where
+      in_order : (db : Database) (t : Tables) (holds : HoldsTables db t) (shown : List Row) → Shows (listed db t holds).command db params shown → (found : List A) → AreReadAs is shown found → IsNonDecreasingBy key found
+      in_order db t holds shown shows found read =
+          rise (holds.spot p).tree test columns order limit offset params db.trees (t p) (holds.rows p) (whole (holds.spot p).tree) passing (judged db t holds) shown (shows.answer Null) is says (λ row among. means_so row) found read key (rising (holds.spot p).tree)
+
+      pub each_in_order : (old new : State) (rows : Vec Row Global) → AsksText old new sql params (Ok rows) → (out : Result (Vec A Global) Fault) → IfOk out (λ found. AreReadAs is rows.items found.items) → FindsOf old new out (λ t found. IsNonDecreasingBy key found.items)
+      each_in_order old new rows = all_read sql params old new listed (λ t found. IsNonDecreasingBy key found.items) (λ found. AreReadAs is rows.items found.items) rows (λ db t holds found shows read. in_order db t holds rows.items shows found.items read)
+
+      pub rows_in_order : (keeps : Row → Bool) (old new : State) (rows : Vec Row Global) → AsksText old new sql params (Ok rows) → (out : Result (Option (Vec A Global)) Fault) → IfOk out (λ found. AreRead is keeps rows.items (option_map vec_items found))
+          → FindsOf old new out (λ t found. AreInOrder key (option_map vec_items found))
+      rows_in_order keeps old new rows = all_read sql params old new listed (λ t found. AreInOrder key (option_map vec_items found)) (λ found. AreRead is keeps rows.items (option_map vec_items found)) rows
+          (λ db t holds found shows read. go db t holds shows (option_map vec_items found) read)
+        where
+          go : (db : Database) (t : Tables) (holds : HoldsTables db t) → Shows (listed db t holds).command db params rows.items → (found : Option (List A)) → AreRead is keeps rows.items found → AreInOrder key found
+          go db t holds shows (Some found) read = in_order db t holds rows.items shows found read
+          go db t holds shows None read = tt
 
     -- where they are read until one breaks a rule
     module _ (keeps : Row → Bool) (kept_by : (row : Row) (a : A) → says row a → keeps (shown_of columns params row) ≡ true) where
@@ -153,7 +173,7 @@ place_kept row h = go (is_some (number_in (column row 0))) (has_size (column row
     go false place word more last h = absurd cc
 
 -- a count is small, or too large to be read
-small_or_wide : (n : ℕ) → is_some (small_number (Int (pos n))) ≡ not (is_wide (Int (pos n)))
+pub small_or_wide : (n : ℕ) → is_some (small_number (Int (pos n))) ≡ not (is_wide (Int (pos n)))
 small_or_wide n = go (nat_lt n (2 ^ 32)) refl
   where
     go : (b : Bool) → nat_lt n (2 ^ 32) ≡ b → is_some (small_number (Int (pos n))) ≡ not (is_wide (Int (pos n)))
@@ -181,6 +201,11 @@ module _ (n : ℕ) where
       → IfOk out (λ found. AreRead IsKeptActionRow keeps_action_rules rows.items (option_map vec_items found)) → FindsOf old new out (λ t found. ListsRows (t Actions) (has_at 2 n) SaysAction (option_map vec_items found))
   actions_read = rows_read Actions LIST_ACTIONS.now of_its_rollout listed_columns (list_actions_query 0).order (col 0 1) (col 0 2) listed_names list_actions_is (all_of n) (λ tree xs. refl) (has_at 2 n) judges_action IsKeptActionRow SaysAction says_action keeps_action_rules kept_action
 
+  pub actions_in_order : (old new : State) (rows : Vec Row Global) → AsksText old new LIST_ACTIONS.now (all_of n) (Ok rows) → (out : Result (Option (Vec ListedAction Global)) Fault)
+      → IfOk out (λ found. AreRead IsKeptActionRow keeps_action_rules rows.items (option_map vec_items found)) → FindsOf old new out (λ t found. AreInOrder (λ (a : ListedAction). a.number) (option_map vec_items found))
+  actions_in_order = rows_in_order Actions LIST_ACTIONS.now of_its_rollout listed_columns (list_actions_query 0).order (col 0 1) (col 0 2) listed_names list_actions_is (all_of n) (λ tree xs. refl) (has_at 2 n) judges_action IsKeptActionRow SaysAction says_action
+      (λ (a : ListedAction). a.number) (λ tree low high a b of_a of_b up. number_order tree of_its_rollout listed_columns (col 0 1) (col 0 2) (all_of n) 0 low high a.number b.number (number_in_is _ _ of_a.number_is) (number_in_is _ _ of_b.number_is) up) keeps_action_rules
+
   judges_entry : (db : Database) (t : Tables) → HoldsTables db t → (row : Row) → Has (t Feedbacks) row → passes of_action (all_of n) row ≡ has_at 1 n row
   judges_entry db t holds row among = passes_integer db t holds Feedbacks row among 0 (record { c = _; there = refl; kind_is = refl; strict = refl; filled = refl; apart = refl }) n (Int (negsuc 0) ∷ Int (pos 0) ∷ [])
 
@@ -190,3 +215,8 @@ module _ (n : ℕ) where
   pub history_read : (old new : State) (rows : Vec Row Global) → AsksText old new LIST_ENTRIES.now (all_of n) (Ok rows) → (out : Result (Vec SequencedEntry Global) Fault) → IfOk out (λ found. AreReadAs IsSequencedRow rows.items found.items)
       → FindsOf old new out (λ t found. AreSaid (t Feedbacks) (has_at 1 n) SaysEntry found.items)
   history_read = each_read Feedbacks LIST_ENTRIES.now of_action entry_columns (list_entries_query 0).order (col 0 1) (col 0 2) entry_names list_entries_is (all_of n) (λ tree xs. refl) (has_at 1 n) judges_entry IsSequencedRow SaysEntry says_entry
+
+  pub history_in_order : (old new : State) (rows : Vec Row Global) → AsksText old new LIST_ENTRIES.now (all_of n) (Ok rows) → (out : Result (Vec SequencedEntry Global) Fault) → IfOk out (λ found. AreReadAs IsSequencedRow rows.items found.items)
+      → FindsOf old new out (λ t found. IsNonDecreasingBy (λ (e : SequencedEntry). e.sequence) found.items)
+  history_in_order = each_in_order Feedbacks LIST_ENTRIES.now of_action entry_columns (list_entries_query 0).order (col 0 1) (col 0 2) entry_names list_entries_is (all_of n) (λ tree xs. refl) (has_at 1 n) judges_entry IsSequencedRow SaysEntry says_entry
+      (λ (e : SequencedEntry). e.sequence) (λ tree low high a b of_a of_b up. number_order tree of_action entry_columns (col 0 1) (col 0 2) (all_of n) 2 low high a.sequence b.sequence of_a.sequence_is of_b.sequence_is up)

@@ -1,5 +1,5 @@
 -- Rows that are read, whatever they are read as.
-use Rattle.std.proofs.Common.{◌≡◌, ◌<◌, ◌++◌, ◌+◌, ℕ, get_or, take, List, [], ◌∷◌, length, map, Option, Some, None, option_map, Ok, Err, Result, IfOk, Vec, refl, sym, ap₂, subst, filter_map, ap, ◌∙◌}
+use Rattle.std.proofs.Common.{◌≡◌, ◌<◌, ◌++◌, ◌+◌, ℕ, get_or, take, List, [], ◌∷◌, length, map, Option, Some, None, option_map, Ok, Err, Result, IfErr, IfOk, Vec, refl, sym, ap₂, subst, filter_map, ap, ◌∙◌}
 use Rattle.std.proofs.lemmas.List.{take_more}
 use Rattle.std.proofs.lemmas.Slice.Zip.{all_zipped_more}
 use Rattle.std.specs.List.{cons_option}
@@ -14,7 +14,9 @@ use Rattle.sql_calls.specs.Standing.{Finds}
 use Rattle.sql_calls.specs.Means.{Knows}
 use Rattle.sql_calls.proofs.Finding.{ShowsFirst, ask_finds, first_finds}
 use Rattle.desk_records.specs.Holds.{HoldsLedger, Ledger}
-use Rattle.desk_store.specs.Rows.{AreReadAs, IsReadAs}
+use Rattle.sqlite_rules.specs.Lists.{Has}
+use Rattle.sql_calls.specs.declared.fault.Fault.TheVariants.{Memory, Store}
+use Rattle.desk_store.specs.Rows.{AreReadAs, HasBroken, IfStore, IsReadAs}
 
 -- a further row, and what it is read as
 pub read_more : {A : Type 0} (is : Row → A → Type 0) (rows : List Row) (found : List A) (at : ℕ) (row : Row) (one : A) → at < length rows → row ≡ get_or rows at row → AreReadAs is (take at rows) found → is row one
@@ -95,3 +97,12 @@ module _ {Q : Type 0} (of : Q → Ledger) {A V : Type 0} (items : V → List A) 
           → IfOk out (λ found. (db : Database) (now : Q) (holds : HoldsLedger db (of now)) → Shows (knows db (of now) holds).command db params rows.items → items found ≡ wanted now)
       answers (Ok found) are_read = λ db now holds shown. all_read is row_of one (items found) (wanted now) (subst (λ l. AreReadAs is l (items found)) (shows db now holds shown) are_read)
       answers (Err e) are_read = tt
+
+-- one that is broken among all
+pub told_broken : {A : Type 0} (broken : Row → Type 0) (rows : List Row) (row : Row) → Has rows row → (fault : Fault) → IfStore fault (broken row) → (out : Result A Fault) → out ≡ Err fault
+    → IfErr out (λ fault. IfStore fault (HasBroken broken rows))
+told_broken {A = A} broken rows row among fault told out is = subst (λ (o : Result A Fault). IfErr o (λ fault. IfStore fault (HasBroken broken rows))) (sym is) (go fault told)
+  where
+    go : (fault : Fault) → IfStore fault (broken row) → IfStore fault (HasBroken broken rows)
+    go Memory _ = tt
+    go Store is = record { row = row; among = among; broken = is }

@@ -4,7 +4,7 @@ use Rattle.std.specs.Borrow.{Fml, RattleType, MutBor, RestsIfErr}
 use Rattle.sqlite.specs.Store as store
 use Rattle.sqlite.specs.Held.{state}
 use Rattle.sql_calls.specs.declared.fault.Fault.{Fault}
-use Rattle.sql_calls.specs.Calls.{Grows, failures_in}
+use Rattle.sql_calls.specs.Calls.{Grows, fails, failures_in}
 use Rattle.sql_calls.specs.Standing.{Keeps}
 use Rattle.desk_records.specs.Holds.{HoldsLedger}
 use Rattle.desk_store.specs.declared.store.DeskStore.{DeskStore}
@@ -16,4 +16,4 @@ module _ (S : RattleType) (g : store.Ghosts S.Denot) where
   abbrev pub store_rests : MutBor (DeskStore S.Denot) → Result (OpenChange S.Denot) Fault → Fml
   store_rests c r = RestsIfErr (desk.the_row S g) c (λ it. it.store.ghost_name) r
       (λ last. Keeps HoldsLedger (state g c.now.calls.conn) (state g last.calls.conn) × (last.calls.work ≡ c.now.calls.work)
-      × Grows (failures_in r) c.now.calls last.calls)
+      × Grows (failures_in r) c.now.calls last.calls × (last.calls.failures ≡ fails (failures_in r) c.now.calls.failures))

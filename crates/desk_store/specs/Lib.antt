@@ -6,3 +6,5 @@ pub mod Lending
 pub mod Changing
 pub mod GroupPairs
 pub mod RawLists
+pub mod Unreadable
+pub mod Blaming

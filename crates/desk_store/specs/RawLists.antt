@@ -1,11 +1,15 @@
 -- What is listed or found of a table, whatever rows it has.
 use Rattle.std.specs.Prelude.{◌≡◌, ℕ, Bool, true, List, Option, Some, None}
+use Rattle.std.specs.List.Sorted.{IsNonDecreasingBy}
 use Rattle.sqlite_value.specs.Order.{Row}
+use Rattle.sqlite_rules.specs.Lists.{Has}
 use Rattle.rollout_machine.specs.Commands.{Bytes}
 use Rattle.rollout_machine.specs.declared.records.GroupRecord.{GroupRecord}
 use Rattle.rollout_model.specs.declared.rollout.Offer.{Offer}
 use Rattle.desk_records.specs.Listings.{AreBroken, AreSaid}
 use Rattle.desk_records.specs.RolloutRow.{IsActionRow, IsGroupRow, IsListedActionRow, broken_group_column, broken_listed_action_column}
+use Rattle.desk_records.specs.Schema.{Actions, Offers}
+use Rattle.desk_records.specs.Tables.{Tables}
 use Rattle.desk_records.specs.TableRows.{IsAction, IsArtifact, IsEntry, IsGroup, IsOffer, action_shown}
 use Rattle.desk_records.specs.declared.checked_rows.CheckedArtifact.{CheckedArtifact}
 use Rattle.desk_records.specs.declared.checked_rows.OwnedOffer.{OwnedOffer}
@@ -45,6 +49,11 @@ SaysNumbered row a = IsActionRow (action_shown row) a
 abbrev pub SaysOfferOf : Bytes → Row → Offer → Type 0
 SaysOfferOf id row o = IsOffer row id o
 
+-- what was found is in the order of a number
+abbrev pub AreInOrder : {A : Type 0} → (A → ℕ) → Option (List A) → Type 0
+AreInOrder key (Some found) = IsNonDecreasingBy key found
+AreInOrder key None = Unit {0}
+
 -- the row of a group, each column keeping its rule
 pub record IsKeptGroupRow (row : Row) (g : GroupRecord) : Type 0 where
   pub group : IsGroupRow row g
@@ -54,3 +63,13 @@ pub record IsKeptGroupRow (row : Row) (g : GroupRecord) : Type 0 where
 pub record IsKeptActionRow (row : Row) (a : ListedAction) : Type 0 where
   pub action : IsListedActionRow row a
   pub kept : broken_listed_action_column row ≡ None
+
+-- ---- tables that were judged
+
+-- each row is an action
+abbrev pub AreActions : Tables → Type 0
+AreActions t = (row : Row) → Has (t Actions) row → (number : ℕ) × (a : StoredAction) × IsAction row number a
+
+-- each row is an offer
+abbrev pub AreOffers : Tables → Type 0
+AreOffers t = (row : Row) → Has (t Offers) row → (id : Bytes) × (o : Offer) × IsOffer row id o

@@ -1,7 +1,14 @@
 -- What rows are read as, where a relation says what one row is read as.
-use Rattle.std.specs.Prelude.{◌≡◌, ℕ, Bool, List, Option, Some, None}
+use Rattle.std.specs.Prelude.{◌≡◌, ◌<◌, ◌^◌, ℕ, pos, Bool, List, length, Option, Some, None}
+use Rattle.sqlite_value.specs.declared.value.Value.TheVariants.{Int}
 use Rattle.std.specs.List.{AllZip}
 use Rattle.sqlite_value.specs.Order.{Row, column}
+use Rattle.sqlite_rules.specs.Lists.{Has}
+use Rattle.sql_calls.specs.declared.fault.Fault.{Fault}
+use Rattle.sql_calls.specs.declared.fault.Fault.TheVariants.{Memory, Store}
+use Rattle.desk_records.specs.declared.module_row.Column.{Column}
+use Rattle.desk_records.specs.declared.module_row.RowFault.{RowFault}
+use Rattle.desk_records.specs.declared.module_row.RowFault.TheVariants as row_fault
 use Rattle.desk_records.specs.Codes.{flag_in}
 use Rattle.desk_records.specs.SetRow.{StoredNumber}
 
@@ -23,3 +30,29 @@ IsCount n (Some row) = column row 0 ≡ StoredNumber n
 abbrev pub IsApproval : Bool → Option Row → Type 0
 IsApproval approval None = ⊥
 IsApproval approval (Some row) = flag_in (column row 2) ≡ Some approval
+
+-- ---- rows that can't be read
+
+-- a column breaks its rule
+pub record BreaksRule (column : Option Column) : Type 0 where
+  pub first : Column
+  pub is : column ≡ Some first
+
+abbrev pub IfBroken : RowFault → Type 0 → Type 0
+IfBroken row_fault.Memory Why = Unit {0}
+IfBroken (row_fault.Broken c) Why = Why
+
+abbrev pub IfStore : Fault → Type 0 → Type 0
+IfStore Memory Why = Unit {0}
+IfStore Store Why = Why
+
+-- one of the rows is broken
+pub record HasBroken (is_broken : Row → Type 0) (rows : List Row) : Type 0 where
+  pub row : Row
+  pub among : Has rows row
+  pub broken : is_broken row
+
+-- the first column of the row has no number of 32 bits
+abbrev pub HasNoNumber : Option Row → Type 0
+HasNoNumber None = ⊥
+HasNoNumber (Some row) = (0 < length row) → (n : ℕ) → n < 2 ^ 32 → column row 0 ≡ Int (pos n) → ⊥

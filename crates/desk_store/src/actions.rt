@@ -5,12 +5,14 @@ ghost use Rattle.std.specs.List.{list_all, zip};
 ghost use Rattle.std.specs.Option.{option_map};
 ghost use Rattle.rollout_machine.specs.ByteStrings.{item_numbered};
 ghost use Rattle.desk_records.specs.Actions.{history_of};
-ghost use Rattle.desk_records.specs.EntryRow.{IsEntryRow, IsSequencedRow, keeps_details};
+ghost use Rattle.desk_records.specs.EntryRow.{BreaksSequenced, IsEntryRow, IsSequencedRow, keeps_details};
 ghost use Rattle.desk_records.specs.LedgerSteps.{AddsAction, AddsEntry, SetsAction, SetsOffer, with_offer};
 ghost use Rattle.desk_records.specs.NextOffers.{next_offer};
 ghost use Rattle.desk_records.specs.RolloutRow.{IsActionRow, IsListedActionRow, IsOfferRow, actions_for, actions_of, stored_action};
+ghost use Rattle.desk_records.specs.RolloutRow.{broken_action_column, broken_offer_column};
 ghost use Rattle.desk_store.specs.Counting.{AddsIn};
 ghost use Rattle.desk_store.specs.Changing.{FindsLedger, MakesLedger, StaysIn};
+ghost use Rattle.desk_store.specs.Rows.{BreaksRule};
 
 use crate::change::OpenChange;
 use crate::codes::{code_of_outcome, flag_code};
@@ -32,6 +34,8 @@ use std::alloc::Global;
 impl FromRow for StoredAction {
     ghost is_row = { IsActionRow };
 
+    ghost is_broken = { λ row. BreaksRule (broken_action_column row) };
+
     fn from_row(_alloc: Global, row: &Row) -> Result<Self, RowFault> {
         read_stored_action(row)
     }
@@ -40,6 +44,8 @@ impl FromRow for StoredAction {
 /// Of all, its number at the end.
 impl FromRow for ListedAction {
     ghost is_row = { IsListedActionRow };
+
+    ghost is_broken = { λ row. Unit };
 
     fn from_row(_alloc: Global, row: &Row) -> Result<Self, RowFault> {
         read_listed_action(row)
@@ -50,6 +56,8 @@ impl FromRow for ListedAction {
 impl FromRow for Offer {
     ghost is_row = { IsOfferRow };
 
+    ghost is_broken = { λ row. BreaksRule (broken_offer_column row) };
+
     fn from_row(_alloc: Global, row: &Row) -> Result<Self, RowFault> {
         read_offer(row)
     }
@@ -59,6 +67,8 @@ impl FromRow for Offer {
 impl FromRow for HistoryEntry {
     ghost is_row = { IsEntryRow };
 
+    ghost is_broken = { λ row. Unit };
+
     fn from_row(alloc: Global, row: &Row) -> Result<Self, RowFault> {
         read_entry(alloc, row)
     }
@@ -67,6 +77,8 @@ impl FromRow for HistoryEntry {
 /// Of kind, word, details and sequence.
 impl FromRow for SequencedEntry {
     ghost is_row = { IsSequencedRow };
+
+    ghost is_broken = { λ row. (c : _) × BreaksSequenced row c };
 
     fn from_row(alloc: Global, row: &Row) -> Result<Self, RowFault> {
         read_sequenced_entry(alloc, row)

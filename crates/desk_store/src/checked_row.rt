@@ -1,14 +1,15 @@
 //! What is read of rows that are checked: each of them, or that one breaks a rule.
 
-ghost use Rattle.std.specs.Prelude.{◌≡◌, Bool, IfNone, IfOk, IfSome, None, false, option_map, vec_items};
+ghost use Rattle.std.specs.Prelude.{◌≡◌, Bool, IfErr, IfNone, IfOk, IfSome, None, false, option_map, true, vec_items};
 ghost use Rattle.std.specs.Option.{is_none};
 ghost use Rattle.sqlite_value.specs.Order.{Row};
-ghost use Rattle.desk_records.specs.CheckedRows.{IsCheckedArtifactRow, IsOwnedOfferRow};
+ghost use Rattle.desk_records.specs.CheckedRows.{IsCheckedArtifactRow, IsOwnedOfferRow, has_wide_count};
 ghost use Rattle.desk_records.specs.CheckedRows.{keeps_action_rules, keeps_artifact_rules, keeps_offer_rules};
 ghost use Rattle.desk_records.specs.Listings.{AreRead};
 ghost use Rattle.desk_records.specs.MemberRow.{IsPlacedRow, keeps_member_rules};
 ghost use Rattle.desk_records.specs.RolloutRow.{broken_group_column};
 ghost use Rattle.desk_store.specs.RawLists.{IsKeptActionRow, IsKeptGroupRow};
+ghost use Rattle.desk_store.specs.Rows.{HasBroken, IfStore};
 
 use desk_records::{
     CheckedArtifact, ListedAction, OwnedOffer, PlacedMember, has_wide_count, read_checked_artifact,
@@ -25,9 +26,13 @@ pub(crate) trait FromCheckedRow: Sized + Drop {
 
     ghost keeps_rules: { Row → Bool };
 
+    // what is known of a row that can't be read
+    ghost is_broken: { Row → Type 0 };
+
     fn from_checked_row(row: &Row) -> Result<Option<Self>, Fault>
         ensures some { IfOk result (λ found. IfSome found (is_row row.now)) }
-        ensures none { IfOk result (λ found. IfNone found (keeps_rules row.now ≡ false)) };
+        ensures none { IfOk result (λ found. IfNone found (keeps_rules row.now ≡ false)) }
+        ensures err { IfErr result (λ fault. IfStore fault (is_broken row.now)) };
 }
 
 /// Of id and place.
@@ -35,6 +40,8 @@ impl FromCheckedRow for PlacedMember {
     ghost is_row = { IsPlacedRow };
 
     ghost keeps_rules = { keeps_member_rules };
+
+    ghost is_broken = { λ row. ⊥ };
 
     fn from_checked_row(row: &Row) -> Result<Option<Self>, Fault> {
         Ok(read_placed_member(row))
@@ -47,6 +54,8 @@ impl FromCheckedRow for CheckedArtifact {
 
     ghost keeps_rules = { keeps_artifact_rules };
 
+    ghost is_broken = { λ row. ⊥ };
+
     fn from_checked_row(row: &Row) -> Result<Option<Self>, Fault> {
         Ok(read_checked_artifact(row))
     }
@@ -57,6 +66,8 @@ impl FromCheckedRow for OwnedOffer {
     ghost is_row = { IsOwnedOfferRow };
 
     ghost keeps_rules = { keeps_offer_rules };
+
+    ghost is_broken = { λ row. ⊥ };
 
     fn from_checked_row(row: &Row) -> Result<Option<Self>, Fault> {
         Ok(read_owned_offer(row))
@@ -69,6 +80,8 @@ impl FromCheckedRow for GroupRecord {
 
     ghost keeps_rules = { λ row. is_none (broken_group_column row) };
 
+    ghost is_broken = { λ row. ⊥ };
+
     fn from_checked_row(row: &Row) -> Result<Option<Self>, Fault> {
         Ok(read_group(row).ok())
     }
@@ -79,6 +92,8 @@ impl FromCheckedRow for ListedAction {
     ghost is_row = { IsKeptActionRow };
 
     ghost keeps_rules = { keeps_action_rules };
+
+    ghost is_broken = { λ row. has_wide_count row ≡ true };
 
     fn from_checked_row(row: &Row) -> Result<Option<Self>, Fault> {
         match read_listed_action(row) {
@@ -94,7 +109,8 @@ pub(crate) fn read_checked<T: FromCheckedRow>(
     alloc: Global,
     rows: &[Row],
 ) -> Result<Option<Vec<T>>, Fault>
-    ensures { IfOk result (λ found. AreRead T.is_row T.keeps_rules rows.now (option_map vec_items found)) }
+    ensures ok { IfOk result (λ found. AreRead T.is_row T.keeps_rules rows.now (option_map vec_items found)) }
+    ensures err { IfErr result (λ fault. IfStore fault (HasBroken T.is_broken rows.now)) }
 {
     let mut found = Vec::new(alloc);
     for row in rows {

@@ -1,11 +1,12 @@
 //! What one row is read as.
 
-ghost use Rattle.std.specs.Prelude.{◌≡◌, IfOk};
+ghost use Rattle.std.specs.Prelude.{◌≡◌, IfErr, IfOk, false};
 ghost use Rattle.sqlite_value.specs.Order.{Row, column};
-ghost use Rattle.desk_records.specs.ArtifactRow.{IsArtifactRow, IsStoredRow, StoredBytes};
+ghost use Rattle.desk_records.specs.ArtifactRow.{IsArtifactRow, IsStoredRow, StoredBytes, has_bytes};
 ghost use Rattle.desk_records.specs.ModuleRow.{IsLabelRow, StoredText};
 ghost use Rattle.desk_records.specs.SetRow.{IsSetNameRow, StoredNumber};
 ghost use Rattle.desk_records.specs.TargetRow.{IsAttributeRow, IsListedTargetRow, IsTargetRow};
+ghost use Rattle.desk_store.specs.Rows.{IfBroken};
 
 use desk_records::{
     ListedTarget, RowFault, SetName, StoredArtifact, StoredTarget, read_artifact, read_attribute,
@@ -20,13 +21,19 @@ use std::alloc::Global;
 pub(crate) trait FromRow: Sized + Drop {
     ghost is_row: { Row → Self → Type 0 };
 
+    // what is known of a row that breaks a rule
+    ghost is_broken: { Row → Type 0 };
+
     fn from_row(alloc: Global, row: &Row) -> Result<Self, RowFault>
-        ensures { IfOk result (is_row row.now) };
+        ensures ok { IfOk result (is_row row.now) }
+        ensures err { IfErr result (λ fault. IfBroken fault (is_broken row.now)) };
 }
 
 /// Of name, kind and version.
 impl FromRow for ModuleLabel {
     ghost is_row = { IsLabelRow };
+
+    ghost is_broken = { λ row. Unit };
 
     fn from_row(alloc: Global, row: &Row) -> Result<Self, RowFault> {
         read_module_label(alloc, row)
@@ -37,6 +44,8 @@ impl FromRow for ModuleLabel {
 impl FromRow for SetName {
     ghost is_row = { IsSetNameRow };
 
+    ghost is_broken = { λ row. Unit };
+
     fn from_row(alloc: Global, row: &Row) -> Result<Self, RowFault> {
         read_set_name(alloc, row)
     }
@@ -45,6 +54,8 @@ impl FromRow for SetName {
 /// Of a module's number.
 impl FromRow for ModuleNo {
     ghost is_row = { λ row number. column row 0 ≡ StoredNumber number };
+
+    ghost is_broken = { λ row. Unit };
 
     fn from_row(_alloc: Global, row: &Row) -> Result<Self, RowFault> {
         read_set_module(row)
@@ -55,6 +66,8 @@ impl FromRow for ModuleNo {
 impl FromRow for StoredArtifact {
     ghost is_row = { IsStoredRow };
 
+    ghost is_broken = { λ row. Unit };
+
     fn from_row(_alloc: Global, row: &Row) -> Result<Self, RowFault> {
         read_stored_artifact(row)
     }
@@ -63,6 +76,8 @@ impl FromRow for StoredArtifact {
 /// Of number, filename, size and digest.
 impl FromRow for Artifact {
     ghost is_row = { IsArtifactRow };
+
+    ghost is_broken = { λ row. Unit };
 
     fn from_row(_alloc: Global, row: &Row) -> Result<Self, RowFault> {
         read_artifact(row)
@@ -73,6 +88,8 @@ impl FromRow for Artifact {
 impl FromRow for Vec<u8> {
     ghost is_row = { λ row bytes. column row 0 ≡ StoredBytes bytes.items };
 
+    ghost is_broken = { λ row. has_bytes (column row 0) ≡ false };
+
     fn from_row(_alloc: Global, row: &Row) -> Result<Self, RowFault> {
         read_piece(row)
     }
@@ -81,6 +98,8 @@ impl FromRow for Vec<u8> {
 /// Of name and digest.
 impl FromRow for StoredTarget {
     ghost is_row = { IsTargetRow };
+
+    ghost is_broken = { λ row. Unit };
 
     fn from_row(alloc: Global, row: &Row) -> Result<Self, RowFault> {
         read_stored_target(alloc, row)
@@ -91,6 +110,8 @@ impl FromRow for StoredTarget {
 impl FromRow for ListedTarget {
     ghost is_row = { IsListedTargetRow };
 
+    ghost is_broken = { λ row. Unit };
+
     fn from_row(alloc: Global, row: &Row) -> Result<Self, RowFault> {
         read_listed_target(alloc, row)
     }
@@ -100,6 +121,8 @@ impl FromRow for ListedTarget {
 impl FromRow for Word {
     ghost is_row = { λ row tag. column row 0 ≡ StoredText tag };
 
+    ghost is_broken = { λ row. Unit };
+
     fn from_row(_alloc: Global, row: &Row) -> Result<Self, RowFault> {
         read_tag(row)
     }
@@ -108,6 +131,8 @@ impl FromRow for Word {
 /// Of key and value.
 impl FromRow for Attribute {
     ghost is_row = { IsAttributeRow };
+
+    ghost is_broken = { λ row. Unit };
 
     fn from_row(alloc: Global, row: &Row) -> Result<Self, RowFault> {
         read_attribute(alloc, row)

@@ -1,14 +1,16 @@
 //! The tables of actions and their histories with whatever rows they have, in a change that is under way.
 
-ghost use Rattle.std.specs.Prelude.{◌≡◌, ◌≤◌, ◌+◌, IfOk, filter_map, option_map, pos, vec_items};
+ghost use Rattle.std.specs.Prelude.{◌≡◌, ◌≤◌, ◌+◌, IfErr, IfOk, filter_map, option_map, pos, vec_items};
+ghost use Rattle.std.specs.List.Sorted.{IsNonDecreasingBy};
 ghost use Rattle.sqlite_trees.specs.Tree.{has_rowid};
 ghost use Rattle.desk_records.specs.CheckedRows.{counted_of};
 ghost use Rattle.desk_records.specs.CountedActions.{AreCounted};
 ghost use Rattle.desk_records.specs.Listings.{AreSaid, FindsOne, has_at};
 ghost use Rattle.desk_records.specs.Schema.{Actions, Feedbacks};
+ghost use Rattle.desk_store.specs.Blaming.{Blames, BlamesGiven};
 ghost use Rattle.desk_store.specs.Changing.{FindsTables, StaysIn};
 ghost use Rattle.desk_store.specs.Counting.{AddsIn};
-ghost use Rattle.desk_store.specs.RawLists.{ListsRows, SaysAction, SaysEntry, SaysNumbered};
+ghost use Rattle.desk_store.specs.RawLists.{AreActions, AreInOrder, ListsRows, SaysAction, SaysEntry, SaysNumbered};
 
 use crate::change::OpenChange;
 use crate::checked_row::read_checked;
@@ -27,7 +29,8 @@ const ALL: i64 = -1;
 
 /// The actions in rows that keep the rules of place and outcome.
 fn read_counted(alloc: Global, rows: &[Row]) -> Result<Vec<CountedAction>, Fault>
-    ensures { IfOk result (λ found. found.items ≡ filter_map counted_of rows.now) }
+    ensures ok { IfOk result (λ found. found.items ≡ filter_map counted_of rows.now) }
+    ensures err { IfErr result (λ fault. fault ≡ Fault.Memory) }
 {
     let mut found = Vec::new(alloc);
     for row in rows {
@@ -48,6 +51,7 @@ impl<'a, S: Alter> OpenChange<'a, S> {
     pub fn find_action(&mut self, number: ActionNo) -> Result<Option<StoredAction>, Fault>
         ensures stays { StaysIn S.Store self.old self.new result }
         ensures reads { FindsTables S.Store self.old self.new result (λ t found. FindsOne (t Actions) (has_rowid (pos number)) SaysNumbered found) }
+        ensures blames { BlamesGiven S.Store AreActions self.old self.new result }
         ensures work { AddsIn 1 1 self.old self.new }
     {
         let alloc = self.store.alloc;
@@ -63,6 +67,8 @@ impl<'a, S: Alter> OpenChange<'a, S> {
         ensures stays { StaysIn S.Store self.old self.new result }
         ensures reads { FindsTables S.Store self.old self.new result
             (λ t found. ListsRows (t Actions) (has_at 2 number) SaysAction (option_map vec_items found)) }
+        ensures order { FindsTables S.Store self.old self.new result (λ t found. AreInOrder (λ a. a.number) (option_map vec_items found)) }
+        ensures blames { Blames S.Store self.old self.new result }
         ensures work { self.new.store.now.calls.work.statements ≤ self.old.store.now.calls.work.statements + 1 }
     {
         let alloc = self.store.alloc;
@@ -75,6 +81,8 @@ impl<'a, S: Alter> OpenChange<'a, S> {
     pub fn list_history(&mut self, number: ActionNo) -> Result<Vec<SequencedEntry>, Fault>
         ensures stays { StaysIn S.Store self.old self.new result }
         ensures reads { FindsTables S.Store self.old self.new result (λ t found. AreSaid (t Feedbacks) (has_at 1 number) SaysEntry found.items) }
+        ensures order { FindsTables S.Store self.old self.new result (λ t found. IsNonDecreasingBy (λ e. e.sequence) found.items) }
+        ensures blames { Blames S.Store self.old self.new result }
         ensures work { self.new.store.now.calls.work.statements ≤ self.old.store.now.calls.work.statements + 1 }
     {
         let alloc = self.store.alloc;
@@ -86,6 +94,7 @@ impl<'a, S: Alter> OpenChange<'a, S> {
     pub fn list_counted_actions(&mut self, number: RolloutNo) -> Result<Vec<CountedAction>, Fault>
         ensures stays { StaysIn S.Store self.old self.new result }
         ensures reads { FindsTables S.Store self.old self.new result (λ t found. AreCounted (t Actions) number found.items) }
+        ensures blames { Blames S.Store self.old self.new result }
         ensures work { self.new.store.now.calls.work.statements ≤ self.old.store.now.calls.work.statements + 1 }
     {
         let alloc = self.store.alloc;

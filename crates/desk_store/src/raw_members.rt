@@ -3,6 +3,7 @@
 ghost use Rattle.std.specs.Prelude.{◌≡◌, ◌≤◌, ◌+◌, filter, length, option_map, vec_items};
 ghost use Rattle.desk_records.specs.PlaceLists.{ListsPlaces, is_of};
 ghost use Rattle.desk_records.specs.Schema.{Members};
+ghost use Rattle.desk_store.specs.Blaming.{Blames};
 ghost use Rattle.desk_store.specs.Changing.{FindsTables, StaysIn};
 ghost use Rattle.desk_store.specs.Counting.{AddsIn};
 
@@ -19,6 +20,7 @@ impl<'a, S: Alter> OpenChange<'a, S> {
     pub fn list_places(&mut self, number: RolloutNo) -> Result<Option<Vec<PlacedMember>>, Fault>
         ensures stays { StaysIn S.Store self.old self.new result }
         ensures reads { FindsTables S.Store self.old self.new result (λ t found. ListsPlaces (t Members) number (option_map vec_items found)) }
+        ensures blames { Blames S.Store self.old self.new result }
         ensures work { self.new.store.now.calls.work.statements ≤ self.old.store.now.calls.work.statements + 1 }
     {
         let alloc = self.store.alloc;
@@ -30,6 +32,7 @@ impl<'a, S: Alter> OpenChange<'a, S> {
     pub fn count_places(&mut self, number: RolloutNo) -> Result<u32, Fault>
         ensures stays { StaysIn S.Store self.old self.new result }
         ensures reads { FindsTables S.Store self.old self.new result (λ t count. count ≡ length (filter (is_of number) (t Members))) }
+        ensures blames { Blames S.Store self.old self.new result }
         ensures work { self.new.store.now.calls.work.statements ≤ self.old.store.now.calls.work.statements + 1 }
     {
         let rows = self.ask(LIST_PLACES, params![number.get()])?;
@@ -40,6 +43,7 @@ impl<'a, S: Alter> OpenChange<'a, S> {
     pub fn count_members(&mut self) -> Result<u32, Fault>
         ensures stays { StaysIn S.Store self.old self.new result }
         ensures reads { FindsTables S.Store self.old self.new result (λ t count. count ≡ length (t Members)) }
+        ensures blames { Blames S.Store self.old self.new result }
         ensures work { AddsIn 1 1 self.old self.new }
     {
         let row = self.first(COUNT_MEMBERS, &[])?;

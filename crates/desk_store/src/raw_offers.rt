@@ -3,9 +3,10 @@
 ghost use Rattle.std.specs.Prelude.{◌≤◌, ◌+◌, option_map, vec_items};
 ghost use Rattle.desk_records.specs.Listings.{FindsOne, has_text_at};
 ghost use Rattle.desk_records.specs.Schema.{Offers};
+ghost use Rattle.desk_store.specs.Blaming.{Blames, BlamesGiven};
 ghost use Rattle.desk_store.specs.Changing.{FindsTables, StaysIn};
 ghost use Rattle.desk_store.specs.Counting.{AddsIn};
-ghost use Rattle.desk_store.specs.RawLists.{ListsRows, SaysOffer, SaysOfferOf, any_row};
+ghost use Rattle.desk_store.specs.RawLists.{AreOffers, ListsRows, SaysOffer, SaysOfferOf, any_row};
 
 use crate::change::OpenChange;
 use crate::checked_row::read_checked;
@@ -21,6 +22,7 @@ impl<'a, S: Alter> OpenChange<'a, S> {
     pub fn find_offer(&mut self, id: &ControllerId) -> Result<Option<Offer>, Fault>
         ensures stays { StaysIn S.Store self.old self.new result }
         ensures reads { FindsTables S.Store self.old self.new result (λ t found. FindsOne (t Offers) (has_text_at 1 id.now) (SaysOfferOf id.now) found) }
+        ensures blames { BlamesGiven S.Store AreOffers self.old self.new result }
         ensures work { AddsIn 1 1 self.old self.new }
     {
         let alloc = self.store.alloc;
@@ -32,6 +34,7 @@ impl<'a, S: Alter> OpenChange<'a, S> {
     pub fn list_offers(&mut self) -> Result<Option<Vec<OwnedOffer>>, Fault>
         ensures stays { StaysIn S.Store self.old self.new result }
         ensures reads { FindsTables S.Store self.old self.new result (λ t found. ListsRows (t Offers) any_row SaysOffer (option_map vec_items found)) }
+        ensures blames { Blames S.Store self.old self.new result }
         ensures work { self.new.store.now.calls.work.statements ≤ self.old.store.now.calls.work.statements + 1 }
     {
         let alloc = self.store.alloc;

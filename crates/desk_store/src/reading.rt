@@ -1,9 +1,9 @@
 //! What rows and results of statements come to.
 
-ghost use Rattle.std.specs.Prelude.{◌≡◌, ◌<◌, ◌^◌, IfOk, length, slice_get};
+ghost use Rattle.std.specs.Prelude.{◌≡◌, ◌<◌, ◌≤◌, ◌^◌, ◌⊎◌, IfErr, IfOk, None, length, slice_get};
 ghost use Rattle.desk_records.specs.Modules.{IsLastRow};
 ghost use Rattle.desk_records.specs.TargetRow.{IsAttributeRow};
-ghost use Rattle.desk_store.specs.Rows.{AreReadAs, IsApproval, IsCount, IsReadAs};
+ghost use Rattle.desk_store.specs.Rows.{AreReadAs, HasBroken, HasNoNumber, IfStore, IsApproval, IsCount, IsReadAs};
 ghost use Rattle.desk_store.specs.Faults.{as_store, fault_of_row};
 
 use crate::from_row::FromRow;
@@ -15,7 +15,8 @@ use std::alloc::Global;
 
 /// The number in the row of the last number, and 0 where there is none.
 pub(crate) fn last_number(row: Option<Row>) -> Result<u32, Fault>
-    ensures { IfOk result (λ n. IsLastRow n row) }
+    ensures ok { IfOk result (λ n. IsLastRow n row) }
+    ensures err { IfErr result (λ fault. IfStore fault (HasNoNumber row)) }
 {
     let Some(row) = row else {
         return Ok(0);
@@ -43,7 +44,8 @@ pub(crate) fn read_at<T: FromRow>(
     rows: &[Row],
     at: usize,
 ) -> Result<Option<T>, Fault>
-    ensures { IfOk result (λ found. IsReadAs T.is_row found (slice_get rows.now at)) }
+    ensures ok { IfOk result (λ found. IsReadAs T.is_row found (slice_get rows.now at)) }
+    ensures err { IfErr result (λ fault. IfStore fault (HasBroken T.is_broken rows.now)) }
 {
     let Some(row) = rows.get(at) else {
         return Ok(None);
@@ -54,7 +56,8 @@ pub(crate) fn read_at<T: FromRow>(
 
 /// What each row is read as, in order.
 pub(crate) fn read_all<T: FromRow>(alloc: Global, rows: &[Row]) -> Result<Vec<T>, Fault>
-    ensures { IfOk result (λ found. AreReadAs T.is_row rows.now found.items) }
+    ensures ok { IfOk result (λ found. AreReadAs T.is_row rows.now found.items) }
+    ensures err { IfErr result (λ fault. IfStore fault (HasBroken T.is_broken rows.now)) }
 {
     let mut found = Vec::new(alloc);
     for row in rows {
@@ -83,7 +86,8 @@ pub(crate) fn read_attributes(alloc: Global, rows: &[Row]) -> Result<Attributes,
 }
 
 fn read_one<T: FromRow>(alloc: Global, row: &Row) -> Result<T, Fault>
-    ensures { IfOk result (T.is_row row.now) }
+    ensures ok { IfOk result (T.is_row row.now) }
+    ensures err { IfErr result (λ fault. IfStore fault (T.is_broken row.now)) }
 {
     match T::from_row(alloc, row) {
         Ok(one) => Ok(one),
@@ -94,6 +98,7 @@ fn read_one<T: FromRow>(alloc: Global, row: &Row) -> Result<T, Fault>
 /// The number in the row of a count.
 pub(crate) fn counted_in(row: Option<Row>) -> Result<u32, Fault>
     ensures count { IfOk result (λ n. IsCount n row) }
+    ensures err { IfErr result (λ fault. IfStore fault ((row ≡ None) ⊎ HasNoNumber row)) }
     ensures small { IfOk result (λ n. n < 2 ^ 32) }
 {
     let Some(row) = row else {
@@ -107,7 +112,8 @@ pub(crate) fn counted_in(row: Option<Row>) -> Result<u32, Fault>
 
 /// How many rows there are.
 pub(crate) fn row_count(rows: &[Row]) -> Result<u32, Fault>
-    ensures { IfOk result (λ n. n ≡ length rows.now) }
+    ensures ok { IfOk result (λ n. n ≡ length rows.now) }
+    ensures err { IfErr result (λ fault. 2 ^ 32 ≤ length rows.now) }
 {
     let Ok(count) = u32::try_from(rows.len()) else {
         return Err(Fault::Store);

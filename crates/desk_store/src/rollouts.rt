@@ -8,11 +8,11 @@ ghost use Rattle.rollout_machine.specs.ByteStrings.{item_numbered};
 ghost use Rattle.rollout_machine.specs.StateWords.{group_holding, group_numbered};
 ghost use Rattle.desk_records.specs.LedgerSteps.{AddsGroup, AddsMember, AddsRollout, SetsGroup, SetsRollout};
 ghost use Rattle.desk_records.specs.ModuleRow.{StoredText};
-ghost use Rattle.desk_records.specs.RolloutRow.{IsGroupRow, IsRolloutRow, stored_rollout};
+ghost use Rattle.desk_records.specs.RolloutRow.{IsGroupRow, IsRolloutRow, broken_rollout_column, stored_rollout};
 ghost use Rattle.desk_records.specs.Rollouts.{groups_of, is_called, members_of};
 ghost use Rattle.desk_store.specs.Counting.{AddsIn};
 ghost use Rattle.desk_store.specs.GroupPairs.{group_and_next};
-ghost use Rattle.desk_store.specs.Rows.{IsReadAs};
+ghost use Rattle.desk_store.specs.Rows.{BreaksRule, IsReadAs};
 ghost use Rattle.desk_store.specs.Changing.{FindsLedger, MakesLedger, StaysIn};
 
 use crate::change::OpenChange;
@@ -41,6 +41,8 @@ pub struct GroupAndNext {
 impl FromRow for StoredRollout {
     ghost is_row = { IsRolloutRow };
 
+    ghost is_broken = { λ row. BreaksRule (broken_rollout_column row) };
+
     fn from_row(alloc: Global, row: &Row) -> Result<Self, RowFault> {
         read_stored_rollout(alloc, row)
     }
@@ -50,6 +52,8 @@ impl FromRow for StoredRollout {
 impl FromRow for GroupRecord {
     ghost is_row = { IsGroupRow };
 
+    ghost is_broken = { λ row. Unit };
+
     fn from_row(_alloc: Global, row: &Row) -> Result<Self, RowFault> {
         read_group(row)
     }
@@ -58,6 +62,8 @@ impl FromRow for GroupRecord {
 /// Of a member's id.
 impl FromRow for ControllerId {
     ghost is_row = { λ row id. column row 0 ≡ StoredText id };
+
+    ghost is_broken = { λ row. Unit };
 
     fn from_row(_alloc: Global, row: &Row) -> Result<Self, RowFault> {
         read_member(row)

@@ -1,10 +1,11 @@
 //! The statements that typed calls are made of.
 
-ghost use Rattle.std.specs.Prelude.{◌≡◌};
+ghost use Rattle.std.specs.Prelude.{◌≡◌, IfErr};
 ghost use Rattle.sqlite.specs.Values.{bound};
 ghost use Rattle.sql_calls.specs.Calls.{AsksFew, AsksText, RunsText, TakesFirst, counts, row_in, rows_in};
 ghost use Rattle.sql_calls.specs.Means.{Knows, KnowsWrite};
 ghost use Rattle.desk_records.specs.Holds.{HoldsLedger};
+ghost use Rattle.desk_store.specs.Blaming.{HasCause, Watches};
 ghost use Rattle.desk_store.specs.Changing.{StaysIn, seen_in};
 ghost use Rattle.desk_store.specs.Counting.{AddsIn};
 
@@ -18,6 +19,7 @@ impl<'a, S: Alter> OpenChange<'a, S> {
     pub(crate) fn first(&mut self, sql: &str, params: &[ValueRef<'_>]) -> Result<Option<Row>, Fault>
         requires { Knows HoldsLedger sql.now }
         ensures stays { StaysIn S.Store self.old self.new result }
+        ensures blames { IfErr result (λ fault. (watch : _) → Watches S.Store self.old watch → HasCause S.Store self.new watch fault) }
         ensures takes { TakesFirst (seen_in S.Store self.old) (seen_in S.Store self.new) sql.now (bound params.now) result }
         ensures work { self.new.store.now.calls.work ≡ counts self.old.store.now.calls.work (row_in result) }
     {
@@ -28,6 +30,7 @@ impl<'a, S: Alter> OpenChange<'a, S> {
     pub(crate) fn ask(&mut self, sql: &str, params: &[ValueRef<'_>]) -> Result<Vec<Row>, Fault>
         requires { Knows HoldsLedger sql.now }
         ensures stays { StaysIn S.Store self.old self.new result }
+        ensures blames { IfErr result (λ fault. (watch : _) → Watches S.Store self.old watch → HasCause S.Store self.new watch fault) }
         ensures asks { AsksText (seen_in S.Store self.old) (seen_in S.Store self.new) sql.now (bound params.now) result }
         ensures work { self.new.store.now.calls.work ≡ counts self.old.store.now.calls.work (rows_in result) }
     {
@@ -44,6 +47,7 @@ impl<'a, S: Alter> OpenChange<'a, S> {
         requires { Knows HoldsLedger sql.now }
         ensures stays { StaysIn S.Store self.old self.new result }
         ensures asks { AsksFew (seen_in S.Store self.old) (seen_in S.Store self.new) sql.now (bound params.now) most result }
+        ensures blames { IfErr result (λ fault. (watch : _) → Watches S.Store self.old watch → HasCause S.Store self.new watch fault) }
         ensures work { AddsIn 1 most self.old self.new }
     {
         self.store.calls.few(sql, params, most)

@@ -2,7 +2,7 @@
 
 ghost use Rattle.std.specs.Prelude.{◌≡◌, not, [], IfOk};
 ghost use Rattle.sqlite.specs.Held.{state};
-ghost use Rattle.sql_calls.specs.Calls.{RunsText, Grows, no_work, failures_in};
+ghost use Rattle.sql_calls.specs.Calls.{RunsText, Grows, fails, no_work, failures_in};
 ghost use Rattle.sql_calls.specs.Standing.{Begins};
 ghost use Rattle.desk_records.specs.Holds.{HoldsLedger};
 ghost use Rattle.desk_records.specs.Tables.{HoldsTables};
@@ -51,6 +51,7 @@ impl<S: Alter> DeskStore<S> {
         ensures runs { RunsText (state S.Store self.old.calls.conn) (state S.Store self.new.calls.conn) begin_text [] result }
         ensures work { self.new.calls.work ≡ self.old.calls.work }
         ensures grows { Grows (failures_in result) self.old.calls self.new.calls }
+        ensures failures { self.new.calls.failures ≡ fails (failures_in result) self.old.calls.failures }
     {
         self.calls.begin()
     }

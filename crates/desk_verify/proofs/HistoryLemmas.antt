@@ -13,7 +13,8 @@ use Rattle.desk_records.specs.TableRows.{IsEntry}
 use Rattle.desk_records.specs.Tables.{Tables}
 use Rattle.desk_records.specs.declared.entry_row.SequencedEntry.{SequencedEntry}
 use Rattle.desk_records.proofs.NumberColumns.{is_at, number_is, one_number}
-use Rattle.desk_verify.specs.ActionChecks.{IsGiven, IsGivenFirst, first_said, is_fit, rise, sequences_rise}
+use Rattle.desk_store.specs.Unreadable.{rise}
+use Rattle.desk_verify.specs.ActionChecks.{IsGiven, IsGivenFirst, first_said, is_fit, sequences_rise}
 use Rattle.desk_verify.specs.Actions.{FitsEntries, GivesOutcome}
 use Rattle.desk_verify.specs.Agreement.{Decides}
 use Rattle.desk_verify.proofs.Rising.{above, only_one, rest_rises}

@@ -19,3 +19,4 @@ mod OfferLemmas
 mod OfferLaw
 mod ArtifactLaw
 pub mod NeverNamed
+mod Causes

@@ -3,7 +3,7 @@ use Rattle.std.proofs.Common.{◌≡◌, ◌⊎◌, inl, inr, ◌<◌, ℕ, true
 use Rattle.std.proofs.lemmas.Bool.{and_parts}
 use Rattle.std.proofs.lemmas.Bool.Decides.{nat_tests}
 use Rattle.sqlite_rules.specs.Lists.{Has}
-use Rattle.desk_verify.specs.ActionChecks.{rise}
+use Rattle.desk_store.specs.Unreadable.{rise}
 
 module _ {X : Type 0} (f : X → ℕ) where
   -- each is greater than the one that they rise from

@@ -7,7 +7,8 @@ use Rattle.std.proofs.lemmas.Slice.Eq.{slice_eq-Decides}
 use Rattle.sqlite_rules.specs.Lists.{Has}
 use Rattle.desk_records.specs.declared.member_row.PlacedMember.{PlacedMember}
 use Rattle.desk_records.specs.declared.rollout_row.ListedAction.{ListedAction}
-use Rattle.desk_verify.specs.ActionChecks.{are_for, count_on, is_each_for, is_for, numbers_rise, rise}
+use Rattle.desk_store.specs.Unreadable.{rise}
+use Rattle.desk_verify.specs.ActionChecks.{are_for, count_on, is_each_for, is_for, numbers_rise}
 use Rattle.desk_verify.proofs.Rising.{above, rest_rises}
 
 -- ---- a member and its action

@@ -18,15 +18,12 @@ use Rattle.desk_records.specs.declared.member_row.PlacedMember.{PlacedMember}
 use Rattle.desk_records.specs.declared.rollout_row.ListedAction.{ListedAction}
 use Rattle.desk_records.specs.declared.rollout_row.StoredAction.{StoredAction}
 use Rattle.desk_store.specs.RawLists.{SaysAction}
+use Rattle.desk_store.specs.Unreadable.{rise}
 use Rattle.desk_verify.specs.Actions.{AreInOrder, FitsEntries, GivesFirst, GivesOutcome, HasActions, IsStarted}
 
 -- ---- turns
 
 -- each number is greater than the one before
-abbrev pub rise : ℕ → List ℕ → Bool
-rise last [] = true
-rise last (n ∷ numbers) = nat_lt last n && rise n numbers
-
 abbrev pub numbers_rise : List ListedAction → Bool
 numbers_rise actions = rise 0 (map (λ (a : ListedAction). a.number) actions)
 

@@ -39,3 +39,17 @@ IsDamage t (Some table) = NamesFirst t table
 abbrev pub Decides : Type 0 → Bool → Type 0
 Decides P true = P
 Decides P false = P → ⊥
+
+-- ---- the order of the checks
+
+-- those before it
+abbrev pub before : CheckedTable → List CheckedTable
+before Artifact = []
+before Member = Artifact ∷ []
+before RolloutGroup = Artifact ∷ Member ∷ []
+before Action = Artifact ∷ Member ∷ RolloutGroup ∷ []
+before Offer = Artifact ∷ Member ∷ RolloutGroup ∷ Action ∷ []
+
+-- .. agree
+abbrev pub AgreeBefore : CheckedTable → Tables → Type 0
+AgreeBefore table t = AllByRecursion (Agrees t) (before table)

@@ -7,12 +7,20 @@ use Rattle.desk_records.specs.Schema.{Place, Rollouts}
 use Rattle.desk_records.specs.TableRows.{IsRollout}
 use Rattle.desk_records.specs.Tables.{Tables}
 use Rattle.desk_records.specs.declared.rollout_row.StoredRollout.{StoredRollout}
+use Rattle.desk_verify.specs.Rollouts.{IsThere}
 use Rattle.desk_verify.specs.Judged.{AreJudged, within}
 
 -- it is the rollout of this number, which is from 1 on
 pub record HasRollout (t : Tables) (number : ℕ) (rollout : StoredRollout) : Type 0 where
   pub low : 1 ≤ number
   pub is : IsOnly (t Rollouts) (has_rowid (pos number)) IsRollout rollout
+
+-- it is a number from 1 up to that of a rollout that is there
+pub record IsUpTo (number : ℕ) (t : Tables) : Type 0 where
+  pub low : 1 ≤ number
+  pub last : ℕ
+  pub high : number ≤ last
+  pub there : IsThere t last
 
 -- The rows of the table, with the rollout's number at this column, are each to be right, and each rollout is to be whole.
 module _ (table : Place) (column : ℕ) (IsRight : Tables → Row → Type 0) (IsWhole : Tables → ℕ → Type 0) where

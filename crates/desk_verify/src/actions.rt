@@ -2,10 +2,12 @@
 
 ghost use Rattle.std.specs.Prelude.{◌≡◌, option_map, vec_items};
 ghost use Rattle.desk_records.specs.Schema.{Actions};
+ghost use Rattle.desk_store.specs.Blaming.{Blames, BlamesGiven};
 ghost use Rattle.desk_store.specs.Changing.{FindsTables, StaysIn};
 ghost use Rattle.desk_verify.specs.ActionChecks.{AreMembersInTurn, AreWhole, ListsActions, count_none};
 ghost use Rattle.desk_verify.specs.Actions.{AgreesActions, IsRightAction};
-ghost use Rattle.desk_verify.specs.Agreement.{Decides};
+ghost use Rattle.desk_verify.specs.Agreement.{AgreeBefore, Decides};
+ghost use Rattle.desk_verify.specs.declared.damage.CheckedTable.TheVariants as checked;
 
 use crate::histories::fit_histories;
 use crate::rollouts::{ByRollout, NumberedRollout, check_rollouts};
@@ -26,6 +28,8 @@ impl<S: Alter> ByRollout<S> for Actions {
     ghost is_whole = { AreWhole };
 
     ghost agrees = { AgreesActions };
+
+    ghost given = { AgreeBefore checked.Action };
 
     fn check_rollout(
         change: &mut OpenChange<'_, S>,
@@ -55,6 +59,7 @@ impl<S: Alter> ByRollout<S> for Actions {
 pub(crate) fn check_actions<S: Alter>(change: &mut OpenChange<'_, S>) -> Result<bool, Fault>
     ensures stays { StaysIn S.Store change.old change.new result }
     ensures judges { FindsTables S.Store change.old change.new result (λ t agrees. Decides (AgreesActions t) agrees) }
+    ensures blames { BlamesGiven S.Store (AgreeBefore checked.Action) change.old change.new result }
 {
     let Some(listed) = check_rollouts::<Actions, S>(change)? else {
         return Ok(false);
@@ -77,6 +82,7 @@ fn actions_of<S: Alter>(
 ) -> Result<Option<Vec<ListedAction>>, Fault>
     ensures stays { StaysIn S.Store change.old change.new result }
     ensures reads { FindsTables S.Store change.old change.new result (λ t found. ListsActions t number (option_map vec_items found)) }
+    ensures blames { Blames S.Store change.old change.new result }
 {
     let Some(actions) = change.list_all_actions(number)? else {
         return Ok(None);
@@ -95,6 +101,7 @@ fn members_of<S: Alter>(
 ) -> Result<Vec<PlacedMember>, Fault>
     ensures stays { StaysIn S.Store change.old change.new result }
     ensures reads { FindsTables S.Store change.old change.new result (λ t members. AreMembersInTurn t number members.items) }
+    ensures blames { BlamesGiven S.Store (AgreeBefore checked.Action) change.old change.new result }
 {
     let Some(members) = change.list_places(number)? else {
         return Err(Fault::Store);

@@ -1,6 +1,7 @@
 //! The check of the table of artifacts.
 
 ghost use Rattle.std.specs.List.{AllByRecursion};
+ghost use Rattle.desk_store.specs.Blaming.{Blames};
 ghost use Rattle.desk_store.specs.Changing.{FindsTables, StaysIn};
 ghost use Rattle.desk_verify.specs.Agreement.{Decides};
 ghost use Rattle.desk_verify.specs.Artifacts.{AgreesArtifacts, IsWhole};
@@ -13,6 +14,7 @@ use sqlite::Alter;
 pub(crate) fn check_artifacts<S: Alter>(change: &mut OpenChange<'_, S>) -> Result<bool, Fault>
     ensures stays { StaysIn S.Store change.old change.new result }
     ensures judges { FindsTables S.Store change.old change.new result (λ t agrees. Decides (AgreesArtifacts t) agrees) }
+    ensures blames { Blames S.Store change.old change.new result }
 {
     let Some(artifacts) = change.list_all_artifacts()? else {
         return Ok(false);
@@ -27,6 +29,7 @@ fn are_whole<S: Alter>(
 ) -> Result<bool, Fault>
     ensures stays { StaysIn S.Store change.old change.new result }
     ensures judges { FindsTables S.Store change.old change.new result (λ t whole. Decides (AllByRecursion (IsWhole t) artifacts.now) whole) }
+    ensures blames { Blames S.Store change.old change.new result }
 {
     for artifact in artifacts {
         if !is_whole(change, artifact)? {
@@ -43,6 +46,7 @@ fn is_whole<S: Alter>(
 ) -> Result<bool, Fault>
     ensures stays { StaysIn S.Store change.old change.new result }
     ensures judges { FindsTables S.Store change.old change.new result (λ t whole. Decides (IsWhole t checked.now) whole) }
+    ensures blames { Blames S.Store change.old change.new result }
 {
     let Some(digest) = hash_pieces(change, checked.number, checked.artifact.size)? else {
         return Ok(false);

@@ -1,7 +1,8 @@
 //! The first table that doesn't agree.
 
-ghost use Rattle.desk_verify.specs.Agreement.{Agrees, Decides, IsDamage};
+ghost use Rattle.desk_verify.specs.Agreement.{AgreeBefore, Agrees, Decides, IsDamage};
 ghost use Rattle.desk_verify.specs.Promises.{NamesNone};
+ghost use Rattle.desk_store.specs.Blaming.{Blames, BlamesGiven};
 ghost use Rattle.desk_store.specs.Changing.{FindsTables, StaysIn, seen_in};
 
 use crate::actions::check_actions;
@@ -27,6 +28,7 @@ pub fn find_damage<S: Alter>(change: &mut OpenChange<'_, S>) -> Result<Option<Ch
     ensures stays { StaysIn S.Store change.old change.new result }
     ensures judges { FindsTables S.Store change.old change.new result IsDamage }
     ensures never { NamesNone (seen_in S.Store change.old) (seen_in S.Store change.new) result }
+    ensures blames { Blames S.Store change.old change.new result }
 {
     check_tables(change)
 }
@@ -35,6 +37,7 @@ pub fn find_damage<S: Alter>(change: &mut OpenChange<'_, S>) -> Result<Option<Ch
 fn check_tables<S: Alter>(change: &mut OpenChange<'_, S>) -> Result<Option<CheckedTable>, Fault>
     ensures stays { StaysIn S.Store change.old change.new result }
     ensures judges { FindsTables S.Store change.old change.new result IsDamage }
+    ensures blames { Blames S.Store change.old change.new result }
 {
     for table in &TABLES {
         if !check_table(change, *table)? {
@@ -48,6 +51,7 @@ fn check_tables<S: Alter>(change: &mut OpenChange<'_, S>) -> Result<Option<Check
 fn check_table<S: Alter>(change: &mut OpenChange<'_, S>, table: CheckedTable) -> Result<bool, Fault>
     ensures stays { StaysIn S.Store change.old change.new result }
     ensures judges { FindsTables S.Store change.old change.new result (λ t agrees. Decides (Agrees t table) agrees) }
+    ensures blames { BlamesGiven S.Store (AgreeBefore table) change.old change.new result }
 {
     match table {
         CheckedTable::Artifact => check_artifacts(change),

@@ -1,5 +1,6 @@
 //! The check of the table of groups.
 
+ghost use Rattle.desk_store.specs.Blaming.{Blames};
 ghost use Rattle.desk_store.specs.Changing.{FindsTables, StaysIn};
 ghost use Rattle.desk_records.specs.Schema.{Groups};
 ghost use Rattle.desk_verify.specs.Agreement.{Decides};
@@ -23,6 +24,8 @@ impl<S: Alter> ByRollout<S> for Groups {
     ghost is_whole = { HasEach };
 
     ghost agrees = { AgreesGroups };
+
+    ghost given = { λ t. Unit };
 
     fn check_rollout(
         change: &mut OpenChange<'_, S>,
@@ -48,6 +51,7 @@ impl<S: Alter> ByRollout<S> for Groups {
 pub(crate) fn check_groups<S: Alter>(change: &mut OpenChange<'_, S>) -> Result<bool, Fault>
     ensures stays { StaysIn S.Store change.old change.new result }
     ensures judges { FindsTables S.Store change.old change.new result (λ t agrees. Decides (AgreesGroups t) agrees) }
+    ensures blames { Blames S.Store change.old change.new result }
 {
     let Some(listed) = check_rollouts::<Groups, S>(change)? else {
         return Ok(false);

@@ -2,6 +2,7 @@
 
 ghost use Rattle.std.specs.Prelude.{◌≡◌};
 ghost use Rattle.std.specs.List.{AllByRecursion};
+ghost use Rattle.desk_store.specs.Blaming.{Blames};
 ghost use Rattle.desk_store.specs.Changing.{FindsTables, StaysIn};
 ghost use Rattle.desk_verify.specs.ActionChecks.{FitsHistory, IsGiven, first_said, is_fit};
 ghost use Rattle.desk_verify.specs.Agreement.{Decides};
@@ -19,6 +20,7 @@ pub(crate) fn fit_histories<S: Alter>(
 ) -> Result<bool, Fault>
     ensures stays { StaysIn S.Store change.old change.new result }
     ensures judges { FindsTables S.Store change.old change.new result (λ t fit. Decides (AllByRecursion (FitsHistory t) actions.now) fit) }
+    ensures blames { Blames S.Store change.old change.new result }
 {
     for action in actions {
         if !fits_history(change, action)? {
@@ -34,6 +36,7 @@ fn fits_history<S: Alter>(
 ) -> Result<bool, Fault>
     ensures stays { StaysIn S.Store change.old change.new result }
     ensures judges { FindsTables S.Store change.old change.new result (λ t fits. Decides (FitsHistory t action.now) fits) }
+    ensures blames { Blames S.Store change.old change.new result }
 {
     let given = find_given(change, action.number)?;
     Ok(is_fit(given, action.action.outcome))
@@ -47,6 +50,7 @@ fn find_given<S: Alter>(
 ) -> Result<Option<Outcome>, Fault>
     ensures stays { StaysIn S.Store change.old change.new result }
     ensures reads { FindsTables S.Store change.old change.new result (λ t given. IsGiven t number given) }
+    ensures blames { Blames S.Store change.old change.new result }
 {
     let entries = change.list_history(number)?;
     if !sequences_rise(&entries) {

@@ -1,5 +1,6 @@
 //! The check of the table of members.
 
+ghost use Rattle.desk_store.specs.Blaming.{Blames};
 ghost use Rattle.desk_store.specs.Changing.{FindsTables, StaysIn};
 ghost use Rattle.desk_records.specs.Schema.{Members};
 ghost use Rattle.desk_verify.specs.Agreement.{Decides};
@@ -23,6 +24,8 @@ impl<S: Alter> ByRollout<S> for Members {
 
     ghost agrees = { AgreesMembers };
 
+    ghost given = { λ t. Unit };
+
     fn check_rollout(
         change: &mut OpenChange<'_, S>,
         rollout: &NumberedRollout,
@@ -44,6 +47,7 @@ impl<S: Alter> ByRollout<S> for Members {
 pub(crate) fn check_members<S: Alter>(change: &mut OpenChange<'_, S>) -> Result<bool, Fault>
     ensures stays { StaysIn S.Store change.old change.new result }
     ensures judges { FindsTables S.Store change.old change.new result (λ t agrees. Decides (AgreesMembers t) agrees) }
+    ensures blames { Blames S.Store change.old change.new result }
 {
     let Some(listed) = check_rollouts::<Members, S>(change)? else {
         return Ok(false);

@@ -3,8 +3,11 @@
 ghost use Rattle.std.specs.Prelude.{◌≡◌};
 ghost use Rattle.std.specs.List.{AllByRecursion};
 ghost use Rattle.desk_records.specs.Schema.{Actions};
+ghost use Rattle.desk_store.specs.Blaming.{BlamesGiven};
 ghost use Rattle.desk_store.specs.Changing.{FindsTables, StaysIn};
-ghost use Rattle.desk_verify.specs.Agreement.{Decides};
+ghost use Rattle.desk_store.specs.RawLists.{AreOffers};
+ghost use Rattle.desk_verify.specs.Agreement.{AgreeBefore, Decides};
+ghost use Rattle.desk_verify.specs.declared.damage.CheckedTable.TheVariants as checked;
 ghost use Rattle.desk_verify.specs.OfferChecks.{Fits, IsOfferedIfDue, IsRight, IsRowOffered, holds_started, is_due, is_started_at};
 ghost use Rattle.desk_verify.specs.Offers.{AgreesOffers, IsInStartedGroup, IsOffered};
 
@@ -27,6 +30,8 @@ impl<S: Alter> ByRollout<S> for Actions {
     ghost is_whole = { λ t rollout. Unit };
 
     ghost agrees = { AgreesOffers };
+
+    ghost given = { λ t. AgreeBefore checked.Offer t × AreOffers t };
 
     fn check_rollout(
         change: &mut OpenChange<'_, S>,
@@ -52,6 +57,7 @@ impl<S: Alter> ByRollout<S> for Actions {
 pub(crate) fn check_offers<S: Alter>(change: &mut OpenChange<'_, S>) -> Result<bool, Fault>
     ensures stays { StaysIn S.Store change.old change.new result }
     ensures judges { FindsTables S.Store change.old change.new result (λ t agrees. Decides (AgreesOffers t) agrees) }
+    ensures blames { BlamesGiven S.Store (AgreeBefore checked.Offer) change.old change.new result }
 {
     let Some(offers) = change.list_offers()? else {
         return Ok(false);
@@ -67,6 +73,7 @@ pub(crate) fn check_offers<S: Alter>(change: &mut OpenChange<'_, S>) -> Result<b
 fn are_right<S: Alter>(change: &mut OpenChange<'_, S>, offers: &[OwnedOffer]) -> Result<bool, Fault>
     ensures stays { StaysIn S.Store change.old change.new result }
     ensures judges { FindsTables S.Store change.old change.new result (λ t right. Decides (AllByRecursion (IsRight t) offers.now) right) }
+    ensures blames { BlamesGiven S.Store (AgreeBefore checked.Offer) change.old change.new result }
 {
     for offer in offers {
         if !is_right(change, offer)? {
@@ -80,6 +87,7 @@ fn are_right<S: Alter>(change: &mut OpenChange<'_, S>, offers: &[OwnedOffer]) ->
 fn is_right<S: Alter>(change: &mut OpenChange<'_, S>, owned: &OwnedOffer) -> Result<bool, Fault>
     ensures stays { StaysIn S.Store change.old change.new result }
     ensures judges { FindsTables S.Store change.old change.new result (λ t right. Decides (IsRight t owned.now) right) }
+    ensures blames { BlamesGiven S.Store (AgreeBefore checked.Offer) change.old change.new result }
 {
     let Some(action) = change.find_action(owned.offer.action)? else {
         return Ok(false);
@@ -107,6 +115,7 @@ fn is_in_started_group<S: Alter>(
 ) -> Result<bool, Fault>
     ensures stays { StaysIn S.Store change.old change.new result }
     ensures judges { FindsTables S.Store change.old change.new result (λ t started. Decides (IsInStartedGroup t rollout place) started) }
+    ensures blames { BlamesGiven S.Store (AgreeBefore checked.Offer) change.old change.new result }
 {
     match change.list_groups(rollout)? {
         Some(groups) => Ok(holds_started(&groups, place)),
@@ -136,6 +145,7 @@ fn are_offered_if_due<S: Alter>(
     ensures stays { StaysIn S.Store change.old change.new result }
     ensures judges { FindsTables S.Store change.old change.new result
         (λ t offered. Decides (AllByRecursion (IsOfferedIfDue t groups.now) actions.now) offered) }
+    ensures blames { BlamesGiven S.Store (AreOffers) change.old change.new result }
 {
     for listed in actions {
         if !is_offered_if_due(change, groups, listed)? {
@@ -152,6 +162,7 @@ fn is_offered_if_due<S: Alter>(
 ) -> Result<bool, Fault>
     ensures stays { StaysIn S.Store change.old change.new result }
     ensures judges { FindsTables S.Store change.old change.new result (λ t offered. Decides (IsOfferedIfDue t groups.now listed.now) offered) }
+    ensures blames { BlamesGiven S.Store (AreOffers) change.old change.new result }
 {
     if !is_due(groups, &listed.action) {
         return Ok(true);
@@ -174,6 +185,7 @@ fn is_offered<S: Alter>(
 ) -> Result<bool, Fault>
     ensures stays { StaysIn S.Store change.old change.new result }
     ensures judges { FindsTables S.Store change.old change.new result (λ t offered. Decides (IsOffered t id.now number) offered) }
+    ensures blames { BlamesGiven S.Store (AreOffers) change.old change.new result }
 {
     match change.find_offer(id)? {
         Some(offer) => Ok(offer.action.get() <= number.get()),

@@ -1,6 +1,7 @@
 use Rattle.std.proofs.Common.{Ok, take}
 use Rattle.std.specs.List.{AllByRecursion}
 use Rattle.sql_calls.specs.declared.fault.Fault.{Fault}
+use Rattle.desk_store.specs.Blaming.{Blames}
 use Rattle.desk_store.specs.Changing.{FindsTables, StaysIn}
 use Rattle.desk_verify.specs.Artifacts.{IsWhole}
 use Rattle.desk_verify.proofs.artifacts.are_whole.Given as goal
@@ -9,5 +10,6 @@ use Rattle.desk_verify.proofs.artifacts.are_whole.Given as goal
 abbrev pub invariant-loop-artifact : goal.invariant-loop-artifact
 invariant-loop-artifact g l = record {
   stays : StaysIn g.S.Store l.fn.change l.change (Ok (tt {0}));
+  blames : Blames g.S.Store l.fn.change l.change (Ok (tt {0}));
   judged : FindsTables g.S.Store {E = Fault} l.fn.change l.change (Ok (tt {0})) (λ t u. AllByRecursion (IsWhole t) (take l.artifact-index l.artifacts));
 }

@@ -15,6 +15,7 @@ loop-before-preserved g c =
     let few : c.loop-before.before < piece_count c.args.size = omega (arith, c.loop-before-test.true, c.count_pieces-before-end.ensures.count) in
     record {
       stays = search rules;
+      blames = search rules;
       judged = finds_as (both_found c.loop-before.invariant.judged (rw c.if-not-branch.false at c.in_ok-hash_piece.ensures.judges))
           (λ t is. more_hashed t c.args.number c.args.size c.loop-before.before c.min.result _ _ few c.min.ensures is.0 is.1);
     }

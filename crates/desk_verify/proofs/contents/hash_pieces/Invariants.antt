@@ -1,5 +1,6 @@
 use Rattle.std.proofs.Common.{Ok}
 use Rattle.sql_calls.specs.declared.fault.Fault.{Fault}
+use Rattle.desk_store.specs.Blaming.{Blames}
 use Rattle.desk_store.specs.Changing.{FindsTables, StaysIn}
 use Rattle.desk_verify.proofs.PieceChecks.{IsHashedTo}
 use Rattle.desk_verify.proofs.contents.hash_pieces.Given as goal
@@ -8,5 +9,6 @@ use Rattle.desk_verify.proofs.contents.hash_pieces.Given as goal
 abbrev pub invariant-loop-before : goal.invariant-loop-before
 invariant-loop-before g l = record {
   stays : StaysIn g.S.Store l.fn.change l.change (Ok (tt {0}));
+  blames : Blames g.S.Store l.fn.change l.change (Ok (tt {0}));
   judged : FindsTables g.S.Store {E = Fault} l.fn.change l.change (Ok (tt {0})) (λ t u. IsHashedTo t l.number l.size l.before l.hasher);
 }

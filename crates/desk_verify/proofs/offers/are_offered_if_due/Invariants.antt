@@ -1,7 +1,9 @@
 use Rattle.std.proofs.Common.{Ok, take}
 use Rattle.std.specs.List.{AllByRecursion}
 use Rattle.sql_calls.specs.declared.fault.Fault.{Fault}
+use Rattle.desk_store.specs.Blaming.{BlamesGiven}
 use Rattle.desk_store.specs.Changing.{FindsTables, StaysIn}
+use Rattle.desk_store.specs.RawLists.{AreOffers}
 use Rattle.desk_verify.specs.OfferChecks.{IsOfferedIfDue}
 use Rattle.desk_verify.proofs.offers.are_offered_if_due.Given as goal
 
@@ -9,5 +11,6 @@ use Rattle.desk_verify.proofs.offers.are_offered_if_due.Given as goal
 abbrev pub invariant-loop-listed : goal.invariant-loop-listed
 invariant-loop-listed g l = record {
   stays : StaysIn g.S.Store l.fn.change l.change (Ok (tt {0}));
+  blames : BlamesGiven g.S.Store AreOffers l.fn.change l.change (Ok (tt {0}));
   judged : FindsTables g.S.Store {E = Fault} l.fn.change l.change (Ok (tt {0})) (λ t u. AllByRecursion (IsOfferedIfDue t l.groups) (take l.listed-index l.actions));
 }

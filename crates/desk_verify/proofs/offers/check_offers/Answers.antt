@@ -1,7 +1,9 @@
-use Rattle.std.proofs.Common.{sym, subst}
+use Rattle.std.proofs.Common.{Err, sym, ap, subst, ◌∙◌}
+use Rattle.std.proofs.lemmas.Result.{err_from_is_err_and}
 use Rattle.sql_calls.proofs.Composing.{both_found, finds_as}
 use Rattle.desk_verify.specs.Agreement.{Decides}
 use Rattle.desk_verify.specs.Offers.{AgreesOffers}
+use Rattle.desk_verify.proofs.Causes.{all_offers, blamed_when, grown}
 use Rattle.desk_verify.proofs.OfferLemmas.{agrees, one_wrong, row_broken}
 use Rattle.desk_verify.proofs.offers.check_offers.Goals as goal
 
@@ -17,3 +19,9 @@ returns-clause-judges g c =
     finds_as
     (both_found (rw c.in-Some.is at c.in_ok-offers.ensures.reads) (both_found (rw (c.deref.ensures.value, c.if-not-branch.false) at c.in_ok-are_right.ensures.judges) c.in_ok-offered.ensures.judges))
     (λ t is. subst (Decides (AgreesOffers t)) (sym c.is_some.ensures) (agrees t c.in-Some.offers.items is.0 is.1.0 c.in_ok-offered.offered is.1.1))
+
+pub returns-in_err-offered-clause-blames : goal.returns-in_err-offered-clause-blames
+returns-in_err-offered-clause-blames g c =
+    let out = err_from_is_err_and c.from_residual-in_err-offered.result c.from_residual-in_err-offered.ensures.1 in
+    blamed_when (both_found (rw c.in-Some.is at c.in_ok-offers.ensures.reads) c.in_ok-are_right.ensures.judges) (grown c.in_ok-offers.ensures.stays.grows.failures c.in_ok-are_right.ensures.stays.grows.failures)
+    c.in_err-offered.ensures.judges.wears c.in_err-offered.field-0.0 c.in_err-offered.ensures.blames (λ t is given. (given, all_offers t c.in-Some.offers.items is.0)) c.from_residual-in_err-offered.result (out.1 ∙ ap Err out.2)

@@ -1,5 +1,8 @@
-use Rattle.std.proofs.Common.{◌≡◌, sym, subst}
+use Rattle.std.proofs.Common.{◌≡◌, Err, sym, subst}
 use Rattle.sql_calls.proofs.Composing.{finds_as}
+use Rattle.sql_calls.specs.declared.fault.Fault.TheVariants.{Store}
+use Rattle.desk_store.proofs.BlameLemmas.{blamed}
+use Rattle.desk_verify.proofs.GroupLemmas.{fails_broken}
 use Rattle.desk_verify.specs.Agreement.{Decides}
 use Rattle.desk_verify.specs.OfferChecks.{holds_started}
 use Rattle.desk_verify.specs.Offers.{IsInStartedGroup}
@@ -10,3 +13,6 @@ pub returns-in-Some-clause-judges : goal.returns-in-Some-clause-judges
 returns-in-Some-clause-judges g c =
     let told : c.holds_started.result ≡ holds_started c.in-Some.groups.items c.args.place = rw c.deref.ensures.value at c.holds_started.ensures in
     finds_as (rw c.in-Some.is at c.in_ok-groups.ensures.reads) (λ t is. subst (Decides (IsInStartedGroup t c.args.rollout c.args.place)) (sym told) (started_tells t c.args.rollout c.args.place c.in-Some.groups.items is))
+
+pub returns-in-None-clause-blames : goal.returns-in-None-clause-blames
+returns-in-None-clause-blames g c = blamed (rw c.in-None.is at c.in_ok-groups.ensures.reads) c.in_ok-groups.ensures.stays.grows.failures (Err Store) (λ t is given. absurd (fails_broken t c.args.rollout is given.1.1.0))

@@ -2,6 +2,7 @@ use Rattle.std.proofs.Common.{Ok}
 use Rattle.sql_calls.specs.declared.fault.Fault.{Fault}
 use Rattle.desk_records.specs.Listings.{IsLast}
 use Rattle.desk_records.specs.Schema.{Rollouts}
+use Rattle.desk_store.specs.Blaming.{BlamesGiven}
 use Rattle.desk_store.specs.Changing.{FindsTables, StaysIn}
 use Rattle.desk_verify.specs.RolloutChecks.{AreChecked}
 use Rattle.desk_verify.proofs.rollouts.check_rollouts.Given as goal
@@ -10,6 +11,7 @@ use Rattle.desk_verify.proofs.rollouts.check_rollouts.Given as goal
 abbrev pub invariant-loop-before : goal.invariant-loop-before
 invariant-loop-before g l = record {
   stays : StaysIn g.S.Store l.fn.change l.change (Ok (tt {0}));
+  blames : BlamesGiven g.S.Store g.T.ByRollout.given l.fn.change l.change (Ok (tt {0}));
   judged : FindsTables g.S.Store {E = Fault} l.fn.change l.change (Ok (tt {0}))
       (λ t u. IsLast (t Rollouts) l.last × AreChecked g.T.ByRollout.table g.T.ByRollout.column g.T.ByRollout.is_right g.T.ByRollout.is_whole t l.before l.listed);
 }

@@ -5,13 +5,20 @@ use Rattle.sql_calls.specs.Calls.{AsksFew}
 use Rattle.desk_records.specs.declared.action_texts.TheConstants.{GET_ACTION}
 use Rattle.desk_store.proofs.ActionCalls.{getting}
 use Rattle.desk_store.proofs.RawFinds.{action_read}
+use Rattle.desk_store.proofs.RawBlames.{action_blamed}
 use Rattle.desk_store.proofs.change.OpenChange.find_action.Goals as goal
 
 pub returns-clause-reads : goal.returns-clause-reads
 returns-clause-reads g c =
     let it : AsksFew (state g.S.Store c.args.self.now.store.now.calls.conn) (state g.S.Store c.few.new.self.store.now.calls.conn) GET_ACTION.now (Int (pos c.args.number) ∷ []) 1 (Ok c.in_ok-rows.rows) =
     rw (c.params-to_sql.ensures, c.get.ensures.value) at c.in_ok-rows.ensures.asks in
-    action_read c.args.number _ _ c.in_ok-rows.rows it c.read_at.result (rw c.deref.ensures.value at c.read_at.ensures)
+    action_read c.args.number _ _ c.in_ok-rows.rows it c.read_at.result (rw c.deref.ensures.value at c.read_at.ensures.ok)
+
+pub returns-clause-blames : goal.returns-clause-blames
+returns-clause-blames g c =
+    let it : AsksFew (state g.S.Store c.args.self.now.store.now.calls.conn) (state g.S.Store c.few.new.self.store.now.calls.conn) GET_ACTION.now (Int (pos c.args.number) ∷ []) 1 (Ok c.in_ok-rows.rows) =
+    rw (c.params-to_sql.ensures, c.get.ensures.value) at c.in_ok-rows.ensures.asks in
+    action_blamed g.S.Store _ _ c.in_ok-rows.rows c.in_ok-rows.ensures.stays.grows.failures c.read_at.result c.args.number (rw c.deref.ensures.value at c.read_at.ensures.err) it
 
 pub few-requires : goal.few-requires
 few-requires g c = getting

@@ -12,7 +12,7 @@ pub returns-in-Err : goal.returns-in-Err
 returns-in-Err g c =
     let fails : Keeps HoldsLedger (state g.S.Store c.args.self.now.calls.conn) (state g.S.Store c.start.new.self.calls.conn) =
     fails_to_begin HoldsLedger begin_text _ _ (begin_is _) c.in-Err.fault c.in-Err.ensures.runs in
-    ((refl, (λ w. tt), (fails, c.in-Err.ensures.work, c.in-Err.ensures.grows)), record { refused = tt; same_reference = tt; begun = tt; tables = tt; work = tt; grows = tt })
+    ((refl, (λ w. tt), (fails, c.in-Err.ensures.work, c.in-Err.ensures.grows, c.in-Err.ensures.failures)), record { refused = tt; same_reference = tt; begun = tt; tables = tt; work = tt; grows = tt })
 
 pub returns-in-Ok : goal.returns-in-Ok
 returns-in-Ok g c =

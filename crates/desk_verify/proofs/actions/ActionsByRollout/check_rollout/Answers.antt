@@ -1,5 +1,9 @@
-use Rattle.std.proofs.Common.{◌≡◌, true, false, length, sym, ap, subst, ◌∙◌}
+use Rattle.std.proofs.Common.{◌≡◌, ◌≤◌, ◌^◌, arith, Err, true, false, length, sym, ap, subst, ◌∙◌}
 use Rattle.sql_calls.proofs.Composing.{both_found, finds_as}
+use Rattle.sql_calls.specs.declared.fault.Fault.TheVariants.{Store}
+use Rattle.desk_records.specs.Listings.{has_at}
+use Rattle.desk_store.proofs.BlameLemmas.{blamed}
+use Rattle.desk_verify.proofs.Causes.{grown, listed_many}
 use Rattle.desk_records.specs.Schema.{Actions}
 use Rattle.desk_verify.specs.ActionChecks.{AreWhole, are_for, count_none}
 use Rattle.desk_verify.specs.Actions.{AgreesActions, IsRightAction}
@@ -33,3 +37,10 @@ returns-in-Ok-clause-judges g c =
     let count : c.in-Ok.count ≡ length c.in-Some.actions.items = c.in-Ok.ensures.1 ∙ c.len.ensures ∙ sym c.deref-3.ensures.len ∙ ap length c.deref-3.ensures.value in
     finds_as (both_found (rw c.in-Some.is at c.in_ok-actions.ensures.reads) (both_found c.in_ok-members.ensures.reads (rw c.if-not-branch.false at c.in_ok-fit_histories.ensures.judges)))
     (λ t is there. fits t c.args.rollout.now.number c.args.rollout.now.rollout there c.if-not-rollout.false c.in-Some.actions.items is.0 c.in_ok-members.members.items is.1.0 told (rw c.deref-4.ensures.value at is.1.1) c.in-Ok.count count)
+
+pub returns-clause-blames : goal.returns-clause-blames
+returns-clause-blames g c =
+    let large : 2 ^ 32 ≤ length c.in-Some.actions.items = grind (arith, c.in-Err.ensures, c.len.ensures, c.deref-3.ensures.len, ap length c.deref-3.ensures.value) in
+    blamed (both_found (rw c.in-Some.is at c.in_ok-actions.ensures.reads) (both_found c.in_ok-members.ensures.reads c.in_ok-fit_histories.ensures.judges))
+    (grown c.in_ok-actions.ensures.stays.grows.failures (grown c.in_ok-members.ensures.stays.grows.failures c.in_ok-fit_histories.ensures.stays.grows.failures)) (Err Store)
+    (λ t is given. listed_many t Actions (has_at 2 c.args.rollout.now.number) (length c.in-Some.actions.items) is.0.said.count large)

@@ -1,5 +1,10 @@
-use Rattle.std.proofs.Common.{◌≡◌, true, false, length, sym, ap, ◌∙◌}
+use Rattle.std.proofs.Common.{◌≡◌, ◌≤◌, ◌^◌, true, false, length, Err, sym, ap, ◌∙◌, arith}
 use Rattle.sql_calls.proofs.Composing.{both_found, finds_as}
+use Rattle.sql_calls.specs.declared.fault.Fault.TheVariants.{Store}
+use Rattle.desk_records.specs.Listings.{has_at}
+use Rattle.desk_records.specs.Schema.{Groups}
+use Rattle.desk_store.proofs.BlameLemmas.{blamed}
+use Rattle.desk_verify.proofs.Causes.{grown, listed_many}
 use Rattle.desk_verify.specs.Cuts.{are_right}
 use Rattle.desk_verify.proofs.GroupLemmas.{fails, fails_broken, fits, found_count}
 use Rattle.desk_verify.proofs.groups.GroupsByRollout.check_rollout.Goals as goal
@@ -23,3 +28,10 @@ returns-in-Ok-clause-judges g c =
     finds_as (both_found c.in_ok-members.ensures.reads (both_found (rw c.in-Some.is at c.in_ok-groups.ensures.reads) c.in_ok-actions.ensures.reads))
     (λ t is its. fits t c.args.rollout.now.number c.args.rollout.now.rollout.plan.groups c.in_ok-members.members (found_count t c.args.rollout.now.number c.args.rollout.now.rollout its.is)
     is.0 c.in-Some.groups.items is.1.0 c.in_ok-actions.actions.items is.1.1 told c.in-Ok.listed count)
+
+pub returns-clause-blames : goal.returns-clause-blames
+returns-clause-blames g c =
+    let large : 2 ^ 32 ≤ length c.in-Some.groups.items = grind (arith, c.in-Err.ensures, c.len.ensures, c.deref.ensures.len, ap length c.deref.ensures.value) in
+    blamed (both_found c.in_ok-members.ensures.reads (both_found (rw c.in-Some.is at c.in_ok-groups.ensures.reads) c.in_ok-actions.ensures.reads))
+    (grown c.in_ok-members.ensures.stays.grows.failures (grown c.in_ok-groups.ensures.stays.grows.failures c.in_ok-actions.ensures.stays.grows.failures)) (Err Store)
+    (λ t is given. listed_many t Groups (has_at 1 c.args.rollout.now.number) (length c.in-Some.groups.items) is.1.0.count large)

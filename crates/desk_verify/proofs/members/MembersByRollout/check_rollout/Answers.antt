@@ -1,5 +1,10 @@
-use Rattle.std.proofs.Common.{◌≡◌, true, false, length, sym, ap, ◌∙◌}
+use Rattle.std.proofs.Common.{◌≡◌, ◌≤◌, ◌^◌, true, false, length, Err, sym, ap, ◌∙◌, arith}
 use Rattle.sql_calls.proofs.Composing.{finds_as}
+use Rattle.sql_calls.specs.declared.fault.Fault.TheVariants.{Store}
+use Rattle.desk_records.specs.PlaceLists.{is_of}
+use Rattle.desk_records.specs.Schema.{Members}
+use Rattle.desk_store.proofs.BlameLemmas.{blamed}
+use Rattle.desk_verify.proofs.Causes.{listed_many}
 use Rattle.desk_verify.specs.Following.{follow}
 use Rattle.desk_verify.proofs.Follow.{breaks, differs}
 use Rattle.desk_verify.proofs.MemberLemmas.{fits}
@@ -20,3 +25,8 @@ returns-in-Ok-clause-judges g c =
     let count : c.in-Ok.count ≡ length c.in-Some.members.items = c.in-Ok.ensures.1 ∙ c.len.ensures ∙ sym c.deref.ensures.len ∙ ap length c.deref.ensures.value in
     finds_as (rw c.in-Some.is at c.in_ok-members.ensures.reads)
     (λ t is its. fits t c.args.rollout.now.number c.in-Some.members.items c.in-Ok.count (rollout_there t c.args.rollout.now.number c.args.rollout.now.rollout its) is told count)
+
+pub returns-clause-blames : goal.returns-clause-blames
+returns-clause-blames g c =
+    let large : 2 ^ 32 ≤ length c.in-Some.members.items = grind (arith, c.in-Err.ensures, c.len.ensures, c.deref.ensures.len, ap length c.deref.ensures.value) in
+    blamed (rw c.in-Some.is at c.in_ok-members.ensures.reads) c.in_ok-members.ensures.stays.grows.failures (Err Store) (λ t is given. listed_many t Members (is_of c.args.rollout.now.number) (length c.in-Some.members.items) is.said.count large)

@@ -1,0 +1,295 @@
+-- What a failed read of a table is blamed on.
+use Rattle.std.proofs.Common.{◌≡◌, ◌≤◌, ◌<◌, ◌⊎◌, ◌^◌, ◌||◌, inl, inr, ℕ, min, nat_lt, pos, negsuc, Bool, true, false, not, List, [], ◌∷◌, length, filter, map, nat_le, take, Option, Some, None, Ok, Err, Result, IfErr, Vec, refl, sym, ap, subst, ◌∙◌, arith, codes}
+use Rattle.std.proofs.lemmas.Bool.{and_parts}
+use Rattle.std.proofs.lemmas.Bool.Decides.{nat_tests}
+use Rattle.std.proofs.lemmas.List.Filters.{length-filter_both}
+use Rattle.std.proofs.lemmas.List.Sorted.{IsPermutation-sym}
+use Rattle.sqlite_rules.proofs.ListLemmas.{has_filtered}
+use Rattle.sql_calls.proofs.Counts.{count_query}
+use Rattle.rollout_model.specs.Limits.{number_limit}
+use Rattle.desk_records.proofs.Membership.{has_mapped, has_permuted}
+use Rattle.desk_records.proofs.NumberColumns.{number_in_good, number_in_is}
+use Rattle.std.specs.declared.alloc.Global.{Global}
+use Rattle.sqlite_value.specs.declared.value.Value.{Value}
+use Rattle.sqlite_value.specs.declared.value.Value.TheVariants.{Null, Int, Text}
+use Rattle.sqlite_value.specs.declared.keys.Key.{Key}
+use Rattle.sqlite_value.specs.Order.{Row, column}
+use Rattle.sqlite.specs.Command.TheVariants.{Select}
+use Rattle.sqlite.specs.Effect.{Database, Reads as Shows}
+use Rattle.sqlite.specs.Query.{Output, Query, page}
+use Rattle.sqlite.specs.Schema.{Schema}
+use Rattle.sqlite.specs.State.{State}
+use Rattle.sqlite.specs.Store.{Ghosts}
+use Rattle.sqlite.specs.Term.{Term, col, lit}
+use Rattle.sqlite_rules.specs.Lists.{Has}
+use Rattle.sql_calls.specs.declared.fault.Fault.{Fault}
+use Rattle.sql_calls.specs.declared.fault.Fault.TheVariants.{Memory, Store}
+use Rattle.sql_calls.specs.Calls.{AsksFew, AsksText, TakesFirst}
+use Rattle.sql_calls.specs.Means.{Knows, Means}
+use Rattle.sql_calls.proofs.Finding.{ShowsFirst, first_finds}
+use Rattle.sql_calls.proofs.Selects.{IsOrdered, by, ordered_rows, passes, shown_in, shown_of, simple}
+use Rattle.sql_front.specs.Stands.{Stands}
+use Rattle.desk_records.specs.Schema.{Actions, Artifacts, Feedbacks, Groups, Members, Offers, Pieces, Place, Rollouts, name_of, table_at}
+use Rattle.desk_records.specs.Tables.{HoldsTables, Tables}
+use Rattle.desk_records.specs.ArtifactRow.{has_bytes}
+use Rattle.desk_records.specs.CheckedRows.{has_wide_count, is_wide}
+use Rattle.desk_records.specs.Codes.{first_broken, number_in}
+use Rattle.desk_records.specs.EntryRow.{BreaksSequenced}
+use Rattle.desk_records.specs.RolloutRow.{broken_action_column, broken_offer_column, broken_rollout_column}
+use Rattle.desk_records.specs.TableRows.{IsAction, IsOffer, action_shown, offer_shown}
+use Rattle.rollout_model.specs.declared.rollout.Offer.{Offer}
+use Rattle.desk_records.specs.declared.module_row.Column.{Column}
+use Rattle.desk_records.specs.declared.module_row.Column.TheVariants as rule
+use Rattle.desk_records.specs.declared.rollout_row.StoredAction.{StoredAction}
+use Rattle.desk_records.specs.declared.action_texts.TheConstants.{GET_ACTION, GET_OFFER, LIST_ACTIONS, LIST_ENTRIES, LIST_OFFERS}
+use Rattle.desk_records.specs.declared.artifact_texts.TheConstants.{GET_PIECE, LIST_ALL_ARTIFACTS}
+use Rattle.desk_records.specs.declared.rollout_texts.TheConstants.{GET_ROLLOUT, LAST_ROLLOUT, LIST_GROUPS, LIST_PLACES}
+use Rattle.desk_records.proofs.ActionMeaning.{action_columns, action_names, entry_columns, entry_names, get_action_is, get_offer_is, list_actions_is, list_actions_query, list_entries_is, list_entries_query, list_offers_is, listed_columns, listed_names, of_action, of_controller, of_rollout as of_its_rollout, offer_columns, owned_columns, owned_names}
+use Rattle.desk_records.proofs.AnyRows.{count_shown, from_shown}
+use Rattle.desk_records.proofs.ArtifactMeaning.{all_artifacts_query, all_columns, all_names, at_piece, get_piece_is, list_all_artifacts_is}
+use Rattle.desk_records.proofs.MeaningWords.{at_key}
+use Rattle.desk_records.proofs.RolloutMeaning.{get_rollout_is, last_rollout_query, group_columns, group_names, list_groups_is, list_groups_query, list_places_is, of_rollout, placed_columns, placed_names, places_query, rollout_columns, rollout_names}
+use Rattle.desk_store.specs.Blaming.{Blames, BlamesGiven}
+use Rattle.desk_store.specs.Changing.{FindsTables, seen_in}
+use Rattle.desk_store.specs.RawLists.{AreActions, AreOffers}
+use Rattle.desk_store.specs.Rows.{BreaksRule, HasBroken, HasNoNumber, IfStore}
+use Rattle.desk_store.specs.Unreadable.{IsUnreadable, broken_entry, broken_piece, broken_rollout, large_count, large_number, many_rows}
+use Rattle.desk_store.specs.declared.change.OpenChange.{OpenChange}
+use Rattle.desk_store.proofs.BlameLemmas.{blamed}
+use Rattle.desk_store.proofs.Known.{tables_know}
+use Rattle.desk_store.proofs.RawCalls.{FindsOf, all_read, count_shown as row_of_count, counted, ending_any, few_read}
+use Rattle.desk_store.proofs.RawLists.{all_of, small_or_wide}
+
+-- ---- any read of one table
+
+module _ (p : Place) (sql : List ℕ) (test columns : List Term) (order : List (Term × Key)) (limit offset : Term) (names : List (List ℕ))
+    (means : (s : Schema) (at tree : ℕ) → Stands s (name_of p) at (table_at p tree) → Means s sql (Select (record { lets = []; body = by (simple tree test columns) order limit offset }) names)) (params : Row)
+    (whole : (tree : ℕ) (xs : List Row) → page (by (simple tree test columns) order limit offset) params xs ≡ xs) where
+  abbrev read_by : Knows HoldsTables sql
+  read_by = tables_know p sql (λ at tree. Select (record { lets = []; body = by (simple tree test columns) order limit offset }) names) means
+
+  -- a row of the table is shown so
+  abbrev IsOf : Tables → Row → Type 0
+  IsOf t shown = (row : Row) × Has (t p) row × (passes test params row ≡ true) × (shown ≡ shown_of columns params row)
+
+  abbrev AreOf : Tables → Vec Row Global → Type 0
+  AreOf t rows = (shown : Row) → Has rows.items shown → IsOf t shown
+
+  module _ (rows : Vec Row Global) where
+    are_of : (db : Database) (t : Tables) (holds : HoldsTables db t) (found : Vec Row Global) → Shows (read_by db t holds).command db params rows.items → found ≡ rows → AreOf t found
+    are_of db t holds found shows is =
+        subst (AreOf t) (sym is)
+        (from_shown (holds.spot p).tree test columns order limit offset params db.trees (t p) (holds.rows p) (whole (holds.spot p).tree) (passes test params) (λ row among. refl) rows.items (shows.answer Null))
+
+    module _ {S B : Type 0} (g : Ghosts S) (Given : Tables → Type 0) (is_broken : Row → Type 0) (blames : (t : Tables) (row : Row) → Has (t p) row → is_broken (shown_of columns params row) → Given t → IsUnreadable t)
+        (old new : OpenChange S) (grows : old.store.now.calls.failures ≤ new.store.now.calls.failures) (out : Result B Fault) (broken : IfErr out (λ fault. IfStore fault (HasBroken is_broken rows.items))) where
+      told : FindsTables g {E = Fault} old new (Ok rows) AreOf → BlamesGiven g Given old new out
+      told read = blamed read grows out (go out broken)
+        where
+          unreadable : HasBroken is_broken rows.items → (t : Tables) → AreOf t rows → Given t → IsUnreadable t
+          unreadable it t of given = let its = of it.row it.among in blames t its.0 its.1 (subst is_broken its.3 it.broken) given
+
+          go : (out : Result B Fault) → IfErr out (λ fault. IfStore fault (HasBroken is_broken rows.items)) → IfErr out (λ fault. IfStore fault ((t : Tables) → AreOf t rows → Given t → IsUnreadable t))
+          go (Ok found) is = tt
+          go (Err Memory) is = tt
+          go (Err Store) is = unreadable is
+
+      pub all_blamed : AsksText (seen_in g old) (seen_in g new) sql params (Ok rows) → BlamesGiven g Given old new out
+      all_blamed h = told (all_read sql params (seen_in g old) (seen_in g new) read_by AreOf (λ found. found ≡ rows) rows are_of h (Ok rows) refl)
+
+      pub few_blamed : (most : ℕ) → AsksFew (seen_in g old) (seen_in g new) sql params most (Ok rows) → BlamesGiven g Given old new out
+      few_blamed most h = told (few_read sql params (seen_in g old) (seen_in g new) read_by AreOf (λ found. found ≡ rows) rows are_of most h (Ok rows) refl)
+
+-- ---- rows of tables that were judged
+
+-- an action that can't be read has a count that is too large
+wide_action : (row : Row) (number : ℕ) (a : StoredAction) → IsAction row number a → (c : Column) → broken_action_column (action_shown row) ≡ Some c → has_wide_count (action_shown row) ≡ true
+wide_action row number a is c broken =
+    let told : first_broken ((not (is_wide (Int (pos a.notes))), rule.ActionNotes) ∷ (not (is_wide (Int (pos a.entries))), rule.ActionEntries) ∷ []) ≡ Some c =
+    rw (is.shows.rollout, is.place, is.word, is.shows.canceling, is.shows.outcome, is.shows.notes, is.shows.entries, small_or_wide a.notes, small_or_wide a.entries) at broken in
+    rw (is.shows.notes, is.shows.entries) (go (is_wide (Int (pos a.notes))) (is_wide (Int (pos a.entries))) told)
+  where
+    go : (notes entries : Bool) → first_broken ((not notes, rule.ActionNotes) ∷ (not entries, rule.ActionEntries) ∷ []) ≡ Some c → (notes || entries) ≡ true
+    go true entries h = refl
+    go false true h = refl
+    go false false h = absurd cc
+
+-- an offer can be read
+no_offer : (row : Row) (id : List ℕ) (o : Offer) → IsOffer row id o → (c : Column) → broken_offer_column (offer_shown row) ≡ Some c → ⊥
+no_offer row id o is c broken = let told : None ≡ Some c = rw (is.shows.action, is.shows.canceling) at broken in absurd cc
+
+-- where it was read, it can be read
+abbrev nothing : Tables → Type 0
+nothing t = Unit {0}
+
+abbrev never : Row → Type 0
+never row = ⊥
+
+module _ {S B : Type 0} (g : Ghosts S) (old new : OpenChange S) (rows : Vec Row Global) (grows : old.store.now.calls.failures ≤ new.store.now.calls.failures) (out : Result B Fault) where
+  abbrev Asks : List ℕ → Row → Type 0
+  Asks sql params = AsksText (seen_in g old) (seen_in g new) sql params (Ok rows)
+
+  abbrev AsksOne : List ℕ → Row → Type 0
+  AsksOne sql params = AsksFew (seen_in g old) (seen_in g new) sql params 1 (Ok rows)
+
+  abbrev Broken : (Row → Type 0) → Type 0
+  Broken is_broken = IfErr out (λ fault. IfStore fault (HasBroken is_broken rows.items))
+
+  -- ---- by a number
+
+  pub rollout_blamed : (r : ℕ) → Broken (λ row. BreaksRule (broken_rollout_column row)) → AsksOne GET_ROLLOUT.now (Int (pos r) ∷ []) → Blames g old new out
+  rollout_blamed r broken =
+      few_blamed Rollouts GET_ROLLOUT.now (at_key 0 0 ∷ []) rollout_columns [] (lit (Int (negsuc 0))) (lit (Int (pos 0))) rollout_names get_rollout_is (Int (pos r) ∷ []) (λ tree xs. refl) rows
+      g nothing (λ row. BreaksRule (broken_rollout_column row)) (λ t row among is given. broken_rollout row among is) old new grows out broken 1
+
+  pub action_blamed : (k : ℕ) → Broken (λ row. BreaksRule (broken_action_column row)) → AsksOne GET_ACTION.now (Int (pos k) ∷ []) → BlamesGiven g AreActions old new out
+  action_blamed k broken =
+      few_blamed Actions GET_ACTION.now (at_key 0 0 ∷ []) action_columns [] (lit (Int (negsuc 0))) (lit (Int (pos 0))) action_names get_action_is (Int (pos k) ∷ []) (λ tree xs. refl) rows
+      g AreActions (λ row. BreaksRule (broken_action_column row)) (λ t row among is given. let it = given row among in large_count row among (wide_action row it.0 it.1 it.2 is.first is.is)) old new grows out broken 1
+
+  pub offer_blamed : (id : List ℕ) → Broken (λ row. BreaksRule (broken_offer_column row)) → AsksOne GET_OFFER.now (Text id ∷ []) → BlamesGiven g AreOffers old new out
+  offer_blamed id broken =
+      few_blamed Offers GET_OFFER.now of_controller offer_columns [] (lit (Int (negsuc 0))) (lit (Int (pos 0))) (codes "action" ∷ codes "kind" ∷ []) get_offer_is (Text id ∷ []) (λ tree xs. refl) rows
+      g AreOffers (λ row. BreaksRule (broken_offer_column row)) (λ t row among is given. let it = given row among in absurd (no_offer row it.0 it.1 it.2 is.first is.is)) old new grows out broken 1
+
+  -- ---- lists
+
+  pub actions_blamed : (n : ℕ) → Broken (λ row. has_wide_count row ≡ true) → Asks LIST_ACTIONS.now (all_of n) → Blames g old new out
+  actions_blamed n broken =
+      all_blamed Actions LIST_ACTIONS.now of_its_rollout listed_columns (list_actions_query 0).order (col 0 1) (col 0 2) listed_names list_actions_is (all_of n) (λ tree xs. refl) rows
+      g nothing (λ row. has_wide_count row ≡ true) (λ t row among is given. large_count row among is) old new grows out broken
+
+  pub history_blamed : (n : ℕ) → Broken (λ row. (c : Column) × BreaksSequenced row c) → Asks LIST_ENTRIES.now (all_of n) → Blames g old new out
+  history_blamed n broken =
+      all_blamed Feedbacks LIST_ENTRIES.now of_action entry_columns (list_entries_query 0).order (col 0 1) (col 0 2) entry_names list_entries_is (all_of n) (λ tree xs. refl) rows
+      g nothing (λ row. (c : Column) × BreaksSequenced row c) (λ t row among is given. broken_entry row is.0 among is.1) old new grows out broken
+
+  pub pieces_blamed : (number place : ℕ) → Broken (λ row. has_bytes (column row 0) ≡ false) → Asks GET_PIECE.now (Int (pos number) ∷ Int (pos place) ∷ []) → Blames g old new out
+  pieces_blamed number place broken =
+      all_blamed Pieces GET_PIECE.now at_piece (col 1 3 ∷ []) [] (lit (Int (negsuc 0))) (lit (Int (pos 0))) (codes "bytes" ∷ []) get_piece_is (Int (pos number) ∷ Int (pos place) ∷ []) (λ tree xs. refl) rows
+      g nothing (λ row. has_bytes (column row 0) ≡ false) (λ t row among is given. broken_piece row among is) old new grows out broken
+
+  -- nothing of these rows can't be read
+  pub groups_blamed : (r : ℕ) → Broken never → Asks LIST_GROUPS.now (Int (pos r) ∷ []) → Blames g old new out
+  groups_blamed r broken =
+      all_blamed Groups LIST_GROUPS.now of_rollout group_columns (list_groups_query 0).order (lit (Int (negsuc 0))) (lit (Int (pos 0))) group_names list_groups_is (Int (pos r) ∷ []) (λ tree xs. refl) rows
+      g nothing never (λ t row among is given. absurd is) old new grows out broken
+
+  pub places_blamed : (r : ℕ) → Broken never → Asks LIST_PLACES.now (Int (pos r) ∷ []) → Blames g old new out
+  places_blamed r broken =
+      all_blamed Members LIST_PLACES.now of_rollout placed_columns (places_query 0).order (lit (Int (negsuc 0))) (lit (Int (pos 0))) placed_names list_places_is (Int (pos r) ∷ []) (λ tree xs. refl) rows
+      g nothing never (λ t row among is given. absurd is) old new grows out broken
+
+  pub artifacts_blamed : Broken never → Asks LIST_ALL_ARTIFACTS.now [] → Blames g old new out
+  artifacts_blamed broken =
+      all_blamed Artifacts LIST_ALL_ARTIFACTS.now [] all_columns (all_artifacts_query 0).order (lit (Int (negsuc 0))) (lit (Int (pos 0))) all_names list_all_artifacts_is [] (λ tree xs. refl) rows
+      g nothing never (λ t row among is given. absurd is) old new grows out broken
+
+  pub offers_blamed : Broken never → Asks LIST_OFFERS.now [] → Blames g old new out
+  offers_blamed broken =
+      all_blamed Offers LIST_OFFERS.now [] owned_columns [] (lit (Int (negsuc 0))) (lit (Int (pos 0))) owned_names list_offers_is [] (λ tree xs. refl) rows
+      g nothing never (λ t row among is given. absurd is) old new grows out broken
+
+  pub counted_blamed : (n : ℕ) → IfErr out (λ fault. fault ≡ Memory) → Asks LIST_ACTIONS.now (all_of n) → Blames g old new out
+  counted_blamed n memory = actions_blamed n (only_memory out memory)
+    where
+      only_memory : (out : Result B Fault) → IfErr out (λ fault. fault ≡ Memory) → IfErr out (λ fault. IfStore fault (HasBroken (λ row. has_wide_count row ≡ true) rows.items))
+      only_memory (Ok found) is = tt
+      only_memory (Err Memory) is = tt
+      only_memory (Err Store) is = absurd cc
+
+-- ---- numbers
+
+-- more rows than can be counted
+many : (n size : ℕ) → (n ≡ size → n < 2 ^ 32 → ⊥) → n ≡ min size 9223372036854775807 → 2 ^ 32 ≤ size
+many n size not_small is = go (nat_lt size (2 ^ 32)) refl
+  where
+    go : (b : Bool) → nat_lt size (2 ^ 32) ≡ b → 2 ^ 32 ≤ size
+    go true few = let small : size < 2 ^ 32 = grind (arith, nat_tests, few) in absurd (not_small (omega (arith, is, small)) (omega (arith, is, small)))
+    go false few = grind (arith, nat_tests, few)
+
+-- a value that is no number of 32 bits is no rollout's number
+no_number : (v : Value) → ((n : ℕ) → n < 2 ^ 32 → v ≡ Int (pos n) → ⊥) → number_in v ≡ None
+no_number v unread = go (number_in v) refl
+  where
+    go : (o : Option ℕ) → number_in v ≡ o → o ≡ None
+    go None is = refl
+    go (Some n) is =
+        let high : nat_le n number_limit ≡ true = (and_parts (nat_le 1 n) (nat_le n number_limit) (number_in_good v n is)).1 in
+        absurd (unread n (grind (arith, nat_tests, high)) (number_in_is v n is))
+
+-- the row of the last rollout is that of a rollout
+first_shown : (db : Database) (t : Tables) (holds : HoldsTables db t) (shown : Row) (tail : List Row) → Shows (ending_any db t holds).command db [] (shown ∷ tail) → (its : Row) × Has (t Rollouts) its × (shown ≡ column its 0 ∷ [])
+first_shown db t holds shown tail shows = go it.ordered refl it.is
+  where
+    q : Query
+    q = last_rollout_query (holds.spot Rollouts).tree
+
+    it : IsOrdered q [] (filter (passes [] []) (db.trees (holds.spot Rollouts).tree)) (shown ∷ tail)
+    it = ordered_rows (holds.spot Rollouts).tree [] (col 1 0 ∷ []) q.order q.limit q.offset [] db.trees (shown ∷ tail) (shows.answer Null)
+
+    go : (os : List Output) → it.ordered ≡ os → shown ∷ tail ≡ take 1 (map (λ (o : Output). o.1) os) → (its : Row) × Has (t Rollouts) its × (shown ≡ column its 0 ∷ [])
+    go [] ordered e = absurd cc
+    go (o ∷ rest) ordered e =
+        let first : shown ≡ o.1 = cc in
+        let source = has_mapped (shown_in q []) _ o (has_permuted _ _ o (IsPermutation-sym _ _ it.same) (subst (λ l. Has l o) (sym ordered) (inl refl))) in
+        let row = has_filtered (passes [] []) (db.trees (holds.spot Rollouts).tree) source.0 source.1 in
+        (source.0, subst (λ l. Has l source.0) (sym (holds.rows Rollouts)) row.0, first ∙ ap (λ (p : Output). p.1) source.2)
+
+module _ {S : Type 0} (g : Ghosts S) (old new : OpenChange S) (grows : old.store.now.calls.failures ≤ new.store.now.calls.failures) (out : Result ℕ Fault) where
+  pub place_count_blamed : (r : ℕ) (rows : Vec Row Global) → IfErr out (λ fault. 2 ^ 32 ≤ length rows.items) → AsksText (seen_in g old) (seen_in g new) LIST_PLACES.now (Int (pos r) ∷ []) (Ok rows) → Blames g old new out
+  place_count_blamed r rows large h = blamed (all_read LIST_PLACES.now (Int (pos r) ∷ []) (seen_in g old) (seen_in g new) listing_any AreFewer (λ found. found ≡ rows) rows counts h (Ok rows) refl) grows out (go out large)
+    where
+      listing_any : Knows HoldsTables LIST_PLACES.now
+      listing_any = tables_know Members LIST_PLACES.now (λ at tree. Select (record { lets = []; body = places_query tree }) placed_names) list_places_is
+
+      AreFewer : Tables → Vec Row Global → Type 0
+      AreFewer t rows = length rows.items ≤ length (t Members)
+
+      counts : (db : Database) (t : Tables) (holds : HoldsTables db t) (found : Vec Row Global) → Shows (listing_any db t holds).command db (Int (pos r) ∷ []) rows.items → found ≡ rows → AreFewer t found
+      counts db t holds found shows is = subst (AreFewer t) (sym is)
+          (let of = count_shown (holds.spot Members).tree of_rollout placed_columns (places_query 0).order (lit (Int (negsuc 0))) (lit (Int (pos 0))) (Int (pos r) ∷ []) db.trees (t Members) (holds.rows Members) (λ xs. refl) (passes of_rollout (Int (pos r) ∷ [])) (λ row among. refl) rows.items (shows.answer Null) in
+          omega (arith, of, length-filter_both (passes of_rollout (Int (pos r) ∷ [])) (λ row. not (passes of_rollout (Int (pos r) ∷ []) row)) (λ row. refl) (t Members)))
+
+      go : (out : Result ℕ Fault) → IfErr out (λ fault. 2 ^ 32 ≤ length rows.items) → IfErr out (λ fault. IfStore fault ((t : Tables) → AreFewer t rows → Unit {0} → IsUnreadable t))
+      go (Ok found) is = tt
+      go (Err Memory) is = tt
+      go (Err Store) is = λ t fewer given. many_rows Members (omega (arith, is, fewer))
+
+  pub count_blamed : (p : Place) (sql : List ℕ) (means : (s : Schema) (at tree : ℕ) → Stands s (name_of p) at (table_at p tree) → Means s sql (Select (record { lets = []; body = count_query tree }) (codes "count(*)" ∷ []))) (row : Option Row)
+      → IfErr out (λ fault. IfStore fault ((row ≡ None) ⊎ HasNoNumber row)) → TakesFirst (seen_in g old) (seen_in g new) sql [] (Ok row) → Blames g old new out
+  count_blamed p sql means row broken h =
+      blamed (first_finds HoldsTables (λ (t : Tables). t) sql [] (seen_in g old) (seen_in g new) IsCounted (counted p sql means) (λ db t holds at given. tt) row h (Ok row) (λ db t holds shows. row_of_count p sql means db t holds row shows)) grows out (go out broken)
+    where
+      IsCounted : Tables → Option Row → Type 0
+      IsCounted t row = row ≡ Some (Int (pos (min (length (t p)) 9223372036854775807)) ∷ [])
+
+      unreadable : (t : Tables) → (row ≡ None) ⊎ HasNoNumber row → IsCounted t row → IsUnreadable t
+      unreadable t (inl none) is = absurd cc
+      unreadable t (inr unread) is = many_rows p (many (min (length (t p)) 9223372036854775807) (length (t p)) (λ same few. (subst HasNoNumber is unread) (omega arith) (min (length (t p)) 9223372036854775807) few refl) refl)
+
+      go : (out : Result ℕ Fault) → IfErr out (λ fault. IfStore fault ((row ≡ None) ⊎ HasNoNumber row)) → IfErr out (λ fault. IfStore fault ((t : Tables) → IsCounted t row → Unit {0} → IsUnreadable t))
+      go (Ok found) unread = tt
+      go (Err Memory) unread = tt
+      go (Err Store) unread = λ t is given. unreadable t unread is
+
+  pub last_blamed : (row : Option Row) → IfErr out (λ fault. IfStore fault (HasNoNumber row)) → TakesFirst (seen_in g old) (seen_in g new) LAST_ROLLOUT.now [] (Ok row) → Blames g old new out
+  last_blamed row broken h =
+      blamed (first_finds HoldsTables (λ (t : Tables). t) LAST_ROLLOUT.now [] (seen_in g old) (seen_in g new) IsOfRollout ending_any (λ db t holds at given. tt) row h (Ok row) (λ db t holds shows. rollout_of db t holds row shows)) grows out (go out row broken)
+    where
+      IsOfRollout : Tables → Option Row → Type 0
+      IsOfRollout t None = Unit {0}
+      IsOfRollout t (Some shown) = (its : Row) × Has (t Rollouts) its × (shown ≡ column its 0 ∷ [])
+
+      rollout_of : (db : Database) (t : Tables) (holds : HoldsTables db t) (row : Option Row) → ShowsFirst (ending_any db t holds).command db [] row → IsOfRollout t row
+      rollout_of db t holds None shows = tt
+      rollout_of db t holds (Some shown) shows = first_shown db t holds shown shows.0 shows.1
+
+      unreadable : (t : Tables) (row : Option Row) → HasNoNumber row → IsOfRollout t row → IsUnreadable t
+      unreadable t None unread its = absurd unread
+      unreadable t (Some shown) unread its = large_number its.0 its.1 (no_number (column its.0 0) (subst (λ x. HasNoNumber (Some x)) its.2 unread (omega arith)))
+
+      go : (out : Result ℕ Fault) (row : Option Row) → IfErr out (λ fault. IfStore fault (HasNoNumber row)) → IfErr out (λ fault. IfStore fault ((t : Tables) → IsOfRollout t row → Unit {0} → IsUnreadable t))
+      go (Ok found) row unread = tt
+      go (Err Memory) row unread = tt
+      go (Err Store) row unread = λ t its given. unreadable t row unread its

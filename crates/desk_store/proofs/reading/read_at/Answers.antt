@@ -1,0 +1,17 @@
+use Rattle.std.proofs.Common.{Err, ap, refl, ◌∙◌}
+use Rattle.std.proofs.lemmas.Option.{slice_get_read}
+use Rattle.std.proofs.lemmas.Result.{err_from_is_err_and}
+use Rattle.sqlite_rules.proofs.ListLemmas.{has_at}
+use Rattle.desk_store.proofs.ReadLemmas.{told_broken}
+use Rattle.desk_store.proofs.reading.read_at.Goals as goal
+
+pub returns-in_err-found-clause-err : goal.returns-in_err-found-clause-err
+returns-in_err-found-clause-err g c =
+    let is = c.in-Some.ensures.lookup in
+    let out = err_from_is_err_and c.from_residual.result c.from_residual.ensures.1 in
+    told_broken g.T.FromRow.is_broken c.args.rows.now c.in-Some.row.now (has_at c.args.rows.now c.args.at c.in-Some.row.now is.3.0 is.1) c.in_err-found.field-0.0 c.in_err-found.ensures.err c.from_residual.result (out.1 ∙ ap Err out.2)
+
+pub returns-clause-ok : goal.returns-clause-ok
+returns-clause-ok g c =
+    let is = c.in-Some.ensures.lookup in
+    rw (slice_get_read c.args.rows.now _ c.args.at c.in-Some.row.now refl is.3.0 is.1) (c.in_ok-found.found, refl, c.in_ok-found.ensures.ok)

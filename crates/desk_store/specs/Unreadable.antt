@@ -1,0 +1,50 @@
+-- What tables have that can't be read.
+use Rattle.std.specs.Prelude.{◌≡◌, ◌≤◌, ◌^◌, ◌&&◌, ℕ, nat_lt, Bool, true, false, List, [], ◌∷◌, length, map, None}
+use Rattle.std.specs.List.Sorted.{IsNonDecreasingBy}
+use Rattle.sqlite_value.specs.Order.{Row, column}
+use Rattle.sqlite_rules.specs.Lists.{Has}
+use Rattle.desk_records.specs.ArtifactRow.{has_bytes}
+use Rattle.desk_records.specs.CheckedRows.{has_wide_count}
+use Rattle.desk_records.specs.Codes.{number_in}
+use Rattle.desk_records.specs.EntryRow.{BreaksSequenced}
+use Rattle.desk_records.specs.Listings.{AreSaid, HasNumber, has_at}
+use Rattle.desk_records.specs.PlaceLists.{SaysMember, is_of}
+use Rattle.desk_records.specs.Schema.{Actions, Feedbacks, Members, Pieces, Place, Rollouts}
+use Rattle.desk_records.specs.RolloutRow.{broken_rollout_column}
+use Rattle.desk_records.specs.TableRows.{action_shown, rollout_shown}
+use Rattle.desk_records.specs.Tables.{Tables}
+use Rattle.desk_records.specs.declared.entry_row.SequencedEntry.{SequencedEntry}
+use Rattle.desk_records.specs.declared.member_row.PlacedMember.{PlacedMember}
+use Rattle.desk_records.specs.declared.rollout_row.ListedAction.{ListedAction}
+use Rattle.desk_records.specs.declared.module_row.Column.{Column}
+use Rattle.desk_store.specs.RawLists.{SaysAction, SaysEntry}
+use Rattle.desk_store.specs.Rows.{BreaksRule}
+
+-- what is shown of an entry, its sequence at the end
+abbrev pub sequenced_shown : Row → Row
+sequenced_shown row = column row 3 ∷ column row 4 ∷ column row 5 ∷ column row 2 ∷ []
+
+-- each number is greater than the one before
+abbrev pub rise : ℕ → List ℕ → Bool
+rise last [] = true
+rise last (n ∷ numbers) = nat_lt last n && rise n numbers
+
+-- What the rows say that pass the test, by a number that is from 1 on: in order they don't rise, since two have the same, or one has 0.
+pub record HasTwins {A : Type 0} (rows : List Row) (test : Row → Bool) (says : Row → A → Type 0) (key : A → ℕ) : Type 0 where
+  pub found : List A
+  pub said : AreSaid rows test says found
+  pub in_order : IsNonDecreasingBy key found
+  pub twins : rise 0 (map key found) ≡ false
+
+-- Rows that are read and that nothing is recomputed of: one that breaks a rule, a number that is missing or is there twice, and what is past its limit.
+pub data IsUnreadable (t : Tables) : Type 0 where
+  broken_rollout : (row : Row) → Has (t Rollouts) row → BreaksRule (broken_rollout_column (rollout_shown row)) → IsUnreadable t
+  broken_piece : (row : Row) → Has (t Pieces) row → has_bytes (column row 3) ≡ false → IsUnreadable t
+  broken_entry : (row : Row) (c : Column) → Has (t Feedbacks) row → BreaksSequenced (sequenced_shown row) c → IsUnreadable t
+  twin_members : (rollout : ℕ) → HasTwins (t Members) (is_of rollout) (SaysMember rollout) (λ (m : PlacedMember). m.place) → IsUnreadable t
+  twin_actions : (rollout : ℕ) → HasTwins (t Actions) (has_at 2 rollout) SaysAction (λ (a : ListedAction). a.number) → IsUnreadable t
+  twin_entries : (action : ℕ) → HasTwins (t Feedbacks) (has_at 1 action) SaysEntry (λ (e : SequencedEntry). e.sequence) → IsUnreadable t
+  missing_rollout : (number last : ℕ) → 1 ≤ number → number ≤ last → HasNumber (t Rollouts) last → (HasNumber (t Rollouts) number → ⊥) → IsUnreadable t
+  large_number : (row : Row) → Has (t Rollouts) row → number_in (column row 0) ≡ None → IsUnreadable t
+  large_count : (row : Row) → Has (t Actions) row → has_wide_count (action_shown row) ≡ true → IsUnreadable t
+  many_rows : (p : Place) → 2 ^ 32 ≤ length (t p) → IsUnreadable t

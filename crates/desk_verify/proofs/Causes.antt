@@ -1,0 +1,159 @@
+-- What a failed store is blamed on in the checks.
+use Rattle.std.proofs.Common.{◌≡◌, ◌≤◌, ◌<◌, ◌^◌, ◌⊎◌, ◌&&◌, inl, inr, ◌≢◌, ℕ, nat_eq, nat_le, nat_lt, pos, ◌+◌, slice_index_or, zero, suc, take, Bool, not, true, false, cond, List, [], ◌∷◌, length, filter, map, Option, Some, None, refl, Ok, Err, Result, sym, ap, subst, ◌∙◌, arith}
+use Rattle.std.proofs.lemmas.List.Filters.{length-filter_both}
+use Rattle.std.proofs.lemmas.Bool.{and_parts}
+use Rattle.std.proofs.lemmas.Bool.Decides.{nat_tests}
+use Rattle.std.specs.List.{AllByRecursion}
+use Rattle.std.specs.Ordering.{is_eq}
+use Rattle.sqlite_value.specs.declared.value.Value.TheVariants.{Int}
+use Rattle.sqlite_value.specs.Order.{Row, column, value_cmp}
+use Rattle.sqlite.specs.Store.{Ghosts}
+use Rattle.sqlite.specs.State.{State}
+use Rattle.sql_calls.specs.Standing.{Finds, Wears}
+use Rattle.sql_calls.specs.declared.fault.Fault.{Fault}
+use Rattle.rollout_model.specs.Limits.{number_limit}
+use Rattle.rollout_model.specs.Rules.{is_number, number_of}
+use Rattle.desk_records.specs.Codes.{number_in}
+use Rattle.desk_records.specs.Listings.{AreSaid, HasNumber, IsLast}
+use Rattle.desk_records.specs.PlaceLists.{AreMembers}
+use Rattle.desk_records.specs.declared.checked_rows.OwnedOffer.{OwnedOffer}
+use Rattle.desk_records.specs.declared.member_row.PlacedMember.{PlacedMember}
+use Rattle.desk_records.specs.Schema.{Members, Offers, Place, Rollouts}
+use Rattle.desk_records.proofs.NumberColumns.{number_in_good, number_in_is}
+use Rattle.desk_records.specs.Tables.{HoldsTables, Tables}
+use Rattle.desk_store.specs.Blaming.{BlamesGiven, Watches}
+use Rattle.desk_store.specs.Changing.{FindsTables, seen_in}
+use Rattle.desk_store.specs.RawLists.{AreActions, AreOffers, SaysOffer, any_row}
+use Rattle.desk_store.specs.Unreadable.{IsUnreadable, large_number, many_rows, rise, twin_members}
+use Rattle.desk_store.specs.declared.change.OpenChange.{OpenChange}
+use Rattle.desk_verify.specs.ActionChecks.{count_on}
+use Rattle.desk_verify.specs.Actions.{AgreesActions}
+use Rattle.desk_verify.specs.Agreement.{AgreeBefore, Agrees, checked}
+use Rattle.desk_verify.specs.declared.damage.CheckedTable.TheVariants.{Artifact}
+use Rattle.desk_verify.specs.Following.{follow}
+use Rattle.desk_verify.specs.Members.{AgreesMembers}
+use Rattle.desk_verify.specs.RolloutChecks.{IsUpTo}
+use Rattle.desk_verify.proofs.Follow.{differs}
+use Rattle.desk_verify.proofs.GroupLaw.{one_rowid}
+
+-- counts that don't fall
+pub grown : {a b c : ℕ} → a ≤ b → b ≤ c → a ≤ c
+grown low high = omega (arith, low, high)
+
+pub even : (n : ℕ) → n ≤ n
+even n = omega arith
+
+-- what is given to a call is known by what was read before it
+pub blamed_when : {S A B C : Type 0} {g : Ghosts S} {Given G : Tables → Type 0} {old mid new : OpenChange S} {x : A} {P : Tables → A → Type 0} → FindsTables g {E = Fault} old mid (Ok x) P → old.store.now.calls.failures ≤ mid.store.now.calls.failures
+    → Wears (seen_in g mid) (seen_in g new) → (fault : Fault) → BlamesGiven g G {A = C} mid new (Err fault) → ((t : Tables) → P t x → Given t → G t) → (out : Result B Fault) → out ≡ Err fault → BlamesGiven g Given old new out
+blamed_when {B = B} {g = g} {Given = Given} {old = old} {mid = mid} {new = new} read grows wears fault blames means out is = subst (BlamesGiven g Given {A = B} old new) (sym is)
+    (record {
+      to = λ watch was given. record {
+        cause = λ store clean.
+            let seen = read.finds watch.tables was.sees in
+            let before : Watches g mid watch = record { sees = seen.0; before = record { failures = omega (arith, was.before.failures, grows) } } in
+            (blames.to watch before (means watch.tables (seen.1 (omega (arith, clean, wears))) given)).cause store clean;
+      };
+    })
+
+-- a list is no longer than its table
+pub listed_many : (t : Tables) (p : Place) (test : Row → Bool) (count : ℕ) → count ≡ length (filter test (t p)) → 2 ^ 32 ≤ count → IsUnreadable t
+listed_many t p test count is large = many_rows p (omega (arith, is, large, length-filter_both test (λ row. not (test row)) (λ row. refl) (t p)))
+
+-- ---- rollouts
+
+and_both : (a b : Bool) → a ≡ true → b ≡ true → (a && b) ≡ true
+and_both a b h k = rw (h, k) refl
+
+-- up to the last
+pub up_to : (t : Tables) (before last : ℕ) → IsLast (t Rollouts) last → before < last → IsUpTo (before + 1) t
+up_to t before last is within = go is.there
+  where
+    go : (last ≡ 0) ⊎ HasNumber (t Rollouts) last → IsUpTo (before + 1) t
+    go (inl none) = absurd (omega (arith, none, within))
+    go (inr there) = record { low = omega arith; last = last; high = omega (arith, within); there = there }
+
+-- the number that is made of a number is that
+pub same_number : (n m : ℕ) → number_of n ≡ Some m → m ≡ n
+same_number n m h = go (is_number n) h
+  where
+    go : (b : Bool) → cond b (Some n) None ≡ Some m → m ≡ n
+    go true is = cc
+    go false is = absurd cc
+
+-- a number that is too large is that of no rollout, and then the last one is too
+pub past_limit : (t : Tables) (n : ℕ) → number_of n ≡ None → IsUpTo n t → IsUnreadable t
+past_limit t n none up = large_number up.there.row up.there.among (go (number_in (column up.there.row 0)) refl)
+  where
+    not_number : (b : Bool) → cond b (Some n) None ≡ None → b ≡ false
+    not_number true is = absurd cc
+    not_number false is = refl
+
+    apart : (m : ℕ) → is_number m ≡ true → n ≤ m → ⊥
+    apart m good below =
+        let high : nat_le m number_limit ≡ true = (and_parts (nat_le 1 m) (nat_le m number_limit) good).1 in
+        let is : is_number n ≡ true = and_both (nat_le 1 n) (nat_le n number_limit) (grind (arith, nat_tests, up.low)) (grind (arith, nat_tests, high, below)) in
+        let bad : is_number n ≡ false = not_number (is_number n) none in
+        cc
+
+    go : (o : Option ℕ) → number_in (column up.there.row 0) ≡ o → o ≡ None
+    go None is = refl
+    go (Some m) is =
+        let same : m ≡ up.last = one_rowid m up.last [] (ap (λ v. is_eq (value_cmp v (Int (pos up.last)))) (sym (number_in_is (column up.there.row 0) m is)) ∙ up.there.numbered) in
+        absurd (apart m (number_in_good (column up.there.row 0) m is) (omega (arith, same, up.high)))
+
+-- ---- members
+
+-- places that follow and don't count on don't rise
+pub not_rising : (last : ℕ) (members : List PlacedMember) → follow last members ≡ true → count_on last members ≡ false → rise last (map (λ (m : PlacedMember). m.place) members) ≡ false
+not_rising last [] h k = absurd cc
+not_rising last (m ∷ members) h k =
+    let parts = and_parts (nat_lt 0 m.place) (nat_le m.place (last + 1) && follow m.place members) h in
+    let more = and_parts (nat_le m.place (last + 1)) (follow m.place members) parts.1 in
+    go (nat_lt last m.place) refl more.0 (nat_eq m.place (last + 1)) refl k (λ rest. not_rising m.place members more.1 rest)
+  where
+    go : (b : Bool) → nat_lt last m.place ≡ b → nat_le m.place (last + 1) ≡ true → (one : Bool) → nat_eq m.place (last + 1) ≡ one → (one && count_on m.place members) ≡ false
+        → (count_on m.place members ≡ false → rise m.place (map (λ (m : PlacedMember). m.place) members) ≡ false) → (b && rise m.place (map (λ (m : PlacedMember). m.place) members)) ≡ false
+    go false low high one is k rest = refl
+    go true low high true is k rest = rest k
+    go true low high false is k rest = absurd (omega (arith, above low, below high, other is))
+      where
+        above : nat_lt last m.place ≡ true → last < m.place
+        above h = grind (arith, nat_tests, h)
+
+        below : nat_le m.place (last + 1) ≡ true → m.place ≤ last + 1
+        below h = grind (arith, nat_tests, h)
+
+        other : nat_eq m.place (last + 1) ≡ false → m.place ≢ last + 1
+        other h = grind (arith, nat_tests, h)
+
+-- in a table that agrees, two members have one place
+pub twin_place : (t : Tables) (r : ℕ) (members : List PlacedMember) → AreMembers (t Members) r members → count_on 0 members ≡ false → AgreesMembers t → IsUnreadable t
+twin_place t r members are k agree = twin_members r (record { found = members; said = are.said; in_order = are.rise; twins = go (follow 0 members) refl })
+  where
+    go : (b : Bool) → follow 0 members ≡ b → rise 0 (map (λ (m : PlacedMember). m.place) members) ≡ false
+    go true h = not_rising 0 members h k
+    go false h = absurd (differs t r members are h agree)
+
+-- ---- offers
+
+pub all_offers : (t : Tables) (found : List OwnedOffer) → AreSaid (t Offers) any_row SaysOffer found → AreOffers t
+all_offers t found said row among = let it = said.complete row among refl in (it.one.id, it.one.offer, it.is)
+
+pub all_actions : (t : Tables) → AgreesActions t → AreActions t
+all_actions t agree row among = let it = agree.each row among in (it.number, it.action, it.is)
+
+-- two answers of one call
+pub together : {A : Type 0} {a b : State} {x : A} {P W : Tables → A → Type 0} → Finds HoldsTables (λ (t : Tables). t) {E = Fault} a b (Ok x) P → Finds HoldsTables (λ (t : Tables). t) {E = Fault} a b (Ok x) W → Finds HoldsTables (λ (t : Tables). t) {E = Fault} a b (Ok x) (λ t y. P t y × W t y)
+together one other = record { wears = one.wears; finds = λ t was. ((one.finds t was).0, λ clean. ((one.finds t was).1 clean, (other.finds t was).1 clean)) }
+
+-- ---- the order of the checks
+
+-- those so far are those before
+pub so_far : (t : Tables) (i : ℕ) → i < 5 → AllByRecursion (Agrees t) (take i checked) → AgreeBefore (slice_index_or checked i Artifact) t
+so_far t zero within agree = agree
+so_far t (suc zero) within agree = agree
+so_far t (suc (suc zero)) within agree = agree
+so_far t (suc (suc (suc zero))) within agree = agree
+so_far t (suc (suc (suc (suc zero)))) within agree = agree
+so_far t (suc (suc (suc (suc (suc i))))) within agree = absurd (omega (arith, within))
