@@ -62,7 +62,8 @@ pub fn split_groups(
     requires few { length percentages.now ≤ group_limit }
     ensures split { IfOk result (λ groups. groups.items ≡ split members percentages.now) }
     ensures none_empty { IfOk result (λ groups. first_empty members percentages.now ≡ None) }
-    ensures empty { IfErr result (λ fault. (fault ≡ SplitFault.Memory) ⊎ ((i : _) × (fault ≡ SplitFault.Empty i) × (first_empty members percentages.now ≡ Some i))) }
+    ensures empty { IfErr result (λ fault. (fault ≡ SplitFault.Memory)
+        ⊎ ((i : _) × (fault ≡ SplitFault.Empty i) × (first_empty members percentages.now ≡ Some i))) }
 {
     let mut groups = Vec::new(alloc);
     let mut last = 0;
