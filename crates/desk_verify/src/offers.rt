@@ -143,7 +143,8 @@ fn are_offered_if_due<S: Alter>(
     actions: &[ListedAction],
 ) -> Result<bool, Fault>
     ensures stays { StaysIn S.Store change.old change.new result }
-    ensures judges { FindsTables S.Store change.old change.new result (λ t offered. Decides (AllByRecursion (IsOfferedIfDue t groups.now) actions.now) offered) }
+    ensures judges { FindsTables S.Store change.old change.new result
+        (λ t offered. Decides (AllByRecursion (IsOfferedIfDue t groups.now) actions.now) offered) }
     ensures blames { BlamesGiven S.Store (AreOffers) change.old change.new result }
 {
     for listed in actions {
