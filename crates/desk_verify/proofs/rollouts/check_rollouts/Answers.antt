@@ -46,5 +46,5 @@ returns-in-None-clause-blames g c =
     blamed (both_found c.loop-before.invariant.judged (both_found c.in_ok-rollout.ensures.reads (rw c.in-Some.is at c.in_ok-count.ensures.judges)))
     (grown c.loop-before.invariant.stays.grows.failures (grown c.in_ok-rollout.ensures.stays.grows.failures c.in_ok-count.ensures.stays.grows.failures)) (Err Store)
     (λ t is given. listed_many t g.T.ByRollout.table (within g.T.ByRollout.column (c.loop-before.before + 1)) (c.loop-before.listed + c.in-Some.count)
-      (one_more g.T.ByRollout.table g.T.ByRollout.column g.T.ByRollout.is_right g.T.ByRollout.is_whole t c.loop-before.before c.loop-before.listed c.in-Some.count (c.loop-before.listed + c.in-Some.count) c.in_ok-rollout.rollout.number
-        is.0.1 c.in_ok-rollout.ensures.number (is.1.1 is.1.0) refl).rows.all large)
+    (one_more g.T.ByRollout.table g.T.ByRollout.column g.T.ByRollout.is_right g.T.ByRollout.is_whole t c.loop-before.before c.loop-before.listed c.in-Some.count (c.loop-before.listed + c.in-Some.count) c.in_ok-rollout.rollout.number
+    is.0.1 c.in_ok-rollout.ensures.number (is.1.1 is.1.0) refl).rows.all large)
