@@ -202,7 +202,7 @@ fn check_row<S: Alter>(calls: &mut Calls<S>) -> Result<Version, OpenFault>
     ensures keeps { Keeps (state S.Store calls.old.conn) (state S.Store calls.new.conn) result }
     ensures tells { HasCleanDisk (state S.Store calls.new.conn) → StandsSomewhere (state S.Store calls.old.conn).now.schema (desk_table 0)
         → Tells (λ v. HasRow (state S.Store calls.old.conn).now (IsDeskRow v)) (HasRow (state S.Store calls.old.conn).now)
-            (HasNoRow (state S.Store calls.old.conn).now) result }
+        (HasNoRow (state S.Store calls.old.conn).now) result }
 {
     match read_desk_row(calls) {
         Ok(Some(row)) => judge(&row),
