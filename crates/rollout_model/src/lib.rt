@@ -17,6 +17,7 @@ mod feedback;
 mod filename;
 mod filter_text;
 mod group_count;
+mod group_rule;
 mod group_word;
 mod inline_bytes;
 mod items;
@@ -57,6 +58,7 @@ pub use feedback::{CancelWord, DeploymentWord, DeviceFeedback, HistoryEntry, Not
 pub use filename::Filename;
 pub use filter_text::FilterText;
 pub use group_count::GroupCount;
+pub use group_rule::GroupRule;
 pub use group_word::GroupWord;
 pub use inline_bytes::InlineBytes;
 pub use items::Items;
