@@ -69,7 +69,7 @@ def schema(tables):
     places = [t.at for t in tables]
     return "\n".join([
         f"-- {WRITTEN}",
-        "-- The tables of a desk, version 1, and their places in the order in which they are made.",
+        "-- The tables of a desk, and their places in the order in which they are made.",
         used("Rattle.std.specs.Prelude", "true false [] ◌∷◌ Some None codes List ℕ map".split()),
         used("Rattle.sqlite_value.specs.Keys", ["plain"]),
         used("Rattle.sqlite.specs.Table", ["Table"]),

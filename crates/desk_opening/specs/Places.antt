@@ -2,11 +2,11 @@
 -- The tables of a desk as the code names them, and the text that makes each.
 use Rattle.std.specs.Prelude.{ℕ, List}
 use Rattle.desk_records.specs.Schema.{Place, Desk, Modules, Sets, SetModules, Artifacts, Pieces, Targets, TargetTags, TargetAttributes, Rollouts}
-use Rattle.desk_records.specs.Schema.{Members, Groups, Actions, Feedbacks, Offers}
+use Rattle.desk_records.specs.Schema.{Members, Groups, Actions, Feedbacks, Offers, Rules}
 use Rattle.desk_records.specs.declared.table_texts.TheConstants.{CREATE_DESK, CREATE_MODULE, CREATE_SET, CREATE_SET_MODULE, CREATE_ARTIFACT}
 use Rattle.desk_records.specs.declared.table_texts.TheConstants.{CREATE_PIECE, CREATE_TARGET, CREATE_TARGET_TAG, CREATE_TARGET_ATTRIBUTE}
 use Rattle.desk_records.specs.declared.table_texts.TheConstants.{CREATE_ROLLOUT, CREATE_MEMBER, CREATE_ROLLOUT_GROUP, CREATE_ACTION, CREATE_FEEDBACK}
-use Rattle.desk_records.specs.declared.table_texts.TheConstants.{CREATE_OFFER}
+use Rattle.desk_records.specs.declared.table_texts.TheConstants.{CREATE_OFFER, CREATE_GROUP_RULE}
 use Rattle.desk_opening.specs.declared.desk_table.DeskTable.{DeskTable}
 use Rattle.desk_opening.specs.declared.desk_table.DeskTable.TheVariants as table
 
@@ -26,6 +26,7 @@ place_of table.Groups = Groups
 place_of table.Actions = Actions
 place_of table.Feedbacks = Feedbacks
 place_of table.Offers = Offers
+place_of table.Rules = Rules
 
 abbrev pub create_text_of : Place → List ℕ
 create_text_of Desk = CREATE_DESK.now
@@ -43,3 +44,4 @@ create_text_of Groups = CREATE_ROLLOUT_GROUP.now
 create_text_of Actions = CREATE_ACTION.now
 create_text_of Feedbacks = CREATE_FEEDBACK.now
 create_text_of Offers = CREATE_OFFER.now
+create_text_of Rules = CREATE_GROUP_RULE.now

@@ -6,8 +6,8 @@ ghost use Rattle.desk_records.specs.Schema.{name_of};
 ghost use Rattle.desk_opening.specs.Places.{place_of, create_text_of};
 
 use desk_records::{
-    CREATE_ACTION, CREATE_ARTIFACT, CREATE_DESK, CREATE_FEEDBACK, CREATE_MEMBER, CREATE_MODULE,
-    CREATE_OFFER, CREATE_PIECE, CREATE_ROLLOUT, CREATE_ROLLOUT_GROUP, CREATE_SET,
+    CREATE_ACTION, CREATE_ARTIFACT, CREATE_DESK, CREATE_FEEDBACK, CREATE_GROUP_RULE, CREATE_MEMBER,
+    CREATE_MODULE, CREATE_OFFER, CREATE_PIECE, CREATE_ROLLOUT, CREATE_ROLLOUT_GROUP, CREATE_SET,
     CREATE_SET_MODULE, CREATE_TARGET, CREATE_TARGET_ATTRIBUTE, CREATE_TARGET_TAG,
 };
 
@@ -29,10 +29,11 @@ pub(crate) enum DeskTable {
     Actions,
     Feedbacks,
     Offers,
+    Rules,
 }
 
 /// All of them, in the order in which they are made.
-pub(crate) const TABLES: [DeskTable; 15] = [
+pub(crate) const TABLES: [DeskTable; 16] = [
     DeskTable::Desk,
     DeskTable::Modules,
     DeskTable::Sets,
@@ -48,6 +49,7 @@ pub(crate) const TABLES: [DeskTable; 15] = [
     DeskTable::Actions,
     DeskTable::Feedbacks,
     DeskTable::Offers,
+    DeskTable::Rules,
 ];
 
 impl DeskTable {
@@ -71,6 +73,7 @@ impl DeskTable {
             DeskTable::Actions => "action",
             DeskTable::Feedbacks => "feedback",
             DeskTable::Offers => "offer",
+            DeskTable::Rules => "group_rule",
         }
     }
 
@@ -94,6 +97,7 @@ impl DeskTable {
             DeskTable::Actions => CREATE_ACTION,
             DeskTable::Feedbacks => CREATE_FEEDBACK,
             DeskTable::Offers => CREATE_OFFER,
+            DeskTable::Rules => CREATE_GROUP_RULE,
         }
     }
 }

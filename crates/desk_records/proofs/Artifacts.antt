@@ -35,6 +35,7 @@ use Rattle.desk_records.proofs.Comparisons.{judged, words_equal, numbers_equal, 
 use Rattle.desk_records.proofs.NumberedReads.{finds, lasts, gets, first_found}
 use Rattle.desk_records.proofs.Parts.{same_rows, none_after, at_place, no_parts, its_parts, part_added}
 use Rattle.desk_records.proofs.PieceLists.{count_whole, one_more}
+use Rattle.desk_records.proofs.PlacedParts.{Names, gets_part, its_part}
 
 -- ---- artifacts by module and filename, the last one, and by number
 
@@ -94,6 +95,9 @@ artifact_added m filename size digest number tree schema old new artifacts has n
 abbrev pieces : ArtifactRecord → List Bytes
 pieces a = pieces_in a.contents
 
+abbrev pub told_piece : Bytes → Row
+told_piece bytes = Blob bytes ∷ []
+
 -- an artifact without contents has none
 pub no_pieces : (m : ℕ) (filename : Bytes) (size : ℕ) (digest : Bytes) (n : ℕ) (artifacts : List ArtifactRecord) → pieces_from n (artifacts ++ artifact_filed m filename size digest ∷ []) ≡ pieces_from n artifacts
 no_pieces m filename size digest n artifacts = no_parts piece_row pieces (artifact_filed m filename size digest) refl n artifacts
@@ -104,56 +108,13 @@ same_artifacts n before a bytes = same_rows artifact_row a (and_piece a bytes) (
 
 -- ---- a piece at its place
 
--- the test of a piece's number and place
-abbrev pub Names : ℕ → ℕ → (Row → Bool) → Type 0
-Names number sequence p = (n place : ℕ) (bytes : Bytes) → p (piece_row n place bytes) ≡ (nat_eq n number && nat_eq place sequence)
-
-of_artifact : (number sequence : ℕ) (p : Row → Bool) → Names number sequence p → (place : ℕ) (bytes : Bytes) → p (piece_row number place bytes) ≡ nat_eq place sequence
-of_artifact number sequence p names place bytes = let same : nat_eq number number ≡ true = grind (arith, nat_tests) in names number place bytes ∙ rw same refl
-
-others : (number sequence : ℕ) (p : Row → Bool) → Names number sequence p → (n place : ℕ) (bytes : Bytes) → nat_eq n number ≡ false → p (piece_row n place bytes) ≡ false
-others number sequence p names n place bytes apart = names n place bytes ∙ rw apart refl
-
-found_in : (number sequence : ℕ) (p : Row → Bool) → Names number sequence p → (ps : List Bytes) → filter p (rows_from (piece_row number) 1 ps) ≡ option_to_list (option_map (piece_row number sequence) (item_numbered ps sequence))
-found_in number zero p names ps = none_after (piece_row number) p zero (of_artifact number zero p names) 1 ps (omega arith)
-found_in number (suc k) p names ps =
-    let next : 1 + k ≡ suc k = omega arith in
-    at_place (piece_row number) p 1 k (λ place bytes. of_artifact number (suc k) p names place bytes ∙ ap (nat_eq place) (sym next)) ps
-    ∙ ap (λ n. option_to_list (option_map (piece_row number n) (slice_get ps k))) next
-
-pub its_piece : (artifacts : List ArtifactRecord) (number sequence : ℕ) (p : Row → Bool) → Names number sequence p → 1 ≤ number
+pub its_piece : (artifacts : List ArtifactRecord) (number sequence : ℕ) (p : Row → Bool) → Names told_piece pieces pieces_of_artifact refl (λ a. refl) number sequence p → 1 ≤ number
     → filter p (pieces_from 1 artifacts) ≡ option_to_list (option_map (piece_row number sequence) (piece_numbered artifacts number sequence))
-its_piece artifacts zero sequence p names least = absurd (omega (arith, least))
-its_piece artifacts (suc k) sequence p names least =
-    its_parts piece_row pieces p (suc k) (others (suc k) sequence p names) pieces_of_artifact refl (λ a. refl) 1 k (omega arith) artifacts
-    ∙ found_in (suc k) sequence p names (pieces_of_artifact (slice_get artifacts k))
+its_piece = its_part told_piece pieces pieces_of_artifact refl (λ a. refl)
 
-module _ (tree : ℕ) (db : Database) (artifacts : List ArtifactRecord) (held : IsHeldBy (db.trees tree) (pieces_from 1 artifacts)) (names : List (List ℕ)) where
-  abbrev is_at : ℕ → ℕ → Row → Bool
-  is_at number sequence = on_content (passes at_piece (Int (pos number) ∷ Int (pos sequence) ∷ []))
-
-  names_it : (number sequence : ℕ) → Names number sequence (is_at number sequence)
-  names_it number sequence n place bytes = rw (numbers_equal n number, numbers_equal place sequence, and_true (nat_eq place sequence)) refl
-
-  abbrev query : Query
-  query = simple tree at_piece (col 1 3 ∷ [])
-
-  abbrev shown : ℕ → ℕ → Row → Row
-  shown number sequence = shown_of (col 1 3 ∷ []) (Int (pos number) ∷ Int (pos sequence) ∷ [])
-
-  pieces_shown : (number sequence : ℕ) → 1 ≤ number → (rows : List Row) → Shows (Select (record { lets = []; body = query }) names) db (Int (pos number) ∷ Int (pos sequence) ∷ []) rows
-      → IsPermutation (map (on_content (shown number sequence)) (option_to_list (option_map (piece_row number sequence) (piece_numbered artifacts number sequence)))) rows
-  pieces_shown number sequence least rows shows =
-      let params = Int (pos number) ∷ Int (pos sequence) ∷ [] in
-      let f = shown number sequence in
-      let seen = held_seen (passes at_piece params) (λ id x. refl) f (λ id x. refl) (db.trees tree) (pieces_from 1 artifacts) held in
-      subst (λ l. IsPermutation (map (on_content f) l) rows) (its_piece artifacts number sequence (is_at number sequence) (names_it number sequence) least) (IsPermutation-trans _ _ _ seen (simple_rows tree at_piece (col 1 3 ∷ []) params db.trees rows (shows.answer Null)))
-
-  pub gets_piece : (number sequence : ℕ) → 1 ≤ number → (row : Option Row) → ShowsFirst (Select (record { lets = []; body = query }) names) db (Int (pos number) ∷ Int (pos sequence) ∷ []) row
-      → row ≡ option_map (λ bytes. Blob bytes ∷ []) (piece_numbered artifacts number sequence)
-  gets_piece number sequence least row shown_first =
-      first_found (on_content (shown number sequence)) (piece_row number sequence) (Select (record { lets = []; body = query }) names) db (Int (pos number) ∷ Int (pos sequence) ∷ []) (piece_numbered artifacts number sequence)
-      (pieces_shown number sequence least) row shown_first
+pub gets_piece : (tree : ℕ) (db : Database) (artifacts : List ArtifactRecord) → IsHeldBy (db.trees tree) (pieces_from 1 artifacts) → (names : List (List ℕ)) (number sequence : ℕ) → 1 ≤ number → (row : Option Row)
+    → ShowsFirst (Select (record { lets = []; body = simple tree at_piece (col 1 3 ∷ []) }) names) db (Int (pos number) ∷ Int (pos sequence) ∷ []) row → row ≡ option_map told_piece (piece_numbered artifacts number sequence)
+gets_piece tree db artifacts held names number sequence least = gets_part told_piece pieces pieces_of_artifact refl (λ a. refl) tree db artifacts held names (col 1 3 ∷ []) number sequence least (λ id x. refl)
 
 -- ---- a further piece of the last artifact
 

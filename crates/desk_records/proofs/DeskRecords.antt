@@ -8,7 +8,7 @@ use Rattle.sqlite.specs.Effect.{Database}
 use Rattle.sql_calls.proofs.Finding.{ShowsFirst}
 use Rattle.sql_calls.proofs.Selects.{passes, shown_of, simple_rows}
 use Rattle.desk_records.specs.Holds.{HoldsLedger, Ledger, desk_row}
-use Rattle.desk_records.specs.Versions.{newest}
+use Rattle.desk_records.specs.Versions.{newest, number_of}
 use Rattle.desk_records.specs.Rollouts.{flag}
 use Rattle.desk_records.specs.Schema.{Desk}
 use Rattle.desk_records.proofs.Comparisons.{and_true, numbers_equal}
@@ -18,7 +18,7 @@ use Rattle.desk_records.proofs.NumberedReads.{first_found}
 
 -- what is told of a desk
 abbrev pub told_desk : Bool → Row
-told_desk approval = Text (codes "fwdesk") ∷ Int (pos 1) ∷ Int (pos (flag approval)) ∷ []
+told_desk approval = Text (codes "fwdesk") ∷ Int (pos (number_of newest)) ∷ Int (pos (flag approval)) ∷ []
 
 abbrev first : List Term
 first = is_equal (col 1 0) (lit (Int (pos 1))) ∷ []

@@ -23,12 +23,13 @@ use Rattle.rollout_machine.specs.declared.outcome.Outcome.{Outcome}
 use Rattle.rollout_machine.specs.declared.records.ActionRecord.{ActionRecord}
 use Rattle.rollout_machine.specs.declared.records.RolloutRecord.{RolloutRecord}
 use Rattle.rollout_model.specs.declared.approval.Approval.{Approval}
+use Rattle.rollout_model.specs.declared.group_rule.GroupRule.{GroupRule}
 use Rattle.desk_records.specs.Actions.{Tally, action_row, entry_row, outcome_code}
 use Rattle.desk_records.specs.Holds.{HoldsLedger, Ledger, Ordered, Unordered}
-use Rattle.desk_records.specs.LedgerSteps.{AddsRollout, AddsAction, SetsRollout, SetsAction, acted, created, no_tally, scheduled, turned, with_actions, with_rollouts}
+use Rattle.desk_records.specs.LedgerSteps.{AddsRollout, AddsAction, SetsRollout, SetsAction, acted, created, no_tally, scheduled, turned, with_actions, with_rollouts, with_rules}
 use Rattle.desk_records.specs.Parts.{parts_from}
-use Rattle.desk_records.specs.Rollouts.{approval_code, flag, group_row, groups_from, member_row, members_from, rollout_row}
-use Rattle.desk_records.specs.Schema.{Place, Rollouts, Members, Groups, Actions, Feedbacks, action_table, rollout_table}
+use Rattle.desk_records.specs.Rollouts.{approval_code, flag, group_row, groups_from, member_row, members_from, rollout_row, rule_row, rules_from}
+use Rattle.desk_records.specs.Schema.{Place, Rollouts, Members, Groups, Actions, Feedbacks, Rules, action_table, rollout_table}
 use Rattle.desk_records.proofs.ActionMeaning.{action_terms, action_values, set_action_query}
 use Rattle.desk_records.proofs.HoldsAfter.{ChangesOnly, contents_differ, ledger_after}
 use Rattle.desk_records.proofs.LedgerLists.{actions_stay, actors_of_more, actors_stay, first_of, length_zip, parts_stay, zip_more, zip_set}
@@ -45,6 +46,10 @@ pub rollouts_differ : (l : Ledger) (ys : List RolloutRecord) (k : Place) → (Ro
     → ChangesOnly k l (with_rollouts l ys)
 rollouts_differ l ys k rollouts members groups actors = contents_differ k l (with_rollouts l ys) (Rollouts ∷ Members ∷ Groups ∷ Actions ∷ []) refl
     ((λ apart. ap Ordered (rollouts apart)), ((λ apart. ap Unordered (members apart)), ((λ apart. ap Unordered (groups apart)), ((λ apart. ap Ordered actors), tt))))
+
+-- what is said of groups
+pub rules_differ : (l : Ledger) (rules : List (List GroupRule)) (k : Place) → (Rules ≢ k → rules_from rules ≡ rules_from l.rules) → ChangesOnly k l (with_rules l rules)
+rules_differ l rules k same = contents_differ k l (with_rules l rules) (Rules ∷ []) refl ((λ apart. ap Unordered (same apart)), tt)
 
 abbrev pub histories_from : ℕ → List ActionRecord → List Row
 histories_from n as' = parts_from entry_row (λ (a : ActionRecord). a.history) n as'
@@ -76,13 +81,15 @@ adds_rollout number plan approval old new text count l next holds change w =
     let spot = holds.spot Rollouts in
     let xs = l.records.rollouts in
     let x = created number plan approval in
+    let after = with_rollouts l (xs ++ x ∷ []) in
     let made = inserts old.now.schema spot.at (rollout_table spot.tree) rollout_terms 11 (holds.stands Rollouts).got old new refl text (created_params number plan approval) count w in
     let at : number ≡ 1 + length xs = omega (arith, change.number_is) in
     let table : new.now.trees spot.tree ≡ rows_from rollout_row 1 (xs ++ x ∷ []) =
     made.applies.rows ∙ rw (cast_int number, cast_null, cast_int plan.set_number, cast_int plan.groups, cast_int plan.success, cast_int plan.error, cast_int (approval_code approval), cast_int 0, holds.rows Rollouts)
     (ap (λ m. put_row (rollout_row m x) (rows_from rollout_row 1 xs)) at ∙ put_next rollout_row (λ n x. refl) 1 xs x) in
-    subst (HoldsLedger new.now) (sym change.next_is) (ledger_after Rollouts l (with_rollouts l (xs ++ x ∷ [])) old.now new.now holds (record { schema = made.schema_is; sound = w.sound; others = made.applies.tables }) table
-    (rollouts_differ l (xs ++ x ∷ []) Rollouts (λ apart. absurd (apart refl)) (λ apart. no_parts member_row (λ (y : RolloutRecord). y.members) x refl 1 xs) (λ apart. no_parts group_row (λ (y : RolloutRecord). y.groups) x refl 1 xs) (actions_stay xs (xs ++ x ∷ []) (actors_of_more x refl xs) 1 _)) holds.sorted)
+    subst (HoldsLedger new.now) (sym change.next_is) (ledger_after Rollouts l (with_rules after (l.rules ++ [] ∷ [])) old.now new.now holds (record { schema = made.schema_is; sound = w.sound; others = made.applies.tables }) table
+    (λ t apart. rules_differ after (l.rules ++ [] ∷ []) Rollouts (λ other. no_parts rule_row (λ (its : List GroupRule). its) [] refl 1 l.rules) t apart
+    ∙ rollouts_differ l (xs ++ x ∷ []) Rollouts (λ apart. absurd (apart refl)) (λ apart. no_parts member_row (λ (y : RolloutRecord). y.members) x refl 1 xs) (λ apart. no_parts group_row (λ (y : RolloutRecord). y.groups) x refl 1 xs) (actions_stay xs (xs ++ x ∷ []) (actors_of_more x refl xs) 1 _) t apart) holds.sorted)
 
 -- ---- a rollout's approval, started and paused
 

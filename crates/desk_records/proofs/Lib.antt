@@ -14,6 +14,7 @@ mod NumberedReads
 mod Parts
 pub mod PieceLists
 mod PartReads
+mod PlacedParts
 pub mod Sets
 pub mod EachPlace
 pub mod Places
@@ -47,6 +48,7 @@ pub mod TableColumns
 pub mod AnyRows
 pub mod PlaceRows
 pub mod PieceRows
+pub mod RuleRows
 pub mod ActionRows
 pub mod RolloutRows
 pub mod HeldTables

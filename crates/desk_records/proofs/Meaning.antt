@@ -4,7 +4,7 @@ use Rattle.std.proofs.Common.{refl, List, [], ◌∷◌, ℕ, codes, pos, true}
 use Rattle.sqlite.specs.declared.types.Value.TheVariants.{Null, Int, Text}
 use Rattle.sqlite.specs.Collation.TheVariants.{Binary}
 use Rattle.sqlite.specs.Schema.{Schema}
-use Rattle.sqlite.specs.Command.TheVariants.{Select, Insert}
+use Rattle.sqlite.specs.Command.TheVariants.{Select, Insert, Update}
 use Rattle.sqlite.specs.Source.TheVariants.{Values}
 use Rattle.sqlite.specs.Query.{Query}
 use Rattle.sqlite.specs.Term.{Term, lit, col}
@@ -12,17 +12,19 @@ use Rattle.sqlite_tied.specs.Compute.{everything}
 use Rattle.sqlite_resolve.specs.Compile.{first, new_rows}
 use Rattle.sqlite_resolve.specs.Expr.{combine}
 use Rattle.sqlite_resolve.specs.Select.{named, paging}
+use Rattle.sqlite_resolve.specs.Write.{updated}
 use Rattle.sql_front.specs.Stands.{Stands}
 use Rattle.sql_front.proofs.Texts.{Queries, queries_known}
 use Rattle.sql_front.proofs.Write.{Adds, adds_known}
+use Rattle.sql_front.proofs.Change.{Updates, updates_known}
 use Rattle.sql_calls.specs.Means.{Means}
 use Rattle.sql_calls.proofs.Selects.{simple, by}
-use Rattle.desk_records.specs.declared.texts.TheConstants.{PUT_DESK, GET_DESK, FIND_MODULE, LAST_MODULE, GET_MODULE, PUT_MODULE}
+use Rattle.desk_records.specs.declared.texts.TheConstants.{PUT_DESK, SET_VERSION, GET_DESK, FIND_MODULE, LAST_MODULE, GET_MODULE, PUT_MODULE}
 use Rattle.desk_records.specs.Schema.{desk_table, module_table}
 use Rattle.desk_records.proofs.MeaningWords.{means_of, is_equal, at_key}
 
 abbrev pub desk_terms : List Term
-desk_terms = lit (Int (pos 1)) ∷ lit Null ∷ lit (Text (codes "fwdesk")) ∷ lit (Int (pos 1)) ∷ col 0 0 ∷ []
+desk_terms = lit (Int (pos 1)) ∷ lit Null ∷ lit (Text (codes "fwdesk")) ∷ lit (Int (pos 2)) ∷ col 0 0 ∷ []
 
 put_desk_adds : (tree : ℕ) → Adds PUT_DESK.now (codes "desk") (desk_table tree) (Values desk_terms 5)
 unfolding first new_rows everything
@@ -30,6 +32,33 @@ put_desk_adds tree = record { parsed = _; columns = _; rows = _; read = refl; st
 
 pub put_desk_is : (s : Schema) (at tree : ℕ) → Stands s (codes "desk") at (desk_table tree) → Means s PUT_DESK.now (Insert at (Values desk_terms 5))
 put_desk_is s at tree stands = means_of s PUT_DESK.now _ (adds_known _ _ (desk_table tree) _ (put_desk_adds tree) s at stands) refl refl
+
+abbrev pub version_values : List Term
+version_values = lit Null ∷ col 1 2 ∷ lit (Int (pos 2)) ∷ col 1 4 ∷ []
+
+abbrev pub set_version_query : ℕ → Query
+set_version_query tree = simple tree (is_equal (col 1 0) (lit (Int (pos 1))) ∷ []) (col 1 0 ∷ col 1 0 ∷ version_values)
+
+set_version_updates : (tree : ℕ) → Updates SET_VERSION.now (codes "desk") (desk_table tree) (set_version_query tree)
+unfolding first combine updated everything
+set_version_updates tree = record {
+  parsed = _;
+  sets = _;
+  test = _;
+  draft = _;
+  read = refl;
+  statement = refl;
+  formats = refl;
+  values = (tt, tt);
+  filter = ((refl, λ cx how x y. refl), tt, tt);
+  known = refl;
+  is_body = refl;
+  over = refl;
+  fits = refl;
+}
+
+pub set_version_is : (s : Schema) (at tree : ℕ) → Stands s (codes "desk") at (desk_table tree) → Means s SET_VERSION.now (Update at (record { lets = []; body = set_version_query tree }))
+set_version_is s at tree stands = means_of s SET_VERSION.now _ (updates_known _ _ _ _ (set_version_updates tree) s at stands) refl refl
 
 abbrev pub desk_query : ℕ → Query
 desk_query tree = simple tree (is_equal (col 1 0) (lit (Int (pos 1))) ∷ []) (col 1 2 ∷ col 1 3 ∷ col 1 4 ∷ [])

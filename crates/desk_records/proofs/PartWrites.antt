@@ -1,5 +1,5 @@
 -- The statements on members, groups and histories that write, in ledgers.
-use Rattle.std.proofs.Common.{◌≡◌, ◌∷◌, ◌++◌, ◌&&◌, ℕ, zero, suc, pos, List, [], Bool, true, set, slice_get, string_bytes, Some, None, refl, sym, ap, subst, ◌∙◌, arith, nat_eq}
+use Rattle.std.proofs.Common.{◌≡◌, ◌∷◌, ◌++◌, ◌&&◌, ℕ, zero, suc, pos, List, [], Bool, true, set, slice_get, string_bytes, Option, Some, None, refl, sym, ap, subst, ◌∙◌, arith, nat_eq}
 use Rattle.sqlite_value.specs.declared.value.Value.TheVariants.{Int, Text}
 use Rattle.sqlite_value.specs.Keys.{plain, first_key}
 use Rattle.sqlite_value.specs.Order.{Row}
@@ -8,14 +8,17 @@ use Rattle.sqlite.specs.Command.TheVariants.{Insert, Update}
 use Rattle.sqlite.specs.Source.TheVariants.{Values}
 use Rattle.sqlite.specs.Effect.{Database}
 use Rattle.sqlite.specs.State.{State, Writes}
-use Rattle.sqlite_rules.specs.Cast.{cast_all}
+use Rattle.sqlite.specs.Kind.TheVariants.{Integer}
+use Rattle.sqlite.specs.Values.{or_null}
+use Rattle.sqlite_rules.specs.Cast.{cast, cast_all}
 use Rattle.sql_calls.specs.Keyed.{IsHeldBy}
 use Rattle.sql_calls.proofs.Inserts.{inserts}
 use Rattle.sql_calls.proofs.KeyedRows.{on_content}
 use Rattle.sql_calls.proofs.KeyedTables.{adds_row, changes_key, keys_apart}
-use Rattle.sql_calls.proofs.NumberedRows.{cast_int}
+use Rattle.sql_calls.proofs.NumberedRows.{cast_int, cast_null}
 use Rattle.sql_calls.proofs.Selects.{passes, shown_of}
 use Rattle.sql_calls.proofs.Updates.{updates}
+use Rattle.rollout_model.specs.declared.group_rule.GroupRule.{GroupRule}
 use Rattle.rollout_machine.specs.Commands.{Bytes}
 use Rattle.rollout_machine.specs.declared.bounds.Bounds.{Bounds}
 use Rattle.rollout_machine.specs.declared.records.ActionRecord.{ActionRecord}
@@ -24,15 +27,15 @@ use Rattle.rollout_machine.specs.declared.records.RolloutRecord.{RolloutRecord}
 use Rattle.desk_records.specs.Actions.{entry_row}
 use Rattle.desk_records.specs.declared.new_entry.NewEntry.{NewEntry}
 use Rattle.desk_records.specs.Holds.{HoldsLedger, Ledger}
-use Rattle.desk_records.specs.LedgerSteps.{AddsMember, AddsGroup, SetsGroup, AddsEntry, and_member, and_group, and_entry, counted, cut_group, with_actions, with_groups, with_rollouts}
-use Rattle.desk_records.specs.Rollouts.{flag, group_row, groups_from, member_row, members_from, rollout_row, told_group}
-use Rattle.desk_records.specs.Schema.{Members, Groups, Feedbacks, feedback_table, group_table, member_table}
+use Rattle.desk_records.specs.LedgerSteps.{AddsMember, AddsGroup, AddsRule, SetsGroup, AddsEntry, and_member, and_group, and_entry, counted, cut_group, with_actions, with_groups, with_rollouts, with_rules}
+use Rattle.desk_records.specs.Rollouts.{flag, group_row, groups_from, member_row, members_from, rollout_row, rule_row, rules_from, told_group}
+use Rattle.desk_records.specs.Schema.{Members, Groups, Feedbacks, Rules, feedback_table, group_table, member_table, rule_table}
 use Rattle.desk_records.proofs.ActionMeaning.{feedback_terms}
 use Rattle.desk_records.proofs.Comparisons.{and_true, numbers_equal}
 use Rattle.desk_records.proofs.HoldsAfter.{Leaves, ledger_after}
 use Rattle.desk_records.proofs.LedgerLists.{acts_stay, actions_of_others, actions_stay, actors_stay, part_held, part_set, parts_stay, rows_stay}
-use Rattle.desk_records.proofs.LedgerWrites.{actions_differ, histories_from, rollouts_differ}
-use Rattle.desk_records.proofs.RolloutMeaning.{group_terms, group_values, member_terms, of_group, set_group_query}
+use Rattle.desk_records.proofs.LedgerWrites.{actions_differ, histories_from, rollouts_differ, rules_differ}
+use Rattle.desk_records.proofs.RolloutMeaning.{group_terms, group_values, member_terms, of_group, rule_terms, set_group_query}
 
 -- ---- a new member
 
@@ -116,6 +119,27 @@ sets_group (suc k) (suc j) started ok bad gone old new text count l next holds c
   where
     named : (n m : ℕ) (z : GroupRecord) → on_content (passes of_group (counted_params (suc k) (suc j) started ok bad gone)) (group_row n m z) ≡ (nat_eq n (suc k) && nat_eq m (suc j))
     named n m z = rw (numbers_equal n (suc k), numbers_equal m (suc j), and_true (nat_eq m (suc j))) refl
+
+-- ---- what is said of groups
+
+cast_or_null : (o : Option ℕ) → cast Integer (or_null (λ n. Int (pos n)) o) ≡ or_null (λ n. Int (pos n)) o
+cast_or_null None = cast_null
+cast_or_null (Some n) = cast_int n
+
+pub adds_rule : (number group : ℕ) (rule : GroupRule) (old new : State) (text : List ℕ) (count : ℕ) (l next : Ledger) (holds : HoldsLedger old.now l) → AddsRule number group rule l next
+    → (w : Writes old new None (Insert (holds.spot Rules).at (Values rule_terms 6)) text (rule_row number group rule) count) → HoldsLedger new.now next
+adds_rule zero group rule old new text count l next holds change w = absurd (let none = change.is_there in cc)
+adds_rule (suc k) group rule old new text count l next holds change w =
+    let spot = holds.spot Rules in
+    let table = rule_table spot.tree in
+    let after = change.its ++ rule ∷ [] in
+    let given = rule_row (suc k) group rule in
+    let made = inserts old.now.schema spot.at table rule_terms 6 (holds.stands Rules).got old new refl text given count w in
+    let more = adds_row old.now.schema table (1 ∷ 2 ∷ []) given rule_terms 6 given refl old.now new.now (rules_from l.rules) (holds.rows Rules) made in
+    let cast : cast_all table.columns given ≡ given = rw (cast_int (suc k), cast_int group, cast_or_null rule.percentage, cast_int rule.success, cast_int rule.error) refl in
+    let held = part_held rule_row (λ (its : List GroupRule). its) change.its after rule refl k group l.rules (new.now.trees spot.tree) change.is_there change.group_is (subst (λ r. IsHeldBy (new.now.trees spot.tree) (r ∷ rules_from l.rules)) cast more) in
+    subst (HoldsLedger new.now) (sym change.next_is) (ledger_after Rules l (with_rules l (set l.rules k after)) old.now new.now holds (record { schema = made.schema_is; sound = w.sound; others = made.applies.tables }) held
+    (rules_differ l (set l.rules k after) Rules (λ apart. absurd (apart refl))) holds.sorted)
 
 -- ---- histories
 

@@ -19,8 +19,8 @@ use Rattle.desk_records.specs.TableRows.{IsPiece}
 use Rattle.desk_records.specs.Tables.{HoldsTables, Tables}
 use Rattle.desk_records.proofs.AnyRows.{are_said}
 use Rattle.desk_records.proofs.ArtifactMeaning.{at_piece}
-use Rattle.desk_records.proofs.NumberColumns.{number_is, passes_two}
-use Rattle.desk_records.proofs.TableColumns.{integer_at}
+use Rattle.desk_records.proofs.NumberColumns.{number_is}
+use Rattle.desk_records.proofs.TableColumns.{passes_part}
 
 module _ (db : Database) (t : Tables) (holds : HoldsTables db t) (names : List (List ℕ)) where
   module _ (number place : ℕ) (shown : List Row) (shows : Shows (Select (record { lets = []; body = simple (holds.spot Pieces).tree at_piece (col 1 3 ∷ []) }) names) db (Int (pos number) ∷ Int (pos place) ∷ []) shown) where
@@ -29,9 +29,7 @@ module _ (db : Database) (t : Tables) (holds : HoldsTables db t) (names : List (
 
     judged : (row : Row) → Has (t Pieces) row → passes at_piece (Int (pos number) ∷ Int (pos place) ∷ []) row ≡ lies_at number place row
     judged row among =
-        let first = integer_at db t holds Pieces row among 0 (record { c = _; there = refl; kind_is = refl; strict = refl; filled = refl; apart = refl }) in
-        let second = integer_at db t holds Pieces row among 1 (record { c = _; there = refl; kind_is = refl; strict = refl; filled = refl; apart = refl }) in
-        passes_two row 1 2 number place first.0 second.0 first.1 second.1
+        passes_part db t holds Pieces row among (record { c = _; there = refl; kind_is = refl; strict = refl; filled = refl; apart = refl }) (record { c = _; there = refl; kind_is = refl; strict = refl; filled = refl; apart = refl }) number place
 
     means : (row : Row) → Has (t Pieces) row → lies_at number place row ≡ true → (bytes : Bytes) → column row 3 ≡ StoredBytes bytes → IsPiece row number place bytes
     means row among lies bytes is =

@@ -8,7 +8,7 @@ use Rattle.desk_records.specs.Holds.{HoldsRecords}
 use Rattle.desk_records.specs.Readable.{HoldsAt, HoldsPlace, HoldsReadable}
 use Rattle.desk_records.specs.Versions.{newest, number_of, places_at}
 use Rattle.desk_records.specs.declared.version.Version.{Version}
-use Rattle.desk_records.specs.declared.version.Version.TheVariants.{One}
+use Rattle.desk_records.specs.declared.version.Version.TheVariants.{One, Two}
 use Rattle.desk_records.proofs.EachPlace.{each_place}
 
 -- what holds of each place holds of all in a list
@@ -41,9 +41,14 @@ module _ (db : Database) (r : Records) where
 -- the table `desk` is the first
 pub has_desk : (v : Version) (P : Place → Type 0) → AllByRecursion P (places_at v) → P Desk
 has_desk One P all = all.0
+has_desk Two P all = all.0
 
 pub is_known : (v : Version) → number_of v ≤ number_of newest
 is_known One = omega arith
+is_known Two = omega arith
 
 pub one_numbered : (v w : Version) → number_of v ≡ number_of w → v ≡ w
 one_numbered One One same = refl
+one_numbered One Two same = absurd (omega (arith, same))
+one_numbered Two One same = absurd (omega (arith, same))
+one_numbered Two Two same = refl

@@ -20,8 +20,8 @@ use Rattle.sql_front.proofs.Change.{Updates, updates_known}
 use Rattle.sql_calls.specs.Means.{Means}
 use Rattle.sql_calls.proofs.Selects.{simple, by}
 use Rattle.sql_calls.proofs.Counts.{count_query}
-use Rattle.desk_records.specs.declared.rollout_texts.TheConstants.{FIND_ROLLOUT, LAST_ROLLOUT, GET_ROLLOUT, LIST_ROLLOUTS, LIST_MEMBERS, LIST_PLACES, COUNT_MEMBERS, LIST_GROUPS, COUNT_GROUPS, GET_GROUP, HOLDING_GROUP, GROUP_AND_NEXT, PUT_ROLLOUT, SET_ROLLOUT, PUT_MEMBER, PUT_GROUP, SET_GROUP}
-use Rattle.desk_records.specs.Schema.{rollout_table, member_table, group_table}
+use Rattle.desk_records.specs.declared.rollout_texts.TheConstants.{FIND_ROLLOUT, LAST_ROLLOUT, GET_ROLLOUT, LIST_ROLLOUTS, LIST_MEMBERS, LIST_PLACES, COUNT_MEMBERS, LIST_GROUPS, COUNT_GROUPS, GET_GROUP, HOLDING_GROUP, GROUP_AND_NEXT, PUT_ROLLOUT, SET_ROLLOUT, PUT_MEMBER, PUT_GROUP, SET_GROUP, GET_RULE, LIST_RULES, PUT_RULE}
+use Rattle.desk_records.specs.Schema.{rollout_table, member_table, group_table, rule_table}
 use Rattle.desk_records.proofs.MeaningWords.{means_of, at_key, past, at_least, at_most}
 
 abbrev pub same_name : List Term
@@ -434,3 +434,66 @@ set_group_updates tree = record {
 
 pub set_group_is : (s : Schema) (at tree : ℕ) → Stands s (codes "rollout_group") at (group_table tree) → Means s SET_GROUP.now (Update at (record { lets = []; body = set_group_query tree }))
 set_group_is s at tree stands = means_of s SET_GROUP.now _ (updates_known _ _ _ _ (set_group_updates tree) s at stands) refl refl
+
+abbrev pub rule_names : List (List ℕ)
+rule_names = codes "percentage" ∷ codes "success" ∷ codes "error" ∷ []
+
+abbrev pub rule_columns : List Term
+rule_columns = col 1 3 ∷ col 1 4 ∷ col 1 5 ∷ []
+
+get_rule_queries : (tree : ℕ) → Queries GET_RULE.now (codes "group_rule") (rule_table tree) (simple tree of_group rule_columns) rule_names
+unfolding first combine named paging everything
+get_rule_queries tree = record {
+  parsed = _;
+  select = _;
+  page = _;
+  shown = _;
+  read = refl;
+  selects = record { statement = refl; formats = refl; with = refl; others = refl };
+  one = record { source = _; from = refl; table = refl; alias = refl; on = refl; using = refl; is_inner = refl; group = refl; having = refl; shown = (tt, (tt, (tt, tt))); filter = ((refl, λ cx how x y. refl), ((refl, λ cx how x y. refl), tt, tt), ((refl, λ cx how x y. refl), tt, tt)); sorts = tt };
+  paged = λ s. refl;
+  named_alone = refl;
+  known = refl;
+  is_body = refl;
+  are_columns = refl;
+  over = refl;
+  fits = refl;
+}
+
+pub get_rule_is : (s : Schema) (at tree : ℕ) → Stands s (codes "group_rule") at (rule_table tree) → Means s GET_RULE.now (Select (record { lets = []; body = simple tree of_group rule_columns }) rule_names)
+get_rule_is s at tree stands = means_of s GET_RULE.now _ (queries_known _ _ _ _ _ (get_rule_queries tree) s at stands) refl refl
+
+abbrev pub list_rules_query : ℕ → Query
+list_rules_query tree = by (simple tree of_rollout rule_columns) ((col 1 2, record { descending = false; collation = Binary }) ∷ []) (lit (Int (negsuc 0))) (lit (Int (pos 0)))
+
+list_rules_queries : (tree : ℕ) → Queries LIST_RULES.now (codes "group_rule") (rule_table tree) (list_rules_query tree) rule_names
+unfolding first combine named paging everything
+list_rules_queries tree = record {
+  parsed = _;
+  select = _;
+  page = _;
+  shown = _;
+  read = refl;
+  selects = record { statement = refl; formats = refl; with = refl; others = refl };
+  one = record { source = _; from = refl; table = refl; alias = refl; on = refl; using = refl; is_inner = refl; group = refl; having = refl; shown = (tt, (tt, (tt, tt))); filter = ((refl, λ cx how x y. refl), tt, tt); sorts = (tt, tt) };
+  paged = λ s. refl;
+  named_alone = refl;
+  known = refl;
+  is_body = refl;
+  are_columns = refl;
+  over = refl;
+  fits = refl;
+}
+
+pub list_rules_is : (s : Schema) (at tree : ℕ) → Stands s (codes "group_rule") at (rule_table tree) → Means s LIST_RULES.now (Select (record { lets = []; body = list_rules_query tree }) rule_names)
+list_rules_is s at tree stands = means_of s LIST_RULES.now _ (queries_known _ _ _ _ _ (list_rules_queries tree) s at stands) refl refl
+
+abbrev pub rule_terms : List Term
+rule_terms = lit Null ∷ col 0 0 ∷ col 0 1 ∷ col 0 2 ∷ col 0 3 ∷ col 0 4 ∷ []
+
+put_rule_adds : (tree : ℕ) → Adds PUT_RULE.now (codes "group_rule") (rule_table tree) (Values rule_terms 6)
+unfolding first new_rows everything
+put_rule_adds tree = record { parsed = _; columns = _; rows = _; read = refl; statement = refl; formats = refl; fits = λ s. refl }
+
+pub put_rule_is : (s : Schema) (at tree : ℕ) → Stands s (codes "group_rule") at (rule_table tree) → Means s PUT_RULE.now (Insert at (Values rule_terms 6))
+put_rule_is s at tree stands = means_of s PUT_RULE.now _ (adds_known _ _ (rule_table tree) _ (put_rule_adds tree) s at stands) refl refl

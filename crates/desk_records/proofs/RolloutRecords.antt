@@ -13,6 +13,7 @@ use Rattle.sql_calls.specs.Keyed.{rows_from}
 use Rattle.sql_calls.proofs.Finding.{ShowsFirst}
 use Rattle.sql_calls.proofs.KeyedRows.{on_content}
 use Rattle.sql_calls.proofs.Selects.{simple, passes, shown_of}
+use Rattle.rollout_model.specs.declared.group_rule.GroupRule.{GroupRule}
 use Rattle.rollout_machine.specs.ByteStrings.{item_numbered}
 use Rattle.rollout_machine.specs.Commands.{Bytes}
 use Rattle.rollout_machine.specs.Groups.{holds_position}
@@ -20,15 +21,16 @@ use Rattle.rollout_machine.specs.StateWords.{group_numbered, group_holding}
 use Rattle.rollout_machine.specs.declared.records.GroupRecord.{GroupRecord}
 use Rattle.rollout_machine.specs.declared.records.RolloutRecord.{RolloutRecord}
 use Rattle.desk_records.specs.Modules.{IsLastRow}
-use Rattle.desk_records.specs.Schema.{Rollouts, Groups, Members}
+use Rattle.desk_records.specs.Schema.{Rollouts, Groups, Members, Rules}
 use Rattle.desk_records.specs.Parts.{parts_of}
-use Rattle.desk_records.specs.Rollouts.{is_called, rollout_row, told_rollout, group_row, told_group, numbered_from, groups_of, member_row, members_of, that_reach}
+use Rattle.desk_records.specs.Rollouts.{is_called, rollout_row, told_rollout, group_row, told_group, numbered_from, groups_of, member_row, members_of, rule_numbered, rules_numbered, that_reach, told_rule}
 use Rattle.desk_records.specs.Holds.{HoldsLedger, Ledger}
 use Rattle.desk_records.proofs.Comparisons.{and_true, numbers_above, numbers_equal, numbers_at_least, numbers_at_most, words_equal}
 use Rattle.desk_records.proofs.MeaningWords.{at_key}
-use Rattle.desk_records.proofs.RolloutMeaning.{same_name, last_rollout_query, rollout_columns, list_rollouts_query, of_rollout, group_columns, list_groups_query, of_group, get_group_query, holding, holding_group_query, reaching, group_and_next_query, after_place, list_members_query, member_columns}
+use Rattle.desk_records.proofs.RolloutMeaning.{same_name, last_rollout_query, rollout_columns, list_rollouts_query, of_rollout, group_columns, list_groups_query, of_group, get_group_query, holding, holding_group_query, reaching, group_and_next_query, after_place, list_members_query, list_rules_query, member_columns, rule_columns}
 use Rattle.desk_records.proofs.NumberedReads.{finds, gets, lasts, pages, passes_number}
-use Rattle.desk_records.proofs.PartReads.{later_shown, reads_parts}
+use Rattle.desk_records.proofs.PartReads.{all_shown, later_shown, reads_parts}
+use Rattle.desk_records.proofs.PlacedParts.{gets_part}
 use Rattle.desk_records.proofs.TargetRecords.{first_row}
 
 same : (n : ℕ) → nat_eq n n ≡ true
@@ -162,3 +164,19 @@ module _ (db : Database) (l : Ledger) (holds : HoldsLedger db l) (names : List (
     where
       is_after : (n place : ℕ) (id : Bytes) → on_content (passes after_place (Int (pos number) ∷ Int (pos offset) ∷ Int (pos limit) ∷ [])) (member_row n place id) ≡ (nat_eq n number && nat_lt offset place)
       is_after n place id = rw (numbers_equal n number, numbers_above place offset, and_true (nat_lt offset place)) refl
+
+-- ---- what is said of groups
+
+module _ (db : Database) (l : Ledger) (holds : HoldsLedger db l) (names : List (List ℕ)) where
+  -- of the group of a number
+  pub gets_rule : (number group : ℕ) → 1 ≤ number → (row : Option Row) → ShowsFirst (Select (record { lets = []; body = simple (holds.spot Rules).tree of_group rule_columns }) names) db (Int (pos number) ∷ Int (pos group) ∷ []) row
+      → row ≡ option_map told_rule (rule_numbered l.rules number group)
+  gets_rule number group least = gets_part told_rule (λ (its : List GroupRule). its) (parts_of (λ (its : List GroupRule). its)) refl (λ its. refl) (holds.spot Rules).tree db l.rules (holds.rows Rules) names rule_columns number group least (λ id x. refl)
+
+  -- in the order of their numbers
+  pub lists_rules : (number : ℕ) → 1 ≤ number → (rows : List Row) → Shows (Select (record { lets = []; body = list_rules_query (holds.spot Rules).tree }) names) db (Int (pos number) ∷ []) rows → rows ≡ map told_rule (rules_numbered l.rules number)
+  lists_rules number least rows shows =
+      let params = Int (pos number) ∷ [] in
+      reads_parts told_rule (λ (its : List GroupRule). its) (holds.spot Rules).tree of_rollout rule_columns (lit (Int (negsuc 0))) (lit (Int (pos 0))) params false number least (λ id x. refl) (λ id x. refl) (λ n place rule apart. and_true _ ∙ numbers_equal n number ∙ apart)
+      db.trees l.rules (holds.rows Rules) rows (shows.answer Null)
+      ∙ all_shown told_rule told_rule number of_rollout rule_columns params (λ place rule. and_true _ ∙ numbers_equal number number ∙ same number) (λ place rule. refl) 1 (rules_numbered l.rules number)

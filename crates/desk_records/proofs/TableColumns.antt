@@ -15,11 +15,13 @@ use Rattle.sqlite_rules.proofs.ListLemmas.{all_has}
 use Rattle.sqlite_keyed.proofs.ListLemmas.{all-slice_get}
 use Rattle.sqlite.specs.Effect.{Database}
 use Rattle.sql_calls.proofs.Selects.{passes}
+use Rattle.desk_records.specs.FoundPieces.{lies_at}
 use Rattle.desk_records.specs.Listings.{has_at}
 use Rattle.desk_records.specs.Schema.{Place, table_at, table_by}
 use Rattle.desk_records.specs.Tables.{HoldsTables, Tables}
 use Rattle.desk_records.proofs.MeaningWords.{at_key}
-use Rattle.desk_records.proofs.NumberColumns.{passes_first}
+use Rattle.desk_records.proofs.NumberColumns.{passes_first, passes_two}
+use Rattle.desk_records.proofs.PlacedParts.{at_part}
 
 -- a value of each column that is there and isn't the rowid
 typed_from : (key : Option ℕ) (at : ℕ) (columns : List Column) (vs : Row) (k : ℕ) (c : Column) → slice_get columns k ≡ Some c → c.is_strict ≡ true → is_key key (at + k) ≡ false
@@ -99,3 +101,7 @@ module _ (db : Database) (t : Tables) (holds : HoldsTables db t) (p : Place) (ro
   -- WHERE column = ?1, whatever parameters follow
   pub passes_integer : (k : ℕ) → IsInteger p k → (n : ℕ) (more : Row) → passes (at_key (suc k) 0 ∷ []) (Int (pos n) ∷ more) row ≡ has_at (suc k) n row
   passes_integer k it n more = let its = integer_at k it in passes_first row more (suc k) n its.0 its.1
+
+  -- .. and of the first two columns, which say where a part lies
+  pub passes_part : IsInteger p 0 → IsInteger p 1 → (number place : ℕ) → passes at_part (Int (pos number) ∷ Int (pos place) ∷ []) row ≡ lies_at number place row
+  passes_part first second number place = let one = integer_at 0 first in let two = integer_at 1 second in passes_two row 1 2 number place one.0 two.0 one.1 two.1

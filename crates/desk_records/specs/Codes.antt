@@ -1,7 +1,8 @@
 -- What columns with a code, or with a number of a range, are read as.
 use Rattle.std.specs.Prelude.{ℕ, Bool, true, false, not, nat_eq, List, [], ◌∷◌, Option, Some, None, if◌then◌else◌}
-use Rattle.std.specs.Option.{option_and_then}
+use Rattle.std.specs.Option.{option_and_then, option_map}
 use Rattle.sqlite_value.specs.declared.value.Value.{Value}
+use Rattle.sqlite_value.specs.declared.value.Value.TheVariants.{Null}
 use Rattle.rollout_machine.specs.declared.outcome.Outcome.{Outcome}
 use Rattle.rollout_machine.specs.declared.outcome.Outcome.TheVariants.{Good, Bad, Gone}
 use Rattle.rollout_model.specs.Rules.{number_of, group_count_of, percentage_of}
@@ -46,6 +47,11 @@ group_count_in = coded_in group_count_of
 
 abbrev pub percentage_in : Value → Option ℕ
 percentage_in = coded_in percentage_of
+
+-- None in Some is no value
+abbrev pub percentage_or_none_in : Value → Option (Option ℕ)
+percentage_or_none_in Null = Some None
+percentage_or_none_in v = option_map Some (percentage_in v)
 
 -- ---- a row
 

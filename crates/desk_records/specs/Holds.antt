@@ -8,17 +8,20 @@ use Rattle.sql_front.specs.Stands.{Stands}
 use Rattle.sql_calls.specs.Keyed.{rows_from, IsHeldBy}
 use Rattle.sql_calls.specs.KeyIndexes.{ComparesBytes}
 use Rattle.rollout_model.specs.declared.rollout.Offer.{Offer}
+use Rattle.rollout_model.specs.declared.group_rule.GroupRule.{GroupRule}
 use Rattle.rollout_machine.specs.Commands.{Bytes, ModuleLabel}
+use Rattle.rollout_machine.specs.GroupRules.{rules_of}
 use Rattle.rollout_machine.specs.Offers.{offer}
 use Rattle.rollout_machine.specs.Records.{Records}
 use Rattle.rollout_machine.specs.declared.records.ActionRecord.{ActionRecord}
+use Rattle.rollout_machine.specs.declared.records.RolloutRecord.{RolloutRecord}
 use Rattle.desk_records.specs.Schema.{Place, Desk, Modules, Sets, SetModules, Artifacts, Pieces, Targets, TargetTags, TargetAttributes, Rollouts}
-use Rattle.desk_records.specs.Schema.{Members, Groups, Actions, Feedbacks, Offers, offer_table, table_at, name_of}
+use Rattle.desk_records.specs.Schema.{Members, Groups, Actions, Feedbacks, Offers, Rules, offer_table, table_at, name_of}
 use Rattle.desk_records.specs.Actions.{Tally, tally_of, action_row, entry_row}
 use Rattle.desk_records.specs.Artifacts.{artifact_row, pieces_from}
 use Rattle.desk_records.specs.Offers.{HoldsOffers}
 use Rattle.desk_records.specs.Parts.{parts_from}
-use Rattle.desk_records.specs.Rollouts.{flag, rollout_row, members_from, groups_from}
+use Rattle.desk_records.specs.Rollouts.{flag, rollout_row, members_from, groups_from, rules_from}
 use Rattle.desk_records.specs.Sets.{set_row, places_from}
 use Rattle.desk_records.specs.Versions.{newest, number_of}
 use Rattle.desk_records.specs.declared.version.Version.{Version}
@@ -31,15 +34,17 @@ desk_row v approval = Int (pos 1) ∷ Null ∷ Text (codes "fwdesk") ∷ Int (po
 abbrev pub module_row : ℕ → ModuleLabel → Row
 module_row number m = Int (pos number) ∷ Null ∷ Text m.name ∷ Text m.kind ∷ Text m.version ∷ []
 
--- What tables keep: records, and beside them how many notes and entries each action has, and what each target is offered.
+-- What tables keep: records, and beside them how many notes and entries each action has, what each target is offered, and what is said of the
+-- groups of each rollout.
 pub record Ledger : Type 0 where
   pub records : Records
   pub tallies : List Tally
   pub offers : Bytes → Option Offer
+  pub rules : List (List GroupRule)
 
 -- of records alone: what follows from them
 abbrev pub ledger_of : Records → Ledger
-ledger_of r = record { records = r; tallies = map tally_of r.actions; offers = offer r }
+ledger_of r = record { records = r; tallies = map tally_of r.actions; offers = offer r; rules = map (λ (x : RolloutRecord). rules_of x.plan) r.rollouts }
 
 -- What the rows of a table are: these in this order, these in any order, or those of offers.
 pub data Content : Type 0 where
@@ -69,6 +74,7 @@ content_at v l Groups = Unordered (groups_from 1 l.records.rollouts)
 content_at v l Actions = Ordered (rows_from (action_row l.records.rollouts) 1 (zip l.records.actions l.tallies))
 content_at v l Feedbacks = Unordered (parts_from entry_row (λ (a : ActionRecord). a.history) 1 l.records.actions)
 content_at v l Offers = Offered l.offers
+content_at v l Rules = Unordered (rules_from l.rules)
 
 -- .. of the version that the program writes
 abbrev pub content_of : Ledger → Place → Content

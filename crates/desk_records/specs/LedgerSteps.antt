@@ -10,6 +10,7 @@ use Rattle.rollout_machine.specs.declared.outcome.Outcome.{Outcome}
 use Rattle.rollout_machine.specs.declared.records.ActionRecord.{ActionRecord}
 use Rattle.rollout_machine.specs.declared.records.RolloutRecord.{RolloutRecord}
 use Rattle.rollout_model.specs.declared.approval.Approval.{Approval}
+use Rattle.rollout_model.specs.declared.group_rule.GroupRule.{GroupRule}
 use Rattle.rollout_model.specs.declared.rollout.Offer.{Offer}
 use Rattle.offer_laws.specs.GroupOffers.{group_offers, put_offers}
 use Rattle.desk_records.specs.declared.new_entry.NewEntry.{NewEntry}
@@ -28,16 +29,19 @@ with_rollouts l xs = record l { records = record l.records { rollouts = xs } }
 abbrev pub with_actions : Ledger → List ActionRecord → List Tally → Ledger
 with_actions l as' tallies = record l { records = record l.records { actions = as' }; tallies = tallies }
 
+abbrev pub with_rules : Ledger → List (List GroupRule) → Ledger
+with_rules l rules = record l { rules = rules }
+
 -- ---- rollouts
 
--- neither started nor paused, before its members and groups are added
+-- neither started nor paused, before its members, its groups and what is said of them are added
 abbrev pub created : ℕ → RolloutPlan → Approval → RolloutRecord
 created number plan approval = record { number = number; plan = plan; members = []; approval = approval; started = false; paused = false; groups = [] }
 
 -- the number is the next
 pub record AddsRollout (number : ℕ) (plan : RolloutPlan) (approval : Approval) (l next : Ledger) : Type 0 where
   pub number_is : number ≡ length l.records.rollouts + 1
-  pub next_is : next ≡ with_rollouts l (l.records.rollouts ++ created number plan approval ∷ [])
+  pub next_is : next ≡ with_rules (with_rollouts l (l.records.rollouts ++ created number plan approval ∷ [])) (l.rules ++ [] ∷ [])
 
 abbrev pub turned : Approval → Bool → Bool → RolloutRecord → RolloutRecord
 turned approval started paused x = record x { approval = approval; started = started; paused = paused }
@@ -72,6 +76,13 @@ pub record AddsGroup (number group : ℕ) (bounds : Bounds) (l next : Ledger) : 
   pub is_there : item_numbered l.records.rollouts number ≡ Some rollout
   pub group_is : group ≡ length rollout.groups + 1
   pub next_is : next ≡ with_rollouts l (set_numbered l.records.rollouts number (and_group rollout (cut_group group bounds)))
+
+-- the rollout is there, and the number is that of its next group that nothing is said of
+pub record AddsRule (number group : ℕ) (rule : GroupRule) (l next : Ledger) : Type 0 where
+  pub its : List GroupRule
+  pub is_there : item_numbered l.rules number ≡ Some its
+  pub group_is : group ≡ length its + 1
+  pub next_is : next ≡ with_rules l (set_numbered l.rules number (its ++ rule ∷ []))
 
 abbrev pub counted : Bool → ℕ → ℕ → ℕ → GroupRecord → GroupRecord
 counted started ok bad gone g = record g { started = started; ok = ok; bad = bad; gone = gone }

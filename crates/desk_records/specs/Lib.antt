@@ -17,6 +17,7 @@ pub mod NewEntries
 pub mod Offers
 pub mod Codes
 pub mod RolloutRow
+pub mod RuleRow
 pub mod LedgerSteps
 pub mod EntryRow
 pub mod NextOffers

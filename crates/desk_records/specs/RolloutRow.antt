@@ -6,7 +6,7 @@ use Rattle.sqlite_value.specs.declared.value.Value.{Value}
 use Rattle.sqlite_value.specs.declared.value.Value.TheVariants.{Int, Text}
 use Rattle.sqlite_value.specs.Order.{Row, column}
 use Rattle.rollout_machine.specs.ByteStrings.{same_bytes}
-use Rattle.rollout_machine.specs.Commands.{Bytes}
+use Rattle.rollout_machine.specs.Commands.{Bytes, RolloutPlan}
 use Rattle.rollout_machine.specs.declared.records.ActionRecord.{ActionRecord}
 use Rattle.rollout_machine.specs.declared.records.GroupRecord.{GroupRecord}
 use Rattle.rollout_machine.specs.declared.records.RolloutRecord.{RolloutRecord}
@@ -21,12 +21,24 @@ use Rattle.desk_records.specs.declared.module_row.Column.TheVariants as rule
 use Rattle.desk_records.specs.declared.rollout_row.ListedAction.{ListedAction}
 use Rattle.desk_records.specs.declared.rollout_row.StoredAction.{StoredAction}
 use Rattle.desk_records.specs.declared.rollout_row.StoredRollout.{StoredRollout}
+use Rattle.desk_records.specs.declared.rollout_row.ToldPlan.{ToldPlan}
 
 -- ---- in records
 
+-- all but what it says of single groups
+abbrev pub told_plan : RolloutPlan → ToldPlan
+told_plan plan = record {
+  name = plan.name;
+  set_number = plan.set_number;
+  filter_text = plan.filter_text;
+  groups = plan.groups;
+  success = plan.success;
+  error = plan.error;
+}
+
 -- without its number, members and groups
 abbrev pub stored_rollout : RolloutRecord → StoredRollout
-stored_rollout x = record { plan = x.plan; approval = x.approval; started = x.started; paused = x.paused }
+stored_rollout x = record { plan = told_plan x.plan; approval = x.approval; started = x.started; paused = x.paused }
 
 -- without its number and history, with its target among these rollouts
 abbrev pub stored_action : List RolloutRecord → ActionRecord × Tally → StoredAction

@@ -2,10 +2,12 @@
 use Rattle.std.specs.Prelude.{ℕ, ◌+◌, Bool, if◌then◌else◌, nat_le, List, ◌∷◌, [], filter, Option, pos}
 use Rattle.sqlite_value.specs.declared.value.Value.TheVariants.{Null, Int, Text}
 use Rattle.sqlite_value.specs.Order.{Row}
-use Rattle.rollout_machine.specs.ByteStrings.{same_bytes}
+use Rattle.sqlite.specs.Values.{or_null}
+use Rattle.rollout_machine.specs.ByteStrings.{item_numbered, same_bytes}
 use Rattle.rollout_machine.specs.Commands.{Bytes}
 use Rattle.rollout_machine.specs.declared.records.GroupRecord.{GroupRecord}
 use Rattle.rollout_machine.specs.declared.records.RolloutRecord.{RolloutRecord}
+use Rattle.rollout_model.specs.declared.group_rule.GroupRule.{GroupRule}
 use Rattle.rollout_model.specs.declared.approval.Approval.{Approval}
 use Rattle.rollout_model.specs.declared.approval.Approval.TheVariants.{Waiting, Denied, Given}
 use Rattle.desk_records.specs.Parts.{part_row, parts_from, parts_of}
@@ -60,6 +62,25 @@ numbered_from n (g ∷ gs) = record g { number = n } ∷ numbered_from (n + 1) g
 
 abbrev pub groups_of : Option RolloutRecord → List GroupRecord
 groups_of found = numbered_from 1 (parts_of (λ (x : RolloutRecord). x.groups) found)
+
+-- what is told of what a plan says of a group; no percentage is no value
+abbrev pub told_rule : GroupRule → Row
+told_rule rule = or_null (λ percent. Int (pos percent)) rule.percentage ∷ Int (pos rule.success) ∷ Int (pos rule.error) ∷ []
+
+abbrev pub rule_row : ℕ → ℕ → GroupRule → Row
+rule_row = part_row told_rule
+
+-- of what is said of the groups of each rollout
+abbrev pub rules_from : List (List GroupRule) → List Row
+rules_from rules = parts_from rule_row (λ (its : List GroupRule). its) 1 rules
+
+-- of one rollout, where it is there
+abbrev pub rules_numbered : List (List GroupRule) → ℕ → List GroupRule
+rules_numbered rules number = parts_of (λ (its : List GroupRule). its) (item_numbered rules number)
+
+-- .. of one of its groups
+abbrev pub rule_numbered : List (List GroupRule) → ℕ → ℕ → Option GroupRule
+rule_numbered rules number group = item_numbered (rules_numbered rules number) group
 
 -- those of the groups that reach a place
 abbrev pub that_reach : ℕ → List GroupRecord → List GroupRecord

@@ -1,5 +1,5 @@
 -- Written by tools/meanings from src/table_texts.rt of desk_records. What it makes is proved; the tool is not trusted.
--- The tables of a desk, version 1, and their places in the order in which they are made.
+-- The tables of a desk, and their places in the order in which they are made.
 use Rattle.std.specs.Prelude.{true, false, [], ◌∷◌, Some, None, codes, List, ℕ, map}
 use Rattle.sqlite_value.specs.Keys.{plain}
 use Rattle.sqlite.specs.Table.{Table}
@@ -148,6 +148,16 @@ offer_table tree = table_of (codes "offer") tree
     ∷ strict (codes "kind") Integer true
     ∷ []) None (1 ∷ []) ((1 ∷ []) ∷ []) (plain ∷ [])
 
+-- What is said of the groups of the rollouts, by their numbers; a group has a percentage where its rollout isn't cut evenly.
+abbrev pub rule_table : ℕ → Table
+rule_table tree = table_of (codes "group_rule") tree
+    (strict (codes "rollout") Integer true
+    ∷ strict (codes "number") Integer true
+    ∷ strict (codes "percentage") Integer false
+    ∷ strict (codes "success") Integer true
+    ∷ strict (codes "error") Integer true
+    ∷ []) None (1 ∷ 2 ∷ []) ((1 ∷ 2 ∷ []) ∷ []) (plain ∷ [])
+
 pub data Place : Type 0 where
   Desk : Place
   Modules : Place
@@ -164,11 +174,12 @@ pub data Place : Type 0 where
   Actions : Place
   Feedbacks : Place
   Offers : Place
+  Rules : Place
 
 -- all of them, in the order in which they are made
 abbrev pub places : List Place
 places = Desk ∷ Modules ∷ Sets ∷ SetModules ∷ Artifacts ∷ Pieces ∷ Targets ∷ TargetTags ∷ TargetAttributes ∷ Rollouts ∷ Members ∷ Groups
-    ∷ Actions ∷ Feedbacks ∷ Offers ∷ []
+    ∷ Actions ∷ Feedbacks ∷ Offers ∷ Rules ∷ []
 
 abbrev pub table_by : Place → Table
 table_by Desk = desk_table 0
@@ -186,6 +197,7 @@ table_by Groups = group_table 0
 table_by Actions = action_table 0
 table_by Feedbacks = feedback_table 0
 table_by Offers = offer_table 0
+table_by Rules = rule_table 0
 
 -- the table, with its rows in a tree
 abbrev pub table_at : Place → ℕ → Table

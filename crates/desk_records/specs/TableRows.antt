@@ -5,11 +5,13 @@ use Rattle.sqlite_value.specs.Order.{Row, column}
 use Rattle.rollout_machine.specs.Actions.{HistoryEntry}
 use Rattle.rollout_machine.specs.Commands.{Bytes}
 use Rattle.rollout_machine.specs.declared.records.GroupRecord.{GroupRecord}
+use Rattle.rollout_model.specs.declared.group_rule.GroupRule.{GroupRule}
 use Rattle.rollout_model.specs.declared.rollout.Offer.{Offer}
 use Rattle.desk_records.specs.ArtifactRow.{IsStoredRow, broken_stored_column, has_size, small_number}
 use Rattle.desk_records.specs.Codes.{number_in}
 use Rattle.desk_records.specs.EntryRow.{IsEntryRow}
 use Rattle.desk_records.specs.RolloutRow.{IsActionRow, IsGroupRow, IsOfferRow, IsRolloutRow, broken_group_column}
+use Rattle.desk_records.specs.RuleRow.{IsRuleRow}
 use Rattle.desk_records.specs.TargetRow.{has_word}
 use Rattle.desk_records.specs.declared.artifact_row.StoredArtifact.{StoredArtifact}
 use Rattle.desk_records.specs.declared.rollout_row.StoredAction.{StoredAction}
@@ -26,6 +28,9 @@ rollout_shown row = column row 2 ∷ column row 3 ∷ column row 4 ∷ column ro
 
 abbrev pub group_shown : Row → Row
 group_shown row = column row 2 ∷ column row 3 ∷ column row 4 ∷ column row 5 ∷ column row 6 ∷ column row 7 ∷ column row 8 ∷ []
+
+abbrev pub rule_shown : Row → Row
+rule_shown row = column row 3 ∷ column row 4 ∷ column row 5 ∷ []
 
 abbrev pub action_shown : Row → Row
 action_shown row = column row 2 ∷ column row 3 ∷ column row 4 ∷ column row 5 ∷ column row 6 ∷ column row 7 ∷ column row 8 ∷ column row 0 ∷ []
@@ -65,6 +70,12 @@ pub record IsGroup (row : Row) (rollout : ℕ) (g : GroupRecord) : Type 0 where
   pub rollout_is : number_in (column row 1) ≡ Some rollout
   pub shows : IsGroupRow (group_shown row) g
   pub kept : broken_group_column (group_shown row) ≡ None
+
+-- what is said of a group of a rollout
+pub record IsRule (row : Row) (rollout number : ℕ) (it : GroupRule) : Type 0 where
+  pub rollout_is : number_in (column row 1) ≡ Some rollout
+  pub number_is : small_number (column row 2) ≡ Some number
+  pub shows : IsRuleRow (rule_shown row) it
 
 -- The action of a number. Its counts are whole numbers of any size, since nothing limits the entries of a history.
 pub record IsAction (row : Row) (number : ℕ) (a : StoredAction) : Type 0 where

@@ -2,12 +2,13 @@
 
 ghost use Rattle.std.specs.Prelude.{◌≡◌};
 ghost use Rattle.sqlite_value.specs.Order.{column};
-ghost use Rattle.desk_records.specs.Codes.{approval_in, flag_in, group_count_in, number_in, outcome_in, percentage_in};
+ghost use Rattle.desk_records.specs.Codes.{approval_in, flag_in, group_count_in, number_in, outcome_in, percentage_in, percentage_or_none_in};
 
 use crate::artifact_row::number_at;
 use rollout_machine::Outcome;
 use rollout_model::{Approval, GroupCount, Number, Percentage};
 use sqlite::Row;
+use sqlite_value::value::ValueRef;
 
 pub(crate) fn flag_at(row: &Row, at: usize) -> Option<bool>
     ensures { result ≡ flag_in (column row.now at) }
@@ -63,4 +64,14 @@ pub(crate) fn percentage_at(row: &Row, at: usize) -> Option<Percentage>
     let number = number_at(row, at)?;
     let percent = u8::try_from(number).ok()?;
     Percentage::new(percent)
+}
+
+/// A percentage, or `Some(None)` where the column has no value.
+pub(crate) fn percentage_or_none_at(row: &Row, at: usize) -> Option<Option<Percentage>>
+    ensures { result ≡ percentage_or_none_in (column row.now at) }
+{
+    match row.get_ref(at) {
+        Ok(ValueRef::Null) | Err(_) => Some(None),
+        Ok(_) => percentage_at(row, at).map(Some),
+    }
 }

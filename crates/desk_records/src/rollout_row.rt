@@ -12,14 +12,27 @@ use crate::codes::{approval_at, flag_at, group_count_at, numbered_at, outcome_at
 use crate::module_row::{Column, RowFault, row_fault, text_at};
 use crate::target_row::id_at;
 use rollout_machine::{Bounds, GroupRecord, Outcome};
-use rollout_model::{ActionNo, Approval, ControllerId, FilterText, Offer, RolloutNo, RolloutPlan};
+use rollout_model::{
+    ActionNo, Approval, ControllerId, FilterText, GroupCount, Offer, Percentage, RolloutNo, SetNo, Text,
+};
 use sqlite::Row;
 use std::alloc::Global;
+
+/// What a rollout's row tells of its plan: all but what the plan says of single groups.
+#[derive(Drop)]
+pub struct ToldPlan {
+    pub name: Text,
+    pub set_number: SetNo,
+    pub filter_text: FilterText,
+    pub groups: GroupCount,
+    pub success: Percentage,
+    pub error: Percentage,
+}
 
 /// What is kept of a rollout beside its number, its members and its groups.
 #[derive(Drop)]
 pub struct StoredRollout {
-    pub plan: RolloutPlan,
+    pub plan: ToldPlan,
     pub approval: Approval,
     pub started: bool,
     pub paused: bool,
@@ -61,7 +74,7 @@ pub fn read_stored_rollout(alloc: Global, row: &Row) -> Result<StoredRollout, Ro
     let approval = approval_at(row, 6).ok_or(RowFault::Broken(Column::RolloutApproval))?;
     let started = flag_at(row, 7).ok_or(RowFault::Broken(Column::RolloutStarted))?;
     let paused = flag_at(row, 8).ok_or(RowFault::Broken(Column::RolloutPaused))?;
-    let plan = RolloutPlan {
+    let plan = ToldPlan {
         name,
         set_number,
         filter_text,

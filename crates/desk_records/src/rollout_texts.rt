@@ -61,3 +61,14 @@ pub const PUT_GROUP: &str =
 /// What a group has besides its bounds.
 pub const SET_GROUP: &str =
     "UPDATE rollout_group SET started = ?3, ok = ?4, bad = ?5, gone = ?6 WHERE rollout = ?1 AND number = ?2";
+
+/// What is said of the group of a rollout and a number.
+pub const GET_RULE: &str =
+    "SELECT percentage, success, error FROM group_rule WHERE rollout = ?1 AND number = ?2";
+
+/// What is said of the groups of a rollout, in the order of their numbers.
+pub const LIST_RULES: &str =
+    "SELECT percentage, success, error FROM group_rule WHERE rollout = ?1 ORDER BY number";
+
+pub const PUT_RULE: &str =
+    "INSERT INTO group_rule (rollout, number, percentage, success, error) VALUES (?1, ?2, ?3, ?4, ?5)";

@@ -1,4 +1,4 @@
-//! The tables of a desk, version 1, in the order in which they are made.
+//! The tables of a desk, in the order in which they are made.
 
 /// One row, of number 1.
 pub const CREATE_DESK: &str =
@@ -67,3 +67,8 @@ pub const CREATE_FEEDBACK: &str =
 /// What each target is offered now.
 pub const CREATE_OFFER: &str =
     "CREATE TABLE offer (controller TEXT NOT NULL PRIMARY KEY, action INTEGER NOT NULL, kind INTEGER NOT NULL) STRICT";
+
+/// What is said of the groups of the rollouts, by their numbers; a group has a percentage where its rollout isn't cut evenly.
+pub const CREATE_GROUP_RULE: &str =
+    "CREATE TABLE group_rule (rollout INTEGER NOT NULL, number INTEGER NOT NULL, percentage INTEGER, success INTEGER NOT NULL, \
+        error INTEGER NOT NULL, PRIMARY KEY (rollout, number)) STRICT";

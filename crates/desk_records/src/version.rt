@@ -7,6 +7,7 @@ ghost use Rattle.desk_records.specs.Versions.{table_count_of};
 #[derive(Clone, Copy)]
 pub enum Version {
     One,
+    Two,
 }
 
 impl Version {
@@ -16,6 +17,7 @@ impl Version {
     {
         match self {
             Version::One => 15,
+            Version::Two => 16,
         }
     }
 }

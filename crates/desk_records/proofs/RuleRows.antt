@@ -1,0 +1,17 @@
+-- What GET_RULE shows, whatever rows the table of what is said of groups has.
+use Rattle.std.proofs.Common.{◌≡◌, ℕ, pos, [], ◌∷◌, refl}
+use Rattle.sqlite_value.specs.declared.value.Value.TheVariants.{Int}
+use Rattle.sqlite_value.specs.Order.{Row}
+use Rattle.sqlite.specs.Effect.{Database}
+use Rattle.sqlite_rules.specs.Lists.{Has}
+use Rattle.sql_calls.proofs.Selects.{passes}
+use Rattle.desk_records.specs.FoundPieces.{lies_at}
+use Rattle.desk_records.specs.Schema.{Rules}
+use Rattle.desk_records.specs.Tables.{HoldsTables, Tables}
+use Rattle.desk_records.proofs.RolloutMeaning.{of_group}
+use Rattle.desk_records.proofs.TableColumns.{passes_part}
+
+-- the test is of the rollout and the group's number
+pub judges_rule : (number group : ℕ) (db : Database) (t : Tables) → HoldsTables db t → (row : Row) → Has (t Rules) row → passes of_group (Int (pos number) ∷ Int (pos group) ∷ []) row ≡ lies_at number group row
+judges_rule number group db t holds row among =
+    passes_part db t holds Rules row among (record { c = _; there = refl; kind_is = refl; strict = refl; filled = refl; apart = refl }) (record { c = _; there = refl; kind_is = refl; strict = refl; filled = refl; apart = refl }) number group
