@@ -97,7 +97,7 @@ rollout_from n plan members = record {
   approval = n.approval;
   started = false;
   paused = false;
-  groups = each_from (new_group plan (length members)) 1 plan.groups;
+  groups = each_from (new_group plan (length members)) 1 plan.groups.count;
 }
 
 -- the rollout is put behind those that are there, under the next number, with the targets that its filter chooses
