@@ -3,6 +3,7 @@ use Rattle.std.proofs.Common.{◌≡◌, ◌≤◌, ℕ, zero, suc, true, false,
 use Rattle.std.specs.List.{AllByRecursion, list_all}
 use Rattle.std.specs.Prelude.{is_some}
 use Rattle.std.proofs.lemmas.Bool.{and_parts, eqb-true, false≢true, leb-true, ltb-false}
+use Rattle.std.proofs.lemmas.List.{length-map}
 use Rattle.rollout_model.specs.Groupings.{define_each, definition_numbered, ends_whole, is_definition}
 use Rattle.rollout_model.specs.Limits.{percentage_limit}
 use Rattle.rollout_model.specs.PlanRules.{rule_by}
@@ -46,16 +47,12 @@ no_first : (o : Option ℕ) → is_some o ≡ false → o ≡ None
 no_first None e = refl
 no_first (Some i) e = absurd (false≢true (sym e))
 
-as_many : (ds : List GroupDefinition) → length (percentages ds) ≡ length ds
-as_many [] = refl
-as_many (d ∷ ds) = ap suc (as_many ds)
-
 defined_is_cut : (ds : List GroupDefinition) (count m : ℕ) → is_group_count count ≡ true → define_each ds count ≡ true → some_empty ds count m ≡ false → IsCut (last_defined ds count m) m count
 defined_is_cut [] count m some each none = even_is_cut m count (leb-true _ _ (and_parts _ _ some).0) (ltb-false _ _ none)
 defined_is_cut (d ∷ ds) count m some each none =
     let parts = and_parts _ _ each in
     let rules = and_parts (list_all is_definition (d ∷ ds)) (ends_whole (d ∷ ds)) (and_parts _ _ parts.0).1 in
-    let number : length (percentages (d ∷ ds)) ≡ count = as_many (d ∷ ds) ∙ eqb-true _ _ parts.1 in
+    let number : length (percentages (d ∷ ds)) ≡ count = length-map (d ∷ ds) (λ (e : GroupDefinition). e.percentage) ∙ eqb-true _ _ parts.1 in
     let first : first_empty m (percentages (d ∷ ds)) ≡ None = no_first _ none in
     subst (IsCut (split_last m (percentages (d ∷ ds))) m) number
     (whole_is_cut (percentages (d ∷ ds)) m (are_whole (d ∷ ds) rules.0 rules.1) (first_empty_tells m (percentages (d ∷ ds)) first))
