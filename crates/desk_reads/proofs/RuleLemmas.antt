@@ -6,6 +6,7 @@ use Rattle.rollout_machine.specs.GroupRules.{GroupRule, rule_at, rules_of}
 use Rattle.rollout_machine.specs.Ranges.{each_from}
 use Rattle.rollout_machine.specs.Records.{Records}
 use Rattle.rollout_machine.specs.declared.records.RolloutRecord.{RolloutRecord}
+use Rattle.rollout_machine.proofs.Lists.{numbered_each}
 use Rattle.desk_records.specs.Holds.{ledger_of}
 use Rattle.desk_records.specs.Rollouts.{rule_numbered, rules_numbered}
 
@@ -19,15 +20,9 @@ pub rules_there : (r : Records) (number : ℕ) (x : RolloutRecord) → item_numb
 rules_there r zero x there = absurd cc
 rules_there r (suc k) x there = rw (at_mapped (λ (y : RolloutRecord). rules_of y.plan) r.rollouts k x there) refl
 
-at_each : {X : Type 0} (f : ℕ → X) (first n k : ℕ) (x : X) → slice_get (each_from f first n) k ≡ Some x → (k < n) × (x ≡ f (first + k))
-at_each f first zero k x there = absurd cc
-at_each f first (suc n) zero x there = let same : f first ≡ x = cc in (omega arith, sym same ∙ ap f (omega arith))
-at_each f first (suc n) (suc k) x there = let it = at_each f (suc first) n k x there in (omega (arith, it.0), it.1 ∙ ap f (omega arith))
-
 -- .. of which each is that of its number
 pub rule_is : (plan : RolloutPlan) (i : ℕ) (rule : GroupRule) → item_numbered (rules_of plan) i ≡ Some rule → rule ≡ rule_at plan i
-rule_is plan zero rule there = absurd cc
-rule_is plan (suc k) rule there = (at_each (rule_at plan) 1 plan.groups.count k rule there).1
+rule_is plan i rule there = (numbered_each (rule_at plan) plan.groups.count i rule there).2
 
 each_at : {X : Type 0} (f : ℕ → X) (first n k : ℕ) → k < n → slice_get (each_from f first n) k ≡ Some (f (first + k))
 each_at f first zero k below = absurd (omega (arith, below))
