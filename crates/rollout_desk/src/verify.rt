@@ -48,6 +48,7 @@ impl<S: Alter> Desk<S> {
         ensures stops { result ≡ Err (Damage.Refused StoreFailed) → (desk_state S.Store self.new).is_stopped ≡ true }
         ensures stopped { (desk_state S.Store self.old).is_stopped ≡ true → (result ≡ Err (Damage.Refused Stopped))
             × StaysStopped (desk_state S.Store self.old) (desk_state S.Store self.new) }
+        ensures untouched { (desk_state S.Store self.old).is_stopped ≡ true → self.new.store ≡ self.old.store }
         ensures refuses { IfErr result MayTell }
         ensures tells { TellsFailures (tells_damage result) self.old.store.calls self.new.store.calls }
         ensures work { self.new.work ≡ self.old.work }
