@@ -1,7 +1,9 @@
 -- The rules at their borders.
 use Rattle.rollout_model.specs.Rules.{is_word, is_token, is_filename, is_text, is_value, is_detail, is_number, is_module_list, is_digest}
-use Rattle.rollout_model.specs.Groupings.{Grouping, GroupDefinition, defined, evenly, is_grouping}
-use Rattle.rollout_model.specs.PlanRules.{RolloutPlan, rule_at}
+use Rattle.rollout_model.specs.Groupings.{Grouping, defined, evenly, is_grouping}
+use Rattle.rollout_model.specs.PlanRules.{rule_at}
+use Rattle.rollout_model.specs.declared.group_definition.GroupDefinition.{GroupDefinition}
+use Rattle.rollout_model.specs.declared.rollout_plan.RolloutPlan.{RolloutPlan}
 use Rattle.std.proofs.Common.{◌≡◌, true, false, [], ◌∷◌, refl}
 use Rattle.std.specs.Prelude.{ℕ, List, map, replicate, codes, Some, None}
 use Rattle.std.specs.Str.{is_utf8, chars}

@@ -1,6 +1,7 @@
 -- The definition of a group.
 use Rattle.std.proofs.Common.{◌≡◌, ◌-◌, ◌≤◌, ℕ, zero, suc, List, slice_get, ap, arith}
-use Rattle.rollout_model.specs.Groupings.{GroupDefinition, definition_numbered}
+use Rattle.rollout_model.specs.Groupings.{definition_numbered}
+use Rattle.rollout_model.specs.declared.group_definition.GroupDefinition.{GroupDefinition}
 
 -- counted from 1, it is the one before that place
 pub one_before : (ds : List GroupDefinition) (i : ℕ) → 1 ≤ i → slice_get ds (i - 1) ≡ definition_numbered ds i

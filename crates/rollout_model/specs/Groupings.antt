@@ -3,7 +3,7 @@ use Rattle.std.specs.Prelude.{ℕ, zero, suc, Bool, true, false, ◌&&◌, nat_e
 use Rattle.std.specs.List.{list_all}
 use Rattle.rollout_model.specs.Limits.{group_limit}
 use Rattle.rollout_model.specs.Rules.{is_between, is_group_count, is_percentage}
-pub use Rattle.rollout_model.specs.declared.group_definition.GroupDefinition.{GroupDefinition}
+use Rattle.rollout_model.specs.declared.group_definition.GroupDefinition.{GroupDefinition}
 
 -- how many groups there are, and the definitions of all of them, or of none where the groups are even
 pub record Grouping : Type 0 where

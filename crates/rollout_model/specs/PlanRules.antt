@@ -1,8 +1,9 @@
 -- What a plan says of one group.
 use Rattle.std.specs.Prelude.{ℕ, Option, Some, None}
-use Rattle.rollout_model.specs.Groupings.{GroupDefinition, definition_numbered}
-pub use Rattle.rollout_model.specs.declared.group_rule.GroupRule.{GroupRule}
-pub use Rattle.rollout_model.specs.declared.rollout_plan.RolloutPlan.{RolloutPlan}
+use Rattle.rollout_model.specs.Groupings.{definition_numbered}
+use Rattle.rollout_model.specs.declared.group_definition.GroupDefinition.{GroupDefinition}
+use Rattle.rollout_model.specs.declared.group_rule.GroupRule.{GroupRule}
+use Rattle.rollout_model.specs.declared.rollout_plan.RolloutPlan.{RolloutPlan}
 
 -- The rule of a group without a definition: the plan's own thresholds.
 abbrev pub even_rule : RolloutPlan → GroupRule
