@@ -1,5 +1,5 @@
 use Rattle.std.proofs.Common.{length}
-use Rattle.mgmt_objects.proofs.rollout_body.+percent_after.Given as goal
+use Rattle.mgmt_objects.proofs.threshold.+percent_after.Given as goal
 
 abbrev pub decreases-percent_after : goal.decreases-percent_after
 decreases-percent_after l = length l.digits.now
