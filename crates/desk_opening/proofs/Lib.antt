@@ -2,9 +2,14 @@ pub mod Steps
 pub mod IsPlace
 pub mod EachText
 pub mod Places
+pub mod EachVersion
 pub mod Tables
 pub mod MakeLemmas
+pub mod RuleLists
+pub mod FillLemmas
 pub mod RowLemmas
+pub mod VersionSet
+pub mod MigrateLemmas
 pub mod VersionLemmas
 pub mod OpeningLemmas
 pub mod ChoiceLemmas
