@@ -7,7 +7,7 @@ use Rattle.rollout_machine.specs.declared.records.RolloutRecord.{RolloutRecord}
 use Rattle.desk_records.specs.Holds.{Content, Ordered, Unordered, Offered, content_at, ledger_of}
 use Rattle.desk_records.specs.Rollouts.{rule_row}
 use Rattle.desk_records.specs.Parts.{parts_from}
-use Rattle.desk_records.specs.Schema.{Place, Offers, places}
+use Rattle.desk_records.specs.Schema.{Place, Offers, Rules, places}
 use Rattle.desk_records.specs.Versions.{later_than, places_at, table_count_of}
 use Rattle.desk_records.specs.declared.version.Version.{Version}
 use Rattle.desk_records.specs.declared.version.Version.TheVariants.{One, Two}
@@ -18,6 +18,10 @@ use Rattle.desk_opening.specs.Filling.{bare_ledger, no_rules}
 pub has_offers : (v : Version) (P : Place → Type 0) → AllByRecursion P (places_at v) → P Offers
 has_offers One P all = all.1.1.1.1.1.1.1.1.1.1.1.1.1.1.0
 has_offers Two P all = all.1.1.1.1.1.1.1.1.1.1.1.1.1.1.0
+
+-- .. that of what is said of groups
+pub has_rules : (P : Place → Type 0) → AllByRecursion P (places_at Two) → P Rules
+has_rules P all = all.1.1.1.1.1.1.1.1.1.1.1.1.1.1.1.0
 
 -- its tables hold what is told of the records
 pub older_held : (v : Version) (r : Records) → map (content_at v (ledger_of r)) (places_at v) ≡ map (content_at v (bare_ledger v r)) (places_at v)

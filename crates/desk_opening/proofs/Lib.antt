@@ -14,6 +14,7 @@ pub mod VersionLemmas
 pub mod OpeningLemmas
 pub mod ChoiceLemmas
 pub mod HeldLemmas
+pub mod AdoptLemmas
 pub mod BlankLemmas
 pub mod ReopenLemmas
 pub mod SparingLemmas
