@@ -1,6 +1,6 @@
 //! A desk that is there already.
 
-ghost use Rattle.std.specs.Prelude.{◌≡◌, ◌≢◌, IfOk, IfErr, IsTrue, MatchOption, Ok, Some, codes, false, map};
+ghost use Rattle.std.specs.Prelude.{◌≡◌, ◌≢◌, ◌⊎◌, IfOk, IfErr, IsTrue, MatchOption, Ok, Some, codes, false, map};
 ghost use Rattle.sql_front.specs.Free.{LeavesFree};
 ghost use Rattle.sql_front.specs.Found.{StandsSomewhere};
 ghost use Rattle.std.specs.List.{list_any};
@@ -246,6 +246,7 @@ fn renew<S: Alter>(
     version: Version,
 ) -> Result<(), OpenFault>
     ensures renews { Migrates version (state S.Store conn.old) (state S.Store conn.new) result }
+    ensures renewed { IfOk result (λ it. (version ≡ newest) ⊎ HasDeskTables newest (state S.Store conn.new).now.schema) }
     ensures failed { IfErr result IsFailure }
 {
     if let Version::Two = version {
