@@ -5,6 +5,7 @@ pub mod ItemLemmas
 pub mod OwnGroups
 pub mod PlacedActions
 pub mod FeedbackLemmas
+pub mod GroupingLemmas
 mod RolloutExamples
 pub mod RolloutLemmas
 pub mod SoundLemmas

@@ -84,7 +84,7 @@ module _ (v : RolloutView) (x : Rollout) (r g l : ℕ) (h : CommandList) (least 
       calm : nat_lt v.last.number v.groups ≡ true → (not v.paused && reaches (v.last.ok + 0) v.last.size v.last.success) ≡ false
       calm more =
           let low = ltb-true _ _ more in
-          let within : l < x.plan.groups = omega (arith, low, w.last.number, w.groups) in
+          let within : l < x.plan.groups.count = omega (arith, low, w.last.number, w.groups) in
           let ok : v.last.ok + 0 ≡ v.last.ok = omega arith in
           let same : (not v.paused && reaches (v.last.ok + 0) v.last.size v.last.success) ≡ (not (is_paused x r h) && success_holds x r l h) = rw (w.paused, ok, w.last.ok, w.last.size, w.last.success) refl in
           same ∙ settled x r l h least w.sound w.is_last within
@@ -115,25 +115,25 @@ not_numbered : (x : Rollout) (r : ℕ) (h : CommandList) (a n i : ℕ) → a + n
 not_numbered x r h a zero i past = refl
 not_numbered x r h a (suc n) i past = rw (ne_eqb a i (λ e. absurd (omega (arith, past, e)))) (not_numbered x r h (suc a) n i (omega (arith, past)))
 
-module _ (x : Rollout) (r g l : ℕ) (h : CommandList) (f : IsFollowed x r h l) (low : 1 ≤ g) (high : g ≤ x.plan.groups) where
+module _ (x : Rollout) (r g l : ℕ) (h : CommandList) (f : IsFollowed x r h l) (low : 1 ≤ g) (high : g ≤ x.plan.groups.count) where
   abbrev gs : List GroupRecord
-  gs = each_from (group_in x r h) 1 x.plan.groups
+  gs = each_from (group_in x r h) 1 x.plan.groups.count
 
   -- the group is the last started one, and another one is behind it
-  waits_next : (nat_eq g l && nat_lt g x.plan.groups) ≡ (group_is_started (group_numbered g gs) && waits (group_numbered (g + 1) gs))
-  waits_next = rw (find_group x r h 1 x.plan.groups g low (omega (arith, high))) (elim (cases_lt g x.plan.groups) [
-    | inl more ↦ rw (find_group x r h 1 x.plan.groups (g + 1) (omega arith) (omega (arith, more)), lt-ltb _ _ more) (elim (cases_order g l) [
+  waits_next : (nat_eq g l && nat_lt g x.plan.groups.count) ≡ (group_is_started (group_numbered g gs) && waits (group_numbered (g + 1) gs))
+  waits_next = rw (find_group x r h 1 x.plan.groups.count g low (omega (arith, high))) (elim (cases_lt g x.plan.groups.count) [
+    | inl more ↦ rw (find_group x r h 1 x.plan.groups.count (g + 1) (omega arith) (omega (arith, more)), lt-ltb _ _ more) (elim (cases_order g l) [
       | inl same ↦ rw (eq-eqb g l same, f.is_last.up_to g low (omega (arith, same)), f.is_last.beyond (g + 1) (omega (arith, same))) refl
       | inr (inl less) ↦ rw (ne_eqb g l (λ e. absurd (omega (arith, less, e))), f.is_last.up_to g low (omega (arith, less)), f.is_last.up_to (g + 1) (omega arith) (omega (arith, less))) refl
       | inr (inr more) ↦ rw (ne_eqb g l (λ e. absurd (omega (arith, more, e))), f.is_last.beyond g more) refl
     ])
-    | inr all ↦ rw (not_numbered x r h 1 x.plan.groups (g + 1) (omega (arith, all)), le-ltb _ _ all) (and_false (nat_eq g l) ∙ sym (and_false (is_group_started x r g h)))
+    | inr all ↦ rw (not_numbered x r h 1 x.plan.groups.count (g + 1) (omega (arith, all)), le-ltb _ _ all) (and_false (nat_eq g l) ∙ sym (and_false (is_group_started x r g h)))
   ])
 
   same_own : own_of (view_of (rollout_in h r x) g) ≡ own_view_of (rollout_in h r x) g
   same_own = ap (λ (b : Bool). record { paused = is_paused x r h; own = group_view (rollout_in h r x) g; next_waits = b }) (numbers ∙ waits_next)
     where
-      numbers : (nat_eq (group_view (rollout_in h r x) g).number (group_view (rollout_in h r x) (last_started gs)).number && nat_lt (group_view (rollout_in h r x) g).number x.plan.groups) ≡ (nat_eq g l && nat_lt g x.plan.groups)
+      numbers : (nat_eq (group_view (rollout_in h r x) g).number (group_view (rollout_in h r x) (last_started gs)).number && nat_lt (group_view (rollout_in h r x) g).number x.plan.groups.count) ≡ (nat_eq g l && nat_lt g x.plan.groups.count)
       numbers = rw (number_is (rollout_in h r x) g, number_is (rollout_in h r x) (last_started gs), last_is x r l h f.is_last) refl
 
   in_group : 1 ≤ l → (o : Outcome) → effects_of (view_of (rollout_in h r x) g) o ≡ own_effects (own_view_of (rollout_in h r x) g) o
@@ -171,7 +171,7 @@ abbrev last_seen : Rollout → ℕ → ℕ → CommandList → GroupView
 last_seen x r l h = record { number = l; size = size_in x l; ok = tally Good x r l h; bad = tally Bad x r l h; success = success_at x.plan l; error = error_at x.plan l }
 
 abbrev both_seen : OwnView → Rollout → ℕ → ℕ → CommandList → RolloutView
-both_seen v x r l h = record { paused = v.paused; groups = x.plan.groups; own = v.own; last = last_seen x r l h }
+both_seen v x r l h = record { paused = v.paused; groups = x.plan.groups.count; own = v.own; last = last_seen x r l h }
 
 both_viewed : (v : OwnView) (x : Rollout) (r g l : ℕ) (h : CommandList) → IsOwnView v x r g l h → IsView (both_seen v x r l h) x r g l h
 both_viewed v x r g l h w = record {
@@ -188,7 +188,7 @@ pub follows_outcome : (v : OwnView) (o : Outcome) (f : Following) → f ≡ foll
 follows_outcome v o f is x r g j l h c w started a =
     let both = both_seen v x r l h in
     let least : 1 ≤ l = some_last x r g l h a.first w.is_last (started.started g j a.first a.within (rw (a.on, eq-eqb r r refl, eq-eqb j j refl) refl)) in
-    let waits : v.next_waits ≡ (nat_eq v.own.number l && nat_lt v.own.number x.plan.groups) = w.next_waits ∙ ap (λ i. nat_eq i l && nat_lt i x.plan.groups) (sym w.own.number) in
+    let waits : v.next_waits ≡ (nat_eq v.own.number l && nat_lt v.own.number x.plan.groups.count) = w.next_waits ∙ ap (λ i. nat_eq i l && nat_lt i x.plan.groups.count) (sym w.own.number) in
     let same : own_of both ≡ v = λ i. record { paused = v.paused; own = v.own; next_waits = sym waits i } in
     let effects_are : effects_of both o ≡ effects_by g f = by_view both x r g l h least (both_viewed v x r g l h w) o ∙ ap (λ (u : OwnView). own_effects u o) same ∙ ap (λ i. effects_by i (following v o)) w.own.number ∙ ap (effects_by g) (sym is) in
     subst (λ (e : Effects). (is_paused x r (h ▸ c) ≡ (e.pauses || is_paused x r h)) × IsLast x r (h ▸ c) (last_with e.starts l)) effects_are

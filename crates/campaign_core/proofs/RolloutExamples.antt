@@ -1,5 +1,6 @@
 -- The rows of the verdicts on rollouts at their borders, by computing.
-use Rattle.std.proofs.Common.{◌≡◌, ℕ, Bool, true, false, Option, Some, None, refl}
+use Rattle.std.proofs.Common.{◌≡◌, ℕ, Bool, true, false, [], ◌∷◌, Option, Some, None, refl}
+use Rattle.rollout_model.specs.Groupings.{defined, evenly}
 use Rattle.rollout_machine.specs.Commands.{Failed, Noted, Proceeding, Rejected, RejectedCancel, CanceledCancel, NotedCancel, Resumed}
 use Rattle.rollout_machine.specs.StateWords.{PausedRollout, RunningRollout}
 use Rattle.rollout_machine.specs.Verdicts.{is_at_pause, is_running}
@@ -18,22 +19,26 @@ use Rattle.campaign_core.specs.declared.rollout_checks.of_devices.DeviceAction.{
 abbrev planned : (bad missing same : Bool) (members count : ℕ) → PlanView
 planned bad missing same members count = record { bad_filter = bad; misses_set = missing; same_name = same; members = members; count = count; approval = false }
 
-rollout_1000 : plan_refusal (planned false false false 3 999) 3 ≡ None
+rollout_1000 : plan_refusal (planned false false false 3 999) (evenly 3) ≡ None
 rollout_1000 = refl
 
-rollout_1001 : plan_refusal (planned false false false 3 1000) 3 ≡ Some Quota
+rollout_1001 : plan_refusal (planned false false false 3 1000) (evenly 3) ≡ Some Quota
 rollout_1001 = refl
 
-rollout_of_two : plan_refusal (planned false false false 2 1000) 3 ≡ Some TooFewTargets
+rollout_of_two : plan_refusal (planned false false false 2 1000) (evenly 3) ≡ Some TooFewTargets
 rollout_of_two = refl
 
-rollout_again : plan_refusal (planned false false true 2 1000) 3 ≡ Some Exists
+-- half of two members, then a tenth, and then nobody is left
+rollout_of_an_empty_group : plan_refusal (planned false false false 2 1000) (defined (record { percentage = 50; success = 1; error = 1 } ∷ record { percentage = 10; success = 1; error = 1 } ∷ record { percentage = 100; success = 1; error = 1 } ∷ [])) ≡ Some TooFewTargets
+rollout_of_an_empty_group = refl
+
+rollout_again : plan_refusal (planned false false true 2 1000) (evenly 3) ≡ Some Exists
 rollout_again = refl
 
-rollout_of_no_set : plan_refusal (planned false true true 2 1000) 3 ≡ Some NotFound
+rollout_of_no_set : plan_refusal (planned false true true 2 1000) (evenly 3) ≡ Some NotFound
 rollout_of_no_set = refl
 
-rollout_of_no_filter : plan_refusal (planned true true true 2 1000) 3 ≡ Some BadFilter
+rollout_of_no_filter : plan_refusal (planned true true true 2 1000) (evenly 3) ≡ Some BadFilter
 rollout_of_no_filter = refl
 
 -- ---- going on

@@ -98,8 +98,8 @@ same_moved effects w x pauses starts is =
     sym (ap (λ b. record x { paused = b || x.paused; groups = map (start_group effects.starts) x.groups }) pauses
     ∙ ap (λ s. record x { groups = map (start_group s) x.groups }) (starts ∙ ap (λ (u : RolloutView). next_if (nat_lt u.last.number u.groups) u.last.number) is ∙ last_number x))
   where
-    last_number : (x : RolloutRecord) → next_if (nat_lt (group_view x (last_started x.groups)).number x.plan.groups) (group_view x (last_started x.groups)).number ≡ next_if (nat_lt (last_started x.groups) x.plan.groups) (last_started x.groups)
-    last_number x = ap (λ n. next_if (nat_lt n x.plan.groups) n) (number_is x (last_started x.groups))
+    last_number : (x : RolloutRecord) → next_if (nat_lt (group_view x (last_started x.groups)).number x.plan.groups.count) (group_view x (last_started x.groups)).number ≡ next_if (nat_lt (last_started x.groups) x.plan.groups.count) (last_started x.groups)
+    last_number x = ap (λ n. next_if (nat_lt n x.plan.groups.count) n) (number_is x (last_started x.groups))
 
 pub triggers : (v : Option TriggerView) (w : TriggerView) (r : ℕ) (effects : Effects) → v ≡ Some w → word_refusal is_running (Some w.word) ≡ None → w.has_next ≡ true → effects.pauses ≡ false → effects.starts ≡ next_if (nat_lt w.rollout.last.number w.rollout.groups) w.rollout.last.number
     → Decides (seen.TriggerNext v) (TriggerNext r) (Ok (change.TriggerNext effects))

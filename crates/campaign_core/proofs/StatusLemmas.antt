@@ -37,7 +37,7 @@ same_word a b s t f g p q approval started over paused = λ i. word_from (approv
 pub rollout_follows : (s : RolloutStatus) (groups : List GroupStatus) (over : Bool) (word : RolloutWord) → over ≡ list_all (λ (g : GroupStatus). g.started && is_final g) groups
     → word ≡ word_from s.approval s.started over s.paused → FollowsRollout s groups word
 rollout_follows s groups over word all is x r h status whole =
-    is ∙ same_word _ (approval_of r h) _ (is_rollout_started r h) _ _ _ (is_paused x r h) status.approval status.started (all ∙ ap (list_all is_over) whole ∙ groups_over x r h 1 x.plan.groups) status.paused
+    is ∙ same_word _ (approval_of r h) _ (is_rollout_started r h) _ _ _ (is_paused x r h) status.approval status.started (all ∙ ap (list_all is_over) whole ∙ groups_over x r h 1 x.plan.groups.count) status.paused
 
 pub group_follows : (started : Bool) (s : GroupStatus) (word : GroupWord) → word ≡ group_word_from started s → FollowsGroup started s word
 group_follows started s word is x r i h begun status = is ∙ ap (λ (b : Bool). group_word_from b s) begun ∙ ap (group_word_from (is_rollout_started r h)) status

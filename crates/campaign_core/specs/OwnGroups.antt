@@ -73,7 +73,7 @@ pub record IsOwnView (v : OwnView) (x : Rollout) (r g l : ℕ) (h : CommandList)
   pub sound : HasSoundPlan x
   pub paused : v.paused ≡ is_paused x r h
   pub own : IsGroupView v.own x r g h
-  pub next_waits : v.next_waits ≡ (nat_eq g l && nat_lt g x.plan.groups)
+  pub next_waits : v.next_waits ≡ (nat_eq g l && nat_lt g x.plan.groups.count)
   pub is_last : IsLast x r h l
   pub outcomes : OutcomesStarted x r h
 

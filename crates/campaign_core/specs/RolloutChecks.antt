@@ -1,5 +1,5 @@
 -- What the verdict on a command on rollouts rests on, what its change is, and that both are those of the records and of a command list.
-use Rattle.std.specs.Prelude.{◌≡◌, ◌+◌, ℕ, zero, suc, Bool, true, false, ◌&&◌, ◌||◌, not, cond, nat_le, nat_lt, List, [], ◌∷◌, ◌++◌, map, length}
+use Rattle.std.specs.Prelude.{◌≡◌, ◌+◌, ℕ, zero, suc, Bool, true, false, ◌&&◌, ◌||◌, not, cond, nat_le, List, [], ◌∷◌, ◌++◌, map, length}
 use Rattle.std.specs.Prelude.{Option, Some, None, is_none, is_some, Result, Ok, Err, ⊤}
 use Rattle.std.specs.List.{list_any}
 use Rattle.std.specs.Option.{option_map}
@@ -9,6 +9,7 @@ use Rattle.rollout_machine.specs.ByteStrings.{item_numbered, same_bytes}
 use Rattle.rollout_machine.specs.CommandList.{CommandList, ◌▸◌}
 use Rattle.rollout_machine.specs.Commands.{Bytes, CancelWord, Command, Credential, DeploymentWord, RolloutPlan, RejectedCancel, Approve, Cancel}
 use Rattle.rollout_machine.specs.Commands.{CancelFeedback, CreateRollout, Deny, Feedback, Pause, Resume, Start, TriggerNext}
+use Rattle.rollout_machine.specs.Groupings.{Grouping, leaves_empty}
 use Rattle.rollout_machine.specs.Ranges.{each_from}
 use Rattle.rollout_machine.specs.RecordSteps.{begin_rollout, counted, is_same_action, last_started, new_actions, new_group, start_group, step_records, view_of}
 use Rattle.rollout_machine.specs.Records.{Approval, Denied, Given, Records, Waiting, records}
@@ -80,9 +81,9 @@ pub record IsPlanView (v : PlanView) (plan : RolloutPlan) (rs : Records) : Type 
   pub count : v.count ≡ length rs.rollouts
   pub approval : v.approval ≡ rs.approval
 
-abbrev pub plan_refusal : PlanView → ℕ → Option Refusal
+abbrev pub plan_refusal : PlanView → Grouping → Option Refusal
 plan_refusal v groups = first_refusal ((v.bad_filter, BadFilter) ∷ (v.misses_set, NotFound) ∷ (v.same_name, Exists)
-    ∷ (nat_lt v.members groups, TooFewTargets) ∷ (nat_le rollout_limit v.count, Quota) ∷ [])
+    ∷ (leaves_empty groups v.members, TooFewTargets) ∷ (nat_le rollout_limit v.count, Quota) ∷ [])
 
 -- that of a new rollout, on a desk with approval or without
 abbrev pub approval_at : Bool → Approval
@@ -97,7 +98,7 @@ rollout_from n plan members = record {
   approval = n.approval;
   started = false;
   paused = false;
-  groups = each_from (new_group plan (length members)) 1 plan.groups;
+  groups = each_from (new_group plan (length members)) 1 plan.groups.count;
 }
 
 -- the rollout is put behind those that are there, under the next number, with the targets that its filter chooses

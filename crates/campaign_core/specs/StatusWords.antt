@@ -69,7 +69,7 @@ pub record IsActionStatus (s : ActionStatus) (x : Rollout) (i : ℕ) (p : Action
   pub there : rollout_at h p.rollout ≡ Some x
   pub sound : HasSoundPlan x
   pub first : 1 ≤ i
-  pub last : i ≤ x.plan.groups
+  pub last : i ≤ x.plan.groups.count
   pub within : IsInGroup x i p.position
   pub outcome : s.outcome ≡ outcome h p.rollout p.position
   pub started : s.started ≡ is_group_started x p.rollout i h
@@ -88,7 +88,7 @@ pub record IsTargetStatus (s : TargetStatus) (t : Bytes) (h : CommandList) : Typ
 -- The word is that of every rollout of this status, with all its groups.
 abbrev pub FollowsRollout : RolloutStatus → List GroupStatus → words.RolloutWord → Type 0
 FollowsRollout s groups word =
-    (x : Rollout) (r : ℕ) (h : CommandList) → IsRolloutStatus s x r h → groups ≡ each_from (status_of_group x r h) 1 x.plan.groups
+    (x : Rollout) (r : ℕ) (h : CommandList) → IsRolloutStatus s x r h → groups ≡ each_from (status_of_group x r h) 1 x.plan.groups.count
     → word ≡ words.rollout_word (records.rollout_in h r x)
 
 -- The word is that of every group of this status.

@@ -17,7 +17,7 @@ pub enum SplitFault {
 }
 
 /// How many of those that are left a group takes: its percentage of them, rounded up.
-fn share(rest: u32, percentage: Percentage) -> u32
+pub(crate) fn share(rest: u32, percentage: Percentage) -> u32
     ensures share { result ≡ share rest percentage }
     ensures few { result ≤ rest }
 {

@@ -1,4 +1,5 @@
 pub mod SeenRollouts
 pub mod ListLemmas
+pub mod RuleLemmas
 pub mod ListedTargets
 pub mod KnownDevices

@@ -61,7 +61,7 @@ pub groups_are : (rs : Records) → AreOfList rs → (r : ℕ) → groups_of (it
 groups_are rs of r = go (item_numbered rs.rollouts r) refl where
   go : (o : Option RolloutRecord) → item_numbered rs.rollouts r ≡ o → groups_of o ≡ parts_of (λ (x : RolloutRecord). x.groups) o
   go None e = refl
-  go (Some x) e = let it = made rs of r x e in rw it.is (same_numbers it.made r of.list 1 it.made.plan.groups)
+  go (Some x) e = let it = made rs of r x e in rw it.is (same_numbers it.made r of.list 1 it.made.plan.groups.count)
 
 get_each : {X : Type 0} (f : ℕ → X) (a n i k : ℕ) → i < n → k ≡ a + i → slice_get (each_from f a n) i ≡ Some (f k)
 get_each f a zero i k less at = absurd (omega (arith, less))
@@ -81,22 +81,22 @@ found_each f i a (suc n) g is = go (nat_eq (f a).number i) is (found_each f i (s
   go true one rest = let same : g ≡ f a = cc in (a, omega arith, omega arith, same)
   go false other rest = let it = rest other in (it.0, omega (arith, it.1), omega (arith, it.2), it.3)
 
-within : (y : Rollout) (k : ℕ) → HasSoundPlan y → 1 ≤ k → k < 1 + y.plan.groups → (first_of y k - 1) + size_in y k ≤ size_of y
-within y k sound least most = omega (arith, sound.cut.rises k y.plan.groups (omega (arith, most)), sound.cut.whole, sound.cut.rises (k - 1) k (omega arith))
+within : (y : Rollout) (k : ℕ) → HasSoundPlan y → 1 ≤ k → k < 1 + y.plan.groups.count → (first_of y k - 1) + size_in y k ≤ size_of y
+within y k sound least most = omega (arith, sound.cut.rises k y.plan.groups.count (omega (arith, most)), sound.cut.whole, sound.cut.rises (k - 1) k (omega arith))
 
 -- its members are some of the rollout's
 pub group_within : (rs : Records) → AreOfList rs → (r : ℕ) (x : RolloutRecord) → item_numbered rs.rollouts r ≡ Some x → (i : ℕ) (g : GroupRecord) → Some g ≡ group_numbered i x.groups → (g.bounds.first - 1) + size_of_group g ≤ length x.members
 group_within rs of r x e i g is =
     let it = made rs of r x e in
-    let found = found_each (group_in it.made r of.list) i 1 it.made.plan.groups g (is ∙ ap (λ (q : RolloutRecord). group_numbered i q.groups) it.is) in
+    let found = found_each (group_in it.made r of.list) i 1 it.made.plan.groups.count g (is ∙ ap (λ (q : RolloutRecord). group_numbered i q.groups) it.is) in
     subst (λ (q : RolloutRecord). (g.bounds.first - 1) + size_of_group g ≤ length q.members) (sym it.is)
     (subst (λ (q : GroupRecord). (q.bounds.first - 1) + size_of_group q ≤ size_of it.made) (sym found.3) (within it.made found.0 it.sound found.1 found.2))
 
 -- ---- its members
 
-last_in_each : (y : Rollout) (r : ℕ) (h : CommandList) → HasSoundPlan y → last_place (each_from (group_in y r h) 1 y.plan.groups) ≡ size_of y
+last_in_each : (y : Rollout) (r : ℕ) (h : CommandList) → HasSoundPlan y → last_place (each_from (group_in y r h) 1 y.plan.groups.count) ≡ size_of y
 last_in_each y r h sound =
-    let n = y.plan.groups in
+    let n = y.plan.groups.count in
     ap (λ k. last_in (slice_get (each_from (group_in y r h) 1 n) (k - 1))) (each_length (group_in y r h) 1 n)
     ∙ ap last_in (get_each (group_in y r h) 1 n (n - 1) n (omega (arith, sound.some_groups)) (omega (arith, sound.some_groups)))
     ∙ sound.cut.whole

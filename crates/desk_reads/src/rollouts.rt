@@ -12,16 +12,16 @@ ghost use Rattle.desk_reads.specs.AtLists.{FindsAtListsIn};
 ghost use Rattle.desk_store.specs.Changing.{StaysIn};
 
 use campaign_core::{GroupStatus, RolloutStatus, rollout_word};
-use desk_store::{Fault, OpenChange, StoredRollout};
+use desk_store::{Fault, OpenChange, StoredRollout, ToldPlan};
 use rollout_machine::GroupRecord;
-use rollout_model::{Approval, RolloutNo, RolloutPlan, RolloutWord};
+use rollout_model::{Approval, RolloutNo, RolloutWord};
 use sqlite::Alter;
 
 /// What is kept of a rollout beside its members.
 #[derive(Drop)]
 pub struct SeenRollout {
     pub number: RolloutNo,
-    pub plan: RolloutPlan,
+    pub plan: ToldPlan,
     pub approval: Approval,
     pub started: bool,
     pub paused: bool,

@@ -73,7 +73,7 @@ module _ {X : Type 0} (f : ℕ → X → Row) (ids : (n : ℕ) (x : X) → rowid
 -- ---- a new rollout
 
 abbrev pub created_params : ℕ → RolloutPlan → Approval → Row
-created_params number plan approval = Int (pos number) ∷ Text plan.name ∷ Int (pos plan.set_number) ∷ Text plan.filter_text ∷ Int (pos plan.groups) ∷ Int (pos plan.success) ∷ Int (pos plan.error) ∷ Int (pos (approval_code approval)) ∷ []
+created_params number plan approval = Int (pos number) ∷ Text plan.name ∷ Int (pos plan.set_number) ∷ Text plan.filter_text ∷ Int (pos plan.groups.count) ∷ Int (pos plan.success) ∷ Int (pos plan.error) ∷ Int (pos (approval_code approval)) ∷ []
 
 pub adds_rollout : (number : ℕ) (plan : RolloutPlan) (approval : Approval) (old new : State) (text : List ℕ) (count : ℕ) (l next : Ledger) (holds : HoldsLedger old.now l) → AddsRollout number plan approval l next
     → (w : Writes old new None (Insert (holds.spot Rollouts).at (Values rollout_terms 11)) text (created_params number plan approval) count) → HoldsLedger new.now next
@@ -85,7 +85,7 @@ adds_rollout number plan approval old new text count l next holds change w =
     let made = inserts old.now.schema spot.at (rollout_table spot.tree) rollout_terms 11 (holds.stands Rollouts).got old new refl text (created_params number plan approval) count w in
     let at : number ≡ 1 + length xs = omega (arith, change.number_is) in
     let table : new.now.trees spot.tree ≡ rows_from rollout_row 1 (xs ++ x ∷ []) =
-    made.applies.rows ∙ rw (cast_int number, cast_null, cast_int plan.set_number, cast_int plan.groups, cast_int plan.success, cast_int plan.error, cast_int (approval_code approval), cast_int 0, holds.rows Rollouts)
+    made.applies.rows ∙ rw (cast_int number, cast_null, cast_int plan.set_number, cast_int plan.groups.count, cast_int plan.success, cast_int plan.error, cast_int (approval_code approval), cast_int 0, holds.rows Rollouts)
     (ap (λ m. put_row (rollout_row m x) (rows_from rollout_row 1 xs)) at ∙ put_next rollout_row (λ n x. refl) 1 xs x) in
     subst (HoldsLedger new.now) (sym change.next_is) (ledger_after Rollouts l (with_rules after (l.rules ++ [] ∷ [])) old.now new.now holds (record { schema = made.schema_is; sound = w.sound; others = made.applies.tables }) table
     (λ t apart. rules_differ after (l.rules ++ [] ∷ []) Rollouts (λ other. no_parts rule_row (λ (its : List GroupRule). its) [] refl 1 l.rules) t apart
@@ -108,7 +108,7 @@ sets_rollout (suc k) approval started paused old new text count l next holds cha
     let made = updates old.now.schema spot.at (rollout_table spot.tree) (record { lets = []; body = set_rollout_query spot.tree }) stands.got stands.keyless old new refl text (turned_params (suc k) approval started paused) count w in
     let table : new.now.trees spot.tree ≡ rows_from rollout_row 1 (set xs k y) =
     numbered_set rollout_row (λ n x. refl) k (rollout_table spot.tree) rollout_values _ old.now new.now xs x y change.is_there
-    (λ n. rw (cast_null, cast_int x.plan.set_number, cast_int x.plan.groups, cast_int x.plan.success, cast_int x.plan.error, cast_int (approval_code approval), cast_int (flag started), cast_int (flag paused)) refl)
+    (λ n. rw (cast_null, cast_int x.plan.set_number, cast_int x.plan.groups.count, cast_int x.plan.success, cast_int x.plan.error, cast_int (approval_code approval), cast_int (flag started), cast_int (flag paused)) refl)
     (holds.rows Rollouts) made in
     subst (HoldsLedger new.now) (sym change.next_is) (ledger_after Rollouts l (with_rollouts l (set xs k y)) old.now new.now holds (record { schema = made.schema_is; sound = w.sound; others = made.applies.tables }) table
     (rollouts_differ l (set xs k y) Rollouts (λ apart. absurd (apart refl)) (λ apart. parts_stay x y member_row (λ (z : RolloutRecord). z.members) refl 1 k xs change.is_there)

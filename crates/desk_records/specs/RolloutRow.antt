@@ -31,7 +31,7 @@ told_plan plan = record {
   name = plan.name;
   set_number = plan.set_number;
   filter_text = plan.filter_text;
-  groups = plan.groups;
+  groups = plan.groups.count;
   success = plan.success;
   error = plan.error;
 }

@@ -22,7 +22,7 @@ approval_code Denied = 2
 
 -- what is told of a rollout; its members and groups lie in the other tables
 abbrev pub told_rollout : RolloutRecord → Row
-told_rollout x = Text x.plan.name ∷ Int (pos x.plan.set_number) ∷ Text x.plan.filter_text ∷ Int (pos x.plan.groups) ∷ Int (pos x.plan.success)
+told_rollout x = Text x.plan.name ∷ Int (pos x.plan.set_number) ∷ Text x.plan.filter_text ∷ Int (pos x.plan.groups.count) ∷ Int (pos x.plan.success)
     ∷ Int (pos x.plan.error)
     ∷ Int (pos (approval_code x.approval)) ∷ Int (pos (flag x.started)) ∷ Int (pos (flag x.paused)) ∷ []
 

@@ -1,8 +1,6 @@
 -- The ends of a change, where each failure is a failed store.
 use Rattle.std.proofs.Common.{◌≡◌, Bool, true, false, not, [], Ok, Err, Result, IfErr, refl}
-use Rattle.sql_calls.specs.Calls.{RunsText}
-use Rattle.desk_store.specs.Blaming.{FailsToRollBack}
-use Rattle.desk_store.specs.Texts.{rollback_text}
+use Rattle.sql_calls.specs.Calls.{errors_in}
 use Rattle.sqlite.specs.State.{State}
 use Rattle.sql_calls.specs.declared.fault.Fault.{Fault}
 use Rattle.sql_calls.specs.Standing.{Commits, GivesUp}
@@ -18,9 +16,10 @@ module _ (old new : State) where
   gives_up_as_store (Ok _) h = h
   gives_up_as_store (Err fault) h = record { wears = h.wears; gives_up = h.gives_up }
 
-  pub fails_as_store : (out : Result (Unit {0}) Fault) → RunsText old new rollback_text [] out → IfErr (as_store out) (λ e. FailsToRollBack old new)
-  fails_as_store (Ok _) h = tt
-  fails_as_store (Err fault) h = record { fault = fault; runs = h }
+-- an error stays one
+pub errors_as_store : (out : Result (Unit {0}) Fault) → errors_in (as_store out) ≡ errors_in out
+errors_as_store (Ok _) = refl
+errors_as_store (Err fault) = refl
 
 pub negated : (b : Bool) → true ≡ not b → b ≡ false
 negated true h = cc

@@ -55,5 +55,5 @@ module _ (x : Rollout) (r : ℕ) (h : CommandList) (sound : HasSoundPlan x) wher
       let own = in_its_group x j sound low high in
       let found = find_holding x r h g j sound own in
       let number : suc (g - 1) ≡ g = omega (arith, own.first) in
-      let reach = rest_reach (g - 1) 1 x.plan.groups g j (omega (arith, own.first, own.last)) (omega (arith, own.first)) own.within in
-      pair_of_rest (groups_from 1 x.plan.groups) j (g - 1) reach ∙ ap (pair (groups_from 1 x.plan.groups)) (number ∙ sym (ap number_of_group found))
+      let reach = rest_reach (g - 1) 1 x.plan.groups.count g j (omega (arith, own.first, own.last)) (omega (arith, own.first)) own.within in
+      pair_of_rest (groups_from 1 x.plan.groups.count) j (g - 1) reach ∙ ap (pair (groups_from 1 x.plan.groups.count)) (number ∙ sym (ap number_of_group found))

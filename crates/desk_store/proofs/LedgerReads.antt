@@ -19,9 +19,12 @@ use Rattle.desk_records.specs.declared.rollout_row.StoredAction.{StoredAction}
 use Rattle.desk_records.specs.declared.rollout_row.StoredRollout.{StoredRollout}
 use Rattle.desk_records.specs.Actions.{cancel_code, deployment_code, kind_code, lines_of, outcome_code, told_entry, word_code}
 use Rattle.desk_records.specs.EntryRow.{IsEntryRow, cancel_from, cancel_in, deployment_from, deployment_in, keeps_details, said_in}
-use Rattle.desk_records.specs.Codes.{coded_in, flag_of, approval_from, outcome_from, flag_in, approval_in, outcome_in}
+use Rattle.sqlite.specs.Values.{or_null}
+use Rattle.desk_records.specs.Codes.{coded_in, flag_of, approval_from, outcome_from, flag_in, approval_in, outcome_in, percentage_in, percentage_or_none_in}
 use Rattle.desk_records.specs.RolloutRow.{IsRolloutRow, IsGroupRow, IsActionRow, IsListedActionRow, IsOfferRow}
-use Rattle.desk_records.specs.Rollouts.{approval_code, flag}
+use Rattle.desk_records.specs.Rollouts.{approval_code, flag, told_rule}
+use Rattle.desk_records.specs.RuleRow.{IsRuleRow}
+use Rattle.rollout_model.specs.declared.group_rule.GroupRule.{GroupRule}
 use Rattle.desk_records.proofs.RolloutRecords.{shown_group}
 use Rattle.desk_records.proofs.ActionRecords.{shown_action, told_listed, told_offer}
 use Rattle.desk_records.proofs.DetailLines.{same_details}
@@ -87,6 +90,21 @@ one_rollout a b h =
     let started = kept_flag b.started a.started h.started in
     let paused = kept_flag b.paused a.paused h.paused in
     λ i. record { plan = record { name = name i; set_number = set_number i; filter_text = filter_text i; groups = groups i; success = success i; error = error i }; approval = approval i; started = started i; paused = paused i }
+
+kept_percentage_or_none : (o c : Option ℕ) → percentage_or_none_in (or_null (λ n. Int (pos n)) o) ≡ Some c → c ≡ o
+kept_percentage_or_none None c h = cc
+kept_percentage_or_none (Some n) c h = go (percentage_in (Int (pos n))) refl h
+  where
+    go : (found : Option ℕ) → percentage_in (Int (pos n)) ≡ found → option_map Some found ≡ Some c → c ≡ Some n
+    go None is e = absurd cc
+    go (Some m) is e = let kept = kept_number is_percentage n m is in cc
+
+pub one_rule : (a b : GroupRule) → IsRuleRow (told_rule b) a → a ≡ b
+one_rule a b h =
+    let percentage = kept_percentage_or_none b.percentage a.percentage h.percentage in
+    let success = kept_number is_percentage b.success a.success h.success in
+    let error = kept_number is_percentage b.error a.error h.error in
+    λ i. record { percentage = percentage i; success = success i; error = error i }
 
 pub one_group : (a b : GroupRecord) → IsGroupRow (shown_group b) a → a ≡ b
 one_group a b h =

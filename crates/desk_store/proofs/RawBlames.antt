@@ -29,13 +29,14 @@ use Rattle.sql_calls.specs.Means.{Knows, Means}
 use Rattle.sql_calls.proofs.Finding.{ShowsFirst, first_finds}
 use Rattle.sql_calls.proofs.Selects.{IsOrdered, by, ordered_rows, passes, shown_in, shown_of, simple}
 use Rattle.sql_front.specs.Stands.{Stands}
-use Rattle.desk_records.specs.Schema.{Actions, Artifacts, Feedbacks, Groups, Members, Offers, Pieces, Place, Rollouts, name_of, table_at}
+use Rattle.desk_records.specs.Schema.{Actions, Artifacts, Feedbacks, Groups, Members, Offers, Pieces, Place, Rollouts, Rules, name_of, table_at}
 use Rattle.desk_records.specs.Tables.{HoldsTables, Tables}
 use Rattle.desk_records.specs.ArtifactRow.{has_bytes}
 use Rattle.desk_records.specs.CheckedRows.{has_wide_count, is_wide}
 use Rattle.desk_records.specs.Codes.{first_broken, number_in}
 use Rattle.desk_records.specs.EntryRow.{BreaksSequenced}
 use Rattle.desk_records.specs.RolloutRow.{broken_action_column, broken_offer_column, broken_rollout_column}
+use Rattle.desk_records.specs.RuleRow.{broken_rule_column}
 use Rattle.desk_records.specs.TableRows.{IsAction, IsOffer, action_shown, offer_shown}
 use Rattle.rollout_model.specs.declared.rollout.Offer.{Offer}
 use Rattle.desk_records.specs.declared.module_row.Column.{Column}
@@ -43,17 +44,17 @@ use Rattle.desk_records.specs.declared.module_row.Column.TheVariants as rule
 use Rattle.desk_records.specs.declared.rollout_row.StoredAction.{StoredAction}
 use Rattle.desk_records.specs.declared.action_texts.TheConstants.{GET_ACTION, GET_OFFER, LIST_ACTIONS, LIST_ENTRIES, LIST_OFFERS}
 use Rattle.desk_records.specs.declared.artifact_texts.TheConstants.{GET_PIECE, LIST_ALL_ARTIFACTS}
-use Rattle.desk_records.specs.declared.rollout_texts.TheConstants.{GET_ROLLOUT, LAST_ROLLOUT, LIST_GROUPS, LIST_PLACES}
+use Rattle.desk_records.specs.declared.rollout_texts.TheConstants.{GET_ROLLOUT, GET_RULE, LAST_ROLLOUT, LIST_GROUPS, LIST_PLACES}
 use Rattle.desk_records.proofs.ActionMeaning.{action_columns, action_names, entry_columns, entry_names, get_action_is, get_offer_is, list_actions_is, list_actions_query, list_entries_is, list_entries_query, list_offers_is, listed_columns, listed_names, of_action, of_controller, of_rollout as of_its_rollout, offer_columns, owned_columns, owned_names}
 use Rattle.desk_records.proofs.AnyRows.{count_shown, from_shown}
 use Rattle.desk_records.proofs.ArtifactMeaning.{all_artifacts_query, all_columns, all_names, at_piece, get_piece_is, list_all_artifacts_is}
 use Rattle.desk_records.proofs.MeaningWords.{at_key}
-use Rattle.desk_records.proofs.RolloutMeaning.{get_rollout_is, last_rollout_query, group_columns, group_names, list_groups_is, list_groups_query, list_places_is, of_rollout, placed_columns, placed_names, places_query, rollout_columns, rollout_names}
+use Rattle.desk_records.proofs.RolloutMeaning.{get_rollout_is, get_rule_is, last_rollout_query, group_columns, group_names, list_groups_is, list_groups_query, list_places_is, of_group, of_rollout, placed_columns, placed_names, places_query, rollout_columns, rollout_names, rule_columns, rule_names}
 use Rattle.desk_store.specs.Blaming.{Blames, BlamesGiven}
 use Rattle.desk_store.specs.Changing.{FindsTables, seen_in}
 use Rattle.desk_store.specs.RawLists.{AreActions, AreOffers}
 use Rattle.desk_store.specs.Rows.{BreaksRule, HasBroken, HasNoNumber, IfStore}
-use Rattle.desk_store.specs.Unreadable.{IsUnreadable, broken_entry, broken_piece, broken_rollout, large_count, large_number, many_rows}
+use Rattle.desk_store.specs.Unreadable.{IsUnreadable, broken_entry, broken_piece, broken_rollout, broken_rule, large_count, large_number, many_rows}
 use Rattle.desk_store.specs.declared.change.OpenChange.{OpenChange}
 use Rattle.desk_store.proofs.BlameLemmas.{blamed}
 use Rattle.desk_store.proofs.Known.{tables_know}
@@ -141,6 +142,11 @@ module _ {S B : Type 0} (g : Ghosts S) (old new : OpenChange S) (rows : Vec Row 
   rollout_blamed r broken =
       few_blamed Rollouts GET_ROLLOUT.now (at_key 0 0 ∷ []) rollout_columns [] (lit (Int (negsuc 0))) (lit (Int (pos 0))) rollout_names get_rollout_is (Int (pos r) ∷ []) (λ tree xs. refl) rows
       g nothing (λ row. BreaksRule (broken_rollout_column row)) (λ t row among is given. broken_rollout row among is) old new grows out broken 1
+
+  pub rule_blamed : (number group : ℕ) → Broken (λ row. BreaksRule (broken_rule_column row)) → AsksOne GET_RULE.now (Int (pos number) ∷ Int (pos group) ∷ []) → Blames g old new out
+  rule_blamed number group broken =
+      few_blamed Rules GET_RULE.now of_group rule_columns [] (lit (Int (negsuc 0))) (lit (Int (pos 0))) rule_names get_rule_is (Int (pos number) ∷ Int (pos group) ∷ []) (λ tree xs. refl) rows
+      g nothing (λ row. BreaksRule (broken_rule_column row)) (λ t row among is given. broken_rule row among is) old new grows out broken 1
 
   pub action_blamed : (k : ℕ) → Broken (λ row. BreaksRule (broken_action_column row)) → AsksOne GET_ACTION.now (Int (pos k) ∷ []) → BlamesGiven g AreActions old new out
   action_blamed k broken =

@@ -19,23 +19,27 @@ use Rattle.sql_calls.proofs.Selects.{passes, shown_of, simple}
 use Rattle.sql_front.specs.Stands.{Stands}
 use Rattle.rollout_machine.specs.Commands.{Bytes}
 use Rattle.rollout_model.specs.Rules.{is_word}
+use Rattle.rollout_model.specs.declared.group_rule.GroupRule.{GroupRule}
 use Rattle.rollout_model.specs.declared.rollout.Offer.{Offer}
+use Rattle.desk_records.specs.FoundPieces.{lies_at}
 use Rattle.desk_records.specs.Listings.{FindsOne, has_text_at}
 use Rattle.desk_records.specs.RolloutRow.{IsActionRow, IsOfferRow, IsRolloutRow}
-use Rattle.desk_records.specs.Schema.{Actions, Offers, Place, Rollouts, name_of, table_at}
+use Rattle.desk_records.specs.RuleRow.{IsRuleRow}
+use Rattle.desk_records.specs.Schema.{Actions, Offers, Place, Rollouts, Rules, name_of, table_at}
 use Rattle.desk_records.specs.TableRows.{IsRollout}
 use Rattle.desk_records.specs.Tables.{HoldsTables, Tables}
 use Rattle.desk_records.specs.declared.action_texts.TheConstants.{GET_ACTION, GET_OFFER}
 use Rattle.desk_records.specs.declared.rollout_row.StoredAction.{StoredAction}
 use Rattle.desk_records.specs.declared.rollout_row.StoredRollout.{StoredRollout}
-use Rattle.desk_records.specs.declared.rollout_texts.TheConstants.{GET_ROLLOUT}
+use Rattle.desk_records.specs.declared.rollout_texts.TheConstants.{GET_ROLLOUT, GET_RULE}
 use Rattle.desk_records.proofs.ActionMeaning.{action_columns, action_names, get_action_is, get_offer_is, of_controller, offer_columns}
 use Rattle.desk_records.proofs.AnyRows.{is_only, none_passes}
 use Rattle.desk_records.proofs.MeaningWords.{at_key}
 use Rattle.desk_records.proofs.NumberColumns.{passes_rowid}
-use Rattle.desk_records.proofs.RolloutMeaning.{get_rollout_is, rollout_columns, rollout_names}
+use Rattle.desk_records.proofs.RolloutMeaning.{get_rollout_is, get_rule_is, of_group, rollout_columns, rollout_names, rule_columns, rule_names}
+use Rattle.desk_records.proofs.RuleRows.{judges_rule}
 use Rattle.desk_records.proofs.TextColumns.{passes_text, text_is}
-use Rattle.desk_store.specs.RawLists.{SaysNumbered, SaysOfferOf}
+use Rattle.desk_store.specs.RawLists.{SaysNumbered, SaysOfferOf, SaysRule}
 use Rattle.desk_store.specs.Rows.{IsReadAs}
 use Rattle.desk_store.proofs.Known.{tables_know}
 use Rattle.desk_store.proofs.RawCalls.{FindsOf, few_read}
@@ -83,6 +87,10 @@ says_numbered params row a is = record { rollout = is.rollout; position = is.pos
 pub action_read : (k : ℕ) (old new : State) (rows : Vec Row Global) → AsksFew old new GET_ACTION.now (Int (pos k) ∷ []) 1 (Ok rows) → (out : Result (Option StoredAction) Fault) → IfOk out (λ found. IsReadAs IsActionRow found (slice_get rows.items 0))
     → FindsOf old new out (λ t found. FindsOne (t Actions) (has_rowid (pos k)) SaysNumbered found)
 action_read k = one_read Actions GET_ACTION.now (at_key 0 0 ∷ []) action_columns action_names get_action_is (Int (pos k) ∷ []) (has_rowid (pos k)) (λ db t holds row among. passes_rowid row k) IsActionRow SaysNumbered (λ row numbered. says_numbered (Int (pos k) ∷ []) row)
+
+pub rule_read : (number group : ℕ) (old new : State) (rows : Vec Row Global) → AsksFew old new GET_RULE.now (Int (pos number) ∷ Int (pos group) ∷ []) 1 (Ok rows) → (out : Result (Option GroupRule) Fault) → IfOk out (λ found. IsReadAs IsRuleRow found (slice_get rows.items 0))
+    → FindsOf old new out (λ t found. FindsOne (t Rules) (lies_at number group) SaysRule found)
+rule_read number group = one_read Rules GET_RULE.now of_group rule_columns rule_names get_rule_is (Int (pos number) ∷ Int (pos group) ∷ []) (lies_at number group) (judges_rule number group) IsRuleRow SaysRule (λ row lies it is. is)
 
 -- ---- by a text
 

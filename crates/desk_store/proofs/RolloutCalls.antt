@@ -26,24 +26,26 @@ use Rattle.rollout_machine.specs.declared.records.GroupRecord.{GroupRecord}
 use Rattle.rollout_model.specs.declared.word.TargetKind.{TargetKind}
 use Rattle.rollout_model.specs.declared.word.Word.{Word}
 use Rattle.desk_records.specs.declared.texts.TheConstants.{GET_DESK}
-use Rattle.desk_records.specs.declared.rollout_texts.TheConstants.{FIND_ROLLOUT, LAST_ROLLOUT, GET_ROLLOUT, LIST_ROLLOUTS, LIST_MEMBERS, LIST_GROUPS, GET_GROUP, HOLDING_GROUP, GROUP_AND_NEXT}
+use Rattle.desk_records.specs.declared.rollout_texts.TheConstants.{FIND_ROLLOUT, LAST_ROLLOUT, GET_ROLLOUT, LIST_ROLLOUTS, LIST_MEMBERS, LIST_GROUPS, GET_GROUP, HOLDING_GROUP, GROUP_AND_NEXT, GET_RULE, LIST_RULES}
 use Rattle.desk_records.specs.declared.rollout_row.StoredRollout.{StoredRollout}
 use Rattle.desk_records.specs.Holds.{HoldsLedger, Ledger}
 use Rattle.desk_records.specs.Modules.{IsLastRow}
 use Rattle.desk_records.specs.RolloutRow.{IsRolloutRow, IsGroupRow, stored_rollout}
-use Rattle.desk_records.specs.Rollouts.{is_called, groups_of, members_of, that_reach}
-use Rattle.desk_records.specs.Schema.{Desk, Rollouts, Groups, Members}
+use Rattle.desk_records.specs.Rollouts.{is_called, groups_of, members_of, rule_numbered, rules_numbered, that_reach, told_rule}
+use Rattle.desk_records.specs.RuleRow.{IsRuleRow}
+use Rattle.desk_records.specs.Schema.{Desk, Rollouts, Groups, Members, Rules}
+use Rattle.rollout_model.specs.declared.group_rule.GroupRule.{GroupRule}
 use Rattle.desk_records.specs.Codes.{flag_in}
 use Rattle.desk_records.proofs.DeskRecords.{gets_desk, told_desk}
 use Rattle.desk_records.proofs.Meaning.{desk_query, get_desk_is}
 use Rattle.desk_records.proofs.MeaningWords.{at_key}
-use Rattle.desk_records.proofs.RolloutMeaning.{same_name, last_rollout_query, rollout_columns, rollout_names, list_rollouts_query, group_names, list_groups_query, get_group_query, holding_group_query, group_and_next_query, find_rollout_is, last_rollout_is, get_rollout_is, list_rollouts_is, list_members_query, list_members_is, list_groups_is, get_group_is, holding_group_is, group_and_next_is}
-use Rattle.desk_records.proofs.RolloutRecords.{finds_rollout, lasts_rollout, gets_rollout, lists_rollouts, lists_members, shown_group, lists_groups, gets_group, gets_group_and_next, holds_group}
+use Rattle.desk_records.proofs.RolloutMeaning.{same_name, last_rollout_query, rollout_columns, rollout_names, list_rollouts_query, group_names, list_groups_query, get_group_query, holding_group_query, group_and_next_query, find_rollout_is, last_rollout_is, get_rollout_is, list_rollouts_is, list_members_query, list_members_is, list_groups_is, get_group_is, holding_group_is, group_and_next_is, of_group, rule_columns, rule_names, get_rule_is, list_rules_query, list_rules_is}
+use Rattle.desk_records.proofs.RolloutRecords.{finds_rollout, lasts_rollout, gets_rollout, lists_rollouts, lists_members, shown_group, lists_groups, gets_group, gets_group_and_next, holds_group, gets_rule, lists_rules}
 use Rattle.desk_store.specs.GroupPairs.{group_and_next}
 use Rattle.desk_store.specs.declared.rollouts.GroupAndNext.{GroupAndNext}
 use Rattle.desk_store.specs.Rows.{AreReadAs, IsApproval, IsReadAs}
 use Rattle.desk_store.proofs.Known.{ledger_knows}
-use Rattle.desk_store.proofs.LedgerReads.{both_mapped, kept_flag, shown_rollout, one_rollout, one_group}
+use Rattle.desk_store.proofs.LedgerReads.{both_mapped, kept_flag, shown_rollout, one_rollout, one_group, one_rule}
 use Rattle.desk_store.proofs.ModuleCalls.{one_last}
 use Rattle.desk_store.proofs.ReadLemmas.{asks_all, one_read, takes_one}
 
@@ -170,3 +172,23 @@ group_and_next_read number place least old new rows h out are =
     answers (Ok both) are = λ db l holds shown.
         let all = gets_group_and_next db l holds group_names number place least rows.items shown in
         λ i. record { group = at l 0 both.group (omega arith) all are.0 i; next = at l 1 both.next (omega arith) all are.1 i }
+
+-- ---- what is said of groups
+
+abbrev pub getting_rule : Knows HoldsLedger GET_RULE.now
+getting_rule = ledger_knows Rules GET_RULE.now (λ at tree. Select (record { lets = []; body = simple tree of_group rule_columns }) rule_names) get_rule_is
+
+abbrev pub listing_rules : Knows HoldsLedger LIST_RULES.now
+listing_rules = ledger_knows Rules LIST_RULES.now (λ at tree. Select (record { lets = []; body = list_rules_query tree }) rule_names) list_rules_is
+
+pub rule_read : (number group : ℕ) → 1 ≤ number → (old new : State) (row : Option Row) → TakesFirst old new GET_RULE.now (Int (pos number) ∷ Int (pos group) ∷ []) (Ok row) → (out : Result (Option GroupRule) Fault) → IfOk out (λ found. IsReadAs IsRuleRow found row)
+    → Finds HoldsLedger (λ (l : Ledger). l) old new out (λ l found. found ≡ rule_numbered l.rules number group)
+rule_read number group least old new row =
+    takes_one (λ (l : Ledger). l) IsRuleRow told_rule GET_RULE.now (Int (pos number) ∷ Int (pos group) ∷ []) old new getting_rule (λ l. rule_numbered l.rules number group) ◌≡◌ refl (λ a b h. ap Some (one_rule a b h)) (λ db l holds at given. tt) row
+    (λ db l holds shown. gets_rule db l holds rule_names number group least row shown)
+
+pub rules_read : (number : ℕ) → 1 ≤ number → (old new : State) (rows : Vec Row Global) → AsksText old new LIST_RULES.now (Int (pos number) ∷ []) (Ok rows) → (out : Result (Vec GroupRule Global) Fault) → IfOk out (λ found. AreReadAs IsRuleRow rows.items found.items)
+    → Finds HoldsLedger (λ (l : Ledger). l) old new out (λ l found. found.items ≡ rules_numbered l.rules number)
+rules_read number least old new rows =
+    asks_all (λ (l : Ledger). l) vec_items IsRuleRow told_rule one_rule LIST_RULES.now (Int (pos number) ∷ []) old new listing_rules (λ l. rules_numbered l.rules number) rows
+    (λ db l holds shown. lists_rules db l holds rule_names number least rows.items shown)

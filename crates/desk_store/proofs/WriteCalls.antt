@@ -13,20 +13,21 @@ use Rattle.rollout_machine.specs.Commands.{Bytes, RolloutPlan}
 use Rattle.rollout_machine.specs.declared.bounds.Bounds.{Bounds}
 use Rattle.rollout_machine.specs.declared.outcome.Outcome.{Outcome}
 use Rattle.rollout_model.specs.declared.approval.Approval.{Approval}
+use Rattle.rollout_model.specs.declared.group_rule.GroupRule.{GroupRule}
 use Rattle.rollout_model.specs.declared.rollout.Offer.{Offer}
 use Rattle.desk_records.specs.declared.action_texts.TheConstants.{PUT_ACTION, SET_ACTION, PUT_FEEDBACK, SET_OFFER, DROP_OFFER}
-use Rattle.desk_records.specs.declared.rollout_texts.TheConstants.{PUT_ROLLOUT, SET_ROLLOUT, PUT_MEMBER, PUT_GROUP, SET_GROUP}
+use Rattle.desk_records.specs.declared.rollout_texts.TheConstants.{PUT_ROLLOUT, SET_ROLLOUT, PUT_MEMBER, PUT_GROUP, PUT_RULE, SET_GROUP}
 use Rattle.desk_records.specs.Actions.{Tally}
 use Rattle.desk_records.specs.declared.new_entry.NewEntry.{NewEntry}
 use Rattle.desk_records.specs.Holds.{HoldsLedger, Ledger}
-use Rattle.desk_records.specs.LedgerSteps.{AddsRollout, SetsRollout, AddsMember, AddsGroup, SetsGroup, AddsAction, SetsAction, AddsEntry, SetsOffer, with_offer}
-use Rattle.desk_records.specs.Rollouts.{member_row}
-use Rattle.desk_records.specs.Schema.{Rollouts, Members, Groups, Actions, Feedbacks, Offers}
+use Rattle.desk_records.specs.LedgerSteps.{AddsRollout, SetsRollout, AddsMember, AddsGroup, AddsRule, SetsGroup, AddsAction, SetsAction, AddsEntry, SetsOffer, with_offer}
+use Rattle.desk_records.specs.Rollouts.{member_row, rule_row}
+use Rattle.desk_records.specs.Schema.{Rollouts, Members, Groups, Actions, Feedbacks, Offers, Rules}
 use Rattle.desk_records.proofs.ActionMeaning.{feedback_terms, put_feedback_is, action_terms, set_action_query, set_offer_query, drop_offer_query, put_action_is, set_action_is, set_offer_is, drop_offer_is}
 use Rattle.desk_records.proofs.LedgerWrites.{created_params, turned_params, scheduled_params, acted_params, adds_rollout, sets_rollout, adds_action, sets_action}
 use Rattle.desk_records.proofs.OfferWrites.{offered_params, sets_offer, drops_offer}
-use Rattle.desk_records.proofs.PartWrites.{entry_params, adds_entry, cut_params, counted_params, adds_member, adds_group, sets_group}
-use Rattle.desk_records.proofs.RolloutMeaning.{rollout_terms, set_rollout_query, member_terms, group_terms, set_group_query, put_rollout_is, set_rollout_is, put_member_is, put_group_is, set_group_is}
+use Rattle.desk_records.proofs.PartWrites.{entry_params, adds_entry, cut_params, counted_params, adds_member, adds_group, adds_rule, sets_group}
+use Rattle.desk_records.proofs.RolloutMeaning.{rollout_terms, set_rollout_query, member_terms, group_terms, rule_terms, set_group_query, put_rollout_is, set_rollout_is, put_member_is, put_group_is, put_rule_is, set_group_is}
 use Rattle.desk_store.proofs.Known.{ledger_writes}
 
 abbrev pub knows_put_rollout : KnowsWrite HoldsLedger PUT_ROLLOUT.now
@@ -52,6 +53,12 @@ knows_put_group = ledger_writes Groups PUT_GROUP.now (λ at tree. Insert at (Val
 
 pub group_written : (number group : ℕ) (bounds : Bounds) (old new : State) (out : Result (Unit {0}) Fault) → RunsText old new PUT_GROUP.now (cut_params number group bounds) out → Makes HoldsLedger (λ (l : Ledger). l) old new out (AddsGroup number group bounds)
 group_written number group bounds old new out h = run_makes HoldsLedger (λ (l : Ledger). l) PUT_GROUP.now (cut_params number group bounds) old new (AddsGroup number group bounds) knows_put_group.knows out h (λ now next change holds count w. (w, adds_group number group bounds old new _ count now next holds change w))
+
+abbrev pub knows_put_rule : KnowsWrite HoldsLedger PUT_RULE.now
+knows_put_rule = ledger_writes Rules PUT_RULE.now (λ at tree. Insert at (Values rule_terms 6)) put_rule_is (λ at tree. refl)
+
+pub rule_written : (number group : ℕ) (rule : GroupRule) (old new : State) (out : Result (Unit {0}) Fault) → RunsText old new PUT_RULE.now (rule_row number group rule) out → Makes HoldsLedger (λ (l : Ledger). l) old new out (AddsRule number group rule)
+rule_written number group rule old new out h = run_makes HoldsLedger (λ (l : Ledger). l) PUT_RULE.now (rule_row number group rule) old new (AddsRule number group rule) knows_put_rule.knows out h (λ now next change holds count w. (w, adds_rule number group rule old new _ count now next holds change w))
 
 abbrev pub knows_set_group : KnowsWrite HoldsLedger SET_GROUP.now
 knows_set_group = ledger_writes Groups SET_GROUP.now (λ at tree. Update at (record { lets = []; body = set_group_query tree })) set_group_is (λ at tree. refl)

@@ -1,14 +1,12 @@
 -- What a failed store is blamed on, in a change that only reads.
-use Rattle.std.specs.Prelude.{◌≡◌, ◌≤◌, ◌<◌, ◌-◌, ◌^◌, ◌⊎◌, ℕ, [], Result, Ok, Err}
+use Rattle.std.specs.Prelude.{◌≡◌, ◌≤◌, ◌<◌, ◌-◌, ◌^◌, ◌⊎◌, ℕ, Result, Ok, Err}
 use Rattle.sqlite.specs.Store.{Ghosts}
-use Rattle.sqlite.specs.State.{State, HasCleanDisk}
-use Rattle.sql_calls.specs.Calls.{RunsText}
+use Rattle.sqlite.specs.State.{HasCleanDisk}
 use Rattle.sql_calls.specs.Standing.{Sees}
 use Rattle.sql_calls.specs.declared.fault.Fault.{Fault}
 use Rattle.sql_calls.specs.declared.fault.Fault.TheVariants.{Store}
 use Rattle.desk_records.specs.Tables.{HoldsTables, Tables}
 use Rattle.desk_store.specs.Changing.{seen_in}
-use Rattle.desk_store.specs.Texts.{rollback_text}
 use Rattle.desk_store.specs.Unreadable.{IsUnreadable}
 use Rattle.desk_store.specs.declared.change.OpenChange.{OpenChange}
 
@@ -20,11 +18,6 @@ HasFailed before now = (before < now) ⊎ (2 ^ 64 - 1 ≤ now)
 pub record Watch : Type 0 where
   pub tables : Tables
   pub failed : ℕ
-
--- a ROLLBACK ended in an error
-pub record FailsToRollBack (old new : State) : Type 0 where
-  pub fault : Fault
-  pub runs : RunsText old new rollback_text [] (Err fault)
 
 module _ {S : Type 0} (g : Ghosts S) where
   -- at least so many calls failed

@@ -5,12 +5,14 @@ use Rattle.sqlite_value.specs.Order.{Row}
 use Rattle.sqlite_rules.specs.Lists.{Has}
 use Rattle.rollout_machine.specs.Commands.{Bytes}
 use Rattle.rollout_machine.specs.declared.records.GroupRecord.{GroupRecord}
+use Rattle.rollout_model.specs.declared.group_rule.GroupRule.{GroupRule}
 use Rattle.rollout_model.specs.declared.rollout.Offer.{Offer}
 use Rattle.desk_records.specs.Listings.{AreBroken, AreSaid}
 use Rattle.desk_records.specs.RolloutRow.{IsActionRow, IsGroupRow, IsListedActionRow, broken_group_column, broken_listed_action_column}
+use Rattle.desk_records.specs.RuleRow.{IsRuleRow}
 use Rattle.desk_records.specs.Schema.{Actions, Offers}
 use Rattle.desk_records.specs.Tables.{Tables}
-use Rattle.desk_records.specs.TableRows.{IsAction, IsArtifact, IsEntry, IsGroup, IsOffer, action_shown}
+use Rattle.desk_records.specs.TableRows.{IsAction, IsArtifact, IsEntry, IsGroup, IsOffer, action_shown, rule_shown}
 use Rattle.desk_records.specs.declared.checked_rows.CheckedArtifact.{CheckedArtifact}
 use Rattle.desk_records.specs.declared.checked_rows.OwnedOffer.{OwnedOffer}
 use Rattle.desk_records.specs.declared.entry_row.SequencedEntry.{SequencedEntry}
@@ -34,6 +36,10 @@ SaysOffer row o = IsOffer row o.id o.offer
 
 abbrev pub SaysGroup : ℕ → Row → GroupRecord → Type 0
 SaysGroup rollout row g = IsGroup row rollout g
+
+-- what is said of a group that is known
+abbrev pub SaysRule : Row → GroupRule → Type 0
+SaysRule row it = IsRuleRow (rule_shown row) it
 
 abbrev pub SaysAction : Row → ListedAction → Type 0
 SaysAction row a = IsAction row a.number a.action

@@ -9,9 +9,10 @@ use Rattle.desk_records.specs.Codes.{number_in}
 use Rattle.desk_records.specs.EntryRow.{BreaksSequenced}
 use Rattle.desk_records.specs.Listings.{AreSaid, HasNumber, has_at}
 use Rattle.desk_records.specs.PlaceLists.{SaysMember, is_of}
-use Rattle.desk_records.specs.Schema.{Actions, Feedbacks, Members, Pieces, Place, Rollouts}
+use Rattle.desk_records.specs.RuleRow.{broken_rule_column}
+use Rattle.desk_records.specs.Schema.{Actions, Feedbacks, Members, Pieces, Place, Rollouts, Rules}
 use Rattle.desk_records.specs.RolloutRow.{broken_rollout_column}
-use Rattle.desk_records.specs.TableRows.{action_shown, rollout_shown}
+use Rattle.desk_records.specs.TableRows.{action_shown, rollout_shown, rule_shown}
 use Rattle.desk_records.specs.Tables.{Tables}
 use Rattle.desk_records.specs.declared.entry_row.SequencedEntry.{SequencedEntry}
 use Rattle.desk_records.specs.declared.member_row.PlacedMember.{PlacedMember}
@@ -39,6 +40,7 @@ pub record HasTwins {A : Type 0} (rows : List Row) (test : Row → Bool) (says :
 -- Rows that are read and that nothing is recomputed of: one that breaks a rule, a number that is missing or is there twice, and what is past its limit.
 pub data IsUnreadable (t : Tables) : Type 0 where
   broken_rollout : (row : Row) → Has (t Rollouts) row → BreaksRule (broken_rollout_column (rollout_shown row)) → IsUnreadable t
+  broken_rule : (row : Row) → Has (t Rules) row → BreaksRule (broken_rule_column (rule_shown row)) → IsUnreadable t
   broken_piece : (row : Row) → Has (t Pieces) row → has_bytes (column row 3) ≡ false → IsUnreadable t
   broken_entry : (row : Row) (c : Column) → Has (t Feedbacks) row → BreaksSequenced (sequenced_shown row) c → IsUnreadable t
   twin_members : (rollout : ℕ) → HasTwins (t Members) (is_of rollout) (SaysMember rollout) (λ (m : PlacedMember). m.place) → IsUnreadable t

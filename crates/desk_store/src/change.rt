@@ -3,12 +3,11 @@
 ghost use Rattle.std.specs.Prelude.{◌≡◌, ◌+◌, length, IfErr};
 ghost use Rattle.std.specs.List.{list_any};
 ghost use Rattle.sqlite.specs.Held.{state};
-ghost use Rattle.sql_calls.specs.Calls.{Grows, failures_in};
+ghost use Rattle.sql_calls.specs.Calls.{Grows, errors_in, fails, failures_in};
 ghost use Rattle.sql_calls.specs.Standing.{Commits, GivesUp};
 ghost use Rattle.rollout_machine.specs.ByteStrings.{item_numbered};
 ghost use Rattle.desk_records.specs.Holds.{HoldsLedger};
 ghost use Rattle.desk_records.specs.Modules.{is_same, with_module};
-ghost use Rattle.desk_store.specs.Blaming.{FailsToRollBack};
 ghost use Rattle.desk_store.specs.Counting.{AddsIn};
 ghost use Rattle.desk_store.specs.Changing.{FindsIn, MakesIn, StaysIn};
 
@@ -96,7 +95,7 @@ impl<'a, S: Alter> OpenChange<'a, S> {
         ensures gives_up { GivesUp HoldsLedger (state S.Store self.entry.store.now.calls.conn) (state S.Store self.exit.0.now.calls.conn) result }
         ensures work { self.exit.0.now.calls.work ≡ self.entry.store.now.calls.work }
         ensures grows { Grows (failures_in result) self.entry.store.now.calls self.exit.0.now.calls }
-        ensures fails { IfErr result (λ e. FailsToRollBack (state S.Store self.entry.store.now.calls.conn) (state S.Store self.exit.0.now.calls.conn)) }
+        ensures failures { self.exit.0.now.calls.failures ≡ fails (errors_in result) self.entry.store.now.calls.failures }
         ensures store { IfErr result (λ e. e ≡ Fault.Store) }
     {
         let OpenChange { store } = self;

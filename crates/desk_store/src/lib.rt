@@ -15,8 +15,10 @@ mod raw_groups;
 mod raw_members;
 mod raw_offers;
 mod raw_rollouts;
+mod raw_rules;
 mod reading;
 mod rollouts;
+mod rules;
 mod sets;
 mod statements;
 mod store;
@@ -27,6 +29,7 @@ pub use crate::rollouts::GroupAndNext;
 pub use crate::store::DeskStore;
 pub use desk_records::{
     CheckedArtifact, CountedAction, ListedAction, ListedTarget, NewEntry, OwnedOffer, PlacedMember,
-    SequencedEntry, SetName, StoredAction, StoredArtifact, StoredRollout, StoredTarget, tell_entry,
+    SequencedEntry, SetName, StoredAction, StoredArtifact, StoredRollout, StoredTarget, ToldPlan,
+    tell_entry,
 };
 pub use sql_calls::{Fault, Work};

@@ -232,7 +232,7 @@ impl<'a, S: Alter> OpenChange<'a, S> {
                 plan.name.as_str(),
                 plan.set_number.get(),
                 plan.filter_text.as_str(),
-                plan.groups.get(),
+                plan.groups.count().get(),
                 success,
                 error,
                 approval

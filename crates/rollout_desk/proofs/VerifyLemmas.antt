@@ -1,18 +1,29 @@
 -- From what a change sees of the tables to what a verification says.
-use Rattle.std.proofs.Common.{inl, inr, Option, Result, Ok, Err, sym, subst, arith}
+use Rattle.std.proofs.Common.{◌≡◌, ◌≤◌, ◌<◌, ◌+◌, ◌^◌, ◌-◌, ◌⊎◌, ℕ, zero, suc, inl, inr, Option, Result, Ok, Err, refl, sym, subst, arith}
+use Rattle.sqlite.specs.Held.{state}
+use Rattle.sqlite.specs.Store.{Ghosts}
 use Rattle.sqlite.specs.State.{State, HasCleanDisk}
-use Rattle.sql_calls.specs.Standing.{Begins, Finds, Rests, Sees}
+use Rattle.sql_calls.specs.Calls.{fails, failures_of}
+use Rattle.sql_calls.specs.Standing.{Begins, Finds, Rests, Sees, Wears}
+use Rattle.sql_calls.specs.declared.calls.Calls.{Calls}
 use Rattle.sql_calls.specs.declared.fault.Fault.{Fault}
+use Rattle.sql_calls.specs.declared.fault.Fault.TheVariants.{Memory, Store}
 use Rattle.sql_calls.proofs.FrameEnds.{rest_shows}
 use Rattle.desk_records.specs.Holds.{HoldsLedger, ledger_of}
 use Rattle.desk_records.specs.Tables.{HoldsTables, Tables}
+use Rattle.desk_store.specs.Blaming.{Blames, HasFailed, Watch}
+use Rattle.desk_store.specs.Changing.{seen_in}
+use Rattle.desk_store.specs.Unreadable.{IsUnreadable}
+use Rattle.desk_store.specs.declared.change.OpenChange.{OpenChange}
 use Rattle.rollout_machine.specs.Records.{Records}
 use Rattle.rollout_model.specs.declared.refusal.Refusal.{Refusal}
+use Rattle.rollout_model.specs.declared.refusal.Refusal.TheVariants.{StoreFailed}
 use Rattle.desk_verify.specs.Agreement.{IsDamage}
 use Rattle.desk_verify.specs.Promises.{NamesNone}
 use Rattle.desk_verify.specs.declared.damage.CheckedTable.{CheckedTable}
+use Rattle.rollout_desk.specs.Changes.{refusal_of_fault}
 use Rattle.rollout_desk.specs.Looks.{EndsLook}
-use Rattle.rollout_desk.specs.Verifying.{FindsDamage, IsNeverDamaged}
+use Rattle.rollout_desk.specs.Verifying.{FindsDamage, HasCause, IsNeverDamaged}
 
 module _ (a b c : State) (found : Option CheckedTable) (reads : Finds HoldsTables (λ (t : Tables). t) {E = Fault} b c (Ok found) IsDamage) where
   -- of whatever tables were shown before it
@@ -32,3 +43,45 @@ none_found a c d refusal result ends = elim ends.ends [
   | inl it ↦ subst (FindsDamage a d) (sym it.0) tt
   | inr it ↦ subst (FindsDamage a d) (sym it.0) tt
 ]
+
+-- ---- why a store failed
+
+-- more calls failed after an earlier count, and before a later one
+failed_within : {a b c d : ℕ} → a ≤ b → HasFailed b c → c ≤ d → HasFailed a d
+failed_within le (inl fails) grows = inl (omega (arith, le, fails, grows))
+failed_within le (inr full) grows = inr (omega (arith, full, grows))
+
+-- one call failed
+failed_once : (old new : ℕ) → new ≡ fails 1 old → HasFailed old new
+failed_once old new is = elim (below old (2 ^ 64 - 1)) [ inl room ↦ inl (omega (arith, is, room)) | inr full ↦ inr (omega (arith, is, full)) ]
+  where
+    below : (a b : ℕ) → (a < b) ⊎ (b ≤ a)
+    below zero zero = inr (omega arith)
+    below zero (suc b) = inl (omega arith)
+    below (suc a) zero = inr (omega arith)
+    below (suc a) (suc b) = elim (below a b) [ inl u ↦ inl (omega (arith, u)) | inr u ↦ inr (omega (arith, u)) ]
+
+-- no change began
+pub unbegun_counts : (fault : Fault) (old new : ℕ) → new ≡ fails (failures_of fault) old → Err {A = Option CheckedTable} (refusal_of_fault fault) ≡ Err StoreFailed → HasFailed old new
+unbegun_counts Memory old new is never = absurd cc
+unbegun_counts Store old new is same = failed_once old new is
+
+stored : (fault : Fault) → refusal_of_fault fault ≡ StoreFailed → fault ≡ Store
+stored Memory never = absurd cc
+stored Store is = refl
+
+module _ {S : Type 0} (g : Ghosts S) (old : Calls S) (begun read : OpenChange S) (end : Calls S) where
+  -- the table that was found isn't told, since the change couldn't be given up
+  pub given_up_in_vain : (found : Option CheckedTable) (result : Result (Option CheckedTable) Refusal) → old.failures ≤ read.store.now.calls.failures
+      → (result ≡ Ok found) ⊎ HasFailed read.store.now.calls.failures end.failures → result ≡ Err StoreFailed → HasFailed old.failures end.failures
+  given_up_in_vain found result grows (inl same) is = absurd cc
+  given_up_in_vain found result grows (inr failed) is = failed_within grows failed (omega arith)
+
+  pub read_in_vain : (fault : Fault) (refusal : Refusal) (result : Result (Option CheckedTable) Refusal) → refusal ≡ refusal_of_fault fault → Begins HoldsTables (state g old.conn) (seen_in g begun)
+      → old.failures ≤ begun.store.now.calls.failures → Blames g {A = Option CheckedTable} begun read (Err fault) → Wears (seen_in g read) (state g end.conn) → read.store.now.calls.failures ≤ end.failures
+      → old.failures ≤ read.store.now.calls.failures → (result ≡ Err refusal) ⊎ HasFailed read.store.now.calls.failures end.failures → result ≡ Err StoreFailed → HasCause g old end
+  read_in_vain fault refusal result named begins grew blames wears grows rose (inr failed) is t clean shown = inl (failed_within rose failed (omega arith))
+  read_in_vain fault refusal result named begins grew blames wears grows rose (inl same) is t clean shown =
+      let watch : Watch = record { tables = t; failed = old.failures } in
+      let why : HasFailed old.failures read.store.now.calls.failures ⊎ IsUnreadable t = (blames.to watch (record { sees = begins.sees t shown; before = record { failures = grew } }) (tt {0})).cause (stored fault (cc)) (omega (arith, clean, wears)) in
+      elim why [ inl failed ↦ inl (failed_within (omega arith) failed grows) | inr unread ↦ inr unread ]

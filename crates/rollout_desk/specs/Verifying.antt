@@ -1,7 +1,10 @@
 -- What a verification says of the tables, and what it leaves of the desk.
-use Rattle.std.specs.Prelude.{◌≡◌, Bool, false, Option, Some, None, Result, Ok, Err, IfOk, ⊤}
+use Rattle.std.specs.Prelude.{◌≡◌, ◌⊎◌, Bool, false, Option, Some, None, Result, Ok, Err, IfOk, ⊤}
+use Rattle.sqlite.specs.Held.{state}
+use Rattle.sqlite.specs.Store.{Ghosts}
 use Rattle.sqlite.specs.State.{State, HasCleanDisk}
 use Rattle.sql_calls.specs.Standing.{Shows}
+use Rattle.sql_calls.specs.declared.calls.Calls.{Calls}
 use Rattle.rollout_machine.specs.CommandList.{CommandList}
 use Rattle.rollout_machine.specs.Records.{Records, records}
 use Rattle.rollout_machine.specs.Replies.{Refused as RefusedReply}
@@ -10,6 +13,8 @@ use Rattle.rollout_machine.specs.StoreFailures.{is_store}
 use Rattle.rollout_machine.specs.Validity.{IsValid}
 use Rattle.rollout_model.specs.declared.refusal.Refusal.{Refusal}
 use Rattle.desk_records.specs.Tables.{HoldsTables, Tables}
+use Rattle.desk_store.specs.Blaming.{HasFailed}
+use Rattle.desk_store.specs.Unreadable.{IsUnreadable}
 use Rattle.desk_verify.specs.Agreement.{IsDamage}
 use Rattle.desk_verify.specs.declared.damage.CheckedTable.{CheckedTable}
 use Rattle.desk_verify.specs.declared.damage.Damage.{Damage}
@@ -25,6 +30,10 @@ FindsDamage old new result = IfOk result (λ found. (t : Tables) → HasCleanDis
 -- the records of accepted commands are never damaged
 abbrev pub IsNeverDamaged : Records → Option CheckedTable → Type 0
 IsNeverDamaged r found = (h : CommandList) → IsValid h → r ≡ records h → found ≡ None
+
+-- a call of the store failed, or whatever tables are shown have what can't be read
+abbrev pub HasCause : {S : Type 0} → Ghosts S → Calls S → Calls S → Type 0
+HasCause g old new = (t : Tables) → HasCleanDisk (state g new.conn) → Shows HoldsTables (state g old.conn) t → HasFailed old.failures new.failures ⊎ IsUnreadable t
 
 -- ---- the desk
 

@@ -2,6 +2,7 @@
 
 ghost use Rattle.std.specs.Prelude.{◌≡◌, true, false};
 ghost use Rattle.rollout_model.specs.declared.refusal.Refusal.TheVariants.{Stopped, StoreFailed};
+ghost use Rattle.rollout_machine.specs.Commands.{Command};
 ghost use Rattle.rollout_machine.specs.Replies.{Refused};
 ghost use Rattle.rollout_machine.specs.Requests.{Asks, Do, Ask};
 ghost use Rattle.rollout_machine.specs.Standing.{Applies, StaysStopped};
@@ -57,6 +58,7 @@ impl<S: Alter> Desk<S> {
         ensures stops { reply_of result ≡ Refused StoreFailed → (desk_state S.Store self.new).is_stopped ≡ true }
         ensures stopped { (desk_state S.Store self.old).is_stopped ≡ true → (reply_of result ≡ Refused Stopped)
             × StaysStopped (desk_state S.Store self.old) (desk_state S.Store self.new) }
+        ensures untouched { (desk_state S.Store self.old).is_stopped ≡ true → self.new.store ≡ self.old.store }
         ensures bound { KeepsBound (command_of command.now) self.new.work }
         ensures counted { self.new.work ≡ since self.new.store.calls.work self.old.store.calls.work }
         ensures tells { TellsFailures (is_failed_store (reply_of result)) self.old.store.calls self.new.store.calls }
@@ -81,6 +83,7 @@ impl<S: Alter> Desk<S> {
         ensures stops { reply_of result ≡ Refused StoreFailed → (desk_state S.Store self.new).is_stopped ≡ true }
         ensures stopped { (desk_state S.Store self.old).is_stopped ≡ true → (reply_of result ≡ Refused Stopped)
             × StaysStopped (desk_state S.Store self.old) (desk_state S.Store self.new) }
+        ensures untouched { (desk_state S.Store self.old).is_stopped ≡ true → self.new.store ≡ self.old.store }
         ensures tells { TellsFailures (is_failed_store (reply_of result)) self.old.store.calls self.new.store.calls }
         ensures work { self.new.work ≡ self.old.work }
     {
@@ -99,6 +102,8 @@ impl<S: Alter> Desk<S> {
         ensures stops { reply_of result ≡ Refused StoreFailed → (desk_state S.Store self.new).is_stopped ≡ true }
         ensures stopped { (desk_state S.Store self.old).is_stopped ≡ true → (reply_of result ≡ Refused Stopped)
             × StaysStopped (desk_state S.Store self.old) (desk_state S.Store self.new) }
+        ensures untouched { (desk_state S.Store self.old).is_stopped ≡ true → self.new.store ≡ self.old.store }
+        ensures bound { (c : Command) → request_of request.now ≡ Do c → KeepsBound c self.new.work }
         ensures tells { TellsFailures (is_failed_store (reply_of result)) self.old.store.calls self.new.store.calls }
     {
         match request {

@@ -49,6 +49,7 @@ impl<S: Alter> Desk<S> {
         ensures stops { IfErr result (λ reply. reply_of reply ≡ Refused StoreFailed → (desk_state S.Store self.new).is_stopped ≡ true) }
         ensures stopped { (desk_state S.Store self.old).is_stopped ≡ true
             → IfErr result (λ reply. reply_of reply ≡ Refused Stopped) × StaysStopped (desk_state S.Store self.old) (desk_state S.Store self.new) }
+        ensures untouched { (desk_state S.Store self.old).is_stopped ≡ true → self.new.store ≡ self.old.store }
         ensures tells { TellsFailures (replies_store result) self.old.store.calls self.new.store.calls }
         ensures work { self.new.work ≡ self.old.work }
     {
@@ -76,6 +77,7 @@ impl<S: Alter> Desk<S> {
         ensures stops { IfErr result (λ reply. reply_of reply ≡ Refused StoreFailed → (desk_state S.Store self.new).is_stopped ≡ true) }
         ensures stopped { (desk_state S.Store self.old).is_stopped ≡ true
             → IfErr result (λ reply. reply_of reply ≡ Refused Stopped) × StaysStopped (desk_state S.Store self.old) (desk_state S.Store self.new) }
+        ensures untouched { (desk_state S.Store self.old).is_stopped ≡ true → self.new.store ≡ self.old.store }
         ensures tells { TellsFailures (replies_store result) self.old.store.calls self.new.store.calls }
         ensures work { self.new.work ≡ self.old.work }
     {
@@ -106,6 +108,7 @@ impl<S: Alter> Desk<S> {
         ensures stops { IfErr result (λ reply. reply_of reply ≡ Refused StoreFailed → (desk_state S.Store self.new).is_stopped ≡ true) }
         ensures stopped { (desk_state S.Store self.old).is_stopped ≡ true
             → IfErr result (λ reply. reply_of reply ≡ Refused Stopped) × StaysStopped (desk_state S.Store self.old) (desk_state S.Store self.new) }
+        ensures untouched { (desk_state S.Store self.old).is_stopped ≡ true → self.new.store ≡ self.old.store }
         ensures tells { TellsFailures (replies_store result) self.old.store.calls self.new.store.calls }
         ensures work { self.new.work ≡ self.old.work }
     {
@@ -137,6 +140,7 @@ impl<S: Alter> Desk<S> {
         ensures stops { result ≡ Err Refusal.StoreFailed → (desk_state S.Store self.new).is_stopped ≡ true }
         ensures stopped { (desk_state S.Store self.old).is_stopped ≡ true → (result ≡ Err Refusal.Stopped)
             × StaysStopped (desk_state S.Store self.old) (desk_state S.Store self.new) }
+        ensures untouched { (desk_state S.Store self.old).is_stopped ≡ true → self.new.store ≡ self.old.store }
         ensures tells { TellsFailures (tells_store result) self.old.store.calls self.new.store.calls }
         ensures work { self.new.work ≡ self.old.work }
     {

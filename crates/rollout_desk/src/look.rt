@@ -1,9 +1,10 @@
 //! Looks at the records that change nothing: at a piece of an artifact's contents, and at the artifact that a device downloads.
 
-ghost use Rattle.std.specs.Prelude.{◌≡◌, ◌⊎◌, length, Some, Ok, Err, MatchResult};
+ghost use Rattle.std.specs.Prelude.{◌≡◌, ◌≤◌, ◌⊎◌, length, Some, Ok, Err, MatchResult};
 ghost use Rattle.sqlite.specs.Held.{state};
 ghost use Rattle.desk_records.specs.Artifacts.{piece_numbered};
 ghost use Rattle.desk_records.specs.Holds.{HoldsRecords};
+ghost use Rattle.desk_store.specs.Blaming.{HasFailed};
 ghost use Rattle.rollout_desk.specs.Looks.{Looks, EndsLook, FindsDownload, bytes_of};
 ghost use Rattle.rollout_desk.specs.Working.{TellsFailures, tells_store};
 
@@ -21,6 +22,8 @@ pub(crate) fn give_up<S: Alter, T: Drop>(
 ) -> Result<T, Refusal>
     ensures ends { EndsLook (state S.Store change.entry.store.now.calls.conn) (state S.Store change.exit.0.now.calls.conn) found result }
     ensures tells { TellsFailures (tells_store result) change.entry.store.now.calls change.exit.0.now.calls }
+    ensures counts { change.entry.store.now.calls.failures ≤ change.exit.0.now.calls.failures }
+    ensures fails { (result ≡ found) ⊎ HasFailed change.entry.store.now.calls.failures change.exit.0.now.calls.failures }
 {
     match change.give_up() {
         Ok(()) => found,

@@ -31,6 +31,7 @@ impl<S: Alter> Desk<S> {
             (λ refusal. refusal ≢ StoreFailed) }
         ensures stopped { (desk_state S.Store self.old).is_stopped ≡ true
             → (result ≡ Err Refusal.Stopped) × StaysStopped (desk_state S.Store self.old) (desk_state S.Store self.new) }
+        ensures untouched { (desk_state S.Store self.old).is_stopped ≡ true → self.new.store ≡ self.old.store }
     {
         if self.stopped {
             return Err(Refusal::Stopped);

@@ -7,7 +7,7 @@ ghost use Rattle.rollout_machine.specs.Standing.{StaysStopped};
 ghost use Rattle.desk_records.specs.Holds.{HoldsRecords};
 ghost use Rattle.rollout_desk.specs.DeskStates.{desk_state};
 ghost use Rattle.rollout_desk.specs.Looks.{Looks};
-ghost use Rattle.rollout_desk.specs.Verifying.{FindsDamage, IsNeverDamaged, Judges, KeepsDesk, MayTell, tells_damage};
+ghost use Rattle.rollout_desk.specs.Verifying.{FindsDamage, HasCause, IsNeverDamaged, Judges, KeepsDesk, MayTell, tells_damage};
 ghost use Rattle.rollout_desk.specs.Working.{TellsFailures, tells_store};
 
 use crate::desk::Desk;
@@ -23,6 +23,7 @@ use sqlite::Alter;
 fn look_for_damage<S: Alter>(store: &mut DeskStore<S>) -> Result<Option<CheckedTable>, Refusal>
     ensures judges { FindsDamage (state S.Store store.old.calls.conn) (state S.Store store.new.calls.conn) result }
     ensures looks { Looks HoldsRecords (state S.Store store.old.calls.conn) (state S.Store store.new.calls.conn) result IsNeverDamaged }
+    ensures blames { result ≡ Err StoreFailed → HasCause S.Store store.old.calls store.new.calls }
     ensures tells { TellsFailures (tells_store result) store.old.calls store.new.calls }
 {
     let mut change = match store.begin() {
@@ -37,14 +38,17 @@ fn look_for_damage<S: Alter>(store: &mut DeskStore<S>) -> Result<Option<CheckedT
 
 impl<S: Alter> Desk<S> {
     /// Whether each table agrees with what it is to have, or else the first that doesn't, whatever rows the tables have. Nothing is
-    /// written. `Refused` is `NoMemory`, `StoreFailed`, after which the desk is stopped, or `Stopped`.
+    /// written. `Refused` is `NoMemory`, `StoreFailed`, after which the desk is stopped, or `Stopped`. `StoreFailed` is said only where a call of
+    /// the store failed, or the tables have what can't be read.
     pub fn verify(&mut self) -> Result<(), Damage>
         ensures clean { (desk_state S.Store self.new).is_clean → (desk_state S.Store self.old).is_clean }
         ensures judges { Judges (state S.Store self.old.store.calls.conn) (state S.Store self.new.store.calls.conn) result }
         ensures keeps { KeepsDesk (desk_state S.Store self.old) (desk_state S.Store self.new) result }
+        ensures blames { result ≡ Err (Damage.Refused StoreFailed) → HasCause S.Store self.old.store.calls self.new.store.calls }
         ensures stops { result ≡ Err (Damage.Refused StoreFailed) → (desk_state S.Store self.new).is_stopped ≡ true }
         ensures stopped { (desk_state S.Store self.old).is_stopped ≡ true → (result ≡ Err (Damage.Refused Stopped))
             × StaysStopped (desk_state S.Store self.old) (desk_state S.Store self.new) }
+        ensures untouched { (desk_state S.Store self.old).is_stopped ≡ true → self.new.store ≡ self.old.store }
         ensures refuses { IfErr result MayTell }
         ensures tells { TellsFailures (tells_damage result) self.old.store.calls self.new.store.calls }
         ensures work { self.new.work ≡ self.old.work }

@@ -55,8 +55,8 @@ recorded h r x e = rollout_numbered h r x e
 -- the group is one of those that the plan cuts
 pub record IsOfGroup (h : CommandList) (r : ℕ) (x : Rollout) (i : ℕ) (g : GroupRecord) : Type 0 where
   pub low : 1 ≤ i
-  pub high : i ≤ x.plan.groups
+  pub high : i ≤ x.plan.groups.count
   pub is : g ≡ group_in x r h i
 
 pub of_group : (h : CommandList) (r : ℕ) (x : Rollout) (i : ℕ) (g : GroupRecord) → item_numbered (rollout_in h r x).groups i ≡ Some g → IsOfGroup h r x i g
-of_group h r x i g e = let found = numbered_each (group_in x r h) x.plan.groups i g e in record { low = found.0; high = found.1; is = found.2 }
+of_group h r x i g e = let found = numbered_each (group_in x r h) x.plan.groups.count i g e in record { low = found.0; high = found.1; is = found.2 }

@@ -119,7 +119,7 @@ made_new h plan r w none =
     let quiet : (j : ℕ) → outcome (h ▸ c) r j ≡ None = λ j. calm_outcome h c r j refl ∙ (w.fresh r u.started).outcome j in
     let still : is_rollout_started r (h ▸ c) ≡ false = rw u.started refl in
     same_parts r x _ _ _ _ _ _ _ _ (rw u.decided refl) still (rw (no_error_begins x r h c (λ j. calm_outcome h c r j refl), u.paused x) refl)
-    (same_each (group_in x r (h ▸ c)) (new_group plan (length x.members)) 1 plan.groups (λ i a b.
+    (same_each (group_in x r (h ▸ c)) (new_group plan (length x.members)) 1 plan.groups.count (λ i a b.
     same_group i (bounds_in x i) _ _ _ _ _ _ _ _ (never_started x r i (h ▸ c) still) (no_tally Good x r i (h ▸ c) quiet) (no_tally Bad x r i (h ▸ c) quiet) (no_tally Gone x r i (h ▸ c) quiet)))
 
 pub create_is_step : (h : CommandList) (plan : RolloutPlan) → IsValid h → verdict h (CreateRollout plan) ≡ None → records (h ▸ CreateRollout plan) ≡ step_records (records h) (CreateRollout plan)

@@ -41,7 +41,7 @@ in_bounds x i j e =
 
 -- ---- each group has a member
 
-pub size_positive : (x : Rollout) (i : ℕ) → HasSoundPlan x → 1 ≤ i → i ≤ x.plan.groups → 1 ≤ size_in x i
+pub size_positive : (x : Rollout) (i : ℕ) → HasSoundPlan x → 1 ≤ i → i ≤ x.plan.groups.count → 1 ≤ size_in x i
 size_positive x i sound a b =
     let before : i - 1 + 1 ≡ i = omega arith in
     let more : last_of x (i - 1) + 1 ≤ last_of x i = subst (λ k. last_of x (i - 1) + 1 ≤ last_of x k) before (sound.cut.grows (i - 1) (omega arith)) in
@@ -55,7 +55,7 @@ group_up_to last j zero = 0
 group_up_to last j (suc n) = cond (nat_le j (last n)) (group_up_to last j n) (suc n)
 
 abbrev pub group_of : Rollout → ℕ → ℕ
-group_of x j = group_up_to (last_of x) j x.plan.groups
+group_of x j = group_up_to (last_of x) j x.plan.groups.count
 
 -- g is one of the first n groups, and holds member j
 pub record IsAmong (x : Rollout) (n g j : ℕ) : Type 0 where
@@ -64,7 +64,7 @@ pub record IsAmong (x : Rollout) (n g j : ℕ) : Type 0 where
   pub within : IsInGroup x g j
 
 abbrev pub IsOwnGroup : Rollout → ℕ → ℕ → Type 0
-IsOwnGroup x g j = IsAmong x x.plan.groups g j
+IsOwnGroup x g j = IsAmong x x.plan.groups.count g j
 
 among : (x : Rollout) (n j : ℕ) → last_of x 0 ≡ 0 → 1 ≤ j → j ≤ last_of x n → IsAmong x n (group_up_to (last_of x) j n) j
 among x zero j begins low high = absurd (omega arith)
@@ -80,7 +80,7 @@ among x (suc n) j begins low high = go (nat_le j (last_of x n)) refl (among x n 
         record { first = omega arith; last = omega arith; within = record { low = past; high = below _ _ _ past high } }
 
 pub in_its_group : (x : Rollout) (j : ℕ) → HasSoundPlan x → 1 ≤ j → j ≤ size_of x → IsOwnGroup x (group_of x j) j
-in_its_group x j sound low high = among x x.plan.groups j sound.cut.begins low (subst (λ m. j ≤ m) (sym sound.cut.whole) high)
+in_its_group x j sound low high = among x x.plan.groups.count j sound.cut.begins low (subst (λ m. j ≤ m) (sym sound.cut.whole) high)
 
 -- and in no two
 pub one_group : (x : Rollout) (g i j : ℕ) → HasSoundPlan x → 1 ≤ g → 1 ≤ i → IsInGroup x g j → IsInGroup x i j → i ≡ g

@@ -9,7 +9,7 @@ use Rattle.rollout_machine.specs.Counts.{tally, reaches, success_holds, is_outco
 use Rattle.rollout_machine.specs.Effects.{IsLast, HasSoundPlan, StartedOnly, GetsOutcome, IsView, feedback_pauses, good_after, next_if, starts_next, last_with, FollowsFeedback, FollowsResume, FollowsTrigger}
 use Rattle.rollout_machine.specs.Progress.{is_group_started, next_started, is_paused, error_begins_at, is_trigger_of}
 use Rattle.rollout_machine.specs.Ranges.{some_up_to}
-use Rattle.rollout_machine.specs.Rollouts.{Rollout, size_in}
+use Rattle.rollout_machine.specs.Rollouts.{Rollout, size_in, success_at}
 use Rattle.rollout_machine.specs.declared.view.RolloutView.{RolloutView}
 use Rattle.rollout_machine.specs.declared.view.Effects.{Effects}
 use Rattle.rollout_machine.proofs.Starts.{starts_one_more, last_after}
@@ -20,17 +20,17 @@ next_is : (b : Bool) (n l : ℕ) → n ≡ l → last_with (next_if b n) l ≡ c
 next_is true n l e = omega arith
 next_is false n l e = refl
 
-pub opens_by_count : (x : Rollout) (r : ℕ) (h : CommandList) (c : Command) (l : ℕ) → 1 ≤ l → is_trigger_of r c ≡ false → starts_one_more x r h c l ≡ (nat_lt l x.plan.groups && (not (is_paused x r (h ▸ c)) && success_holds x r l (h ▸ c)))
+pub opens_by_count : (x : Rollout) (r : ℕ) (h : CommandList) (c : Command) (l : ℕ) → 1 ≤ l → is_trigger_of r c ≡ false → starts_one_more x r h c l ≡ (nat_lt l x.plan.groups.count && (not (is_paused x r (h ▸ c)) && success_holds x r l (h ▸ c)))
 opens_by_count x r h c zero a e = absurd (omega arith)
-opens_by_count x r h c (suc k) a e = ap (λ b. nat_lt (suc k) x.plan.groups && ((not (is_paused x r (h ▸ c)) && success_holds x r (suc k) (h ▸ c)) || b)) e ∙ ap (λ b. nat_lt (suc k) x.plan.groups && b) (or_false _)
+opens_by_count x r h c (suc k) a e = ap (λ b. nat_lt (suc k) x.plan.groups.count && ((not (is_paused x r (h ▸ c)) && success_holds x r (suc k) (h ▸ c)) || b)) e ∙ ap (λ b. nat_lt (suc k) x.plan.groups.count && b) (or_false _)
   where
     or_false : (b : Bool) → (b || false) ≡ b
     or_false true = refl
     or_false false = refl
 
-pub opens_by_trigger : (x : Rollout) (r : ℕ) (h : CommandList) (c : Command) (l : ℕ) → 1 ≤ l → is_trigger_of r c ≡ true → starts_one_more x r h c l ≡ nat_lt l x.plan.groups
+pub opens_by_trigger : (x : Rollout) (r : ℕ) (h : CommandList) (c : Command) (l : ℕ) → 1 ≤ l → is_trigger_of r c ≡ true → starts_one_more x r h c l ≡ nat_lt l x.plan.groups.count
 opens_by_trigger x r h c zero a e = absurd (omega arith)
-opens_by_trigger x r h c (suc k) a e = ap (λ b. nat_lt (suc k) x.plan.groups && ((not (is_paused x r (h ▸ c)) && success_holds x r (suc k) (h ▸ c)) || b)) e ∙ ap (λ b. nat_lt (suc k) x.plan.groups && b) (or_true _) ∙ and_true _
+opens_by_trigger x r h c (suc k) a e = ap (λ b. nat_lt (suc k) x.plan.groups.count && ((not (is_paused x r (h ▸ c)) && success_holds x r (suc k) (h ▸ c)) || b)) e ∙ ap (λ b. nat_lt (suc k) x.plan.groups.count && b) (or_true _) ∙ and_true _
   where
     or_true : (b : Bool) → (b || true) ≡ true
     or_true true = refl
@@ -101,11 +101,11 @@ calm_on x r h c e = record { started = λ i j a w t. absurd (false≢true (sym (
 pub calm_outcome : (h : CommandList) (c : Command) (r j : ℕ) → action_of h c ≡ None → outcome (h ▸ c) r j ≡ outcome h r j
 calm_outcome h c r j e = untouched h c r j (ap (λ p. is_action_place p r j) e)
 
-pub calm_errors : (x : Rollout) (r : ℕ) (h : CommandList) (c : Command) → action_of h c ≡ None → some_up_to (error_begins_at x r h c) x.plan.groups ≡ false
+pub calm_errors : (x : Rollout) (r : ℕ) (h : CommandList) (c : Command) → action_of h c ≡ None → some_up_to (error_begins_at x r h c) x.plan.groups.count ≡ false
 calm_errors x r h c e = no_error_begins x r h c (λ j. calm_outcome h c r j e)
 
 pub calm_success : (x : Rollout) (r l : ℕ) (h : CommandList) (c : Command) → action_of h c ≡ None → success_holds x r l (h ▸ c) ≡ success_holds x r l h
-calm_success x r l h c e = ap (λ n. reaches n (size_in x l) x.plan.success) (tally_same Good x r l h c (λ j w. calm_outcome h c r j e))
+calm_success x r l h c e = ap (λ n. reaches n (size_in x l) (success_at x.plan l)) (tally_same Good x r l h c (λ j w. calm_outcome h c r j e))
 
 view_success : (v : RolloutView) (x : Rollout) (r g l : ℕ) (h : CommandList) → IsView v x r g l h → reaches v.last.ok v.last.size v.last.success ≡ success_holds x r l h
 view_success v x r g l h w = rw (w.last.ok, w.last.size, w.last.success) refl
@@ -116,7 +116,7 @@ resumed x r h = rw (calm_errors x r h (Resume r) refl, eq-eqb r r refl) refl
 pub resume_follows : (v : RolloutView) (e : Effects) → e.pauses ≡ false → e.starts ≡ starts_next v false v.last.ok → FollowsResume v e
 resume_follows v e p s x r g l h pos w =
     let opened : starts_one_more x r h (Resume r) l ≡ (nat_lt v.last.number v.groups && (not false && reaches v.last.ok v.last.size v.last.success)) =
-    opens_by_count x r h (Resume r) l pos refl ∙ sym (tests v.last.number l v.groups x.plan.groups false (is_paused x r (h ▸ Resume r)) _ (success_holds x r l (h ▸ Resume r)) w.last.number w.groups (sym (resumed x r h)) (view_success v x r g l h w ∙ sym (calm_success x r l h (Resume r) refl))) in
+    opens_by_count x r h (Resume r) l pos refl ∙ sym (tests v.last.number l v.groups x.plan.groups.count false (is_paused x r (h ▸ Resume r)) _ (success_holds x r l (h ▸ Resume r)) w.last.number w.groups (sym (resumed x r h)) (view_success v x r g l h w ∙ sym (calm_success x r l h (Resume r) refl))) in
     (resumed x r h ∙ sym p, rw s (moves v x r g l h (Resume r) w (calm_on x r h (Resume r) refl) _ opened))
 
 pub trigger_follows : (v : RolloutView) (e : Effects) → e.pauses ≡ false → e.starts ≡ next_if (nat_lt v.last.number v.groups) v.last.number → FollowsTrigger v e
@@ -128,10 +128,10 @@ trigger_follows v e p s x r g l h pos w =
     below m n k i p q = rw (p, q) refl
 
 -- ---- what the machine owes already is done: where the rollout isn't paused, the last started group has no success, unless it is the last of all
-pub settled : (x : Rollout) (r l : ℕ) (h : CommandList) → 1 ≤ l → HasSoundPlan x → IsLast x r h l → l < x.plan.groups → (not (is_paused x r h) && success_holds x r l h) ≡ false
+pub settled : (x : Rollout) (r l : ℕ) (h : CommandList) → 1 ≤ l → HasSoundPlan x → IsLast x r h l → l < x.plan.groups.count → (not (is_paused x r h) && success_holds x r l h) ≡ false
 settled x r zero h a s w u = absurd (omega arith)
 settled x r (suc k) (Make approval) a s w u = absurd (false≢true (w.up_to 1 (omega arith) (omega arith)))
-settled x r (suc k) (h ▸ c) a s w u = owed (nat_lt (suc k) x.plan.groups) (next_started x r (suc k) (is_group_started x r (suc k)) h) (is_group_started x r (suc k) (h ▸ c)) (not (is_paused x r (h ▸ c)) && success_holds x r (suc k) (h ▸ c)) _
+settled x r (suc k) (h ▸ c) a s w u = owed (nat_lt (suc k) x.plan.groups.count) (next_started x r (suc k) (is_group_started x r (suc k)) h) (is_group_started x r (suc k) (h ▸ c)) (not (is_paused x r (h ▸ c)) && success_holds x r (suc k) (h ▸ c)) _
     (lt-ltb _ _ u) (w.up_to (suc k) (omega arith) (omega arith)) (w.beyond (suc (suc k)) (omega arith))
   where
     owed : (lt nx e calm t : Bool) → lt ≡ true → e ≡ true → (lt && (nx || (e && (calm || t)))) ≡ false → calm ≡ false

@@ -2,7 +2,7 @@
 use Rattle.std.proofs.Common.{◌≡◌, ℕ, zero, suc, ◌+◌, ◌<◌, ◌≤◌, Bool, true, false, cond, ◌||◌, ◌&&◌, not, List, [], ◌∷◌, ◌++◌, refl, sym, ◌∙◌, ap, subst, arith, inl, inr, ◌⊎◌, Option, Some, None, length}
 use Rattle.std.specs.Prelude.{nat_lt, nat_eq, is_none, slice_get}
 use Rattle.std.specs.Option.{unwrap_or, option_map}
-use Rattle.std.proofs.lemmas.Bool.{cases_Bool, ne_eqb, eq-eqb, and_parts, leb-true, eqb-true, false≢true, or_parts, not-false, ltb-false}
+use Rattle.std.proofs.lemmas.Bool.{cases_Bool, ne_eqb, eq-eqb, and_parts, leb-true, eqb-true, false≢true, or_parts, not-false}
 use Rattle.rollout_machine.specs.Actions.{ActionPlace, action_of, is_on_action, is_action_place, action_places, action_place, new_places, places_of, places_from}
 use Rattle.rollout_machine.specs.ByteStrings.{item_numbered}
 use Rattle.rollout_machine.specs.CommandList.{CommandList, Make, ◌▸◌}
@@ -17,7 +17,7 @@ use Rattle.rollout_machine.specs.Rollouts.{Rollout, rollouts, rollout_at, create
 use Rattle.rollout_machine.specs.StateWords.{word_from, rollout_word, is_finished, RolloutWord}
 use Rattle.rollout_machine.specs.Validity.{IsValid}
 use Rattle.rollout_machine.specs.Verdicts.{verdict, verdict_row, is_running, is_at_pause, is_ready, word_is}
-use Rattle.rollout_machine.proofs.Cuts.{even_is_cut}
+use Rattle.rollout_machine.proofs.Groupings.{grouping_is_cut, has_thresholds}
 use Rattle.rollout_machine.proofs.Starts.{starts_one_more}
 use Rattle.rollout_machine.proofs.Tallies.{no_error_begins}
 use Rattle.rollout_machine.proofs.Ties.{IsFollowed, follow_on}
@@ -83,7 +83,7 @@ never_started x r zero h e = refl
 never_started x r (suc zero) h e = e
 never_started x r (suc (suc i)) h e =
     let none : next_started x r (suc i) (is_group_started x r (suc i)) h ≡ false = never_next x r (suc i) (is_group_started x r (suc i)) (λ g d. never_started x r (suc i) g d) h e in
-    rw none (and_false (nat_lt (suc i) x.plan.groups))
+    rw none (and_false (nat_lt (suc i) x.plan.groups.count))
   where
     and_false : (b : Bool) → (b && false) ≡ false
     and_false true = refl
@@ -215,7 +215,7 @@ goes_on h c w a = record {
         record {
           started = rw (u.started, not_started h c r a none) refl;
           decided = rw (u.decided, not_decided h c r a none) refl;
-          paused = λ x. calm_test (is_pause_of r c) (some_up_to (error_begins_at x r h c) x.plan.groups) (is_resume_of r c) (is_paused x r h) (not_paused h c r a none) (no_error_begins x r h c (λ j. (fresh_after h c r w u.started).outcome j ∙ sym ((w.fresh r u.started).outcome j))) (u.paused x);
+          paused = λ x. calm_test (is_pause_of r c) (some_up_to (error_begins_at x r h c) x.plan.groups.count) (is_resume_of r c) (is_paused x r h) (not_paused h c r a none) (no_error_begins x r h c (λ j. (fresh_after h c r w u.started).outcome j ∙ sym ((w.fresh r u.started).outcome j))) (u.paused x);
         }
 
     followed : (r : ℕ) (x : Rollout) → rollout_at (h ▸ c) r ≡ Some x → IsFollowed x r (h ▸ c) (new_last h c r (w.last r) (rollout_at h r))
@@ -288,11 +288,13 @@ sound_in : (h : CommandList) (c : Command) → IsWellFormed c → verdict h c �
 unfolding records
 sound_in h (CreateRollout plan) m e zero x d =
     let row : NoneHolds (verdict_row (records h) (CreateRollout plan)) = none_holds (verdict_row (records h) (CreateRollout plan)) e in
-    let few : plan.groups ≤ length (members_of plan.filter_text h) = ltb-false _ _ row.1.1.1.0 in
-    let parts : _ = and_parts _ _ m in
-    let more : _ = and_parts _ _ parts.1 in
-    let rest : _ = and_parts _ _ more.1 in
-    let made : HasSoundPlan (record { plan = plan; members = members_of plan.filter_text h }) = record { some_groups = leb-true _ _ (and_parts _ _ parts.0).0; cut = even_is_cut _ _ (leb-true _ _ (and_parts _ _ parts.0).0) few; success = leb-true _ _ (and_parts _ _ more.0).0; error = leb-true _ _ (and_parts _ _ rest.0).0 } in
+    let grouping = (and_parts _ _ m).0 in
+    let made : HasSoundPlan (record { plan = plan; members = members_of plan.filter_text h }) = record {
+      some_groups = leb-true _ _ (and_parts _ _ (and_parts _ _ grouping).0).0;
+      cut = grouping_is_cut plan.groups (length (members_of plan.filter_text h)) grouping row.1.1.1.0;
+      success = λ i. (has_thresholds plan i m).success;
+      error = λ i. (has_thresholds plan i m).error;
+    } in
     let options : Some (made_rollout plan (members_of plan.filter_text h)) ≡ Some x = d in
     let same : made_rollout plan (members_of plan.filter_text h) ≡ x = cc in
     subst HasSoundPlan same made

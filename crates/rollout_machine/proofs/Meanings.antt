@@ -43,10 +43,10 @@ some_of p (suc n) e = go (or_split _ _ e) (some_of p n)
 pub pause_begins_to : (x : Rollout) (r : ℕ) (before : CommandList) (c : Command) → pause_begins x r before c ≡ true → PauseBegins x r before c
 pause_begins_to x r before c e = go (or_split _ _ e)
   where
-    go : (is_pause_of r c ≡ true) ⊎ (some_up_to (error_begins_at x r before c) x.plan.groups ≡ true) → PauseBegins x r before c
+    go : (is_pause_of r c ≡ true) ⊎ (some_up_to (error_begins_at x r before c) x.plan.groups.count ≡ true) → PauseBegins x r before c
     go (inl d) = inl (is_pause r c d)
     go (inr d) =
-        let w = some_of (error_begins_at x r before c) x.plan.groups d in
+        let w = some_of (error_begins_at x r before c) x.plan.groups.count d in
         let parts : (error_holds x r w.0 (before ▸ c) ≡ true) × (not (error_holds x r w.0 before) ≡ true) = and_parts _ _ w.3 in
         inr (record { group = w.0; first = w.1; last = w.2; now = parts.0; not_before = not-true _ parts.1 })
 
@@ -82,12 +82,12 @@ next_to x r i earlier (h ▸ c) e = go (or_split _ _ e) (next_to x r i earlier h
         let parts : (earlier (h ▸ c) ≡ true) × (((not (is_paused x r (h ▸ c)) && success_holds x r i (h ▸ c)) || (is_trigger_of r c && (earlier h && not (next_started x r i earlier h)))) ≡ true) = and_parts _ _ d in
         record { at_end = record { before = h; command = c; rest = []; whole = refl }; this_group = parts.0; starts = how (or_split _ _ parts.1) }
 
-pub started_to : (x : Rollout) (r i : ℕ) (h : CommandList) → 1 ≤ i → i < x.plan.groups → is_group_started x r (suc i) h ≡ true → NextIsStarted x r i h
+pub started_to : (x : Rollout) (r i : ℕ) (h : CommandList) → 1 ≤ i → i < x.plan.groups.count → is_group_started x r (suc i) h ≡ true → NextIsStarted x r i h
 started_to x r zero h a b e = absurd (omega (arith, a))
 started_to x r (suc i) h a b e =
-    let parts : (nat_lt (suc i) x.plan.groups ≡ true) × (next_started x r (suc i) (is_group_started x r (suc i)) h ≡ true) = and_parts _ _ e in
+    let parts : (nat_lt (suc i) x.plan.groups.count ≡ true) × (next_started x r (suc i) (is_group_started x r (suc i)) h ≡ true) = and_parts _ _ e in
     let w : SomeNext x r (suc i) (is_group_started x r (suc i)) h = next_to x r (suc i) (is_group_started x r (suc i)) h parts.1 in
-    record { at_end = w.at_end; this_group = w.this_group; starts = elim (w.starts) [ inl d ↦ inl d | inr d ↦ inr (d.0, d.1, closed (nat_lt (suc i) x.plan.groups) _ d.2) ] }
+    record { at_end = w.at_end; this_group = w.this_group; starts = elim (w.starts) [ inl d ↦ inl d | inr d ↦ inr (d.0, d.1, closed (nat_lt (suc i) x.plan.groups.count) _ d.2) ] }
   where
     closed : (a b : Bool) → b ≡ false → (a && b) ≡ false
     closed true b e = e
@@ -225,11 +225,11 @@ next_from x r i earlier h w = subst (λ (k : CommandList). next_started x r i ea
         here (next_started x r i earlier g) (earlier (g ▸ c)) (is_paused x r (g ▸ c)) (success_holds x r i (g ▸ c)) (is_trigger_of r c) (earlier g) (next_started x r i earlier g) w.this_group
         (elim (w.starts) [ inl d ↦ inl d | inr d ↦ inr (triggered w.at_end.command d.0, d.1, d.2) ])
 
-pub started_from : (x : Rollout) (r i : ℕ) (h : CommandList) → 1 ≤ i → i < x.plan.groups → NextIsStarted x r i h → is_group_started x r (suc i) h ≡ true
+pub started_from : (x : Rollout) (r i : ℕ) (h : CommandList) → 1 ≤ i → i < x.plan.groups.count → NextIsStarted x r i h → is_group_started x r (suc i) h ≡ true
 started_from x r zero h a b w = absurd (omega (arith, a))
 started_from x r (suc i) h a b w = rw (there, next_from x r (suc i) (is_group_started x r (suc i)) h (record { at_end = w.at_end; this_group = w.this_group; starts = elim (w.starts) [ inl d ↦ inl d | inr d ↦ inr (d.0, d.1, opened _ _ there d.2) ] })) refl
   where
-    there : nat_lt (suc i) x.plan.groups ≡ true
+    there : nat_lt (suc i) x.plan.groups.count ≡ true
     there = lt-ltb _ _ b
 
     opened : (a b : Bool) → a ≡ true → (a && b) ≡ false → b ≡ false
@@ -458,7 +458,7 @@ pause_begins_from x r before c (inl e) = rw e (first (nat_eq r r) _ (eq-eqb r r 
     first : (a b : Bool) → a ≡ true → (a || b) ≡ true
     first true b e = refl
     first false b e = cc
-pause_begins_from x r before c (inr w) = or_true (is_pause_of r c) (some_up_to (error_begins_at x r before c) x.plan.groups) (some_there (error_begins_at x r before c) x.plan.groups w.group w.first w.last (both _ _ w.now w.not_before))
+pause_begins_from x r before c (inr w) = or_true (is_pause_of r c) (some_up_to (error_begins_at x r before c) x.plan.groups.count) (some_there (error_begins_at x r before c) x.plan.groups.count w.group w.first w.last (both _ _ w.now w.not_before))
   where
     both : (a b : Bool) → a ≡ true → b ≡ false → (a && not b) ≡ true
     both a b e d = rw (e, d) refl

@@ -90,10 +90,10 @@ offerable h t k p v e d =
       is_open = is_open_of (outcome h p.rollout p.position) parts.0;
     }
 
-pub within_groups : (x : Rollout) (r g : ℕ) (h : CommandList) → 1 ≤ x.plan.groups → is_group_started x r g h ≡ true → g ≤ x.plan.groups
+pub within_groups : (x : Rollout) (r g : ℕ) (h : CommandList) → 1 ≤ x.plan.groups.count → is_group_started x r g h ≡ true → g ≤ x.plan.groups.count
 within_groups x r zero h s e = omega arith
 within_groups x r (suc zero) h s e = s
-within_groups x r (suc (suc i)) h s e = let parts : _ = and_parts _ _ e in let less : suc i < x.plan.groups = ltb-true _ _ parts.0 in omega (arith, less)
+within_groups x r (suc (suc i)) h s e = let parts : _ = and_parts _ _ e in let less : suc i < x.plan.groups.count = ltb-true _ _ parts.0 in omega (arith, less)
 
 candidate : (h : CommandList) (t : Bytes) (k : ℕ) (p : ActionPlace) → IsValid h → IsOfferable h t k p → is_candidate (records h) t (action_in h p) ≡ true
 unfolding records

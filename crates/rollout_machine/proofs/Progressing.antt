@@ -69,7 +69,7 @@ pub no_group_is_left : NoGroupIsLeft
 no_group_is_left (Make approval) r i x low high e p s = absurd (false≢true (sym ((last_made x r approval).beyond i (omega (arith, low))) ∙ e))
 no_group_is_left (h ▸ c) r zero x low high e p s = absurd (omega (arith, low))
 no_group_is_left (h ▸ c) r (suc i) x low high e p s =
-    all (nat_lt (suc i) x.plan.groups) (next_started x r (suc i) (is_group_started x r (suc i)) h) (is_group_started x r (suc i) (h ▸ c)) (is_paused x r (h ▸ c)) (success_holds x r (suc i) (h ▸ c))
+    all (nat_lt (suc i) x.plan.groups.count) (next_started x r (suc i) (is_group_started x r (suc i)) h) (is_group_started x r (suc i) (h ▸ c)) (is_paused x r (h ▸ c)) (success_holds x r (suc i) (h ▸ c))
     (is_trigger_of r c && (is_group_started x r (suc i) h && not (next_started x r (suc i) (is_group_started x r (suc i)) h))) (lt-ltb _ _ high) e p s where
       all : (l a e p s t : Bool) → l ≡ true → e ≡ true → p ≡ false → s ≡ true → (l && (a || (e && ((not p && s) || t)))) ≡ true
       all l true e p s t u v w z = rw u refl

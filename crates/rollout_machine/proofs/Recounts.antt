@@ -145,7 +145,7 @@ none_counted Good = refl
 none_counted Bad = refl
 none_counted Gone = refl
 
-pub tally_is : (o : Outcome) (x : Rollout) (r i : ℕ) (h : CommandList) → IsValid h → rollout_at h r ≡ Some x → 1 ≤ i → i ≤ x.plan.groups → count_actions o r (bounds_in x i) (map (action_in h) (action_places h)) ≡ tally o x r i h
+pub tally_is : (o : Outcome) (x : Rollout) (r i : ℕ) (h : CommandList) → IsValid h → rollout_at h r ≡ Some x → 1 ≤ i → i ≤ x.plan.groups.count → count_actions o r (bounds_in x i) (map (action_in h) (action_places h)) ≡ tally o x r i h
 tally_is o x r i h v d a u = over_places o r (bounds_in x i) h (action_places h) ∙ placed_count (is_counted o r (bounds_in x i) h) r (size_of x) only h v same_size ∙ go (is_rollout_started r h) refl where
   only : OnlyOf r (is_counted o r (bounds_in x i) h)
   only q j ne = rw (ne_eqb q r ne) refl
@@ -163,7 +163,7 @@ tally_is o x r i h v d a u = over_places o r (bounds_in x i) h (action_places h)
       ∙ count_same (λ j. is_counted o r (bounds_in x i) h (record { rollout = r; position = j })) (λ j. holds_position j (bounds_in x i) && is_outcome o (outcome h r j)) 1 (size_of x) (λ j l w. rw (eq-eqb r r refl) refl)
       ∙ parts
     where
-      cut : IsCut (last_of x) (size_of x) x.plan.groups
+      cut : IsCut (last_of x) (size_of x) x.plan.groups.count
       cut = sound.sound.cut
 
       split : (k l m : ℕ) → k ≤ l → l ≤ m → (s t : ℕ) × (l ≡ k + s) × (m ≡ k + s + t) × (s ≡ (l + 1) - (k + 1))
@@ -171,7 +171,7 @@ tally_is o x r i h v d a u = over_places o r (bounds_in x i) h (action_places h)
 
       parts : count_from (λ j. holds_position j (bounds_in x i) && is_outcome o (outcome h r j)) 1 (size_of x) ≡ tally o x r i h
       parts =
-          let (s, t, es, et, size) = split (last_of x (i - 1)) (last_of x i) (size_of x) (cut.rises (i - 1) i (omega arith)) (subst (λ m. last_of x i ≤ m) cut.whole (cut.rises i x.plan.groups u)) in
+          let (s, t, es, et, size) = split (last_of x (i - 1)) (last_of x i) (size_of x) (cut.rises (i - 1) i (omega arith)) (subst (λ m. last_of x i ≤ m) cut.whole (cut.rises i x.plan.groups.count u)) in
           ap (count_from (λ j. holds_position j (bounds_in x i) && is_outcome o (outcome h r j)) 1) et
           ∙ between (λ j. is_outcome o (outcome h r j)) (bounds_in x i) (last_of x (i - 1)) s t (omega arith) es
           ∙ ap (count_from (λ j. is_outcome o (outcome h r j)) (bounds_in x i).first) size
@@ -182,13 +182,13 @@ map_both : {X Y Z : Type 0} (f : Y → Z) (g : X → Y) (xs : List X) → map f 
 map_both f g [] = refl
 map_both f g (x ∷ xs) = ap (λ ys. f (g x) ∷ ys) (map_both f g xs)
 
-group_again : (x : Rollout) (r i : ℕ) (h : CommandList) → IsValid h → rollout_at h r ≡ Some x → 1 ≤ i → i ≤ x.plan.groups → group_in x r h i ≡ counted_group (map (action_in h) (action_places h)) r (stored_group (group_in x r h i))
+group_again : (x : Rollout) (r i : ℕ) (h : CommandList) → IsValid h → rollout_at h r ≡ Some x → 1 ≤ i → i ≤ x.plan.groups.count → group_in x r h i ≡ counted_group (map (action_in h) (action_places h)) r (stored_group (group_in x r h i))
 group_again x r i h v d a u = rw (tally_is Good x r i h v d a u, tally_is Bad x r i h v d a u, tally_is Gone x r i h v d a u) refl
 
 rollout_again : (x : Rollout) (r : ℕ) (h : CommandList) → IsValid h → rollout_at h r ≡ Some x → counted_rollout (map (action_in h) (action_places h)) (stored_rollout (rollout_in h r x)) ≡ rollout_in h r x
 rollout_again x r h v d =
-    let groups : each_from (group_in x r h) 1 x.plan.groups ≡ map (λ (g : GroupRecord). counted_group (map (action_in h) (action_places h)) r (stored_group g)) (each_from (group_in x r h) 1 x.plan.groups) = groups_go (λ (g : GroupRecord). counted_group (map (action_in h) (action_places h)) r (stored_group g)) x r h h (λ i a u. group_again x r i h v d a u) in
-    let again : map (counted_group (map (action_in h) (action_places h)) r) (map stored_group (each_from (group_in x r h) 1 x.plan.groups)) ≡ each_from (group_in x r h) 1 x.plan.groups = map_both (counted_group (map (action_in h) (action_places h)) r) stored_group (each_from (group_in x r h) 1 x.plan.groups) ∙ sym groups in
+    let groups : each_from (group_in x r h) 1 x.plan.groups.count ≡ map (λ (g : GroupRecord). counted_group (map (action_in h) (action_places h)) r (stored_group g)) (each_from (group_in x r h) 1 x.plan.groups.count) = groups_go (λ (g : GroupRecord). counted_group (map (action_in h) (action_places h)) r (stored_group g)) x r h h (λ i a u. group_again x r i h v d a u) in
+    let again : map (counted_group (map (action_in h) (action_places h)) r) (map stored_group (each_from (group_in x r h) 1 x.plan.groups.count)) ≡ each_from (group_in x r h) 1 x.plan.groups.count = map_both (counted_group (map (action_in h) (action_places h)) r) stored_group (each_from (group_in x r h) 1 x.plan.groups.count) ∙ sym groups in
     ap (λ gs. record (rollout_in h r x) { groups = gs }) again
 
 rollouts_again : (h : CommandList) (actions : List ActionRecord) (a : ℕ) (xs : List Rollout) → AllNumbered (λ r x. counted_rollout actions (stored_rollout (rollout_in h r x)) ≡ rollout_in h r x) a xs → map (counted_rollout actions) (map stored_rollout (rollouts_in h a xs)) ≡ rollouts_in h a xs

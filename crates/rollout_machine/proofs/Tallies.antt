@@ -10,7 +10,7 @@ use Rattle.rollout_machine.specs.Counts.{tally, reaches, success_holds, is_outco
 use Rattle.rollout_machine.specs.Effects.{IsInGroup, HasSoundPlan, StartedOnly, OutcomesStarted, GetsOutcome}
 use Rattle.rollout_machine.specs.Progress.{is_group_started, is_paused, error_begins_at, is_pause_of, is_resume_of, is_trigger_of, is_start_of}
 use Rattle.rollout_machine.specs.Ranges.{some_up_to}
-use Rattle.rollout_machine.specs.Rollouts.{Rollout, first_of, size_in}
+use Rattle.rollout_machine.specs.Rollouts.{Rollout, success_at, error_at, first_of, size_in}
 use Rattle.rollout_machine.proofs.Counts.{count_same, count_none, count_one, none_up_to, one_up_to}
 use Rattle.rollout_machine.proofs.Cuts.{one_group, size_positive}
 use Rattle.rollout_machine.proofs.Starts.{kept_started}
@@ -36,10 +36,10 @@ still_open x r h c s o i j a w e = elim (cases_Bool (is_on_action h c r j)) [
 ]
 
 -- so it has no success at it
-pub no_success : (x : Rollout) (r : ℕ) (h : CommandList) (c : Command) → HasSoundPlan x → StartedOnly x r h c → OutcomesStarted x r h → (i : ℕ) → 1 ≤ i → is_group_started x r i h ≡ false → i ≤ x.plan.groups → success_holds x r i (h ▸ c) ≡ false
+pub no_success : (x : Rollout) (r : ℕ) (h : CommandList) (c : Command) → HasSoundPlan x → StartedOnly x r h c → OutcomesStarted x r h → (i : ℕ) → 1 ≤ i → is_group_started x r i h ≡ false → i ≤ x.plan.groups.count → success_holds x r i (h ▸ c) ≡ false
 no_success x r h c w s o i a e b =
     let none : tally Good x r i (h ▸ c) ≡ 0 = count_none _ _ _ (λ j l u. ap (is_outcome Good) (still_open x r h c s o i j a (record { low = l; high = u }) e)) in
-    rw none (few x.plan.success (size_in x i) w.success (size_positive x i w a b))
+    rw none (few (success_at x.plan i) (size_in x i) (w.success i) (size_positive x i w a b))
   where
     few : (s n : ℕ) → 1 ≤ s → 1 ≤ n → nat_le (s * n) (100 * 0) ≡ false
     few zero n a b = absurd (omega arith)
@@ -112,8 +112,8 @@ quiet h _ p r e = cc
 pub paused_after_outcome : (x : Rollout) (r g j : ℕ) (h : CommandList) (c : Command) (o : Outcome) → HasSoundPlan x → GetsOutcome x r g j h c o → is_paused x r (h ▸ c) ≡ (error_begins_at x r h c g || is_paused x r h)
 paused_after_outcome x r g j h c o s w =
     let calm : (is_pause_of r c ≡ false) × (is_resume_of r c ≡ false) × (is_trigger_of r c ≡ false) × (is_start_of r c ≡ false) = quiet h c _ r w.on in
-    let errors : some_up_to (error_begins_at x r h c) x.plan.groups ≡ error_begins_at x r h c g =
-    one_up_to (error_begins_at x r h c) x.plan.groups g w.first w.last (λ i a u ne. never_begins _ _ (ap (λ n. reaches n (size_in x i) x.plan.error) (tally_elsewhere Bad x r g j h c o s w i a ne))) in
+    let errors : some_up_to (error_begins_at x r h c) x.plan.groups.count ≡ error_begins_at x r h c g =
+    one_up_to (error_begins_at x r h c) x.plan.groups.count g w.first w.last (λ i a u ne. never_begins _ _ (ap (λ n. reaches n (size_in x i) (error_at x.plan i)) (tally_elsewhere Bad x r g j h c o s w i a ne))) in
     joined _ _ _ _ _ calm.0 errors calm.1
   where
     joined : (p s e q b : Bool) → p ≡ false → s ≡ e → q ≡ false → ((p || s) || (not q && b)) ≡ (e || b)
@@ -125,5 +125,5 @@ paused_after_outcome x r g j h c o s w =
     joined false _ _ true b p s q = cc
 
 -- where no outcome changes, no error begins
-pub no_error_begins : (x : Rollout) (r : ℕ) (h : CommandList) (c : Command) → ((j : ℕ) → outcome (h ▸ c) r j ≡ outcome h r j) → some_up_to (error_begins_at x r h c) x.plan.groups ≡ false
-no_error_begins x r h c e = none_up_to (error_begins_at x r h c) x.plan.groups (λ i a u. never_begins _ _ (ap (λ n. reaches n (size_in x i) x.plan.error) (tally_same Bad x r i h c (λ j v. e j))))
+pub no_error_begins : (x : Rollout) (r : ℕ) (h : CommandList) (c : Command) → ((j : ℕ) → outcome (h ▸ c) r j ≡ outcome h r j) → some_up_to (error_begins_at x r h c) x.plan.groups.count ≡ false
+no_error_begins x r h c e = none_up_to (error_begins_at x r h c) x.plan.groups.count (λ i a u. never_begins _ _ (ap (λ n. reaches n (size_in x i) (error_at x.plan i)) (tally_same Bad x r i h c (λ j v. e j))))

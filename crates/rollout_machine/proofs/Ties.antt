@@ -12,7 +12,7 @@ use Rattle.rollout_machine.specs.Progress.{is_group_started, is_paused, is_pause
 use Rattle.rollout_machine.specs.Ranges.{each_from}
 use Rattle.rollout_machine.specs.RecordSteps.{is_item_number, start_group, counted, last_started, group_view, view_from_group, view_of, rollout_after, resumed, triggered, begin_rollout}
 use Rattle.rollout_machine.specs.Records.{Approval, Given, GroupRecord, RolloutRecord, group_in, rollout_in, approval_of, approval_by, decided, decision_on, needs_approval}
-use Rattle.rollout_machine.specs.Rollouts.{Rollout, first_of, last_of, size_in, bounds_in}
+use Rattle.rollout_machine.specs.Rollouts.{Rollout, success_at, first_of, last_of, size_in, bounds_in}
 use Rattle.rollout_machine.specs.StateWords.{group_holding, group_numbered}
 use Rattle.rollout_machine.specs.declared.bounds.Bounds.{Bounds}
 use Rattle.std.specs.Prelude.{nat_le}
@@ -37,8 +37,8 @@ map_each k f a zero = refl
 map_each k f a (suc n) = ap (λ xs. k (f a) ∷ xs) (map_each k f (suc a) n)
 
 -- each group's record goes over to the one after the command
-pub groups_go : (k : GroupRecord → GroupRecord) (x : Rollout) (r : ℕ) (h h' : CommandList) → ((i : ℕ) → 1 ≤ i → i ≤ x.plan.groups → group_in x r h' i ≡ k (group_in x r h i)) → each_from (group_in x r h') 1 x.plan.groups ≡ map k (each_from (group_in x r h) 1 x.plan.groups)
-groups_go k x r h h' e = same_each (group_in x r h') (λ i. k (group_in x r h i)) 1 x.plan.groups (λ i l u. e i l (omega arith)) ∙ sym (map_each k (group_in x r h) 1 x.plan.groups)
+pub groups_go : (k : GroupRecord → GroupRecord) (x : Rollout) (r : ℕ) (h h' : CommandList) → ((i : ℕ) → 1 ≤ i → i ≤ x.plan.groups.count → group_in x r h' i ≡ k (group_in x r h i)) → each_from (group_in x r h') 1 x.plan.groups.count ≡ map k (each_from (group_in x r h) 1 x.plan.groups.count)
+groups_go k x r h h' e = same_each (group_in x r h') (λ i. k (group_in x r h i)) 1 x.plan.groups.count (λ i l u. e i l (omega arith)) ∙ sym (map_each k (group_in x r h) 1 x.plan.groups.count)
 
 pub find_group : (x : Rollout) (r : ℕ) (h : CommandList) (a n i : ℕ) → a ≤ i → i < a + n → group_numbered i (each_from (group_in x r h) a n) ≡ Some (group_in x r h i)
 find_group x r h a zero i l u = absurd (omega arith)
@@ -67,8 +67,8 @@ holding_from x r h a (suc n) g j s l u w = elim (cases_eq a g) [
     and_false false = refl
 
 -- the group that holds a position is found by its bounds
-pub find_holding : (x : Rollout) (r : ℕ) (h : CommandList) (g j : ℕ) → HasSoundPlan x → IsOwnGroup x g j → group_holding j (each_from (group_in x r h) 1 x.plan.groups) ≡ Some (group_in x r h g)
-find_holding x r h g j s w = holding_from x r h 1 x.plan.groups g j s w.first (omega (arith, w.last)) w.within
+pub find_holding : (x : Rollout) (r : ℕ) (h : CommandList) (g j : ℕ) → HasSoundPlan x → IsOwnGroup x g j → group_holding j (each_from (group_in x r h) 1 x.plan.groups.count) ≡ Some (group_in x r h g)
+find_holding x r h g j s w = holding_from x r h 1 x.plan.groups.count g j s w.first (omega (arith, w.last)) w.within
 
 none_last : (x : Rollout) (r l : ℕ) (h : CommandList) → IsLast x r h l → (a n : ℕ) → l < a → last_started (each_from (group_in x r h) a n) ≡ 0
 none_last x r l h w a zero u = refl
@@ -85,10 +85,10 @@ some_last x r l h w a (suc n) p q u = elim (cases_eq a l) [
 ]
 
 -- the record's last started group is the history's
-pub last_is : (x : Rollout) (r l : ℕ) (h : CommandList) → IsLast x r h l → last_started (each_from (group_in x r h) 1 x.plan.groups) ≡ l
+pub last_is : (x : Rollout) (r l : ℕ) (h : CommandList) → IsLast x r h l → last_started (each_from (group_in x r h) 1 x.plan.groups.count) ≡ l
 last_is x r l h w = elim (cases_eq l 0) [
-  | inl none ↦ none_last x r l h w 1 x.plan.groups (omega arith) ∙ sym none
-  | inr some ↦ some_last x r l h w 1 x.plan.groups (omega arith) (omega arith) (omega (arith, w.within))
+  | inl none ↦ none_last x r l h w 1 x.plan.groups.count (omega arith) ∙ sym none
+  | inr some ↦ some_last x r l h w 1 x.plan.groups.count (omega arith) (omega arith) (omega (arith, w.within))
 ]
 
 -- ---- views
@@ -99,13 +99,13 @@ pub record IsFollowed (x : Rollout) (r : ℕ) (h : CommandList) (l : ℕ) : Type
   pub is_last : IsLast x r h l
   pub outcomes : OutcomesStarted x r h
 
-group_views : (x : Rollout) (r i : ℕ) (h : CommandList) → 1 ≤ i → i ≤ x.plan.groups → IsGroupView (group_view (rollout_in h r x) i) x r i h
-group_views x r i h a b = go (group_numbered i (each_from (group_in x r h) 1 x.plan.groups)) (find_group x r h 1 x.plan.groups i a (omega arith))
+group_views : (x : Rollout) (r i : ℕ) (h : CommandList) → 1 ≤ i → i ≤ x.plan.groups.count → IsGroupView (group_view (rollout_in h r x) i) x r i h
+group_views x r i h a b = go (group_numbered i (each_from (group_in x r h) 1 x.plan.groups.count)) (find_group x r h 1 x.plan.groups.count i a (omega arith))
   where
     go : (o : Option GroupRecord) → o ≡ Some (group_in x r h i) → IsGroupView (view_from_group x.plan i o) x r i h
     go o e = rw e (record { number = refl; size = refl; ok = refl; bad = refl; success = refl; error = refl })
 
-pub views : (x : Rollout) (r g l : ℕ) (h : CommandList) → IsFollowed x r h l → 1 ≤ l → 1 ≤ g → g ≤ x.plan.groups → IsView (view_of (rollout_in h r x) g) x r g l h
+pub views : (x : Rollout) (r g l : ℕ) (h : CommandList) → IsFollowed x r h l → 1 ≤ l → 1 ≤ g → g ≤ x.plan.groups.count → IsView (view_of (rollout_in h r x) g) x r g l h
 views x r g l h w pos a b = record {
   sound = w.sound;
   paused = refl;
@@ -181,10 +181,10 @@ calm_tally q x r i h c w = tally_same q x r i h c (λ j v. w.outcomes j)
 
 calm_opens : (x : Rollout) (r l : ℕ) (h : CommandList) (c : Command) → IsFollowed x r h l → IsCalm r h c → starts_one_more x r h c l ≡ false
 calm_opens x r zero h c f w = w.starts
-calm_opens x r (suc k) h c f w = elim (cases_Bool (nat_lt (suc k) x.plan.groups)) [
+calm_opens x r (suc k) h c f w = elim (cases_Bool (nat_lt (suc k) x.plan.groups.count)) [
   | inr above ↦ rw above refl
   | inl below ↦ (let owed : (not (is_paused x r h) && success_holds x r (suc k) h) ≡ false = settled x r (suc k) h (omega arith) f.sound f.is_last (ltb-true _ _ below) in
-      let same : success_holds x r (suc k) (h ▸ c) ≡ success_holds x r (suc k) h = ap (λ n. reaches n (size_in x (suc k)) x.plan.success) (calm_tally Good x r (suc k) h c w) in
+      let same : success_holds x r (suc k) (h ▸ c) ≡ success_holds x r (suc k) h = ap (λ n. reaches n (size_in x (suc k)) (success_at x.plan (suc k))) (calm_tally Good x r (suc k) h c w) in
       quiet_test _ _ _ _ _ _ (calm_paused x r h c w) same owed w.triggers)
 ]
   where
@@ -205,7 +205,7 @@ calm_last x r l h c f s w = let moved : IsLast x r (h ▸ c) (cond (starts_one_m
 pub calm_rollout : (x : Rollout) (r l : ℕ) (h : CommandList) (c : Command) (a : Approval) → IsFollowed x r h l → StartedOnly x r h c → IsCalm r h c → approval_of r (h ▸ c) ≡ a → rollout_in (h ▸ c) r x ≡ record (rollout_in h r x) { approval = a }
 calm_rollout x r l h c a f s w e =
     same_parts r x _ _ _ _ _ _ _ _ e (rw w.starts (or_false (is_rollout_started r h))) (calm_paused x r h c w)
-    (same_each (group_in x r (h ▸ c)) (group_in x r h) 1 x.plan.groups (λ i b u.
+    (same_each (group_in x r (h ▸ c)) (group_in x r h) 1 x.plan.groups.count (λ i b u.
     same_group i (bounds_in x i) _ _ _ _ _ _ _ _ (same_started x r l h (h ▸ c) f.is_last (calm_last x r l h c f s w) i b)
     (calm_tally Good x r i h c w) (calm_tally Bad x r i h c w) (calm_tally Gone x r i h c w)))
 
@@ -241,7 +241,7 @@ outcome_rollout o x r g j l h c f s pos w =
     same_parts r x _ _ _ _ _ _ _ _ (same_approval r h c (undecided w.on)) (rw calm.3 (or_false (is_rollout_started r h))) after.0
     (groups_go (λ q. start_group e.starts (counted o g q)) x r h (h ▸ c) (λ i a u.
     counted_at o x r g j i h c e.starts f.sound w a (started_by x r l v.last.number h (h ▸ c) _ (view.last.number) f.is_last after.1 i a))
-    ∙ sym (twice (counted o g) (start_group e.starts) (each_from (group_in x r h) 1 x.plan.groups)))
+    ∙ sym (twice (counted o g) (start_group e.starts) (each_from (group_in x r h) 1 x.plan.groups.count)))
   where
     undecided : {p : ActionPlace} → action_of h c ≡ Some p → decision_on r c ≡ None
     undecided e = silent h c _ r e
@@ -255,8 +255,8 @@ same_counts x r i h c n t e =
 
 pub resume_rollout : (x : Rollout) (r l : ℕ) (h : CommandList) → IsFollowed x r h l → 1 ≤ l → rollout_in (h ▸ Resume r) r x ≡ resumed (rollout_in h r x)
 resume_rollout x r l h f pos =
-    let last : last_started (each_from (group_in x r h) 1 x.plan.groups) ≡ l = last_is x r l h f.is_last in
-    let v = view_of (rollout_in h r x) (last_started (each_from (group_in x r h) 1 x.plan.groups)) in
+    let last : last_started (each_from (group_in x r h) 1 x.plan.groups.count) ≡ l = last_is x r l h f.is_last in
+    let v = view_of (rollout_in h r x) (last_started (each_from (group_in x r h) 1 x.plan.groups.count)) in
     let P : ℕ → Type 0 = λ n. IsView (view_of (rollout_in h r x) n) x r l l h in
     let view : IsView v x r l l h = subst P (sym last) (views x r l l h f pos pos f.is_last.within) in
     let e : Effects = record { pauses = false; starts = starts_next v false v.last.ok } in
@@ -267,16 +267,16 @@ resume_rollout x r l h f pos =
 
 pub trigger_rollout : (x : Rollout) (r l : ℕ) (h : CommandList) → IsFollowed x r h l → 1 ≤ l → rollout_in (h ▸ TriggerNext r) r x ≡ triggered (rollout_in h r x)
 trigger_rollout x r l h f pos =
-    let last : last_started (each_from (group_in x r h) 1 x.plan.groups) ≡ l = last_is x r l h f.is_last in
+    let last : last_started (each_from (group_in x r h) 1 x.plan.groups.count) ≡ l = last_is x r l h f.is_last in
     let v = view_of (rollout_in h r x) l in
     let view : IsView v x r l l h = views x r l l h f pos pos f.is_last.within in
     let e : Effects = record { pauses = false; starts = next_if (nat_lt v.last.number v.groups) v.last.number } in
     let after : (is_paused x r (h ▸ TriggerNext r) ≡ (e.pauses || is_paused x r h)) × IsLast x r (h ▸ TriggerNext r) (last_with e.starts l) = trigger_follows v e refl refl x r l l h pos view in
-    let number : v.last.number ≡ last_started (each_from (group_in x r h) 1 x.plan.groups) = view.last.number ∙ sym last in
+    let number : v.last.number ≡ last_started (each_from (group_in x r h) 1 x.plan.groups.count) = view.last.number ∙ sym last in
     same_parts r x _ _ _ _ _ _ _ _ (same_approval r h (TriggerNext r) refl) (or_false (is_rollout_started r h)) after.0
     (groups_go (start_group e.starts) x r h (h ▸ TriggerNext r) (λ i a u.
     same_counts x r i h (TriggerNext r) e.starts refl (started_by x r l v.last.number h (h ▸ TriggerNext r) _ view.last.number f.is_last after.1 i a))
-    ∙ ap (λ n. map (start_group (next_if (nat_lt n x.plan.groups) n)) (each_from (group_in x r h) 1 x.plan.groups)) number)
+    ∙ ap (λ n. map (start_group (next_if (nat_lt n x.plan.groups.count) n)) (each_from (group_in x r h) 1 x.plan.groups.count)) number)
 
 paused_last : (x : Rollout) (r l : ℕ) (h : CommandList) → IsFollowed x r h l → is_paused x r (h ▸ Pause r) ≡ true → IsLast x r (h ▸ Pause r) l
 paused_last x r l h f e = by_test (starts_one_more x r h (Pause r) l) (shut l) (last_goes x r l h (Pause r) f (calm_on x r h (Pause r) refl))
@@ -292,14 +292,14 @@ paused_last x r l h f e = by_test (starts_one_more x r h (Pause r) l) (shut l) (
 
     shut : (k : ℕ) → starts_one_more x r h (Pause r) k ≡ false
     shut zero = refl
-    shut (suc k) = none (nat_lt (suc k) x.plan.groups) (is_paused x r (h ▸ Pause r)) (success_holds x r (suc k) (h ▸ Pause r)) e
+    shut (suc k) = none (nat_lt (suc k) x.plan.groups.count) (is_paused x r (h ▸ Pause r)) (success_holds x r (suc k) (h ▸ Pause r)) e
 
 pub pause_rollout : (x : Rollout) (r l : ℕ) (h : CommandList) → IsFollowed x r h l → rollout_in (h ▸ Pause r) r x ≡ record (rollout_in h r x) { paused = true }
 pause_rollout x r l h f =
     let now : is_paused x r (h ▸ Pause r) ≡ true = rw (eq-eqb r r refl) refl in
     let count : (q : Outcome) (i : ℕ) → tally q x r i (h ▸ Pause r) ≡ tally q x r i h = λ q i. tally_same q x r i h (Pause r) (λ j v. calm_outcome h (Pause r) r j refl) in
     same_parts r x _ _ _ _ _ _ _ _ (same_approval r h (Pause r) refl) (or_false (is_rollout_started r h)) now
-    (same_each (group_in x r (h ▸ Pause r)) (group_in x r h) 1 x.plan.groups (λ i b u.
+    (same_each (group_in x r (h ▸ Pause r)) (group_in x r h) 1 x.plan.groups.count (λ i b u.
     same_group i (bounds_in x i) _ _ _ _ _ _ _ _ (same_started x r l h (h ▸ Pause r) f.is_last (paused_last x r l h f now) i b) (count Good i) (count Bad i) (count Gone i)))
 
 pub start_rollout : (x : Rollout) (r : ℕ) (h : CommandList) → IsFollowed x r h 0 → rollout_in (h ▸ Start r) r x ≡ begin_rollout (rollout_in h r x)

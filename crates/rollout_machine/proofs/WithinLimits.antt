@@ -85,13 +85,13 @@ chosen_few (Some f) ts =
 
 record IsSmall (x : Rollout) : Type 0 where
   members : size_of x ≤ 10000
-  groups : x.plan.groups ≤ 50
+  groups : x.plan.groups.count ≤ 50
 
 abbrev made : RolloutPlan → List Bytes → Rollout
 made plan members = record { plan = plan; members = members }
 
-few_groups : (plan : RolloutPlan) → is_plan plan ≡ true → plan.groups ≤ 50
-few_groups plan formed = leb-true _ _ (and_parts _ _ (and_parts _ _ formed).0).1
+few_groups : (plan : RolloutPlan) → is_plan plan ≡ true → plan.groups.count ≤ 50
+few_groups plan formed = leb-true _ _ (and_parts _ _ (and_parts _ _ (and_parts _ _ formed).0).0).1
 
 new_is_small : (h : CommandList) (c : Command) → IsWellFormed c → length (targets h) ≤ 10000 → (i : ℕ) (x : Rollout) → slice_get (created h c) i ≡ Some x → IsSmall x
 new_is_small h (CreateRollout plan) formed few zero x e =
@@ -121,8 +121,8 @@ count_few p first (suc n) = go (p (first + n)) (count_few p first n)
     go false few = omega arith
 
 -- a group has no more members than its rollout
-size_few : (x : Rollout) (i : ℕ) → HasSoundPlan x → 1 ≤ i → i ≤ x.plan.groups → size_in x i ≤ size_of x
-size_few x i sound low high = omega (arith, sound.cut.rises i x.plan.groups high, sound.cut.whole)
+size_few : (x : Rollout) (i : ℕ) → HasSoundPlan x → 1 ≤ i → i ≤ x.plan.groups.count → size_in x i ≤ size_of x
+size_few x i sound low high = omega (arith, sound.cut.rises i x.plan.groups.count high, sound.cut.whole)
 
 -- so a rollout has as many members as groups
 as_many : (last : ℕ → ℕ) (m n : ℕ) → IsCut last m n → (i : ℕ) → i ≤ n → i ≤ last i
@@ -132,7 +132,7 @@ as_many last m n cut (suc i) low =
     let more : last i + 1 ≤ last (suc i) = subst (λ k. last i + 1 ≤ last k) behind (cut.grows i (omega (arith, low))) in
     omega (arith, as_many last m n cut i (omega (arith, low)), more)
 
-group_counts : (h : CommandList) (r : ℕ) (x : Rollout) (i : ℕ) → HasSoundPlan x → 1 ≤ i → i ≤ x.plan.groups → CountsNoMore (size_of x) (group_in x r h i)
+group_counts : (h : CommandList) (r : ℕ) (x : Rollout) (i : ℕ) → HasSoundPlan x → 1 ≤ i → i ≤ x.plan.groups.count → CountsNoMore (size_of x) (group_in x r h i)
 group_counts h r x i sound low high =
     let size = size_few x i sound low high in
     record {
@@ -149,7 +149,7 @@ rollout_is_within h valid r x there =
       members = small.members;
       some_groups = sound.some_groups;
       groups = small.groups;
-      enough = omega (arith, as_many (last_of x) (size_of x) x.plan.groups sound.cut x.plan.groups (omega arith), sound.cut.whole);
+      enough = omega (arith, as_many (last_of x) (size_of x) x.plan.groups.count sound.cut x.plan.groups.count (omega arith), sound.cut.whole);
       counts = λ i g e. let of = of_group h r x i g e in subst (CountsNoMore (size_of x)) (sym of.is) (group_counts h r x i sound of.low of.high);
     }
 

@@ -1,5 +1,6 @@
 -- The rules that the parts of a command keep: those of the words and numbers, ranges, and the limits of lists.
-use Rattle.rollout_model.specs.Rules.{are_details, is_group_count, is_percentage, is_word, is_filename, is_text, is_value, is_byte, is_digest}
+use Rattle.rollout_model.specs.Groupings.{is_grouping}
+use Rattle.rollout_model.specs.Rules.{are_details, is_percentage, is_word, is_filename, is_text, is_value, is_byte, is_digest}
 use Rattle.rollout_model.specs.Rules.{is_module_list, is_number, is_tag_list}
 use Rattle.rollout_machine.specs.Commands.{AddArtifact, Cancel, CancelFeedback, RolloutPlan, Start, Command, Attribute, Pause, CreateRollout}
 use Rattle.rollout_machine.specs.Commands.{SetLabel, PutTargets, Untag, Deny, Approve, AddModule, Feedback, PutAttributes, Tag, Resume, TriggerNext}
@@ -33,7 +34,7 @@ is_set_label s = is_text s.name && (is_text s.version && is_module_list s.module
 
 -- the filter is any text: the verdict looks at it
 abbrev pub is_plan : RolloutPlan → Bool
-is_plan plan = is_group_count plan.groups && (is_percentage plan.success
+is_plan plan = is_grouping plan.groups && (is_percentage plan.success
     && (is_percentage plan.error && (is_text plan.name && (is_number plan.set_number && is_utf8 plan.filter_text))))
 
 -- ---- commands. An import has any number of rows and may name a target twice

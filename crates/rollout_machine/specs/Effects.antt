@@ -14,7 +14,7 @@ use Rattle.rollout_machine.specs.declared.view.Effects.{Effects}
 
 -- l is the last started group, 0 before the start
 pub record IsLast (x : Rollout) (r : ℕ) (h : CommandList) (l : ℕ) : Type 0 where
-  pub within : l ≤ x.plan.groups
+  pub within : l ≤ x.plan.groups.count
   pub up_to : (i : ℕ) → 1 ≤ i → i ≤ l → is_group_started x r i h ≡ true
   pub beyond : (i : ℕ) → l < i → is_group_started x r i h ≡ false
 
@@ -23,12 +23,12 @@ pub record IsInGroup (x : Rollout) (i j : ℕ) : Type 0 where
   pub low : first_of x i ≤ j
   pub high : j < first_of x i + size_in x i
 
--- the rollout was accepted with these numbers
+-- the rollout was accepted with these numbers: its groups are a cut of its members, and the thresholds of each are at least 1
 pub record HasSoundPlan (x : Rollout) : Type 0 where
-  pub some_groups : 1 ≤ x.plan.groups
-  pub cut : IsCut (last_of x) (size_of x) x.plan.groups
-  pub success : 1 ≤ x.plan.success
-  pub error : 1 ≤ x.plan.error
+  pub some_groups : 1 ≤ x.plan.groups.count
+  pub cut : IsCut (last_of x) (size_of x) x.plan.groups.count
+  pub success : (i : ℕ) → 1 ≤ success_at x.plan i
+  pub error : (i : ℕ) → 1 ≤ error_at x.plan i
 
 -- a command is only on actions of started groups
 pub record StartedOnly (x : Rollout) (r : ℕ) (h : CommandList) (c : Command) : Type 0 where
@@ -43,7 +43,7 @@ pub record GetsOutcome (x : Rollout) (r g j : ℕ) (h : CommandList) (c : Comman
   pub on : action_of h c ≡ Some (record { rollout = r; position = j })
   pub within : IsInGroup x g j
   pub first : 1 ≤ g
-  pub last : g ≤ x.plan.groups
+  pub last : g ≤ x.plan.groups.count
   pub was : outcome h r j ≡ None
   pub now : outcome (h ▸ c) r j ≡ Some o
 
@@ -60,7 +60,7 @@ pub record IsGroupView (v : GroupView) (x : Rollout) (r i : ℕ) (h : CommandLis
 pub record IsView (v : RolloutView) (x : Rollout) (r g l : ℕ) (h : CommandList) : Type 0 where
   pub sound : HasSoundPlan x
   pub paused : v.paused ≡ is_paused x r h
-  pub groups : v.groups ≡ x.plan.groups
+  pub groups : v.groups ≡ x.plan.groups.count
   pub own : IsGroupView v.own x r g h
   pub last : IsGroupView v.last x r l h
   pub is_last : IsLast x r h l

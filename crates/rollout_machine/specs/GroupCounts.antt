@@ -20,7 +20,7 @@ pub record IsCountedGroup (rs : Records) (r : ℕ) (x : RolloutRecord) (i : ℕ)
 -- the rollout is number r, and has as many groups as its plan says
 pub record HasCountedGroups (rs : Records) (r : ℕ) (x : RolloutRecord) : Type 0 where
   pub number : x.number ≡ r
-  pub as_many : length x.groups ≡ x.plan.groups
+  pub as_many : length x.groups ≡ x.plan.groups.count
   pub each : (i : ℕ) (g : GroupRecord) → item_numbered x.groups i ≡ Some g → IsCountedGroup rs r x i g
 
 abbrev pub GroupsAreCounted : Type 0

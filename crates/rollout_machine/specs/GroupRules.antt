@@ -1,25 +1,14 @@
--- What a plan says of each of its groups.
-use Rattle.std.specs.Prelude.{ℕ, List, Option, None}
-use Rattle.rollout_model.specs.declared.group_rule.GroupRule.{GroupRule}
+-- What a plan says of its groups: how many of the members that are left each takes, and its thresholds.
+use Rattle.std.specs.Prelude.{List}
+pub use Rattle.rollout_model.specs.declared.group_rule.GroupRule.{GroupRule}
+pub use Rattle.rollout_model.specs.PlanRules.{even_rule, rule_at, percentage_at, success_at, error_at}
 use Rattle.rollout_machine.specs.Commands.{RolloutPlan}
 use Rattle.rollout_machine.specs.Ranges.{each_from}
-use Rattle.rollout_machine.specs.Rollouts.{success_at, error_at}
 
--- how many of the members that the groups before group i leave; none where the plan is cut evenly
-abbrev pub percentage_at : RolloutPlan → ℕ → Option ℕ
-percentage_at plan i = None
-
-abbrev pub rule_at : RolloutPlan → ℕ → GroupRule
-rule_at plan i = record { percentage = percentage_at plan i; success = success_at plan i; error = error_at plan i }
-
--- of all its groups
+-- the rules of all groups of a plan
 abbrev pub rules_of : RolloutPlan → List GroupRule
-rules_of plan = each_from (rule_at plan) 1 plan.groups
+rules_of plan = each_from (rule_at plan) 1 plan.groups.count
 
--- ---- of a plan that is cut evenly, by its own thresholds
-
-abbrev pub even_rule : RolloutPlan → GroupRule
-even_rule plan = record { percentage = None; success = plan.success; error = plan.error }
-
+-- those of a plan that says nothing of single groups
 abbrev pub even_rules : RolloutPlan → List GroupRule
-even_rules plan = each_from (λ i. even_rule plan) 1 plan.groups
+even_rules plan = each_from (λ i. even_rule plan) 1 plan.groups.count

@@ -139,7 +139,7 @@ CancelingIsLast = (h : CommandList) (r j : ℕ) → (is_canceling h r j ≡ true
 pub record ErrorBegins (x : Rollout) (r : ℕ) (before : CommandList) (c : Command) : Type 0 where
   pub group : ℕ
   pub first : 1 ≤ group
-  pub last : group ≤ x.plan.groups
+  pub last : group ≤ x.plan.groups.count
   pub now : error_holds x r group (before ▸ c) ≡ true
   pub not_before : error_holds x r group before ≡ false
 
@@ -172,7 +172,7 @@ pub record NextIsStarted (x : Rollout) (r i : ℕ) (h : CommandList) : Type 0 wh
 
 -- for the groups i + 1 that there are
 abbrev pub StartedIs : Type 0
-StartedIs = (x : Rollout) (r i : ℕ) (h : CommandList) → 1 ≤ i → i < x.plan.groups
+StartedIs = (x : Rollout) (r i : ℕ) (h : CommandList) → 1 ≤ i → i < x.plan.groups.count
     → (is_group_started x r (suc i) h ≡ true → NextIsStarted x r i h) × (NextIsStarted x r i h → is_group_started x r (suc i) h ≡ true)
 
 -- the first group is, where the start is in h

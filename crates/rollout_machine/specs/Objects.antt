@@ -7,6 +7,7 @@ use Rattle.rollout_machine.specs.Records.{ArtifactRecord, GroupRecord, RolloutRe
 use Rattle.rollout_machine.specs.Replies.{Module, Artifact, DistributionSet, ShownTarget, ShownRollout, ShownGroup, ShownAction, ShownEntry, Chunk}
 use Rattle.rollout_machine.specs.Replies.{Deployment, PageOf, Report}
 use Rattle.rollout_machine.specs.Requests.{Page}
+use Rattle.rollout_machine.specs.Rollouts.{success_at, error_at}
 use Rattle.rollout_machine.specs.StateWords.{action_word, group_number_of, group_word, is_for, member_at, rollout_word, size_of_group, target_word}
 use Rattle.rollout_machine.specs.Targets.{Target}
 use Rattle.rollout_machine.specs.Verdicts.{is_named_by_set}
@@ -56,7 +57,7 @@ rollout_shown x = record {
   set_number = x.plan.set_number;
   filter_text = x.plan.filter_text;
   word = rollout_word x;
-  groups = x.plan.groups;
+  groups = x.plan.groups.count;
   targets = length x.members;
 }
 
@@ -65,7 +66,16 @@ rollouts_shown [] = []
 rollouts_shown (x ∷ xs) = rollout_shown x ∷ rollouts_shown xs
 
 abbrev pub group_shown : RolloutRecord → GroupRecord → ShownGroup
-group_shown x g = record { number = g.number; size = size_of_group g; ok = g.ok; bad = g.bad; gone = g.gone; word = group_word x g }
+group_shown x g = record {
+  number = g.number;
+  size = size_of_group g;
+  ok = g.ok;
+  bad = g.bad;
+  gone = g.gone;
+  success = success_at x.plan g.number;
+  error = error_at x.plan g.number;
+  word = group_word x g;
+}
 
 abbrev pub groups_shown : RolloutRecord → List GroupRecord → List ShownGroup
 groups_shown x [] = []

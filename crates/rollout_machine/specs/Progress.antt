@@ -28,7 +28,7 @@ is_start_of r _ = false
 
 -- a pause begins at h followed by c
 abbrev pub pause_begins : Rollout → ℕ → CommandList → Command → Bool
-pause_begins x r h c = is_pause_of r c || some_up_to (error_begins_at x r h c) x.plan.groups
+pause_begins x r h c = is_pause_of r c || some_up_to (error_begins_at x r h c) x.plan.groups.count
 
 -- a pause began at some prefix, and no resume follows
 abbrev pub is_paused : Rollout → ℕ → CommandList → Bool
@@ -51,4 +51,4 @@ next_started x r i earlier (h ▸ c) =
 abbrev pub is_group_started : Rollout → ℕ → ℕ → CommandList → Bool
 is_group_started x r zero h = false
 is_group_started x r (suc zero) h = is_rollout_started r h
-is_group_started x r (suc (suc i)) h = nat_lt (suc i) x.plan.groups && next_started x r (suc i) (is_group_started x r (suc i)) h
+is_group_started x r (suc (suc i)) h = nat_lt (suc i) x.plan.groups.count && next_started x r (suc i) (is_group_started x r (suc i)) h

@@ -51,7 +51,7 @@ OthersStay = (h : CommandList) (c : Command) (r : ℕ) (x : Rollout) → IsValid
 
 -- after a command no group is left to start: behind a started one with success the next is started, unless the rollout is paused
 abbrev pub NoGroupIsLeft : Type 0
-NoGroupIsLeft = (h : CommandList) (r i : ℕ) (x : Rollout) → 1 ≤ i → i < x.plan.groups → is_group_started x r i h ≡ true → is_paused x r h ≡ false
+NoGroupIsLeft = (h : CommandList) (r i : ℕ) (x : Rollout) → 1 ≤ i → i < x.plan.groups.count → is_group_started x r i h ≡ true → is_paused x r h ≡ false
     → success_holds x r i h ≡ true → is_group_started x r (suc i) h ≡ true
 
 -- ---- offers

@@ -51,7 +51,7 @@ new_rollout approval r plan members = record {
   approval = cond approval Waiting Given;
   started = false;
   paused = false;
-  groups = each_from (new_group plan (length members)) 1 plan.groups;
+  groups = each_from (new_group plan (length members)) 1 plan.groups.count;
 }
 
 abbrev pub is_item_number : ℕ → Option ℕ → Bool
@@ -82,7 +82,7 @@ abbrev pub group_view : RolloutRecord → ℕ → GroupView
 group_view x i = view_from_group x.plan i (group_numbered i x.groups)
 
 abbrev pub view_of : RolloutRecord → ℕ → RolloutView
-view_of x own = record { paused = x.paused; groups = x.plan.groups; own = group_view x own; last = group_view x (last_started x.groups) }
+view_of x own = record { paused = x.paused; groups = x.plan.groups.count; own = group_view x own; last = group_view x (last_started x.groups) }
 
 -- an action in group i got the outcome o
 abbrev pub rollout_after : Outcome → ℕ → RolloutRecord → RolloutRecord
@@ -98,7 +98,7 @@ abbrev pub resumed : RolloutRecord → RolloutRecord
 resumed x = let v = view_of x (last_started x.groups) in record x { paused = false; groups = map (start_group (starts_next v false v.last.ok)) x.groups }
 
 abbrev pub triggered : RolloutRecord → RolloutRecord
-triggered x = record x { groups = map (start_group (next_if (nat_lt (last_started x.groups) x.plan.groups) (last_started x.groups))) x.groups }
+triggered x = record x { groups = map (start_group (next_if (nat_lt (last_started x.groups) x.plan.groups.count) (last_started x.groups))) x.groups }
 
 abbrev pub begin_rollout : RolloutRecord → RolloutRecord
 begin_rollout x = record x { started = true; groups = map (start_group (Some 1)) x.groups }

@@ -108,7 +108,7 @@ rollout_in h r x = record {
   approval = approval_of r h;
   started = is_rollout_started r h;
   paused = is_paused x r h;
-  groups = each_from (group_in x r h) 1 x.plan.groups;
+  groups = each_from (group_in x r h) 1 x.plan.groups.count;
 }
 
 abbrev pub rollouts_in : CommandList → ℕ → List Rollout → List RolloutRecord

@@ -6,7 +6,9 @@ use Rattle.rollout_machine.specs.Commands.{Bytes, RolloutPlan, Command, CreateRo
 use Rattle.rollout_machine.specs.Filters.{matches}
 use Rattle.target_filter.specs.Profile.{filter_of}
 use Rattle.target_filter.specs.Grammar.{Tree}
-use Rattle.rollout_machine.specs.Groups.{bounds_of, size_of_bounds}
+use Rattle.rollout_machine.specs.Groups.{size_of_bounds}
+use Rattle.rollout_machine.specs.Groupings.{bounds_by, last_by}
+pub use Rattle.rollout_machine.specs.GroupRules.{success_at, error_at}
 use Rattle.rollout_machine.specs.Targets.{Target, targets}
 use Rattle.rollout_machine.specs.declared.bounds.Bounds.{Bounds}
 
@@ -36,15 +38,12 @@ rollout_at h r = item_numbered (rollouts h) r
 abbrev pub size_of : Rollout → ℕ
 size_of x = length x.members
 
--- what a plan says of group i: its bounds among m members, and its thresholds
+-- where a plan has group i among m members
+abbrev pub last_at : RolloutPlan → ℕ → ℕ → ℕ
+last_at plan m i = last_by plan.groups m i
+
 abbrev pub bounds_at : RolloutPlan → ℕ → ℕ → Bounds
-bounds_at plan m i = bounds_of m plan.groups i
-
-abbrev pub success_at : RolloutPlan → ℕ → ℕ
-success_at plan i = plan.success
-
-abbrev pub error_at : RolloutPlan → ℕ → ℕ
-error_at plan i = plan.error
+bounds_at plan m i = bounds_by plan.groups m i
 
 abbrev pub bounds_in : Rollout → ℕ → Bounds
 bounds_in x i = bounds_at x.plan (size_of x) i

@@ -10,6 +10,7 @@ use Rattle.rollout_machine.specs.Commands.{AddModule, AddArtifact, AddSet, PutTa
 use Rattle.rollout_machine.specs.Commands.{Pause, Resume, TriggerNext, Cancel, Feedback, CancelFeedback, Outcome}
 use Rattle.rollout_machine.specs.Counts.{is_outcome}
 use Rattle.rollout_machine.specs.Digests.{digest_of}
+use Rattle.rollout_machine.specs.Groupings.{leaves_empty}
 use Rattle.target_filter.specs.Profile.{filter_of}
 use Rattle.rollout_model.specs.Limits.{rollout_limit, module_limit, set_limit, module_artifact_limit, artifact_limit, target_limit, tag_limit}
 use Rattle.rollout_model.specs.Limits.{attribute_limit, note_limit}
@@ -96,7 +97,7 @@ plan_row rs plan =
     (is_none (filter_of plan.filter_text), BadFilter)
     ∷ (is_none (item_numbered rs.sets plan.set_number), NotFound)
     ∷ (list_any (λ (x : RolloutRecord). same_bytes x.plan.name plan.name) rs.rollouts, Exists)
-    ∷ (nat_lt (length (chosen (filter_of plan.filter_text) rs.targets)) plan.groups, TooFewTargets)
+    ∷ (leaves_empty plan.groups (length (chosen (filter_of plan.filter_text) rs.targets)), TooFewTargets)
     ∷ (nat_le rollout_limit (length rs.rollouts), Quota) ∷ []
 
 -- a set names the module

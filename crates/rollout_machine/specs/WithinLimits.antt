@@ -15,9 +15,9 @@ pub record CountsNoMore (members : ℕ) (g : GroupRecord) : Type 0 where
 -- a rollout has no more members than a desk takes targets, and no more groups than the limit and than its members
 pub record IsWithinLimits (x : RolloutRecord) : Type 0 where
   pub members : length x.members ≤ target_limit
-  pub some_groups : 1 ≤ x.plan.groups
-  pub groups : x.plan.groups ≤ group_limit
-  pub enough : x.plan.groups ≤ length x.members
+  pub some_groups : 1 ≤ x.plan.groups.count
+  pub groups : x.plan.groups.count ≤ group_limit
+  pub enough : x.plan.groups.count ≤ length x.members
   pub counts : (i : ℕ) (g : GroupRecord) → item_numbered x.groups i ≡ Some g → CountsNoMore (length x.members) g
 
 pub record AreWithinLimits (rs : Records) : Type 0 where

@@ -1,5 +1,6 @@
 //! What the definitions of the machine mean: laws of all command lists.
 
+ghost use Rattle.rollout_machine.specs.Groupings.{GroupingCovers};
 ghost use Rattle.rollout_machine.specs.Meanings.{NumbersActions, NumbersDiffer, RowIsLast, TagsAreSaid, OutcomeIsFirst, CancelingIsLast, PausedIs};
 ghost use Rattle.rollout_machine.specs.Meanings.{FirstStartedIs, StartedIs, FinalIsAll, OfferIsLeast, TargetsAreNamed, ValueIsLast};
 ghost use Rattle.rollout_machine.specs.Promises.{OneGroupStarts, OthersStay, NoGroupIsLeft, NamedIsOfferable, DownloadsAreOffered, StoredSayAll};
@@ -137,6 +138,11 @@ pub fn notes_grow()
 /// member to the last.
 pub fn split_covers()
     ensures { SplitCovers }
+{}
+
+/// The groups of a rollout, even or defined, of which none would be empty, follow one another from the first member to the last.
+pub fn grouping_covers()
+    ensures { GroupingCovers }
 {}
 
 /// No group of a split is empty where none is the first empty one.

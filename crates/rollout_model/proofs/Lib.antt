@@ -1,3 +1,4 @@
 pub mod PaddedLemmas
 pub mod RuleLemmas
+pub mod GroupingLemmas
 pub mod Examples

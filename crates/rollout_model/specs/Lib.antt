@@ -5,3 +5,5 @@ pub mod Padded
 pub mod StateTexts
 pub mod Rows
 pub mod Pairs
+pub mod Groupings
+pub mod PlanRules

@@ -1,30 +1,14 @@
-//! What a plan says of one of its groups.
-
-ghost use Rattle.std.specs.Prelude.{◌≡◌, None};
+//! What a rollout says of one of its groups.
 
 use crate::percentage::Percentage;
-use crate::rollout_plan::RolloutPlan;
 
-/// What a plan says of one of its groups.
+/// How a group is cut, and its thresholds.
 #[derive(Clone, Copy)]
 pub struct GroupRule {
-    /// How many it takes of the members that the groups before it leave; none where the plan is cut evenly.
+    /// The group takes so many, rounded up, of the members that the groups before it leave. None where groups are even.
     pub percentage: Option<Percentage>,
     /// The next group starts where so many of this one succeeded.
     pub success: Percentage,
-    /// The rollout pauses where so many of this one failed.
+    /// The rollout pauses where so many of this group failed.
     pub error: Percentage,
-}
-
-impl RolloutPlan {
-    /// What it says of the group of a number, from 1.
-    pub fn group_rule(&self, _number: u32) -> GroupRule
-        ensures { result ≡ record { percentage = None; success = self.now.success; error = self.now.error } }
-    {
-        GroupRule {
-            percentage: None,
-            success: self.success,
-            error: self.error,
-        }
-    }
 }

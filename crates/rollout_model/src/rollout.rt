@@ -38,6 +38,10 @@ pub struct Group {
     pub bad: u32,
     /// How many were canceled.
     pub gone: u32,
+    /// The next group starts where so many per cent of this one succeeded.
+    pub success: u8,
+    /// The rollout pauses where so many per cent of this group failed.
+    pub error: u8,
     pub word: GroupWord,
 }
 

@@ -1,9 +1,11 @@
 //! What rollouts are created from.
 
 ghost use Rattle.std.specs.Prelude.{◌≡◌, IfOk};
+ghost use Rattle.rollout_model.specs.PlanRules.{rule_at};
 
 use crate::filter_text::FilterText;
-use crate::group_count::GroupCount;
+use crate::group_rule::GroupRule;
+use crate::grouping::Grouping;
 use crate::number::SetNo;
 use crate::percentage::Percentage;
 use crate::text::Text;
@@ -17,10 +19,10 @@ pub struct RolloutPlan {
     pub set_number: SetNo,
     /// Its members are the targets that match now.
     pub filter_text: FilterText,
-    pub groups: GroupCount,
-    /// The next group starts where so many of the last one succeeded.
+    pub groups: Grouping,
+    /// The next group starts where so many of the last one succeeded, if that one's definition says nothing else.
     pub success: Percentage,
-    /// The rollout pauses where so many of one group failed.
+    /// The rollout pauses where so many of one group failed, if its definition says nothing else.
     pub error: Percentage,
 }
 
@@ -31,13 +33,32 @@ impl RolloutPlan {
     {
         let name = self.name.copy(alloc)?;
         let filter_text = self.filter_text.copy(alloc)?;
+        let groups = self.groups.copy(alloc)?;
         Ok(RolloutPlan {
             name,
             set_number: self.set_number,
             filter_text,
-            groups: self.groups,
+            groups,
             success: self.success,
             error: self.error,
         })
+    }
+    /// The rule of a group, counted from 1: its definition's, where it has one. Else, also of a group that isn't there, no percentage
+    /// and the plan's own thresholds.
+    pub fn group_rule(&self, number: u32) -> GroupRule
+        ensures { result ≡ rule_at self.now number }
+    {
+        match self.groups.definition(number) {
+            Some(definition) => GroupRule {
+                percentage: Some(definition.percentage),
+                success: definition.success,
+                error: definition.error,
+            },
+            None => GroupRule {
+                percentage: None,
+                success: self.success,
+                error: self.error,
+            },
+        }
     }
 }

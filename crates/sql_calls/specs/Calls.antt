@@ -52,6 +52,11 @@ abbrev pub failures_in : {A : Type 0} → Result A Fault → ℕ
 failures_in (Ok a) = 0
 failures_in (Err fault) = failures_of fault
 
+-- one, whatever the error
+abbrev pub errors_in : {A : Type 0} → Result A Fault → ℕ
+errors_in (Ok a) = 0
+errors_in (Err fault) = 1
+
 -- no count falls, and at most so many calls failed
 pub record Grows {S : Type 0} (more : ℕ) (old new : Calls S) : Type 0 where
   pub statements : old.work.statements ≤ new.work.statements

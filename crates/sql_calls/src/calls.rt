@@ -4,7 +4,7 @@ ghost use Rattle.std.specs.Prelude.{◌≡◌, ◌≤◌, not, [], IfOk, length}
 ghost use Rattle.sqlite.specs.Held.{state};
 ghost use Rattle.sqlite.specs.Values.{bound};
 ghost use Rattle.sql_calls.specs.Calls.{RunsText, AsksText, AsksFew, TakesFirst, Grows, counts, no_work, since, rows_in, row_in, few_of};
-ghost use Rattle.sql_calls.specs.Calls.{fails, failures_of, failures_in};
+ghost use Rattle.sql_calls.specs.Calls.{fails, failures_of, failures_in, errors_in};
 
 use crate::fault::{Fault, fault_of};
 use sqlite::types::ValueRef;
@@ -77,7 +77,7 @@ impl<S: Alter> Calls<S> {
         self.work
     }
 
-    /// How often a call failed with `Fault::Store`. It stays at 2^64 - 1 once it is there.
+    /// How often a call failed with `Fault::Store`, or COMMIT or ROLLBACK with any fault. It stays at 2^64 - 1 once it is there.
     pub fn failures(&self) -> u64
         ensures { result ≡ self.now.failures }
     {
@@ -164,24 +164,24 @@ impl<S: Alter> Calls<S> {
         self.run_uncounted(BEGIN, &[])
     }
 
-    /// Commits the transaction.
+    /// Commits the transaction. Any error is counted as a failure, want of memory too.
     pub fn commit(&mut self) -> Result<(), Fault>
         ensures runs { RunsText (state S.Store self.old.conn) (state S.Store self.new.conn) COMMIT.now [] result }
         ensures work { self.new.work ≡ self.old.work }
-        ensures failures { self.new.failures ≡ fails (failures_in result) self.old.failures }
-        ensures grows { Grows (failures_in result) self.old self.new }
+        ensures failures { self.new.failures ≡ fails (errors_in result) self.old.failures }
+        ensures grows { Grows (errors_in result) self.old self.new }
     {
-        self.run_uncounted(COMMIT, &[])
+        self.end(COMMIT)
     }
 
-    /// Rolls the transaction back.
+    /// Rolls the transaction back. Any error is counted as a failure, want of memory too.
     pub fn roll_back(&mut self) -> Result<(), Fault>
         ensures runs { RunsText (state S.Store self.old.conn) (state S.Store self.new.conn) ROLLBACK.now [] result }
         ensures work { self.new.work ≡ self.old.work }
-        ensures failures { self.new.failures ≡ fails (failures_in result) self.old.failures }
-        ensures grows { Grows (failures_in result) self.old self.new }
+        ensures failures { self.new.failures ≡ fails (errors_in result) self.old.failures }
+        ensures grows { Grows (errors_in result) self.old self.new }
     {
-        self.run_uncounted(ROLLBACK, &[])
+        self.end(ROLLBACK)
     }
 
     fn run_uncounted(&mut self, sql: &str, params: &[ValueRef<'_>]) -> Result<(), Fault>
@@ -194,6 +194,22 @@ impl<S: Alter> Calls<S> {
             Ok(()) => Ok(()),
             Err(fault) => {
                 self.failed(fault);
+                Err(fault)
+            }
+        }
+    }
+
+    /// Runs a text that ends a transaction.
+    fn end(&mut self, sql: &str) -> Result<(), Fault>
+        ensures runs { RunsText (state S.Store self.old.conn) (state S.Store self.new.conn) sql.now [] result }
+        ensures work { self.new.work ≡ self.old.work }
+        ensures failures { self.new.failures ≡ fails (errors_in result) self.old.failures }
+        ensures grows { Grows (errors_in result) self.old self.new }
+    {
+        match run_on(&mut self.conn, sql, &[]) {
+            Ok(()) => Ok(()),
+            Err(fault) => {
+                self.failed(Fault::Store);
                 Err(fault)
             }
         }

@@ -6,8 +6,9 @@ ghost use Rattle.campaign_core.specs.RolloutChecks.{approval_at, plan_refusal, D
 ghost use Rattle.campaign_core.specs.declared.rollout_checks.RolloutCommandView.TheVariants as seen;
 
 use super::RolloutChange;
+use crate::groupings::leaves_empty;
 use rollout_model::limits::ROLLOUT_LIMIT;
-use rollout_model::{Approval, Refusal, RolloutNo, RolloutPlan};
+use rollout_model::{Approval, Grouping, Refusal, RolloutNo, RolloutPlan};
 
 /// What creating a rollout rests on.
 #[derive(Clone, Copy)]
@@ -52,11 +53,11 @@ fn first_approval(approval: bool) -> Approval
     }
 }
 
-/// The rollout that is created in so many groups, or the first refusal that applies.
-pub fn new_rollout(view: &PlanView, groups: u32) -> Result<NewRollout, Refusal>
+/// The rollout that is created in these groups, or the first refusal that applies.
+pub fn new_rollout(view: &PlanView, groups: &Grouping) -> Result<NewRollout, Refusal>
     ensures { MatchResult result
-        (λ n. (plan_refusal view.now groups ≡ None) × (n ≡ record { number = view.now.count + 1; approval = approval_at view.now.approval }))
-        (λ refusal. plan_refusal view.now groups ≡ Some refusal) }
+        (λ n. (plan_refusal view.now groups.now ≡ None) × (n ≡ record { number = view.now.count + 1; approval = approval_at view.now.approval }))
+        (λ refusal. plan_refusal view.now groups.now ≡ Some refusal) }
 {
     if view.bad_filter {
         return Err(Refusal::BadFilter);
@@ -67,7 +68,7 @@ pub fn new_rollout(view: &PlanView, groups: u32) -> Result<NewRollout, Refusal>
     if view.same_name {
         return Err(Refusal::Exists);
     }
-    if view.members < groups {
+    if leaves_empty(groups, view.members) {
         return Err(Refusal::TooFewTargets);
     }
     if view.count >= ROLLOUT_LIMIT {
@@ -83,6 +84,6 @@ pub fn new_rollout(view: &PlanView, groups: u32) -> Result<NewRollout, Refusal>
 pub fn create(view: &PlanView, plan: &RolloutPlan) -> Result<RolloutChange, Refusal>
     ensures { Decides (seen.Create view.now) (CreateRollout plan.now) result }
 {
-    let created = new_rollout(view, plan.groups.get())?;
+    let created = new_rollout(view, &plan.groups)?;
     Ok(RolloutChange::Create(created))
 }

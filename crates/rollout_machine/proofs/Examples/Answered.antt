@@ -117,8 +117,8 @@ no_download_while_canceling = refl
 -- ---- rollouts, groups, actions and histories
 
 groups : map (query_reply (run_of (rolled_out everyone 3 50 100 ++ succeeds 1 1 ∷ []))) (ShowGroup 1 1 ∷ ShowGroup 1 2 ∷ ShowGroup 1 4 ∷ ShowGroup 2 1 ∷ []) ≡
-    GroupShown (record { number = 1; size = 3; ok = 1; bad = 0; gone = 0; word = RunningGroup })
-    ∷ GroupShown (record { number = 2; size = 3; ok = 0; bad = 0; gone = 0; word = ScheduledGroup })
+    GroupShown (record { number = 1; size = 3; ok = 1; bad = 0; gone = 0; success = 50; error = 100; word = RunningGroup })
+    ∷ GroupShown (record { number = 2; size = 3; ok = 0; bad = 0; gone = 0; success = 50; error = 100; word = ScheduledGroup })
     ∷ Refused NotFound ∷ Refused NotFound ∷ []
 groups = refl
 

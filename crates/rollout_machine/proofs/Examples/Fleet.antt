@@ -1,6 +1,7 @@
 -- A fleet of ten devices, and runs over it: what the worked examples speak of.
 use Rattle.std.specs.Prelude.{ℕ, codes, ◌+◌, replicate, Bool, true, false, ◌&&◌, List, [], ◌∷◌, ◌++◌, map, Option, is_none}
 use Rattle.std.specs.Option.{option_map}
+use Rattle.rollout_model.specs.Groupings.{evenly}
 use Rattle.rollout_machine.specs.ByteStrings.{item_numbered}
 use Rattle.rollout_machine.specs.CommandList.{CommandList, Make, followed_by}
 use Rattle.rollout_machine.specs.Commands.{Bytes, Credential, TargetRow, RolloutPlan, Command, AddModule, AddSet, PutTargets, CreateRollout, Start, Feedback, CancelFeedback, Succeeded, Failed, RejectedCancel}
@@ -23,7 +24,7 @@ abbrev pub fleet : List TargetRow
 fleet = map row_for (1 ∷ 2 ∷ 3 ∷ 4 ∷ 5 ∷ 6 ∷ 7 ∷ 8 ∷ 9 ∷ 10 ∷ [])
 
 abbrev pub plan_for : Bytes → ℕ → ℕ → ℕ → ℕ → RolloutPlan
-plan_for text name groups success error = record { name = (96 + name) ∷ []; set_number = 1; filter_text = text; groups = groups; success = success; error = error }
+plan_for text name groups success error = record { name = (96 + name) ∷ []; set_number = 1; filter_text = text; groups = evenly groups; success = success; error = error }
 
 -- all of the fleet, and one device
 abbrev pub everyone : Bytes

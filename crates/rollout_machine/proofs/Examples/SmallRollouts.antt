@@ -60,7 +60,7 @@ failure_ends_both = refl
 -- ---- feedback
 
 abbrev reported : ℕ → ℕ → ℕ → GroupWord → ShownGroup
-reported i size ok word = record { number = i; size = size; ok = ok; bad = 0; gone = 0; word = word }
+reported i size ok word = record { number = i; size = size; ok = ok; bad = 0; gone = 0; success = 50; error = 100; word = word }
 
 report : query_reply (run_of (three_groups ++ succeeds 1 1 ∷ succeeds 2 2 ∷ [])) (ShowReport 1) ≡ ReportShown (record {
   rollout = record { number = 1; name = codes "a"; set_number = 1; filter_text = everyone; word = RunningRollout; groups = 3; targets = 10 };

@@ -12,7 +12,8 @@ pub(super) fn plan_is_well_formed(plan: &RolloutPlan)
     let _name = plan.name.as_str();
     let _set = plan.set_number.get();
     let _filter = plan.filter_text.as_str();
-    let _groups = plan.groups.get();
+    let _groups = plan.groups.count();
+    let _definitions = plan.groups.definitions();
     let _success = plan.success.get();
     let _error = plan.error.get();
 }

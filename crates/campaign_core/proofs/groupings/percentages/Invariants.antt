@@ -1,0 +1,8 @@
+use Rattle.std.proofs.Common.{◌≡◌}
+use Rattle.std.specs.Prelude.{take}
+use Rattle.rollout_machine.specs.Groupings.{percentages}
+use Rattle.campaign_core.proofs.groupings.percentages.Given as goal
+
+-- those of the definitions so far
+abbrev pub invariant-loop-definition : goal.invariant-loop-definition
+invariant-loop-definition l = l.all.items ≡ percentages (take l.definition-index l.definitions)

@@ -1,0 +1,16 @@
+use Rattle.std.proofs.Common.{[], ◌∷◌, pos, subst, ◌≤◌, Ok}
+use Rattle.sqlite_value.specs.declared.value.Value.TheVariants.{Int}
+use Rattle.sqlite.specs.Held.{state}
+use Rattle.sql_calls.specs.Calls.{TakesFirst}
+use Rattle.desk_records.specs.declared.rollout_texts.TheConstants.{GET_RULE}
+use Rattle.desk_store.proofs.RolloutCalls.{getting_rule, rule_read}
+use Rattle.desk_store.proofs.change.OpenChange.read_rule.Goals as goal
+
+pub returns-clause-reads : goal.returns-clause-reads
+returns-clause-reads g c =
+    let it : TakesFirst (state g.S.Store c.args.self.now.store.now.calls.conn) (state g.S.Store c.first.new.self.store.now.calls.conn) GET_RULE.now (Int (pos c.args.number) ∷ Int (pos c.args.group) ∷ []) (Ok c.in_ok-row.row) =
+    rw (c.params-to_sql.ensures, c.params-to_sql-2.ensures, c.get.ensures.value) at c.in_ok-row.ensures.takes in
+    rule_read c.args.number c.args.group (subst (λ n. 1 ≤ n) c.get.ensures.value c.get.ensures.least) _ _ c.in_ok-row.row it c.read_optional.result c.read_optional.ensures
+
+pub first-requires : goal.first-requires
+first-requires g c = getting_rule

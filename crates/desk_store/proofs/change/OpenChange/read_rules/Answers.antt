@@ -1,0 +1,16 @@
+use Rattle.std.proofs.Common.{[], ◌∷◌, pos, subst, ◌≤◌, Ok}
+use Rattle.sqlite_value.specs.declared.value.Value.TheVariants.{Int}
+use Rattle.sqlite.specs.Held.{state}
+use Rattle.sql_calls.specs.Calls.{AsksText}
+use Rattle.desk_records.specs.declared.rollout_texts.TheConstants.{LIST_RULES}
+use Rattle.desk_store.proofs.RolloutCalls.{listing_rules, rules_read}
+use Rattle.desk_store.proofs.change.OpenChange.read_rules.Goals as goal
+
+pub returns-clause-reads : goal.returns-clause-reads
+returns-clause-reads g c =
+    let it : AsksText (state g.S.Store c.args.self.now.store.now.calls.conn) (state g.S.Store c.ask.new.self.store.now.calls.conn) LIST_RULES.now (Int (pos c.args.number) ∷ []) (Ok c.in_ok-rows.rows) =
+    rw (c.params-to_sql.ensures, c.get.ensures.value) at c.in_ok-rows.ensures.asks in
+    rules_read c.args.number (subst (λ n. 1 ≤ n) c.get.ensures.value c.get.ensures.least) _ _ c.in_ok-rows.rows it c.read_all.result (rw c.deref.ensures.value at c.read_all.ensures.ok)
+
+pub ask-requires : goal.ask-requires
+ask-requires g c = listing_rules

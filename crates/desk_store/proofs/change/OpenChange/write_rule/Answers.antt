@@ -1,0 +1,25 @@
+use Rattle.std.proofs.Common.{◌≡◌, ℕ, pos, Option, Some, None, refl}
+use Rattle.sqlite.specs.Held.{state}
+use Rattle.sqlite.specs.Values.{bound_value, or_null}
+use Rattle.sqlite_value.specs.Value.{owned}
+use Rattle.sqlite_value.specs.declared.value.Value.TheVariants.{Int}
+use Rattle.sql_calls.specs.Calls.{RunsText}
+use Rattle.desk_records.specs.Rollouts.{rule_row}
+use Rattle.desk_records.specs.declared.rollout_texts.TheConstants.{PUT_RULE}
+use Rattle.desk_store.proofs.WriteCalls.{knows_put_rule, rule_written}
+use Rattle.desk_store.proofs.change.OpenChange.write_rule.Goals as goal
+
+-- a number or NULL is bound as it is
+bound_or_null : (o : Option ℕ) → bound_value (or_null (λ n. Int (pos n)) o) ≡ or_null (λ n. Int (pos n)) o
+bound_or_null None = refl
+bound_or_null (Some n) = refl
+
+pub returns-clause-writes : goal.returns-clause-writes
+returns-clause-writes g c =
+    let percentage : owned c.params-to_sql-3.result ≡ or_null (λ n. Int (pos n)) c.percent_of-percentage.result = c.params-to_sql-3.ensures in
+    let ran : RunsText (state g.S.Store c.args.self.now.store.now.calls.conn) (state g.S.Store c.run.new.self.store.now.calls.conn) PUT_RULE.now (rule_row c.args.number c.args.group c.args.rule.now) c.run.result =
+    rw (c.params-to_sql.ensures, c.params-to_sql-2.ensures, percentage, c.params-to_sql-4.ensures, c.params-to_sql-5.ensures, c.percent_of-percentage.ensures, c.from-success.ensures, c.from-error.ensures, c.get.ensures.value, c.get-2.ensures.value, c.get-3.ensures.value, bound_or_null c.args.rule.now.percentage) at c.run.ensures.runs in
+    rule_written c.args.number c.args.group c.args.rule.now _ _ c.run.result ran
+
+pub run-requires : goal.run-requires
+run-requires g c = knows_put_rule

@@ -1,0 +1,87 @@
+//! What is said of the groups of rollouts, in a change that is under way.
+
+ghost use Rattle.std.specs.Prelude.{◌≡◌, ◌≤◌, ◌+◌};
+ghost use Rattle.desk_records.specs.LedgerSteps.{AddsRule};
+ghost use Rattle.desk_records.specs.Rollouts.{rule_numbered, rules_numbered};
+ghost use Rattle.desk_records.specs.RuleRow.{IsRuleRow, broken_rule_column};
+ghost use Rattle.desk_store.specs.Counting.{AddsIn};
+ghost use Rattle.desk_store.specs.Rows.{BreaksRule};
+ghost use Rattle.desk_store.specs.Changing.{FindsLedger, MakesLedger, StaysIn};
+
+use crate::change::OpenChange;
+use crate::from_row::FromRow;
+use crate::reading::{read_all, read_optional};
+use desk_records::{GET_RULE, LIST_RULES, PUT_RULE, RowFault, read_rule};
+use rollout_model::{GroupRule, Percentage, RolloutNo};
+use sql_calls::Fault;
+use sqlite::{Alter, Row, params};
+use std::alloc::Global;
+
+/// Of percentage, success and error.
+impl FromRow for GroupRule {
+    ghost is_row = { IsRuleRow };
+
+    ghost is_broken = { λ row. BreaksRule (broken_rule_column row) };
+
+    fn from_row(_alloc: Global, row: &Row) -> Result<Self, RowFault> {
+        read_rule(row)
+    }
+}
+
+impl<'a, S: Alter> OpenChange<'a, S> {
+    /// What is said of the group of a rollout and a number. A row that breaks a column's rule is a failed store.
+    pub fn read_rule(
+        &mut self,
+        number: RolloutNo,
+        group: u32,
+    ) -> Result<Option<GroupRule>, Fault>
+        ensures stays { StaysIn S.Store self.old self.new result }
+        ensures reads { FindsLedger S.Store self.old self.new result (λ l found. found ≡ rule_numbered l.rules number group) }
+        ensures work { AddsIn 1 1 self.old self.new }
+    {
+        let alloc = self.store.alloc;
+        let row = self.first(GET_RULE, params![number.get(), group])?;
+        read_optional(alloc, row)
+    }
+
+    /// What is said of each group of a rollout, in the order of their numbers; nothing where there is no such rollout. A row that breaks a
+    /// column's rule is a failed store.
+    pub fn read_rules(&mut self, number: RolloutNo) -> Result<Vec<GroupRule>, Fault>
+        ensures stays { StaysIn S.Store self.old self.new result }
+        ensures reads { FindsLedger S.Store self.old self.new result (λ l found. found.items ≡ rules_numbered l.rules number) }
+        ensures work { self.new.store.now.calls.work.statements ≤ self.old.store.now.calls.work.statements + 1 }
+    {
+        let alloc = self.store.alloc;
+        let rows = self.ask(LIST_RULES, params![number.get()])?;
+        read_all(alloc, &rows)
+    }
+
+    /// Says something of the next group of a rollout that nothing is said of.
+    pub fn write_rule(
+        &mut self,
+        number: RolloutNo,
+        group: u32,
+        rule: &GroupRule,
+    ) -> Result<(), Fault>
+        ensures stays { StaysIn S.Store self.old self.new result }
+        ensures writes { MakesLedger S.Store self.old self.new result (AddsRule number group rule.now) }
+        ensures work { AddsIn 1 0 self.old self.new }
+    {
+        let percentage = percent_of(&rule.percentage);
+        let success = u32::from(rule.success.get());
+        let error = u32::from(rule.error.get());
+        self.run(
+            PUT_RULE,
+            params![number.get(), group, percentage, success, error],
+        )
+    }
+}
+
+fn percent_of(percentage: &Option<Percentage>) -> Option<u32>
+    ensures { result ≡ percentage.now }
+{
+    match percentage {
+        Some(percentage) => Some(u32::from(percentage.get())),
+        None => None,
+    }
+}
