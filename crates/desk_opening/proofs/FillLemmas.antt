@@ -149,7 +149,7 @@ found_one number l (Some row) found (Some x) at is reads =
     record {
       rollout = x;
       is_there = at;
-      groups = told_number is_group_count x.plan.groups found.plan.groups told.groups;
+      groups = told_number is_group_count x.plan.groups.count found.plan.groups told.groups;
       success = told_number is_percentage x.plan.success found.plan.success told.success;
       error = told_number is_percentage x.plan.error found.plan.error told.error;
     }

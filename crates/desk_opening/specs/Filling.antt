@@ -45,7 +45,7 @@ MakesLedger old new result Change = Makes HoldsLedger (λ (l : Ledger). l) old n
 pub record IsOfNumber (number : ℕ) (l : Ledger) (found : StoredRollout) : Type 0 where
   pub rollout : RolloutRecord
   pub is_there : item_numbered l.records.rollouts number ≡ Some rollout
-  pub groups : found.plan.groups ≡ rollout.plan.groups
+  pub groups : found.plan.groups ≡ rollout.plan.groups.count
   pub success : found.plan.success ≡ rollout.plan.success
   pub error : found.plan.error ≡ rollout.plan.error
 
