@@ -194,7 +194,7 @@ def each_text(tables):
     return "\n".join([
         f"-- {WRITTEN}",
         "-- What is known of each table by computing its text.",
-        used("Rattle.std.proofs.Common", ["[]", "◌∷◌", "refl"]),
+        used("Rattle.std.proofs.Common", ["refl"]),
         used("Rattle.sqlite_tied.specs.Compute", ["everything"]),
         used("Rattle.sqlite_schema.specs.Names", ["same_name"]),
         used("Rattle.sqlite_resolve.specs.Compile", ["table_defined_by", "first", "table_in"]),

@@ -1,6 +1,5 @@
 -- What was read is taken over.
-use Rattle.std.proofs.Common.{◌≡◌, inl, inr, Ok, Err, Result, IfErr, IsTrue, refl, sym, subst, arith}
-use Rattle.sqlite.specs.Tree.{Trees}
+use Rattle.std.proofs.Common.{◌≡◌, inr, Ok, Err, Result, IfErr, IsTrue, sym, subst, arith}
 use Rattle.sqlite.specs.Effect.{Database}
 use Rattle.sqlite.specs.State.{State, HasCleanDisk}
 use Rattle.sql_front.specs.Found.{StandsSomewhere}
@@ -15,10 +14,9 @@ use Rattle.desk_records.proofs.Readable.{from_newest, newest_is_readable}
 use Rattle.desk_opening.specs.declared.opening.OpenFault.{OpenFault}
 use Rattle.desk_opening.specs.declared.opening.OpenFault.TheVariants.{NotDesk, NewerVersion, Memory, Store}
 use Rattle.desk_opening.specs.Migrating.{Migrates}
-use Rattle.desk_opening.specs.Opening.{Adopts, HasDesk, HasDeskTables, HasNoRow, HasRow, IsDeskRow, IsFailure, IsSettled, Keeps, LacksDesk, Tells}
+use Rattle.desk_opening.specs.Opening.{Adopts, HasDeskTables, HasNoRow, HasRow, IsDeskRow, IsFailure, IsSettled, Keeps, Tells}
 use Rattle.desk_opening.proofs.HeldLemmas.{same_version}
 use Rattle.desk_opening.proofs.OpeningLemmas.{leaves_still}
-use Rattle.desk_opening.proofs.RowLemmas.{tells_on}
 use Rattle.desk_opening.proofs.Steps.{rests_as}
 
 -- ---- the version that the row names

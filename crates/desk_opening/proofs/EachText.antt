@@ -1,6 +1,6 @@
 -- Written by tools/meanings from src/table_texts.rt of desk_records. What it makes is proved; the tool is not trusted.
 -- What is known of each table by computing its text.
-use Rattle.std.proofs.Common.{[], ◌∷◌, refl}
+use Rattle.std.proofs.Common.{refl}
 use Rattle.sqlite_tied.specs.Compute.{everything}
 use Rattle.sqlite_schema.specs.Names.{same_name}
 use Rattle.sqlite_resolve.specs.Compile.{table_defined_by, first, table_in}

@@ -1,8 +1,8 @@
 -- What the texts of all tables make.
-use Rattle.std.proofs.Common.{◌≡◌, refl, sym, ap, subst, ◌∙◌, arith, ◌||◌, ℕ, zero, suc, ◌+◌, ◌<◌, ◌≤◌, Bool, false, List, [], ◌∷◌, ◌++◌, length, map, take, drop, get_or}
-use Rattle.std.specs.List.{AllByRecursion, list_any}
+use Rattle.std.proofs.Common.{◌≡◌, refl, sym, ap, ◌∙◌, arith, ◌||◌, ℕ, zero, suc, ◌+◌, ◌<◌, Bool, false, List, [], ◌∷◌, ◌++◌, length, map, take, drop, get_or}
+use Rattle.std.specs.List.{list_any}
 use Rattle.std.proofs.lemmas.Bool.{or_parts}
-use Rattle.std.proofs.lemmas.List.{drop_more, length-map, take_all, take_more}
+use Rattle.std.proofs.lemmas.List.{drop_more, length-map, take_more}
 use Rattle.std.proofs.Math.ListN.{get_or-map}
 use Rattle.sqlite.specs.Schema.{Schema}
 use Rattle.sqlite.specs.Table.{Table}
@@ -18,7 +18,6 @@ use Rattle.sql_front.proofs.Write.{Makes, makes_known}
 use Rattle.sql_calls.specs.Means.{Means}
 use Rattle.desk_records.specs.Schema.{Place, places, table_at, name_of}
 use Rattle.desk_records.proofs.MeaningWords.{means_of}
-use Rattle.desk_records.proofs.EachPlace.{each_place}
 use Rattle.desk_opening.specs.declared.desk_table.DeskTable.{DeskTable}
 use Rattle.desk_opening.specs.Places.{place_of, create_text_of}
 use Rattle.desk_opening.proofs.IsPlace.{text_at}
