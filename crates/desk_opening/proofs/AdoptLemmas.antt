@@ -1,6 +1,5 @@
 -- What was read is taken over.
-use Rattle.std.proofs.Common.{◌≡◌, inl, inr, Ok, Err, Result, IfErr, IsTrue, refl, sym, subst, arith}
-use Rattle.sqlite.specs.Tree.{Trees}
+use Rattle.std.proofs.Common.{◌≡◌, inr, Ok, Err, Result, IfErr, IsTrue, sym, subst, arith}
 use Rattle.sqlite.specs.Effect.{Database}
 use Rattle.sqlite.specs.State.{State, HasCleanDisk}
 use Rattle.sql_front.specs.Found.{StandsSomewhere}
@@ -15,10 +14,9 @@ use Rattle.desk_records.proofs.Readable.{from_newest, newest_is_readable}
 use Rattle.desk_opening.specs.declared.opening.OpenFault.{OpenFault}
 use Rattle.desk_opening.specs.declared.opening.OpenFault.TheVariants.{NotDesk, NewerVersion, Memory, Store}
 use Rattle.desk_opening.specs.Migrating.{Migrates}
-use Rattle.desk_opening.specs.Opening.{Adopts, HasDesk, HasDeskTables, HasNoRow, HasRow, IsDeskRow, IsFailure, IsSettled, Keeps, LacksDesk, Tells}
+use Rattle.desk_opening.specs.Opening.{Adopts, HasDeskTables, HasNoRow, HasRow, IsDeskRow, IsFailure, IsSettled, Keeps, Tells}
 use Rattle.desk_opening.proofs.HeldLemmas.{same_version}
 use Rattle.desk_opening.proofs.OpeningLemmas.{leaves_still}
-use Rattle.desk_opening.proofs.RowLemmas.{tells_on}
 use Rattle.desk_opening.proofs.Steps.{rests_as}
 
 -- ---- the version that the row names
@@ -42,9 +40,6 @@ pub looked_at : {E F : Type 0} (v : Version) (a z : State) → Migrates {A = Uni
 looked_at v a z h (Ok x) = record { wears = h.wears; migrates = h.migrates }
 looked_at v a z h (Err e) = record { wears = h.wears; migrates = λ r was clean db left. let found = (h.migrates r was clean).held.crash db left in (found.0, newest_is_readable _ r found.1) }
 
-pub not_migrated : {E F : Type 0} (v : Version) (a z : State) (e : E) (f : F) → Migrates {A = Unit {0}} v a z (Err e) → Migrates {A = Unit {0}} v a z (Err f)
-not_migrated v a z e f h = record { wears = h.wears; migrates = h.migrates }
-
 -- ---- the whole
 
 -- what was said of the row
@@ -52,13 +47,6 @@ abbrev Told : State → State → Result Version OpenFault → Type 0
 Told old new out = HasCleanDisk new → StandsSomewhere old.now.schema (desk_table 0) → Tells (λ v. HasRow old.now (IsDeskRow v)) (HasRow old.now) (HasNoRow old.now) out
 
 module _ (old mid : State) (table : StandsSomewhere old.now.schema (desk_table 0)) where
-  pub adopts_none : (A : Type 0) (e : OpenFault) → Keeps {A = Version} old mid (Err e) → Told old mid (Err e) → Adopts {A = A} old mid (Err e)
-  adopts_none A e k tells = record {
-    wears = k.wears;
-    takes = k.keeps;
-    tells = λ clean. tells_on Version A (λ v. HasRow old.now (IsDeskRow v)) (λ _. HasDesk old.now) (HasRow old.now) (HasNoRow old.now) (LacksDesk old.now) (λ none. inr (inl none)) e (tells clean table);
-  }
-
   module _ (v : Version) (k : Keeps {E = OpenFault} old mid (Ok v)) (tells : Told old mid (Ok v)) where
     -- the tables of the version that the row names are not there
     pub adopts_lacking : (A : Type 0) → (¬ HasDeskTables v old.now.schema) → Adopts {A = A} old mid (Err NotDesk)
@@ -85,13 +73,3 @@ module _ (old mid : State) (table : StandsSomewhere old.now.schema (desk_table 0
       adopts_renewed (Err NewerVersion) m fails = absurd fails
       adopts_renewed (Err Memory) m fails = record { wears = omega (arith, k.wears, m.wears); takes = λ r was clean db left. m.migrates r (stood m.wears clean r was) clean db left; tells = λ clean. tt }
       adopts_renewed (Err Store) m fails = record { wears = omega (arith, k.wears, m.wears); takes = λ r was clean db left. m.migrates r (stood m.wears clean r was) clean db left; tells = λ clean. tt }
-
--- the connection is given back
-pub adopts_told : {A B : Type 0} (old new : State) (x : A) (y : B) → Adopts old new (Ok x) → Adopts old new (Ok y)
-adopts_told old new x y h = record { wears = h.wears; takes = h.takes; tells = h.tells }
-
-pub refused_told : {A B : Type 0} (old new : State) (e : OpenFault) → Adopts {A = A} old new (Err e) → Adopts {A = B} old new (Err e)
-refused_told old new NotDesk h = record { wears = h.wears; takes = h.takes; tells = h.tells }
-refused_told old new NewerVersion h = record { wears = h.wears; takes = h.takes; tells = h.tells }
-refused_told old new Memory h = record { wears = h.wears; takes = h.takes; tells = h.tells }
-refused_told old new Store h = record { wears = h.wears; takes = h.takes; tells = h.tells }

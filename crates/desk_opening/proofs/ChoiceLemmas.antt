@@ -1,5 +1,5 @@
 -- Which of the two ways an open takes.
-use Rattle.std.proofs.Common.{◌≡◌, ℕ, Bool, true, codes, inl, inr, Some, Ok, Err, Result, IfOk, IfErr, arith}
+use Rattle.std.proofs.Common.{Bool, codes, inl, inr, Ok, Err, Result, IfOk, IfErr, arith}
 use Rattle.std.proofs.lemmas.Bool.{both_ways}
 use Rattle.sqlite.specs.Effect.{Database}
 use Rattle.sqlite.specs.State.{State, HasCleanDisk}

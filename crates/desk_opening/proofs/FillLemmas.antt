@@ -1,9 +1,7 @@
 -- Reads and writes of a change that fills the tables of the newest version.
 use Rattle.std.proofs.Common.{◌≡◌, ◌<◌, ◌≤◌, ◌++◌, ℕ, zero, suc, ◌+◌, List, [], ◌∷◌, length, map, codes, pos, slice_get, set, Option, Some, None, option_map, Ok, Err, Result, IsErr, IfOk, MatchOption, Bool, if◌then◌else◌, refl, sym, ap, subst, ◌∙◌, arith}
-use Rattle.std.proofs.lemmas.Option.{slice_get_within}
 use Rattle.sqlite_value.specs.declared.value.Value.TheVariants.{Int}
 use Rattle.sqlite_value.specs.Order.{Row}
-use Rattle.sqlite.specs.Term.{col}
 use Rattle.sqlite.specs.Command.TheVariants.{Insert, Select}
 use Rattle.sqlite.specs.Source.TheVariants.{Values}
 use Rattle.sqlite.specs.Effect.{Database, IsDatabase}
@@ -12,7 +10,7 @@ use Rattle.sql_front.specs.Stands.{Stands}
 use Rattle.sql_calls.specs.declared.fault.Fault.{Fault}
 use Rattle.sql_calls.specs.Calls.{RunsText, TakesFirst}
 use Rattle.sql_calls.specs.Means.{Known, Knows}
-use Rattle.sql_calls.proofs.Composing.{finds_as, found_then_makes, makes_as, makes_nothing, makes_then}
+use Rattle.sql_calls.proofs.Composing.{found_then_makes, makes_as, makes_nothing, makes_then}
 use Rattle.sql_calls.proofs.Finding.{ShowsFirst, first_finds, run_makes}
 use Rattle.sql_calls.proofs.Inserts.{inserts}
 use Rattle.sql_calls.proofs.Selects.{simple}
@@ -21,7 +19,6 @@ use Rattle.rollout_model.specs.declared.group_rule.GroupRule.{GroupRule}
 use Rattle.rollout_machine.specs.ByteStrings.{item_numbered}
 use Rattle.rollout_machine.specs.GroupRules.{even_rules}
 use Rattle.rollout_machine.specs.Ranges.{each_from}
-use Rattle.rollout_machine.specs.Records.{Records}
 use Rattle.rollout_machine.specs.declared.records.RolloutRecord.{RolloutRecord}
 use Rattle.rollout_machine.proofs.Lists.{each_from_more, length_each}
 use Rattle.desk_records.specs.Holds.{HoldsLedger, Ledger, ledger_of}
@@ -30,9 +27,7 @@ use Rattle.desk_records.specs.Modules.{IsLastRow}
 use Rattle.desk_records.specs.Codes.{coded_in}
 use Rattle.desk_records.specs.RolloutRow.{IsRolloutRow}
 use Rattle.desk_records.specs.Rollouts.{rule_row, told_rollout}
-use Rattle.desk_records.specs.Schema.{Place, Rollouts, Rules, name_of, rule_table, table_at}
-use Rattle.desk_records.specs.Tables.{HoldsTables, Tables}
-use Rattle.desk_records.specs.Versions.{IsTellable}
+use Rattle.desk_records.specs.Schema.{Rollouts, Rules, name_of, rule_table, table_at}
 use Rattle.desk_records.specs.declared.rollout_row.StoredRollout.{StoredRollout}
 use Rattle.desk_records.specs.declared.rollout_texts.TheConstants.{GET_ROLLOUT, LAST_ROLLOUT, PUT_RULE}
 use Rattle.desk_records.specs.declared.version.Version.{Version}
@@ -42,8 +37,8 @@ use Rattle.desk_records.proofs.NumberColumns.{ranged_is}
 use Rattle.desk_records.proofs.PartWrites.{adds_rule}
 use Rattle.desk_records.proofs.RolloutMeaning.{get_rollout_is, last_rollout_is, last_rollout_query, put_rule_is, rollout_columns, rollout_names, rule_terms}
 use Rattle.desk_records.proofs.RolloutRecords.{gets_rollout, lasts_rollout}
-use Rattle.desk_opening.specs.Filling.{FillsLater, FillsRollout, FindsLedger, IsOfNumber, Leaves, MakesLedger, Stays, WritesCopies, WritesRules, WritesUpTo, bare_ledger, no_rules, rules_up_to}
-use Rattle.desk_opening.specs.Making.{Changes, HoldsStage, Stage, Standing}
+use Rattle.desk_opening.specs.Filling.{FillsLater, FillsRollout, FindsLedger, IsOfNumber, MakesLedger, Stays, WritesCopies, WritesRules, WritesUpTo, no_rules, rules_up_to}
+use Rattle.desk_opening.specs.Making.{HoldsStage, Standing}
 use Rattle.desk_opening.proofs.RuleLists.{all_even, all_said, got_set, none_said, none_yet, one_more, set_same, set_twice}
 use Rattle.desk_opening.proofs.Steps.{leaves_of, read_fails, read_step, step, step_fails}
 
@@ -94,12 +89,15 @@ module _ {A E : Type 0} (number : ℕ) (old new : State) where
 
 -- a write of rows leaves the tables where they are
 standing_still : (old new : Database) → HoldsStage old Standing → new.schema ≡ old.schema → IsDatabase new → HoldsStage new Standing
-standing_still old new h same sound = (λ p. new.trees (h.1.spot p).tree, record {
-  sound = sound;
-  spot = h.1.spot;
-  stands = λ p. subst (λ s. Stands s (name_of p) (h.1.spot p).at (table_at p (h.1.spot p).tree)) (sym same) (h.1.stands p);
-  rows = λ p. refl;
-})
+standing_still old new h same sound = (
+  λ p. new.trees (h.1.spot p).tree,
+  record {
+    sound = sound;
+    spot = h.1.spot;
+    stands = λ p. subst (λ s. Stands s (name_of p) (h.1.spot p).at (table_at p (h.1.spot p).tree)) (sym same) (h.1.stands p);
+    rows = λ p. refl;
+  },
+)
 
 pub put_stays : (params : Row) (old new : State) (out : Result (Unit {0}) Fault) → RunsText old new PUT_RULE.now params out → Stays old new out
 put_stays params old new (Err fault) h = record {
@@ -184,14 +182,17 @@ module _ (number : ℕ) (rule : GroupRule) where
   parts : (m n : ℕ) (l next : Ledger) → WritesCopies m (n + 1) rule l next → (mid : Ledger) × WritesCopies m n rule l mid × AddsRule m (n + 1) rule mid next
   parts zero n l next w = absurd (let none = w.none in cc)
   parts (suc k) n l next w =
-      let mid = with_rules l (set l.rules k (copies n)) in
-      (mid, record { none = w.none; next_is = refl }, record {
-        its = copies n;
-        is_there = got_set l.rules k [] (copies n) w.none;
-        group_is = (let long = length_each (λ (i : ℕ). rule) 1 n in omega (arith, long));
-        next_is = w.next_is ∙ ap (λ its. with_rules l (set l.rules k its)) (each_from_more (λ (i : ℕ). rule) 1 n (1 + n) rule refl refl)
-            ∙ ap (with_rules l) (sym (set_twice l.rules k (copies n) (copies n ++ rule ∷ [])));
-      })
+      let mid = with_rules l (set l.rules k (copies n)) in (
+        mid,
+        record { none = w.none; next_is = refl },
+        record {
+          its = copies n;
+          is_there = got_set l.rules k [] (copies n) w.none;
+          group_is = (let long = length_each (λ (i : ℕ). rule) 1 n in omega (arith, long));
+          next_is = w.next_is ∙ ap (λ its. with_rules l (set l.rules k its)) (each_from_more (λ (i : ℕ). rule) 1 n (1 + n) rule refl refl)
+              ∙ ap (with_rules l) (sym (set_twice l.rules k (copies n) (copies n ++ rule ∷ [])));
+        },
+      )
 
   pub one_copy_more : (n : ℕ) (a b c : State) {E : Type 0} (out : Result (Unit {0}) Fault) → MakesLedger {A = Unit {0}} {E = E} a b (Ok tt) (WritesCopies number n rule) → MakesLedger b c out (AddsRule number (n + 1) rule) → MakesLedger a c out (WritesCopies number (n + 1) rule)
   one_copy_more n a b c out so_far h = makes_then so_far (parts number n) out h
@@ -226,13 +227,16 @@ next_filled : (k : ℕ) (l next : Ledger) → WritesUpTo (suc k) l next → (mid
 next_filled k l next w =
     let xs = l.records.rollouts in
     let mid = with_rules l (rules_up_to k xs) in
-    let it = within k xs (omega (arith, w.within)) in
-    (mid, record { none = w.none; within = omega (arith, w.within); next_is = refl }, record {
-      rollout = it.0;
-      is_there = it.1;
-      none = none_yet k xs it.0 it.1;
-      next_is = w.next_is ∙ ap (with_rules l) (sym (one_more k xs it.0 it.1));
-    })
+    let it = within k xs (omega (arith, w.within)) in (
+      mid,
+      record { none = w.none; within = omega (arith, w.within); next_is = refl },
+      record {
+        rollout = it.0;
+        is_there = it.1;
+        none = none_yet k xs it.0 it.1;
+        next_is = w.next_is ∙ ap (with_rules l) (sym (one_more k xs it.0 it.1));
+      },
+    )
 
 pub one_filled_more : (k n : ℕ) → n ≡ suc k → (a b c : State) {E : Type 0} (out : Result (Unit {0}) Fault) → MakesLedger {A = Unit {0}} {E = E} a b (Ok tt) (WritesUpTo k) → MakesLedger b c out (FillsRollout n) → MakesLedger a c out (WritesUpTo n)
 one_filled_more k n is a b c out so_far h = makes_then so_far (λ l next w. subst (λ m. (mid : Ledger) × WritesUpTo k l mid × FillsRollout m mid next) (sym is) (next_filled k l next (subst (λ m. WritesUpTo m l next) is w))) out h

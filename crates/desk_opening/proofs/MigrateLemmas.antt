@@ -1,6 +1,5 @@
 -- From the tables of a version to those of the newest, from BEGIN to COMMIT.
-use Rattle.std.proofs.Common.{◌≡◌, inl, inr, [], Ok, Err, Result, IsErr, refl, arith, sym, subst}
-use Rattle.std.specs.List.{AllByRecursion}
+use Rattle.std.proofs.Common.{inl, inr, [], Ok, Err, Result, IsErr, refl, arith}
 use Rattle.sqlite.specs.Tree.{Trees}
 use Rattle.sqlite.specs.Command.TheVariants.{Update}
 use Rattle.sqlite.specs.Effect.{Database}
@@ -24,7 +23,7 @@ use Rattle.desk_records.proofs.Meaning.{set_version_is, set_version_query}
 use Rattle.desk_records.proofs.Readable.{at_newest}
 use Rattle.desk_opening.specs.declared.running.TheConstants.{BEGIN, COMMIT}
 use Rattle.desk_opening.specs.Filling.{FillsLater, MakesLedger, Stays, bare_ledger}
-use Rattle.desk_opening.specs.Making.{At, Changes, HoldsPartly, HoldsStage, MakesTables, Older, Partly, Stage, Standing, Whole}
+use Rattle.desk_opening.specs.Making.{At, Changes, HoldsPartly, HoldsStage, MakesTables, Older, Partly, Standing, Whole}
 use Rattle.desk_opening.specs.Migrating.{Migrates}
 use Rattle.desk_opening.proofs.MakeLemmas.{begun}
 use Rattle.desk_opening.proofs.Steps.{changes_as, rests_as, step, step_fails}
@@ -89,11 +88,13 @@ module _ (v : Version) {F : Type 0} (out : Result (Unit {0}) F) where
             still_open r was = fourth.stays (At v r) (standing r was)
 
             filled : (r : Records) → Rests (HoldsAt v) a r → Sees HoldsStage e (Whole (ledger_of r))
-            filled r was = record { sees = λ clean.
-                let told : IsTellable v r = (let before = (began r was).sees.sees (omega (arith, second.wears, third.survives.clean, fourth.wears, clean)) in before.now_holds.kept.tellable) in
-                let seen : Sees HoldsLedger d (bare_ledger v r) = record { sees = λ known. let it = (named r was).sees.sees known in record { mode = it.mode; is_open = it.is_open; now_holds = it.now_holds } } in
-                let it = (filling.makes (bare_ledger v r) (ledger_of r) seen (λ known. record { records = r; tellable = told; bare = refl; next_is = refl })).sees clean in
-                record { mode = it.mode; is_open = it.is_open; now_holds = it.now_holds } }
+            filled r was = record {
+              sees = λ clean.
+                  let told : IsTellable v r = (let before = (began r was).sees.sees (omega (arith, second.wears, third.survives.clean, fourth.wears, clean)) in before.now_holds.kept.tellable) in
+                  let seen : Sees HoldsLedger d (bare_ledger v r) = record { sees = λ known. let it = (named r was).sees.sees known in record { mode = it.mode; is_open = it.is_open; now_holds = it.now_holds } } in
+                  let it = (filling.makes (bare_ledger v r) (ledger_of r) seen (λ known. record { records = r; tellable = told; bare = refl; next_is = refl })).sees clean in
+                  record { mode = it.mode; is_open = it.is_open; now_holds = it.now_holds };
+            }
 
             pub not_committed : (fault : Fault) → RunsText e z COMMIT.now [] (Err fault) → IsErr out → Migrates v a z out
             not_committed fault h bad = fails a z (omega (arith, first.survives.clean, second.wears, third.survives.clean, fourth.wears, h.survives.clean)) bad

@@ -1,8 +1,8 @@
 -- What the texts of all tables make.
-use Rattle.std.proofs.Common.{◌≡◌, refl, sym, ap, subst, ◌∙◌, arith, ◌||◌, ℕ, zero, suc, ◌+◌, ◌<◌, ◌≤◌, Bool, false, List, [], ◌∷◌, ◌++◌, length, map, take, drop, get_or}
-use Rattle.std.specs.List.{AllByRecursion, list_any}
+use Rattle.std.proofs.Common.{◌≡◌, refl, sym, ap, ◌∙◌, arith, ◌||◌, ℕ, zero, suc, ◌+◌, ◌<◌, Bool, false, List, [], ◌∷◌, ◌++◌, length, map, take, drop, get_or}
+use Rattle.std.specs.List.{list_any}
 use Rattle.std.proofs.lemmas.Bool.{or_parts}
-use Rattle.std.proofs.lemmas.List.{drop_more, length-map, take_all, take_more}
+use Rattle.std.proofs.lemmas.List.{drop_more, length-map, take_more}
 use Rattle.std.proofs.Math.ListN.{get_or-map}
 use Rattle.sqlite.specs.Schema.{Schema}
 use Rattle.sqlite.specs.Table.{Table}
@@ -18,20 +18,15 @@ use Rattle.sql_front.proofs.Write.{Makes, makes_known}
 use Rattle.sql_calls.specs.Means.{Means}
 use Rattle.desk_records.specs.Schema.{Place, places, table_at, name_of}
 use Rattle.desk_records.proofs.MeaningWords.{means_of}
-use Rattle.desk_records.proofs.EachPlace.{each_place}
 use Rattle.desk_opening.specs.declared.desk_table.DeskTable.{DeskTable}
 use Rattle.desk_opening.specs.Places.{place_of, create_text_of}
 use Rattle.desk_opening.proofs.IsPlace.{text_at}
-pub use Rattle.desk_opening.proofs.EachText.{is_place, all_tables}
+pub use Rattle.desk_opening.proofs.EachText.{is_place}
 
 pub create_means : (t : Place) (s : Schema) → is_used s (name_of t) ≡ false → Means s (create_text_of t) CreateTable
 create_means t s free = let makes = (is_place t).makes in means_of s (create_text_of t) _ (makes_known _ _ (table_at t 0) makes s free) refl refl
 
 -- ---- all places
-
--- what holds of all places that a loop has seen, once it has seen them all
-pub in_all_places : (P : Place → Type 0) (n : ℕ) → length places ≤ n → AllByRecursion P (take n places) → (t : Place) → P t
-in_all_places P n seen all = each_place P (subst (AllByRecursion P) (take_all n places seen) all)
 
 module _ (ds : List DeskTable) (n : ℕ) (d : DeskTable) (within : n < length ds) where
   below : n < length (map place_of ds)

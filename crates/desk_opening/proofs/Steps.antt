@@ -10,7 +10,7 @@ use Rattle.sqlite.proofs.Callers.{statement_of}
 use Rattle.sql_calls.specs.declared.fault.Fault.{Fault}
 use Rattle.sql_calls.specs.Calls.{RunsText, TakesFirst, TakesTo}
 use Rattle.sql_calls.specs.Means.{Known}
-use Rattle.sql_calls.specs.Standing.{HoldIn, IsAtRest, Rests}
+use Rattle.sql_calls.specs.Standing.{HoldIn, Rests}
 use Rattle.sql_calls.proofs.Leavings.{stays_inside, never_commits_inside, never_shows_inside, crash_kept, first_unchanged, none_shown, runs_plain, unchanged_by}
 use Rattle.desk_opening.specs.Filling.{Leaves}
 use Rattle.desk_opening.specs.Making.{Stage, HoldsStage, Changes}

@@ -20,7 +20,7 @@ use Rattle.rollout_machine.specs.Records.{Records}
 use Rattle.desk_records.specs.Holds.{AreRowsOf, HoldsLedger, IsHeld, Spot, content_at, content_of, desk_row, ledger_of}
 use Rattle.desk_records.specs.Readable.{HoldsPlace}
 use Rattle.desk_records.specs.Rollouts.{flag}
-use Rattle.desk_records.specs.Schema.{Place, Desk, Offers, desk_table, name_of, offer_table, places, table_at}
+use Rattle.desk_records.specs.Schema.{Place, Desk, Offers, desk_table, name_of, offer_table, table_at}
 use Rattle.desk_records.specs.Versions.{later_than, newest, number_of, places_at}
 use Rattle.desk_records.specs.declared.version.Version.{Version}
 use Rattle.desk_records.proofs.EachPlace.{each_place}
@@ -31,7 +31,7 @@ use Rattle.desk_opening.specs.Filling.{bare_ledger}
 use Rattle.desk_opening.specs.Making.{HoldsPartly, IsEmptyTable, Older}
 use Rattle.desk_opening.proofs.EachVersion.{at_all, has_offers, later_held, older_held, nothing}
 use Rattle.desk_opening.proofs.RowLemmas.{and_true, judged}
-use Rattle.desk_opening.proofs.Tables.{all_kept, no_rows}
+use Rattle.desk_opening.proofs.Tables.{no_rows}
 use Rattle.sqlite.specs.Term.{Term, lit, col}
 
 abbrev first_desk : List Term
