@@ -15,15 +15,6 @@ use Rattle.desk_records.specs.Parts.{parts_of}
 use Rattle.desk_reads.specs.Rollouts.{IsSeenOf}
 use Rattle.desk_reads.specs.declared.rollouts.SeenRollout.{SeenRollout}
 
-pub group_is : (seen : SeenRollout) (x : RolloutRecord) → IsSeenOf seen x → (g : GroupRecord) (size : ℕ) (word : GroupWord) → size ≡ size_of_group g
-    → word ≡ group_word_from seen.started (record { started = g.started; size = size; ok = g.ok; bad = g.bad; gone = g.gone; error = seen.plan.error })
-    → record { number = g.number; size = size; ok = g.ok; bad = g.bad; gone = g.gone; word = word } ≡ group_shown x g
-group_is seen x of g size word is worded =
-    let error : seen.plan.error ≡ x.plan.error = ap (λ (p : RolloutPlan). p.error) of.plan in
-    let so : word ≡ group_word_from x.started (record { started = g.started; size = size_of_group g; ok = g.ok; bad = g.bad; gone = g.gone; error = x.plan.error }) =
-    worded ∙ (λ i. group_word_from (of.started i) (record { started = g.started; size = is i; ok = g.ok; bad = g.bad; gone = g.gone; error = error i })) in
-    λ i. record { number = g.number; size = is i; ok = g.ok; bad = g.bad; gone = g.gone; word = so i }
-
 pub groups_mapped : (x : RolloutRecord) (gs : List GroupRecord) → groups_shown x gs ≡ map (group_shown x) gs
 groups_mapped x [] = refl
 groups_mapped x (g ∷ gs) = ap (λ (l : List ShownGroup). group_shown x g ∷ l) (groups_mapped x gs)
