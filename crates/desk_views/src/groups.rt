@@ -1,7 +1,8 @@
 //! Groups of rollouts.
 
-ghost use Rattle.std.specs.Prelude.{◌≡◌, ◌+◌, ◌-◌, ◌<◌, ◌++◌, ◌∷◌, [], IfOk, map, min};
+ghost use Rattle.std.specs.Prelude.{◌≡◌, ◌+◌, ◌-◌, ◌<◌, ◌++◌, ◌∷◌, [], IfOk, Some, map, min};
 ghost use Rattle.rollout_machine.specs.Answers.{target_if, targets_of};
+ghost use Rattle.rollout_machine.specs.ByteStrings.{item_numbered};
 ghost use Rattle.rollout_machine.specs.Commands.{RolloutPlan};
 ghost use Rattle.rollout_machine.specs.GroupRules.{rule_at, rules_of};
 ghost use Rattle.rollout_machine.specs.Objects.{group_shown, page_of, targets_shown};
@@ -62,12 +63,25 @@ pub fn show_group<S: Alter>(
         Some(found) => found,
         None => return Ok(Reply::Refused(Refusal::NotFound)),
     };
-    let rule = match change.read_rule(number, found.number)? {
-        Some(rule) => rule,
-        None => return Err(Fault::Store),
-    };
-    let shown = shown_in(&seen, rule, &found)?;
+    let shown = read_shown_group(change, number, &seen, &found)?;
     Ok(Reply::Group(shown))
+}
+
+/// A group of a rollout that is there, as it is shown. Where it has no rule, the store has failed.
+fn read_shown_group<S: Alter>(
+    change: &mut OpenChange<'_, S>,
+    number: RolloutNo,
+    seen: &SeenRollout,
+    group: &GroupRecord,
+) -> Result<Group, Fault>
+    ensures stays { StaysIn S.Store change.old change.new result }
+    ensures reads { FindsIn S.Store change.old change.new result
+        (λ now shown. (x : RolloutRecord) → item_numbered now.rollouts number ≡ Some x → IsSeenOf seen.now x → shown ≡ group_shown x group.now) }
+{
+    match change.read_rule(number, group.number)? {
+        Some(rule) => shown_in(seen, rule, group),
+        None => Err(Fault::Store),
+    }
 }
 
 /// Shows a page of the members of a group of a rollout, in byte order of their ids.

@@ -10,7 +10,6 @@ use Rattle.desk_store.proofs.LedgersOfRecords.{ledger_found}
 use Rattle.desk_reads.specs.Rollouts.{IsSeenOf}
 use Rattle.desk_views.proofs.GroupViews.{no_group, one_group}
 use Rattle.desk_reads.proofs.ListLemmas.{groups_are}
-use Rattle.desk_reads.proofs.RuleLemmas.{said_of}
 use Rattle.desk_views.proofs.RolloutViews.{none_replied}
 use Rattle.desk_views.proofs.groups.show_group.Goals as goal
 
@@ -26,7 +25,6 @@ returns-in-None-2-clause-shows g c =
 pub returns-clause-shows : goal.returns-clause-shows
 returns-clause-shows g c =
     finds_as
-    (both_found (both_found (rw c.in-Some.is at c.in_ok-seen.ensures.reads) (rw c.in-Some-2.is at (ledger_found _ c.in_ok-found.ensures.reads))) (rw c.in-Some-3.is at (ledger_found _ c.in_ok-rule.ensures.reads)))
+    (both_found (both_found (rw c.in-Some.is at c.in_ok-seen.ensures.reads) (rw c.in-Some-2.is at (ledger_found _ c.in_ok-found.ensures.reads))) c.in_ok-shown.ensures.reads)
     (λ r is of. one_group (λ x f. GroupShown (group_shown x f)) (item_numbered r.rollouts c.args.number) c.args.group c.in-Some-2.found _ (is.0.1 ∙ ap (group_numbered c.args.group) (groups_are r of c.args.number))
-    (λ x there in_it. ap GroupShown (c.in_ok-shown.ensures x (subst (BothOrNone IsSeenOf (Some c.in-Some.seen)) there (is.0.0 of))
-    (said_of r c.args.number c.in-Some-2.found.number x c.in-Some-3.rule there is.1))))
+    (λ x there in_it. ap GroupShown (is.1 x there (subst (BothOrNone IsSeenOf (Some c.in-Some.seen)) there (is.0.0 of)))))
