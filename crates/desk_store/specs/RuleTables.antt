@@ -42,9 +42,13 @@ HaveRules Has i (rule ∷ rules) = Has i rule × HaveRules Has (suc i) rules
 abbrev pub definition_by : GroupRule → Option GroupDefinition
 definition_by rule = option_map (λ p. record { percentage = p; success = rule.success; error = rule.error }) rule.percentage
 
-abbrev pub grouping_in : List GroupRule → Grouping
-grouping_in rules = record { count = length rules; definitions = filter_map definition_by rules }
+abbrev pub definitions_in : List GroupRule → List GroupDefinition
+definitions_in rules = filter_map definition_by rules
+
+-- so many groups, with definitions of each or of none
+abbrev pub grouping_with : ℕ → List GroupDefinition → Option Grouping
+grouping_with count ds = let groups = record { count = count; definitions = ds } in if is_grouping groups then Some groups else None
 
 -- even where none has a percentage; else each has one, of which the last is 100
 abbrev pub grouping_of : List GroupRule → Option Grouping
-grouping_of rules = if is_grouping (grouping_in rules) then Some (grouping_in rules) else None
+grouping_of rules = grouping_with (length rules) (definitions_in rules)
