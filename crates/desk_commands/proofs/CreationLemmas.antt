@@ -5,7 +5,7 @@ use Rattle.std.specs.Option.{IsSomeAnd}
 use Rattle.std.proofs.lemmas.Bool.{and_parts}
 use Rattle.std.proofs.lemmas.Bool.Decides.{nat_tests}
 use Rattle.std.proofs.lemmas.List.{length-append, length-map, length-take-le, map-append, take_all}
-use Rattle.std.proofs.lemmas.Option.{slice_get_read, slice_get_within}
+use Rattle.std.proofs.lemmas.Option.{slice_get-get_or, slice_get_within}
 use Rattle.rollout_machine.specs.Actions.{ActionPlace, action_places}
 use Rattle.rollout_machine.specs.Answers.{added_rollout, command_reply}
 use Rattle.rollout_machine.specs.ByteStrings.{item_numbered}
@@ -132,17 +132,22 @@ numbered_last xs x n is = let next : n ≡ suc (length xs) = omega (arith, is) i
 set_last : {X : Type 0} (xs : List X) (x y : X) (n : ℕ) → n ≡ length xs + 1 → set_numbered (xs ++ x ∷ []) n y ≡ xs ++ y ∷ []
 set_last xs x y n is = let next : n ≡ suc (length xs) = omega (arith, is) in ap (λ k. set_numbered (xs ++ x ∷ []) k y) next ∙ last_set xs x y
 
+-- of each group there are bounds
+pub within : (plan : RolloutPlan) (size : ℕ) (cuts : List Bounds) → cuts ≡ cut_by plan.groups size → (k : ℕ) → k < plan.groups.count → k < length cuts
+within plan size cuts are k below = subst (λ n. k < n) (sym (ap length are ∙ length_each (bounds_by plan.groups size) 1 plan.groups.count)) below
+
 module _ (n : NewRollout) (plan : RolloutPlan) (size : ℕ) where
   pub begins : (l next : Ledger) → CreatesRollout (in_part n plan size 0 []) [] l next → AddsRollout n.number plan n.approval l next
   begins l next h = record { number_is = h.number_is; next_is = h.next_is }
 
   -- the groups before an index, and the one there, of which nothing is said yet
-  pub one_group : (cuts : List Bounds) → cuts ≡ cut_by plan.groups size → (k : ℕ) (bounds : Bounds) → k < length cuts → bounds ≡ get_or cuts k bounds → (l next : Ledger) → CreatesRollout (in_part n plan size (k + 1) []) (first_rules plan k) l next
-      → (mid : Ledger) × CreatesRollout (in_part n plan size k []) (first_rules plan k) l mid × AddsGroup n.number (k + 1) bounds mid next
-  one_group cuts are k bounds within is l next h =
+  pub one_group : (cuts : List Bounds) → cuts ≡ cut_by plan.groups size → (k : ℕ) (d : Bounds) → k < length cuts → (l next : Ledger) → CreatesRollout (in_part n plan size (k + 1) []) (first_rules plan k) l next
+      → (mid : Ledger) × CreatesRollout (in_part n plan size k []) (first_rules plan k) l mid × AddsGroup n.number (k + 1) (get_or cuts k d) mid next
+  one_group cuts are k d within l next h =
       let was = in_part n plan size k [] in
       let xs = l.records.rollouts in
-      let there : slice_get (cut_by plan.groups size) k ≡ Some bounds = ap (λ bs. slice_get bs k) (sym are) ∙ slice_get_read cuts (length cuts) k bounds refl within is in
+      let bounds = get_or cuts k d in
+      let there : slice_get (cut_by plan.groups size) k ≡ Some bounds = ap (λ bs. slice_get bs k) (sym are) ∙ slice_get-get_or cuts k d within in
       let its : bounds ≡ bounds_at plan size (k + 1) = (numbered_each (bounds_by plan.groups size) plan.groups.count (suc k) bounds there).2 ∙ ap (bounds_at plan size) (omega arith) in (
         and_rollout was (first_rules plan k) l,
         record { number_is = h.number_is; ruled = h.ruled; unacted = h.unacted; next_is = refl },

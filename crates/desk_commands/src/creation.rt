@@ -193,10 +193,12 @@ fn write_whole<S: Alter>(
         (CreatesRollout (in_part created.now plan.now (length members.now) plan.now.groups.count members.now) (rules_of plan.now)) }
 {
     let number = created.number;
+    let groups = plan.groups.count().get();
     change.write_rollout(number, plan, created.approval)?;
-    for (i, bounds) in cuts.iter().enumerate() {
-        let group = i as u32 + 1;
-        change.write_group(number, group, *bounds)?;
+    for i in 0..groups {
+        let group = i + 1;
+        let bounds = cuts[i as usize];
+        change.write_group(number, group, bounds)?;
         change.write_rule(number, group, &plan.group_rule(group))?;
     }
     for (i, id) in members.iter().enumerate() {

@@ -32,7 +32,7 @@ each_at f first (suc n) (suc k) below = each_at f (suc first) n k (omega (arith,
 -- .. and one is there for each group
 pub rule_there : (plan : RolloutPlan) (i : ℕ) → 1 ≤ i → i ≤ plan.groups.count → item_numbered (rules_of plan) i ≡ Some (rule_at plan i)
 rule_there plan zero least most = absurd (omega (arith, least))
-rule_there plan (suc k) least most = each_at (rule_at plan) 1 plan.groups.count k (omega (arith, most))
+rule_there plan (suc k) least most = let next : 1 + k ≡ suc k = omega arith in each_at (rule_at plan) 1 plan.groups.count k (omega (arith, most)) ∙ ap (λ i. Some (rule_at plan i)) next
 
 -- what is said of a group of a rollout that is there
 pub said_of : (r : Records) (number i : ℕ) (x : RolloutRecord) (rule : GroupRule) → item_numbered r.rollouts number ≡ Some x → Some rule ≡ rule_numbered (ledger_of r).rules number i → rule ≡ rule_at x.plan i

@@ -1,9 +1,7 @@
 use Rattle.sql_calls.proofs.Composing.{makes_as, makes_then}
-use Rattle.std.proofs.Common.{◌≡◌, [], ap, arith, length, subst, sym, rules, ◌∙◌}
-use Rattle.rollout_machine.specs.Groupings.{bounds_by}
-use Rattle.rollout_machine.proofs.Lists.{length_each}
+use Rattle.std.proofs.Common.{◌≡◌, ◌<◌, [], arith, length, refl, subst, sym, rules, ◌∙◌}
 use Rattle.desk_commands.specs.Creations.{CreatesRollout, first_rules, in_part}
-use Rattle.desk_commands.proofs.CreationLemmas.{begins, one_group, one_member, one_rule}
+use Rattle.desk_commands.proofs.CreationLemmas.{begins, one_group, one_member, one_rule, within}
 use Rattle.desk_commands.proofs.creation.write_whole.Goals as goal
 
 pub loop-i-init : goal.loop-i-init
@@ -12,6 +10,9 @@ loop-i-init g c = record {
   writes = makes_as (begins c.args.created.now c.args.plan.now (length c.args.members.now)) _ c.in_ok-write_rollout.ensures.writes;
 }
 
+pub bounds-cuts-i : goal.bounds-cuts-i
+bounds-cuts-i g c = within c.args.plan.now (length c.args.members.now) c.args.cuts.now c.requires.cut c.loop-i.i (subst (λ n. c.loop-i.i < n) (c.get-groups.ensures.value ∙ c.count.ensures.value) c.loop-i-test.true)
+
 pub loop-i-preserved : goal.loop-i-preserved
 loop-i-preserved g c =
     let size = length c.args.members.now in
@@ -19,7 +20,7 @@ loop-i-preserved g c =
       stays = search rules;
       writes = makes_then
           (makes_then c.loop-i.invariant.writes
-          (one_group c.args.created.now c.args.plan.now size c.args.cuts.now c.args.requires.cut c.loop-i.i c.index-cuts-i.result c.loop-i-test.true c.index-cuts-i.is) _ c.in_ok-write_group.ensures.writes)
+          (one_group c.args.created.now c.args.plan.now size c.args.cuts.now c.requires.cut c.loop-i.i _ (within c.args.plan.now size c.args.cuts.now c.requires.cut c.loop-i.i (subst (λ n. c.loop-i.i < n) (c.get-groups.ensures.value ∙ c.count.ensures.value) c.loop-i-test.true))) _ c.in_ok-write_group.ensures.writes)
           (one_rule c.args.created.now c.args.plan.now size c.loop-i.i) _ (rw c.group_rule.ensures at c.in_ok-write_rule.ensures.writes);
     }
 
@@ -27,8 +28,7 @@ pub loop-i-2-init : goal.loop-i-2-init
 loop-i-2-init g c =
     let plan = c.args.plan.now in
     let size = length c.args.members.now in
-    let many : length c.args.cuts.now ≡ plan.groups.count = ap length c.args.requires.cut ∙ length_each (bounds_by plan.groups size) 1 plan.groups.count in
-    let all : c.loop-i.i ≡ plan.groups.count = omega (arith, c.loop-i-test.false, c.loop-i.auto.i-end, many) in
+    let all : c.loop-i.i ≡ plan.groups.count = omega (arith, c.loop-i-test.false, c.loop-i.auto.i-end, c.get-groups.ensures.value, c.count.ensures.value) in
     record {
       stays = search rules;
       writes = makes_as (λ l next h. subst (λ k. CreatesRollout (in_part c.args.created.now plan size k []) (first_rules plan k) l next) (sym all) h) _ c.loop-i.invariant.writes;

@@ -1,7 +1,10 @@
 use Rattle.sql_calls.proofs.Composing.{both_found, finds_as}
-use Rattle.std.proofs.Common.{sym, ◌∙◌}
+use Rattle.std.proofs.Common.{sym, rules, ◌∙◌}
 use Rattle.desk_commands.proofs.SeenLemmas.{ok_or_some, sees}
 use Rattle.desk_commands.proofs.seen_actions.see_in.Goals as goal
+
+pub returns-in_err-view-clause-stays : goal.returns-in_err-view-clause-stays
+returns-in_err-view-clause-stays g c = search (c.in_ok-read_rollout.ensures.stays, c.in_ok-found.ensures.stays, c.in_ok-read_rule.ensures.stays, rules)
 
 pub returns-clause-reads : goal.returns-clause-reads
 returns-clause-reads g c =
