@@ -9,6 +9,7 @@ use Rattle.rollout_machine.specs.Actions.{places_from}
 use Rattle.rollout_machine.specs.ByteStrings.{item_numbered}
 use Rattle.rollout_machine.specs.CommandList.{CommandList}
 use Rattle.rollout_machine.specs.Commands.{Bytes, Start}
+use Rattle.rollout_machine.specs.GroupRules.{rules_of}
 use Rattle.rollout_machine.specs.Ranges.{each_from}
 use Rattle.rollout_machine.specs.Records.{Approval, Denied, Given, Waiting, Records, group_in, records, rollout_in}
 use Rattle.rollout_machine.specs.RecordSteps.{begin_rollout, change_rollout, new_action, new_actions, start_group, step_records}
@@ -32,7 +33,7 @@ use Rattle.desk_reads.specs.declared.rollouts.SeenRollout.{SeenRollout}
 use Rattle.desk_commands.specs.GroupStarts.{StartsGroup, started}
 use Rattle.desk_commands.specs.Starts.{AddsActions, ReadsMembers, StartsWhole, new_for}
 use Rattle.desk_commands.proofs.ItemSteps.{set_twice}
-use Rattle.desk_commands.proofs.LedgerEnds.{changed_at, ends_with_group, rollout_of, set_is_there}
+use Rattle.desk_commands.proofs.LedgerEnds.{changed_at, ends_with_group, rollout_of, same_but_for, set_is_there}
 use Rattle.desk_commands.proofs.StandingLemmas.{Found}
 
 -- ---- what is read
@@ -111,7 +112,7 @@ or_false true = refl
 or_false false = refl
 
 first_is : (h : CommandList) (r : ℕ) (x : RolloutRecord) → item_numbered (records h).rollouts r ≡ Some x → (g : GroupRecord) → slice_get x.groups 0 ≡ Some g → IsFirst x g
-first_is h r x there g at = let it = rollout_of h r x there in subst (λ (z : RolloutRecord). slice_get z.groups 0 ≡ Some g → IsFirst z g) it.same (go it.rollout it.rollout.plan.groups refl) at
+first_is h r x there g at = let it = rollout_of h r x there in subst (λ (z : RolloutRecord). slice_get z.groups 0 ≡ Some g → IsFirst z g) it.same (go it.rollout it.rollout.plan.groups.count refl) at
   where
     others : (y : Rollout) (a n : ℕ) → 2 ≤ a → map (start_group (Some 1)) (each_from (group_in y r h) a n) ≡ each_from (group_in y r h) a n
     others y a zero low = refl
@@ -120,7 +121,7 @@ first_is h r x there g at = let it = rollout_of h r x there in subst (λ (z : Ro
         let still = ap (λ b. (group_in y r h a).started || b) apart ∙ or_false (group_in y r h a).started in
         λ i. record (group_in y r h a) { started = still i } ∷ others y (suc a) n (omega (arith, low)) i
 
-    go : (y : Rollout) (n : ℕ) → y.plan.groups ≡ n → slice_get (rollout_in h r y).groups 0 ≡ Some g → IsFirst (rollout_in h r y) g
+    go : (y : Rollout) (n : ℕ) → y.plan.groups.count ≡ n → slice_get (rollout_in h r y).groups 0 ≡ Some g → IsFirst (rollout_in h r y) g
     go y zero none at = absurd (let it : None ≡ Some g = ap (λ k. slice_get (each_from (group_in y r h) 1 k) 0) (sym none) ∙ at in cc)
     go y (suc n) some at =
         let head : Some (group_in y r h 1) ≡ Some g = ap (λ k. slice_get (each_from (group_in y r h) 1 k) 0) (sym some) ∙ at in
@@ -177,7 +178,8 @@ starts_whole h valid r seen g last count members number found accepted first siz
   starts =
       ends_with_group h (Start r) valid number accepted r g acting_ledger y (set_is_there rs.rollouts r x y there) (ap (item_numbered x.groups) fg.number ∙ fg.its)
       (record { rollout = x; is_there = there; group = g; is_its = ap (item_numbered x.groups) fg.number ∙ fg.its; bounds = refl; waits = fg.waits (unstarted rs r x there accepted) })
-      (λ i. record rs { rollouts = rolls i; actions = acts i }) (sym (map-append tally_of rs.actions (new_for r (length members)))) (λ t. refl);
+      (λ i. record rs { rollouts = rolls i; actions = acts i }) (sym (map-append tally_of rs.actions (new_for r (length members)))) (λ t. refl)
+      (sym (same_but_for (λ (z : RolloutRecord). rules_of z.plan) rs.rollouts r x y there refl));
 }
   where
     rs : Records
