@@ -45,9 +45,13 @@ definition_by rule = option_map (λ p. record { percentage = p; success = rule.s
 abbrev pub definitions_in : List GroupRule → List GroupDefinition
 definitions_in rules = filter_map definition_by rules
 
+-- where it keeps its rules
+abbrev pub if_grouping : Grouping → Option Grouping
+if_grouping groups = if is_grouping groups then Some groups else None
+
 -- so many groups, with definitions of each or of none
 abbrev pub grouping_with : ℕ → List GroupDefinition → Option Grouping
-grouping_with count ds = let groups = record { count = count; definitions = ds } in if is_grouping groups then Some groups else None
+grouping_with count ds = if_grouping (record { count = count; definitions = ds })
 
 -- even where none has a percentage; else each has one, of which the last is 100
 abbrev pub grouping_of : List GroupRule → Option Grouping
