@@ -9,7 +9,6 @@ use Rattle.rollout_machine.specs.CommandList.{CommandList, ◌▸◌}
 use Rattle.rollout_machine.specs.CommandRules.{IsWellFormed}
 use Rattle.rollout_machine.specs.Commands.{Bytes, Command}
 use Rattle.rollout_machine.specs.Counts.{is_outcome}
-use Rattle.rollout_machine.specs.GroupRules.{rules_of}
 use Rattle.rollout_machine.specs.Offers.{Offer, offer}
 use Rattle.std.specs.Option.{is_none}
 use Rattle.rollout_machine.specs.RecordSteps.{counted, start_group, step_records}
@@ -49,7 +48,7 @@ use Rattle.desk_commands.proofs.GroupNumbers.{Numbered, map_at, numbered_groups,
 use Rattle.desk_commands.proofs.ItemSteps.{append_none, map_set, set_elsewhere, set_is_change, set_twice, zip_map}
 use Rattle.desk_commands.proofs.KnownActions.{IsPlaced, seen_at, started_is}
 use Rattle.desk_commands.proofs.OfferingLemmas.{next_is_offer, offer_stays, offer_there}
-use Rattle.desk_commands.proofs.LedgerEnds.{ends_with_group, ends_with_none, said_in, same_but_for, set_is_there}
+use Rattle.desk_commands.proofs.LedgerEnds.{ends_with_group, ends_with_none, said_in, said_stays, same_but_for, set_is_there}
 
 -- ---- the action and its tally
 
@@ -280,7 +279,7 @@ module _ (h : CommandList) (c : Command) (valid : IsValid h) (formed : IsWellFor
     there = set_is_there rs.rollouts r w.rollout x2 w.its
 
     rules_are : counted_in.rules ≡ said_in counted_in.records.rollouts
-    rules_are = sym (same_but_for (λ (y : RolloutRecord). rules_of y.plan) rs.rollouts r w.rollout x2 w.its refl)
+    rules_are = sym (said_stays rs.rollouts r w.rollout x2 w.its refl)
 
     -- with what follows
     rollouts_are : (f : Following) → following s.rollout o ≡ f → (step_records rs c).rollouts ≡ set_numbered rs.rollouts r (moved_by (effects_by w.own.number f) x2)
@@ -321,7 +320,7 @@ module _ (h : CommandList) (c : Command) (valid : IsValid h) (formed : IsWellFor
           approval = refl;
           started = refl;
           next_is = ends_with_none h c valid formed accepted (with_rollout counted_in r x3) (with_these (set_numbered counted_in.records.rollouts r x3) (are ∙ sym (set_twice r rs.rollouts x2 x3))) (tallies_are e leads) (offers_are e leads)
-              (rules_are ∙ sym (same_but_for (λ (y : RolloutRecord). rules_of y.plan) counted_in.records.rollouts r x2 x3 there refl)) (none_begins x3 refl are);
+              (rules_are ∙ sym (said_stays counted_in.records.rollouts r x2 x3 there refl)) (none_begins x3 refl are);
         }
     ends_by so.StartsNext is = starts (item_numbered w.rollout.groups n) refl (and_parts _ _ (starts_waiting s.rollout o is)).1
       where

@@ -15,7 +15,6 @@ use Rattle.rollout_machine.specs.Filters.{matches, seen}
 use Rattle.rollout_machine.specs.GroupRules.{GroupRule, rule_at, rules_of}
 use Rattle.rollout_machine.specs.Groupings.{bounds_by, cut_by}
 use Rattle.rollout_machine.specs.Offers.{first_offer}
-use Rattle.rollout_machine.specs.Ranges.{each_from}
 use Rattle.rollout_machine.specs.Objects.{rollout_shown}
 use Rattle.rollout_machine.specs.Replies.{RolloutAdded}
 use Rattle.rollout_machine.specs.Records.{Records, action_in, records, rollouts_in}

@@ -103,6 +103,10 @@ groups_stand h r x at i = let it = rollout_of h r x at in subst (λ (z : Rollout
 abbrev pub said_in : List RolloutRecord → List (List GroupRule)
 said_in xs = map (λ (x : RolloutRecord). rules_of x.plan) xs
 
+-- .. which stays where a rollout of the same plan is put in place of one
+pub said_stays : (xs : List RolloutRecord) (r : ℕ) (x y : RolloutRecord) → item_numbered xs r ≡ Some x → y.plan ≡ x.plan → said_in (set_numbered xs r y) ≡ said_in xs
+said_stays xs r x y there same = same_but_for (λ (z : RolloutRecord). rules_of z.plan) xs r x y there (ap rules_of same)
+
 abbrev pub then_started : RolloutRecord → GroupRecord → RolloutRecord
 then_started x g = with_groups x (set_numbered x.groups g.number (started g))
 
@@ -132,7 +136,7 @@ module _ (h : CommandList) (c : Command) (valid : IsValid (h ▸ c)) where
       tallies = (ap (λ (rs : Records). map tally_of rs.actions) after ∙ sym tallies) i;
       offers = λ t. (offers_after_group h c r g.number g.bounds t valid starts ∙ ap (λ rs. put_offers (offers_before_start h c) (group_offers rs r g.bounds) t) after
           ∙ ap (λ f. put_offers f (group_offers (with_group mid r x (started g)).records r g.bounds) t) (sym (λ i. λ u. offers u i))) i;
-      rules = (ap (λ (rs : Records). said_in rs.rollouts) after ∙ same_but_for (λ (y : RolloutRecord). rules_of y.plan) mid.records.rollouts r x (then_started x g) there refl ∙ sym rules) i;
+      rules = (ap (λ (rs : Records). said_in rs.rollouts) after ∙ said_stays mid.records.rollouts r x (then_started x g) there refl ∙ sym rules) i;
     };
   }
     where
@@ -200,7 +204,7 @@ module _ (h : CommandList) (c : Command) (valid : IsValid h) (formed : IsWellFor
   pub sets_alone : starts_of y ≡ starts_of x → ledger_of (step_records (records h) c) ≡ with_rollouts (ledger_of (records h)) (set_numbered (records h).rollouts r y)
   sets_alone same =
       ends_with_none h c valid formed accepted (with_rollouts (ledger_of (records h)) (set_numbered (records h).rollouts r y)) step refl calm
-      (sym (same_but_for (λ (z : RolloutRecord). rules_of z.plan) (records h).rollouts r x y there (ap rules_of planned)))
+      (sym (said_stays (records h).rollouts r x y there planned))
       (λ q x' y' at still. keeps_starts (records h).rollouts (set_numbered (records h).rollouts r y) (same_but_for starts_of (records h).rollouts r x y there same) q x' y' at (sym (ap (λ (rs : Records). item_numbered rs.rollouts q) step) ∙ still))
 
   -- it makes z of the rollout, and then starts a group
@@ -209,4 +213,4 @@ module _ (h : CommandList) (c : Command) (valid : IsValid h) (formed : IsWellFor
   starts_last z g its waits is =
       ends_with_group h c valid formed accepted r g (with_rollouts (ledger_of (records h)) (set_numbered (records h).rollouts r z)) z (set_is_there (records h).rollouts r x z there) its waits
       (step ∙ ap (λ (xs : List RolloutRecord). record (records h) { rollouts = xs }) (ap (set_numbered (records h).rollouts r) is ∙ sym (set_twice r (records h).rollouts z (then_started z g)))) refl calm
-      (sym (same_but_for (λ (w : RolloutRecord). rules_of w.plan) (records h).rollouts r x z there (ap rules_of (sym (ap (λ (w : RolloutRecord). w.plan) is) ∙ planned))))
+      (sym (said_stays (records h).rollouts r x z there (sym (ap (λ (w : RolloutRecord). w.plan) is) ∙ planned)))

@@ -9,7 +9,6 @@ use Rattle.rollout_machine.specs.Actions.{places_from}
 use Rattle.rollout_machine.specs.ByteStrings.{item_numbered}
 use Rattle.rollout_machine.specs.CommandList.{CommandList}
 use Rattle.rollout_machine.specs.Commands.{Bytes, Start}
-use Rattle.rollout_machine.specs.GroupRules.{rules_of}
 use Rattle.rollout_machine.specs.Ranges.{each_from}
 use Rattle.rollout_machine.specs.Records.{Approval, Denied, Given, Waiting, Records, group_in, records, rollout_in}
 use Rattle.rollout_machine.specs.RecordSteps.{begin_rollout, change_rollout, new_action, new_actions, start_group, step_records}
@@ -33,7 +32,7 @@ use Rattle.desk_reads.specs.declared.rollouts.SeenRollout.{SeenRollout}
 use Rattle.desk_commands.specs.GroupStarts.{StartsGroup, started}
 use Rattle.desk_commands.specs.Starts.{AddsActions, ReadsMembers, StartsWhole, new_for}
 use Rattle.desk_commands.proofs.ItemSteps.{set_twice}
-use Rattle.desk_commands.proofs.LedgerEnds.{changed_at, ends_with_group, rollout_of, same_but_for, set_is_there}
+use Rattle.desk_commands.proofs.LedgerEnds.{changed_at, ends_with_group, rollout_of, said_stays, set_is_there}
 use Rattle.desk_commands.proofs.StandingLemmas.{Found}
 
 -- ---- what is read
@@ -179,7 +178,7 @@ starts_whole h valid r seen g last count members number found accepted first siz
       ends_with_group h (Start r) valid number accepted r g acting_ledger y (set_is_there rs.rollouts r x y there) (ap (item_numbered x.groups) fg.number ∙ fg.its)
       (record { rollout = x; is_there = there; group = g; is_its = ap (item_numbered x.groups) fg.number ∙ fg.its; bounds = refl; waits = fg.waits (unstarted rs r x there accepted) })
       (λ i. record rs { rollouts = rolls i; actions = acts i }) (sym (map-append tally_of rs.actions (new_for r (length members)))) (λ t. refl)
-      (sym (same_but_for (λ (z : RolloutRecord). rules_of z.plan) rs.rollouts r x y there refl));
+      (sym (said_stays rs.rollouts r x y there refl));
 }
   where
     rs : Records
