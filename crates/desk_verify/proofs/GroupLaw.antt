@@ -174,7 +174,7 @@ module _ (h : CommandList) (valid : IsValid h) (db : Database) (t : Tables) (hel
         let its : slice_get (ledger_of (records h)).rules d ≡ Some (rules_of x.plan) = slice_get-map (λ (y : RolloutRecord). rules_of y.plan) (records h).rollouts d ∙ ap (option_map (λ (y : RolloutRecord). rules_of y.plan)) got in
         let own = each_there (rule_at x.plan) 1 x.plan.groups.count e (suc e) (omega (arith, high)) (omega arith) in
         let part = part_among rule_row (λ (rules : List GroupRule). rules) 1 (suc d) d (ledger_of (records h)).rules (rules_of x.plan) (rule_row (suc d) (suc e) rule) (omega arith) its
-            (item_row (rule_row (suc d)) 1 (suc e) e (rules_of x.plan) rule (omega arith) own) in
+        (item_row (rule_row (suc d)) 1 (suc e) e (rules_of x.plan) rule (omega arith) own) in
         let row = row_of (t Rules) (rules_from (ledger_of (records h)).rules) (rule_row (suc d) (suc e) rule) (held_rows db (ledger_of (records h)) held t holds Rules) part in
         record { row = Int (pos row.0) ∷ rule_row (suc d) (suc e) rule; among = row.1; passes = grind (arith, nat_tests); is = rule_told x.plan (suc e) planned.formed }
 

@@ -8,7 +8,6 @@ use Rattle.sqlite_value.specs.Order.{Row, column}
 use Rattle.sqlite_rules.specs.Lists.{Has}
 use Rattle.sqlite_rules.proofs.ListLemmas.{some_from, some_has, test_from, test_has}
 use Rattle.rollout_machine.specs.ByteStrings.{item_numbered}
-use Rattle.rollout_machine.specs.GroupRules.{GroupRule}
 use Rattle.rollout_machine.specs.Groupings.{Grouping, bounds_by, cut_by, leaves_empty}
 use Rattle.rollout_machine.specs.Ranges.{each_from}
 use Rattle.rollout_machine.proofs.Lists.{numbered_each}
@@ -24,7 +23,7 @@ use Rattle.desk_records.specs.Tables.{Tables}
 use Rattle.desk_records.specs.declared.checked_rows.CountedAction.{CountedAction}
 use Rattle.desk_records.proofs.NumberColumns.{is_at, number_in_is, number_in_least, number_is, one_number}
 use Rattle.desk_store.specs.RawLists.{ListsRows, SaysGroup}
-use Rattle.desk_store.specs.RuleTables.{HasGroupCount, grouping_of}
+use Rattle.desk_store.specs.RuleTables.{HasGroupCount}
 use Rattle.desk_verify.specs.Agreement.{Decides}
 use Rattle.desk_verify.specs.Cuts.{are_bounds, are_right, counts_them, has_each, has_number, is_cut, is_right, same_bounds}
 use Rattle.desk_verify.specs.GroupChecks.{HasEach, IsCutOnlyBy, IsGroupCount}

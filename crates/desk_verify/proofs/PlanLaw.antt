@@ -79,21 +79,19 @@ numbered_is ds count zero d each at = absurd cc
 numbered_is [] count (suc i) d each at = absurd cc
 numbered_is (e ∷ ds) count (suc i) d each at = each_is (e ∷ ds) i d (and_parts _ _ (and_parts _ _ (and_parts _ _ each).0).1).0 at
 
+by_rule : (o : Option GroupDefinition) (plan : RolloutPlan) → is_percentage plan.success ≡ true → is_percentage plan.error ≡ true → ((d : GroupDefinition) → o ≡ Some d → is_definition d ≡ true) → IsRuleRow (told_rule (rule_by o plan)) (rule_by o plan)
+by_rule None plan success error each = record { percentage = refl; success = percentage_is plan.success success; error = percentage_is plan.error error }
+by_rule (Some d) plan success error each =
+    let good = and_parts _ _ (each d refl) in
+    let rest = and_parts _ _ good.1 in
+    record { percentage = ap (option_map Some) (percentage_is d.percentage good.0); success = percentage_is d.success rest.0; error = percentage_is d.error rest.1 }
+
 pub rule_told : (plan : RolloutPlan) (i : ℕ) → is_plan plan ≡ true → IsRuleRow (told_rule (rule_at plan i)) (rule_at plan i)
-rule_told plan i formed = go (definition_numbered plan.groups.definitions i) refl
-  where
-    parts : (is_grouping plan.groups ≡ true) × _
-    parts = and_parts _ _ formed
-
-    more : (is_percentage plan.success ≡ true) × _
-    more = and_parts _ _ parts.1
-
-    go : (o : Option GroupDefinition) → definition_numbered plan.groups.definitions i ≡ o → IsRuleRow (told_rule (rule_by o plan)) (rule_by o plan)
-    go None at = record { percentage = refl; success = percentage_is plan.success more.0; error = percentage_is plan.error (and_parts _ _ more.1).0 }
-    go (Some d) at =
-        let good = and_parts _ _ (numbered_is plan.groups.definitions plan.groups.count i d (and_parts _ _ parts.0).1 at) in
-        let rest = and_parts _ _ good.1 in
-        record { percentage = ap (λ o. option_map Some o) (percentage_is d.percentage good.0); success = percentage_is d.success rest.0; error = percentage_is d.error rest.1 }
+rule_told plan i formed =
+    let parts = and_parts _ _ formed in
+    let more = and_parts _ _ parts.1 in
+    let each = (and_parts _ _ parts.0).1 in
+    by_rule (definition_numbered plan.groups.definitions i) plan more.0 (and_parts _ _ more.1).0 (λ d at. numbered_is plan.groups.definitions plan.groups.count i d each at)
 
 -- ---- they make its grouping
 
@@ -101,27 +99,33 @@ pub each_has : (Has : ℕ → GroupRule → Type 0) (f : ℕ → GroupRule) (fir
 each_has Has f first zero each = tt
 each_has Has f first (suc n) each = (each first (omega arith) (omega arith), each_has Has f (suc first) n (λ i low high. each i (omega (arith, low)) (omega (arith, high))))
 
-definitions_back : (plan : RolloutPlan) (k n : ℕ) (ds : List GroupDefinition) → ((j : ℕ) → slice_get plan.groups.definitions (k + j) ≡ slice_get ds j) → length ds ≤ n → definitions_in (each_from (rule_at plan) (suc k) n) ≡ ds
-definitions_back plan k zero [] same few = refl
-definitions_back plan k zero (d ∷ ds) same few = absurd (omega (arith, few))
-definitions_back plan k (suc n) ds same few = go ds same few
-  where
-    here : (ds : List GroupDefinition) → ((j : ℕ) → slice_get plan.groups.definitions (k + j) ≡ slice_get ds j) → slice_get plan.groups.definitions k ≡ slice_get ds 0
-    here ds same = let at : k + 0 ≡ k = omega arith in ap (slice_get plan.groups.definitions) (sym at) ∙ same 0
+-- a list is the rest of another from k on
+abbrev IsRest : ℕ → List GroupDefinition → List GroupDefinition → Type 0
+IsRest k all rest = (j : ℕ) → slice_get all (k + j) ≡ slice_get rest j
 
-    go : (ds : List GroupDefinition) → ((j : ℕ) → slice_get plan.groups.definitions (k + j) ≡ slice_get ds j) → length ds ≤ suc n → definitions_in (each_from (rule_at plan) (suc k) (suc n)) ≡ ds
-    go [] same few = rw (here [] same) (definitions_back plan (suc k) n [] (λ j. (let at : suc k + j ≡ k + suc j = omega arith in ap (slice_get plan.groups.definitions) at ∙ same (suc j))) (omega arith))
-    go (d ∷ ds) same few = rw (here (d ∷ ds) same) (ap (λ l. d ∷ l) (definitions_back plan (suc k) n ds (λ j. (let at : suc k + j ≡ k + suc j = omega arith in ap (slice_get plan.groups.definitions) at ∙ same (suc j))) (omega (arith, few))))
+first_of : (k : ℕ) (all rest : List GroupDefinition) → IsRest k all rest → slice_get all k ≡ slice_get rest 0
+first_of k all rest is = let at : k + 0 ≡ k = omega arith in ap (slice_get all) (sym at) ∙ is 0
+
+next_of : (k : ℕ) (all rest more : List GroupDefinition) → IsRest k all rest → ((j : ℕ) → slice_get rest (suc j) ≡ slice_get more j) → IsRest (suc k) all more
+next_of k all rest more is further j = let at : suc k + j ≡ k + suc j = omega arith in ap (slice_get all) at ∙ is (suc j) ∙ further j
+
+definitions_back : (plan : RolloutPlan) (k n : ℕ) (ds : List GroupDefinition) → IsRest k plan.groups.definitions ds → length ds ≤ n → definitions_in (each_from (rule_at plan) (suc k) n) ≡ ds
+definitions_back plan k zero [] is few = refl
+definitions_back plan k zero (d ∷ ds) is few = absurd (omega (arith, few))
+definitions_back plan k (suc n) [] is few = rw (first_of k plan.groups.definitions [] is) (definitions_back plan (suc k) n [] (next_of k plan.groups.definitions [] [] is (λ j. refl)) (omega arith))
+definitions_back plan k (suc n) (d ∷ ds) is few =
+    rw (first_of k plan.groups.definitions (d ∷ ds) is) (ap (λ l. d ∷ l) (definitions_back plan (suc k) n ds (next_of k plan.groups.definitions (d ∷ ds) ds is (λ j. refl)) (omega (arith, few))))
+
+no_more : (ds : List GroupDefinition) (count : ℕ) → define_each ds count ≡ true → length ds ≤ count
+no_more [] count each = omega arith
+no_more (d ∷ ds) count each = let same : length (d ∷ ds) ≡ count = eqb-true _ _ (and_parts _ _ each).1 in omega (arith, same)
+
+whole : (ds : List GroupDefinition) → IsRest 0 ds ds
+whole ds j = let at : 0 + j ≡ j = omega arith in ap (slice_get ds) at
 
 pub rules_make : (plan : RolloutPlan) → is_plan plan ≡ true → grouping_of (rules_of plan) ≡ Some plan.groups
-rules_make plan formed = rw (length_each (rule_at plan) 1 plan.groups.count, definitions_back plan 0 plan.groups.count plan.groups.definitions (λ j. ap (slice_get plan.groups.definitions) (let at : 0 + j ≡ j = omega arith in at)) few, grouping) refl
-  where
-    grouping : is_grouping plan.groups ≡ true
-    grouping = (and_parts _ _ formed).0
-
-    no_more : (ds : List GroupDefinition) (count : ℕ) → define_each ds count ≡ true → length ds ≤ count
-    no_more [] count each = omega arith
-    no_more (d ∷ ds) count each = let same = eqb-true _ _ (and_parts _ _ each).1 in omega (arith, same)
-
-    few : length plan.groups.definitions ≤ plan.groups.count
-    few = no_more plan.groups.definitions plan.groups.count (and_parts _ _ grouping).1
+rules_make plan formed =
+    let grouping : is_grouping plan.groups ≡ true = (and_parts _ _ formed).0 in
+    let few = no_more plan.groups.definitions plan.groups.count (and_parts _ _ grouping).1 in
+    let definitions : definitions_in (rules_of plan) ≡ plan.groups.definitions = definitions_back plan 0 plan.groups.count plan.groups.definitions (whole plan.groups.definitions) few in
+    rw (length_each (rule_at plan) 1 plan.groups.count, definitions, grouping) refl
