@@ -26,7 +26,7 @@ fn runs_out(members: u32, definitions: &[GroupDefinition]) -> bool
 }
 
 /// Whether some group of so many members would be empty. Takes no memory.
-pub(crate) fn leaves_empty(groups: &Grouping, members: u32) -> bool
+pub fn leaves_empty(groups: &Grouping, members: u32) -> bool
     ensures { result ≡ leaves_empty groups.now members }
 {
     match groups.definitions() {

@@ -17,7 +17,7 @@ pub use checks::{
     SetView, TagView, UntagView, View, check,
 };
 pub use effects::{after_resume, after_trigger};
-pub use groupings::cut_grouping;
+pub use groupings::{cut_grouping, leaves_empty};
 pub use groups::{cut_groups, group_bounds};
 pub use own_group::{Following, OwnView, after_feedback, own_group_decides};
 pub use rollout_checks::{

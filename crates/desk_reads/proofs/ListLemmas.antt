@@ -63,7 +63,7 @@ groups_are rs of r = go (item_numbered rs.rollouts r) refl where
   go None e = refl
   go (Some x) e = let it = made rs of r x e in rw it.is (same_numbers it.made r of.list 1 it.made.plan.groups.count)
 
-get_each : {X : Type 0} (f : ℕ → X) (a n i k : ℕ) → i < n → k ≡ a + i → slice_get (each_from f a n) i ≡ Some (f k)
+pub get_each : {X : Type 0} (f : ℕ → X) (a n i k : ℕ) → i < n → k ≡ a + i → slice_get (each_from f a n) i ≡ Some (f k)
 get_each f a zero i k less at = absurd (omega (arith, less))
 get_each f a (suc n) zero k less at = ap (λ j. Some (f j)) (omega (arith, at))
 get_each f a (suc n) (suc i) k less at = get_each f (suc a) n i k (omega (arith, less)) (omega (arith, at))

@@ -39,8 +39,8 @@ read_parts part is (row ∷ rows) [] h = absurd h
 read_parts part is (row ∷ rows) (a ∷ found) h = (h.0, read_parts part is rows found h.1)
 
 -- a further row, and what is picked of it
-module _ {A : Type 0} (pick : Row → Option A) where
-  picked_push : (rows : List Row) (row : Row) → filter_map pick (rows ++ row ∷ []) ≡ filter_map pick rows ++ cons_option (pick row) []
+module _ {X A : Type 0} (pick : X → Option A) where
+  picked_push : (rows : List X) (row : X) → filter_map pick (rows ++ row ∷ []) ≡ filter_map pick rows ++ cons_option (pick row) []
   picked_push [] row = refl
   picked_push (r ∷ rows) row = go (pick r) (picked_push rows row)
     where
@@ -48,7 +48,7 @@ module _ {A : Type 0} (pick : Row → Option A) where
       go None more = more
       go (Some a) more = ap (λ l. a ∷ l) more
 
-  pub pick_more : (rows : List Row) (found : List A) (at : ℕ) (row : Row) (one : Option A) → at < length rows → row ≡ get_or rows at row → found ≡ filter_map pick (take at rows) → one ≡ pick row
+  pub pick_more : (rows : List X) (found : List A) (at : ℕ) (row : X) (one : Option A) → at < length rows → row ≡ get_or rows at row → found ≡ filter_map pick (take at rows) → one ≡ pick row
       → found ++ cons_option one [] ≡ filter_map pick (take (at + 1) rows)
   pick_more rows found at row one within same so_far is =
       ap (λ l. l ++ cons_option one []) so_far ∙ ap (λ o. filter_map pick (take at rows) ++ cons_option o []) (is ∙ ap pick same)

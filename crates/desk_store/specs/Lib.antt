@@ -6,5 +6,6 @@ pub mod Lending
 pub mod Changing
 pub mod GroupPairs
 pub mod RawLists
+pub mod RuleTables
 pub mod Unreadable
 pub mod Blaming

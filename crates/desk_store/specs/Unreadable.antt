@@ -7,6 +7,7 @@ use Rattle.desk_records.specs.ArtifactRow.{has_bytes}
 use Rattle.desk_records.specs.CheckedRows.{has_wide_count}
 use Rattle.desk_records.specs.Codes.{number_in}
 use Rattle.desk_records.specs.EntryRow.{BreaksSequenced}
+use Rattle.rollout_model.specs.declared.group_rule.GroupRule.{GroupRule}
 use Rattle.desk_records.specs.Listings.{AreSaid, HasNumber, has_at}
 use Rattle.desk_records.specs.PlaceLists.{SaysMember, is_of}
 use Rattle.desk_records.specs.RuleRow.{broken_rule_column}
@@ -20,6 +21,7 @@ use Rattle.desk_records.specs.declared.rollout_row.ListedAction.{ListedAction}
 use Rattle.desk_records.specs.declared.module_row.Column.{Column}
 use Rattle.desk_store.specs.RawLists.{SaysAction, SaysEntry}
 use Rattle.desk_store.specs.Rows.{BreaksRule}
+use Rattle.desk_store.specs.RuleTables.{HasGroupCount, HasNoRule, HasRule, HaveRules, grouping_of}
 
 -- what is shown of an entry, its sequence at the end
 abbrev pub sequenced_shown : Row → Row
@@ -37,7 +39,8 @@ pub record HasTwins {A : Type 0} (rows : List Row) (test : Row → Bool) (says :
   pub in_order : IsNonDecreasingBy key found
   pub twins : rise 0 (map key found) ≡ false
 
--- Rows that are read and that nothing is recomputed of: one that breaks a rule, a number that is missing or is there twice, and what is past its limit.
+-- Rows that are read and that nothing is recomputed of: one that breaks a rule, a number that is missing or is there twice, rules that make no grouping,
+-- and what is past its limit.
 pub data IsUnreadable (t : Tables) : Type 0 where
   broken_rollout : (row : Row) → Has (t Rollouts) row → BreaksRule (broken_rollout_column (rollout_shown row)) → IsUnreadable t
   broken_rule : (row : Row) → Has (t Rules) row → BreaksRule (broken_rule_column (rule_shown row)) → IsUnreadable t
@@ -47,6 +50,8 @@ pub data IsUnreadable (t : Tables) : Type 0 where
   twin_actions : (rollout : ℕ) → HasTwins (t Actions) (has_at 2 rollout) SaysAction (λ (a : ListedAction). a.number) → IsUnreadable t
   twin_entries : (action : ℕ) → HasTwins (t Feedbacks) (has_at 1 action) SaysEntry (λ (e : SequencedEntry). e.sequence) → IsUnreadable t
   missing_rollout : (number last : ℕ) → 1 ≤ number → number ≤ last → HasNumber (t Rollouts) last → (HasNumber (t Rollouts) number → ⊥) → IsUnreadable t
+  missing_rule : (rollout n i : ℕ) → HasGroupCount t rollout n → 1 ≤ i → i ≤ n → HasNoRule t rollout i → IsUnreadable t
+  no_grouping : (rollout : ℕ) (rules : List GroupRule) → HasGroupCount t rollout (length rules) → HaveRules (HasRule t rollout) 1 rules → grouping_of rules ≡ None → IsUnreadable t
   large_number : (row : Row) → Has (t Rollouts) row → number_in (column row 0) ≡ None → IsUnreadable t
   large_count : (row : Row) → Has (t Actions) row → has_wide_count (action_shown row) ≡ true → IsUnreadable t
   many_rows : (p : Place) → 2 ^ 32 ≤ length (t p) → IsUnreadable t

@@ -17,6 +17,7 @@ use desk_records::{FIND_MODULE, GET_MODULE, LAST_MODULE, PUT_MODULE};
 use rollout_model::{ModuleLabel, ModuleNo};
 use sql_calls::Fault;
 use sqlite::{Alter, params};
+use std::alloc::Global;
 
 /// A change that is under way. It has to be spent by `commit` or `give_up`, and after a call that failed by `give_up`.
 pub struct OpenChange<'a, S: Alter> {
@@ -24,6 +25,11 @@ pub struct OpenChange<'a, S: Alter> {
 }
 
 impl<'a, S: Alter> OpenChange<'a, S> {
+    /// What memory is taken from.
+    pub fn alloc(&self) -> Global {
+        self.store.alloc
+    }
+
     /// Whether there is a module of the same name, kind and version.
     pub fn read_same_module(&mut self, label: &ModuleLabel) -> Result<bool, Fault>
         ensures stays { StaysIn S.Store self.old self.new result }

@@ -1,6 +1,9 @@
 -- The table of groups agrees where records of accepted commands are held.
 use Rattle.std.proofs.Common.{◌≡◌, inl, inr, ◌≤◌, ◌<◌, ◌^◌, ◌&&◌, ℕ, zero, suc, ◌+◌, ◌-◌, pos, Bool, true, false, cond, List, [], ◌∷◌, filter, length, map, slice_get, zip, nat_eq, nat_lt, Option, Some, None, refl, sym, ap, subst, ◌∙◌, arith, is_eq}
+use Rattle.std.proofs.lemmas.Bool.{and_parts}
 use Rattle.std.proofs.lemmas.Bool.Decides.{nat_tests}
+use Rattle.std.proofs.lemmas.Option.{slice_get-map}
+use Rattle.std.specs.Option.{option_map}
 use Rattle.std.proofs.lemmas.Int.{ints}
 use Rattle.sqlite_value.specs.declared.value.Value.TheVariants.{Int, Null}
 use Rattle.sqlite_value.specs.Order.{Row, column}
@@ -16,7 +19,9 @@ use Rattle.rollout_machine.specs.CommandList.{CommandList}
 use Rattle.rollout_machine.specs.Commands.{Bytes}
 use Rattle.rollout_machine.specs.Counts.{is_outcome}
 use Rattle.rollout_machine.specs.GroupCounts.{HasCountedGroups, IsCountedGroup}
-use Rattle.rollout_machine.specs.Groups.{IsCut, bounds_of, holds_position, last_position}
+use Rattle.rollout_machine.specs.GroupRules.{GroupRule, rule_at, rules_of}
+use Rattle.rollout_machine.specs.Groupings.{bounds_by, last_by, leaves_empty}
+use Rattle.rollout_machine.specs.Groups.{IsCut, holds_position}
 use Rattle.rollout_machine.specs.Kinds.{count_actions}
 use Rattle.rollout_machine.specs.Records.{Records, records}
 use Rattle.rollout_machine.specs.Validity.{IsValid}
@@ -27,8 +32,8 @@ use Rattle.rollout_machine.specs.declared.outcome.Outcome.TheVariants.{Good, Bad
 use Rattle.rollout_machine.specs.declared.records.ActionRecord.{ActionRecord}
 use Rattle.rollout_machine.specs.declared.records.GroupRecord.{GroupRecord}
 use Rattle.rollout_machine.specs.declared.records.RolloutRecord.{RolloutRecord}
-use Rattle.rollout_machine.proofs.Cuts.{even_is_cut}
 use Rattle.rollout_machine.proofs.GroupCounts.{groups_are_counted}
+use Rattle.rollout_machine.proofs.Groupings.{grouping_is_cut}
 use Rattle.rollout_machine.proofs.MemberActions.{actions_follow_members}
 use Rattle.rollout_machine.proofs.WithinLimits.{limits_hold}
 use Rattle.desk_records.specs.Actions.{action_row, outcome_code, tally_of}
@@ -39,14 +44,17 @@ use Rattle.desk_records.specs.Holds.{HoldsRecords, ledger_of}
 use Rattle.desk_records.specs.Listings.{has_at}
 use Rattle.desk_records.specs.PlaceLists.{is_of}
 use Rattle.desk_records.specs.RolloutRow.{broken_group_column}
-use Rattle.desk_records.specs.Rollouts.{flag, group_row, groups_from, members_from, rollout_row, told_rollout}
-use Rattle.desk_records.specs.Schema.{Actions, Groups, Members, Rollouts}
+use Rattle.desk_records.specs.Rollouts.{flag, group_row, groups_from, members_from, rollout_row, rule_row, rules_from, told_rollout}
+use Rattle.desk_records.specs.Schema.{Actions, Groups, Members, Rollouts, Rules}
 use Rattle.desk_records.specs.TableRows.{IsGroup}
 use Rattle.desk_records.specs.Tables.{HoldsTables, Tables}
 use Rattle.desk_records.proofs.HeldCounts.{at_place, has_place, held_passing, item_row, own_parts, part_among, place_within}
 use Rattle.desk_records.proofs.HeldTables.{held_rows, numbered, of_part, row_of, wanted_of}
 use Rattle.desk_records.proofs.NumberColumns.{has_own_number, is_number_in}
-use Rattle.desk_verify.specs.Groups.{AgreesGroups, HasGroup, HasGroupCount, IsInRollout, IsRightGroup, ended_in, has_ended, members_in}
+use Rattle.desk_store.specs.RuleTables.{HasGroupCount, HasRule}
+use Rattle.desk_verify.specs.Groups.{AgreesGroups, HasGroup, IsCutBy, IsInRollout, IsRightGroup, ended_in, has_ended, members_in}
+use Rattle.desk_verify.proofs.GroupLemmas.{each_there}
+use Rattle.desk_verify.proofs.PlanLaw.{IsPlanned, each_has, plans_are, rule_told, rules_make}
 
 -- ---- rows
 
@@ -146,13 +154,32 @@ module _ (h : CommandList) (valid : IsValid h) (db : Database) (t : Tables) (hel
         held_passing (is_of (suc d)) (has_at 0 (suc d)) (λ n row. refl) (t Members) (members_from 1 (records h).rollouts) (held_rows db (ledger_of (records h)) held t holds Members)
         ∙ own_parts _ (λ (y : RolloutRecord). y.members) 1 (suc d) d (records h).rollouts x (omega arith) got
 
-    there : HasGroupCount t (suc d) x.plan.groups
+    planned : IsPlanned x.plan (length x.members)
+    planned = plans_are h valid (suc d) x got
+
+    there : HasGroupCount t (suc d) x.plan.groups.count
     there = record {
       row = rollout_row (suc d) x;
       among = subst (λ rows. Has rows (rollout_row (suc d) x)) (sym (held_rows db (ledger_of (records h)) held t holds Rollouts)) (item_row rollout_row 1 (suc d) d (records h).rollouts x (omega arith) got);
       numbered = has_own_number (suc d) (Null ∷ told_rollout x);
-      says = group_count_is x.plan.groups within.some_groups within.groups;
+      says = group_count_is x.plan.groups.count within.some_groups within.groups;
     }
+
+    -- ---- what is said of its groups
+
+    has_rule : (i : ℕ) → 1 ≤ i → i < 1 + x.plan.groups.count → HasRule t (suc d) i (rule_at x.plan i)
+    has_rule zero low high = absurd (omega (arith, low))
+    has_rule (suc e) low high =
+        let rule = rule_at x.plan (suc e) in
+        let its : slice_get (ledger_of (records h)).rules d ≡ Some (rules_of x.plan) = slice_get-map (λ (y : RolloutRecord). rules_of y.plan) (records h).rollouts d ∙ ap (option_map (λ (y : RolloutRecord). rules_of y.plan)) got in
+        let own = each_there (rule_at x.plan) 1 x.plan.groups.count e (suc e) (omega (arith, high)) (omega arith) in
+        let part = part_among rule_row (λ (rules : List GroupRule). rules) 1 (suc d) d (ledger_of (records h)).rules (rules_of x.plan) (rule_row (suc d) (suc e) rule) (omega arith) its
+        (item_row (rule_row (suc d)) 1 (suc e) e (rules_of x.plan) rule (omega arith) own) in
+        let row = row_of (t Rules) (rules_from (ledger_of (records h)).rules) (rule_row (suc d) (suc e) rule) (held_rows db (ledger_of (records h)) held t holds Rules) part in
+        record { row = Int (pos row.0) ∷ rule_row (suc d) (suc e) rule; among = row.1; passes = grind (arith, nat_tests); is = rule_told x.plan (suc e) planned.formed }
+
+    cut : IsCutBy t (suc d) x.plan.groups
+    cut = record { there = there; rules = rules_of x.plan; have = each_has (HasRule t (suc d)) (rule_at x.plan) 1 x.plan.groups.count has_rule; make = rules_make x.plan planned.formed }
 
     -- ---- one group
 
@@ -163,21 +190,21 @@ module _ (h : CommandList) (valid : IsValid h) (db : Database) (t : Tables) (hel
       its : IsCountedGroup (records h) (suc d) x (suc e) g
       its = all.each (suc e) g got_group
 
-      high : suc e ≤ x.plan.groups
+      high : suc e ≤ x.plan.groups.count
       high = let less = place_within x.groups e g got_group in omega (arith, less, all.as_many)
 
-      cut : IsCut (last_position (length x.members) x.plan.groups) (length x.members) x.plan.groups
-      cut = even_is_cut (length x.members) x.plan.groups within.some_groups within.enough
+      covers : IsCut (last_by x.plan.groups (length x.members)) (length x.members) x.plan.groups.count
+      covers = grouping_is_cut x.plan.groups (length x.members) (and_parts _ _ planned.formed).0 planned.full
 
-      few_at : (i : ℕ) → i ≤ x.plan.groups → last_position (length x.members) x.plan.groups i ≤ length x.members
-      few_at i low = let rises = cut.rises i x.plan.groups low in omega (arith, rises, cut.whole)
+      few_at : (i : ℕ) → i ≤ x.plan.groups.count → last_by x.plan.groups (length x.members) i ≤ length x.members
+      few_at i low = let rises = covers.rises i x.plan.groups.count low in omega (arith, rises, covers.whole)
 
       pub is_group : (n : ℕ) → IsGroup (Int (pos n) ∷ group_row (suc d) (suc e) g) (suc d) g
       is_group n =
           let counts = within.counts (suc e) g got_group in
           let members = within.members in
-          let first : g.bounds.first ≡ last_position (length x.members) x.plan.groups (suc e - 1) + 1 = ap (λ (b : Bounds). b.first) its.bounds in
-          let last : g.bounds.last ≡ last_position (length x.members) x.plan.groups (suc e) = ap (λ (b : Bounds). b.last) its.bounds in
+          let first : g.bounds.first ≡ last_by x.plan.groups (length x.members) (suc e - 1) + 1 = ap (λ (b : Bounds). b.first) its.bounds in
+          let last : g.bounds.last ≡ last_by x.plan.groups (length x.members) (suc e) = ap (λ (b : Bounds). b.last) its.bounds in
           let few_first = few_at (suc e - 1) (omega (arith, high)) in
           let few_last = few_at (suc e) high in
           record {
@@ -191,14 +218,14 @@ module _ (h : CommandList) (valid : IsValid h) (db : Database) (t : Tables) (hel
       right = record {
         low = omega (arith, its.number);
         high = omega (arith, its.number, high);
-        bounds = its.bounds ∙ ap (λ m. bounds_of m x.plan.groups (suc e)) (sym members_are) ∙ ap (bounds_of (members_in t (suc d)) x.plan.groups) (sym its.number);
+        bounds = its.bounds ∙ ap (λ m. bounds_by x.plan.groups m (suc e)) (sym members_are) ∙ ap (bounds_by x.plan.groups (members_in t (suc d))) (sym its.number);
         ok = its.ok ∙ sym (ended_are (suc d) g.bounds Good);
         bad = its.bad ∙ sym (ended_are (suc d) g.bounds Bad);
         gone = its.gone ∙ sym (ended_are (suc d) g.bounds Gone);
       }
 
       in_rollout : (n : ℕ) → IsInRollout t (Int (pos n) ∷ group_row (suc d) (suc e) g)
-      in_rollout n = record { rollout = suc d; n = x.plan.groups; group = g; is = is_group n; there = there; enough = omega (arith, within.enough, members_are); right = right }
+      in_rollout n = record { rollout = suc d; groups = x.plan.groups; group = g; is = is_group n; cut = cut; enough = ap (leaves_empty x.plan.groups) members_are ∙ planned.full; right = right }
 
       -- a row is it
       pub group_lies : (row : Row) × Has (t Groups) row × IsGroup row (suc d) g
@@ -243,12 +270,12 @@ module _ (h : CommandList) (valid : IsValid h) (db : Database) (t : Tables) (hel
       let own : it.at ≡ rollout = one_rowid it.at rollout (Null ∷ told_rollout it.one) (ap (has_rowid (pos rollout)) (sym it.is) ∙ has.numbered) in
       let at : suc it.index ≡ rollout = (let k = it.at_is in omega (arith, k, own)) in
       let kept = within it.index it.one it.got in
-      let told : group_count_in (Int (pos it.one.plan.groups)) ≡ Some n = ap (λ (r : Row). group_count_in (column r 5)) (sym it.is) ∙ has.says in
-      let same : Some it.one.plan.groups ≡ Some n = sym (group_count_is it.one.plan.groups kept.some_groups kept.groups) ∙ told in
-      let many : it.one.plan.groups ≡ n = cc in
+      let told : group_count_in (Int (pos it.one.plan.groups.count)) ≡ Some n = ap (λ (r : Row). group_count_in (column r 5)) (sym it.is) ∙ has.says in
+      let same : Some it.one.plan.groups.count ≡ Some n = sym (group_count_is it.one.plan.groups.count kept.some_groups kept.groups) ∙ told in
+      let many : it.one.plan.groups.count ≡ n = cc in
       subst (λ r. HasGroup t r i) at (go it.index it.one it.got i low (omega (arith, high, many)))
     where
-      go : (d : ℕ) (x : RolloutRecord) (got : slice_get (records h).rollouts d ≡ Some x) (i : ℕ) → 1 ≤ i → i ≤ x.plan.groups → HasGroup t (suc d) i
+      go : (d : ℕ) (x : RolloutRecord) (got : slice_get (records h).rollouts d ≡ Some x) (i : ℕ) → 1 ≤ i → i ≤ x.plan.groups.count → HasGroup t (suc d) i
       go d x got zero low high = absurd (omega (arith, low))
       go d x got (suc e) low high =
           let as_many = (groups_are_counted h (suc d) x valid got).as_many in

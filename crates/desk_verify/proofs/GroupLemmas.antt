@@ -1,34 +1,37 @@
 -- What the reads of the tables of groups, members and actions come to.
-use Rattle.std.proofs.Common.{◌≡◌, ◌≤◌, ◌<◌, ◌&&◌, ℕ, zero, suc, ◌+◌, Bool, true, false, List, count_by, length, Some, None, true≢false, refl, sym, ap, subst, ◌∙◌, arith, nat_eq, nat_le, pos}
+use Rattle.std.proofs.Common.{◌≡◌, ◌≤◌, ◌<◌, ◌&&◌, ℕ, zero, suc, ◌+◌, Bool, true, false, not, List, count_by, length, slice_get, Option, Some, None, true≢false, refl, sym, ap, subst, ◌∙◌, arith, nat_eq}
 use Rattle.std.specs.List.{list_all}
 use Rattle.std.proofs.lemmas.Bool.{and_from, and_parts}
 use Rattle.std.proofs.lemmas.Bool.Decides.{nat_tests}
 use Rattle.std.proofs.lemmas.List.Sums.{length-filter}
 use Rattle.sqlite_value.specs.Order.{Row, column}
-use Rattle.sqlite_trees.specs.Tree.{has_rowid}
 use Rattle.sqlite_rules.specs.Lists.{Has}
 use Rattle.sqlite_rules.proofs.ListLemmas.{some_from, some_has, test_from, test_has}
-use Rattle.rollout_machine.specs.Groups.{bounds_of}
+use Rattle.rollout_machine.specs.ByteStrings.{item_numbered}
+use Rattle.rollout_machine.specs.Groupings.{Grouping, bounds_by, cut_by, leaves_empty}
+use Rattle.rollout_machine.specs.Ranges.{each_from}
+use Rattle.rollout_machine.proofs.Lists.{numbered_each}
 use Rattle.rollout_machine.specs.declared.bounds.Bounds.{Bounds}
 use Rattle.rollout_machine.specs.declared.outcome.Outcome.{Outcome}
 use Rattle.rollout_machine.specs.declared.outcome.Outcome.TheVariants.{Good, Bad, Gone}
 use Rattle.rollout_machine.specs.declared.records.GroupRecord.{GroupRecord}
 use Rattle.desk_records.specs.CountedActions.{AreCounted}
-use Rattle.desk_records.specs.Listings.{HasNumber, IsOnly, has_at}
+use Rattle.desk_records.specs.Listings.{HasNumber, has_at}
 use Rattle.desk_records.specs.Schema.{Actions, Groups, Rollouts}
-use Rattle.desk_records.specs.TableRows.{IsGroup, IsRollout}
+use Rattle.desk_records.specs.TableRows.{IsGroup}
 use Rattle.desk_records.specs.Tables.{Tables}
 use Rattle.desk_records.specs.declared.checked_rows.CountedAction.{CountedAction}
-use Rattle.desk_records.specs.declared.rollout_row.StoredRollout.{StoredRollout}
 use Rattle.desk_records.proofs.NumberColumns.{is_at, number_in_is, number_in_least, number_is, one_number}
 use Rattle.desk_store.specs.RawLists.{ListsRows, SaysGroup}
+use Rattle.desk_store.specs.RuleTables.{HasGroupCount}
 use Rattle.desk_verify.specs.Agreement.{Decides}
-use Rattle.desk_verify.specs.Cuts.{are_right, counts_them, has_each, has_number, is_cut, is_right, same_bounds}
-use Rattle.desk_verify.specs.GroupChecks.{HasEach, IsGroupCount}
-use Rattle.desk_verify.specs.Groups.{AgreesGroups, HasGroupCount, IsInRollout, IsRightGroup, ended_in, has_ended, members_in}
+use Rattle.desk_verify.specs.Cuts.{are_bounds, are_right, counts_them, has_each, has_number, is_cut, is_right, same_bounds}
+use Rattle.desk_verify.specs.GroupChecks.{HasEach, IsCutOnlyBy, IsGroupCount}
+use Rattle.desk_verify.specs.Groups.{AgreesGroups, HasGroup, IsCutBy, IsInRollout, IsRightGroup, ended_in, has_ended, members_in}
 use Rattle.desk_verify.specs.RolloutChecks.{AreAllChecked, IsChecked}
 use Rattle.desk_verify.proofs.OneRow.{one_in}
 use Rattle.desk_verify.proofs.RolloutLemmas.{decided}
+use Rattle.desk_verify.proofs.RuleLemmas.{some_groups}
 
 -- ---- a row is one group of one rollout
 
@@ -49,13 +52,7 @@ one_group row r s g h a b =
 of_rollout : (row : Row) (r : ℕ) (g : GroupRecord) → IsGroup row r g → has_at 1 r row ≡ true
 of_rollout row r g it = is_at row 1 r (number_in_is _ _ it.rollout_is)
 
--- ---- how many groups a rollout is to have
-
-pub found_count : (t : Tables) (r : ℕ) (found : StoredRollout) → IsOnly (t Rollouts) (has_rowid (pos r)) IsRollout found → IsGroupCount t r found.plan.groups
-found_count t r found one = record {
-  there = record { row = one.said.row; among = one.said.among; numbered = one.said.passes; says = one.said.is.groups };
-  only = λ k has. (let it = one.each has.row has.among has.numbered in let same : Some k ≡ Some found.plan.groups = sym has.says ∙ it.groups in cc);
-}
+-- ---- rollouts that are there
 
 is_there : (t : Tables) (r n : ℕ) → HasGroupCount t r n → HasNumber (t Rollouts) r
 is_there t r n has = record { row = has.row; among = has.among; numbered = has.numbered }
@@ -98,14 +95,35 @@ both_bounds a b h =
     let last : a.last ≡ b.last = grind (arith, nat_tests, parts.1) in
     λ i. record { first = first i; last = last i }
 
+not_true : (b : Bool) → not b ≡ true → b ≡ false
+not_true true h = absurd cc
+not_true false h = refl
+
 bounds_same : (a : Bounds) → same_bounds a a ≡ true
 bounds_same a = grind (arith, nat_tests)
 
 equal_to : (a b : ℕ) → a ≡ b → nat_eq a b ≡ true
 equal_to a b same = grind (arith, nat_tests, same)
 
-module _ (t : Tables) (r n m : ℕ) (count : IsGroupCount t r n) (are : m ≡ members_in t r) (groups : List GroupRecord) (listed : ListsRows (t Groups) (has_at 1 r) (SaysGroup r) (Some groups))
-    (actions : List CountedAction) (acted : AreCounted (t Actions) r actions) where
+-- the bounds of a group are those of its number
+own_bounds : (by : Grouping) (m : ℕ) (g : GroupRecord) → is_cut (cut_by by m) g ≡ true → (1 ≤ g.number) × (g.number ≤ by.count) × (g.bounds ≡ bounds_by by m g.number)
+own_bounds by m g h = go (item_numbered (cut_by by m) g.number) refl h
+  where
+    go : (o : Option Bounds) → item_numbered (cut_by by m) g.number ≡ o → are_bounds o g.bounds ≡ true → (1 ≤ g.number) × (g.number ≤ by.count) × (g.bounds ≡ bounds_by by m g.number)
+    go None none h = absurd cc
+    go (Some own) found h = let it = numbered_each (bounds_by by m) by.count g.number own found in (it.0, it.1, both_bounds g.bounds own h ∙ it.2)
+
+pub each_there : {X : Type 0} (f : ℕ → X) (first n k i : ℕ) → k < n → i ≡ first + k → slice_get (each_from f first n) k ≡ Some (f i)
+each_there f first zero k i below at = absurd (omega (arith, below))
+each_there f first (suc n) zero i below at = ap (λ j. Some (f j)) (omega (arith, at))
+each_there f first (suc n) (suc k) i below at = each_there f (suc first) n k i (omega (arith, below)) (omega (arith, at))
+
+cut_so : (by : Grouping) (m i : ℕ) (bounds : Bounds) → 1 ≤ i → i ≤ by.count → bounds ≡ bounds_by by m i → are_bounds (item_numbered (cut_by by m) i) bounds ≡ true
+cut_so by m zero bounds low high is = absurd (omega (arith, low))
+cut_so by m (suc k) bounds low high is = rw (each_there (bounds_by by m) 1 by.count k (suc k) (omega (arith, high)) (omega arith)) (subst (λ b. same_bounds bounds b ≡ true) is (bounds_same bounds))
+
+module _ (t : Tables) (r n m : ℕ) (count : IsGroupCount t r n) (by : Grouping) (cut : IsCutOnlyBy t r by) (are : m ≡ members_in t r)
+    (groups : List GroupRecord) (listed : ListsRows (t Groups) (has_at 1 r) (SaysGroup r) (Some groups)) (actions : List CountedAction) (acted : AreCounted (t Actions) r actions) where
   ended_are : (bounds : Bounds) (outcome : Outcome) → count_by (has_ended bounds outcome) actions ≡ ended_in t r bounds outcome
   ended_are bounds outcome = sym (length-filter (has_ended bounds outcome) actions) ∙ acted.by (has_ended bounds outcome)
 
@@ -115,77 +133,93 @@ module _ (t : Tables) (r n m : ℕ) (count : IsGroupCount t r n) (are : m ≡ me
   counts : (bounds : Bounds) (outcome : Outcome) (k : ℕ) → k ≡ ended_in t r bounds outcome → nat_eq k (count_by (has_ended bounds outcome) actions) ≡ true
   counts bounds outcome k is = equal_to _ _ (is ∙ sym (ended_are bounds outcome))
 
-  right_is : (g : GroupRecord) → is_right m n actions g ≡ true → (n ≤ members_in t r) × IsRightGroup t r n g
+  right_is : (g : GroupRecord) → is_right (cut_by by m) actions g ≡ true → IsRightGroup t r by g
   right_is g h =
-      let both = and_parts (is_cut m n g) (counts_them actions g) h in
-      let a = and_parts (nat_le n m) (nat_le 1 g.number && (nat_le g.number n && same_bounds g.bounds (bounds_of m n g.number))) both.0 in
-      let b = and_parts (nat_le 1 g.number) (nat_le g.number n && same_bounds g.bounds (bounds_of m n g.number)) a.1 in
-      let d = and_parts (nat_le g.number n) (same_bounds g.bounds (bounds_of m n g.number)) b.1 in
+      let both = and_parts (is_cut (cut_by by m) g) (counts_them actions g) h in
+      let own = own_bounds by m g both.0 in
       let e = and_parts (nat_eq g.ok (count_by (has_ended g.bounds Good) actions)) (nat_eq g.bad (count_by (has_ended g.bounds Bad) actions) && nat_eq g.gone (count_by (has_ended g.bounds Gone) actions)) both.1 in
       let f = and_parts (nat_eq g.bad (count_by (has_ended g.bounds Bad) actions)) (nat_eq g.gone (count_by (has_ended g.bounds Gone) actions)) e.1 in
-      let few : n ≤ m = grind (arith, nat_tests, a.0) in (
-        omega (arith, few, are),
-        record {
-          low = grind (arith, nat_tests, b.0);
-          high = grind (arith, nat_tests, d.0);
-          bounds = subst (λ k. g.bounds ≡ bounds_of k n g.number) are (both_bounds g.bounds (bounds_of m n g.number) d.1);
-          ok = counted g.bounds Good g.ok e.0;
-          bad = counted g.bounds Bad g.bad f.0;
-          gone = counted g.bounds Gone g.gone f.1;
-        },
-      )
+      record {
+        low = own.0;
+        high = own.1;
+        bounds = subst (λ k. g.bounds ≡ bounds_by by k g.number) are own.2;
+        ok = counted g.bounds Good g.ok e.0;
+        bad = counted g.bounds Bad g.bad f.0;
+        gone = counted g.bounds Gone g.gone f.1;
+      }
 
-  is_right_one : (g : GroupRecord) → n ≤ members_in t r → IsRightGroup t r n g → is_right m n actions g ≡ true
-  is_right_one g few right =
-      let same : same_bounds g.bounds (bounds_of m n g.number) ≡ true = subst (λ b. same_bounds g.bounds b ≡ true) (right.bounds ∙ ap (λ k. bounds_of k n g.number) (sym are)) (bounds_same g.bounds) in
-      let enough : nat_le n m ≡ true = grind (arith, nat_tests, few, are) in
-      let low : nat_le 1 g.number ≡ true = grind (arith, nat_tests, right.low) in
-      let high : nat_le g.number n ≡ true = grind (arith, nat_tests, right.high) in
-      rw (enough, low, high, same, counts g.bounds Good g.ok right.ok, counts g.bounds Bad g.bad right.bad, counts g.bounds Gone g.gone right.gone) refl
+  is_right_one : (g : GroupRecord) → IsRightGroup t r by g → is_right (cut_by by m) actions g ≡ true
+  is_right_one g right =
+      rw (cut_so by m g.number g.bounds right.low right.high (right.bounds ∙ ap (λ k. bounds_by by k g.number) (sym are)), counts g.bounds Good g.ok right.ok, counts g.bounds Bad g.bad right.bad, counts g.bounds Gone g.gone right.gone) refl
 
-  pub fits : are_right m n actions groups ≡ true → (many : ℕ) → many ≡ length groups → IsChecked Groups 1 IsInRollout HasEach t r many
+  as_many : by.count ≡ n
+  as_many = count.only by.count cut.cut.there
+
+  pub fits : are_right by m actions groups ≡ true → (many : ℕ) → many ≡ length groups → IsChecked Groups 1 IsInRollout HasEach t r many
   fits h many is = record {
     rows = record {
       each = λ row among of.
           let one = listed.complete row among of in
-          let it = right_is one.one (test_has (is_right m n actions) groups one.one both.0 one.among) in
-          record { rollout = r; n = n; group = one.one; is = one.is; there = count.there; enough = it.0; right = it.1 };
+          let right = right_is one.one (test_has (is_right (cut_by by m) actions) groups one.one both.0 one.among) in
+          record { rollout = r; groups = by; group = one.one; is = one.is; cut = cut.cut; enough = ap (leaves_empty by) (sym are) ∙ full; right = right };
       all = is ∙ listed.count;
     };
     whole = has_all;
   }
     where
-      both : (list_all (is_right m n actions) groups ≡ true) × (has_each groups n ≡ true)
-      both = and_parts (list_all (is_right m n actions) groups) (has_each groups n) h
+      parts : (not (leaves_empty by m) ≡ true) × ((list_all (is_right (cut_by by m) actions) groups && has_each groups by.count) ≡ true)
+      parts = and_parts (not (leaves_empty by m)) (list_all (is_right (cut_by by m) actions) groups && has_each groups by.count) h
+
+      full : leaves_empty by m ≡ false
+      full = not_true (leaves_empty by m) parts.0
+
+      both : (list_all (is_right (cut_by by m) actions) groups ≡ true) × (has_each groups by.count ≡ true)
+      both = and_parts (list_all (is_right (cut_by by m) actions) groups) (has_each groups by.count) parts.1
 
       has_all : HasEach t r
       has_all k i has low high =
-          let few : i ≤ n = omega (arith, high, count.only k has) in
-          let found = some_has (λ (g : GroupRecord). nat_eq g.number i) groups (each_number groups n both.1 i low few) in
+          let few : i ≤ by.count = omega (arith, high, count.only k has, as_many) in
+          let found = some_has (λ (g : GroupRecord). nat_eq g.number i) groups (each_number groups by.count both.1 i low few) in
           let said = listed.sound found.0 found.1 in
           record { row = said.row; among = said.among; group = found.0; is = said.is; number = grind (arith, nat_tests, found.2) }
 
-  agreeing : 1 ≤ r → AgreesGroups t → are_right m n actions groups ≡ true
-  agreeing first agree = and_from _ _ (test_from (is_right m n actions) groups each) (numbers_each groups n all)
+  -- what a row of the rollout is, where the table agrees
+  module _ (agree : AgreesGroups t) (row : Row) (among : Has (t Groups) row) (g : GroupRecord) (is : IsGroup row r g) where
+    it : IsInRollout t row
+    it = agree.each row among
+
+    rollout : it.rollout ≡ r
+    rollout = one_rollout row it.rollout r it.group g it.is is
+
+    same : it.groups ≡ by
+    same = cut.only it.groups (subst (λ k. IsCutBy t k it.groups) rollout it.cut)
+
+    row_right : IsRightGroup t r by g
+    row_right = subst (λ k. IsRightGroup t k by g) rollout (subst (λ b. IsRightGroup t it.rollout b g) same (subst (IsRightGroup t it.rollout it.groups) (one_group row it.rollout r it.group g it.is is) it.right))
+
+    row_full : leaves_empty by m ≡ false
+    row_full = ap (leaves_empty by) are ∙ subst (λ k. leaves_empty by (members_in t k) ≡ false) rollout (subst (λ b. leaves_empty b (members_in t it.rollout) ≡ false) same it.enough)
+
+  agreeing : 1 ≤ r → AgreesGroups t → are_right by m actions groups ≡ true
+  agreeing first agree = and_from _ _ (ap not full) (and_from _ _ (test_from (is_right (cut_by by m) actions) groups each) (numbers_each groups by.count all))
     where
-      each : (g : GroupRecord) → Has groups g → is_right m n actions g ≡ true
-      each g among =
-          let said = listed.sound g among in
-          let it = agree.each said.row said.among in
-          let rollout : it.rollout ≡ r = one_rollout said.row it.rollout r it.group g it.is said.is in
-          let group : it.group ≡ g = one_group said.row it.rollout r it.group g it.is said.is in
-          let n_is : it.n ≡ n = count.only it.n (subst (λ k. HasGroupCount t k it.n) rollout it.there) in
-          is_right_one g (subst (λ k. n ≤ members_in t k) rollout (subst (λ k. k ≤ members_in t it.rollout) n_is it.enough))
-          (subst (λ k. IsRightGroup t k n g) rollout (subst (λ k. IsRightGroup t it.rollout k g) n_is (subst (IsRightGroup t it.rollout it.n) group it.right)))
+      has : (i : ℕ) → 1 ≤ i → i ≤ by.count → HasGroup t r i
+      has i low high = agree.all r by.count i first cut.cut.there low high
 
-      all : (i : ℕ) → 1 ≤ i → i ≤ n → has_number groups i ≡ true
+      full : leaves_empty by m ≡ false
+      full = let one = has 1 (omega arith) (some_groups by cut.cut.rules cut.cut.make) in row_full agree one.row one.among one.group one.is
+
+      each : (g : GroupRecord) → Has groups g → is_right (cut_by by m) actions g ≡ true
+      each g among = let said = listed.sound g among in is_right_one g (row_right agree said.row said.among g said.is)
+
+      all : (i : ℕ) → 1 ≤ i → i ≤ by.count → has_number groups i ≡ true
       all i low high =
-          let has = agree.all r n i first count.there low high in
-          let one = listed.complete has.row has.among (of_rollout has.row r has.group has.is) in
-          let group : has.group ≡ one.one = one_group has.row r r has.group one.one has.is one.is in
-          some_from (λ (g : GroupRecord). nat_eq g.number i) groups one.one one.among (equal_to one.one.number i (sym (ap (λ (g : GroupRecord). g.number) group) ∙ has.number))
+          let own = has i low high in
+          let one = listed.complete own.row own.among (of_rollout own.row r own.group own.is) in
+          let group : own.group ≡ one.one = one_group own.row r r own.group one.one own.is one.is in
+          some_from (λ (g : GroupRecord). nat_eq g.number i) groups one.one one.among (equal_to one.one.number i (sym (ap (λ (g : GroupRecord). g.number) group) ∙ own.number))
 
-  pub fails : are_right m n actions groups ≡ false → 1 ≤ r → AgreesGroups t → ⊥
+  pub fails : are_right by m actions groups ≡ false → 1 ≤ r → AgreesGroups t → ⊥
   fails h first agree = true≢false (sym (agreeing first agree) ∙ h)
 
 -- a row that breaks a rule
@@ -202,4 +236,4 @@ pub agrees : (t : Tables) (listed all : ℕ) → AreAllChecked Groups 1 IsInRoll
 agrees t listed all checked is = decided Groups 1 IsInRollout HasEach AgreesGroups t listed all checked is
     (λ each whole. record { each = each; all = λ rollout n i low has. whole rollout low (is_there t rollout n has) n i has })
     (λ agree row among. let it = agree.each row among in
-    record { rollout = it.rollout; low = number_in_least (column row 1) it.rollout it.is.rollout_is; there = is_there t it.rollout it.n it.there; of = of_rollout row it.rollout it.group it.is })
+    record { rollout = it.rollout; low = number_in_least (column row 1) it.rollout it.is.rollout_is; there = is_there t it.rollout it.groups.count it.cut.there; of = of_rollout row it.rollout it.group it.is })

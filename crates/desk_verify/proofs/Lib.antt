@@ -5,7 +5,9 @@ mod OneRow
 mod RolloutLemmas
 mod Follow
 mod MemberLemmas
+mod RuleLemmas
 mod GroupLemmas
+mod PlanLaw
 mod GroupLaw
 mod Naming
 mod ListMembers

@@ -1,5 +1,5 @@
 -- The check of the actions of one rollout.
-use Rattle.std.specs.Prelude.{◌≡◌, ◌||◌, ◌&&◌, ℕ, ◌+◌, Bool, true, nat_eq, nat_lt, List, [], ◌∷◌, length, map, is_none, Option, Some, None}
+use Rattle.std.specs.Prelude.{◌≡◌, ◌||◌, ◌&&◌, ℕ, ◌+◌, Bool, true, nat_eq, List, [], ◌∷◌, length, map, is_none, Option, Some, None}
 use Rattle.std.specs.List.{list_all, zip}
 use Rattle.std.specs.Cmp.Lexicographic.{pointwise}
 use Rattle.sqlite_value.specs.Order.{Row}

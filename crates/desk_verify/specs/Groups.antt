@@ -1,30 +1,31 @@
 -- When the table of groups agrees, whatever rows it has.
-use Rattle.std.specs.Prelude.{◌≡◌, ◌≤◌, ◌&&◌, ℕ, Bool, true, filter, length, Some, pos}
-use Rattle.sqlite_value.specs.Order.{Row, column}
-use Rattle.sqlite_trees.specs.Tree.{has_rowid}
+use Rattle.std.specs.Prelude.{◌≡◌, ◌≤◌, ◌&&◌, ℕ, Bool, false, List, filter, length, Some}
+use Rattle.sqlite_value.specs.Order.{Row}
 use Rattle.sqlite_rules.specs.Lists.{Has}
 use Rattle.rollout_machine.specs.Counts.{is_outcome}
-use Rattle.rollout_machine.specs.Groups.{bounds_of, holds_position}
+use Rattle.rollout_machine.specs.GroupRules.{GroupRule}
+use Rattle.rollout_machine.specs.Groupings.{Grouping, bounds_by, leaves_empty}
+use Rattle.rollout_machine.specs.Groups.{holds_position}
 use Rattle.rollout_machine.specs.declared.bounds.Bounds.{Bounds}
 use Rattle.rollout_machine.specs.declared.outcome.Outcome.{Outcome}
 use Rattle.rollout_machine.specs.declared.outcome.Outcome.TheVariants.{Good, Bad, Gone}
 use Rattle.rollout_machine.specs.declared.records.GroupRecord.{GroupRecord}
-use Rattle.desk_records.specs.Codes.{group_count_in}
 use Rattle.desk_records.specs.CountedActions.{is_counted}
 use Rattle.desk_records.specs.PlaceLists.{is_of}
-use Rattle.desk_records.specs.Schema.{Actions, Groups, Members, Rollouts}
+use Rattle.desk_records.specs.Schema.{Actions, Groups, Members}
 use Rattle.desk_records.specs.TableRows.{IsGroup}
 use Rattle.desk_records.specs.Tables.{Tables}
 use Rattle.desk_records.specs.declared.checked_rows.CountedAction.{CountedAction}
+use Rattle.desk_store.specs.RuleTables.{HasGroupCount, HasRule, HaveRules, grouping_of}
 
 -- ---- what the other tables say
 
--- the rollout is there, and is to have n groups: from 1 to 50, by the rule of the column
-pub record HasGroupCount (t : Tables) (rollout n : ℕ) : Type 0 where
-  pub row : Row
-  pub among : Has (t Rollouts) row
-  pub numbered : has_rowid (pos rollout) row ≡ true
-  pub says : group_count_in (column row 5) ≡ Some n
+-- the rollout is there and is cut so, by what is said of each of its groups
+pub record IsCutBy (t : Tables) (rollout : ℕ) (groups : Grouping) : Type 0 where
+  pub there : HasGroupCount t rollout groups.count
+  pub rules : List GroupRule
+  pub have : HaveRules (HasRule t rollout) 1 rules
+  pub make : grouping_of rules ≡ Some groups
 
 -- how many members the rollout has
 abbrev pub members_in : Tables → ℕ → ℕ
@@ -40,24 +41,24 @@ ended_in t rollout bounds outcome = length (filter (is_counted rollout (has_ende
 
 -- ---- groups
 
--- one of the n groups of the rollout: it has the bounds that it gets where the members are cut, and counts the actions between them
-pub record IsRightGroup (t : Tables) (rollout n : ℕ) (group : GroupRecord) : Type 0 where
+-- one of the groups of the rollout: it has the bounds that it gets where the members are cut so, and counts the actions between them
+pub record IsRightGroup (t : Tables) (rollout : ℕ) (groups : Grouping) (group : GroupRecord) : Type 0 where
   pub low : 1 ≤ group.number
-  pub high : group.number ≤ n
-  pub bounds : group.bounds ≡ bounds_of (members_in t rollout) n group.number
+  pub high : group.number ≤ groups.count
+  pub bounds : group.bounds ≡ bounds_by groups (members_in t rollout) group.number
   pub ok : group.ok ≡ ended_in t rollout group.bounds Good
   pub bad : group.bad ≡ ended_in t rollout group.bounds Bad
   pub gone : group.gone ≡ ended_in t rollout group.bounds Gone
 
--- the row is such a group of a rollout that is there, which has no more groups than members
+-- the row is such a group of a rollout that is there, of which no group is empty
 pub record IsInRollout (t : Tables) (row : Row) : Type 0 where
   pub rollout : ℕ
-  pub n : ℕ
+  pub groups : Grouping
   pub group : GroupRecord
   pub is : IsGroup row rollout group
-  pub there : HasGroupCount t rollout n
-  pub enough : n ≤ members_in t rollout
-  pub right : IsRightGroup t rollout n group
+  pub cut : IsCutBy t rollout groups
+  pub enough : leaves_empty groups (members_in t rollout) ≡ false
+  pub right : IsRightGroup t rollout groups group
 
 -- the rollout has a group of the number
 pub record HasGroup (t : Tables) (rollout i : ℕ) : Type 0 where

@@ -15,6 +15,11 @@ pub record HasRollout (t : Tables) (number : ℕ) (rollout : StoredRollout) : Ty
   pub low : 1 ≤ number
   pub is : IsOnly (t Rollouts) (has_rowid (pos number)) IsRollout rollout
 
+-- what is known of the tables while this rollout is checked
+pub record IsAtRollout (Given : Tables → Type 0) (number : ℕ) (rollout : StoredRollout) (t : Tables) : Type 0 where
+  pub has : HasRollout t number rollout
+  pub given : Given t
+
 -- it is a number from 1 up to that of a rollout that is there
 pub record IsUpTo (number : ℕ) (t : Tables) : Type 0 where
   pub low : 1 ≤ number

@@ -1,37 +1,37 @@
 //! Whether groups are as the cut of their rollout's members and its actions say.
 
-ghost use Rattle.std.specs.Prelude.{◌≡◌, count_by};
+ghost use Rattle.std.specs.Prelude.{◌≡◌, IfOk, count_by};
 ghost use Rattle.std.specs.List.{list_all};
 ghost use Rattle.desk_verify.specs.Cuts.{are_right, counts_them, has_each, has_number, is_cut, is_right};
 ghost use Rattle.desk_verify.specs.Groups.{has_ended};
 
-use campaign_core::group_bounds;
+use campaign_core::{cut_grouping, leaves_empty};
 use desk_store::CountedAction;
 use rollout_machine::{Bounds, GroupRecord, Outcome, is_outcome};
+use rollout_model::Grouping;
+use std::alloc::{AllocError, Global};
 
-/// Whether these are the groups of a rollout with so many members that is to have so many groups.
+/// Whether these are the groups of a rollout with so many members that is cut so, and with these actions.
 pub(crate) fn are_right(
+    alloc: Global,
     groups: &[GroupRecord],
     actions: &[CountedAction],
     members: u32,
-    count: u32,
-) -> bool
-    ensures { result ≡ are_right members count actions.now groups.now }
+    grouping: &Grouping,
+) -> Result<bool, AllocError>
+    ensures { IfOk result (λ right. right ≡ are_right grouping.now members actions.now groups.now) }
 {
-    are_each_right(groups, actions, members, count) && has_each(groups, count)
+    if leaves_empty(grouping, members) {
+        return Ok(false);
+    }
+    let cuts = cut_grouping(alloc, members, grouping)?;
+    Ok(are_each_right(groups, actions, &cuts) && has_each(groups, grouping.count().get()))
 }
 
-fn are_each_right(
-    groups: &[GroupRecord],
-    actions: &[CountedAction],
-    members: u32,
-    count: u32,
-) -> bool
-    ensures { result ≡ list_all (is_right members count actions.now) groups.now }
+fn are_each_right(groups: &[GroupRecord], actions: &[CountedAction], cuts: &[Bounds]) -> bool
+    ensures { result ≡ list_all (is_right cuts.now actions.now) groups.now }
 {
-    groups
-        .iter()
-        .all(|group| is_right(group, actions, members, count))
+    groups.iter().all(|group| is_right(group, actions, cuts))
 }
 
 /// Whether there is a group of each number from 1 to the count.
@@ -52,21 +52,23 @@ fn has_number(groups: &[GroupRecord], number: u32) -> bool
     groups.iter().any(|group| group.number == number)
 }
 
-fn is_right(group: &GroupRecord, actions: &[CountedAction], members: u32, count: u32) -> bool
-    ensures { result ≡ is_right members count actions.now group.now }
+fn is_right(group: &GroupRecord, actions: &[CountedAction], cuts: &[Bounds]) -> bool
+    ensures { result ≡ is_right cuts.now actions.now group.now }
 {
-    is_cut(group, members, count) && counts_them(group, actions)
+    is_cut(group, cuts) && counts_them(group, actions)
 }
 
-/// Whether the group is one of so many, with the bounds of its number.
-fn is_cut(group: &GroupRecord, members: u32, count: u32) -> bool
-    ensures { result ≡ is_cut members count group.now }
+/// Whether the group is one of those with these bounds, with the ones of its number.
+fn is_cut(group: &GroupRecord, cuts: &[Bounds]) -> bool
+    ensures { result ≡ is_cut cuts.now group.now }
 {
-    if count > members || group.number == 0 || group.number > count {
+    if group.number == 0 {
         return false;
     }
-    let bounds = group_bounds(members, group.number, count);
-    group.bounds.first == bounds.first && group.bounds.last == bounds.last
+    match cuts.get(group.number as usize - 1) {
+        Some(own) => group.bounds.first == own.first && group.bounds.last == own.last,
+        None => false,
+    }
 }
 
 /// Whether it counts the actions between its bounds.

@@ -8,6 +8,7 @@ ghost use Rattle.desk_verify.specs.GroupChecks.{HasEach};
 ghost use Rattle.desk_verify.specs.Groups.{AgreesGroups, IsInRollout};
 
 use crate::cuts::are_right;
+use crate::groupings::read_grouping;
 use crate::rollouts::{ByRollout, NumberedRollout, check_rollouts};
 use desk_store::{Fault, OpenChange};
 use sqlite::Alter;
@@ -31,13 +32,16 @@ impl<S: Alter> ByRollout<S> for Groups {
         change: &mut OpenChange<'_, S>,
         rollout: &NumberedRollout,
     ) -> Result<Option<u32>, Fault> {
+        let grouping = read_grouping(change, rollout)?;
         let members = change.count_places(rollout.number)?;
         let Some(groups) = change.list_groups(rollout.number)? else {
             return Ok(None);
         };
         let actions = change.list_counted_actions(rollout.number)?;
-        let count = rollout.rollout.plan.groups.get();
-        if !are_right(&groups, &actions, members, count) {
+        let Ok(right) = are_right(change.alloc(), &groups, &actions, members, &grouping) else {
+            return Err(Fault::Memory);
+        };
+        if !right {
             return Ok(None);
         }
         match u32::try_from(groups.len()) {

@@ -7,6 +7,7 @@ mod contents;
 mod cuts;
 mod damage;
 mod finding;
+mod groupings;
 mod groups;
 mod histories;
 mod laws;

@@ -6,7 +6,7 @@ ghost use Rattle.desk_records.specs.Schema.{Place};
 ghost use Rattle.desk_records.specs.Tables.{Tables};
 ghost use Rattle.desk_store.specs.Blaming.{BlamesGiven};
 ghost use Rattle.desk_store.specs.Changing.{FindsTables, StaysIn};
-ghost use Rattle.desk_verify.specs.RolloutChecks.{HasRollout, IsUpTo, JudgesAll, JudgesOne};
+ghost use Rattle.desk_verify.specs.RolloutChecks.{HasRollout, IsAtRollout, IsUpTo, JudgesAll, JudgesOne};
 
 use desk_store::{Fault, OpenChange, StoredRollout};
 use rollout_model::RolloutNo;
@@ -45,7 +45,7 @@ pub(crate) trait ByRollout<S: Alter> {
         ensures stays { StaysIn S.Store change.old change.new result }
         ensures judges { FindsTables S.Store change.old change.new result
             (λ t count. HasRollout t rollout.now.number rollout.now.rollout → JudgesOne table column is_right is_whole agrees t rollout.now.number count) }
-        ensures blames { BlamesGiven S.Store given change.old change.new result };
+        ensures blames { BlamesGiven S.Store (IsAtRollout given rollout.now.number rollout.now.rollout) change.old change.new result };
 }
 
 /// How many rows are of rollouts that are there; `None` where the table doesn't agree.

@@ -1,5 +1,5 @@
 -- From groups that were read to what is shown of them.
-use Rattle.std.proofs.Common.{◌≡◌, ℕ, List, [], ◌∷◌, map, length, take, drop, Option, Some, None, refl, sym, ap, ◌∙◌}
+use Rattle.std.proofs.Common.{◌≡◌, ◌≤◌, ◌-◌, ℕ, zero, suc, slice_get, arith, List, [], ◌∷◌, map, length, take, drop, Option, Some, None, refl, sym, ap, ◌∙◌}
 use Rattle.std.proofs.lemmas.List.{drop-map, length-map, take-map}
 use Rattle.rollout_machine.specs.Answers.{group_reply, if_found}
 use Rattle.rollout_machine.specs.Objects.{group_shown, groups_shown, page_of}
@@ -10,19 +10,12 @@ use Rattle.rollout_machine.specs.declared.records.GroupRecord.{GroupRecord}
 use Rattle.rollout_machine.specs.declared.records.RolloutRecord.{RolloutRecord}
 use Rattle.rollout_model.specs.declared.refusal.Refusal.TheVariants.{NotFound}
 use Rattle.rollout_model.specs.declared.rollout_plan.RolloutPlan.{RolloutPlan}
+use Rattle.rollout_machine.specs.GroupRules.{GroupRule, rule_at, rules_of}
+use Rattle.desk_reads.proofs.RuleLemmas.{rule_is}
 use Rattle.campaign_core.specs.StatusWords.{group_word_from}
 use Rattle.desk_records.specs.Parts.{parts_of}
 use Rattle.desk_reads.specs.Rollouts.{IsSeenOf}
 use Rattle.desk_reads.specs.declared.rollouts.SeenRollout.{SeenRollout}
-
-pub group_is : (seen : SeenRollout) (x : RolloutRecord) → IsSeenOf seen x → (g : GroupRecord) (size : ℕ) (word : GroupWord) → size ≡ size_of_group g
-    → word ≡ group_word_from seen.started (record { started = g.started; size = size; ok = g.ok; bad = g.bad; gone = g.gone; error = seen.plan.error })
-    → record { number = g.number; size = size; ok = g.ok; bad = g.bad; gone = g.gone; word = word } ≡ group_shown x g
-group_is seen x of g size word is worded =
-    let error : seen.plan.error ≡ x.plan.error = ap (λ (p : RolloutPlan). p.error) of.plan in
-    let so : word ≡ group_word_from x.started (record { started = g.started; size = size_of_group g; ok = g.ok; bad = g.bad; gone = g.gone; error = x.plan.error }) =
-    worded ∙ (λ i. group_word_from (of.started i) (record { started = g.started; size = is i; ok = g.ok; bad = g.bad; gone = g.gone; error = error i })) in
-    λ i. record { number = g.number; size = is i; ok = g.ok; bad = g.bad; gone = g.gone; word = so i }
 
 pub groups_mapped : (x : RolloutRecord) (gs : List GroupRecord) → groups_shown x gs ≡ map (group_shown x) gs
 groups_mapped x [] = refl
@@ -42,6 +35,11 @@ page_is page x groups part content total same is shown count =
 
 pub groups_paged : (page : Page) (x : RolloutRecord) (shown : PageOf ShownGroup) → shown ≡ page_of page (map (group_shown x) x.groups) → shown ≡ page_of page (groups_shown x x.groups)
 groups_paged page x shown is = is ∙ ap (page_of page) (sym (groups_mapped x x.groups))
+
+-- the rule at a place among those of all groups
+pub numbered_rule : (plan : RolloutPlan) (rules : List GroupRule) (i : ℕ) (rule : GroupRule) → rules ≡ rules_of plan → 1 ≤ i → slice_get rules (i - 1) ≡ Some rule → rule ≡ rule_at plan i
+numbered_rule plan rules zero rule are least found = absurd (omega (arith, least))
+numbered_rule plan rules (suc k) rule are least found = rule_is plan (suc k) rule (let before : suc k - 1 ≡ k = omega arith in ap (λ its. slice_get its k) (sym are) ∙ rw before at found)
 
 -- ---- a group of a rollout
 

@@ -24,9 +24,9 @@ pub none_replied : (reply : RolloutRecord → Reply) (o : Option RolloutRecord) 
 none_replied reply None it = refl
 none_replied reply (Some x) it = absurd it
 
-pub one_replied : (reply : RolloutRecord → Reply) (o : Option RolloutRecord) (seen : SeenRollout) (made : Reply) → BothOrNone IsSeenOf (Some seen) o → ((x : RolloutRecord) → IsSeenOf seen x → made ≡ reply x) → made ≡ if_found reply o
+pub one_replied : (reply : RolloutRecord → Reply) (o : Option RolloutRecord) (seen : SeenRollout) (made : Reply) → BothOrNone IsSeenOf (Some seen) o → ((x : RolloutRecord) → o ≡ Some x → IsSeenOf seen x → made ≡ reply x) → made ≡ if_found reply o
 one_replied reply None seen made it so = absurd it
-one_replied reply (Some x) seen made it so = so x it
+one_replied reply (Some x) seen made it so = so x refl it
 
 -- ---- pages of rollouts
 

@@ -1,7 +1,10 @@
 //! Groups of rollouts.
 
-ghost use Rattle.std.specs.Prelude.{◌≡◌, ◌+◌, ◌-◌, ◌<◌, ◌++◌, ◌∷◌, [], IfOk, map, min};
+ghost use Rattle.std.specs.Prelude.{◌≡◌, ◌+◌, ◌-◌, ◌<◌, ◌++◌, ◌∷◌, [], IfOk, Some, map, min};
 ghost use Rattle.rollout_machine.specs.Answers.{target_if, targets_of};
+ghost use Rattle.rollout_machine.specs.ByteStrings.{item_numbered};
+ghost use Rattle.rollout_machine.specs.Commands.{RolloutPlan};
+ghost use Rattle.rollout_machine.specs.GroupRules.{rule_at, rules_of};
 ghost use Rattle.rollout_machine.specs.Objects.{group_shown, page_of, targets_shown};
 ghost use Rattle.rollout_machine.specs.Requests.{ShowGroup, ShowGroupTargets, ShowGroups};
 ghost use Rattle.rollout_machine.specs.StateWords.{size_of_group};
@@ -18,7 +21,9 @@ use campaign_core::{GroupStatus, group_word};
 use desk_reads::{SeenRollout, read_seen_rollout, size_of};
 use desk_store::{Fault, OpenChange};
 use rollout_machine::{Bounds, GroupRecord};
-use rollout_model::{ControllerId, Group, Page, PageOf, Refusal, Reply, RolloutNo, ShownTarget};
+use rollout_model::{
+    ControllerId, Group, GroupRule, Page, PageOf, Refusal, Reply, RolloutNo, ShownTarget,
+};
 use sqlite::Alter;
 use std::alloc::Global;
 
@@ -36,7 +41,8 @@ pub fn show_groups<S: Alter>(
         Some(seen) => seen,
         None => return Ok(Reply::Refused(Refusal::NotFound)),
     };
-    let shown = page_shown(alloc, &seen, page)?;
+    let rules = change.read_rules(number)?;
+    let shown = page_shown(alloc, &seen, &rules, page)?;
     Ok(Reply::Groups(shown))
 }
 
@@ -57,8 +63,25 @@ pub fn show_group<S: Alter>(
         Some(found) => found,
         None => return Ok(Reply::Refused(Refusal::NotFound)),
     };
-    let shown = shown_in(&seen, &found)?;
+    let shown = read_shown_group(change, number, &seen, &found)?;
     Ok(Reply::Group(shown))
+}
+
+/// A group of a rollout that is there, as it is shown. Where it has no rule, the store has failed.
+fn read_shown_group<S: Alter>(
+    change: &mut OpenChange<'_, S>,
+    number: RolloutNo,
+    seen: &SeenRollout,
+    group: &GroupRecord,
+) -> Result<Group, Fault>
+    ensures stays { StaysIn S.Store change.old change.new result }
+    ensures reads { FindsIn S.Store change.old change.new result
+        (λ now shown. (x : RolloutRecord) → item_numbered now.rollouts number ≡ Some x → IsSeenOf seen.now x → shown ≡ group_shown x group.now) }
+{
+    match change.read_rule(number, group.number)? {
+        Some(rule) => shown_in(seen, rule, group),
+        None => Err(Fault::Store),
+    }
 }
 
 /// Shows a page of the members of a group of a rollout, in byte order of their ids.
@@ -150,27 +173,36 @@ fn count_of(group: &GroupRecord) -> Result<u32, Fault>
 }
 
 /// The groups of a rollout that are on a page, as they are shown.
-fn page_shown(alloc: Global, seen: &SeenRollout, page: Page) -> Result<PageOf<Group>, Fault>
-    ensures { IfOk result (λ shown. (x : RolloutRecord) → IsSeenOf seen.now x → listed shown ≡ page_of page (map (group_shown x) x.groups)) }
+fn page_shown(
+    alloc: Global,
+    seen: &SeenRollout,
+    rules: &[GroupRule],
+    page: Page,
+) -> Result<PageOf<Group>, Fault>
+    ensures { IfOk result (λ shown. (x : RolloutRecord) → IsSeenOf seen.now x → rules.now ≡ rules_of x.plan
+        → listed shown ≡ page_of page (map (group_shown x) x.groups)) }
 {
     let Ok(total) = u32::try_from(seen.groups.len()) else {
         return Err(Fault::Store);
     };
-    let content = all_shown(alloc, seen, part_on(&seen.groups, page))?;
+    let content = all_shown(alloc, seen, rules, part_on(&seen.groups, page))?;
     Ok(PageOf { content, total })
 }
 
-/// These groups of a rollout as they are shown.
+/// These groups of a rollout as they are shown, by the rules of all its groups.
 pub(crate) fn all_shown(
     alloc: Global,
     seen: &SeenRollout,
+    rules: &[GroupRule],
     groups: &[GroupRecord],
 ) -> Result<Vec<Group>, Fault>
-    ensures { IfOk result (λ shown. (x : RolloutRecord) → IsSeenOf seen.now x → shown.items ≡ map (group_shown x) groups.now) }
+    ensures { IfOk result (λ shown. (x : RolloutRecord) → IsSeenOf seen.now x → rules.now ≡ rules_of x.plan
+        → shown.items ≡ map (group_shown x) groups.now) }
 {
     let mut all = Vec::new(alloc);
     for group in groups {
-        let shown = shown_in(seen, group)?;
+        let rule = rule_of(rules, group.number)?;
+        let shown = shown_in(seen, rule, group)?;
         match all.push(shown) {
             Ok(()) => {}
             Err(_) => return Err(Fault::Memory),
@@ -179,9 +211,23 @@ pub(crate) fn all_shown(
     Ok(all)
 }
 
-/// A group of a rollout as it is shown.
-fn shown_in(seen: &SeenRollout, group: &GroupRecord) -> Result<Group, Fault>
-    ensures { IfOk result (λ shown. (x : RolloutRecord) → IsSeenOf seen.now x → shown ≡ group_shown x group.now) }
+/// The rule of the group of a number, counted from 1. Where there is none, the store has failed.
+fn rule_of(rules: &[GroupRule], number: u32) -> Result<GroupRule, Fault>
+    ensures { IfOk result (λ rule. (plan : RolloutPlan) → rules.now ≡ rules_of plan → rule ≡ rule_at plan number) }
+{
+    if number == 0 {
+        return Err(Fault::Store);
+    }
+    match rules.get(number as usize - 1) {
+        Some(rule) => Ok(*rule),
+        None => Err(Fault::Store),
+    }
+}
+
+/// A group of a rollout as it is shown, by its rule.
+fn shown_in(seen: &SeenRollout, rule: GroupRule, group: &GroupRecord) -> Result<Group, Fault>
+    ensures { IfOk result (λ shown. (x : RolloutRecord) → IsSeenOf seen.now x → rule ≡ rule_at x.plan group.now.number
+        → shown ≡ group_shown x group.now) }
 {
     let size = count_of(group)?;
     let GroupRecord {
@@ -192,7 +238,7 @@ fn shown_in(seen: &SeenRollout, group: &GroupRecord) -> Result<Group, Fault>
         bad,
         gone,
     } = *group;
-    let error = seen.plan.error.get();
+    let error = rule.error.get();
     let word = group_word(
         seen.started,
         &GroupStatus {
@@ -210,6 +256,8 @@ fn shown_in(seen: &SeenRollout, group: &GroupRecord) -> Result<Group, Fault>
         ok,
         bad,
         gone,
+        success: rule.success.get(),
+        error,
         word,
     })
 }

@@ -1,6 +1,7 @@
 //! Reports of rollouts.
 
 ghost use Rattle.std.specs.Prelude.{◌≡◌, IfOk};
+ghost use Rattle.rollout_machine.specs.GroupRules.{rules_of};
 ghost use Rattle.rollout_machine.specs.Objects.{report_of};
 ghost use Rattle.rollout_machine.specs.Requests.{ShowReport};
 ghost use Rattle.rollout_machine.specs.Views.{report};
@@ -13,7 +14,7 @@ use crate::groups::all_shown;
 use crate::rollouts::shown;
 use desk_reads::{SeenRollout, read_seen_rollout};
 use desk_store::{Fault, OpenChange};
-use rollout_model::{Refusal, Reply, RolloutNo, RolloutReport};
+use rollout_model::{GroupRule, Refusal, Reply, RolloutNo, RolloutReport};
 use sqlite::Alter;
 use std::alloc::Global;
 
@@ -30,15 +31,16 @@ pub fn show_report<S: Alter>(
         Some(seen) => seen,
         None => return Ok(Reply::Refused(Refusal::NotFound)),
     };
-    let whole = report_of(alloc, seen)?;
+    let rules = change.read_rules(number)?;
+    let whole = report_of(alloc, seen, &rules)?;
     Ok(Reply::Report(whole))
 }
 
-/// The report of a rollout.
-fn report_of(alloc: Global, seen: SeenRollout) -> Result<RolloutReport, Fault>
-    ensures { IfOk result (λ whole. (x : RolloutRecord) → IsSeenOf seen x → report whole ≡ report_of x) }
+/// The report of a rollout, by the rules of all its groups.
+fn report_of(alloc: Global, seen: SeenRollout, rules: &[GroupRule]) -> Result<RolloutReport, Fault>
+    ensures { IfOk result (λ whole. (x : RolloutRecord) → IsSeenOf seen x → rules.now ≡ rules_of x.plan → report whole ≡ report_of x) }
 {
-    let groups = all_shown(alloc, &seen, &seen.groups)?;
+    let groups = all_shown(alloc, &seen, rules, &seen.groups)?;
     let rollout = shown(seen);
     Ok(RolloutReport { rollout, groups })
 }

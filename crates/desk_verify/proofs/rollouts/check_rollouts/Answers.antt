@@ -40,6 +40,12 @@ returns-in_err-rollout-clause-blames g c =
     blamed_when c.loop-before.invariant.judged c.loop-before.invariant.stays.grows.failures c.in_err-rollout.ensures.reads.wears c.in_err-rollout.field-0.0 c.in_err-rollout.ensures.blames
     (λ t is given. up_to t c.loop-before.before c.in_ok-last.last is.0 c.loop-before-test.true) c.from_residual-in_err-rollout.result (out.1 ∙ ap Err out.2)
 
+pub returns-in_err-count-clause-blames : goal.returns-in_err-count-clause-blames
+returns-in_err-count-clause-blames g c =
+    let out = err_from_is_err_and c.from_residual-in_err-count.result c.from_residual-in_err-count.ensures.1 in
+    blamed_when (both_found c.loop-before.invariant.judged c.in_ok-rollout.ensures.reads) (grown c.loop-before.invariant.stays.grows.failures c.in_ok-rollout.ensures.stays.grows.failures) c.in_err-count.ensures.judges.wears
+    c.in_err-count.field-0.0 c.in_err-count.ensures.blames (λ t is given. record { has = is.1; given = given }) c.from_residual-in_err-count.result (out.1 ∙ ap Err out.2)
+
 pub returns-in-None-clause-blames : goal.returns-in-None-clause-blames
 returns-in-None-clause-blames g c =
     let large : 2 ^ 32 ≤ c.loop-before.listed + c.in-Some.count = grind (arith, c.in-None.ensures) in

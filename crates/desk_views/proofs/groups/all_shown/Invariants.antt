@@ -1,4 +1,5 @@
 use Rattle.std.proofs.Common.{◌≡◌, map, take}
+use Rattle.rollout_machine.specs.GroupRules.{rules_of}
 use Rattle.rollout_machine.specs.Objects.{group_shown}
 use Rattle.rollout_machine.specs.declared.records.RolloutRecord.{RolloutRecord}
 use Rattle.desk_reads.specs.Rollouts.{IsSeenOf}
@@ -6,4 +7,4 @@ use Rattle.desk_views.proofs.groups.all_shown.Given as goal
 
 -- those so far
 abbrev pub invariant-loop-group : goal.invariant-loop-group
-invariant-loop-group l = (x : RolloutRecord) → IsSeenOf l.seen x → l.all.items ≡ map (group_shown x) (take l.group-index l.groups)
+invariant-loop-group l = (x : RolloutRecord) → IsSeenOf l.seen x → l.rules ≡ rules_of x.plan → l.all.items ≡ map (group_shown x) (take l.group-index l.groups)

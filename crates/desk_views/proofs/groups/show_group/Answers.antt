@@ -24,6 +24,7 @@ returns-in-None-2-clause-shows g c =
 
 pub returns-clause-shows : goal.returns-clause-shows
 returns-clause-shows g c =
-    finds_as (both_found (rw c.in-Some.is at c.in_ok-seen.ensures.reads) (rw c.in-Some-2.is at (ledger_found _ c.in_ok-found.ensures.reads)))
-    (λ r is of. one_group (λ x f. GroupShown (group_shown x f)) (item_numbered r.rollouts c.args.number) c.args.group c.in-Some-2.found _ (is.1 ∙ ap (group_numbered c.args.group) (groups_are r of c.args.number))
-    (λ x there in_it. ap GroupShown (c.in_ok-shown.ensures x (subst (BothOrNone IsSeenOf (Some c.in-Some.seen)) there (is.0 of)))))
+    finds_as
+    (both_found (both_found (rw c.in-Some.is at c.in_ok-seen.ensures.reads) (rw c.in-Some-2.is at (ledger_found _ c.in_ok-found.ensures.reads))) c.in_ok-shown.ensures.reads)
+    (λ r is of. one_group (λ x f. GroupShown (group_shown x f)) (item_numbered r.rollouts c.args.number) c.args.group c.in-Some-2.found _ (is.0.1 ∙ ap (group_numbered c.args.group) (groups_are r of c.args.number))
+    (λ x there in_it. ap GroupShown (is.1 x there (subst (BothOrNone IsSeenOf (Some c.in-Some.seen)) there (is.0.0 of)))))

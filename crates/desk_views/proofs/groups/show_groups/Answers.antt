@@ -1,8 +1,10 @@
-use Rattle.std.proofs.Common.{ap}
-use Rattle.sql_calls.proofs.Composing.{finds_as}
+use Rattle.std.proofs.Common.{ap, ◌∙◌}
+use Rattle.sql_calls.proofs.Composing.{both_found, finds_as}
 use Rattle.rollout_machine.specs.ByteStrings.{item_numbered}
 use Rattle.rollout_machine.specs.Objects.{groups_shown, page_of}
 use Rattle.rollout_machine.specs.Replies.{GroupsShown}
+use Rattle.desk_store.proofs.LedgersOfRecords.{ledger_found}
+use Rattle.desk_reads.proofs.RuleLemmas.{rules_there}
 use Rattle.desk_views.proofs.GroupViews.{groups_paged}
 use Rattle.desk_views.proofs.RolloutViews.{none_replied, one_replied}
 use Rattle.desk_views.proofs.groups.show_groups.Goals as goal
@@ -13,5 +15,6 @@ returns-in-None-clause-shows g c =
 
 pub returns-clause-shows : goal.returns-clause-shows
 returns-clause-shows g c =
-    finds_as (rw c.in-Some.is at c.in_ok-seen.ensures.reads)
-    (λ r is of. one_replied (λ x. GroupsShown (page_of c.args.page (groups_shown x x.groups))) (item_numbered r.rollouts c.args.number) c.in-Some.seen _ (is of) (λ x it. ap GroupsShown (groups_paged c.args.page x _ (c.in_ok-shown.ensures x it))))
+    finds_as (both_found (rw c.in-Some.is at c.in_ok-seen.ensures.reads) (ledger_found _ c.in_ok-rules.ensures.reads))
+    (λ r is of. one_replied (λ x. GroupsShown (page_of c.args.page (groups_shown x x.groups))) (item_numbered r.rollouts c.args.number) c.in-Some.seen _ (is.0 of)
+    (λ x there it. ap GroupsShown (groups_paged c.args.page x _ (c.in_ok-shown.ensures x it (c.deref.ensures.value ∙ is.1 ∙ rules_there r c.args.number x there)))))

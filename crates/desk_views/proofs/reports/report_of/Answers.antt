@@ -4,7 +4,7 @@ use Rattle.desk_views.proofs.GroupViews.{groups_mapped}
 use Rattle.desk_views.proofs.reports.report_of.Goals as goal
 
 pub returns : goal.returns
-returns c = λ x it.
-    let groups = c.in_ok-groups.ensures x it ∙ ap (map (group_shown x)) (c.deref.ensures.value ∙ it.groups) ∙ sym (groups_mapped x x.groups) in
+returns c = λ x it ruled.
+    let groups = c.in_ok-groups.ensures x it ruled ∙ ap (map (group_shown x)) (c.deref.ensures.value ∙ it.groups) ∙ sym (groups_mapped x x.groups) in
     let rollout = c.shown-rollout.ensures x it in
     λ i. record { rollout = rollout i; groups = groups i }

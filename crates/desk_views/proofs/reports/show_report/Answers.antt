@@ -1,8 +1,10 @@
-use Rattle.std.proofs.Common.{ap}
-use Rattle.sql_calls.proofs.Composing.{finds_as}
+use Rattle.std.proofs.Common.{ap, ◌∙◌}
+use Rattle.sql_calls.proofs.Composing.{both_found, finds_as}
 use Rattle.rollout_machine.specs.ByteStrings.{item_numbered}
 use Rattle.rollout_machine.specs.Objects.{report_of}
 use Rattle.rollout_machine.specs.Replies.{ReportShown}
+use Rattle.desk_store.proofs.LedgersOfRecords.{ledger_found}
+use Rattle.desk_reads.proofs.RuleLemmas.{rules_there}
 use Rattle.desk_views.proofs.RolloutViews.{none_replied, one_replied}
 use Rattle.desk_views.proofs.reports.show_report.Goals as goal
 
@@ -11,5 +13,6 @@ returns-in-None-clause-shows g c = finds_as (rw c.in-None.is at c.in_ok-seen.ens
 
 pub returns-clause-shows : goal.returns-clause-shows
 returns-clause-shows g c =
-    finds_as (rw c.in-Some.is at c.in_ok-seen.ensures.reads)
-    (λ r is of. one_replied (λ x. ReportShown (report_of x)) (item_numbered r.rollouts c.args.number) c.in-Some.seen _ (is of) (λ x it. ap ReportShown (c.in_ok-whole.ensures x it)))
+    finds_as (both_found (rw c.in-Some.is at c.in_ok-seen.ensures.reads) (ledger_found _ c.in_ok-rules.ensures.reads))
+    (λ r is of. one_replied (λ x. ReportShown (report_of x)) (item_numbered r.rollouts c.args.number) c.in-Some.seen _ (is.0 of)
+    (λ x there it. ap ReportShown (c.in_ok-whole.ensures x it (c.deref.ensures.value ∙ is.1 ∙ rules_there r c.args.number x there))))

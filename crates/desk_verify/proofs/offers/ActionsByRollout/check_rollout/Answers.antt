@@ -24,12 +24,12 @@ returns-in-Ok-clause-judges g c =
     (λ t is its. all_offered t c.args.rollout.now.number c.args.rollout.now.rollout c.in-Some.groups.items is.0 c.in-Some-2.actions.items is.1.0 c.in-Ok.count is.1.1 count)
 
 pub returns-in_default-clause-blames : goal.returns-in_default-clause-blames
-returns-in_default-clause-blames g c = blamed (rw c.in_default.is at c.in_ok-groups.ensures.reads) c.in_ok-groups.ensures.stays.grows.failures (Err Store) (λ t is given. absurd (no_groups t c.args.rollout.now.number is given.0.1.1.0))
+returns-in_default-clause-blames g c = blamed (rw c.in_default.is at c.in_ok-groups.ensures.reads) c.in_ok-groups.ensures.stays.grows.failures (Err Store) (λ t is given. absurd (no_groups t c.args.rollout.now.number is given.given.0.1.1.0))
 
 pub returns-in_default-2-clause-blames : goal.returns-in_default-2-clause-blames
 returns-in_default-2-clause-blames g c =
     blamed (both_found c.in_ok-groups.ensures.reads (rw c.in_default-2.is at c.in_ok-actions.ensures.reads)) (grown c.in_ok-groups.ensures.stays.grows.failures c.in_ok-actions.ensures.stays.grows.failures) (Err Store)
-    (λ t is given. absurd (no_actions t c.args.rollout.now.number is.1 given.0.1.1.1.0))
+    (λ t is given. absurd (no_actions t c.args.rollout.now.number is.1 given.given.0.1.1.1.0))
 
 pub returns-clause-blames : goal.returns-clause-blames
 returns-clause-blames g c =

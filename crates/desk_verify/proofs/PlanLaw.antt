@@ -1,0 +1,131 @@
+-- The plans of accepted commands: each is well formed, and leaves no group of its members empty.
+use Rattle.std.proofs.Common.{◌≡◌, ◌≤◌, ◌<◌, inl, inr, ℕ, zero, suc, ◌+◌, ◌^◌, pos, true, false, List, [], ◌∷◌, length, nat_lt, slice_get, Option, Some, None, refl, sym, ap, subst, ◌∙◌, arith}
+use Rattle.std.specs.Option.{option_map}
+use Rattle.std.specs.List.{list_all}
+use Rattle.std.proofs.lemmas.Bool.{and_parts, eqb-true, leb-true}
+use Rattle.std.proofs.lemmas.Bool.Decides.{nat_tests}
+use Rattle.sqlite_value.specs.declared.value.Value.TheVariants.{Int}
+use Rattle.rollout_model.specs.Groupings.{define_each, definition_numbered, is_definition, is_grouping}
+use Rattle.rollout_model.specs.Limits.{percentage_limit}
+use Rattle.rollout_model.specs.PlanRules.{rule_by}
+use Rattle.rollout_model.specs.Rules.{is_percentage}
+use Rattle.rollout_machine.specs.ByteStrings.{item_numbered}
+use Rattle.rollout_machine.specs.CommandList.{CommandList, Make, ◌▸◌}
+use Rattle.rollout_machine.specs.CommandRules.{IsWellFormed, is_plan}
+use Rattle.rollout_machine.specs.Commands.{Bytes, Command, CreateRollout, RolloutPlan}
+use Rattle.rollout_machine.specs.GroupRules.{GroupRule, rule_at, rules_of}
+use Rattle.rollout_machine.specs.Groupings.{GroupDefinition, leaves_empty}
+use Rattle.rollout_machine.specs.Ranges.{each_from}
+use Rattle.rollout_machine.specs.Records.{records}
+use Rattle.rollout_machine.specs.Rollouts.{Rollout, created, members_of, rollout_at, rollouts, size_of}
+use Rattle.rollout_machine.specs.Validity.{IsValid}
+use Rattle.rollout_machine.specs.Verdicts.{verdict, verdict_row}
+use Rattle.rollout_machine.specs.declared.records.RolloutRecord.{RolloutRecord}
+use Rattle.rollout_machine.proofs.AtNumbers.{of_rollout}
+use Rattle.rollout_machine.proofs.Induction.{either_numbered}
+use Rattle.rollout_machine.proofs.Lists.{length_each}
+use Rattle.rollout_machine.proofs.Valid.{NoneHolds, none_holds}
+use Rattle.desk_records.specs.Codes.{percentage_in}
+use Rattle.desk_records.specs.RuleRow.{IsRuleRow}
+use Rattle.desk_records.specs.Rollouts.{told_rule}
+use Rattle.desk_store.specs.RuleTables.{HaveRules, definitions_in, grouping_of}
+
+-- ---- plans
+
+pub record IsPlanned (plan : RolloutPlan) (members : ℕ) : Type 0 where
+  pub formed : is_plan plan ≡ true
+  pub full : leaves_empty plan.groups members ≡ false
+
+abbrev made : RolloutPlan → List Bytes → Rollout
+made plan members = record { plan = plan; members = members }
+
+abbrev IsPlannedRollout : Rollout → Type 0
+IsPlannedRollout x = IsPlanned x.plan (size_of x)
+
+new_is_planned : (h : CommandList) (c : Command) → IsWellFormed c → verdict h c ≡ None → (i : ℕ) (x : Rollout) → slice_get (created h c) i ≡ Some x → IsPlannedRollout x
+unfolding records
+new_is_planned h (CreateRollout plan) formed e zero x d =
+    let row : NoneHolds (verdict_row (records h) (CreateRollout plan)) = none_holds (verdict_row (records h) (CreateRollout plan)) e in
+    let new : IsPlannedRollout (made plan (members_of plan.filter_text h)) = record { formed = formed; full = row.1.1.1.0 } in
+    let both : Some (made plan (members_of plan.filter_text h)) ≡ Some x = d in
+    let same : made plan (members_of plan.filter_text h) ≡ x = cc in
+    subst IsPlannedRollout same new
+new_is_planned h (CreateRollout plan) formed e (suc i) x d = cc
+new_is_planned h _ formed e i x d = cc
+
+are_planned : (h : CommandList) → IsValid h → (r : ℕ) (x : Rollout) → rollout_at h r ≡ Some x → IsPlannedRollout x
+are_planned (Make approval) valid zero x e = cc
+are_planned (Make approval) valid (suc i) x e = cc
+are_planned (h ▸ c) valid r x e = elim (either_numbered (rollouts h) (created h c) r x e) [ inl old ↦ are_planned h valid.0 r x old | inr new ↦ new_is_planned h c valid.1 valid.2 new.1.0 x new.1.1 ]
+
+pub plans_are : (h : CommandList) → IsValid h → (r : ℕ) (y : RolloutRecord) → item_numbered (records h).rollouts r ≡ Some y → IsPlanned y.plan (length y.members)
+plans_are h valid r y e = let of = of_rollout h r y e in subst (λ (z : RolloutRecord). IsPlanned z.plan (length z.members)) (sym of.is) (are_planned h valid r of.rollout of.there)
+
+-- ---- the rules of a plan, as rows say them
+
+percentage_is : (p : ℕ) → is_percentage p ≡ true → percentage_in (Int (pos p)) ≡ Some p
+percentage_is p good =
+    let high : p ≤ percentage_limit = leb-true _ _ (and_parts _ _ good).1 in
+    let few : nat_lt p (2 ^ 32) ≡ true = grind (arith, nat_tests, high) in
+    rw (few, good) refl
+
+each_is : (ds : List GroupDefinition) (i : ℕ) (d : GroupDefinition) → list_all is_definition ds ≡ true → slice_get ds i ≡ Some d → is_definition d ≡ true
+each_is [] i d all at = absurd cc
+each_is (e ∷ ds) zero d all at = let same : e ≡ d = cc in subst (λ f. is_definition f ≡ true) same (and_parts _ _ all).0
+each_is (e ∷ ds) (suc i) d all at = each_is ds i d (and_parts _ _ all).1 at
+
+numbered_is : (ds : List GroupDefinition) (count i : ℕ) (d : GroupDefinition) → define_each ds count ≡ true → definition_numbered ds i ≡ Some d → is_definition d ≡ true
+numbered_is ds count zero d each at = absurd cc
+numbered_is [] count (suc i) d each at = absurd cc
+numbered_is (e ∷ ds) count (suc i) d each at = each_is (e ∷ ds) i d (and_parts _ _ (and_parts _ _ (and_parts _ _ each).0).1).0 at
+
+by_rule : (o : Option GroupDefinition) (plan : RolloutPlan) → is_percentage plan.success ≡ true → is_percentage plan.error ≡ true → ((d : GroupDefinition) → o ≡ Some d → is_definition d ≡ true) → IsRuleRow (told_rule (rule_by o plan)) (rule_by o plan)
+by_rule None plan success error each = record { percentage = refl; success = percentage_is plan.success success; error = percentage_is plan.error error }
+by_rule (Some d) plan success error each =
+    let good = and_parts _ _ (each d refl) in
+    let rest = and_parts _ _ good.1 in
+    record { percentage = ap (option_map Some) (percentage_is d.percentage good.0); success = percentage_is d.success rest.0; error = percentage_is d.error rest.1 }
+
+pub rule_told : (plan : RolloutPlan) (i : ℕ) → is_plan plan ≡ true → IsRuleRow (told_rule (rule_at plan i)) (rule_at plan i)
+rule_told plan i formed =
+    let parts = and_parts _ _ formed in
+    let more = and_parts _ _ parts.1 in
+    let each = (and_parts _ _ parts.0).1 in
+    by_rule (definition_numbered plan.groups.definitions i) plan more.0 (and_parts _ _ more.1).0 (λ d at. numbered_is plan.groups.definitions plan.groups.count i d each at)
+
+-- ---- they make its grouping
+
+pub each_has : (Has : ℕ → GroupRule → Type 0) (f : ℕ → GroupRule) (first n : ℕ) → ((i : ℕ) → first ≤ i → i < first + n → Has i (f i)) → HaveRules Has first (each_from f first n)
+each_has Has f first zero each = tt
+each_has Has f first (suc n) each = (each first (omega arith) (omega arith), each_has Has f (suc first) n (λ i low high. each i (omega (arith, low)) (omega (arith, high))))
+
+-- a list is the rest of another from k on
+abbrev IsRest : ℕ → List GroupDefinition → List GroupDefinition → Type 0
+IsRest k all rest = (j : ℕ) → slice_get all (k + j) ≡ slice_get rest j
+
+first_of : (k : ℕ) (all rest : List GroupDefinition) → IsRest k all rest → slice_get all k ≡ slice_get rest 0
+first_of k all rest is = let at : k + 0 ≡ k = omega arith in ap (slice_get all) (sym at) ∙ is 0
+
+next_of : (k : ℕ) (all rest more : List GroupDefinition) → IsRest k all rest → ((j : ℕ) → slice_get rest (suc j) ≡ slice_get more j) → IsRest (suc k) all more
+next_of k all rest more is further j = let at : suc k + j ≡ k + suc j = omega arith in ap (slice_get all) at ∙ is (suc j) ∙ further j
+
+definitions_back : (plan : RolloutPlan) (k n : ℕ) (ds : List GroupDefinition) → IsRest k plan.groups.definitions ds → length ds ≤ n → definitions_in (each_from (rule_at plan) (suc k) n) ≡ ds
+definitions_back plan k zero [] is few = refl
+definitions_back plan k zero (d ∷ ds) is few = absurd (omega (arith, few))
+definitions_back plan k (suc n) [] is few = rw (first_of k plan.groups.definitions [] is) (definitions_back plan (suc k) n [] (next_of k plan.groups.definitions [] [] is (λ j. refl)) (omega arith))
+definitions_back plan k (suc n) (d ∷ ds) is few =
+    rw (first_of k plan.groups.definitions (d ∷ ds) is) (ap (λ l. d ∷ l) (definitions_back plan (suc k) n ds (next_of k plan.groups.definitions (d ∷ ds) ds is (λ j. refl)) (omega (arith, few))))
+
+no_more : (ds : List GroupDefinition) (count : ℕ) → define_each ds count ≡ true → length ds ≤ count
+no_more [] count each = omega arith
+no_more (d ∷ ds) count each = let same : length (d ∷ ds) ≡ count = eqb-true _ _ (and_parts _ _ each).1 in omega (arith, same)
+
+whole : (ds : List GroupDefinition) → IsRest 0 ds ds
+whole ds j = let at : 0 + j ≡ j = omega arith in ap (slice_get ds) at
+
+pub rules_make : (plan : RolloutPlan) → is_plan plan ≡ true → grouping_of (rules_of plan) ≡ Some plan.groups
+rules_make plan formed =
+    let grouping : is_grouping plan.groups ≡ true = (and_parts _ _ formed).0 in
+    let few = no_more plan.groups.definitions plan.groups.count (and_parts _ _ grouping).1 in
+    let definitions : definitions_in (rules_of plan) ≡ plan.groups.definitions = definitions_back plan 0 plan.groups.count plan.groups.definitions (whole plan.groups.definitions) few in
+    rw (length_each (rule_at plan) 1 plan.groups.count, definitions, grouping) refl

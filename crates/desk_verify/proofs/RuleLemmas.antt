@@ -1,0 +1,96 @@
+-- What is said of the groups of a rollout, and how it is cut by that.
+use Rattle.std.proofs.Common.{◌≡◌, ◌≤◌, ℕ, suc, ◌+◌, Bool, true, false, cond, List, [], ◌∷◌, ◌++◌, length, Some, None, refl, sym, ap, subst, ◌∙◌, arith}
+use Rattle.std.proofs.lemmas.Bool.{and_parts, leb-true}
+use Rattle.sqlite_value.specs.Order.{Row, column}
+use Rattle.sqlite_trees.specs.Tree.{has_rowid}
+use Rattle.std.specs.Prelude.{pos}
+use Rattle.rollout_model.specs.Groupings.{Grouping, is_grouping}
+use Rattle.rollout_model.specs.declared.group_definition.GroupDefinition.{GroupDefinition}
+use Rattle.rollout_machine.specs.GroupRules.{GroupRule}
+use Rattle.desk_records.specs.Codes.{percentage_in, percentage_or_none_in}
+use Rattle.desk_records.specs.Listings.{IsOnly}
+use Rattle.desk_records.specs.Schema.{Rollouts}
+use Rattle.desk_records.specs.TableRows.{IsRollout}
+use Rattle.desk_records.specs.Tables.{Tables}
+use Rattle.desk_records.specs.declared.rollout_row.StoredRollout.{StoredRollout}
+use Rattle.desk_store.specs.RawLists.{SaysRule}
+use Rattle.desk_store.specs.RuleTables.{HasGroupCount, HasRule, HaveRules, definitions_in, grouping_of, grouping_with}
+use Rattle.desk_store.specs.Unreadable.{IsUnreadable, no_grouping}
+use Rattle.desk_verify.specs.GroupChecks.{HasOnlyRule, HaveOnlyRules, IsCutOnlyBy, IsGroupCount}
+use Rattle.desk_verify.specs.Groups.{IsCutBy}
+use Rattle.desk_verify.specs.RolloutChecks.{HasRollout}
+use Rattle.desk_verify.proofs.OneRow.{one_in}
+
+-- ---- how many groups a rollout is to have
+
+pub found_count : (t : Tables) (r : ℕ) (found : StoredRollout) → IsOnly (t Rollouts) (has_rowid (pos r)) IsRollout found → IsGroupCount t r found.plan.groups
+found_count t r found one = record {
+  there = record { row = one.said.row; among = one.said.among; numbered = one.said.passes; says = one.said.is.groups };
+  only = λ k has. (let it = one.each has.row has.among has.numbered in let same : Some k ≡ Some found.plan.groups = sym has.says ∙ it.groups in cc);
+}
+
+-- ---- rules
+
+one_rule : (row : Row) (a b : GroupRule) → SaysRule row a → SaysRule row b → a ≡ b
+one_rule row a b is other =
+    let percentage = one_in (percentage_or_none_in (column row 3)) a.percentage b.percentage is.percentage other.percentage in
+    let success = one_in (percentage_in (column row 4)) a.success b.success is.success other.success in
+    let error = one_in (percentage_in (column row 5)) a.error b.error is.error other.error in
+    λ i. record { percentage = percentage i; success = success i; error = error i }
+
+pub one_rule_more : (Has : ℕ → GroupRule → Type 0) (i : ℕ) (rules : List GroupRule) (rule : GroupRule) → HaveRules Has i rules → Has (i + length rules) rule → HaveRules Has i (rules ++ rule ∷ [])
+one_rule_more Has i [] rule have has = (subst (λ k. Has k rule) (let e : i + 0 ≡ i = omega arith in e) has, tt)
+one_rule_more Has i (first ∷ rules) rule have has =
+    (have.0, one_rule_more Has (suc i) rules rule have.1 (subst (λ k. Has k rule) (let e : i + suc (length rules) ≡ suc i + length rules = omega arith in e) has))
+
+module _ (t : Tables) (r : ℕ) where
+  are_said : (i : ℕ) (rules : List GroupRule) → HaveRules (HasOnlyRule t r) i rules → HaveRules (HasRule t r) i rules
+  are_said i [] have = tt
+  are_said i (rule ∷ rules) have = (have.0.said, are_said (suc i) rules have.1)
+
+  same_rules : (i : ℕ) (rules others : List GroupRule) → HaveRules (HasRule t r) i others → HaveRules (HasOnlyRule t r) i rules → length others ≡ length rules → others ≡ rules
+  same_rules i [] [] said only many = refl
+  same_rules i [] (other ∷ others) said only many = absurd (omega (arith, many))
+  same_rules i (rule ∷ rules) [] said only many = absurd (omega (arith, many))
+  same_rules i (rule ∷ rules) (other ∷ others) said only many =
+      let first : other ≡ rule = one_rule said.0.row other rule said.0.is (only.0.each said.0.row said.0.among said.0.passes) in
+      let rest = same_rules (suc i) rules others said.1 only.1 (omega (arith, many)) in
+      λ k. first k ∷ rest k
+
+-- ---- the grouping that they make
+
+pub grouping_is : (n : ℕ) (ds : List GroupDefinition) (groups : Grouping) → grouping_with n ds ≡ Some groups → (groups ≡ record { count = n; definitions = ds }) × (is_grouping groups ≡ true)
+grouping_is n ds groups made = go (is_grouping (record { count = n; definitions = ds })) refl made
+  where
+    own : Grouping
+    own = record { count = n; definitions = ds }
+
+    go : (b : Bool) → is_grouping own ≡ b → cond b (Some own) None ≡ Some groups → (groups ≡ own) × (is_grouping groups ≡ true)
+    go true is made = let same : own ≡ groups = cc in (sym same, ap is_grouping (sym same) ∙ is)
+    go false is made = absurd cc
+
+pub some_groups : (groups : Grouping) (rules : List GroupRule) → grouping_of rules ≡ Some groups → 1 ≤ groups.count
+some_groups groups rules made = leb-true _ _ (and_parts _ _ (and_parts _ _ (grouping_is (length rules) (definitions_in rules) groups made).1).0).0
+
+module _ (t : Tables) (r : ℕ) (found : StoredRollout) (has : HasRollout t r found) (rules : List GroupRule) (many : length rules ≡ found.plan.groups) (have : HaveOnlyRules t r rules) where
+  count : IsGroupCount t r found.plan.groups
+  count = found_count t r found has.is
+
+  pub cut_only : (groups : Grouping) → grouping_with found.plan.groups (definitions_in rules) ≡ Some groups → IsCutOnlyBy t r groups
+  cut_only groups made = record { cut = record { there = there; rules = rules; have = are_said t r 1 rules have; make = make }; only = only }
+    where
+      make : grouping_of rules ≡ Some groups
+      make = ap (λ n. grouping_with n (definitions_in rules)) many ∙ made
+
+      there : HasGroupCount t r groups.count
+      there = subst (HasGroupCount t r) (ap (λ (g : Grouping). g.count) (sym (grouping_is found.plan.groups (definitions_in rules) groups made).0)) count.there
+
+      only : (others : Grouping) → IsCutBy t r others → others ≡ groups
+      only others it =
+          let counted : others.count ≡ length it.rules = ap (λ (g : Grouping). g.count) (grouping_is (length it.rules) (definitions_in it.rules) others it.make).0 in
+          let same = same_rules t r 1 rules it.rules it.have have (omega (arith, counted, count.only others.count it.there, many)) in
+          let both : Some others ≡ Some groups = sym it.make ∙ ap grouping_of same ∙ make in
+          cc
+
+  pub none_made : grouping_with found.plan.groups (definitions_in rules) ≡ None → IsUnreadable t
+  none_made none = no_grouping r rules (subst (HasGroupCount t r) (sym many) count.there) (are_said t r 1 rules have) (ap (λ n. grouping_with n (definitions_in rules)) many ∙ none)
