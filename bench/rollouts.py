@@ -64,21 +64,31 @@ def ending(number, action):
     return reporting(number, action, "closed", "success")
 
 
+def conditions(success, error):
+    """The members of a rollout or a group that say its thresholds."""
+    said = (f'"{name}Condition":{{"condition":"THRESHOLD","expression":"{percent}"}}' for name, percent in (("success", success), ("error", error)))
+    return ",".join(said)
+
+
 @dataclass(frozen=True)
 class Plan:
-    """A rollout of all targets."""
+    """A rollout of all targets, in so many groups of one size or in groups of these percentages, each of which has thresholds of its own."""
 
     number: int
     groups: int
     success: int = 100
+    percentages: tuple = ()
+
+    def grouping(self):
+        """The member of the body that says the groups."""
+        if not self.percentages:
+            return f'"amountGroups":{self.groups}'
+        defined = (f'{{"targetPercentage":{percent},{conditions(50 + k, 100 - k)}}}' for k, percent in enumerate(self.percentages))
+        return f'"groups":[{",".join(defined)}]'
 
     def creating(self):
         """The request that creates it."""
-        body = (
-            f'{{"name":"r{self.number}","distributionSetId":1,"targetFilterQuery":"name==*","amountGroups":{self.groups},'
-            f'"successCondition":{{"condition":"THRESHOLD","expression":"{self.success}"}},'
-            '"errorCondition":{"condition":"THRESHOLD","expression":"100"}}'
-        )
+        body = f'{{"name":"r{self.number}","distributionSetId":1,"targetFilterQuery":"name==*",{self.grouping()},{conditions(self.success, 100)}}}'
         return f"POST /rest/v1/rollouts HTTP/1.1\r\nContent-Length: {len(body)}\r\n\r\n{body}".encode()
 
     def created(self, targets):
@@ -102,6 +112,16 @@ def asking_members(rollout, group, offset):
 def shown_members(first, total, word):
     """The reply to it, where the page's first target is this one and each has the word."""
     return desk.page_of(range(first, first + min(PAGE, total)), total, word)
+
+
+def shown_groups(targets, groups):
+    """The page of the groups of one size of the first rollout, of which the first one is started."""
+    size = targets // groups
+    content = [
+        f'{{"bad":0,"error":100,"gone":0,"id":{group},"ok":0,"size":{size},"status":"{"scheduled" if group > 1 else "running"}","success":100}}'
+        for group in range(1, groups + 1)
+    ]
+    return desk.reply("200 OK", f'{{"content":[{",".join(content)}],"size":{groups},"total":{groups}}}')
 
 
 def reported(targets):
@@ -381,6 +401,12 @@ def measure_fleet(sides, fleet, called):
     sides.note(f"final feedback, {called}", [(ending(number, number), DONE) for number in range(2, last + 1)])
 
 
+def measure_fifty(sides, fleet, called):
+    """The page of the groups too, where there are many."""
+    sides.note("page of 50 groups", [(b"GET /rest/v1/rollouts/1/deploygroups HTTP/1.1\r\n\r\n", shown_groups(fleet.targets, fleet.groups))] * 20)
+    measure_fleet(sides, fleet, called)
+
+
 def measure_hundred(sides, fleet):
     """Final feedbacks where a target has 99 further actions: of groups that aren't started, or of ones that are."""
     sides.ask_all(polls(fleet.targets, WARM, first_action(fleet)))
@@ -445,8 +471,9 @@ def measure(folder, masters, programs, turns):
             measured(sides, fleet, *words)
 
     for _ in range(turns):
-        for fleet, called in [(TEN, "10 targets"), (THOUSAND, "1,000 targets"), (WHOLE, "10,000 targets"), (FIFTY, "10,000 targets, 50 groups")]:
+        for fleet, called in [(TEN, "10 targets"), (THOUSAND, "1,000 targets"), (WHOLE, "10,000 targets")]:
             over(fleet, measure_fleet, called)
+        over(FIFTY, measure_fifty, "10,000 targets, 50 groups")
         over(HUNDRED, measure_hundred)
         over(READY, measure_start)
         over(NEARLY, measure_nearly)

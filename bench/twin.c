@@ -52,7 +52,8 @@ static void open_store(const char *path) {
         "CREATE TABLE IF NOT EXISTS action (number INTEGER PRIMARY KEY, rollout INTEGER NOT NULL, place INTEGER NOT NULL, controller TEXT NOT NULL, canceling INTEGER NOT NULL, outcome INTEGER NOT NULL, notes INTEGER NOT NULL, entries INTEGER NOT NULL, UNIQUE (rollout, place), UNIQUE (controller, number)) STRICT;"
         "CREATE TABLE IF NOT EXISTS feedback (action INTEGER NOT NULL, sequence INTEGER NOT NULL, kind INTEGER NOT NULL, word INTEGER NOT NULL, details TEXT NOT NULL, PRIMARY KEY (action, sequence)) STRICT;"
         "CREATE TABLE IF NOT EXISTS offer (controller TEXT NOT NULL PRIMARY KEY, action INTEGER NOT NULL, kind INTEGER NOT NULL) STRICT;"
-        "INSERT OR IGNORE INTO desk (id, format, version, approval) VALUES (1, 'fwdesk', 1, 0);"
+        "CREATE TABLE IF NOT EXISTS group_rule (rollout INTEGER NOT NULL, number INTEGER NOT NULL, percentage INTEGER, success INTEGER NOT NULL, error INTEGER NOT NULL, PRIMARY KEY (rollout, number)) STRICT;"
+        "INSERT OR IGNORE INTO desk (id, format, version, approval) VALUES (1, 'fwdesk', 2, 0);"
         "COMMIT;";
     if (sqlite3_exec(db, setup, NULL, NULL, NULL) != SQLITE_OK) die("setup");
     begin = prepared("BEGIN IMMEDIATE");
@@ -433,6 +434,8 @@ static void answer_rollout(const char *head) {
     if (sscanf(head, "POST /rest/v1/rollouts/%lld/start HTTP/1.1%n", &number, &at) == 1 && at) return answer_start(number);
     if (sscanf(head, "GET /rest/v1/rollouts/%lld/deploygroups/%lld/targets?%n", &number, &group, &at) == 2 && at)
         return answer_group_targets(number, group, head + at);
+    if (sscanf(head, "GET /rest/v1/rollouts/%lld/deploygroups%n", &number, &at) == 1 && at && strchr("? ", head[at]))
+        return answer_groups(number, head + at + (head[at] == '?'));
     if (sscanf(head, "GET /desk/v1/rollouts/%lld/report%n", &number, &at) == 1 && at) return answer_report(number);
     if (sscanf(head, "GET /desk/v1/rollouts/%lld/actions%n", &number, &at) == 1 && at) return answer_actions(number);
     refuse("404 Not Found", "not_found", 3);

@@ -15,6 +15,8 @@ typedef struct { Text id, name, tags[TAG_LIMIT]; Attribute attributes[ATTRIBUTE_
 typedef struct { long offset, limit; Text tag; } Page;
 
 typedef struct { int64_t number, first, last, started, ok, bad, gone; } Group;
+// What is said of a group; the percentage is 0 where its rollout is cut evenly.
+typedef struct { int64_t percentage, success, error; } Rule;
 typedef struct { int64_t number, groups, success, error, approval, started, paused; Text name; } Rollout;
 
 // Whether a whole group is done by one statement, as a server in C would do it, and not row by row, as fwdesk does.
@@ -63,14 +65,16 @@ void prepare_rollouts(void);
 void answer_create(const char *body, size_t len);
 void answer_start(int64_t rollout);
 void answer_group_targets(int64_t rollout, int64_t group, const char *query);
+void answer_groups(int64_t rollout, const char *query);
 void answer_report(int64_t rollout);
 void answer_actions(int64_t rollout);
 int read_rollout(int64_t number, Rollout *rollout);
-// The last started group, of number 0 where none is.
-void last_started(int64_t rollout, Group *group);
 int read_groups(int64_t rollout, Group groups[GROUP_LIMIT]);
 int read_group(int64_t rollout, int64_t number, Group *group);
 int holding_group(int64_t rollout, int64_t place, Group *group);
+// The group that has a place, and the one behind it, of number 0 where none is.
+int group_and_next(int64_t rollout, int64_t place, Group *group, Group *next);
+int read_rule(int64_t rollout, int64_t group, Rule *rule);
 void set_rollout(const Rollout *rollout);
 void set_group(int64_t rollout, const Group *group);
 void start_group(int64_t rollout, Group *group);

@@ -7,6 +7,8 @@
 enum { ACTIONS_OF_TARGET = 1001, NOTE_LIMIT = 100, GOOD = 1, BAD = 2, SUCCEEDED = 3, FAILED = 4, REJECTED = 5 };
 
 typedef struct { int64_t number, rollout, place, canceling, outcome, notes, entries; Text id; } Action;
+// What a report finds: its rollout, its group with the one behind it, and what is said of its group.
+typedef struct { Rollout rollout; Group own, next; Rule rule; } Seen;
 typedef struct { Text execution, finished; char details[8 * 257]; size_t details_len; } Report;
 
 static sqlite3_stmt *get_offer, *change_offer, *drop_offer, *get_action, *set_action, *put_feedback, *list_target_actions, *next_offer, *last_final;
@@ -212,31 +214,29 @@ static void write_action(const Action *action) {
     done(set_action);
 }
 
-// Counts an outcome in its group; then the rollout may pause, or its next group start.
-static void follow(Rollout *rollout, Group *own, const Group *last, int64_t outcome) {
-    int was_error = reaches(own->bad, own, rollout->error);
-    int64_t good = last->ok + (own->number == last->number && outcome == GOOD);
+// Counts an outcome in its group; then the rollout may pause, or the group behind it start.
+static void follow(Seen *seen, int64_t outcome) {
+    Rollout *rollout = &seen->rollout;
+    Group *own = &seen->own;
+    int was_error = reaches(own->bad, own, seen->rule.error);
     own->ok += outcome == GOOD;
     own->bad += outcome == BAD;
     set_group(rollout->number, own);
-    int pauses = outcome == BAD && !was_error && reaches(own->bad, own, rollout->error);
-    if (pauses) {
+    if (outcome == BAD && !was_error && reaches(own->bad, own, seen->rule.error)) {
         rollout->paused = 1;
         set_rollout(rollout);
     }
-    Group next;
-    if (rollout->paused || !reaches(good, last, rollout->success) || last->number == rollout->groups) return;
-    if (!read_group(rollout->number, last->number + 1, &next)) die("group");
-    start_group(rollout->number, &next);
+    int next_waits = seen->next.number && !seen->next.started;
+    if (outcome == GOOD && next_waits && !rollout->paused && reaches(own->ok, own, seen->rule.success)) start_group(rollout->number, &seen->next);
 }
 
 // Writes the outcome of an action and all that follows.
-static void end_action(Action *action, int64_t outcome, Rollout *rollout, Group *own, const Group *last) {
+static void end_action(Action *action, int64_t outcome, Seen *seen) {
     action->outcome = outcome;
     action->canceling = 0;
     write_action(action);
     offer_anew(&action->id);
-    follow(rollout, own, last, outcome);
+    follow(seen, outcome);
 }
 
 static void give_up(const char *status, const char *name, int number) {
@@ -245,31 +245,30 @@ static void give_up(const char *status, const char *name, int number) {
 }
 
 // Finds the action that is reported of, where it is the device's and its group is started.
-static int find_action(const Text *id, int64_t number, Action *action, Rollout *rollout, Group *own, Group *last) {
+static int find_action(const Text *id, int64_t number, Action *action, Seen *seen) {
     if (!read_action(number, action)) return 0;
-    if (!read_rollout(action->rollout, rollout) || !holding_group(action->rollout, action->place, own)) die("action");
-    last_started(action->rollout, last);
-    return action->id.len == id->len && !memcmp(action->id.bytes, id->bytes, id->len) && own->started;
+    if (!read_rollout(action->rollout, &seen->rollout) || !group_and_next(action->rollout, action->place, &seen->own, &seen->next)) die("action");
+    if (!read_rule(action->rollout, seen->own.number, &seen->rule)) die("rule");
+    return action->id.len == id->len && !memcmp(action->id.bytes, id->bytes, id->len) && seen->own.started;
 }
 
 void answer_feedback(const Text *id, int64_t number, const char *head, const char *body, size_t len) {
     static Report report;
     Action action;
-    Rollout rollout;
-    Group own, last;
+    Seen seen;
     int code = read_report(body, len, &report) ? code_of(&report) : -1;
     int64_t outcome = code == SUCCEEDED ? GOOD : code == FAILED ? BAD : 0;
     if (code < 0) return refuse("400 Bad Request", "bad_request", 1);
     done(begin);
     if (!is_known(id, head)) return give_up("401 Unauthorized", "unauthorized", 2);
-    if (!find_action(id, number, &action, &rollout, &own, &last)) return give_up("404 Not Found", "not_found", 3);
+    if (!find_action(id, number, &action, &seen)) return give_up("404 Not Found", "not_found", 3);
     if (action.outcome && action.outcome != outcome) return give_up("410 Gone", "closed_action", 8);
     if (!outcome && action.notes == NOTE_LIMIT) return give_up("403 Forbidden", "quota", 10);
     if (!action.outcome) {
         action.notes += !outcome;
         action.entries++;
         write_entry(&action, code, &report);
-        if (outcome) end_action(&action, outcome, &rollout, &own, &last);
+        if (outcome) end_action(&action, outcome, &seen);
         else write_action(&action);
     }
     done(commit);

@@ -6,10 +6,11 @@
 
 enum { ROLLOUT_LIMIT = 1000 };
 
-typedef struct { Text name, filter; int64_t set, groups, success, error; } Plan;
+typedef struct { Text name, filter; int64_t set, groups, success, error; Rule rules[GROUP_LIMIT]; } Plan;
 
 static sqlite3_stmt *find_rollout, *last_rollout, *get_rollout, *add_rollout, *change_rollout, *last_set, *get_desk;
-static sqlite3_stmt *put_member, *list_members, *put_group, *get_group, *list_groups, *find_group, *last_group, *change_group;
+static sqlite3_stmt *put_member, *list_members, *put_group, *get_group, *list_groups, *find_group, *find_group_and_next, *change_group;
+static sqlite3_stmt *put_rule, *get_rule, *list_rules;
 static sqlite3_stmt *last_action, *put_action, *list_actions, *put_actions, *list_places, *put_group_offers;
 static Text members[TARGET_LIMIT];
 static int member_count;
@@ -30,8 +31,12 @@ void prepare_rollouts(void) {
     list_groups = prepared("SELECT number, first_place, last_place, started, ok, bad, gone FROM rollout_group WHERE rollout = ?1 ORDER BY number");
     find_group = prepared(
         "SELECT number, first_place, last_place, started, ok, bad, gone FROM rollout_group WHERE rollout = ?1 AND first_place <= ?2 AND last_place >= ?2 ORDER BY number");
-    last_group = prepared("SELECT number, first_place, last_place, started, ok, bad, gone FROM rollout_group WHERE rollout = ?1 AND started = 1 ORDER BY number DESC LIMIT 1");
+    find_group_and_next = prepared(
+        "SELECT number, first_place, last_place, started, ok, bad, gone FROM rollout_group WHERE rollout = ?1 AND last_place >= ?2 ORDER BY number LIMIT 2");
     change_group = prepared("UPDATE rollout_group SET started = ?3, ok = ?4, bad = ?5, gone = ?6 WHERE rollout = ?1 AND number = ?2");
+    put_rule = prepared("INSERT INTO group_rule (rollout, number, percentage, success, error) VALUES (?1, ?2, ?3, ?4, ?5)");
+    get_rule = prepared("SELECT percentage, success, error FROM group_rule WHERE rollout = ?1 AND number = ?2");
+    list_rules = prepared("SELECT percentage, success, error FROM group_rule WHERE rollout = ?1 ORDER BY number");
     last_action = prepared("SELECT number FROM action ORDER BY number DESC LIMIT 1");
     put_action = prepared("INSERT INTO action (number, rollout, place, controller, canceling, outcome, notes, entries) VALUES (?1, ?2, ?3, ?4, 0, 0, 0, 0)");
     list_actions = prepared(
@@ -68,11 +73,42 @@ int read_group(int64_t rollout, int64_t number, Group *group) { return one_group
 
 int holding_group(int64_t rollout, int64_t place, Group *group) { return one_group(find_group, rollout, place, group); }
 
-void last_started(int64_t rollout, Group *group) {
-    sqlite3_bind_int64(last_group, 1, rollout);
-    group->number = 0;
-    if (row_of(last_group)) read_group_row(last_group, group);
-    sqlite3_reset(last_group);
+int group_and_next(int64_t rollout, int64_t place, Group *group, Group *next) {
+    bind_numbers(find_group_and_next, 2, (int64_t[]){rollout, place});
+    int is_there = row_of(find_group_and_next);
+    next->number = 0;
+    if (is_there) {
+        read_group_row(find_group_and_next, group);
+        if (row_of(find_group_and_next)) read_group_row(find_group_and_next, next);
+    }
+    sqlite3_reset(find_group_and_next);
+    return is_there && group->first <= place;
+}
+
+static void read_rule_row(sqlite3_stmt *statement, Rule *rule) {
+    rule->percentage = sqlite3_column_int64(statement, 0);
+    rule->success = sqlite3_column_int64(statement, 1);
+    rule->error = sqlite3_column_int64(statement, 2);
+}
+
+int read_rule(int64_t rollout, int64_t group, Rule *rule) {
+    bind_numbers(get_rule, 2, (int64_t[]){rollout, group});
+    int is_there = row_of(get_rule);
+    if (is_there) read_rule_row(get_rule, rule);
+    sqlite3_reset(get_rule);
+    return is_there;
+}
+
+// What is said of so many groups of a rollout, which are all that it has.
+static void read_rules(int64_t rollout, int count, Rule rules[GROUP_LIMIT]) {
+    int read = 0;
+    sqlite3_bind_int64(list_rules, 1, rollout);
+    while (row_of(list_rules)) {
+        if (read == count) die("rules");
+        read_rule_row(list_rules, &rules[read++]);
+    }
+    sqlite3_reset(list_rules);
+    if (read != count) die("rules");
 }
 
 int read_groups(int64_t rollout, Group groups[GROUP_LIMIT]) {
@@ -143,6 +179,44 @@ static const char *read_condition(const char *at, const char *end, int64_t *perc
     return after(at, end, '}');
 }
 
+// A group of the array: its conditions are 0 where it has none.
+static const char *read_group_object(const char *at, const char *end, Rule *rule) {
+    at = after(at, end, '{');
+    while (at) {
+        Text key;
+        at = after(read_text(at, end, &key), end, ':');
+        if (!at) break;
+        if (is_key(&key, "targetPercentage")) at = read_number(at, end, &rule->percentage);
+        else at = read_condition(at, end, is_key(&key, "successCondition") ? &rule->success : &rule->error);
+        const char *more = at ? after(at, end, ',') : NULL;
+        if (!more) break;
+        at = more;
+    }
+    return after(at, end, '}');
+}
+
+static const char *read_group_array(const char *at, const char *end, Plan *plan) {
+    at = after(at, end, '[');
+    while (at && plan->groups < GROUP_LIMIT) {
+        Rule *rule = &plan->rules[plan->groups++];
+        at = read_group_object(at, end, rule);
+        if (rule->percentage < 1 || rule->percentage > 100) return NULL;
+        const char *more = at ? after(at, end, ',') : NULL;
+        if (!more) break;
+        at = more;
+    }
+    return after(at, end, ']');
+}
+
+// The rollout's thresholds for the groups that have none of their own.
+static void fill_rules(Plan *plan) {
+    for (int i = 0; i < plan->groups; i++) {
+        Rule *rule = &plan->rules[i];
+        if (!rule->success) rule->success = plan->success;
+        if (!rule->error) rule->error = plan->error;
+    }
+}
+
 static int read_plan(const char *body, size_t len, Plan *plan) {
     const char *end = body + len, *at = after(body, end, '{');
     memset(plan, 0, sizeof *plan);
@@ -154,13 +228,16 @@ static int read_plan(const char *body, size_t len, Plan *plan) {
         else if (is_key(&key, "targetFilterQuery")) at = read_text(at, end, &plan->filter);
         else if (is_key(&key, "distributionSetId")) at = read_number(at, end, &plan->set);
         else if (is_key(&key, "amountGroups")) at = read_number(at, end, &plan->groups);
+        else if (is_key(&key, "groups")) at = read_group_array(at, end, plan);
         else at = read_condition(at, end, is_key(&key, "successCondition") ? &plan->success : &plan->error);
         const char *more = at ? after(at, end, ',') : NULL;
         if (!more) break;
         at = more;
     }
     at = after(at, end, '}');
-    return at && skip_space(at, end) == end && plan->name.len && plan->groups >= 1 && plan->groups <= GROUP_LIMIT;
+    if (!at || skip_space(at, end) != end || !plan->name.len || plan->groups < 1 || plan->groups > GROUP_LIMIT) return 0;
+    fill_rules(plan);
+    return !plan->rules[0].percentage || plan->rules[plan->groups - 1].percentage == 100;
 }
 
 // The one filter that is known here, "name==*", takes each target, whose tags and attributes are read for it nevertheless.
@@ -177,14 +254,40 @@ static void write_members(int64_t rollout) {
     }
 }
 
+// The last place of a group of this number, where the one before it ends at this place.
+static int64_t last_place(const Plan *plan, int64_t number, int64_t before) {
+    int64_t percentage = plan->rules[number - 1].percentage;
+    return percentage ? before + ((member_count - before) * percentage + 99) / 100 : number * member_count / plan->groups;
+}
+
+static int leaves_empty(const Plan *plan) {
+    int64_t before = 0;
+    for (int64_t i = 1; i <= plan->groups; i++) {
+        int64_t last = last_place(plan, i, before);
+        if (last == before) return 1;
+        before = last;
+    }
+    return 0;
+}
+
+static void write_rule(int64_t rollout, int64_t group, const Rule *rule) {
+    bind_numbers(put_rule, 5, (int64_t[]){rollout, group, rule->percentage, rule->success, rule->error});
+    if (!rule->percentage) sqlite3_bind_null(put_rule, 3);
+    done(put_rule);
+}
+
 static void write_rollout(int64_t number, const Plan *plan) {
+    int64_t before = 0;
     bind_numbers(add_rollout, 8, (int64_t[]){number, 0, plan->set, 0, plan->groups, plan->success, plan->error, 1});
     bind_text(add_rollout, 2, &plan->name);
     bind_text(add_rollout, 4, &plan->filter);
     done(add_rollout);
     for (int64_t i = 1; i <= plan->groups; i++) {
-        bind_numbers(put_group, 4, (int64_t[]){number, i, (i - 1) * member_count / plan->groups + 1, i * member_count / plan->groups});
+        int64_t last = last_place(plan, i, before);
+        bind_numbers(put_group, 4, (int64_t[]){number, i, before + 1, last});
         done(put_group);
+        write_rule(number, i, &plan->rules[i - 1]);
+        before = last;
     }
     write_members(number);
 }
@@ -206,7 +309,7 @@ void answer_create(const char *body, size_t len) {
     if (plan.set > number_in(last_set)) return give_up("404 Not Found", "not_found", 3);
     bind_text(find_rollout, 1, &plan.name);
     if (number_in(find_rollout)) return give_up("409 Conflict", "exists", 5);
-    if (member_count < plan.groups) return give_up("400 Bad Request", "too_few_targets", 12);
+    if (leaves_empty(&plan)) return give_up("400 Bad Request", "too_few_targets", 12);
     int64_t number = number_in(last_rollout) + 1;
     if (number > ROLLOUT_LIMIT) return give_up("403 Forbidden", "quota", 10);
     if (number_in(get_desk)) die("approval");
@@ -288,11 +391,11 @@ void answer_group_targets(int64_t rollout, int64_t number, const char *query) {
 
 static int is_over(const Group *group) { return group->ok + group->bad + group->gone == size_of(group); }
 
-static const char *group_word(const Rollout *rollout, const Group *group) {
+static const char *group_word(const Rollout *rollout, const Group *group, const Rule *rule) {
     if (!rollout->started) return "ready";
     if (!group->started) return "scheduled";
     if (is_over(group)) return "finished";
-    return reaches(group->bad, group, rollout->error) ? "error" : "running";
+    return reaches(group->bad, group, rule->error) ? "error" : "running";
 }
 
 static const char *rollout_word(const Rollout *rollout, const Group *groups, int count) {
@@ -306,13 +409,40 @@ static size_t put_counts(char *to, const int64_t counts[4], const char *word) {
                            (long long)(counts[0] - counts[1] - counts[2] - counts[3]), word);
 }
 
+static size_t put_group_object(char *to, const Rollout *rollout, const Group *group, const Rule *rule) {
+    return (size_t)sprintf(to, "{\"bad\":%lld,\"error\":%lld,\"gone\":%lld,\"id\":%lld,\"ok\":%lld,\"size\":%lld,\"status\":\"%s\",\"success\":%lld}",
+                           (long long)group->bad, (long long)rule->error, (long long)group->gone, (long long)group->number, (long long)group->ok,
+                           (long long)size_of(group), group_word(rollout, group, rule), (long long)rule->success);
+}
+
+void answer_groups(int64_t number, const char *query) {
+    static Group groups[GROUP_LIMIT];
+    static Rule rules[GROUP_LIMIT];
+    static char body[BODY_LIMIT];
+    Page page = read_page(query);
+    Rollout rollout;
+    int shown = 0;
+    if (!read_rollout(number, &rollout)) return refuse("404 Not Found", "not_found", 3);
+    int count = read_groups(number, groups);
+    read_rules(number, count, rules);
+    size_t size = (size_t)sprintf(body, "{\"content\":[");
+    for (long i = page.offset; i < count && shown < page.limit; i++) {
+        if (shown++) body[size++] = ',';
+        size += put_group_object(body + size, &rollout, &groups[i], &rules[i]);
+    }
+    size += (size_t)sprintf(body + size, "],\"size\":%d,\"total\":%d}", shown, count);
+    reply("200 OK", body, size);
+}
+
 void answer_report(int64_t number) {
     static Group groups[GROUP_LIMIT];
+    static Rule rules[GROUP_LIMIT];
     static char body[BODY_LIMIT];
     int64_t total[4] = {0, 0, 0, 0};
     Rollout rollout;
     if (!read_rollout(number, &rollout)) return refuse("404 Not Found", "not_found", 3);
     int count = read_groups(number, groups);
+    read_rules(number, count, rules);
     const char *word = rollout_word(&rollout, groups, count);
     size_t size = (size_t)sprintf(body, "rollout %lld %.*s\nstate %s\ngroup  size    ok   bad  gone  open state\n", (long long)number,
                                   (int)rollout.name.len, rollout.name.bytes, word);
@@ -320,7 +450,7 @@ void answer_report(int64_t number) {
         int64_t counts[4] = {size_of(&groups[i]), groups[i].ok, groups[i].bad, groups[i].gone};
         for (int k = 0; k < 4; k++) total[k] += counts[k];
         size += (size_t)sprintf(body + size, "%5lld", (long long)groups[i].number);
-        size += put_counts(body + size, counts, group_word(&rollout, &groups[i]));
+        size += put_counts(body + size, counts, group_word(&rollout, &groups[i], &rules[i]));
     }
     size += (size_t)sprintf(body + size, "total");
     size += put_counts(body + size, total, word);

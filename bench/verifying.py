@@ -99,6 +99,7 @@ def fill_rollout(db, full, rollout, ids, chance, offers, number):
         started = rollout < full.rollouts or group == 1
         ended = [counts.get((group, outcome), 0) for outcome in (1, 2, 3)]
         db.execute("INSERT INTO rollout_group VALUES (?,?,?,?,?,?,?,?)", (rollout, group, first, last, started, *ended))
+        db.execute("INSERT INTO group_rule VALUES (?,?,NULL,50,100)", (rollout, group))
     return number
 
 

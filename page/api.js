@@ -12,7 +12,7 @@ const WORDS = {
   9: "it is larger than the server takes",
   10: "a limit of the server is reached",
   11: "the filter can't be read",
-  12: "fewer targets match than there are groups",
+  12: "a group would have no device",
   13: "the file that arrived has another SHA-256 than the one sent along",
   14: "a line of the file is wrong, and nothing of it was imported",
   15: "the server's memory ran out; nothing was changed",

@@ -87,7 +87,7 @@ function mark(kind, at) {
 
 /**
  * A bar: ok grows from the left towards the mark of success, bad from the right towards the mark of error.
- * `thresholds` are percentages, or null where they aren't known.
+ * `thresholds` are percentages, or null where there are none.
  */
 export function bar(counts, label, thresholds = null) {
   let at = 0;

@@ -24,25 +24,15 @@ function sum(groups) {
   return total;
 }
 
-// The server keeps a rollout's thresholds and tells them by no call: this browser remembers those that were typed here or came by the address.
-const keyOf = (rollout) => `fwdesk thresholds ${rollout.id} ${rollout.name}`;
-const recall = (rollout) => JSON.parse(localStorage.getItem(keyOf(rollout)));
-const remember = (rollout, {success, error}) => localStorage.setItem(keyOf(rollout), JSON.stringify({success: Number(success), error: Number(error)}));
-
 const percent = (part, size) => `${Math.floor((100 * part) / size)} %`;
-const reaches = (group, thresholds) => 100 * group.bad >= group.size * thresholds.error;
+const isFaulty = (group) => 100 * group.bad >= group.size * group.error;
+const failures = ({id, bad, size, error}) =>
+  `the errors of group ${id} (${number(bad)} of ${number(size)} failed, ${percent(bad, size)}) reached the error threshold of ${error} %`;
 
 /** Why a paused rollout is paused, as far as its groups tell. */
-function cause(groups, thresholds) {
-  const failed = groups.filter((it) => it.status === "error" || (thresholds && it.bad && reaches(it, thresholds)));
-  if (!failed.length) {
-    return thresholds
-      ? "Paused by an operator: no group's errors are at the threshold."
-      : "Paused by an operator, or by the errors of a group that is finished now.";
-  }
-  const each = failed.map((it) => `group ${it.id} (${number(it.bad)} of ${number(it.size)} failed, ${percent(it.bad, it.size)})`);
-  const limit = thresholds ? `the error threshold of ${thresholds.error} %` : "the error threshold";
-  return `Paused: the errors of ${each.join(" and of ")} reached ${limit}.`;
+function cause(groups) {
+  const faulty = groups.filter(isFaulty);
+  return faulty.length ? `Paused: ${faulty.map(failures).join(", and ")}.` : "Paused by an operator: no group's errors are at the threshold.";
 }
 
 const titleOf = (set) => `${set.name} ${set.version}`;
@@ -75,18 +65,17 @@ async function groupsIfNew({id, status}) {
   return groups;
 }
 
-function groupCell(group, thresholds) {
-  return h("li", {}, bar(countsOf(group), `Group ${group.id}, ${group.status}`, thresholds), h("span", {class: "under"}, `${group.id} · ${group.status}`));
+function groupCell(group) {
+  return h("li", {}, bar(countsOf(group), `Group ${group.id}, ${group.status}`, group), h("span", {class: "under"}, `${group.id} · ${group.status}`));
 }
 
 function card({rollout, groups, set}) {
-  const thresholds = recall(rollout);
   const size = `${many(rollout.totalTargets, "device")} in ${many(rollout.totalGroups, "group")}`;
   return h("li", {class: `card ${rollout.status}`, "data-key": rollout.id},
     h("div", {class: "line"}, h("h2", {}, link(`#/rollouts/${rollout.id}`, rollout.name)), badge(KINDS[rollout.status], rollout.status)),
     p("facts", `${titleOf(set)} for ${size}, `, h("code", {}, rollout.targetFilterQuery)),
-    rollout.status === "paused" ? p("cause", cause(groups, thresholds)) : null,
-    h("ul", {class: "strip", "aria-label": `Groups of ${rollout.name}`}, groups.map((it) => groupCell(it, thresholds))),
+    rollout.status === "paused" ? p("cause", cause(groups)) : null,
+    h("ul", {class: "strip", "aria-label": `Groups of ${rollout.name}`}, groups.map(groupCell)),
     p("under", inWords(sum(groups))));
 }
 
@@ -114,50 +103,30 @@ export const list = {
   },
 };
 
-function thresholdForm(rollout, page) {
-  const kept = recall(rollout);
-  const box = (name, label, value) => field(`mark-${name}`, label, h("input", {name, type: "number", min: 1, max: 100, required: true, value}));
-  const keep = (event) => {
-    event.preventDefault();
-    remember(rollout, typed(event.target));
-    page.redraw();
-  };
-  const title = kept ? `Marks: ▼ success at ${kept.success} % ok, ▲ a pause at ${kept.error} % bad` : "Marks of the thresholds";
-  const hint = "The server tells a rollout's thresholds by no call. This browser knows those it created; others can be typed in, for the marks alone.";
-  const boxes = [box("success", "Success, %", kept?.success), box("error", "Error, %", kept?.error)];
-  const form = h("form", {class: "row", onsubmit: keep}, boxes, h("button", {}, "Draw the marks"));
-  return h("details", {class: "marks"}, h("summary", {}, title), p("hint", hint), form);
-}
-
-function groupRow(rollout, group, thresholds) {
+function groupRow(rollout, group) {
   const counts = countsOf(group);
   return h("li", {class: "group", "data-group": group.id},
     h("div", {class: "line"}, h("h3", {}, `Group ${group.id}`), badge(GROUP_KINDS[group.status], group.status),
       link(`#/rollouts/${rollout.id}/groups/${group.id}`, many(group.size, "device"))),
-    bar(counts, `Group ${group.id}`, thresholds),
+    bar(counts, `Group ${group.id}`, group),
     p("under", PARTS.filter((it) => counts[it]).map((it) => `${number(counts[it])} ${it} (${percent(counts[it], group.size)})`).join(", ")));
 }
 
 export const one = {
   title: ({rollout}) => rollout.name,
-  async load([id], query) {
+  async load([id]) {
     const rollout = await get(`/rest/v1/rollouts/${id}`);
-    if (query.has("success") && query.has("error")) {
-      remember(rollout, Object.fromEntries(query));
-    }
     return {rollout, groups: await groupsOf(id), set: await setOf(rollout.distributionSetId)};
   },
   draw({rollout, groups, set}, page) {
-    const thresholds = recall(rollout);
     const total = sum(groups);
     const file = (path, name, text) => h("a", {href: `/desk/v1/rollouts/${rollout.id}/${path}`, download: name}, text);
     return [
       p("line", badge(KINDS[rollout.status], rollout.status), h("span", {class: "facts"}, `${titleOf(set)} for `, h("code", {}, rollout.targetFilterQuery))),
-      rollout.status === "paused" ? p("cause", cause(groups, thresholds)) : null,
-      p("buttons", buttons({rollout, groups, set, thresholds}, page)),
+      rollout.status === "paused" ? p("cause", cause(groups)) : null,
+      p("buttons", buttons({rollout, groups, set}, page)),
       h("section", {class: "card", "aria-label": "All groups"}, bar(total, "All groups"), legend(total)),
-      thresholdForm(rollout, page),
-      h("ol", {class: "groups", "aria-label": "Groups"}, groups.map((it) => groupRow(rollout, it, thresholds))),
+      h("ol", {class: "groups", "aria-label": "Groups"}, groups.map((it) => groupRow(rollout, it))),
       p("files", file("report", `rollout-${rollout.id}.txt`, "Save the report"), file("actions", `rollout-${rollout.id}.csv`, "Save the table of actions")),
     ];
   },
@@ -188,7 +157,7 @@ export const members = {
     };
     return [
       h("p", {}, link(`#/rollouts/${rollout.id}`, `← ${rollout.name}`)),
-      bar(countsOf(group), `Group ${group.id}`, recall(rollout)),
+      bar(countsOf(group), `Group ${group.id}`, group),
       legend(countsOf(group)),
       table("Members of the group", ["Device", "Name", "In this rollout", "Device's state", "History"], targets.content.map(row)),
       pager(targets.total, offset, MEMBERS, (it) => `#/rollouts/${rollout.id}/groups/${group.id}?offset=${it}`),
@@ -223,7 +192,6 @@ async function create(values, page) {
     name, distributionSetId: Number(set), targetFilterQuery: filter, amountGroups: Number(groups),
     successCondition: condition(success), errorCondition: condition(error),
   });
-  remember(rollout, values);
   page.go(`#/rollouts/${rollout.id}`, `Created: ${rollout.name}, ${many(rollout.totalTargets, "device")} in ${many(rollout.totalGroups, "group")}.`);
 }
 

@@ -10,16 +10,13 @@ const open = (groups) => groups.filter((it) => !isWaiting(it)).reduce((sum, it) 
 const next = (groups) => groups.find(isWaiting);
 const last = (groups) => groups.filter((it) => !isWaiting(it)).at(-1);
 
-function onResume({groups, set, thresholds}) {
+function onResume({groups, set}) {
   const after = next(groups);
   if (!after) {
     return "Ends the pause. Every group is started: the devices that have it open go on.";
   }
   const before = last(groups);
-  if (!thresholds) {
-    return `Ends the pause. Starts group ${after.id} at once where group ${before.id} has its success already: then ${offered(after, set)}.`;
-  }
-  const needed = Math.ceil((before.size * thresholds.success) / 100);
+  const needed = Math.ceil((before.size * before.success) / 100);
   return before.ok >= needed
     ? `Ends the pause, and starts group ${after.id} at once, since group ${before.id} has its success: ${offered(after, set)}.`
     : `Ends the pause. Group ${after.id} starts once ${needed} of ${before.size} in group ${before.id} succeeded; ${before.ok} did so far.`;

@@ -28,7 +28,8 @@ class Asked:
         rows = b"\n".join(it.partition(b",tags\n")[2] for it in requests if it.startswith(b"POST /desk/v1/import"))
         self.modules, self.sets, self.rollouts = (self.added(it) for it in (b"softwaremodules HTTP", b"distributionsets HTTP", b"rollouts HTTP"))
         self.artifacts = self.added(rb"softwaremodules/\d+/artifacts\?")
-        self.groups = range(1, 2 + max(map(int, words(rb'"amountGroups":(\d+)', self.text)), default=0))
+        even = map(int, words(rb'"amountGroups":(\d+)', self.text))
+        self.groups = range(1, 2 + max([*even, *(it.count(b'"targetPercentage":') for it in requests)], default=0))
         # each device with each token that it is given
         given = pairs(rb'"controllerId":"([^"]*)"[^{}]*"securityToken":"([^"]*)"', self.text) + pairs(rb"(?m)^([^,\n]+),[^,\n]+,([^,\n]+),", rows)
         self.tokens = list(dict.fromkeys(given))

@@ -21,6 +21,7 @@ RULES = {
     "items": lambda fits, value, rule, _: all(fits(it, rule) for it in value),
     "uniqueItems": lambda fits, value, rule, _: len({json.dumps(it) for it in value}) == len(value),
     "x-unique": lambda fits, value, rule, _: len({it[rule] for it in value}) == len(value),
+    "x-last": lambda fits, value, rule, _: fits(value[-1], rule),
     "oneOf": lambda fits, value, rule, _: sum(fits(value, it) for it in rule) == 1,
     "enum": lambda fits, value, rule, _: value in rule,
     "const": lambda fits, value, rule, _: value == rule,

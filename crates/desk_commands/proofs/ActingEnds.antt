@@ -48,7 +48,7 @@ use Rattle.desk_commands.proofs.GroupNumbers.{Numbered, map_at, numbered_groups,
 use Rattle.desk_commands.proofs.ItemSteps.{append_none, map_set, set_elsewhere, set_is_change, set_twice, zip_map}
 use Rattle.desk_commands.proofs.KnownActions.{IsPlaced, seen_at, started_is}
 use Rattle.desk_commands.proofs.OfferingLemmas.{next_is_offer, offer_stays, offer_there}
-use Rattle.desk_commands.proofs.LedgerEnds.{ends_with_group, ends_with_none, same_but_for, set_is_there}
+use Rattle.desk_commands.proofs.LedgerEnds.{ends_with_group, ends_with_none, said_in, said_stays, same_but_for, set_is_there}
 
 -- ---- the action and its tally
 
@@ -253,9 +253,9 @@ module _ (h : CommandList) (c : Command) (valid : IsValid h) (formed : IsWellFor
           tells = told_so (StaysOpen canceling) leads;
           offered = acted (StaysOpen canceling) leads;
           offers = subst (λ b. MayReoffer b id (acted (StaysOpen canceling) leads) (acted (StaysOpen canceling) leads)) (sym same) refl;
-          follows = ends_with_none h c valid formed accepted (acted (StaysOpen canceling) leads) still_open (tallies_are (StaysOpen canceling) leads) (offers_stay same) none_begun;
+          follows = ends_with_none h c valid formed accepted (acted (StaysOpen canceling) leads) still_open (tallies_are (StaysOpen canceling) leads) (offers_stay same) refl none_begun;
         }
-        go false changes = all_acts (StaysOpen canceling) leads changes (ends_with_none h c valid formed accepted (mid (StaysOpen canceling) leads) still_open (tallies_are (StaysOpen canceling) leads) (offers_are (StaysOpen canceling) leads) none_begun)
+        go false changes = all_acts (StaysOpen canceling) leads changes (ends_with_none h c valid formed accepted (mid (StaysOpen canceling) leads) still_open (tallies_are (StaysOpen canceling) leads) (offers_are (StaysOpen canceling) leads) refl none_begun)
 
   -- it ends
   module _ (o : Outcome) (leads : ChangesAction (Ends (ended_by (action_view_seen s) o)) entries k rs (step_records rs c)) where
@@ -277,6 +277,9 @@ module _ (h : CommandList) (c : Command) (valid : IsValid h) (formed : IsWellFor
 
     there : item_numbered counted_in.records.rollouts r ≡ Some x2
     there = set_is_there rs.rollouts r w.rollout x2 w.its
+
+    rules_are : counted_in.rules ≡ said_in counted_in.records.rollouts
+    rules_are = sym (said_stays rs.rollouts r w.rollout x2 w.its refl)
 
     -- with what follows
     rollouts_are : (f : Following) → following s.rollout o ≡ f → (step_records rs c).rollouts ≡ set_numbered rs.rollouts r (moved_by (effects_by w.own.number f) x2)
@@ -307,7 +310,7 @@ module _ (h : CommandList) (c : Command) (valid : IsValid h) (formed : IsWellFor
     ends_by : (f : Following) → following s.rollout o ≡ f → FollowsSo s f counted_in (ledger_of (step_records rs c))
     ends_by so.Nothing is =
         let are = rollouts_are so.Nothing is ∙ ap (set_numbered rs.rollouts r) (pausing x2.paused) in
-        ends_with_none h c valid formed accepted counted_in (with_these (set_numbered rs.rollouts r x2) are) (tallies_are e leads) (offers_are e leads) (none_begins x2 refl are)
+        ends_with_none h c valid formed accepted counted_in (with_these (set_numbered rs.rollouts r x2) are) (tallies_are e leads) (offers_are e leads) rules_are (none_begins x2 refl are)
     ends_by so.Pauses is =
         let x3 = record x2 { paused = true } in
         let are = rollouts_are so.Pauses is ∙ ap (set_numbered rs.rollouts r) (pausing true) in
@@ -316,7 +319,8 @@ module _ (h : CommandList) (c : Command) (valid : IsValid h) (formed : IsWellFor
           is_its = there;
           approval = refl;
           started = refl;
-          next_is = ends_with_none h c valid formed accepted (with_rollout counted_in r x3) (with_these (set_numbered counted_in.records.rollouts r x3) (are ∙ sym (set_twice r rs.rollouts x2 x3))) (tallies_are e leads) (offers_are e leads) (none_begins x3 refl are);
+          next_is = ends_with_none h c valid formed accepted (with_rollout counted_in r x3) (with_these (set_numbered counted_in.records.rollouts r x3) (are ∙ sym (set_twice r rs.rollouts x2 x3))) (tallies_are e leads) (offers_are e leads)
+              (rules_are ∙ sym (said_stays counted_in.records.rollouts r x2 x3 there refl)) (none_begins x3 refl are);
         }
     ends_by so.StartsNext is = starts (item_numbered w.rollout.groups n) refl (and_parts _ _ (starts_waiting s.rollout o is)).1
       where
@@ -332,7 +336,7 @@ module _ (h : CommandList) (c : Command) (valid : IsValid h) (formed : IsWellFor
             (rollouts_are so.StartsNext is
             ∙ ap (λ gs. set_numbered rs.rollouts r (with_groups x2 gs)) (started_one n x2.groups g still its2 ∙ ap (λ m. set_numbered x2.groups m (started g)) (sym number))
             ∙ sym (set_twice r rs.rollouts x2 (with_groups x2 (set_numbered x2.groups g.number (started g))))))
-            (tallies_are e leads) (offers_are e leads)
+            (tallies_are e leads) (offers_are e leads) rules_are
           where
             number : g.number ≡ n
             number = numbered n g its

@@ -4,16 +4,17 @@ use Rattle.std.specs.List.{list_all}
 use Rattle.std.specs.Option.{IsSomeAnd}
 use Rattle.std.proofs.lemmas.Bool.{and_parts}
 use Rattle.std.proofs.lemmas.Bool.Decides.{nat_tests}
-use Rattle.std.proofs.lemmas.List.{length-append, length-take-le, take_all}
-use Rattle.std.proofs.lemmas.Option.{slice_get_within}
+use Rattle.std.proofs.lemmas.List.{length-append, length-map, length-take-le, map-append, take_all}
+use Rattle.std.proofs.lemmas.Option.{slice_get-get_or, slice_get_within}
 use Rattle.rollout_machine.specs.Actions.{ActionPlace, action_places}
 use Rattle.rollout_machine.specs.Answers.{added_rollout, command_reply}
 use Rattle.rollout_machine.specs.ByteStrings.{item_numbered}
 use Rattle.rollout_machine.specs.CommandList.{CommandList}
 use Rattle.rollout_machine.specs.Commands.{Bytes, CreateRollout, RolloutPlan}
 use Rattle.rollout_machine.specs.Filters.{matches, seen}
+use Rattle.rollout_machine.specs.GroupRules.{GroupRule, rule_at, rules_of}
+use Rattle.rollout_machine.specs.Groupings.{bounds_by, cut_by}
 use Rattle.rollout_machine.specs.Offers.{first_offer}
-use Rattle.rollout_machine.specs.Ranges.{each_from}
 use Rattle.rollout_machine.specs.Objects.{rollout_shown}
 use Rattle.rollout_machine.specs.Replies.{RolloutAdded}
 use Rattle.rollout_machine.specs.Records.{Records, action_in, records, rollouts_in}
@@ -24,10 +25,11 @@ use Rattle.rollout_machine.specs.Targets.{Target}
 use Rattle.rollout_machine.specs.Validity.{IsValid}
 use Rattle.rollout_machine.specs.Verdicts.{check}
 use Rattle.rollout_machine.specs.Views.{reply_of}
+use Rattle.rollout_machine.specs.declared.bounds.Bounds.{Bounds}
 use Rattle.rollout_machine.specs.declared.records.ActionRecord.{ActionRecord}
 use Rattle.rollout_machine.specs.declared.records.RolloutRecord.{RolloutRecord}
 use Rattle.rollout_machine.proofs.Induction.{invariant_of}
-use Rattle.rollout_machine.proofs.Lists.{each_from_more}
+use Rattle.rollout_machine.proofs.Lists.{each_from_more, length_each, numbered_each}
 use Rattle.rollout_model.specs.declared.request.Reply.TheVariants as reply
 use Rattle.rollout_model.specs.declared.rollout.Rollout.{Rollout}
 use Rattle.rollout_model.specs.declared.target.Target.{Target as SeenTarget}
@@ -38,14 +40,14 @@ use Rattle.campaign_core.specs.RolloutChecks.{IsPlanView, approval_at, plan_refu
 use Rattle.campaign_core.specs.declared.rollout_checks.plans.NewRollout.{NewRollout}
 use Rattle.campaign_core.specs.declared.rollout_checks.plans.PlanView.{PlanView}
 use Rattle.desk_records.specs.Holds.{Ledger, ledger_of}
-use Rattle.desk_records.specs.LedgerSteps.{AddsGroup, AddsMember, AddsRollout, set_numbered, with_rollouts}
+use Rattle.desk_records.specs.LedgerSteps.{AddsGroup, AddsMember, AddsRollout, AddsRule, cut_group, set_numbered, with_rollouts, with_rules}
 use Rattle.desk_records.specs.TargetRow.{listed_target}
 use Rattle.desk_records.specs.Targets.{are_sorted}
 use Rattle.desk_records.specs.declared.target_row.ListedTarget.{ListedTarget}
 use Rattle.desk_store.proofs.LedgersOfRecords.{same_ledger}
 use Rattle.desk_reads.specs.Targets.{target_listed}
 use Rattle.desk_reads.proofs.ListedTargets.{part_seen}
-use Rattle.desk_commands.specs.Creations.{CreatesRollout, IsChosen, IsWordOf, ids_matching, in_part, shown_new}
+use Rattle.desk_commands.specs.Creations.{CreatesRollout, IsChosen, IsWordOf, and_rollout, first_rules, ids_matching, in_part, shown_new}
 use Rattle.desk_commands.specs.declared.creation.Chosen.{Chosen}
 use Rattle.desk_commands.proofs.AdditionLemmas.{past_is_missing}
 use Rattle.desk_commands.proofs.PutLemmas.{one_more}
@@ -129,48 +131,66 @@ numbered_last xs x n is = let next : n ≡ suc (length xs) = omega (arith, is) i
 set_last : {X : Type 0} (xs : List X) (x y : X) (n : ℕ) → n ≡ length xs + 1 → set_numbered (xs ++ x ∷ []) n y ≡ xs ++ y ∷ []
 set_last xs x y n is = let next : n ≡ suc (length xs) = omega (arith, is) in ap (λ k. set_numbered (xs ++ x ∷ []) k y) next ∙ last_set xs x y
 
-each_counted : {X : Type 0} (f : ℕ → X) (a n : ℕ) → length (each_from f a n) ≡ n
-each_counted f a zero = refl
-each_counted f a (suc n) = ap suc (each_counted f (suc a) n)
+-- of each group there are bounds
+pub within : (plan : RolloutPlan) (size : ℕ) (cuts : List Bounds) → cuts ≡ cut_by plan.groups size → (k : ℕ) → k < plan.groups.count → k < length cuts
+within plan size cuts are k below = subst (λ n. k < n) (sym (ap length are ∙ length_each (bounds_by plan.groups size) 1 plan.groups.count)) below
 
 module _ (n : NewRollout) (plan : RolloutPlan) (size : ℕ) where
-  -- from any part to any other
-  pub also : (k j : ℕ) (ids those : List Bytes) (l next : Ledger) → CreatesRollout (in_part n plan size k ids) l next → (mid : Ledger) × CreatesRollout (in_part n plan size j those) l mid
-  also k j ids those l next h = (with_rollouts l (l.records.rollouts ++ in_part n plan size j those ∷ []), record { number_is = h.number_is; unacted = h.unacted; next_is = refl })
-
-  pub begins : (l next : Ledger) → CreatesRollout (in_part n plan size 0 []) l next → AddsRollout n.number plan n.approval l next
+  pub begins : (l next : Ledger) → CreatesRollout (in_part n plan size 0 []) [] l next → AddsRollout n.number plan n.approval l next
   begins l next h = record { number_is = h.number_is; next_is = h.next_is }
 
-  pub one_group : (k : ℕ) (l next : Ledger) → CreatesRollout (in_part n plan size (k + 1) []) l next
-      → (mid : Ledger) × CreatesRollout (in_part n plan size k []) l mid × AddsGroup n.number (k + 1) (bounds_at plan size (k + 1)) mid next
-  one_group k l next h =
+  -- the groups before an index, and the one there, of which nothing is said yet
+  pub one_group : (cuts : List Bounds) → cuts ≡ cut_by plan.groups size → (k : ℕ) (d : Bounds) → k < length cuts → (l next : Ledger) → CreatesRollout (in_part n plan size (k + 1) []) (first_rules plan k) l next
+      → (mid : Ledger) × CreatesRollout (in_part n plan size k []) (first_rules plan k) l mid × AddsGroup n.number (k + 1) (get_or cuts k d) mid next
+  one_group cuts are k d within l next h =
       let was = in_part n plan size k [] in
-      let xs = l.records.rollouts in (
-        with_rollouts l (xs ++ was ∷ []),
-        record { number_is = h.number_is; unacted = h.unacted; next_is = refl },
+      let xs = l.records.rollouts in
+      let bounds = get_or cuts k d in
+      let there : slice_get (cut_by plan.groups size) k ≡ Some bounds = ap (λ bs. slice_get bs k) (sym are) ∙ slice_get-get_or cuts k d within in
+      let its : bounds ≡ bounds_at plan size (k + 1) = (numbered_each (bounds_by plan.groups size) plan.groups.count (suc k) bounds there).2 ∙ ap (bounds_at plan size) (omega arith) in (
+        and_rollout was (first_rules plan k) l,
+        record { number_is = h.number_is; ruled = h.ruled; unacted = h.unacted; next_is = refl },
         record {
           rollout = was;
           is_there = numbered_last xs was n.number h.number_is;
-          group_is = ap (λ m. m + 1) (sym (each_counted (new_group plan size) 1 k));
-          next_is = h.next_is ∙ ap (λ gs. with_rollouts l (xs ++ record was { groups = gs } ∷ [])) (each_from_more (new_group plan size) 1 k (k + 1) (new_group plan size (k + 1)) (omega arith) refl)
-              ∙ ap (with_rollouts l) (sym (set_last xs was _ n.number h.number_is));
+          group_is = ap (λ m. m + 1) (sym (length_each (new_group plan size) 1 k));
+          next_is = h.next_is ∙ ap (λ gs. and_rollout (record was { groups = gs }) (first_rules plan k) l) (each_from_more (new_group plan size) 1 k (k + 1) (cut_group (k + 1) bounds) (omega arith) (ap (cut_group (k + 1)) its))
+              ∙ ap (with_rollouts (and_rollout was (first_rules plan k) l)) (sym (set_last xs was _ n.number h.number_is));
+        },
+      )
+
+  -- .. and then something is
+  pub one_rule : (k : ℕ) (l next : Ledger) → CreatesRollout (in_part n plan size (k + 1) []) (first_rules plan (k + 1)) l next
+      → (mid : Ledger) × CreatesRollout (in_part n plan size (k + 1) []) (first_rules plan k) l mid × AddsRule n.number (k + 1) (rule_at plan (k + 1)) mid next
+  one_rule k l next h =
+      let x = in_part n plan size (k + 1) [] in
+      let its = first_rules plan k in
+      let last : n.number ≡ length l.rules + 1 = h.number_is ∙ ap (λ m. m + 1) (sym h.ruled) in (
+        and_rollout x its l,
+        record { number_is = h.number_is; ruled = h.ruled; unacted = h.unacted; next_is = refl },
+        record {
+          its = its;
+          is_there = numbered_last l.rules its n.number last;
+          group_is = ap (λ m. m + 1) (sym (length_each (rule_at plan) 1 k));
+          next_is = h.next_is ∙ ap (λ rules. and_rollout x rules l) (each_from_more (rule_at plan) 1 k (k + 1) (rule_at plan (k + 1)) (omega arith) refl)
+              ∙ ap (with_rules (and_rollout x its l)) (sym (set_last l.rules its _ n.number last));
         },
       )
 
   -- the members before an index, and the one there
-  pub one_member : (k : ℕ) (all : List Bytes) (id : Bytes) (j : ℕ) → j < length all → id ≡ get_or all j id → (l next : Ledger) → CreatesRollout (in_part n plan size k (take (j + 1) all)) l next
-      → (mid : Ledger) × CreatesRollout (in_part n plan size k (take j all)) l mid × AddsMember n.number (j + 1) id mid next
-  one_member k all id j within is l next h =
+  pub one_member : (k : ℕ) (rules : List GroupRule) (all : List Bytes) (id : Bytes) (j : ℕ) → j < length all → id ≡ get_or all j id → (l next : Ledger) → CreatesRollout (in_part n plan size k (take (j + 1) all)) rules l next
+      → (mid : Ledger) × CreatesRollout (in_part n plan size k (take j all)) rules l mid × AddsMember n.number (j + 1) id mid next
+  one_member k rules all id j within is l next h =
       let was = in_part n plan size k (take j all) in
       let xs = l.records.rollouts in (
-        with_rollouts l (xs ++ was ∷ []),
-        record { number_is = h.number_is; unacted = h.unacted; next_is = refl },
+        and_rollout was rules l,
+        record { number_is = h.number_is; ruled = h.ruled; unacted = h.unacted; next_is = refl },
         record {
           rollout = was;
           is_there = numbered_last xs was n.number h.number_is;
           place_is = ap (λ m. m + 1) (sym (length-take-le j all (omega (arith, within))));
           unacted = h.unacted;
-          next_is = h.next_is ∙ ap (λ ids. with_rollouts l (xs ++ record was { members = ids } ∷ [])) (one_more all id j within is) ∙ ap (with_rollouts l) (sym (set_last xs was _ n.number h.number_is));
+          next_is = h.next_is ∙ ap (λ ids. and_rollout (record was { members = ids }) rules l) (one_more all id j within is) ∙ ap (with_rollouts (and_rollout was rules l)) (sym (set_last xs was _ n.number h.number_is));
         },
       )
 
@@ -229,21 +249,22 @@ abbrev made : RolloutPlan → Records → RolloutRecord
 made plan r = new_rollout r.approval (suc (length r.rollouts)) plan (chosen (filter_of plan.filter_text) r.targets)
 
 module _ (plan : RolloutPlan) (n : NewRollout) (members : List Bytes) where
-  same_rollout : (r : Records) → IsReady plan n members r → made plan r ≡ in_part n plan (length members) plan.groups members
+  same_rollout : (r : Records) → IsReady plan n members r → made plan r ≡ in_part n plan (length members) plan.groups.count members
   same_rollout r is =
       let next : suc (length r.rollouts) ≡ n.number = omega (arith, is.number_is) in
-      λ i. in_part (record { number = next i; approval = sym is.approval_is i }) plan (length (sym is.members_are i)) plan.groups (sym is.members_are i)
+      λ i. in_part (record { number = next i; approval = sym is.approval_is i }) plan (length (sym is.members_are i)) plan.groups.count (sym is.members_are i)
 
   -- the ledger of the records after it is the one that is written
   pub creates : (h : CommandList) → IsValid h → IsReady plan n members (records h)
-      → CreatesRollout (in_part n plan (length members) plan.groups members) (ledger_of (records h)) (ledger_of (step_records (records h) (CreateRollout plan)))
+      → CreatesRollout (in_part n plan (length members) plan.groups.count members) (rules_of plan) (ledger_of (records h)) (ledger_of (step_records (records h) (CreateRollout plan)))
   creates h valid is =
       let r = records h in
       let none = none_acts h valid in
       record {
         number_is = is.number_is;
+        ruled = length-map r.rollouts (λ (x : RolloutRecord). rules_of x.plan);
         unacted = ap (λ k. list_all (λ (a : ActionRecord). not (nat_eq a.rollout k)) r.actions) is.number_is ∙ none;
-        next_is = same_ledger _ _ (ap (λ x. record r { rollouts = r.rollouts ++ x ∷ [] }) (same_rollout r is)) refl (λ t. same_offers r (made plan r) t 1 r.actions none);
+        next_is = same_ledger _ _ (ap (λ x. record r { rollouts = r.rollouts ++ x ∷ [] }) (same_rollout r is)) refl (λ t. same_offers r (made plan r) t 1 r.actions none) (map-append (λ (x : RolloutRecord). rules_of x.plan) r.rollouts (made plan r ∷ []));
       }
 
   pub shown_added : (r : Records) → IsReady plan n members r → (count : ℕ) → count ≡ length members → (shown : Rollout) → (word : RolloutWord) × IsWordOf n.approval word × (shown ≡ shown_new plan n.number word count)
@@ -253,7 +274,7 @@ module _ (plan : RolloutPlan) (n : NewRollout) (members : List Bytes) where
       let number : n.number ≡ suc (length r.rollouts) = omega (arith, is.number_is) in
       let word : it.0 ≡ rollout_word x = subst (λ a. IsWordOf a it.0) is.approval_is it.1 (is_finished x) false in
       let targets : count ≡ length x.members = size ∙ ap length is.members_are in
-      let same : shown ≡ rollout_shown x = it.2 ∙ (λ i. record { number = number i; name = plan.name; set_number = plan.set_number; filter_text = plan.filter_text; word = word i; groups = plan.groups; targets = targets i }) in
+      let same : shown ≡ rollout_shown x = it.2 ∙ (λ i. record { number = number i; name = plan.name; set_number = plan.set_number; filter_text = plan.filter_text; word = word i; groups = plan.groups.count; targets = targets i }) in
       ap RolloutAdded same ∙ sym (ap added_rollout (numbered_last r.rollouts x (length (r.rollouts ++ x ∷ [])) (length-append r.rollouts (x ∷ []))))
 
 -- the view is of the plan, and the verdict lets it pass

@@ -5,6 +5,7 @@ use Rattle.std.specs.Option.{is_none}
 use Rattle.rollout_machine.specs.ByteStrings.{item_numbered}
 use Rattle.rollout_machine.specs.CommandList.{CommandList}
 use Rattle.rollout_machine.specs.Commands.{Bytes, Credential}
+use Rattle.rollout_machine.specs.GroupRules.{rule_at}
 use Rattle.rollout_machine.specs.RecordSteps.{view_from_group}
 use Rattle.rollout_machine.specs.Records.{Records, action_in, records, rollout_in}
 use Rattle.rollout_machine.specs.StateWords.{group_holding, group_is_started, group_number_of, group_numbered, has_started, is_for, is_started_in, number_of_group}
@@ -19,6 +20,7 @@ use Rattle.campaign_core.specs.OwnGroups.{own_view_of, waits}
 use Rattle.campaign_core.specs.RolloutChecks.{BothOrNone, IsActionView, IsCancelView, IsFeedbackView, IsDeviceAction, action_for, device_action, only_if}
 use Rattle.desk_records.specs.Actions.{Tally, tally_of}
 use Rattle.desk_records.specs.Holds.{ledger_of}
+use Rattle.desk_reads.proofs.RuleLemmas.{said_of}
 use Rattle.desk_store.proofs.GroupPlaces.{group_and_next_is}
 use Rattle.desk_store.specs.GroupPairs.{group_and_next}
 use Rattle.desk_store.specs.declared.rollouts.GroupAndNext.{GroupAndNext}
@@ -44,7 +46,7 @@ pub record IsPlaced (rs : Records) (k : ℕ) : Type 0 where
 
 -- as it is seen then
 abbrev pub seen_at : (rs : Records) (k : ℕ) → IsPlaced rs k → SeenAction
-seen_at rs k w = action_seen k (stored_action rs.rollouts (w.action, tally_of w.action)) (stored_rollout w.rollout) w.own (item_numbered w.rollout.groups (w.own.number + 1))
+seen_at rs k w = action_seen k (stored_action rs.rollouts (w.action, tally_of w.action)) (stored_rollout w.rollout) (rule_at w.rollout.plan w.own.number) w.own (item_numbered w.rollout.groups (w.own.number + 1))
 
 pub record IsKnown (rs : Records) (k : ℕ) (s : SeenAction) : Type 0 where
   pub placed : IsPlaced rs k
@@ -97,7 +99,8 @@ module _ (h : CommandList) (valid : IsValid h) where
               found = groups_stand h a.rollout v.rollout v.is_its v.own.number ∙ stood;
               next = groups_stand h a.rollout v.rollout v.is_its (v.own.number + 1);
             };
-            is = v.seen_is ∙ ap (action_seen k (stored_action (records h).rollouts (a, tally_of a)) (stored_rollout v.rollout) v.own) (ap (λ (b : GroupAndNext). b.next) both ∙ ap (λ o. item_numbered gs (number_of_group o + 1)) holds);
+            is = v.seen_is ∙ (λ i. action_seen k (stored_action (records h).rollouts (a, tally_of a)) (stored_rollout v.rollout) (said_of (records h) a.rollout v.own.number v.rollout v.rule v.is_its (sym v.is_said) i) v.own v.next)
+                ∙ ap (action_seen k (stored_action (records h).rollouts (a, tally_of a)) (stored_rollout v.rollout) (rule_at v.rollout.plan v.own.number) v.own) (ap (λ (b : GroupAndNext). b.next) both ∙ ap (λ o. item_numbered gs (number_of_group o + 1)) holds);
           }
 
   pub known : (k : ℕ) (s : SeenAction) → IsSeen (ledger_of (records h)) k s → IsKnown (records h) k s

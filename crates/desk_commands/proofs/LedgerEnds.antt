@@ -8,6 +8,7 @@ use Rattle.rollout_machine.specs.ByteStrings.{item_numbered}
 use Rattle.rollout_machine.specs.CommandList.{CommandList, ◌▸◌}
 use Rattle.rollout_machine.specs.CommandRules.{IsWellFormed}
 use Rattle.rollout_machine.specs.Commands.{Bytes, Command}
+use Rattle.rollout_machine.specs.GroupRules.{GroupRule, rules_of}
 use Rattle.rollout_machine.specs.Offers.{offer}
 use Rattle.rollout_machine.specs.Ranges.{each_from}
 use Rattle.rollout_machine.specs.Records.{Records, group_in, records, rollout_in}
@@ -93,10 +94,18 @@ module _ (y : Rollout) (r : ℕ) (h : CommandList) where
 pub groups_stand : (h : CommandList) (r : ℕ) (x : RolloutRecord) → item_numbered (records h).rollouts r ≡ Some x → (i : ℕ) → group_numbered i x.groups ≡ item_numbered x.groups i
 groups_stand h r x at i = let it = rollout_of h r x at in subst (λ (z : RolloutRecord). group_numbered i z.groups ≡ item_numbered z.groups i) it.same (go it.rollout i) where
   go : (y : Rollout) (i : ℕ) → group_numbered i (rollout_in h r y).groups ≡ item_numbered (rollout_in h r y).groups i
-  go y zero = none_at y r h 1 y.plan.groups (omega arith)
-  go y (suc j) = group_at y r h 1 y.plan.groups j (suc j) (omega arith)
+  go y zero = none_at y r h 1 y.plan.groups.count (omega arith)
+  go y (suc j) = group_at y r h 1 y.plan.groups.count j (suc j) (omega arith)
 
 -- ---- the end
+
+-- what their plans say of the groups of each of these
+abbrev pub said_in : List RolloutRecord → List (List GroupRule)
+said_in xs = map (λ (x : RolloutRecord). rules_of x.plan) xs
+
+-- .. which stays where a rollout of the same plan is put in place of one
+pub said_stays : (xs : List RolloutRecord) (r : ℕ) (x y : RolloutRecord) → item_numbered xs r ≡ Some x → y.plan ≡ x.plan → said_in (set_numbered xs r y) ≡ said_in xs
+said_stays xs r x y there same = same_but_for (λ (z : RolloutRecord). rules_of z.plan) xs r x y there (ap rules_of same)
 
 abbrev pub then_started : RolloutRecord → GroupRecord → RolloutRecord
 then_started x g = with_groups x (set_numbered x.groups g.number (started g))
@@ -115,8 +124,9 @@ none_starts h c same r i b s =
 module _ (h : CommandList) (c : Command) (valid : IsValid (h ▸ c)) where
   -- a group is started last
   group_last : (r : ℕ) (g : GroupRecord) (mid : Ledger) (x : RolloutRecord) → item_numbered mid.records.rollouts r ≡ Some x → item_numbered x.groups g.number ≡ Some g → Waits (records h) r g
-      → records (h ▸ c) ≡ (with_group mid r x (started g)).records → mid.tallies ≡ map tally_of mid.records.actions → ((t : Bytes) → mid.offers t ≡ offers_before_start h c t) → StartsGroup r g mid (ledger_of (records (h ▸ c)))
-  group_last r g mid x there its waits after tallies offers = record {
+      → records (h ▸ c) ≡ (with_group mid r x (started g)).records → mid.tallies ≡ map tally_of mid.records.actions → ((t : Bytes) → mid.offers t ≡ offers_before_start h c t) → mid.rules ≡ said_in mid.records.rollouts
+      → StartsGroup r g mid (ledger_of (records (h ▸ c)))
+  group_last r g mid x there its waits after tallies offers rules = record {
     tallied = ap length tallies ∙ length-map mid.records.actions tally_of;
     rollout = x;
     is_there = there;
@@ -126,6 +136,7 @@ module _ (h : CommandList) (c : Command) (valid : IsValid (h ▸ c)) where
       tallies = (ap (λ (rs : Records). map tally_of rs.actions) after ∙ sym tallies) i;
       offers = λ t. (offers_after_group h c r g.number g.bounds t valid starts ∙ ap (λ rs. put_offers (offers_before_start h c) (group_offers rs r g.bounds) t) after
           ∙ ap (λ f. put_offers f (group_offers (with_group mid r x (started g)).records r g.bounds) t) (sym (λ i. λ u. offers u i))) i;
+      rules = (ap (λ (rs : Records). said_in rs.rollouts) after ∙ said_stays mid.records.rollouts r x (then_started x g) there refl ∙ sym rules) i;
     };
   }
     where
@@ -148,28 +159,31 @@ module _ (h : CommandList) (c : Command) (valid : IsValid (h ▸ c)) where
       }
 
   -- none is started
-  no_group : (next : Ledger) → records (h ▸ c) ≡ next.records → next.tallies ≡ map tally_of next.records.actions → ((t : Bytes) → next.offers t ≡ offers_before_start h c t) → StartsNoGroup (records h) (records (h ▸ c)) → ledger_of (records (h ▸ c)) ≡ next
-  no_group next after tallies offers none = λ i. record {
+  no_group : (next : Ledger) → records (h ▸ c) ≡ next.records → next.tallies ≡ map tally_of next.records.actions → ((t : Bytes) → next.offers t ≡ offers_before_start h c t) → next.rules ≡ said_in next.records.rollouts → StartsNoGroup (records h) (records (h ▸ c))
+      → ledger_of (records (h ▸ c)) ≡ next
+  no_group next after tallies offers rules none = λ i. record {
     records = after i;
     tallies = (ap (λ (rs : Records). map tally_of rs.actions) after ∙ sym tallies) i;
     offers = λ t. (offers_after_no_group h c t valid (none_starts h c none) ∙ sym (offers t)) i;
+    rules = (ap (λ (rs : Records). said_in rs.rollouts) after ∙ sym rules) i;
   }
 
 -- An accepted command whose last write starts a group, and one that starts none. Before it the records lack that start alone, each action has its numbers, and of all
--- targets but the one whose action it is the offers are as they were.
+-- targets but the one whose action it is the offers are as they were. Of all groups is said what their plans say.
 module _ (h : CommandList) (c : Command) (valid : IsValid h) (formed : IsWellFormed c) (accepted : check (records h) c ≡ None) where
   is_step : records (h ▸ c) ≡ step_records (records h) c
   is_step = records_step h c valid accepted
 
   pub ends_with_group : (r : ℕ) (g : GroupRecord) (mid : Ledger) (x : RolloutRecord) → item_numbered mid.records.rollouts r ≡ Some x → item_numbered x.groups g.number ≡ Some g → Waits (records h) r g
-      → step_records (records h) c ≡ (with_group mid r x (started g)).records → mid.tallies ≡ map tally_of mid.records.actions → ((t : Bytes) → mid.offers t ≡ offers_before_start h c t) → StartsGroup r g mid (ledger_of (step_records (records h) c))
-  ends_with_group r g mid x there its waits after tallies offers =
-      subst (λ (rs : Records). StartsGroup r g mid (ledger_of rs)) is_step (group_last h c (valid, formed, accepted) r g mid x there its waits (is_step ∙ after) tallies offers)
+      → step_records (records h) c ≡ (with_group mid r x (started g)).records → mid.tallies ≡ map tally_of mid.records.actions → ((t : Bytes) → mid.offers t ≡ offers_before_start h c t) → mid.rules ≡ said_in mid.records.rollouts
+      → StartsGroup r g mid (ledger_of (step_records (records h) c))
+  ends_with_group r g mid x there its waits after tallies offers rules =
+      subst (λ (rs : Records). StartsGroup r g mid (ledger_of rs)) is_step (group_last h c (valid, formed, accepted) r g mid x there its waits (is_step ∙ after) tallies offers rules)
 
-  pub ends_with_none : (next : Ledger) → step_records (records h) c ≡ next.records → next.tallies ≡ map tally_of next.records.actions → ((t : Bytes) → next.offers t ≡ offers_before_start h c t) → StartsNoGroup (records h) (step_records (records h) c)
-      → ledger_of (step_records (records h) c) ≡ next
-  ends_with_none next after tallies offers none =
-      sym (ap ledger_of is_step) ∙ no_group h c (valid, formed, accepted) next (is_step ∙ after) tallies offers (subst (λ (rs : Records). StartsNoGroup (records h) rs) (sym is_step) none)
+  pub ends_with_none : (next : Ledger) → step_records (records h) c ≡ next.records → next.tallies ≡ map tally_of next.records.actions → ((t : Bytes) → next.offers t ≡ offers_before_start h c t) → next.rules ≡ said_in next.records.rollouts
+      → StartsNoGroup (records h) (step_records (records h) c) → ledger_of (step_records (records h) c) ≡ next
+  ends_with_none next after tallies offers rules none =
+      sym (ap ledger_of is_step) ∙ no_group h c (valid, formed, accepted) next (is_step ∙ after) tallies offers rules (subst (λ (rs : Records). StartsNoGroup (records h) rs) (sym is_step) none)
 
 -- ---- commands on one rollout
 
@@ -183,13 +197,14 @@ keeps_starts xs ys same r x y at there =
     sym (numbered_map starts_of ys r ∙ ap (option_map starts_of) there) ∙ ap (λ fs. item_numbered fs r) same ∙ numbered_map starts_of xs r ∙ ap (option_map starts_of) at in
     cc
 
--- An accepted command that makes y of rollout r alone, and is on no action.
+-- An accepted command that makes y of rollout r alone, by the same plan, and is on no action.
 module _ (h : CommandList) (c : Command) (valid : IsValid h) (formed : IsWellFormed c) (accepted : check (records h) c ≡ None) (r : ℕ) (x y : RolloutRecord) (there : item_numbered (records h).rollouts r ≡ Some x)
-    (step : step_records (records h) c ≡ record (records h) { rollouts = set_numbered (records h).rollouts r y }) (calm : (t : Bytes) → offer (records h) t ≡ offers_before_start h c t) where
+    (step : step_records (records h) c ≡ record (records h) { rollouts = set_numbered (records h).rollouts r y }) (planned : y.plan ≡ x.plan) (calm : (t : Bytes) → offer (records h) t ≡ offers_before_start h c t) where
   -- it starts no group
   pub sets_alone : starts_of y ≡ starts_of x → ledger_of (step_records (records h) c) ≡ with_rollouts (ledger_of (records h)) (set_numbered (records h).rollouts r y)
   sets_alone same =
       ends_with_none h c valid formed accepted (with_rollouts (ledger_of (records h)) (set_numbered (records h).rollouts r y)) step refl calm
+      (sym (said_stays (records h).rollouts r x y there planned))
       (λ q x' y' at still. keeps_starts (records h).rollouts (set_numbered (records h).rollouts r y) (same_but_for starts_of (records h).rollouts r x y there same) q x' y' at (sym (ap (λ (rs : Records). item_numbered rs.rollouts q) step) ∙ still))
 
   -- it makes z of the rollout, and then starts a group
@@ -198,3 +213,4 @@ module _ (h : CommandList) (c : Command) (valid : IsValid h) (formed : IsWellFor
   starts_last z g its waits is =
       ends_with_group h c valid formed accepted r g (with_rollouts (ledger_of (records h)) (set_numbered (records h).rollouts r z)) z (set_is_there (records h).rollouts r x z there) its waits
       (step ∙ ap (λ (xs : List RolloutRecord). record (records h) { rollouts = xs }) (ap (set_numbered (records h).rollouts r) is ∙ sym (set_twice r (records h).rollouts z (then_started z g)))) refl calm
+      (sym (said_stays (records h).rollouts r x z there (sym (ap (λ (w : RolloutRecord). w.plan) is) ∙ planned)))

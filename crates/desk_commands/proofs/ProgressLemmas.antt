@@ -11,13 +11,14 @@ use Rattle.rollout_machine.specs.CommandList.{CommandList}
 use Rattle.rollout_machine.specs.CommandRules.{IsWellFormed}
 use Rattle.rollout_machine.specs.Commands.{Bytes, RolloutPlan}
 use Rattle.rollout_machine.specs.Effects.{next_if}
+use Rattle.rollout_machine.specs.GroupRules.{GroupRule, rule_at}
 use Rattle.rollout_machine.specs.Offers.{offer}
 use Rattle.rollout_machine.specs.Ranges.{each_from}
 use Rattle.rollout_machine.specs.Records.{Records, group_in, records}
 use Rattle.rollout_machine.specs.RecordSteps.{change_rollout, group_view, last_started, resumed, start_group, step_records, triggered, view_from_group, view_of}
 use Rattle.rollout_machine.specs.Replies.{Done}
 use Rattle.rollout_machine.specs.Rollouts.{Rollout}
-use Rattle.rollout_machine.specs.StateWords.{RolloutWord, rollout_word}
+use Rattle.rollout_machine.specs.StateWords.{RolloutWord, group_numbered, rollout_word}
 use Rattle.rollout_machine.specs.Verdicts.{check}
 use Rattle.rollout_machine.specs.declared.records.GroupRecord.{GroupRecord}
 use Rattle.rollout_machine.specs.declared.records.RolloutRecord.{RolloutRecord}
@@ -25,14 +26,18 @@ use Rattle.rollout_machine.specs.declared.view.GroupView.{GroupView}
 use Rattle.rollout_machine.specs.declared.view.RolloutView.{RolloutView}
 use Rattle.rollout_model.specs.Rules.{is_number}
 use Rattle.rollout_model.specs.declared.refusal.Refusal.TheVariants.{NotFound}
+use Rattle.rollout_machine.proofs.Lists.{length_each}
 use Rattle.campaign_core.specs.RolloutChecks.{BothOrNone, IsResumeView, IsTriggerView}
 use Rattle.campaign_core.proofs.RolloutLemmas.{number_is}
 use Rattle.offer_laws.specs.GroupOffers.{offers_before_start}
 use Rattle.desk_records.specs.Holds.{Ledger, ledger_of}
 use Rattle.desk_records.specs.LedgerSteps.{set_numbered, turned, with_groups, with_rollouts}
+use Rattle.desk_records.specs.RolloutRow.{told_plan}
+use Rattle.desk_records.specs.declared.rollout_row.ToldPlan.{ToldPlan}
 use Rattle.desk_reads.specs.Rollouts.{IsSeenOf}
 use Rattle.desk_reads.specs.declared.rollouts.SeenRollout.{SeenRollout}
 use Rattle.desk_commands.specs.GroupStarts.{StartsGroup, started}
+use Rattle.desk_commands.specs.GroupViews.{view_by}
 use Rattle.desk_commands.specs.Standings.{GoesOn, IsSeenAt, StartsIf, gone_by, pause_left, starts_by}
 use Rattle.desk_commands.specs.declared.progress.Going.{Going}
 use Rattle.desk_commands.specs.declared.progress.Going.TheVariants.{Resumed, Triggered}
@@ -51,7 +56,7 @@ made_so y r h a zero = tt
 made_so y r h a (suc n) = (refl, omega arith, made_so y r h (suc a) n)
 
 numbered : (h : CommandList) (r : ℕ) (x : RolloutRecord) → item_numbered (records h).rollouts r ≡ Some x → NumberedFrom 1 x.groups
-numbered h r x there = let it = rollout_of h r x there in subst (λ (z : RolloutRecord). NumberedFrom 1 z.groups) it.same (made_so it.rollout r h 1 it.rollout.plan.groups)
+numbered h r x there = let it = rollout_of h r x there in subst (λ (z : RolloutRecord). NumberedFrom 1 z.groups) it.same (made_so it.rollout r h 1 it.rollout.plan.groups.count)
 
 group_has : (a j : ℕ) (gs : List GroupRecord) (g : GroupRecord) → NumberedFrom a gs → slice_get gs j ≡ Some g → (g.number ≡ a + j) × (1 ≤ g.bounds.first)
 unfolding NumberedFrom
@@ -145,11 +150,8 @@ starts_one a i (suc j) (g0 ∷ gs) g so at is =
 
 -- ---- what is seen from the last one
 
-groups_count : (h : CommandList) (r : ℕ) (x : RolloutRecord) → item_numbered (records h).rollouts r ≡ Some x → length x.groups ≡ x.plan.groups
-groups_count h r x there = let it = rollout_of h r x there in subst (λ (z : RolloutRecord). length z.groups ≡ z.plan.groups) it.same (many it.rollout 1 it.rollout.plan.groups) where
-  many : (y : Rollout) (a n : ℕ) → length (each_from (group_in y r h) a n) ≡ n
-  many y a zero = refl
-  many y a (suc n) = ap suc (many y (suc a) n)
+groups_count : (h : CommandList) (r : ℕ) (x : RolloutRecord) → item_numbered (records h).rollouts r ≡ Some x → length x.groups ≡ x.plan.groups.count
+groups_count h r x there = let it = rollout_of h r x there in subst (λ (z : RolloutRecord). length z.groups ≡ z.plan.groups.count) it.same (length_each (group_in it.rollout r h) 1 it.rollout.plan.groups.count)
 
 next_is : (b : Bool) (l i : ℕ) → next_if b l ≡ Some i → (b ≡ true) × (i ≡ l + 1)
 next_is true l i is = (refl, cc)
@@ -197,7 +199,7 @@ gone_calm Triggered h r t = refl
 
 gone_is : (going : Going) (x : RolloutRecord) → gone going x ≡ record x { paused = pause_left going x.paused; groups = map (start_group (starts_by going (view_of x (last_started x.groups)))) x.groups }
 gone_is Resumed x = refl
-gone_is Triggered x = ap (λ n. record x { groups = map (start_group (next_if (nat_lt n x.plan.groups) n)) x.groups }) (sym (number_is x (last_started x.groups)))
+gone_is Triggered x = ap (λ n. record x { groups = map (start_group (next_if (nat_lt n x.plan.groups.count) n)) x.groups }) (sym (number_is x (last_started x.groups)))
 
 module _ (going : Going) (h : CommandList) (r : ℕ) (seen : SeenRollout) (number : is_number r ≡ true) (found : Found h r seen) (accepted : check (records h) (gone_by going r) ≡ None) where
   abbrev x : RolloutRecord
@@ -219,9 +221,9 @@ module _ (going : Going) (h : CommandList) (r : ℕ) (seen : SeenRollout) (numbe
       → StartsIf r seen.groups.items starts (with_rollouts (ledger_of (records h)) (set_numbered (records h).rollouts r between)) (ledger_of (step_records (records h) (gone_by going r)))
   ends None is =
       let so : gone going x ≡ between = gone_so None is ∙ ap (with_groups between) (starts_none x.groups) in
-      sets_alone h (gone_by going r) found.at.valid (gone_formed going r number) accepted r x between found.at.is_there (stepped between so) (gone_calm going h r) refl
+      sets_alone h (gone_by going r) found.at.valid (gone_formed going r number) accepted r x between found.at.is_there (stepped between so) refl (gone_calm going h r) refl
   ends (Some i) is =
-      let next : (i ≡ (view_of x (last_started x.groups)).last.number + 1) × ((view_of x (last_started x.groups)).last.number < x.plan.groups) = next_group going (view_of x (last_started x.groups)) i is in
+      let next : (i ≡ (view_of x (last_started x.groups)).last.number + 1) × ((view_of x (last_started x.groups)).last.number < x.plan.groups.count) = next_group going (view_of x (last_started x.groups)) i is in
       let last : (view_of x (last_started x.groups)).last.number ≡ last_started x.groups = number_is x (last_started x.groups) in
       let it = some_at x.groups (last_started x.groups) (omega (arith, next.1, last, groups_count h r x found.at.is_there)) in
       let so = numbered h r x found.at.is_there in
@@ -235,7 +237,7 @@ module _ (going : Going) (h : CommandList) (r : ℕ) (seen : SeenRollout) (numbe
       let then : gone going x ≡ then_started between it.0 = gone_so (Some i) is ∙ ap (with_groups between) starts in (
         it.0,
         ap (λ gs. item_numbered gs i) found.at.is_seen.groups ∙ its,
-        starts_last h (gone_by going r) found.at.valid (gone_formed going r number) accepted r x (then_started between it.0) found.at.is_there (stepped (then_started between it.0) then) (gone_calm going h r) between it.0 own
+        starts_last h (gone_by going r) found.at.valid (gone_formed going r number) accepted r x (then_started between it.0) found.at.is_there (stepped (then_started between it.0) then) refl (gone_calm going h r) between it.0 own
             (record { rollout = x; is_there = found.at.is_there; group = it.0; is_its = own; bounds = refl; waits = waits_after 1 (last_started x.groups) x.groups it.0 (omega arith) so it.1 (omega arith) })
             refl,
       )
@@ -272,9 +274,17 @@ last_step gs d i last next below so_far then =
     let g = get_or gs i d in
     then ∙ ap (λ n. cond (g.started && nat_lt 0 g.number) g.number n) so_far ∙ sym (last_more (take i gs) g) ∙ sym (ap last_started (take_more gs i d below))
 
-pub seen_view : (h : CommandList) (r : ℕ) (seen : SeenRollout) (x : RolloutRecord) → IsSeenAt h r seen x → (n groups : ℕ) (found : Option GroupRecord) (v : GroupView) → n ≡ last_started seen.groups.items → found ≡ item_numbered seen.groups.items n
-    → v ≡ view_from_group seen.plan n found → groups ≡ seen.plan.groups → record { paused = seen.paused; groups = groups; own = v; last = v } ≡ view_of x (last_started x.groups)
-seen_view h r seen x at n groups found v last is view count = λ i. record { paused = s.paused i; groups = (count ∙ ap (λ (p : RolloutPlan). p.groups) s.plan) i; own = same i; last = same i }
+-- where no group is started
+pub none_said : (told : ToldPlan) (plan : RolloutPlan) (rule : GroupRule) → rule ≡ record { percentage = None; success = told.success; error = told.error } → told ≡ told_plan plan → rule ≡ rule_at plan 0
+none_said told plan rule is seen = is ∙ (λ i. record { percentage = None; success = (seen i).success; error = (seen i).error })
+
+by_plan : (plan : RolloutPlan) (n : ℕ) (found : Option GroupRecord) → view_by (rule_at plan n) n found ≡ view_from_group plan n found
+by_plan plan n None = refl
+by_plan plan n (Some g) = refl
+
+pub seen_view : (h : CommandList) (r : ℕ) (seen : SeenRollout) (x : RolloutRecord) → IsSeenAt h r seen x → (n groups : ℕ) (rule : GroupRule) (found : Option GroupRecord) (v : GroupView) → n ≡ last_started seen.groups.items → rule ≡ rule_at x.plan n
+    → found ≡ item_numbered seen.groups.items n → v ≡ view_by rule n found → groups ≡ seen.plan.groups → record { paused = seen.paused; groups = groups; own = v; last = v } ≡ view_of x (last_started x.groups)
+seen_view h r seen x at n groups rule found v last said is view count = λ i. record { paused = s.paused i; groups = (count ∙ ap (λ (p : ToldPlan). p.groups) s.plan) i; own = same i; last = same i }
   where
     s : IsSeenOf seen x
     s = at.is_seen
@@ -286,7 +296,7 @@ seen_view h r seen x at n groups found v last is view count = λ i. record { pau
     its = is ∙ ap (λ gs. item_numbered gs n) s.groups
 
     same : v ≡ group_view x (last_started x.groups)
-    same = view ∙ (λ i. view_from_group (s.plan i) n ((its ∙ sym (groups_stand h r x at.is_there n)) i)) ∙ ap (group_view x) number
+    same = view ∙ (λ i. view_by (said i) n ((its ∙ sym (groups_stand h r x at.is_there n)) i)) ∙ by_plan x.plan n (group_numbered n x.groups) ∙ ap (group_view x) number
 
 -- what is written is the step
 pub gone_on : (going : Going) (h : CommandList) (r : ℕ) (seen : SeenRollout) (found : Found h r seen) → is_number r ≡ true → (v : RolloutView) → v ≡ view_of found.rollout (last_started found.rollout.groups) → (paused : Bool) → paused ≡ pause_left going seen.paused

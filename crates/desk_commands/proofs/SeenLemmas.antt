@@ -3,6 +3,7 @@ use Rattle.std.proofs.Common.{◌≡◌, ℕ, Option, Some, None, option_map, Ok
 use Rattle.std.specs.List.{zip}
 use Rattle.std.specs.Option.{ok_or}
 use Rattle.rollout_machine.specs.ByteStrings.{item_numbered}
+use Rattle.rollout_machine.specs.GroupRules.{GroupRule}
 use Rattle.rollout_machine.specs.declared.records.ActionRecord.{ActionRecord}
 use Rattle.rollout_machine.specs.declared.records.GroupRecord.{GroupRecord}
 use Rattle.rollout_machine.specs.declared.records.RolloutRecord.{RolloutRecord}
@@ -10,7 +11,7 @@ use Rattle.campaign_core.specs.declared.own_group.OwnView.{OwnView}
 use Rattle.desk_records.specs.Actions.{Tally}
 use Rattle.desk_records.specs.Holds.{Ledger}
 use Rattle.desk_records.specs.RolloutRow.{stored_action, stored_rollout}
-use Rattle.desk_records.specs.Rollouts.{groups_of}
+use Rattle.desk_records.specs.Rollouts.{groups_of, rule_numbered}
 use Rattle.desk_store.specs.GroupPairs.{group_and_next}
 use Rattle.desk_store.specs.declared.rollouts.GroupAndNext.{GroupAndNext}
 use Rattle.desk_records.specs.declared.rollout_row.StoredAction.{StoredAction}
@@ -24,11 +25,12 @@ pub ok_or_some : {A E : Type 0} (o : Option A) (e : E) (x : A) → Ok x ≡ ok_o
 ok_or_some None e x is = absurd (cc)
 ok_or_some (Some y) e x is = cc
 
-pub sees : (l : Ledger) (k : ℕ) (action : StoredAction) (x : Option StoredRollout) (both : GroupAndNext) (rollout : StoredRollout) (own : GroupRecord) (v : OwnView)
+pub sees : (l : Ledger) (k : ℕ) (action : StoredAction) (x : Option StoredRollout) (both : GroupAndNext) (rollout : StoredRollout) (own : GroupRecord) (rule : GroupRule) (v : OwnView)
     → x ≡ option_map stored_rollout (item_numbered l.records.rollouts action.rollout) → x ≡ Some rollout
-    → both ≡ group_and_next action.position (groups_of (item_numbered l.records.rollouts action.rollout)) → both.group ≡ Some own → v ≡ own_seen rollout own both.next
+    → both ≡ group_and_next action.position (groups_of (item_numbered l.records.rollouts action.rollout)) → both.group ≡ Some own
+    → rule_numbered l.rules action.rollout own.number ≡ Some rule → v ≡ own_seen rollout rule own both.next
     → SeesIn l k action (record { number = k; action = action; approval = rollout.approval; started = rollout.started; own = own; next = both.next; rollout = v })
-sees l k action x both rollout own v rollout_is there both_are held is = go (item_numbered l.records.rollouts action.rollout) refl (sym there ∙ rollout_is) both_are
+sees l k action x both rollout own rule v rollout_is there both_are held said is = go (item_numbered l.records.rollouts action.rollout) refl (sym there ∙ rollout_is) both_are
   where
     go : (o : Option RolloutRecord) → item_numbered l.records.rollouts action.rollout ≡ o → Some rollout ≡ option_map stored_rollout o → both ≡ group_and_next action.position (groups_of o)
         → SeesIn l k action (record { number = k; action = action; approval = rollout.approval; started = rollout.started; own = own; next = both.next; rollout = v })
@@ -41,7 +43,9 @@ sees l k action x both rollout own v rollout_is there both_are held is = go (ite
           own = own;
           next = both.next;
           holds = sym found ∙ (λ i. record { group = held i; next = both.next });
-          seen_is = λ i. record { number = k; action = action; approval = (same i).approval; started = (same i).started; own = own; next = both.next; rollout = (is ∙ ap (λ (z : StoredRollout). own_seen z own both.next) same) i };
+          rule = rule;
+          is_said = said;
+          seen_is = λ i. record { number = k; action = action; approval = (same i).approval; started = (same i).started; own = own; next = both.next; rollout = (is ∙ ap (λ (z : StoredRollout). own_seen z rule own both.next) same) i };
         }
 
 pub seen_there : (l : Ledger) (k : ℕ) (action : StoredAction) (seen : SeenAction) → Some action ≡ option_map (stored_action l.records.rollouts) (item_numbered (zip l.records.actions l.tallies) k) → SeesIn l k action seen → IsSeen l k seen

@@ -49,7 +49,7 @@ standing_view h r seen x word is at = record { word = ap (λ w. Some w) (is x at
 abbrev Sees : Records → ℕ → Option SeenRollout → Type 0
 Sees rs r found = AreOfList rs → BothOrNone IsSeenOf found (item_numbered rs.rollouts r)
 
-of_list : (h : CommandList) → IsValid h → AreOfList (records h)
+pub of_list : (h : CommandList) → IsValid h → AreOfList (records h)
 of_list h valid = record { list = h; valid = valid; are = refl }
 
 -- the rollout is there
@@ -110,5 +110,5 @@ said_written said h r seen number found accepted =
       is_there = found.at.is_there;
       next_is =
           sets_alone h (said_by said r) found.at.valid (said_formed said r number) accepted r x y found.at.is_there
-          (said_step said (records h) r ∙ ap (λ xs. record (records h) { rollouts = xs }) (changed_at h found.at.valid r (said_of said) x y found.at.is_there same)) (said_calm said h r) refl;
+          (said_step said (records h) r ∙ ap (λ xs. record (records h) { rollouts = xs }) (changed_at h found.at.valid r (said_of said) x y found.at.is_there same)) refl (said_calm said h r) refl;
     }

@@ -32,7 +32,7 @@ use Rattle.desk_reads.specs.declared.rollouts.SeenRollout.{SeenRollout}
 use Rattle.desk_commands.specs.GroupStarts.{StartsGroup, started}
 use Rattle.desk_commands.specs.Starts.{AddsActions, ReadsMembers, StartsWhole, new_for}
 use Rattle.desk_commands.proofs.ItemSteps.{set_twice}
-use Rattle.desk_commands.proofs.LedgerEnds.{changed_at, ends_with_group, rollout_of, set_is_there}
+use Rattle.desk_commands.proofs.LedgerEnds.{changed_at, ends_with_group, rollout_of, said_stays, set_is_there}
 use Rattle.desk_commands.proofs.StandingLemmas.{Found}
 
 -- ---- what is read
@@ -111,7 +111,7 @@ or_false true = refl
 or_false false = refl
 
 first_is : (h : CommandList) (r : ℕ) (x : RolloutRecord) → item_numbered (records h).rollouts r ≡ Some x → (g : GroupRecord) → slice_get x.groups 0 ≡ Some g → IsFirst x g
-first_is h r x there g at = let it = rollout_of h r x there in subst (λ (z : RolloutRecord). slice_get z.groups 0 ≡ Some g → IsFirst z g) it.same (go it.rollout it.rollout.plan.groups refl) at
+first_is h r x there g at = let it = rollout_of h r x there in subst (λ (z : RolloutRecord). slice_get z.groups 0 ≡ Some g → IsFirst z g) it.same (go it.rollout it.rollout.plan.groups.count refl) at
   where
     others : (y : Rollout) (a n : ℕ) → 2 ≤ a → map (start_group (Some 1)) (each_from (group_in y r h) a n) ≡ each_from (group_in y r h) a n
     others y a zero low = refl
@@ -120,7 +120,7 @@ first_is h r x there g at = let it = rollout_of h r x there in subst (λ (z : Ro
         let still = ap (λ b. (group_in y r h a).started || b) apart ∙ or_false (group_in y r h a).started in
         λ i. record (group_in y r h a) { started = still i } ∷ others y (suc a) n (omega (arith, low)) i
 
-    go : (y : Rollout) (n : ℕ) → y.plan.groups ≡ n → slice_get (rollout_in h r y).groups 0 ≡ Some g → IsFirst (rollout_in h r y) g
+    go : (y : Rollout) (n : ℕ) → y.plan.groups.count ≡ n → slice_get (rollout_in h r y).groups 0 ≡ Some g → IsFirst (rollout_in h r y) g
     go y zero none at = absurd (let it : None ≡ Some g = ap (λ k. slice_get (each_from (group_in y r h) 1 k) 0) (sym none) ∙ at in cc)
     go y (suc n) some at =
         let head : Some (group_in y r h 1) ≡ Some g = ap (λ k. slice_get (each_from (group_in y r h) 1 k) 0) (sym some) ∙ at in
@@ -177,7 +177,8 @@ starts_whole h valid r seen g last count members number found accepted first siz
   starts =
       ends_with_group h (Start r) valid number accepted r g acting_ledger y (set_is_there rs.rollouts r x y there) (ap (item_numbered x.groups) fg.number ∙ fg.its)
       (record { rollout = x; is_there = there; group = g; is_its = ap (item_numbered x.groups) fg.number ∙ fg.its; bounds = refl; waits = fg.waits (unstarted rs r x there accepted) })
-      (λ i. record rs { rollouts = rolls i; actions = acts i }) (sym (map-append tally_of rs.actions (new_for r (length members)))) (λ t. refl);
+      (λ i. record rs { rollouts = rolls i; actions = acts i }) (sym (map-append tally_of rs.actions (new_for r (length members)))) (λ t. refl)
+      (sym (said_stays rs.rollouts r x y there refl));
 }
   where
     rs : Records

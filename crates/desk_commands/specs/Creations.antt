@@ -2,6 +2,7 @@
 use Rattle.std.specs.Prelude.{◌≡◌, ℕ, ◌+◌, Bool, true, false, not, nat_eq, List, [], ◌∷◌, ◌++◌, map, filter, length, is_none}
 use Rattle.std.specs.List.{list_all}
 use Rattle.rollout_machine.specs.Commands.{Bytes, RolloutPlan}
+use Rattle.rollout_machine.specs.GroupRules.{GroupRule, rule_at}
 use Rattle.rollout_machine.specs.Ranges.{each_from}
 use Rattle.rollout_machine.specs.RecordSteps.{new_group}
 use Rattle.rollout_machine.specs.Records.{Records}
@@ -17,7 +18,7 @@ use Rattle.target_filter.specs.Meaning.{holds}
 use Rattle.target_filter.specs.Profile.{filter_of}
 use Rattle.campaign_core.specs.declared.rollout_checks.plans.NewRollout.{NewRollout}
 use Rattle.desk_records.specs.Holds.{Ledger}
-use Rattle.desk_records.specs.LedgerSteps.{with_rollouts}
+use Rattle.desk_records.specs.LedgerSteps.{with_rollouts, with_rules}
 use Rattle.desk_commands.specs.declared.creation.Chosen.{Chosen}
 
 -- ---- the members
@@ -44,7 +45,7 @@ shown_new plan number word members = record {
   set_number = plan.set_number;
   filter_text = plan.filter_text;
   word = word;
-  groups = plan.groups;
+  groups = plan.groups.count;
   targets = members;
 }
 
@@ -60,8 +61,17 @@ in_part n plan size groups members = record {
   groups = each_from (new_group plan size) 1 groups;
 }
 
--- the rollout is put behind those that are there, under the next number; no action is its
-pub record CreatesRollout (x : RolloutRecord) (l next : Ledger) : Type 0 where
+-- what is said of so many of its groups
+abbrev pub first_rules : RolloutPlan → ℕ → List GroupRule
+first_rules plan groups = each_from (rule_at plan) 1 groups
+
+-- with one more rollout, and with what is said of its groups
+abbrev pub and_rollout : RolloutRecord → List GroupRule → Ledger → Ledger
+and_rollout x rules l = with_rules (with_rollouts l (l.records.rollouts ++ x ∷ [])) (l.rules ++ rules ∷ [])
+
+-- the rollout is put behind those that are there, under the next number, and this is said of its groups; no action is its
+pub record CreatesRollout (x : RolloutRecord) (rules : List GroupRule) (l next : Ledger) : Type 0 where
   pub number_is : x.number ≡ length l.records.rollouts + 1
+  pub ruled : length l.rules ≡ length l.records.rollouts
   pub unacted : list_all (λ (a : ActionRecord). not (nat_eq a.rollout x.number)) l.records.actions ≡ true
-  pub next_is : next ≡ with_rollouts l (l.records.rollouts ++ x ∷ [])
+  pub next_is : next ≡ and_rollout x rules l

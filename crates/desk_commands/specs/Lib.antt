@@ -5,6 +5,7 @@ pub mod Imports
 pub mod Attributes
 pub mod GroupStarts
 pub mod Entries
+pub mod GroupViews
 pub mod SeenActions
 pub mod Offering
 pub mod Endings

@@ -4,7 +4,7 @@ use Rattle.std.specs.List.{zip}
 use Rattle.std.specs.Option.{is_none, option_map}
 use Rattle.rollout_machine.specs.ByteStrings.{item_numbered, same_bytes}
 use Rattle.rollout_machine.specs.Commands.{Bytes, Credential}
-use Rattle.rollout_machine.specs.RecordSteps.{view_from_group}
+use Rattle.rollout_machine.specs.GroupRules.{GroupRule}
 use Rattle.rollout_machine.specs.Records.{Records}
 use Rattle.rollout_machine.specs.Verdicts.{is_known, target_of}
 use Rattle.rollout_machine.specs.declared.records.ActionRecord.{ActionRecord}
@@ -19,36 +19,39 @@ use Rattle.campaign_core.specs.declared.rollout_checks.of_devices.FeedbackView.{
 use Rattle.desk_records.specs.Actions.{Tally}
 use Rattle.desk_records.specs.Holds.{Ledger, ledger_of}
 use Rattle.desk_records.specs.RolloutRow.{stored_action, stored_rollout}
-use Rattle.desk_records.specs.Rollouts.{groups_of}
+use Rattle.desk_records.specs.Rollouts.{groups_of, rule_numbered}
 use Rattle.desk_store.specs.GroupPairs.{group_and_next}
 use Rattle.desk_records.specs.declared.rollout_row.StoredAction.{StoredAction}
 use Rattle.desk_records.specs.declared.rollout_row.StoredRollout.{StoredRollout}
+use Rattle.desk_commands.specs.GroupViews.{view_by}
 use Rattle.desk_commands.specs.declared.seen_actions.SeenAction.{SeenAction}
 use Rattle.desk_commands.specs.declared.seen_actions.SeenFeedback.{SeenFeedback}
 
--- the rollout, seen from this one of its groups, and the one behind it
-abbrev pub own_seen : StoredRollout → GroupRecord → Option GroupRecord → OwnView
-own_seen x own next = record { paused = x.paused; own = view_from_group x.plan own.number (Some own); next_waits = own.started && waits next }
+-- the rollout, seen from this one of its groups, of which this is said, and the one behind it
+abbrev pub own_seen : StoredRollout → GroupRule → GroupRecord → Option GroupRecord → OwnView
+own_seen x rule own next = record { paused = x.paused; own = view_by rule own.number (Some own); next_waits = own.started && waits next }
 
-abbrev pub action_seen : ℕ → StoredAction → StoredRollout → GroupRecord → Option GroupRecord → SeenAction
-action_seen k action x own next = record {
+abbrev pub action_seen : ℕ → StoredAction → StoredRollout → GroupRule → GroupRecord → Option GroupRecord → SeenAction
+action_seen k action x rule own next = record {
   number = k;
   action = action;
   approval = x.approval;
   started = x.started;
   own = own;
   next = next;
-  rollout = own_seen x own next;
+  rollout = own_seen x rule own next;
 }
 
--- its rollout and its group are there, and it is seen with them
+-- its rollout and its group are there, with what is said of the group, and it is seen with them
 pub record SeesIn (l : Ledger) (k : ℕ) (action : StoredAction) (seen : SeenAction) : Type 0 where
   pub rollout : RolloutRecord
   pub is_its : item_numbered l.records.rollouts action.rollout ≡ Some rollout
   pub own : GroupRecord
   pub next : Option GroupRecord
   pub holds : group_and_next action.position (groups_of (Some rollout)) ≡ record { group = Some own; next = next }
-  pub seen_is : seen ≡ action_seen k action (stored_rollout rollout) own next
+  pub rule : GroupRule
+  pub is_said : rule_numbered l.rules action.rollout own.number ≡ Some rule
+  pub seen_is : seen ≡ action_seen k action (stored_rollout rollout) rule own next
 
 -- action k is there and is seen so
 pub record IsSeen (l : Ledger) (k : ℕ) (seen : SeenAction) : Type 0 where

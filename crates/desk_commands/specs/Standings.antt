@@ -5,6 +5,7 @@ use Rattle.rollout_machine.specs.CommandList.{CommandList}
 use Rattle.rollout_machine.specs.Commands.{Approve, Command, Deny, Pause, Resume, TriggerNext}
 use Rattle.rollout_machine.specs.Effects.{next_if, starts_next}
 use Rattle.rollout_machine.specs.Records.{Approval, Denied, Given, records}
+use Rattle.rollout_machine.specs.RecordSteps.{last_started, view_of}
 use Rattle.rollout_machine.specs.Validity.{IsValid}
 use Rattle.rollout_machine.specs.Verdicts.{check}
 use Rattle.rollout_machine.specs.declared.records.GroupRecord.{GroupRecord}
@@ -56,6 +57,11 @@ WritesSaid said r seen l next = SetsRollout r (approval_after said seen.approval
 abbrev pub gone_by : Going → ℕ → Command
 gone_by Resumed r = Resume r
 gone_by Triggered r = TriggerNext r
+
+-- the verdict on going on so, where this is the view of the rollout from its last started group
+abbrev pub JudgesGoing : Going → SeenRollout → RolloutView → Option Refusal → Type 0
+JudgesGoing going seen view result = (h : CommandList) (r : ℕ) (x : RolloutRecord) → IsSeenAt h r seen x → view ≡ view_of x (last_started x.groups)
+    → check (records h) (gone_by going r) ≡ result
 
 abbrev pub pause_left : Going → Bool → Bool
 pause_left Resumed paused = false

@@ -7,7 +7,6 @@ use Rattle.rollout_machine.specs.CommandList.{CommandList}
 use Rattle.rollout_machine.specs.Commands.{Command}
 use Rattle.rollout_machine.specs.Records.{records}
 use Rattle.rollout_machine.specs.RecordSteps.{step_records}
-use Rattle.rollout_machine.specs.Replies.{Refused}
 use Rattle.rollout_machine.specs.Validity.{IsValid}
 use Rattle.rollout_machine.specs.Verdicts.{check}
 use Rattle.rollout_machine.specs.Views.{reply_of}

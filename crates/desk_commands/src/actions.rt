@@ -238,7 +238,7 @@ pub(crate) fn take_feedback<S: Alter>(
 ) -> Result<Step, Fault>
     ensures stays { StaysIn S.Store change.old change.new result }
     ensures steps { StepsIn S.Store change.old change.new (Feedback given.now) result }
-    ensures work { AddsIn 11 6 change.old change.new }
+    ensures work { AddsIn 12 7 change.old change.new }
 {
     feedback_is_well_formed(&given.credential, given.action, &given.details);
     let seen = see_feedback(change, &given.credential, given.action)?;
@@ -259,7 +259,7 @@ pub(crate) fn take_cancel_feedback<S: Alter>(
 ) -> Result<Step, Fault>
     ensures stays { StaysIn S.Store change.old change.new result }
     ensures steps { StepsIn S.Store change.old change.new (CancelFeedback given.now) result }
-    ensures work { AddsIn 11 6 change.old change.new }
+    ensures work { AddsIn 12 7 change.old change.new }
 {
     feedback_is_well_formed(&given.credential, given.action, &given.details);
     let seen = see_feedback(change, &given.credential, given.action)?;

@@ -2,6 +2,8 @@
 
 ghost use Rattle.std.specs.Prelude.{◌≡◌, ◌≤◌, ◌++◌, [], ◌∷◌, length, map, IfOk, IfSome, Some};
 ghost use Rattle.rollout_machine.specs.Commands.{CreateRollout};
+ghost use Rattle.rollout_machine.specs.GroupRules.{rules_of};
+ghost use Rattle.rollout_machine.specs.Groupings.{cut_by};
 ghost use Rattle.rollout_machine.specs.Rollouts.{chosen};
 ghost use Rattle.target_filter.specs.Grammar.{Tree};
 ghost use Rattle.target_filter.specs.Profile.{filter_of};
@@ -12,9 +14,10 @@ ghost use Rattle.desk_store.specs.Changing.{FindsIn, MakesLedger, StaysIn};
 ghost use Rattle.desk_commands.specs.Changing.{StepsIn};
 
 use crate::step::Step;
-use campaign_core::{NewRollout, PlanView, group_bounds, new_rollout};
+use campaign_core::{NewRollout, PlanView, cut_grouping, new_rollout};
 use desk_reads::read_listed;
 use desk_store::{Fault, ListedTarget, OpenChange};
+use rollout_machine::Bounds;
 use rollout_model::{
     Approval, ControllerId, FilterText, Page, Reply, Rollout, RolloutPlan, RolloutWord,
 };
@@ -170,31 +173,33 @@ fn show_new(
         set_number: plan.set_number,
         filter_text,
         word: first_word(created.approval),
-        groups: plan.groups.get(),
+        groups: plan.groups.count().get(),
         targets: members,
     })
 }
 
-/// Writes a rollout with its groups and its members.
+/// Writes a rollout with its groups, which have these bounds, with what is said of them, and with its members.
 fn write_whole<S: Alter>(
     change: &mut OpenChange<'_, S>,
     plan: &RolloutPlan,
     created: &NewRollout,
+    cuts: &[Bounds],
     members: &[ControllerId],
 ) -> Result<(), Fault>
-    requires enough { plan.now.groups ≤ length members.now }
+    requires cut { cuts.now ≡ cut_by plan.now.groups (length members.now) }
     requires few { length members.now ≤ 4294967295 }
     ensures stays { StaysIn S.Store change.old change.new result }
     ensures writes { MakesLedger S.Store change.old change.new result
-        (CreatesRollout (in_part created.now plan.now (length members.now) plan.now.groups members.now)) }
+        (CreatesRollout (in_part created.now plan.now (length members.now) plan.now.groups.count members.now) (rules_of plan.now)) }
 {
     let number = created.number;
-    let size = members.len() as u32;
-    let groups = plan.groups.get();
+    let groups = plan.groups.count().get();
     change.write_rollout(number, plan, created.approval)?;
     for i in 0..groups {
-        let bounds = group_bounds(size, i + 1, groups);
-        change.write_group(number, i + 1, bounds)?;
+        let group = i + 1;
+        let bounds = cuts[i as usize];
+        change.write_group(number, group, bounds)?;
+        change.write_rule(number, group, &plan.group_rule(group))?;
     }
     for (i, id) in members.iter().enumerate() {
         change.write_member(number, i as u32 + 1, id)?;
@@ -209,7 +214,8 @@ fn count_of(members: &[ControllerId]) -> Option<u32>
     u32::try_from(members.len()).ok()
 }
 
-/// Creates a rollout: its members are the targets that match now. The memory of its reply is taken before anything is written.
+/// Creates a rollout: its members are the targets that match now. The memory of its reply and of its groups' bounds is taken before
+/// anything is written.
 pub(crate) fn create_rollout<S: Alter>(
     alloc: Global,
     change: &mut OpenChange<'_, S>,
@@ -223,13 +229,16 @@ pub(crate) fn create_rollout<S: Alter>(
         return Err(Fault::Memory);
     };
     let view = read_view(change, plan, &chosen, count)?;
-    let created = match new_rollout(&view, plan.groups.get()) {
+    let created = match new_rollout(&view, &plan.groups) {
         Ok(created) => created,
         Err(refusal) => return Ok(Step::Refused(refusal)),
     };
     let Ok(shown) = show_new(alloc, plan, &created, count) else {
         return Err(Fault::Memory);
     };
-    write_whole(change, plan, &created, &chosen.members)?;
+    let Ok(cuts) = cut_grouping(alloc, count, &plan.groups) else {
+        return Err(Fault::Memory);
+    };
+    write_whole(change, plan, &created, &cuts, &chosen.members)?;
     Ok(Step::Accepted(Reply::RolloutAdded(shown)))
 }

@@ -2,13 +2,13 @@
 
 ghost use Rattle.std.specs.Prelude.{◌≡◌, MatchResult};
 ghost use Rattle.sql_calls.specs.declared.fault.Fault.TheVariants.{Store};
-ghost use Rattle.rollout_machine.specs.RecordSteps.{view_from_group};
 ghost use Rattle.rollout_machine.specs.StateWords.{size_of_group};
+ghost use Rattle.desk_commands.specs.GroupViews.{view_by};
 
 use crate::entries::one_more;
 use desk_store::Fault;
 use rollout_machine::{GroupRecord, GroupView};
-use rollout_model::RolloutPlan;
+use rollout_model::GroupRule;
 
 /// How many members the group has. One that reaches beyond all numbers is a failed store.
 fn size_of(group: &GroupRecord) -> Result<u32, Fault>
@@ -18,16 +18,16 @@ fn size_of(group: &GroupRecord) -> Result<u32, Fault>
     Ok(end.saturating_sub(group.bounds.first))
 }
 
-/// A group of this number as the rules rest on it: one of no members where there is none.
+/// A group of this number as the rules rest on it, by what is said of it: one of no members where there is none.
 pub(crate) fn group_view(
-    plan: &RolloutPlan,
+    rule: &GroupRule,
     number: u32,
     group: Option<GroupRecord>,
 ) -> Result<GroupView, Fault>
-    ensures { MatchResult result (λ view. view ≡ view_from_group plan.now number group) (λ e. e ≡ Store) }
+    ensures { MatchResult result (λ view. view ≡ view_by rule.now number group) (λ e. e ≡ Store) }
 {
-    let success = plan.success.get();
-    let error = plan.error.get();
+    let success = rule.success.get();
+    let error = rule.error.get();
     match group {
         Some(group) => {
             let size = size_of(&group)?;

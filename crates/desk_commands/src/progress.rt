@@ -1,15 +1,16 @@
 //! How a rollout goes on: by a resume, and by a trigger of its next group.
 
-ghost use Rattle.std.specs.Prelude.{◌≡◌, ◌&&◌, MatchResult, cond, nat_lt, not};
+ghost use Rattle.std.specs.Prelude.{◌≡◌, ◌&&◌, None, Some, cond, nat_lt, not};
 ghost use Rattle.std.specs.List.{list_any};
-ghost use Rattle.sql_calls.specs.declared.fault.Fault.TheVariants.{Store};
 ghost use Rattle.rollout_machine.specs.ByteStrings.{item_numbered};
-ghost use Rattle.rollout_machine.specs.CommandList.{CommandList};
 ghost use Rattle.rollout_machine.specs.Commands.{Resume, TriggerNext};
+ghost use Rattle.rollout_machine.specs.GroupRules.{rule_at};
 ghost use Rattle.rollout_machine.specs.RecordSteps.{last_started, view_of};
 ghost use Rattle.rollout_machine.specs.declared.records.RolloutRecord.{RolloutRecord};
-ghost use Rattle.desk_commands.specs.Standings.{GoesOn, IsSeenAt, Judges, StartsIf, gone_by, pause_left, starts_by};
-ghost use Rattle.desk_store.specs.Changing.{MakesLedger, StaysIn};
+ghost use Rattle.desk_reads.specs.AtLists.{FindsAtListsIn};
+ghost use Rattle.desk_reads.specs.Rollouts.{IsSeenOf};
+ghost use Rattle.desk_commands.specs.Standings.{GoesOn, JudgesGoing, StartsIf, gone_by, pause_left, starts_by};
+ghost use Rattle.desk_store.specs.Changing.{FindsIn, MakesLedger, StaysIn};
 ghost use Rattle.desk_commands.specs.Changing.{StepsIn};
 
 use crate::group_views::group_view;
@@ -18,9 +19,9 @@ use crate::standing::{number_is_well_formed, refusal_in};
 use crate::step::Step;
 use campaign_core::{ResumeView, TriggerView, after_resume, after_trigger, resume, trigger};
 use desk_reads::{SeenRollout, read_seen_rollout};
-use desk_store::{Fault, OpenChange};
+use desk_store::{Fault, OpenChange, ToldPlan};
 use rollout_machine::{GroupRecord, RolloutView};
-use rollout_model::{Refusal, Reply, RolloutNo};
+use rollout_model::{GroupRule, Refusal, Reply, RolloutNo};
 use sqlite::Alter;
 
 /// What lets a rollout go on.
@@ -62,14 +63,48 @@ fn group_at(groups: &[GroupRecord], number: u32) -> Option<GroupRecord>
     groups.get(number as usize - 1).copied()
 }
 
-/// A rollout, seen from its last started group.
-fn rollout_view(seen: &SeenRollout) -> Result<RolloutView, Fault>
-    ensures { MatchResult result
-        (λ view. (h : CommandList) (r : _) (x : RolloutRecord) → IsSeenAt h r seen.now x → view ≡ view_of x (last_started x.groups))
-        (λ e. e ≡ Store) }
+/// The rule of a group that isn't there: the rollout's own thresholds.
+fn own_rule(plan: &ToldPlan) -> GroupRule
+    ensures { result ≡ record { percentage = None; success = plan.now.success; error = plan.now.error } }
 {
-    let number = last_started(&seen.groups);
-    let last = group_view(&seen.plan, number, group_at(&seen.groups, number))?;
+    GroupRule {
+        percentage: None,
+        success: plan.success,
+        error: plan.error,
+    }
+}
+
+/// What is said of the last started group of a rollout, which has this number, or 0 where none is started.
+fn read_last_rule<S: Alter>(
+    change: &mut OpenChange<'_, S>,
+    number: RolloutNo,
+    seen: &SeenRollout,
+    last: u32,
+) -> Result<GroupRule, Fault>
+    ensures stays { StaysIn S.Store change.old change.new result }
+    ensures reads { FindsIn S.Store change.old change.new result
+        (λ r rule. (x : RolloutRecord) → item_numbered r.rollouts number ≡ Some x → IsSeenOf seen.now x → rule ≡ rule_at x.plan last) }
+{
+    if last == 0 {
+        return Ok(own_rule(&seen.plan));
+    }
+    let rule = change.read_rule(number, last)?.ok_or(Fault::Store)?;
+    Ok(rule)
+}
+
+/// A rollout, seen from its last started group.
+fn read_view<S: Alter>(
+    change: &mut OpenChange<'_, S>,
+    number: RolloutNo,
+    seen: &SeenRollout,
+) -> Result<RolloutView, Fault>
+    ensures stays { StaysIn S.Store change.old change.new result }
+    ensures reads { FindsAtListsIn S.Store change.old change.new result
+        (λ now view. (x : RolloutRecord) → item_numbered now.rollouts number ≡ Some x → IsSeenOf seen.now x → view ≡ view_of x (last_started x.groups)) }
+{
+    let started = last_started(&seen.groups);
+    let rule = read_last_rule(change, number, seen, started)?;
+    let last = group_view(&rule, started, group_at(&seen.groups, started))?;
     Ok(RolloutView {
         paused: seen.paused,
         groups: seen.plan.groups.get(),
@@ -87,8 +122,7 @@ fn has_next(groups: &[GroupRecord]) -> bool
 
 /// Why a rollout can't go on so, if it can't.
 fn refusal_of(going: Going, seen: &SeenRollout, rollout: RolloutView) -> Option<Refusal>
-    ensures { ((h : CommandList) (r : _) (x : RolloutRecord) → IsSeenAt h r seen.now x → rollout ≡ view_of x (last_started x.groups))
-        → Judges (gone_by going) seen.now result }
+    ensures { JudgesGoing going seen.now rollout result }
 {
     let word = seen.word();
     match going {
@@ -171,7 +205,7 @@ fn go_on<S: Alter>(
     let Some(seen) = found else {
         return Ok(Step::Refused(Refusal::NotFound));
     };
-    let rollout = rollout_view(&seen)?;
+    let rollout = read_view(change, number, &seen)?;
     if let Some(refusal) = refusal_of(going, &seen, rollout) {
         return Ok(Step::Refused(refusal));
     }

@@ -14,7 +14,7 @@ use campaign_core::{ActionView, CancelView, DeviceAction, FeedbackView, OwnView}
 use desk_reads::knows_device;
 use desk_store::{Fault, OpenChange, StoredAction, StoredRollout};
 use rollout_machine::GroupRecord;
-use rollout_model::{ActionNo, Approval, ControllerId, Credential};
+use rollout_model::{ActionNo, Approval, ControllerId, Credential, GroupRule};
 use sqlite::Alter;
 
 /// An action with its group and its rollout.
@@ -53,15 +53,16 @@ fn waits(group: &Option<GroupRecord>) -> bool
     }
 }
 
-/// The rollout, seen from this one of its groups, where `next` is the one behind it.
+/// The rollout, seen from this one of its groups, of which the rule says how it goes on. `next` is the one behind it.
 fn own_view(
     rollout: &StoredRollout,
+    rule: &GroupRule,
     own: &GroupRecord,
     next: &Option<GroupRecord>,
 ) -> Result<OwnView, Fault>
-    ensures { MatchResult result (λ view. view ≡ own_seen rollout.now own.now next.now) (λ e. e ≡ Store) }
+    ensures { MatchResult result (λ view. view ≡ own_seen rollout.now rule.now own.now next.now) (λ e. e ≡ Store) }
 {
-    let view = group_view(&rollout.plan, own.number, Some(*own))?;
+    let view = group_view(rule, own.number, Some(*own))?;
     Ok(OwnView {
         paused: rollout.paused,
         own: view,
@@ -77,12 +78,15 @@ fn see_in<S: Alter>(
 ) -> Result<SeenAction, Fault>
     ensures stays { StaysIn S.Store change.old change.new result }
     ensures reads { FindsLedger S.Store change.old change.new result (λ l seen. SeesIn l number action.now seen) }
-    ensures work { AddsIn 2 3 change.old change.new }
+    ensures work { AddsIn 3 4 change.old change.new }
 {
     let rollout = change.read_rollout(action.rollout)?.ok_or(Fault::Store)?;
     let found = change.read_group_and_next(action.rollout, action.position)?;
     let own = found.group.ok_or(Fault::Store)?;
-    let view = own_view(&rollout, &own, &found.next)?;
+    let rule = change
+        .read_rule(action.rollout, own.number)?
+        .ok_or(Fault::Store)?;
+    let view = own_view(&rollout, &rule, &own, &found.next)?;
     Ok(SeenAction {
         number,
         action: *action,
@@ -101,7 +105,7 @@ fn see_action<S: Alter>(
 ) -> Result<Option<SeenAction>, Fault>
     ensures stays { StaysIn S.Store change.old change.new result }
     ensures reads { FindsLedger S.Store change.old change.new result (MaySee number) }
-    ensures work { AddsIn 3 4 change.old change.new }
+    ensures work { AddsIn 4 5 change.old change.new }
 {
     let found = change.read_action(number)?;
     match &found {
@@ -147,7 +151,7 @@ pub(crate) fn see_feedback<S: Alter>(
 ) -> Result<SeenFeedback, Fault>
     ensures stays { StaysIn S.Store change.old change.new result }
     ensures reads { FindsIn S.Store change.old change.new result (SeesFeedback device.now number) }
-    ensures work { AddsIn 4 5 change.old change.new }
+    ensures work { AddsIn 5 6 change.old change.new }
 {
     let knows = knows_device(change, device)?;
     let seen = see_action(change, number)?;
@@ -165,7 +169,7 @@ pub(crate) fn see_target<S: Alter>(
 ) -> Result<Option<SeenAction>, Fault>
     ensures stays { StaysIn S.Store change.old change.new result }
     ensures reads { FindsIn S.Store change.old change.new result (SeesTarget id.now number) }
-    ensures work { AddsIn 4 5 change.old change.new }
+    ensures work { AddsIn 5 6 change.old change.new }
 {
     let lacks = lacks_target(change, id)?;
     let seen = see_action(change, number)?;

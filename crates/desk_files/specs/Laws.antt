@@ -38,7 +38,7 @@ abbrev pub worked_rollout : Rollout
 worked_rollout = record { number = 1; name = codes "spring"; set_number = 1; filter_text = codes "name==*"; word = Running; groups = 3; targets = 10 }
 
 abbrev pub worked_group : ℕ → ℕ → ℕ → GroupWord → Group
-worked_group number size ok word = record { number = number; size = size; ok = ok; bad = 0; gone = 0; word = word }
+worked_group number size ok word = record { number = number; size = size; ok = ok; bad = 0; gone = 0; success = 50; error = 100; word = word }
 
 abbrev pub worked_action : ℕ → List ℕ → ActionWord → Action
 worked_action number target word = record { number = number; rollout = 1; group = 1; target = target; word = word }

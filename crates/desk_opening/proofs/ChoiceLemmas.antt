@@ -1,10 +1,8 @@
 -- Which of the two ways an open takes.
-use Rattle.std.proofs.Common.{◌≡◌, ℕ, Bool, true, codes, inl, inr, Some, Ok, Err, Result, IfOk, IfErr, arith}
+use Rattle.std.proofs.Common.{Bool, codes, inl, inr, Ok, Err, Result, IfOk, IfErr, arith}
 use Rattle.std.proofs.lemmas.Bool.{both_ways}
-use Rattle.sqlite.specs.Schema.{Schema}
 use Rattle.sqlite.specs.Effect.{Database}
 use Rattle.sqlite.specs.State.{State, HasCleanDisk}
-use Rattle.sqlite_schema.specs.Names.{table_named}
 use Rattle.sqlite_catalog.specs.Change.{is_used}
 use Rattle.sql_front.specs.Free.{LeavesFree}
 use Rattle.sql_calls.specs.Standing.{Rests}
@@ -16,16 +14,14 @@ use Rattle.desk_records.proofs.Readable.{has_desk}
 use Rattle.desk_opening.specs.Making.{HoldsStage, Free, Makes, told}
 use Rattle.desk_opening.specs.declared.opening.OpenFault.{OpenFault}
 use Rattle.desk_opening.specs.declared.opening.OpenFault.TheVariants.{NotDesk, NewerVersion, Memory, Store}
+use Rattle.desk_opening.proofs.VersionLemmas.{used_at}
 use Rattle.desk_opening.specs.Opening.{Adopts, HasDesk, HasRow, LacksDesk, IsFailure, Tells, FindsTo, OpensDesk, OpensTo, IsKnownOpen}
-
-pub used_at : (s : Schema) (at : ℕ) → table_named s (codes "desk") ≡ Some at → is_used s (codes "desk") ≡ true
-used_at s at h = rw h
 
 -- a database that holds records uses the name `desk`
 held_is_used : (old : State) (r : Records) → IsKnownOpen old → Rests HoldsReadable old r → HasCleanDisk old → ¬ LeavesFree old.now.schema desk_names
 held_is_used old r is_open was clean free =
     let (v, holds) = still_holds HoldsReadable old r (was clean) (is_open clean) in
-    both_ways (is_used old.now.schema (codes "desk")) free.0 (used_at old.now.schema (holds.spot Desk).at (has_desk v (λ t. HoldsPlace v old.now r (holds.spot t) t) holds.tables).0.named)
+    both_ways (is_used old.now.schema (codes "desk")) free.0 (used_at old.now.schema (codes "desk") (holds.spot Desk).at (has_desk v (λ t. HoldsPlace v old.now r (holds.spot t) t) holds.tables).0.named)
 
 -- a database that leaves the names free uses none
 free_is_unused : (old : State) → IsKnownOpen old → Rests HoldsStage old Free → HasCleanDisk old → ¬ ¬ LeavesFree old.now.schema desk_names

@@ -1,6 +1,6 @@
 -- Written by tools/meanings from src/table_texts.rt of desk_records. What it makes is proved; the tool is not trusted.
 -- What is known of each table by computing its text.
-use Rattle.std.proofs.Common.{List, [], ◌∷◌, refl}
+use Rattle.std.proofs.Common.{refl}
 use Rattle.sqlite_tied.specs.Compute.{everything}
 use Rattle.sqlite_schema.specs.Names.{same_name}
 use Rattle.sqlite_resolve.specs.Compile.{table_defined_by, first, table_in}
@@ -10,8 +10,6 @@ use Rattle.desk_records.proofs.TableMeaning.{create_desk_makes, create_module_ma
 use Rattle.desk_records.proofs.TableMeaning.{create_piece_makes, create_target_makes, create_target_tag_makes, create_target_attribute_makes}
 use Rattle.desk_records.proofs.TableMeaning.{create_rollout_makes, create_member_makes, create_rollout_group_makes, create_action_makes}
 use Rattle.desk_records.proofs.TableMeaning.{create_feedback_makes, create_offer_makes, create_group_rule_makes}
-use Rattle.desk_opening.specs.declared.desk_table.DeskTable.{DeskTable}
-use Rattle.desk_opening.specs.declared.desk_table.DeskTable.TheVariants as table
 use Rattle.desk_opening.proofs.IsPlace.{IsPlace, bare_of}
 
 pub is_place : (t : Place) → IsPlace t
@@ -32,9 +30,3 @@ is_place Actions = record { makes = create_action_makes; whole = refl; defined =
 is_place Feedbacks = record { makes = create_feedback_makes; whole = refl; defined = refl; bare = bare_of (refl, (refl, (refl, (refl, (refl, tt))))); unindexed = λ rest. refl; unsequenced = refl }
 is_place Offers = record { makes = create_offer_makes; whole = refl; defined = refl; bare = bare_of (refl, (refl, (refl, tt))); unindexed = λ rest. refl; unsequenced = refl }
 is_place Rules = record { makes = create_group_rule_makes; whole = refl; defined = refl; bare = bare_of (refl, (refl, (refl, (refl, (refl, tt))))); unindexed = λ rest. refl; unsequenced = refl }
-
--- the tables of the code
-abbrev pub all_tables : List DeskTable
-all_tables = table.Desk ∷ table.Modules ∷ table.Sets ∷ table.SetModules ∷ table.Artifacts ∷ table.Pieces ∷ table.Targets ∷ table.TargetTags
-    ∷ table.TargetAttributes ∷ table.Rollouts ∷ table.Members ∷ table.Groups ∷ table.Actions ∷ table.Feedbacks ∷ table.Offers ∷ table.Rules
-    ∷ []

@@ -23,7 +23,7 @@ use Rattle.desk_records.specs.Rollouts.{flag}
 use Rattle.desk_opening.specs.declared.opening.OpenFault.{OpenFault}
 use Rattle.desk_opening.specs.declared.opening.OpenFault.TheVariants.{NotDesk, NewerVersion, Memory, Store}
 use Rattle.desk_opening.specs.Opening.{FindsTo, HasDeskTables, HasNoRow, HasRow, IsDeskRow, IsFailure, IsNewerRow, IsOtherRow, LacksDesk}
-use Rattle.desk_opening.proofs.ChoiceLemmas.{used_at}
+use Rattle.desk_opening.proofs.VersionLemmas.{used_at}
 use Rattle.desk_opening.proofs.Tables.{all_kept}
 
 same_some : {X : Type 0} (x y : X) → Some x ≡ Some y → x ≡ y
@@ -76,7 +76,7 @@ module _ (db : Database) (r : Records) (v : Version) (holds : HoldsAt v db r) wh
   has_tables = record { stands = all_kept _ (λ t. StandsSomewhere db.schema (table_at t 0)) (λ t held. let spot = holds.spot t in record { at = spot.at; tree = spot.tree; stands = held.0 }) (places_at v) holds.tables; free = holds.free }
 
   -- the row names the version that it is held in
-  same_version : (w : Version) → HasRow db (IsDeskRow w) → w ≡ v
+  pub same_version : (w : Version) → HasRow db (IsDeskRow w) → w ≡ v
   same_version w h =
       let it : Int (pos (number_of v)) ≡ Int (pos (number_of w)) = (row_says (IsDeskRow w) h).version in
       let numbers : number_of w ≡ number_of v = cc in
@@ -95,6 +95,6 @@ module _ (db : Database) (r : Records) (v : Version) (holds : HoldsAt v db r) wh
 
 pub free_fails : (A : Type 0) (db : Database) → LeavesFree db.schema desk_names → (e : OpenFault) → FindsTo {A = A} db (Err e) → IsFailure e
 free_fails A db free NotDesk h = h.used free
-free_fails A db free NewerVersion h = both_ways (is_used db.schema (codes "desk")) free.0 (used_at db.schema h.table.at h.table.stands.named)
+free_fails A db free NewerVersion h = both_ways (is_used db.schema (codes "desk")) free.0 (used_at db.schema (codes "desk") h.table.at h.table.stands.named)
 free_fails A db free Memory h = tt
 free_fails A db free Store h = tt

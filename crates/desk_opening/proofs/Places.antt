@@ -1,8 +1,8 @@
 -- What the texts of all tables make.
-use Rattle.std.proofs.Common.{◌≡◌, refl, sym, ap, subst, ◌∙◌, ◌||◌, ℕ, ◌+◌, ◌<◌, ◌≤◌, Bool, false, List, [], ◌∷◌, ◌++◌, length, take, drop, get_or}
-use Rattle.std.specs.List.{AllByRecursion, list_any}
+use Rattle.std.proofs.Common.{◌≡◌, refl, sym, ap, ◌∙◌, arith, ◌||◌, ℕ, zero, suc, ◌+◌, ◌<◌, Bool, false, List, [], ◌∷◌, ◌++◌, length, map, take, drop, get_or}
+use Rattle.std.specs.List.{list_any}
 use Rattle.std.proofs.lemmas.Bool.{or_parts}
-use Rattle.std.proofs.lemmas.List.{drop_more, take_all, take_more}
+use Rattle.std.proofs.lemmas.List.{drop_more, length-map, take_more}
 use Rattle.std.proofs.Math.ListN.{get_or-map}
 use Rattle.sqlite.specs.Schema.{Schema}
 use Rattle.sqlite.specs.Table.{Table}
@@ -18,26 +18,25 @@ use Rattle.sql_front.proofs.Write.{Makes, makes_known}
 use Rattle.sql_calls.specs.Means.{Means}
 use Rattle.desk_records.specs.Schema.{Place, places, table_at, name_of}
 use Rattle.desk_records.proofs.MeaningWords.{means_of}
-use Rattle.desk_records.proofs.EachPlace.{each_place}
 use Rattle.desk_opening.specs.declared.desk_table.DeskTable.{DeskTable}
 use Rattle.desk_opening.specs.Places.{place_of, create_text_of}
 use Rattle.desk_opening.proofs.IsPlace.{text_at}
-pub use Rattle.desk_opening.proofs.EachText.{is_place, all_tables}
+pub use Rattle.desk_opening.proofs.EachText.{is_place}
 
 pub create_means : (t : Place) (s : Schema) → is_used s (name_of t) ≡ false → Means s (create_text_of t) CreateTable
 create_means t s free = let makes = (is_place t).makes in means_of s (create_text_of t) _ (makes_known _ _ (table_at t 0) makes s free) refl refl
 
 -- ---- all places
 
--- what holds of all places that a loop has seen, once it has seen them all
-pub in_all_places : (P : Place → Type 0) (n : ℕ) → length places ≤ n → AllByRecursion P (take n places) → (t : Place) → P t
-in_all_places P n seen all = each_place P (subst (AllByRecursion P) (take_all n places seen) all)
+module _ (ds : List DeskTable) (n : ℕ) (d : DeskTable) (within : n < length ds) where
+  below : n < length (map place_of ds)
+  below = let same = length-map ds place_of in omega (arith, within, same)
 
-pub next_place : (n : ℕ) (d : DeskTable) → n < length all_tables → drop n places ≡ place_of (get_or all_tables n d) ∷ drop (n + 1) places
-next_place n d within = drop_more places n (place_of d) within ∙ ap (λ t. t ∷ drop (n + 1) places) (get_or-map place_of all_tables n d)
+  pub next_place : drop n (map place_of ds) ≡ place_of (get_or ds n d) ∷ drop (n + 1) (map place_of ds)
+  next_place = drop_more (map place_of ds) n (place_of d) below ∙ ap (λ t. t ∷ drop (n + 1) (map place_of ds)) (get_or-map place_of ds n d)
 
-pub places_so_far : (n : ℕ) (d : DeskTable) → n < length all_tables → take (n + 1) places ≡ take n places ++ place_of (get_or all_tables n d) ∷ []
-places_so_far n d within = take_more places n (place_of d) within ∙ ap (λ t. take n places ++ t ∷ []) (get_or-map place_of all_tables n d)
+  pub places_so_far : take (n + 1) (map place_of ds) ≡ take n (map place_of ds) ++ place_of (get_or ds n d) ∷ []
+  places_so_far = take_more (map place_of ds) n (place_of d) below ∙ ap (λ t. take n (map place_of ds) ++ t ∷ []) (get_or-map place_of ds n d)
 
 abbrev pub HaveNamesApart : Place → Place → Type 0
 HaveNamesApart t u = same_name (name_of t) (name_of u) ≡ false
@@ -63,3 +62,10 @@ text_made sql name table m s free whole = rw (makes_known sql name table m s fre
 
 pub create_text : (t : Place) (s : Schema) → is_used s (name_of t) ≡ false → statement_of (create_text_of t) (understood s (create_text_of t)) ≡ create_text_of t
 create_text t s free = text_made (create_text_of t) (name_of t) (table_at t 0) (is_place t).makes s free (is_place t).whole
+
+-- ---- the places behind so many
+
+pub behind_apart : (n : ℕ) (ts : List Place) → IsAscending HaveNamesApart ts → IsAscending HaveNamesApart (drop n ts)
+behind_apart zero ts h = h
+behind_apart (suc n) [] h = tt
+behind_apart (suc n) (t ∷ ts) h = behind_apart n ts h.1

@@ -28,11 +28,11 @@ use Rattle.desk_opening.specs.declared.opening.OpenFault.TheVariants.{NotDesk, N
 use Rattle.desk_records.specs.declared.version.Version.{Version}
 use Rattle.desk_opening.specs.Opening.{HasNoRow, HasRow, ReadsRow, Tells, IsDeskRow, IsNewerRow, IsOtherRow}
 
-judged : (b : Bool) → is_true (from_truth (Some b)) ≡ b
+pub judged : (b : Bool) → is_true (from_truth (Some b)) ≡ b
 judged true = refl
 judged false = refl
 
-and_true : (b : Bool) → (b && true) ≡ b
+pub and_true : (b : Bool) → (b && true) ≡ b
 and_true true = refl
 and_true false = refl
 

@@ -1,17 +1,72 @@
 -- One statement of a change in which tables are made, where only what the change sees is known to understand it.
-use Rattle.std.proofs.Common.{◌≡◌, ℕ, true, List, None, Ok, Err, sym, subst, ◌∙◌, arith}
+use Rattle.std.proofs.Common.{◌≡◌, ℕ, true, List, [], Option, Some, None, Ok, Err, sym, subst, ◌∙◌, arith}
 use Rattle.std.proofs.lemmas.Bool.{both_ways}
 use Rattle.sqlite.specs.Order.{Row}
 use Rattle.sqlite.specs.Tree.{Trees}
 use Rattle.sqlite.specs.Listing.{understood}
-use Rattle.sqlite.specs.State.{State, HasCleanDisk, Survives, Runs, Writes, CommitsBy}
+use Rattle.sqlite.specs.Effect.{Database}
+use Rattle.sqlite.specs.State.{State, HasCleanDisk, IsUnchanged, Survives, Runs, Writes, CommitsBy, CommitsShowing}
 use Rattle.sqlite.proofs.Callers.{statement_of}
 use Rattle.sql_calls.specs.declared.fault.Fault.{Fault}
-use Rattle.sql_calls.specs.Calls.{RunsText}
+use Rattle.sql_calls.specs.Calls.{RunsText, TakesFirst, TakesTo}
 use Rattle.sql_calls.specs.Means.{Known}
-use Rattle.sql_calls.specs.Standing.{HoldIn}
-use Rattle.sql_calls.proofs.Leavings.{stays_inside, never_commits_inside, crash_kept, runs_plain}
+use Rattle.sql_calls.specs.Standing.{HoldIn, Rests}
+use Rattle.sql_calls.proofs.Leavings.{stays_inside, never_commits_inside, never_shows_inside, crash_kept, first_unchanged, none_shown, runs_plain, unchanged_by}
+use Rattle.desk_opening.specs.Filling.{Leaves}
 use Rattle.desk_opening.specs.Making.{Stage, HoldsStage, Changes}
+
+-- ---- one thing as another
+
+pub rests_as : {R Q : Type 0} (H : Database → R → Type 0) (K : Database → Q → Type 0) (r : R) (q : Q) → ((db : Database) → H db r → K db q) → (s : State) → Rests H s r → Rests K s q
+rests_as H K r q so s was clean =
+    let it = was clean in
+    record { mode = it.mode; held = record { ended = it.held.ended; kept_holds = λ on. so s.committed (it.held.kept_holds on); crash = λ db left. let found = it.held.crash db left in (found.0, so _ found.1) } }
+
+module _ (s : State) (now next kept : Stage) where
+  pub changes_as : ((db : Database) → HoldsStage db now → HoldsStage db next) → Changes s now kept → Changes s next kept
+  changes_as so was = record { sees = record { sees = λ clean. let first = was.sees.sees clean in record { mode = first.mode; is_open = first.is_open; now_holds = so s.now first.now_holds } }; spoiled = was.spoiled }
+
+pub leaves_of : (s : State) (now kept : Stage) → Changes s now kept → Leaves s kept
+leaves_of s now kept was = record { crash = λ clean. (was.spoiled.spoiled clean).crash }
+
+-- ---- a query
+
+module _ (sql : List ℕ) (params : Row) (old new : State) (now kept : Stage) (was : Changes old now kept) where
+  read_kept : HasCleanDisk new → Survives old new (CommitsShowing sql params old) → (db : Trees) → new.may_leave db → HoldIn HoldsStage db kept
+  read_kept clean survives db left =
+      let before : HasCleanDisk old = omega (arith, clean, survives.clean) in
+      (was.spoiled.spoiled before).crash db (crash_kept old new _ clean (λ db. never_shows_inside sql params old db (was.sees.sees before).mode) survives db left)
+
+  pub read_fails : (fault : Fault) → TakesFirst old new sql params (Err fault) → Leaves new kept
+  read_fails fault h = record { crash = λ clean. read_kept clean h.survives }
+
+  module _ (knows : HoldsStage old.now now → Known old.now.schema sql) where
+    same : (row : Option Row) (known : Known old.now.schema sql) → TakesTo old new sql params (Ok row) → IsUnchanged old new
+    same (Some row) known h = first_unchanged sql known.command params old new known.means row h
+    same None known h = unchanged_by sql known.command params old new known.means [] (none_shown sql known.command params old new known.means h)
+
+    pub read_step : (row : Option Row) → TakesFirst old new sql params (Ok row) → Changes new now kept
+    read_step row h = record {
+      sees = record {
+        sees = λ clean.
+            let first = was.sees.sees (omega (arith, clean, h.survives.clean)) in
+            let is = same row (knows first.now_holds) (h.answers clean) in
+            record { mode = is.0.mode ∙ first.mode; is_open = is.0.is_open; now_holds = subst (λ d. HoldsStage d now) (sym is.0.now_is) first.now_holds };
+      };
+      spoiled = record {
+        spoiled = λ clean.
+            let before : HasCleanDisk old = omega (arith, clean, h.survives.clean) in
+            let first = was.sees.sees before in
+            let is = same row (knows first.now_holds) (h.answers clean) in
+            record {
+              ended = λ out. absurd (both_ways _ out (is.0.mode ∙ first.mode));
+              kept_holds = λ _. subst (λ d. HoldsStage d kept) (sym is.0.committed_is) ((was.spoiled.spoiled before).kept_holds first.is_open);
+              crash = read_kept clean h.survives;
+            };
+      };
+    }
+
+-- ---- a statement that is no query
 
 module _ (sql : List ℕ) (params : Row) (old new : State) (now kept : Stage) (was : Changes old now kept) (knows : HoldsStage old.now now → Known old.now.schema sql)
     (stays : (holds : HoldsStage old.now now) → stays_inside (knows holds).command ≡ true) where

@@ -40,11 +40,13 @@ use Rattle.rollout_machine.specs.RecordSteps.{no_records}
 use Rattle.rollout_machine.proofs.Answering.{made_records}
 use Rattle.desk_records.specs.Schema.{Place, Desk, Offers, places, table_at, name_of, desk_table, offer_table}
 use Rattle.sql_calls.specs.Keyed.{IsHeldBy}
-use Rattle.desk_records.specs.Versions.{newest}
-use Rattle.desk_records.specs.Holds.{AreRowsOf, Content, Offered, Ordered, Spot, IsHeld, Unordered, content_of, desk_row, ledger_of}
+use Rattle.desk_records.specs.Versions.{newest, number_of, places_at}
+use Rattle.desk_records.specs.Readable.{HoldsPlace}
+use Rattle.desk_records.specs.Holds.{AreRowsOf, Content, HoldsRecords, Offered, Ordered, Spot, IsHeld, Unordered, content_at, content_of, desk_row, ledger_of}
 use Rattle.desk_records.proofs.Meaning.{desk_terms}
 use Rattle.desk_opening.specs.Places.{create_text_of}
-use Rattle.desk_opening.specs.Making.{HoldsStage, Partly, Whole, IsEmptyTable, first_records}
+use Rattle.desk_opening.specs.Making.{Before, HoldsBefore, HoldsPartly, IsEmptyTable, Nothing, Older, first_records}
+use Rattle.desk_opening.proofs.EachVersion.{has_offers, nothing}
 use Rattle.desk_records.proofs.EachPlace.{each_place}
 use Rattle.desk_records.proofs.Places.{place_or_other, same_elsewhere, same_places}
 use Rattle.desk_opening.proofs.Places.{is_place, HaveNamesApart, names_apart}
@@ -102,9 +104,6 @@ first_plain = refl
 
 -- ---- the tables
 
-abbrev pub HoldsTables : Database → List Place → List Place → Type 0
-HoldsTables db made left = HoldsStage db (Partly made left)
-
 pub all_kept : {X : Type 0} (P Q : X → Type 0) → ((x : X) → P x → Q x) → (xs : List X) → AllByRecursion P xs → AllByRecursion Q xs
 all_kept P Q f [] h = tt
 all_kept P Q f (x ∷ xs) h = (f x h.0, all_kept P Q f xs h.1)
@@ -119,7 +118,7 @@ unindexed : (name : List ℕ) → ((rest : List ℕ) → same_name (codes "sqlit
 unindexed name apart table at next i [] = refl
 unindexed name apart table at next i (key ∷ keys) = rw (apart _) (unindexed name apart table (at + 1) (next + 1) (i + 1) keys)
 
-module _ (t : Place) (made left : List Place) (apart : AllByRecursion (HaveNamesApart t) left) (old new : State) (count : ℕ) (was : HoldsTables old.now made (t ∷ left))
+module _ (t : Place) (before : Before) (made left : List Place) (apart : AllByRecursion (HaveNamesApart t) left) (old new : State) (count : ℕ) (was : HoldsPartly old.now before made (t ∷ left))
     (w : Writes old new None CreateTable (create_text_of t) [] count) where
   abbrev s : Schema
   s = old.now.schema
@@ -131,7 +130,7 @@ module _ (t : Place) (made left : List Place) (apart : AllByRecursion (HaveNames
   g = grown s (table_at t 0) (create_text_of t) (is_place t).defined old new refl [] count w
 
   free : is_used s (table_at t 0).name ≡ false
-  free = was.2.0
+  free = was.free.0
 
   low : next_tree s < 2 ^ 31
   low = low_tree new.now s.tables g.more new_table w.sound g.tables
@@ -139,23 +138,45 @@ module _ (t : Place) (made left : List Place) (apart : AllByRecursion (HaveNames
   made_last : Stands new.now.schema (name_of t) (length s.tables) (table_at t (next_tree s))
   made_last = stands_last s new.now.schema (table_at t 0) g.more g.tables ((is_place t).bare.references, g.bare) free (same_itself (table_at t 0).name) low
 
-  still_empty : (u : Place) → IsEmptyTable old.now u → IsEmptyTable new.now u
-  still_empty u e =
-      let kept : new.now.trees e.tree ≡ old.now.trees e.tree = all-slice_get (λ (x : Table). new.now.trees x.tree ≡ old.now.trees x.tree) s.tables e.at (table_at u e.tree) e.stands.got g.others in
-      record { at = e.at; tree = e.tree; stands = stands_kept s new.now.schema (name_of u) e.at (table_at u e.tree) (new_table ∷ g.more) g.tables ((is_place t).bare.references, g.bare) e.stands; empty = kept ∙ e.empty; plainly = plainly }
-    where
-      low_one : (tree : ℕ) → tree < next_tree s → tree ≢ next_tree s
-      low_one tree low same = absurd (omega (arith, same, low))
+  -- a table that stood keeps its place, its rows and its indexes
+  module _ (u : Place) (at tree : ℕ) (stands : Stands s (name_of u) at (table_at u tree)) where
+    still_stands : Stands new.now.schema (name_of u) at (table_at u tree)
+    still_stands = stands_kept s new.now.schema (name_of u) at (table_at u tree) (new_table ∷ g.more) g.tables ((is_place t).bare.references, g.bare) stands
 
-      plainly : (index : Index) → Has new.now.schema.indexes index → index.table ≡ e.tree → index.order ≡ plain
-      plainly index h on = elim (g.indexes index h) [
-        | inl there ↦ e.plainly index there on
-        | inr own ↦ absurd (low_one e.tree (table_below s (table_at u e.tree) (has_got s.tables e.at (table_at u e.tree) e.stands.got)) (sym on ∙ own.its))
-      ]
+    same_rows : new.now.trees tree ≡ old.now.trees tree
+    same_rows = all-slice_get (λ (x : Table). new.now.trees x.tree ≡ old.now.trees x.tree) s.tables at (table_at u tree) stands.got g.others
+
+    same_indexes : (index : Index) → Has new.now.schema.indexes index → index.table ≡ tree → Has s.indexes index
+    same_indexes index h on = elim (g.indexes index h) [
+      | inl there ↦ there
+      | inr own ↦ absurd (let low = table_below s (table_at u tree) (has_got s.tables at (table_at u tree) stands.got) in let its = own.its in omega (arith, on, its, low))
+    ]
+
+  still_empty : (u : Place) → IsEmptyTable old.now u → IsEmptyTable new.now u
+  still_empty u e = record {
+    at = e.at;
+    tree = e.tree;
+    stands = still_stands u e.at e.tree e.stands;
+    empty = same_rows u e.at e.tree e.stands ∙ e.empty;
+    plainly = λ index h on. e.plainly index (same_indexes u e.at e.tree e.stands index h on) on;
+  }
+
+  still_kept : (b : Before) → HoldsBefore old.now b → HoldsBefore new.now b
+  still_kept Nothing h = tt
+  still_kept (Older v r) h =
+      let offers : HoldsPlace v old.now r (h.spot Offers) Offers = has_offers v (λ u. HoldsPlace v old.now r (h.spot u) u) h.tables in
+      record {
+        spot = h.spot;
+        tables = all_kept (λ u. HoldsPlace v old.now r (h.spot u) u) (λ u. HoldsPlace v new.now r (h.spot u) u)
+            (λ u it. (still_stands u (h.spot u).at (h.spot u).tree it.0, subst (AreRowsOf (content_at v (ledger_of r) u)) (sym (same_rows u (h.spot u).at (h.spot u).tree it.0)) it.1)) (places_at v) h.tables;
+        tellable = h.tellable;
+        sorted = h.sorted;
+        keyed = λ index there guarding on. h.keyed index (same_indexes Offers (h.spot Offers).at (h.spot Offers).tree offers.0 index there (eqb-true index.table (h.spot Offers).tree (and_parts _ _ guarding).1)) guarding on;
+      }
 
   own_order : (index : Index) → Has new.now.schema.indexes index → index.table ≡ next_tree s → index.order ≡ plain
   own_order index h on = elim (g.indexes index h) [
-    | inl there ↦ absurd (let low = index_owned old.now was.0 index there in omega (arith, low, on))
+    | inl there ↦ absurd (let low = index_owned old.now was.sound index there in omega (arith, low, on))
     | inr own ↦ own.order ∙ plain_at (table_at t 0).orders own.place (plain_orders t)
   ]
 
@@ -166,18 +187,19 @@ module _ (t : Place) (made left : List Place) (apart : AllByRecursion (HaveNames
   still_free [] h k = tt
   still_free (u ∷ us) h k = (spared u h.0 k.0, still_free us h.1 k.1)
 
-  pub table_made : HoldsTables new.now (made ++ t ∷ []) left
-  table_made = (
-    w.sound,
-    all_last (IsEmptyTable new.now) made t (all_kept (IsEmptyTable old.now) (IsEmptyTable new.now) still_empty made was.1) (record { at = length s.tables; tree = next_tree s; stands = made_last; empty = g.empty; plainly = own_order }),
-    still_free left apart was.2.1,
-  )
+  pub table_made : HoldsPartly new.now before (made ++ t ∷ []) left
+  table_made = record {
+    sound = w.sound;
+    kept = still_kept before was.kept;
+    stand = all_last (IsEmptyTable new.now) made t (all_kept (IsEmptyTable old.now) (IsEmptyTable new.now) still_empty made was.stand) (record { at = length s.tables; tree = next_tree s; stands = made_last; empty = g.empty; plainly = own_order });
+    free = still_free left apart was.free.1;
+  }
 
 -- ---- the row of `desk`
 
 only_row : (approval : Bool) (tree : ℕ) → put_all [] (numbered Chosen [] (map (λ s. cast_row (uncounted (desk_table tree)) (drop 0 s)) (given_rows (uncounted (desk_table tree)) (Int (if approval then pos 1 else pos 0) ∷ []) desk_terms 5))) ≡ desk_row newest approval ∷ []
-only_row true tree = rw (cast_int 1, cast_null)
-only_row false tree = rw (cast_int 1, cast_int 0, cast_null)
+only_row true tree = rw (cast_int 1, cast_int (number_of newest), cast_null)
+only_row false tree = rw (cast_int 1, cast_int (number_of newest), cast_int 0, cast_null)
 
 -- a table of another name is in another tree
 in_another : (s : Schema) (desk other : Place) (m n : ℕ) → find (λ (x : Table). x.tree == m) s.tables ≡ Some (table_at desk m) → find (λ (x : Table). x.tree == n) s.tables ≡ Some (table_at other n)
@@ -195,13 +217,7 @@ beside_desk = each_place (λ t. t ≢ Desk → HaveNamesApart Desk t) ((λ other
 none_held : (rows : List Row) → rows ≡ [] → IsHeldBy rows []
 none_held rows empty = subst (λ l. IsHeldBy l []) (sym empty) (record { order = []; rising = tt; same = IsPermutation-same [] [] refl })
 
--- the content that is of the same kind and tells of nothing
-abbrev nothing : Content → Content
-nothing (Ordered wanted) = Ordered []
-nothing (Unordered wanted) = Unordered []
-nothing (Offered offers) = Offered (λ id. None)
-
-no_rows : (c : Content) (rows : List Row) → rows ≡ [] → AreRowsOf (nothing c) rows
+pub no_rows : (c : Content) (rows : List Row) → rows ≡ [] → AreRowsOf (nothing c) rows
 no_rows (Ordered wanted) rows empty = empty
 no_rows (Unordered wanted) rows empty = none_held rows empty
 no_rows (Offered offers) rows empty = record { listed = []; held = none_held rows empty; its = λ id. refl }
@@ -210,21 +226,21 @@ no_rows (Offered offers) rows empty = record { listed = []; held = none_held row
 nothing_held : (approval : Bool) (t : Place) → t ≢ Desk → content_of (ledger_of (no_records approval)) t ≡ nothing (content_of (ledger_of (no_records approval)) t)
 nothing_held approval = same_elsewhere (content_of (ledger_of (no_records approval))) (λ t. nothing (content_of (ledger_of (no_records approval)) t)) (λ t. t ≢ Desk) (Desk ∷ []) refl ((λ other. absurd (other refl)), tt)
 
-module _ (approval : Bool) (old new : State) (text : List ℕ) (count : ℕ) (was : HoldsStage old.now (Partly places [])) (w : Writes old new None (Insert was.1.0.at (Values desk_terms 5)) text (Int (if approval then pos 1 else pos 0) ∷ []) count) where
+module _ (approval : Bool) (old new : State) (text : List ℕ) (count : ℕ) (was : HoldsPartly old.now Nothing places []) (w : Writes old new None (Insert was.stand.0.at (Values desk_terms 5)) text (Int (if approval then pos 1 else pos 0) ∷ []) count) where
   abbrev here : Schema
   here = old.now.schema
 
   abbrev at_place : (t : Place) → IsEmptyTable old.now t
-  at_place = each_place (IsEmptyTable old.now) was.1
+  at_place = each_place (IsEmptyTable old.now) was.stand
 
   abbrev spot_of : Place → Spot
   spot_of t = record { at = (at_place t).at; tree = (at_place t).tree }
 
-  made : Inserted here (uncounted (desk_table was.1.0.tree)) (given_rows (uncounted (desk_table was.1.0.tree)) (Int (if approval then pos 1 else pos 0) ∷ []) desk_terms 5) old.now new.now
-  made = inserts here was.1.0.at (desk_table was.1.0.tree) desk_terms 5 was.1.0.stands.got old new refl text (Int (if approval then pos 1 else pos 0) ∷ []) count w
+  made : Inserted here (uncounted (desk_table was.stand.0.tree)) (given_rows (uncounted (desk_table was.stand.0.tree)) (Int (if approval then pos 1 else pos 0) ∷ []) desk_terms 5) old.now new.now
+  made = inserts here was.stand.0.at (desk_table was.stand.0.tree) desk_terms 5 was.stand.0.stands.got old new refl text (Int (if approval then pos 1 else pos 0) ∷ []) count w
 
-  desk_rows : new.now.trees was.1.0.tree ≡ desk_row newest approval ∷ []
-  desk_rows = made.applies.rows ∙ rw (was.1.0.empty) (only_row approval was.1.0.tree)
+  desk_rows : new.now.trees was.stand.0.tree ≡ desk_row newest approval ∷ []
+  desk_rows = made.applies.rows ∙ rw (was.stand.0.empty) (only_row approval was.stand.0.tree)
 
   found_at : (t : Place) → find (λ (x : Table). x.tree == (at_place t).tree) here.tables ≡ Some (table_at t (at_place t).tree)
   found_at t = (at_place t).stands.found
@@ -232,9 +248,9 @@ module _ (approval : Bool) (old new : State) (text : List ℕ) (count : ℕ) (wa
   stay_empty : (t : Place) → t ≢ Desk → new.now.trees (at_place t).tree ≡ []
   stay_empty t other =
       let e = at_place t in
-      let kept : e.tree ≢ was.1.0.tree → new.now.trees e.tree ≡ old.now.trees e.tree =
-      all-slice_get (λ (x : Table). HasNoForeignKey here x.tree → x.tree ≢ was.1.0.tree → new.now.trees x.tree ≡ old.now.trees x.tree) here.tables e.at (table_at t e.tree) e.stands.got made.applies.tables e.stands.keyless in
-      kept (in_another here Desk t was.1.0.tree e.tree was.1.0.stands.found (found_at t) (beside_desk t other)) ∙ e.empty
+      let kept : e.tree ≢ was.stand.0.tree → new.now.trees e.tree ≡ old.now.trees e.tree =
+      all-slice_get (λ (x : Table). HasNoForeignKey here x.tree → x.tree ≢ was.stand.0.tree → new.now.trees x.tree ≡ old.now.trees x.tree) here.tables e.at (table_at t e.tree) e.stands.got made.applies.tables e.stands.keyless in
+      kept (in_another here Desk t was.stand.0.tree e.tree was.stand.0.stands.found (found_at t) (beside_desk t other)) ∙ e.empty
 
   rows : (t : Place) → IsHeld (ledger_of (no_records approval)) t (new.now.trees (spot_of t).tree)
   rows t = elim (place_or_other t Desk) [
@@ -248,7 +264,7 @@ module _ (approval : Bool) (old new : State) (text : List ℕ) (count : ℕ) (wa
       let was_there : Has here.indexes index = subst (λ (x : Schema). Has x.indexes index) made.schema_is there in
       ap (λ (o : Order). (first_key o).collation) (e.plainly index was_there (eqb-true index.table e.tree (and_parts _ _ guarding).1)) ∙ first_plain
 
-  filled_with : HoldsStage new.now (Whole (no_records approval))
+  filled_with : HoldsRecords new.now (no_records approval)
   filled_with = record {
     sound = w.sound;
     spot = spot_of;
@@ -258,8 +274,8 @@ module _ (approval : Bool) (old new : State) (text : List ℕ) (count : ℕ) (wa
     keyed = keyed;
   }
 
-  pub desk_filled : HoldsStage new.now (Whole (first_records approval))
-  desk_filled = subst (λ r. HoldsStage new.now (Whole r)) (sym (made_records approval)) filled_with
+  pub desk_filled : HoldsRecords new.now (first_records approval)
+  desk_filled = subst (HoldsRecords new.now) (sym (made_records approval)) filled_with
 
 -- ---- the tables that are found are the desk's
 

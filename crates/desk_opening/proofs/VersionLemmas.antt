@@ -1,9 +1,10 @@
 -- The tables of a version, as the code lists them.
-use Rattle.std.proofs.Common.{◌≡◌, ◌≤◌, ℕ, Bool, true, false, not, IsTrue, sym, List, [], ◌∷◌, map, length, take, refl, subst}
+use Rattle.std.proofs.Common.{◌≡◌, ◌<◌, ◌≤◌, ℕ, zero, suc, Bool, true, false, not, IsTrue, sym, List, [], ◌∷◌, map, length, take, get_or, Some, refl, subst, arith}
 use Rattle.std.specs.List.{AllByRecursion, list_any}
 use Rattle.std.proofs.lemmas.Bool.{true≢false}
 use Rattle.std.proofs.lemmas.List.{take_all}
 use Rattle.sqlite.specs.Schema.{Schema}
+use Rattle.sqlite_schema.specs.Names.{table_named}
 use Rattle.sqlite_keyed.proofs.ListLemmas.{none_from_any}
 use Rattle.sqlite_catalog.specs.Change.{is_used}
 use Rattle.sql_front.specs.Free.{LeavesFree}
@@ -20,6 +21,22 @@ module _ (ds : List DeskTable) (places : List Place) (same : map place_of ds ≡
   pub all_seen : (P : Place → Type 0) (n : ℕ) → length ds ≤ n → AllByRecursion (λ d. P (place_of d)) (take n ds) → AllByRecursion P places
   all_seen P n seen all = subst (AllByRecursion P) same (all_mapped P place_of ds (subst (AllByRecursion (λ d. P (place_of d))) (take_all n ds seen) all))
 
+  -- what holds of all holds of each
+  pub each_seen : (P : Place → Type 0) → AllByRecursion P places → (n : ℕ) (d : DeskTable) → n < length ds → P (place_of (get_or ds n d))
+  each_seen P all n d within = got ds (subst (AllByRecursion P) (sym same) all) n within
+    where
+      got : (xs : List DeskTable) → AllByRecursion P (map place_of xs) → (m : ℕ) → m < length xs → P (place_of (get_or xs m d))
+      got [] all m within = absurd (omega (arith, within))
+      got (x ∷ xs) all zero within = all.0
+      got (x ∷ xs) all (suc m) within = got xs all.1 m (omega (arith, within))
+
+  pub some_used : (s : Schema) → LeavesFree s (map name_of places) → list_any (λ d. is_used s (name_of (place_of d))) ds ≡ false
+  some_used s free = none ds (subst (λ ts. LeavesFree s (map name_of ts)) (sym same) free)
+    where
+      none : (xs : List DeskTable) → LeavesFree s (map name_of (map place_of xs)) → list_any (λ d. is_used s (name_of (place_of d))) xs ≡ false
+      none [] free = refl
+      none (x ∷ xs) free = rw (free.0, none xs free.1) refl
+
   pub none_used : (s : Schema) → list_any (λ d. is_used s (name_of (place_of d))) ds ≡ false → LeavesFree s (map name_of places)
   none_used s none =
       let each = none_from_any (λ d. is_used s (name_of (place_of d))) ds none in
@@ -28,3 +45,7 @@ module _ (ds : List DeskTable) (places : List Place) (same : map place_of ds ≡
 pub not_used : (used : Bool) → IsTrue (not used) → used ≡ false
 not_used true h = absurd (true≢false (sym h))
 not_used false h = refl
+
+-- a table's name is used
+pub used_at : (s : Schema) (name : List ℕ) (at : ℕ) → table_named s name ≡ Some at → is_used s name ≡ true
+used_at s name at h = rw h

@@ -1,28 +1,46 @@
--- The making of a new desk in a database that uses none of its names.
-use Rattle.std.specs.Prelude.{◌≡◌, ◌⊎◌, ℕ, Bool, List, [], map, Result, Ok, Err}
+-- The making of a desk's tables, and of a new desk in a database that uses none of its names.
+use Rattle.std.specs.Prelude.{◌≡◌, ◌⊎◌, ℕ, Bool, true, false, List, [], map, Result, Ok, Err}
 use Rattle.std.specs.List.{AllByRecursion}
 use Rattle.sqlite_value.specs.Keys.{plain}
 use Rattle.sqlite.specs.Tree.{Trees}
 use Rattle.sqlite.specs.Effect.{Database, IsDatabase}
 use Rattle.sqlite.specs.State.{State, HasCleanDisk}
+use Rattle.sqlite_trees.specs.Tree.{IsAscending}
+use Rattle.sqlite_schema.specs.Names.{same_name}
 use Rattle.sqlite_schema.specs.declared.schema.Index.{Index}
 use Rattle.sqlite_rules.specs.Lists.{Has}
 use Rattle.sql_front.specs.Stands.{Stands}
 use Rattle.sql_front.specs.Free.{LeavesFree}
+use Rattle.sql_calls.specs.KeyIndexes.{ComparesBytes}
 use Rattle.sql_calls.specs.Standing.{Wears, HoldIn, Rests, Sees, Spoiled}
 use Rattle.rollout_machine.specs.CommandList.{Make}
 use Rattle.rollout_machine.specs.Records.{Records, records}
-use Rattle.desk_records.specs.Schema.{Place, places, table_at, name_of, desk_names}
-use Rattle.desk_records.specs.Holds.{HoldsRecords}
+use Rattle.desk_records.specs.Schema.{Place, Offers, offer_table, table_at, name_of, desk_names}
+use Rattle.desk_records.specs.Holds.{HoldsLedger, HoldsRecords, Ledger, Spot}
+use Rattle.desk_records.specs.Readable.{HoldsAt, HoldsPlace}
+use Rattle.desk_records.specs.Tables.{HoldsTables, Tables}
+use Rattle.desk_records.specs.Targets.{are_sorted}
+use Rattle.desk_records.specs.Versions.{IsTellable, places_at}
+use Rattle.desk_records.specs.declared.version.Version.{Version}
+
+-- what was there before
+pub data Before : Type 0 where
+  Nothing : Before
+  -- the tables of a version, with these records
+  Older : Version → Records → Before
 
 -- how far the making has come
 pub data Stage : Type 0 where
   -- no name of a desk is used
   Free : Stage
-  -- the first tables are there, with no row, and the names of the others are free
-  Partly : List Place → List Place → Stage
-  -- the tables hold these records
-  Whole : Records → Stage
+  -- the tables of a version hold these records, and the names of later ones are free
+  At : Version → Records → Stage
+  -- beside what was there before, the first tables are there, with no row, and the names of the others are free
+  Partly : Before → List Place → List Place → Stage
+  -- all tables are there, whatever rows they have
+  Standing : Stage
+  -- the tables hold this ledger
+  Whole : Ledger → Stage
 
 -- a table that stands, with no row, and with indexes in plain order alone
 pub record IsEmptyTable (db : Database) (t : Place) : Type 0 where
@@ -32,10 +50,30 @@ pub record IsEmptyTable (db : Database) (t : Place) : Type 0 where
   pub empty : db.trees tree ≡ []
   pub plainly : (index : Index) → Has db.schema.indexes index → index.table ≡ tree → index.order ≡ plain
 
+-- the tables of a version hold the records, whatever other tables there are
+pub record HoldsOlder (v : Version) (db : Database) (r : Records) : Type 0 where
+  pub spot : Place → Spot
+  pub tables : AllByRecursion (λ t. HoldsPlace v db r (spot t) t) (places_at v)
+  pub tellable : IsTellable v r
+  pub sorted : are_sorted r.targets ≡ true
+  pub keyed : ComparesBytes db.schema (offer_table (spot Offers).tree) 1
+
+abbrev pub HoldsBefore : Database → Before → Type 0
+HoldsBefore db Nothing = Unit {0}
+HoldsBefore db (Older v r) = HoldsOlder v db r
+
+pub record HoldsPartly (db : Database) (before : Before) (made left : List Place) : Type 0 where
+  pub sound : IsDatabase db
+  pub kept : HoldsBefore db before
+  pub stand : AllByRecursion (IsEmptyTable db) made
+  pub free : LeavesFree db.schema (map name_of left)
+
 abbrev pub HoldsStage : Database → Stage → Type 0
 HoldsStage db Free = IsDatabase db × LeavesFree db.schema desk_names
-HoldsStage db (Partly made left) = IsDatabase db × AllByRecursion (IsEmptyTable db) made × LeavesFree db.schema (map name_of left)
-HoldsStage db (Whole r) = HoldsRecords db r
+HoldsStage db (At v r) = HoldsAt v db r
+HoldsStage db (Partly before made left) = HoldsPartly db before made left
+HoldsStage db Standing = (t : Tables) × HoldsTables db t
+HoldsStage db (Whole l) = HoldsLedger db l
 
 -- an open of a file with these trees finds no name of a desk
 abbrev pub LeavesNoDesk : Trees → Type 0
@@ -64,16 +102,21 @@ pub record Changes (s : State) (now kept : Stage) : Type 0 where
   pub sees : Sees HoldsStage s now
   pub spoiled : Spoiled HoldsStage s kept
 
-abbrev pub MakesTablesTo : {A E : Type 0} → State → State → Result A E → Type 0
-MakesTablesTo old new (Ok _) = Changes old Free Free → Changes new (Partly places []) Free
-MakesTablesTo old new (Err e) = Changes old Free Free → HasCleanDisk new → (db : Trees) → new.may_leave db → LeavesNoDesk db
+-- no two of the places have the same name
+abbrev pub AreApart : List Place → Type 0
+AreApart = IsAscending (λ t u. same_name (name_of t) (name_of u) ≡ false)
+
+abbrev pub MakesTablesTo : {A E : Type 0} → List Place → State → State → Result A E → Type 0
+MakesTablesTo ts old new (Ok _) = (before : Before) (kept : Stage) → Changes old (Partly before [] ts) kept → Changes new (Partly before ts []) kept
+MakesTablesTo ts old new (Err e) = (before : Before) (kept : Stage) → Changes old (Partly before [] ts) kept → HasCleanDisk new
+    → (db : Trees) → new.may_leave db → HoldIn HoldsStage db kept
 
 -- the fault alone, of a call that gives back with it what was left
 abbrev pub told : {A E X : Type 0} → Result A (E × X) → Result A E
 told (Ok a) = Ok a
 told (Err e) = Err e.0
 
--- all tables, within a change
-pub record MakesTables {A E : Type 0} (old new : State) (result : Result A E) : Type 0 where
+-- these tables, within a change
+pub record MakesTables {A E : Type 0} (ts : List Place) (old new : State) (result : Result A E) : Type 0 where
   pub wears : Wears old new
-  pub makes : MakesTablesTo old new result
+  pub makes : MakesTablesTo ts old new result

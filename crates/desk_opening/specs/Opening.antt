@@ -1,5 +1,5 @@
 -- The taking over of a desk that is there.
-use Rattle.std.specs.Prelude.{◌≡◌, ◌<ℤ◌, ℤ, Bool, true, [], ◌∷◌, false, pos, codes, map, Option, Some, None, Result, Ok, Err, IsTrue, ◌⊎◌}
+use Rattle.std.specs.Prelude.{◌≡◌, ◌<ℤ◌, ℤ, Bool, true, [], ◌∷◌, false, pos, codes, map, Option, Some, None, Result, Ok, Err, IfOk, IsTrue, ◌⊎◌}
 use Rattle.std.specs.List.{AllByRecursion}
 use Rattle.sqlite_value.specs.declared.value.Value.TheVariants.{Int, Text}
 use Rattle.sqlite_value.specs.Order.{Row, column}
@@ -15,7 +15,7 @@ use Rattle.sql_calls.specs.Standing.{Wears, HoldIn, Rests}
 use Rattle.rollout_machine.specs.Records.{Records}
 use Rattle.desk_records.specs.Schema.{table_at, desk_table, name_of, desk_names}
 use Rattle.desk_records.specs.Holds.{HoldsRecords}
-use Rattle.desk_records.specs.Readable.{HoldsReadable}
+use Rattle.desk_records.specs.Readable.{HoldsAt, HoldsReadable}
 use Rattle.desk_records.specs.Versions.{later_than, newest, number_of, places_at}
 use Rattle.desk_records.specs.declared.version.Version.{Version}
 use Rattle.desk_opening.specs.declared.opening.OpenFault.{OpenFault}
@@ -102,14 +102,16 @@ IsFailure Store = Unit {0}
 
 -- ---- reading
 
-abbrev pub KeepsTo : {A E : Type 0} → State → State → Result A E → Type 0
-KeepsTo old new (Ok _) = (r : Records) → Rests HoldsReadable old r → Rests HoldsReadable new r
-KeepsTo old new (Err e) = (r : Records) → Rests HoldsReadable old r → HasCleanDisk new → (db : Trees) → new.may_leave db → HoldIn HoldsReadable db r
+abbrev pub KeepsTo : {A E : Type 0} → (Database → Records → Type 0) → State → State → Result A E → Type 0
+KeepsTo Holds old new (Ok _) = (r : Records) → Rests Holds old r → Rests Holds new r
+KeepsTo Holds old new (Err e) = (r : Records) → Rests Holds old r → HasCleanDisk new → (db : Trees) → new.may_leave db → HoldIn Holds db r
 
--- Records that stood, stand; at an error every crash still leaves them.
+-- Records that stood, stand, and in the same version; at an error every crash still leaves them. Ok comes of an open connection alone.
 pub record Keeps {A E : Type 0} (old new : State) (result : Result A E) : Type 0 where
   pub wears : Wears old new
-  pub keeps : KeepsTo old new result
+  pub keeps : KeepsTo HoldsReadable old new result
+  pub keeps_at : (v : Version) → KeepsTo (HoldsAt v) old new result
+  pub opened : IfOk result (λ a. HasCleanDisk new → IsTrue old.is_open)
 
 -- ---- taking over
 

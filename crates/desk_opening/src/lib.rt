@@ -2,10 +2,13 @@
 #![tactic(auto)]
 
 mod desk_table;
+mod filling;
 mod making;
+mod migrating;
 mod opening;
 mod reopening;
 mod running;
+mod version_tables;
 
 pub use crate::making::{fill, make};
 pub use crate::opening::{OpenFault, adopt, open_desk};

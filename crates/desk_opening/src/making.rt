@@ -1,24 +1,25 @@
 //! A new desk.
 
-ghost use Rattle.std.specs.Prelude.{IfOk, IfErr};
+ghost use Rattle.std.specs.Prelude.{IfOk, IfErr, map};
 ghost use Rattle.sqlite.specs.Held.{state};
-ghost use Rattle.desk_opening.specs.Making.{Makes, MakesTables, told};
+ghost use Rattle.desk_opening.specs.Making.{AreApart, Makes, MakesTables, told};
+ghost use Rattle.desk_opening.specs.Places.{place_of};
 
-use crate::desk_table::TABLES;
-use crate::running::run;
+use crate::desk_table::{DeskTable, TABLES};
+use crate::running::{BEGIN, COMMIT, run};
 use desk_records::PUT_DESK;
 use sql_calls::Fault;
 use sqlite::{Alter, Connection, params};
 
-const BEGIN: &str = "BEGIN";
-
-const COMMIT: &str = "COMMIT";
-
-/// Makes the tables.
-fn make_tables<S: Alter>(conn: &mut Connection<S>) -> Result<(), Fault>
-    ensures { MakesTables (state S.Store conn.old) (state S.Store conn.new) result }
+/// Makes these tables.
+pub(crate) fn make_tables<S: Alter>(
+    conn: &mut Connection<S>,
+    tables: &[DeskTable],
+) -> Result<(), Fault>
+    requires { AreApart (map place_of tables.now) }
+    ensures { MakesTables (map place_of tables.now) (state S.Store conn.old) (state S.Store conn.new) result }
 {
-    for table in &TABLES {
+    for table in tables {
         run(conn, table.create_text(), &[])?;
     }
     Ok(())
@@ -29,7 +30,7 @@ pub fn fill<S: Alter>(conn: &mut Connection<S>, approval: bool) -> Result<(), Fa
     ensures { Makes (state S.Store conn.old) (state S.Store conn.new) approval result }
 {
     run(conn, BEGIN, &[])?;
-    make_tables(conn)?;
+    make_tables(conn, &TABLES)?;
     run(conn, PUT_DESK, params![approval])?;
     run(conn, COMMIT, &[])?;
     Ok(())

@@ -1,6 +1,6 @@
 //! A desk that is there already.
 
-ghost use Rattle.std.specs.Prelude.{◌≡◌, ◌≢◌, IfOk, IfErr, IsTrue, MatchOption, Ok, Some, codes, false, map};
+ghost use Rattle.std.specs.Prelude.{◌≡◌, ◌≢◌, ◌⊎◌, IfOk, IfErr, IsTrue, MatchOption, Ok, Some, codes, false, map};
 ghost use Rattle.sql_front.specs.Free.{LeavesFree};
 ghost use Rattle.sql_front.specs.Found.{StandsSomewhere};
 ghost use Rattle.std.specs.List.{list_any};
@@ -14,13 +14,17 @@ ghost use Rattle.sqlite.specs.Held.{state};
 ghost use Rattle.sqlite.specs.State.{HasCleanDisk};
 ghost use Rattle.desk_opening.specs.Faults.{fault_row};
 ghost use Rattle.desk_opening.specs.Making.{told};
-ghost use Rattle.desk_records.specs.Versions.{later_than, places_at};
+ghost use Rattle.desk_records.specs.Versions.{newest};
 ghost use Rattle.desk_opening.specs.Opening.{Adopts, HasDeskTables, HasNoRow, HasRow, IsDeskRow, IsFailure, IsSettled, Keeps, OpensDesk, ReadsRow, Tells};
+ghost use Rattle.desk_opening.specs.Migrating.{Migrates};
 
 use crate::desk_table::{DeskTable, TABLES};
 use crate::making::make;
+use crate::migrating::migrate;
+use crate::running::{BEGIN, ROLLBACK, first, run};
+use crate::version_tables::{tables_after, tables_at};
 use desk_records::{GET_DESK, Version};
-use sql_calls::{Calls, Fault, fault_of};
+use sql_calls::{Fault, fault_of};
 use sql_front::{stands, uses_name};
 use sqlite::{Alter, Connection, Error, ErrorCode, Row};
 use sqlite_resolve::{CompileError, define_table};
@@ -88,20 +92,6 @@ fn has_table(alloc: Global, schema: &Schema, table: DeskTable) -> Result<bool, O
     Ok(stands(schema, &wanted))
 }
 
-/// The tables of a version, in the order in which they are made.
-fn tables_at(version: Version) -> &'static [DeskTable]
-    ensures { map place_of result.now ≡ places_at version }
-{
-    &TABLES[..version.table_count()]
-}
-
-/// The tables of later versions.
-fn tables_after(version: Version) -> &'static [DeskTable]
-    ensures { map place_of result.now ≡ later_than version }
-{
-    &TABLES[version.table_count()..]
-}
-
 /// Whether the schema has all tables of a version, and uses no name of a later one's.
 fn has_tables_of(alloc: Global, schema: &Schema, version: Version) -> Result<bool, OpenFault>
     ensures found { IfOk result (λ found. IsTrue found → HasDeskTables version schema.now) }
@@ -124,6 +114,9 @@ fn standing_version(alloc: Global, schema: &Schema) -> Result<Option<Version>, O
     if has_tables_of(alloc, schema, Version::One)? {
         return Ok(Some(Version::One));
     }
+    if has_tables_of(alloc, schema, Version::Two)? {
+        return Ok(Some(Version::Two));
+    }
     Ok(None)
 }
 
@@ -134,18 +127,19 @@ fn is_standing(standing: Option<Version>, version: Version) -> bool
 {
     match (standing, version) {
         (Some(Version::One), Version::One) => true,
-        (None, _) => false,
+        (Some(Version::Two), Version::Two) => true,
+        _ => false,
     }
 }
 
 /// Reads the row of `desk`, and leaves what stood.
-fn read_desk_row<S: Alter>(calls: &mut Calls<S>) -> Result<Option<Row>, Fault>
-    ensures keeps { Keeps (state S.Store calls.old.conn) (state S.Store calls.new.conn) result }
-    ensures reads { IfOk result (λ found. HasCleanDisk (state S.Store calls.new.conn) → ReadsRow (state S.Store calls.old.conn).now found) }
+fn read_desk_row<S: Alter>(conn: &mut Connection<S>) -> Result<Option<Row>, Fault>
+    ensures keeps { Keeps (state S.Store conn.old) (state S.Store conn.new) result }
+    ensures reads { IfOk result (λ found. HasCleanDisk (state S.Store conn.new) → ReadsRow (state S.Store conn.old).now found) }
 {
-    calls.begin()?;
-    let row = calls.first(GET_DESK, &[])?;
-    calls.roll_back()?;
+    run(conn, BEGIN, &[])?;
+    let row = first(conn, GET_DESK, &[])?;
+    run(conn, ROLLBACK, &[])?;
     Ok(row)
 }
 
@@ -158,7 +152,8 @@ fn judge(row: &Row) -> Result<Version, OpenFault>
     }
     match row.get::<i64>(1) {
         Ok(1) => Ok(Version::One),
-        Ok(number) if number > 1 => Err(OpenFault::NewerVersion),
+        Ok(2) => Ok(Version::Two),
+        Ok(number) if number > 2 => Err(OpenFault::NewerVersion),
         Ok(_) => Err(OpenFault::NotDesk),
         Err(error) => Err(unread(error)),
     }
@@ -198,13 +193,13 @@ pub(crate) fn open_fault(fault: Fault) -> OpenFault
 }
 
 /// Reads the row of `desk`, and judges it.
-fn check_row<S: Alter>(calls: &mut Calls<S>) -> Result<Version, OpenFault>
-    ensures keeps { Keeps (state S.Store calls.old.conn) (state S.Store calls.new.conn) result }
-    ensures tells { HasCleanDisk (state S.Store calls.new.conn) → StandsSomewhere (state S.Store calls.old.conn).now.schema (desk_table 0)
-        → Tells (λ v. HasRow (state S.Store calls.old.conn).now (IsDeskRow v)) (HasRow (state S.Store calls.old.conn).now)
-        (HasNoRow (state S.Store calls.old.conn).now) result }
+fn check_row<S: Alter>(conn: &mut Connection<S>) -> Result<Version, OpenFault>
+    ensures keeps { Keeps (state S.Store conn.old) (state S.Store conn.new) result }
+    ensures tells { HasCleanDisk (state S.Store conn.new) → StandsSomewhere (state S.Store conn.old).now.schema (desk_table 0)
+        → Tells (λ v. HasRow (state S.Store conn.old).now (IsDeskRow v)) (HasRow (state S.Store conn.old).now)
+        (HasNoRow (state S.Store conn.old).now) result }
 {
-    match read_desk_row(calls) {
+    match read_desk_row(conn) {
         Ok(Some(row)) => judge(&row),
         Ok(None) => Err(OpenFault::NotDesk),
         Err(fault) => Err(open_fault(fault)),
@@ -212,36 +207,67 @@ fn check_row<S: Alter>(calls: &mut Calls<S>) -> Result<Version, OpenFault>
 }
 
 /// Takes a database as the desk that it holds. The row of `desk` is judged before the other tables are, which
-/// are those of the version that it names: a later version may have others. A connection that is refused is
-/// given back.
+/// are those of the version that it names: a later version may have others. The tables of an older version become
+/// those of the newest. A connection that is refused is given back.
 pub fn adopt<S: Alter + Drop>(
     alloc: Global,
-    conn: Connection<S>,
+    mut conn: Connection<S>,
 ) -> Result<Connection<S>, (OpenFault, Connection<S>)>
     ensures adopted { IfOk result (λ adopted. Adopts (state S.Store conn) (state S.Store adopted) (told result)) }
     ensures whole { IfOk result (λ adopted. (v : Version) × HasDeskTables v (state S.Store conn).now.schema) }
     ensures refused { IfErr result (λ e. Adopts (state S.Store conn) (state S.Store e.1) (told result)) }
 {
-    let has_desk = match has_table(alloc, conn.schema(), DeskTable::Desk) {
-        Ok(has_desk) => has_desk,
-        Err(fault) => return Err((fault, conn)),
-    };
-    if !has_desk {
-        return Err((OpenFault::NotDesk, conn));
+    match take_over(alloc, &mut conn) {
+        Ok(()) => Ok(conn),
+        Err(fault) => Err((fault, conn)),
     }
-    let standing = match standing_version(alloc, conn.schema()) {
-        Ok(standing) => standing,
-        Err(fault) => return Err((fault, conn)),
-    };
-    let mut calls = Calls::new(conn);
-    let version = match check_row(&mut calls) {
-        Ok(version) => version,
-        Err(fault) => return Err((fault, calls.into_connection())),
-    };
+}
+
+/// The same for a caller that keeps the connection.
+fn take_over<S: Alter>(alloc: Global, conn: &mut Connection<S>) -> Result<(), OpenFault>
+    ensures adopts { Adopts (state S.Store conn.old) (state S.Store conn.new) result }
+    ensures whole { IfOk result (λ adopted. (v : Version) × HasDeskTables v (state S.Store conn.old).now.schema) }
+{
+    if !has_table(alloc, conn.schema(), DeskTable::Desk)? {
+        return Err(OpenFault::NotDesk);
+    }
+    let standing = standing_version(alloc, conn.schema())?;
+    let version = check_row(conn)?;
     if !is_standing(standing, version) {
-        return Err((OpenFault::NotDesk, calls.into_connection()));
+        return Err(OpenFault::NotDesk);
     }
-    Ok(calls.into_connection())
+    renew(alloc, conn, version)
+}
+
+/// Makes the tables of an older version into those of the newest, and looks at them again.
+fn renew<S: Alter>(
+    alloc: Global,
+    conn: &mut Connection<S>,
+    version: Version,
+) -> Result<(), OpenFault>
+    ensures renews { Migrates version (state S.Store conn.old) (state S.Store conn.new) result }
+    ensures renewed { IfOk result (λ it. (version ≡ newest) ⊎ HasDeskTables newest (state S.Store conn.new).now.schema) }
+    ensures failed { IfErr result IsFailure }
+{
+    if let Version::Two = version {
+        return Ok(());
+    }
+    match migrate(alloc, conn, version) {
+        Ok(()) => look_again(alloc, conn.schema()),
+        Err(fault) => Err(open_fault(fault)),
+    }
+}
+
+/// Whether the schema has the tables of the newest version, which were just made.
+fn look_again(alloc: Global, schema: &Schema) -> Result<(), OpenFault>
+    ensures found { IfOk result (λ found. HasDeskTables newest schema.now) }
+    ensures failed { IfErr result IsFailure }
+{
+    if has_tables_of(alloc, schema, Version::Two)? {
+        Ok(())
+    } else {
+        Err(OpenFault::Store)
+    }
 }
 
 /// Whether a table, an index or a view has a name of a desk's tables, whatever the case of ASCII letters.

@@ -1,26 +1,22 @@
 -- The statements on artifacts and their pieces, in lists of them.
-use Rattle.std.proofs.Common.{◌≡◌, ◌≤◌, ◌&&◌, ◌++◌, ℕ, zero, suc, ◌+◌, ◌-◌, ◌*◌, pos, negsuc, List, [], ◌∷◌, map, filter, length, slice_get, Bool, true, false, cond, Option, option_map, refl, sym, ap, subst, ◌∙◌, arith, IsPermutation, nat_eq}
+use Rattle.std.proofs.Common.{◌≡◌, ◌≤◌, ◌++◌, ℕ, suc, ◌+◌, ◌-◌, ◌*◌, pos, negsuc, List, [], ◌∷◌, map, filter, length, Bool, true, false, cond, Option, option_map, refl, sym, ap, subst, ◌∙◌, arith, nat_eq}
 use Rattle.std.specs.List.{list_any}
 use Rattle.std.specs.Option.{is_some, option_to_list}
-use Rattle.std.proofs.lemmas.Bool.Decides.{nat_tests}
-use Rattle.std.proofs.lemmas.List.Sorted.{IsPermutation-trans}
 use Rattle.sqlite_value.specs.declared.value.Value.TheVariants.{Null, Int, Blob}
 use Rattle.sqlite_value.specs.Order.{Row}
 use Rattle.sqlite_trees.specs.Tree.{put_row}
 use Rattle.sqlite_rules.specs.Edit.{next_rowid}
 use Rattle.sqlite_sql.specs.Ops.{binary}
 use Rattle.sqlite.specs.Term.{lit, col}
-use Rattle.sqlite.specs.Query.{Query}
 use Rattle.sqlite.specs.Command.TheVariants.{Select}
 use Rattle.sqlite.specs.Schema.{Schema}
 use Rattle.sqlite.specs.Effect.{Database, Reads as Shows}
 use Rattle.sql_calls.specs.Keyed.{rows_from, IsHeldBy}
 use Rattle.sql_calls.proofs.Finding.{ShowsFirst}
-use Rattle.sql_calls.proofs.Selects.{simple, passes, shown_of, simple_rows}
+use Rattle.sql_calls.proofs.Selects.{simple, passes, shown_of}
 use Rattle.sql_calls.proofs.Inserts.{Inserted, given_rows}
 use Rattle.sql_calls.proofs.NumberedRows.{put_next, cast_int, cast_null}
 use Rattle.sql_calls.proofs.NumberedTables.{has_number, numbered_in_order}
-use Rattle.sql_calls.proofs.KeyedRows.{on_content, held_seen}
 use Rattle.rollout_model.specs.Limits.{piece_length}
 use Rattle.rollout_machine.specs.Commands.{Bytes}
 use Rattle.rollout_machine.specs.ByteStrings.{same_bytes, item_numbered}
@@ -32,8 +28,8 @@ use Rattle.desk_records.specs.Artifacts.{told_of, artifact_row, piece_row, piece
 use Rattle.desk_records.proofs.MeaningWords.{at_key}
 use Rattle.desk_records.proofs.ArtifactMeaning.{same_file, last_artifact_query, told_columns, shown_columns, artifacts_query, artifact_terms, at_piece, piece_terms}
 use Rattle.desk_records.proofs.Comparisons.{judged, words_equal, numbers_equal, and_true}
-use Rattle.desk_records.proofs.NumberedReads.{finds, lasts, gets, first_found}
-use Rattle.desk_records.proofs.Parts.{same_rows, none_after, at_place, no_parts, its_parts, part_added}
+use Rattle.desk_records.proofs.NumberedReads.{finds, lasts, gets}
+use Rattle.desk_records.proofs.Parts.{same_rows, no_parts, part_added}
 use Rattle.desk_records.proofs.PieceLists.{count_whole, one_more}
 use Rattle.desk_records.proofs.PlacedParts.{Names, gets_part, its_part}
 

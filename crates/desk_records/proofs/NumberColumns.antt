@@ -1,5 +1,5 @@
 -- What columns with a number say of it.
-use Rattle.std.proofs.Common.{◌≡◌, ◌<◌, ◌≤◌, ◌^◌, ◌&&◌, [], ◌∷◌, ℕ, ℤ, pos, negsuc, Bool, true, false, cond, Option, Some, None, true≢false, refl, sym, ap, ap₂, ◌∙◌, arith, nat_eq, nat_lt, nat_le, is_eq, int_cmp}
+use Rattle.std.proofs.Common.{◌≡◌, ◌<◌, ◌≤◌, ◌^◌, ◌&&◌, [], ◌∷◌, ℕ, ℤ, pos, negsuc, Bool, true, false, cond, Option, Some, None, true≢false, refl, sym, ap, ap₂, ◌∙◌, arith, nat_eq, nat_lt, nat_le, is_eq, int_cmp, if◌then◌else◌}
 use Rattle.std.specs.Option.{option_and_then}
 use Rattle.std.proofs.lemmas.Bool.{and_parts}
 use Rattle.std.proofs.lemmas.Bool.Decides.{nat_tests}
@@ -17,7 +17,7 @@ use Rattle.sql_calls.proofs.Selects.{passes}
 use Rattle.rollout_model.specs.Limits.{number_limit}
 use Rattle.rollout_model.specs.Rules.{is_number, number_of}
 use Rattle.desk_records.specs.ArtifactRow.{small_number}
-use Rattle.desk_records.specs.Codes.{number_in}
+use Rattle.desk_records.specs.Codes.{coded_in, number_in}
 use Rattle.desk_records.specs.Listings.{has_at, is_number_of}
 use Rattle.desk_records.proofs.Comparisons.{and_true, judged}
 use Rattle.desk_records.proofs.MeaningWords.{at_key}
@@ -52,22 +52,23 @@ is_small n few = let test : nat_lt n (2 ^ 32) ≡ true = grind (arith, nat_tests
 
 -- ---- a number of a range
 
-good_number : (m n : ℕ) → number_of m ≡ Some n → m ≡ n
-good_number m n h = go (is_number m) h
-  where
-    go : (b : Bool) → cond b (Some m) None ≡ Some n → m ≡ n
-    go true e = cc
-    go false e = absurd cc
-
 pub is_in_range : (n : ℕ) → 1 ≤ n → n ≤ number_limit → is_number n ≡ true
 is_in_range n low high = grind (arith, nat_tests, low, high)
 
-pub number_in_is : (v : Value) (n : ℕ) → number_in v ≡ Some n → v ≡ Int (pos n)
-number_in_is v n h = go (small_number v) refl h
+-- .. is read as itself
+pub ranged_is : (fits : ℕ → Bool) (v : Value) (n : ℕ) → coded_in (λ k. if fits k then Some k else None) v ≡ Some n → v ≡ Int (pos n)
+ranged_is fits v n h = go (small_number v) refl h
   where
-    go : (o : Option ℕ) → small_number v ≡ o → option_and_then number_of o ≡ Some n → v ≡ Int (pos n)
+    kept : (m : ℕ) (b : Bool) → (if b then Some m else None) ≡ Some n → m ≡ n
+    kept m true e = cc
+    kept m false e = absurd cc
+
+    go : (o : Option ℕ) → small_number v ≡ o → option_and_then (λ k. if fits k then Some k else None) o ≡ Some n → v ≡ Int (pos n)
     go None is e = absurd cc
-    go (Some m) is e = small_is v m is ∙ ap (λ k. Int (pos k)) (good_number m n e)
+    go (Some m) is e = small_is v m is ∙ ap (λ k. Int (pos k)) (kept m (fits m) e)
+
+pub number_in_is : (v : Value) (n : ℕ) → number_in v ≡ Some n → v ≡ Int (pos n)
+number_in_is = ranged_is is_number
 
 pub is_number_in : (n : ℕ) → is_number n ≡ true → number_in (Int (pos n)) ≡ Some n
 is_number_in n good =

@@ -1,5 +1,5 @@
 -- What rows of what is said of groups are read as.
-use Rattle.std.specs.Prelude.{◌≡◌, List, [], ◌∷◌, Option, Some}
+use Rattle.std.specs.Prelude.{◌≡◌, [], ◌∷◌, Option, Some}
 use Rattle.std.specs.Option.{is_some}
 use Rattle.sqlite_value.specs.Order.{Row, column}
 use Rattle.rollout_model.specs.declared.group_rule.GroupRule.{GroupRule}

@@ -13,7 +13,8 @@ use crate::module_row::{Column, RowFault, row_fault, text_at};
 use crate::target_row::id_at;
 use rollout_machine::{Bounds, GroupRecord, Outcome};
 use rollout_model::{
-    ActionNo, Approval, ControllerId, FilterText, GroupCount, Offer, Percentage, RolloutNo, SetNo, Text,
+    ActionNo, Approval, ControllerId, FilterText, GroupCount, Offer, Percentage, RolloutNo, SetNo,
+    Text,
 };
 use sqlite::Row;
 use std::alloc::Global;

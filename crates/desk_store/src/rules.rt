@@ -30,11 +30,7 @@ impl FromRow for GroupRule {
 
 impl<'a, S: Alter> OpenChange<'a, S> {
     /// What is said of the group of a rollout and a number. A row that breaks a column's rule is a failed store.
-    pub fn read_rule(
-        &mut self,
-        number: RolloutNo,
-        group: u32,
-    ) -> Result<Option<GroupRule>, Fault>
+    pub fn read_rule(&mut self, number: RolloutNo, group: u32) -> Result<Option<GroupRule>, Fault>
         ensures stays { StaysIn S.Store self.old self.new result }
         ensures reads { FindsLedger S.Store self.old self.new result (λ l found. found ≡ rule_numbered l.rules number group) }
         ensures work { AddsIn 1 1 self.old self.new }

@@ -2,8 +2,8 @@
 
 use rollout_model::{
     ActionNo, Command, Contents, ControllerId, Credential, Details, DeviceFeedback, Digest,
-    Filename, FilterText, GroupCount, ModuleLabel, ModuleList, ModuleNo, Percentage, RolloutNo,
-    RolloutPlan, SetLabel, SetNo, Tags, TargetRow, TargetRows, Text, Upload,
+    Filename, FilterText, GroupCount, Grouping, ModuleLabel, ModuleList, ModuleNo, Percentage,
+    RolloutNo, RolloutPlan, SetLabel, SetNo, Tags, TargetRow, TargetRows, Text, Upload,
 };
 use std::alloc::Global;
 
@@ -84,7 +84,7 @@ pub(super) fn credential_of(id: ControllerId) -> Credential {
 /// Creates a rollout of the first set in two groups, of which the second starts at such a success of the first.
 pub(super) fn creates(alloc: Global, name: &str, filter: &str, success: u8) -> Option<Command> {
     let set_number = SetNo::new(1)?;
-    let groups = GroupCount::new(2)?;
+    let groups = Grouping::evenly(GroupCount::new(2)?);
     let success = Percentage::new(success)?;
     let error = Percentage::new(100)?;
     let name = text(alloc, name)?;

@@ -37,11 +37,7 @@ pub fn show_report<S: Alter>(
 }
 
 /// The report of a rollout, by the rules of all its groups.
-fn report_of(
-    alloc: Global,
-    seen: SeenRollout,
-    rules: &[GroupRule],
-) -> Result<RolloutReport, Fault>
+fn report_of(alloc: Global, seen: SeenRollout, rules: &[GroupRule]) -> Result<RolloutReport, Fault>
     ensures { IfOk result (λ whole. (x : RolloutRecord) → IsSeenOf seen x → rules.now ≡ rules_of x.plan → report whole ≡ report_of x) }
 {
     let groups = all_shown(alloc, &seen, rules, &seen.groups)?;

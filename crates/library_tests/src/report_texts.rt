@@ -15,6 +15,8 @@ fn group(number: u32, size: u32, ok: u32, word: GroupWord) -> Group {
         ok,
         bad: 0,
         gone: 0,
+        success: 50,
+        error: 100,
         word,
     }
 }

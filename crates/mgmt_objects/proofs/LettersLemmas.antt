@@ -31,13 +31,13 @@ rollout_by_parts set_number id groups targets name status filter = simp append_a
 pub rollout_spelled : (r : Rollout) → compact_text (rollout_data r) ≡ rollout_letters r
 rollout_spelled r = rollout_by_parts r.set_number r.number r.groups r.targets r.name (rollout_text r.word) r.filter_text
 
-group_by_parts : (bad gone id ok size : ℕ) (status : List ℕ) → compact_text (object (member (codes "bad") (whole bad) (member (codes "gone") (whole gone) (member (codes "id") (whole id) (member (codes "ok") (whole ok) (member (codes "size") (whole size) (member (codes "status") (string status) no_members)))))))
-    ≡ concat (codes "{\"bad\":" ∷ decimal bad ∷ codes ",\"gone\":" ∷ decimal gone ∷ codes ",\"id\":" ∷ decimal id ∷ codes ",\"ok\":" ∷ decimal ok ∷ codes ",\"size\":" ∷ decimal size ∷ codes ",\"status\":" ∷ quoted status ∷ codes "}" ∷ [])
+group_by_parts : (bad error gone id ok size success : ℕ) (status : List ℕ) → compact_text (object (member (codes "bad") (whole bad) (member (codes "error") (whole error) (member (codes "gone") (whole gone) (member (codes "id") (whole id) (member (codes "ok") (whole ok) (member (codes "size") (whole size) (member (codes "status") (string status) (member (codes "success") (whole success) no_members)))))))))
+    ≡ concat (codes "{\"bad\":" ∷ decimal bad ∷ codes ",\"error\":" ∷ decimal error ∷ codes ",\"gone\":" ∷ decimal gone ∷ codes ",\"id\":" ∷ decimal id ∷ codes ",\"ok\":" ∷ decimal ok ∷ codes ",\"size\":" ∷ decimal size ∷ codes ",\"status\":" ∷ quoted status ∷ codes ",\"success\":" ∷ decimal success ∷ codes "}" ∷ [])
 unfolding serde_json_on_literals
-group_by_parts bad gone id ok size status = simp append_assoc
+group_by_parts bad error gone id ok size success status = simp append_assoc
 
 pub group_spelled : (g : Group) → compact_text (group_data g) ≡ group_letters g
-group_spelled g = group_by_parts g.bad g.gone g.number g.ok g.size (group_text g.word)
+group_spelled g = group_by_parts g.bad g.error g.gone g.number g.ok g.size g.success (group_text g.word)
 
 action_by_parts : (group id rollout : ℕ) (status target : List ℕ) → compact_text (object (member (codes "group") (whole group) (member (codes "id") (whole id) (member (codes "rollout") (whole rollout) (member (codes "status") (string status) (member (codes "target") (string target) no_members))))))
     ≡ concat (codes "{\"group\":" ∷ decimal group ∷ codes ",\"id\":" ∷ decimal id ∷ codes ",\"rollout\":" ∷ decimal rollout ∷ codes ",\"status\":" ∷ quoted status ∷ codes ",\"target\":" ∷ quoted target ∷ codes "}" ∷ [])

@@ -10,6 +10,8 @@ pub mod SetObjects
 pub mod ArtifactObjects
 pub mod TargetBodies
 pub mod TargetObjects
+pub mod Thresholds
+pub mod GroupBodies
 pub mod RolloutBodies
 pub mod RolloutObjects
 pub mod ActionObjects

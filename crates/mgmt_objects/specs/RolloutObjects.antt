@@ -15,11 +15,11 @@ rollout_data r = object (member (codes "distributionSetId") (whole r.set_number)
     (member (codes "status") (string (rollout_text r.word)) (member (codes "targetFilterQuery") (string r.filter_text)
     (member (codes "totalGroups") (whole r.groups) (member (codes "totalTargets") (whole r.targets) no_members)))))))
 
--- a group, its members in byte order; its number is that in its rollout
+-- a group, its members in byte order; its number is that in its rollout, and its thresholds are percentages
 abbrev pub group_data : Group → Data
-group_data g = object (member (codes "bad") (whole g.bad) (member (codes "gone") (whole g.gone)
-    (member (codes "id") (whole g.number) (member (codes "ok") (whole g.ok)
-    (member (codes "size") (whole g.size) (member (codes "status") (string (group_text g.word)) no_members))))))
+group_data g = object (member (codes "bad") (whole g.bad) (member (codes "error") (whole g.error) (member (codes "gone") (whole g.gone)
+    (member (codes "id") (whole g.number) (member (codes "ok") (whole g.ok) (member (codes "size") (whole g.size)
+    (member (codes "status") (string (group_text g.word)) (member (codes "success") (whole g.success) no_members))))))))
 
 -- the text of a rollout, letter by letter
 abbrev pub rollout_letters : Rollout → List ℕ
@@ -31,5 +31,6 @@ rollout_letters r =
 -- the text of a group, letter by letter
 abbrev pub group_letters : Group → List ℕ
 group_letters g =
-    concat (codes "{\"bad\":" ∷ decimal g.bad ∷ codes ",\"gone\":" ∷ decimal g.gone ∷ codes ",\"id\":" ∷ decimal g.number ∷ codes ",\"ok\":"
-    ∷ decimal g.ok ∷ codes ",\"size\":" ∷ decimal g.size ∷ codes ",\"status\":" ∷ quoted (group_text g.word) ∷ codes "}" ∷ [])
+    concat (codes "{\"bad\":" ∷ decimal g.bad ∷ codes ",\"error\":" ∷ decimal g.error ∷ codes ",\"gone\":" ∷ decimal g.gone ∷ codes ",\"id\":"
+    ∷ decimal g.number ∷ codes ",\"ok\":" ∷ decimal g.ok ∷ codes ",\"size\":" ∷ decimal g.size ∷ codes ",\"status\":"
+    ∷ quoted (group_text g.word) ∷ codes ",\"success\":" ∷ decimal g.success ∷ codes "}" ∷ [])

@@ -2,6 +2,7 @@
 
 ghost use Rattle.std.specs.Prelude.{◌≡◌, Some, None, codes, ◌++◌, false, [], ◌∷◌, replicate};
 ghost use Rattle.serde_json.specs.Written.{compact_text};
+ghost use Rattle.rollout_model.specs.Groupings.{defined, evenly};
 ghost use Rattle.rollout_model.specs.declared.action_word.ActionWord.TheVariants as action;
 ghost use Rattle.rollout_model.specs.declared.feedback.CancelWord.TheVariants as cancel;
 ghost use Rattle.rollout_model.specs.declared.feedback.Said.TheVariants as said;
@@ -12,16 +13,18 @@ ghost use Rattle.rollout_model.specs.declared.rollout.Group.{Group};
 ghost use Rattle.rollout_model.specs.declared.rollout.Rollout.{Rollout};
 ghost use Rattle.rollout_model.specs.declared.rollout_word.RolloutWord.TheVariants as rollout;
 ghost use Rattle.mgmt_objects.specs.ArtifactObjects.{artifact_data};
+ghost use Rattle.mgmt_objects.specs.GroupBodies.{new_definition};
 ghost use Rattle.mgmt_objects.specs.ModuleBodies.{module_body, new_label};
 ghost use Rattle.mgmt_objects.specs.ModuleObjects.{module_data, module_letters};
 ghost use Rattle.mgmt_objects.specs.Pages.{single};
 ghost use Rattle.mgmt_objects.specs.ActionObjects.{action_data, action_letters, entry_data};
-ghost use Rattle.mgmt_objects.specs.RolloutBodies.{new_plan, percentage_in, rollout_body};
+ghost use Rattle.mgmt_objects.specs.RolloutBodies.{new_plan, rollout_body};
 ghost use Rattle.mgmt_objects.specs.RolloutObjects.{group_data, group_letters, rollout_data, rollout_letters};
 ghost use Rattle.mgmt_objects.specs.SetBodies.{new_set_label, set_body};
 ghost use Rattle.mgmt_objects.specs.SetObjects.{set_data};
 ghost use Rattle.artifact_pieces.specs.Digests.{digest_of};
 ghost use Rattle.rollout_model.specs.declared.target_word.TargetWord.TheVariants.{InSync};
+ghost use Rattle.mgmt_objects.specs.Thresholds.{percentage_in};
 ghost use Rattle.mgmt_objects.specs.TargetBodies.{new_row, targets_body};
 ghost use Rattle.mgmt_objects.specs.TargetObjects.{accepted_data, target_data};
 
@@ -100,7 +103,18 @@ pub fn worked_rollout_body()
     ensures { rollout_body (codes "{\"amountGroups\":3,\"distributionSetId\":1,\"errorCondition\":{\"condition\":\"THRESHOLD\","
         ++ codes "\"expression\":\"100\"},\"name\":\"spring\",\"successAction\":{\"action\":\"NEXTGROUP\"},"
         ++ codes "\"successCondition\":{\"condition\":\"THRESHOLD\",\"expression\":\"50\"},\"targetFilterQuery\":\"name==*\"}")
-        ≡ Some (new_plan (codes "spring") 1 (codes "name==*") 3 50 100) }
+        ≡ Some (new_plan (codes "spring") 1 (codes "name==*") (evenly 3) 50 100) }
+{}
+
+/// A worked body of named groups: the second has thresholds of its own, the others have the rollout's.
+pub fn worked_groups_body()
+    ensures { rollout_body (codes "{\"distributionSetId\":1,\"errorCondition\":{\"condition\":\"THRESHOLD\",\"expression\":\"100\"},"
+        ++ codes "\"groups\":[{\"targetPercentage\":10},{\"errorCondition\":{\"condition\":\"THRESHOLD\",\"expression\":\"34\"},"
+        ++ codes "\"successCondition\":{\"condition\":\"THRESHOLD\",\"expression\":\"40\"},\"targetPercentage\":50},"
+        ++ codes "{\"targetPercentage\":100}],\"name\":\"spring\","
+        ++ codes "\"successCondition\":{\"condition\":\"THRESHOLD\",\"expression\":\"100\"},\"targetFilterQuery\":\"name==*\"}")
+        ≡ Some (new_plan (codes "spring") 1 (codes "name==*") (defined (new_definition 10 100 100 ∷ new_definition 50 40 34
+        ∷ new_definition 100 100 100 ∷ [])) 100 100) }
 {}
 
 /// A body whose action for an error is `null` plans nothing.
@@ -142,8 +156,17 @@ pub fn worked_rollout_text()
 
 /// The text of a worked group.
 pub fn worked_group_text()
-    ensures { compact_text (group_data (record { number = 1; size = 3; ok = 2; bad = 0; gone = 0; word = group.Running }))
-        ≡ codes "{\"bad\":0,\"gone\":0,\"id\":1,\"ok\":2,\"size\":3,\"status\":\"running\"}" }
+    ensures { compact_text (group_data (record {
+      number = 2;
+      size = 5;
+      ok = 2;
+      bad = 0;
+      gone = 0;
+      success = 40;
+      error = 34;
+      word = group.Running;
+    }))
+        ≡ codes "{\"bad\":0,\"error\":34,\"gone\":0,\"id\":2,\"ok\":2,\"size\":5,\"status\":\"running\",\"success\":40}" }
 {}
 
 /// The text of a worked action.

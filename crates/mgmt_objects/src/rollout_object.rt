@@ -36,11 +36,13 @@ impl Shown for Group {
     fn value(&self, alloc: Global) -> Result<Value, AllocError> {
         json!(in alloc; {
             "bad": self.bad,
+            "error": self.error,
             "gone": self.gone,
             "id": self.number,
             "ok": self.ok,
             "size": self.size,
             "status": self.word.as_str(),
+            "success": self.success,
         })
     }
 }

@@ -1,5 +1,8 @@
 //! What a rollout says of one of its groups.
 
+ghost use Rattle.std.specs.Prelude.{◌≡◌, Some, None};
+
+use crate::group_definition::GroupDefinition;
 use crate::percentage::Percentage;
 
 /// How a group is cut, and its thresholds.
@@ -11,4 +14,28 @@ pub struct GroupRule {
     pub success: Percentage,
     /// The rollout pauses where so many of this group failed.
     pub error: Percentage,
+}
+
+impl GroupRule {
+    /// The rule of a group that is defined.
+    pub fn defined(definition: GroupDefinition) -> GroupRule
+        ensures { result ≡ record { percentage = Some definition.percentage; success = definition.success; error = definition.error } }
+    {
+        GroupRule {
+            percentage: Some(definition.percentage),
+            success: definition.success,
+            error: definition.error,
+        }
+    }
+
+    /// The rule of an even group, with the thresholds of its rollout.
+    pub fn evenly(success: Percentage, error: Percentage) -> GroupRule
+        ensures { result ≡ record { percentage = None; success = success; error = error } }
+    {
+        GroupRule {
+            percentage: None,
+            success,
+            error,
+        }
+    }
 }

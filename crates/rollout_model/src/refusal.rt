@@ -30,7 +30,7 @@ pub enum Refusal {
     Quota,
     /// The text is no target filter.
     BadFilter,
-    /// A rollout has fewer targets than groups.
+    /// A group of the rollout would have no target.
     TooFewTargets,
     /// The contents have another digest than was named.
     WrongDigest,

@@ -49,16 +49,8 @@ impl RolloutPlan {
         ensures { result ≡ rule_at self.now number }
     {
         match self.groups.definition(number) {
-            Some(definition) => GroupRule {
-                percentage: Some(definition.percentage),
-                success: definition.success,
-                error: definition.error,
-            },
-            None => GroupRule {
-                percentage: None,
-                success: self.success,
-                error: self.error,
-            },
+            Some(definition) => GroupRule::defined(definition),
+            None => GroupRule::evenly(self.success, self.error),
         }
     }
 }

@@ -1,24 +1,23 @@
 use Rattle.sql_calls.proofs.Composing.{both_found}
 use Rattle.desk_store.proofs.LedgersOfRecords.{ledger_made}
 use Rattle.desk_commands.proofs.ComposeLemmas.{accepted_at, refused}
-use Rattle.std.proofs.Common.{sym, ap, ◌∙◌, length}
-use Rattle.campaign_core.specs.RolloutChecks.{plan_refusal}
+use Rattle.std.proofs.Common.{ap, ◌∙◌, length}
 use Rattle.desk_commands.proofs.CreationLemmas.{creates, judged, ready, shown_added}
 use Rattle.desk_commands.proofs.creation.create_rollout.Goals as goal
 
 pub returns-in-Err-clause-steps : goal.returns-in-Err-clause-steps
 returns-in-Err-clause-steps g c =
     refused (both_found c.in_ok-chosen.ensures.reads c.in_ok-view.ensures.reads)
-    (λ r is. judged r c.args.plan.now c.in_ok-view.view (is.1 is.0) ∙ ap (plan_refusal c.in_ok-view.view) (sym c.get.ensures.value) ∙ c.in-Err.ensures)
+    (λ r is. judged r c.args.plan.now c.in_ok-view.view (is.1 is.0) ∙ c.in-Err.ensures)
 
 pub returns-clause-steps : goal.returns-clause-steps
 returns-clause-steps g c =
-    let passes = ap (plan_refusal c.in_ok-view.view) (sym c.get.ensures.value) ∙ c.in-Ok.ensures.0 in
+    let passes = c.in-Ok.ensures.0 in
     let members = c.in_ok-chosen.chosen.members.items in
     let plan = c.args.plan.now in
     accepted_at (both_found c.in_ok-chosen.ensures.reads c.in_ok-view.ensures.reads) _
     (λ h valid is. creates plan c.in-Ok.created members h valid (ready plan c.in-Ok.created c.in_ok-chosen.chosen c.in_ok-view.view _ is.0 is.1 passes c.in-Ok.ensures.1))
-    (ledger_made _ (rw c.deref-2.ensures.value at c.in_ok-write_whole.ensures.writes)) _
+    (ledger_made _ (rw c.deref-3.ensures.value at c.in_ok-write_whole.ensures.writes)) _
     (λ h valid is.
     let it = ready plan c.in-Ok.created c.in_ok-chosen.chosen c.in_ok-view.view _ is.0 is.1 passes c.in-Ok.ensures.1 in
     (it.accepted, shown_added plan c.in-Ok.created members _ it c.in-Some.count (c.in-Some.ensures ∙ ap length c.deref.ensures.value) c.in-Ok-show_new.shown c.in-Ok-show_new.ensures))

@@ -1,3 +1,4 @@
+use Rattle.sql_calls.proofs.Composing.{both_found}
 use Rattle.desk_store.proofs.LedgersOfRecords.{ledger_made}
 use Rattle.desk_commands.proofs.ComposeLemmas.{accepted_at, refused_at}
 use Rattle.std.proofs.Common.{Ok, ◌∙◌}
@@ -5,7 +6,7 @@ use Rattle.desk_records.specs.Holds.{ledger_of}
 use Rattle.rollout_machine.specs.Records.{records}
 use Rattle.desk_commands.specs.Standings.{GoesOn}
 use Rattle.desk_commands.proofs.ProgressLemmas.{cant_go, gone_on, gone_reply}
-use Rattle.desk_commands.proofs.StandingLemmas.{none_there, seen_there}
+use Rattle.desk_commands.proofs.StandingLemmas.{none_there, of_list, seen_there}
 use Rattle.desk_commands.proofs.progress.go_on.Goals as goal
 
 pub returns-in_default-clause-steps : goal.returns-in_default-clause-steps
@@ -14,16 +15,23 @@ returns-in_default-clause-steps g c =
 
 pub returns-in-Some-refusal_of-clause-steps : goal.returns-in-Some-refusal_of-clause-steps
 returns-in-Some-refusal_of-clause-steps g c =
-    refused_at (rw c.in-Some.is at c.in_ok-found.ensures.reads)
-    (λ h valid sees. let it = seen_there h valid c.args.number c.in-Some.seen sees in c.refusal_of.ensures c.in_ok-rollout.ensures h c.args.number it.rollout it.at ∙ c.in-Some-refusal_of.is)
+    refused_at (both_found (rw c.in-Some.is at c.in_ok-found.ensures.reads) c.in_ok-rollout.ensures.reads)
+    (λ h valid sees.
+    let it = seen_there h valid c.args.number c.in-Some.seen sees.0 in
+    c.refusal_of.ensures h c.args.number it.rollout it.at (sees.1 (of_list h valid) it.rollout it.at.is_there it.at.is_seen) ∙ c.in-Some-refusal_of.is)
 
 pub returns-clause-steps : goal.returns-clause-steps
 returns-clause-steps g c =
     let going = c.args.going in
     let number = c.args.number in
     let seen = c.in-Some.seen in
-    accepted_at (rw c.in-Some.is at c.in_ok-found.ensures.reads)
+    accepted_at (both_found (rw c.in-Some.is at c.in_ok-found.ensures.reads) c.in_ok-rollout.ensures.reads)
     (λ r next. GoesOn number seen c.pause_of-paused.result c.start_of-starts.result (ledger_of r) (ledger_of next))
-    (λ h valid sees. let it = seen_there h valid number seen sees in gone_on going h number seen it c.number_is_well_formed.ensures c.in_ok-rollout.rollout (c.in_ok-rollout.ensures h number it.rollout it.at) _ c.pause_of-paused.ensures _ c.start_of-starts.ensures (c.refusal_of.ensures c.in_ok-rollout.ensures h number it.rollout it.at ∙ c.in_default-refusal_of.is))
+    (λ h valid sees.
+    let it = seen_there h valid number seen sees.0 in
+    let view = sees.1 (of_list h valid) it.rollout it.at.is_there it.at.is_seen in
+    gone_on going h number seen it c.number_is_well_formed.ensures c.in_ok-rollout.rollout view _ c.pause_of-paused.ensures _ c.start_of-starts.ensures (c.refusal_of.ensures h number it.rollout it.at view ∙ c.in_default-refusal_of.is))
     (ledger_made (Ok tt) c.in_ok-write_going.ensures.writes)
-    _ (λ h valid sees. let it = seen_there h valid number seen sees in (c.refusal_of.ensures c.in_ok-rollout.ensures h number it.rollout it.at ∙ c.in_default-refusal_of.is, gone_reply going _ number))
+    _ (λ h valid sees.
+    let it = seen_there h valid number seen sees.0 in
+    (c.refusal_of.ensures h number it.rollout it.at (sees.1 (of_list h valid) it.rollout it.at.is_there it.at.is_seen) ∙ c.in_default-refusal_of.is, gone_reply going _ number))

@@ -3,7 +3,8 @@ use Rattle.sqlite_value.specs.declared.value.Value.TheVariants.{Int}
 use Rattle.sqlite.specs.Held.{state}
 use Rattle.sql_calls.specs.Calls.{RunsText}
 use Rattle.desk_records.specs.declared.texts.TheConstants.{PUT_DESK}
-use Rattle.desk_opening.proofs.MakeLemmas.{not_begun, no_tables, no_row, no_commit, all_made}
+use Rattle.desk_opening.proofs.MakeLemmas.{not_begun, no_tables, no_row, no_commit, whole_made}
+use Rattle.desk_opening.proofs.Places.{names_apart}
 use Rattle.desk_opening.proofs.making.fill.Goals as goal
 
 pub returns-in_err-run : goal.returns-in_err-run
@@ -25,4 +26,7 @@ returns-in_err-run-3 g c =
 pub returns : goal.returns
 returns g c =
     let ran : RunsText (state g.S.Store c.make_tables.new.conn) (state g.S.Store c.run-2.new.conn) PUT_DESK.now (Int (if c.args.approval then pos 1 else pos 0) ∷ []) (Ok tt) = rw c.params-to_sql.ensures at c.in_ok-run-2.ensures in
-    all_made _ (Ok tt) _ _ c.in_ok-run.ensures _ c.in_ok-make_tables.ensures _ ran _ c.in_ok-run-3.ensures (g.met.S.Store.settled c.run-3.new.conn.store)
+    whole_made _ (Ok tt) _ _ c.in_ok-run.ensures _ c.in_ok-make_tables.ensures _ ran _ c.in_ok-run-3.ensures (g.met.S.Store.settled c.run-3.new.conn.store)
+
+pub make_tables-requires : goal.make_tables-requires
+make_tables-requires g c = names_apart

@@ -1,0 +1,15 @@
+use Rattle.sql_calls.proofs.Composing.{finds_as}
+use Rattle.std.proofs.Common.{sym, ap, ◌∙◌}
+use Rattle.rollout_machine.specs.ByteStrings.{item_numbered}
+use Rattle.rollout_machine.specs.RecordSteps.{last_started}
+use Rattle.rollout_machine.specs.Records.{Records}
+use Rattle.desk_commands.proofs.ProgressLemmas.{seen_view}
+use Rattle.desk_commands.proofs.progress.read_view.Goals as goal
+
+pub returns-clause-reads : goal.returns-clause-reads
+returns-clause-reads g c =
+    finds_as c.in_ok-rule.ensures.reads
+    (λ r is of x there seen.
+    seen_view of.list c.args.number c.args.seen.now x (record { valid = of.valid; is_there = ap (λ (rs : Records). item_numbered rs.rollouts c.args.number) (sym of.are) ∙ there; is_seen = seen })
+    c.last_started-started.result c.get.result c.in_ok-rule.rule c.group_at.result c.in_ok-last.last (c.last_started-started.ensures ∙ ap last_started c.deref.ensures.value) (is x there seen)
+    (c.group_at.ensures ∙ ap (λ gs. item_numbered gs c.last_started-started.result) c.deref-2.ensures.value) c.in_ok-last.ensures c.get.ensures.value)

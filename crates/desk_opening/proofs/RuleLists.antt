@@ -1,0 +1,49 @@
+-- What is said of groups, in lists alone.
+use Rattle.std.proofs.Common.{◌≡◌, ℕ, zero, suc, List, [], ◌∷◌, length, map, set, slice_get, Some, refl, ap, ap₂, sym}
+use Rattle.std.specs.List.{AllByRecursion}
+use Rattle.rollout_machine.specs.GroupRules.{even_rules, rules_of}
+use Rattle.rollout_machine.specs.declared.records.RolloutRecord.{RolloutRecord}
+use Rattle.desk_records.specs.Versions.{IsEven}
+use Rattle.desk_opening.specs.Filling.{no_rules, rules_up_to}
+
+-- ---- one in place of another
+
+pub got_set : {X : Type 0} (xs : List X) (k : ℕ) (x y : X) → slice_get xs k ≡ Some x → slice_get (set xs k y) k ≡ Some y
+got_set [] k x y there = absurd cc
+got_set (z ∷ xs) zero x y there = refl
+got_set (z ∷ xs) (suc k) x y there = got_set xs k x y there
+
+pub set_twice : {X : Type 0} (xs : List X) (k : ℕ) (y z : X) → set (set xs k y) k z ≡ set xs k z
+set_twice [] k y z = refl
+set_twice (x ∷ xs) zero y z = refl
+set_twice (x ∷ xs) (suc k) y z = ap (λ l. x ∷ l) (set_twice xs k y z)
+
+pub set_same : {X : Type 0} (xs : List X) (k : ℕ) (x : X) → slice_get xs k ≡ Some x → set xs k x ≡ xs
+set_same [] k x there = absurd cc
+set_same (z ∷ xs) zero x there = let is : x ≡ z = cc in ap (λ y. y ∷ xs) is
+set_same (z ∷ xs) (suc k) x there = ap (λ l. z ∷ l) (set_same xs k x there)
+
+-- ---- of the first so many rollouts
+
+pub none_said : (xs : List RolloutRecord) → rules_up_to zero xs ≡ no_rules xs
+none_said [] = refl
+none_said (x ∷ xs) = ap (λ l. [] ∷ l) (none_said xs)
+
+pub none_yet : (k : ℕ) (xs : List RolloutRecord) (x : RolloutRecord) → slice_get xs k ≡ Some x → slice_get (rules_up_to k xs) k ≡ Some []
+none_yet k [] x there = absurd cc
+none_yet zero (y ∷ xs) x there = refl
+none_yet (suc k) (y ∷ xs) x there = none_yet k xs x there
+
+pub one_more : (k : ℕ) (xs : List RolloutRecord) (x : RolloutRecord) → slice_get xs k ≡ Some x → set (rules_up_to k xs) k (even_rules x.plan) ≡ rules_up_to (suc k) xs
+one_more k [] x there = absurd cc
+one_more zero (y ∷ xs) x there = let is : x ≡ y = cc in ap (λ (z : RolloutRecord). even_rules z.plan ∷ rules_up_to zero xs) is
+one_more (suc k) (y ∷ xs) x there = ap (λ l. even_rules y.plan ∷ l) (one_more k xs x there)
+
+pub all_said : (xs : List RolloutRecord) → rules_up_to (length xs) xs ≡ map (λ (x : RolloutRecord). even_rules x.plan) xs
+all_said [] = refl
+all_said (x ∷ xs) = ap (λ l. even_rules x.plan ∷ l) (all_said xs)
+
+-- where no plan says anything of single groups
+pub all_even : (xs : List RolloutRecord) → AllByRecursion IsEven xs → map (λ (x : RolloutRecord). even_rules x.plan) xs ≡ map (λ (x : RolloutRecord). rules_of x.plan) xs
+all_even [] even = refl
+all_even (x ∷ xs) even = ap₂ ◌∷◌ (sym even.0) (all_even xs even.1)

@@ -1,0 +1,12 @@
+use Rattle.std.proofs.Common.{None, Ok}
+use Rattle.sqlite.specs.Held.{state}
+use Rattle.sql_calls.specs.declared.fault.Fault.{Fault}
+use Rattle.desk_opening.specs.Filling.{MakesLedger, Stays, WritesCopies}
+use Rattle.desk_opening.proofs.filling.write_copies.Given as goal
+
+-- the first i groups
+abbrev pub invariant-loop-i : goal.invariant-loop-i
+invariant-loop-i g l = record {
+  stays : Stays {E = Fault} (state g.S.Store l.initial.conn) (state g.S.Store l.conn) (Ok (tt {0}));
+  writes : MakesLedger {A = Unit {0}} {E = Fault} (state g.S.Store l.initial.conn) (state g.S.Store l.conn) (Ok tt) (WritesCopies l.number l.i (record { percentage = None; success = l.success; error = l.error }));
+}

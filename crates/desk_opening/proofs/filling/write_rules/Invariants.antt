@@ -1,0 +1,12 @@
+use Rattle.std.proofs.Common.{Ok}
+use Rattle.sqlite.specs.Held.{state}
+use Rattle.sql_calls.specs.declared.fault.Fault.{Fault}
+use Rattle.desk_opening.specs.Filling.{MakesLedger, Stays, WritesUpTo}
+use Rattle.desk_opening.proofs.filling.write_rules.Given as goal
+
+-- of the first k rollouts
+abbrev pub invariant-loop-k : goal.invariant-loop-k
+invariant-loop-k g l = record {
+  stays : Stays {E = Fault} (state g.S.Store l.initial.conn) (state g.S.Store l.conn) (Ok (tt {0}));
+  writes : MakesLedger {A = Unit {0}} {E = Fault} (state g.S.Store l.initial.conn) (state g.S.Store l.conn) (Ok tt) (WritesUpTo l.k);
+}

@@ -1,0 +1,12 @@
+use Rattle.std.proofs.Common.{None}
+use Rattle.sqlite.specs.Held.{state}
+use Rattle.desk_opening.specs.Filling.{MakesLedger, WritesCopies}
+use Rattle.desk_opening.proofs.FillLemmas.{rollout_filled}
+use Rattle.desk_opening.proofs.filling.write_rules_of.Goals as goal
+
+pub returns-clause-writes : goal.returns-clause-writes
+returns-clause-writes g c =
+    let plan = c.in_ok-rollout.rollout.plan in
+    let it : MakesLedger (state g.S.Store c.read_rollout.new.conn) (state g.S.Store c.write_copies.new.conn) c.write_copies.result (WritesCopies c.args.number c.in_ok-rollout.rollout.plan.groups (record { percentage = None; success = c.in_ok-rollout.rollout.plan.success; error = c.in_ok-rollout.rollout.plan.error })) =
+    rw (c.get-groups.ensures.value, c.from-success.ensures, c.get.ensures.value, c.from-error.ensures, c.get-2.ensures.value) at c.write_copies.ensures.writes in
+    rollout_filled c.args.number c.in_ok-rollout.rollout _ _ _ c.in_ok-rollout.ensures.reads c.write_copies.result it

@@ -1,0 +1,99 @@
+-- A change that fills the tables of the newest version.
+use Rattle.std.specs.Prelude.{◌≡◌, ◌≤◌, ℕ, zero, suc, List, [], ◌∷◌, length, map, Some, Result, Ok, Err}
+use Rattle.sqlite.specs.Tree.{Trees}
+use Rattle.sqlite.specs.State.{State, HasCleanDisk}
+use Rattle.sql_calls.specs.Standing.{Finds, HoldIn, Makes, Wears}
+use Rattle.rollout_model.specs.declared.group_rule.GroupRule.{GroupRule}
+use Rattle.rollout_machine.specs.ByteStrings.{item_numbered}
+use Rattle.rollout_machine.specs.GroupRules.{even_rules}
+use Rattle.rollout_machine.specs.Ranges.{each_from}
+use Rattle.rollout_machine.specs.Records.{Records}
+use Rattle.rollout_machine.specs.declared.records.RolloutRecord.{RolloutRecord}
+use Rattle.desk_records.specs.Holds.{HoldsLedger, Ledger, ledger_of}
+use Rattle.desk_records.specs.LedgerSteps.{set_numbered, with_rules}
+use Rattle.desk_records.specs.Versions.{IsTellable}
+use Rattle.desk_records.specs.declared.rollout_row.StoredRollout.{StoredRollout}
+use Rattle.desk_records.specs.declared.version.Version.{Version}
+use Rattle.desk_records.specs.declared.version.Version.TheVariants.{One, Two}
+use Rattle.desk_opening.specs.Making.{Changes, HoldsStage, Stage, Standing}
+
+-- every crash leaves what the change began with
+pub record Leaves (s : State) (kept : Stage) : Type 0 where
+  pub crash : HasCleanDisk s → (db : Trees) → s.may_leave db → HoldIn HoldsStage db kept
+
+abbrev pub StaysTo : {A E : Type 0} → State → State → Result A E → Type 0
+StaysTo old new (Ok a) = (kept : Stage) → Changes old Standing kept → Changes new Standing kept
+StaysTo old new (Err e) = (kept : Stage) → Changes old Standing kept → Leaves new kept
+
+-- Whatever a call answers, the tables stay where they are: Ok leaves the change open, and after an error a crash leaves what it would have
+-- left before.
+pub record Stays {A E : Type 0} (old new : State) (result : Result A E) : Type 0 where
+  pub wears : Wears old new
+  pub stays : StaysTo old new result
+
+-- the ledger answers, and stays as it is
+abbrev pub FindsLedger : {A E : Type 0} → State → State → Result A E → (Ledger → A → Type 0) → Type 0
+FindsLedger old new result Answer = Finds HoldsLedger (λ (l : Ledger). l) old new result Answer
+
+-- the next ledger is made
+abbrev pub MakesLedger : {A E : Type 0} → State → State → Result A E → (Ledger → Ledger → Type 0) → Type 0
+MakesLedger old new result Change = Makes HoldsLedger (λ (l : Ledger). l) old new result Change
+
+-- ---- what is read, and what is made
+
+-- how many groups the rollout of a number has, and the thresholds of all
+pub record IsOfNumber (number : ℕ) (l : Ledger) (found : StoredRollout) : Type 0 where
+  pub rollout : RolloutRecord
+  pub is_there : item_numbered l.records.rollouts number ≡ Some rollout
+  pub groups : found.plan.groups ≡ rollout.plan.groups.count
+  pub success : found.plan.success ≡ rollout.plan.success
+  pub error : found.plan.error ≡ rollout.plan.error
+
+-- the same of the first so many groups of a rollout of whose groups nothing is said
+pub record WritesCopies (number groups : ℕ) (rule : GroupRule) (l next : Ledger) : Type 0 where
+  pub none : item_numbered l.rules number ≡ Some []
+  pub next_is : next ≡ with_rules l (set_numbered l.rules number (each_from (λ i. rule) 1 groups))
+
+-- of each group of a rollout what the rollout says of all
+pub record FillsRollout (number : ℕ) (l next : Ledger) : Type 0 where
+  pub rollout : RolloutRecord
+  pub is_there : item_numbered l.records.rollouts number ≡ Some rollout
+  pub none : item_numbered l.rules number ≡ Some []
+  pub next_is : next ≡ with_rules l (set_numbered l.rules number (even_rules rollout.plan))
+
+-- nothing is said of any group
+abbrev pub no_rules : List RolloutRecord → List (List GroupRule)
+no_rules xs = map (λ (x : RolloutRecord). []) xs
+
+-- of the groups of the first so many rollouts what each rollout says of all, and nothing of the others
+abbrev pub rules_up_to : ℕ → List RolloutRecord → List (List GroupRule)
+rules_up_to k [] = []
+rules_up_to zero (x ∷ xs) = [] ∷ rules_up_to zero xs
+rules_up_to (suc k) (x ∷ xs) = even_rules x.plan ∷ rules_up_to k xs
+
+pub record WritesUpTo (k : ℕ) (l next : Ledger) : Type 0 where
+  pub none : l.rules ≡ no_rules l.records.rollouts
+  pub within : k ≤ length l.records.rollouts
+  pub next_is : next ≡ with_rules l (rules_up_to k l.records.rollouts)
+
+pub record WritesRules (l next : Ledger) : Type 0 where
+  pub none : l.rules ≡ no_rules l.records.rollouts
+  pub next_is : next ≡ with_rules l (map (λ (x : RolloutRecord). even_rules x.plan) l.records.rollouts)
+
+-- ---- from version to version
+
+-- what a version says of groups
+abbrev pub bare_rules : Version → Records → List (List GroupRule)
+bare_rules One r = no_rules r.rollouts
+bare_rules Two r = (ledger_of r).rules
+
+-- what all tables hold where those that the version doesn't have were made with no row
+abbrev pub bare_ledger : Version → Records → Ledger
+bare_ledger v r = with_rules (ledger_of r) (bare_rules v r)
+
+-- they hold what follows from the records
+pub record FillsLater (v : Version) (l next : Ledger) : Type 0 where
+  pub records : Records
+  pub tellable : IsTellable v records
+  pub bare : l ≡ bare_ledger v records
+  pub next_is : next ≡ ledger_of records

@@ -1,0 +1,35 @@
+-- The conditions of a rollout's body, each with a threshold.
+use Rattle.std.specs.Prelude.{ℕ, ◌+◌, ◌-◌, ◌*◌, List, [], ◌∷◌, Bool, false, ◌&&◌, ◌==◌, nat_le, bytes_eq, codes, Option, Some, None, option_and_then}
+use Rattle.std.specs.Prelude.{if◌then◌else◌}
+use Rattle.serde_json.specs.Data.{Data}
+use Rattle.rollout_model.specs.Rules.{percentage_of}
+use Rattle.mgmt_objects.specs.Bodies.{string_member}
+
+abbrev pub is_digit : ℕ → Bool
+is_digit c = nat_le 48 c && nat_le c 57
+
+-- the number that the digits write after n, where it is at most 100
+abbrev pub percent_after : ℕ → List ℕ → Option ℕ
+percent_after n [] = Some n
+percent_after n (c ∷ cs) = if is_digit c && nat_le (10 * n + (c - 48)) 100 then percent_after (10 * n + (c - 48)) cs else None
+
+-- digits without a leading zero
+abbrev pub percent_written : List ℕ → Option ℕ
+percent_written [] = None
+percent_written (c ∷ cs) = if c == 48 then None else percent_after 0 (c ∷ cs)
+
+-- a percentage from 1 to 100
+abbrev pub percentage_in : List ℕ → Option ℕ
+percentage_in text = option_and_then percentage_of (percent_written text)
+
+abbrev pub is_given : List ℕ → Option (List ℕ) → Bool
+is_given word None = false
+is_given word (Some text) = bytes_eq text word
+
+-- a member is this word
+abbrev pub says : List ℕ → List ℕ → Data → Bool
+says key word d = is_given word (string_member key d)
+
+-- an object with `condition`, which is `THRESHOLD`, and `expression`, a percentage
+abbrev pub threshold_of : Data → Option ℕ
+threshold_of d = if says (codes "condition") (codes "THRESHOLD") d then option_and_then percentage_in (string_member (codes "expression") d) else None

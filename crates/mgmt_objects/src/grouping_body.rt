@@ -1,0 +1,93 @@
+//! How a rollout's body cuts it into groups.
+
+ghost use Rattle.std.specs.Prelude.{◌≡◌, IfOk, map};
+ghost use Rattle.serde_json.specs.View.{view};
+ghost use Rattle.mgmt_objects.specs.GroupBodies.{defined_groups, definition_by, definitions_in, even_count, even_groups, grouping_member};
+ghost use Rattle.mgmt_objects.specs.Readings.{ReadsAs, ReadsBy};
+
+use crate::group_item::GroupItem;
+use crate::list::read_array;
+use rollout_model::{GroupCount, GroupDefinition, GroupDefinitions, Grouping, Percentage, Refusal};
+use serde_json::Value;
+use std::alloc::{AllocError, Global};
+
+/// The definitions of a rollout of these thresholds, one an item.
+fn definitions_by(
+    alloc: Global,
+    items: &[GroupItem],
+    success: Percentage,
+    error: Percentage,
+) -> Result<Vec<GroupDefinition>, AllocError>
+    ensures { IfOk result (λ v. v.items ≡ map (definition_by success error) items.now) }
+{
+    items
+        .iter()
+        .map(|item| item.definition(success, error))
+        .collect(alloc)
+}
+
+fn read_definitions(
+    alloc: Global,
+    groups: &Value,
+    success: Percentage,
+    error: Percentage,
+) -> Result<Vec<GroupDefinition>, Refusal>
+    ensures { ReadsBy (λ v. v.items) (definitions_in success error (view groups.now)) result }
+{
+    let items = read_array::<GroupItem>(alloc, groups)?;
+    let definitions = definitions_by(alloc, &items, success, error)?;
+    Ok(definitions)
+}
+
+/// A group for each item of an array.
+fn read_defined(
+    alloc: Global,
+    groups: &Value,
+    success: Percentage,
+    error: Percentage,
+) -> Result<Grouping, Refusal>
+    ensures { ReadsAs (defined_groups success error (view groups.now)) result }
+{
+    let definitions = read_definitions(alloc, groups, success, error)?;
+    match GroupDefinitions::from_vec(definitions) {
+        Some(definitions) => Ok(Grouping::defined(definitions)),
+        None => Err(Refusal::BadRequest),
+    }
+}
+
+fn even_count(amount: &Value) -> Option<GroupCount>
+    ensures { result ≡ even_count (view amount.now) }
+{
+    let count = amount.as_u64()?;
+    match u32::try_from(count) {
+        Ok(count) => GroupCount::new(count),
+        Err(_) => None,
+    }
+}
+
+/// So many even groups.
+fn read_even(amount: &Value) -> Result<Grouping, Refusal>
+    ensures { ReadsAs (even_groups (view amount.now)) result }
+{
+    match even_count(amount) {
+        Some(count) => Ok(Grouping::evenly(count)),
+        None => Err(Refusal::BadRequest),
+    }
+}
+
+/// The groups of a rollout of these thresholds, by `amountGroups` or by `groups`: exactly one of them is there.
+pub fn read_grouping(
+    alloc: Global,
+    object: &Value,
+    success: Percentage,
+    error: Percentage,
+) -> Result<Grouping, Refusal>
+    ensures { ReadsAs (grouping_member success error (view object.now)) result }
+{
+    match (object.get("amountGroups"), object.get("groups")) {
+        (Some(amount), None) => read_even(amount),
+        (None, Some(groups)) => read_defined(alloc, groups, success, error),
+        (Some(_), Some(_)) => Err(Refusal::BadRequest),
+        (None, None) => Err(Refusal::BadRequest),
+    }
+}
