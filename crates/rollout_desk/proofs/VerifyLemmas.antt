@@ -3,7 +3,6 @@ use Rattle.std.proofs.Common.{◌≡◌, ◌≤◌, ◌<◌, ◌+◌, ◌^◌, �
 use Rattle.sqlite.specs.Held.{state}
 use Rattle.sqlite.specs.Store.{Ghosts}
 use Rattle.sqlite.specs.State.{State, HasCleanDisk}
-use Rattle.sql_calls.specs.Calls.{fails, failures_of}
 use Rattle.sql_calls.specs.Standing.{Begins, Finds, Rests, Sees, Wears}
 use Rattle.sql_calls.specs.declared.calls.Calls.{Calls}
 use Rattle.sql_calls.specs.declared.fault.Fault.{Fault}
@@ -51,32 +50,12 @@ failed_within : {a b c d : ℕ} → a ≤ b → HasFailed b c → c ≤ d → Ha
 failed_within le (inl fails) grows = inl (omega (arith, le, fails, grows))
 failed_within le (inr full) grows = inr (omega (arith, full, grows))
 
--- one call failed
-failed_once : (old new : ℕ) → new ≡ fails 1 old → HasFailed old new
-failed_once old new is = elim (below old (2 ^ 64 - 1)) [ inl room ↦ inl (omega (arith, is, room)) | inr full ↦ inr (omega (arith, is, full)) ]
-  where
-    below : (a b : ℕ) → (a < b) ⊎ (b ≤ a)
-    below zero zero = inr (omega arith)
-    below zero (suc b) = inl (omega arith)
-    below (suc a) zero = inr (omega arith)
-    below (suc a) (suc b) = elim (below a b) [ inl u ↦ inl (omega (arith, u)) | inr u ↦ inr (omega (arith, u)) ]
-
--- no change began
-pub unbegun_counts : (fault : Fault) (old new : ℕ) → new ≡ fails (failures_of fault) old → Err {A = Option CheckedTable} (refusal_of_fault fault) ≡ Err StoreFailed → HasFailed old new
-unbegun_counts Memory old new is never = absurd cc
-unbegun_counts Store old new is same = failed_once old new is
-
 stored : (fault : Fault) → refusal_of_fault fault ≡ StoreFailed → fault ≡ Store
 stored Memory never = absurd cc
 stored Store is = refl
 
 module _ {S : Type 0} (g : Ghosts S) (old : Calls S) (begun read : OpenChange S) (end : Calls S) where
-  -- the table that was found isn't told, since the change couldn't be given up
-  pub given_up_in_vain : (found : Option CheckedTable) (result : Result (Option CheckedTable) Refusal) → old.failures ≤ read.store.now.calls.failures
-      → (result ≡ Ok found) ⊎ HasFailed read.store.now.calls.failures end.failures → result ≡ Err StoreFailed → HasFailed old.failures end.failures
-  given_up_in_vain found result grows (inl same) is = absurd cc
-  given_up_in_vain found result grows (inr failed) is = failed_within grows failed (omega arith)
-
+  -- what was blamed before the change is given up is blamed afterwards
   pub read_in_vain : (fault : Fault) (refusal : Refusal) (result : Result (Option CheckedTable) Refusal) → refusal ≡ refusal_of_fault fault → Begins HoldsTables (state g old.conn) (seen_in g begun)
       → old.failures ≤ begun.store.now.calls.failures → Blames g {A = Option CheckedTable} begun read (Err fault) → Wears (seen_in g read) (state g end.conn) → read.store.now.calls.failures ≤ end.failures
       → old.failures ≤ read.store.now.calls.failures → (result ≡ Err refusal) ⊎ HasFailed read.store.now.calls.failures end.failures → result ≡ Err StoreFailed → HasCause g old end

@@ -2,7 +2,6 @@
 
 ghost use Rattle.std.specs.Prelude.{◌≡◌, true, false};
 ghost use Rattle.rollout_model.specs.declared.refusal.Refusal.TheVariants.{Stopped, StoreFailed};
-ghost use Rattle.rollout_machine.specs.Commands.{Command};
 ghost use Rattle.rollout_machine.specs.Replies.{Refused};
 ghost use Rattle.rollout_machine.specs.Requests.{Asks, Do, Ask};
 ghost use Rattle.rollout_machine.specs.Standing.{Applies, StaysStopped};
@@ -103,7 +102,7 @@ impl<S: Alter> Desk<S> {
         ensures stopped { (desk_state S.Store self.old).is_stopped ≡ true → (reply_of result ≡ Refused Stopped)
             × StaysStopped (desk_state S.Store self.old) (desk_state S.Store self.new) }
         ensures untouched { (desk_state S.Store self.old).is_stopped ≡ true → self.new.store ≡ self.old.store }
-        ensures bound { (c : Command) → request_of request.now ≡ Do c → KeepsBound c self.new.work }
+        ensures bound { (c : _) → request_of request.now ≡ Do c → KeepsBound c self.new.work }
         ensures tells { TellsFailures (is_failed_store (reply_of result)) self.old.store.calls self.new.store.calls }
     {
         match request {

@@ -1,11 +1,12 @@
-use Rattle.std.proofs.Common.{◌≡◌, Err, subst, rules}
+use Rattle.std.proofs.Common.{◌≡◌, ◌≤◌, Err, subst, arith, rules}
 use Rattle.sqlite.specs.Held.{state}
 use Rattle.sql_calls.specs.Standing.{Keeps}
 use Rattle.desk_records.specs.Holds.{HoldsLedger, HoldsRecords}
+use Rattle.rollout_model.specs.declared.refusal.Refusal.TheVariants.{StoreFailed}
 use Rattle.rollout_desk.specs.Looks.{Looks}
-use Rattle.rollout_desk.specs.Verifying.{FindsDamage, IsNeverDamaged}
+use Rattle.rollout_desk.specs.Verifying.{FindsDamage, HasCause, IsNeverDamaged}
 use Rattle.rollout_desk.proofs.LookLemmas.{look_failed, looked, unbegun}
-use Rattle.rollout_desk.proofs.VerifyLemmas.{given_up_in_vain, judged, never_damaged, none_found, read_in_vain, unbegun_counts}
+use Rattle.rollout_desk.proofs.VerifyLemmas.{judged, never_damaged, none_found, read_in_vain}
 use Rattle.rollout_desk.proofs.verify.look_for_damage.Goals as goal
 
 pub returns-in-Err-clause-looks : goal.returns-in-Err-clause-looks
@@ -38,5 +39,10 @@ returns-in-Err-find_damage-clause-looks g c =
     subst (λ h. Looks HoldsRecords (state g.S.Store c.args.store.now.calls.conn) (state g.S.Store h.calls.conn) c.give_up-in-Err-find_damage.result IsNeverDamaged) same
     (look_failed _ _ _ _ _ c.in-Ok.ensures.begun _ c.in-Err-find_damage.fault _ c.in-Err-find_damage.ensures.stays.frame c.in-Err-find_damage.ensures.judges.wears c.refusal_of-in-Err-find_damage.ensures c.give_up-in-Err-find_damage.ensures.ends)
 
-pub returns-in-Err-clause-blames : goal.returns-in-Err-clause-blames
-returns-in-Err-clause-blames g c = search rules
+pub returns-in-Err-find_damage-clause-blames : goal.returns-in-Err-find_damage-clause-blames
+returns-in-Err-find_damage-clause-blames g c =
+    let same : c.give_up-in-Err-find_damage.new.change.0 ≡ c.store-in-Err-find_damage-1.given.0 = search rules in
+    let grew : c.args.store.now.calls.failures ≤ c.in-Ok.change.store.now.calls.failures = c.in-Ok.ensures.grows.failures in
+    subst (λ h. c.give_up-in-Err-find_damage.result ≡ Err StoreFailed → HasCause g.S.Store c.args.store.now.calls h.calls) same
+    (read_in_vain g.S.Store c.args.store.now.calls _ _ c.give_up-in-Err-find_damage.new.change.0.calls c.in-Err-find_damage.fault _ c.give_up-in-Err-find_damage.result c.refusal_of-in-Err-find_damage.ensures c.in-Ok.ensures.tables grew c.in-Err-find_damage.ensures.blames
+    c.give_up-in-Err-find_damage.ensures.ends.wears c.give_up-in-Err-find_damage.ensures.counts (omega (arith, grew, c.in-Err-find_damage.ensures.stays.grows.failures)) c.give_up-in-Err-find_damage.ensures.fails)

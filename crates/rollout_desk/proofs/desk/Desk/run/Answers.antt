@@ -48,6 +48,7 @@ returns-then-failed g c =
       once = λ h clean stands. ends_once HoldsRecords c.answer-reply.new.self.stopped (state g.S.Store c.answer-reply.new.self.store.calls.conn) h _ _ (ended h clean stands);
       stops = λ _. c.answer-reply.ensures.stops (c.if-failed.ensures.only.0 refl);
       stopped = λ stopped. absurd (false≢true (sym c.if-self.false ∙ stopped));
+      untouched = λ stopped. absurd (false≢true (sym c.if-self.false ∙ stopped));
     }
 
 pub returns : goal.returns
@@ -62,4 +63,5 @@ returns g c =
       once = λ h clean stands. ends_once HoldsRecords c.loop-request.self.stopped (state g.S.Store c.loop-request.self.store.calls.conn) h _ _ (ended h clean stands);
       stops = λ has. absurd (so_far.none has);
       stopped = λ stopped. absurd (false≢true (sym c.if-self.false ∙ stopped));
+      untouched = λ stopped. absurd (false≢true (sym c.if-self.false ∙ stopped));
     }
