@@ -1,4 +1,5 @@
 """Conversations with the program: reads a case (cases/README.md has the form) and runs its processes."""
+import base64
 import os
 import re
 import select
@@ -8,6 +9,7 @@ import sqlite3
 import subprocess
 import sys
 import threading
+import zlib
 from dataclasses import dataclass, field
 from pathlib import Path
 
@@ -167,6 +169,8 @@ def body_line(line):
         return pattern(int(it[1]))
     if it := re.fullmatch(r"%escaped (.*)", line):
         return escaped(it[1])
+    if it := re.fullmatch(r"%packed (.*)", line):
+        return zlib.decompress(base64.b64decode(it[1]))
     return line.encode()
 
 
