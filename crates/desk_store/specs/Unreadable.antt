@@ -51,7 +51,8 @@ pub data IsUnreadable (t : Tables) : Type 0 where
   twin_entries : (action : ℕ) → HasTwins (t Feedbacks) (has_at 1 action) SaysEntry (λ (e : SequencedEntry). e.sequence) → IsUnreadable t
   missing_rollout : (number last : ℕ) → 1 ≤ number → number ≤ last → HasNumber (t Rollouts) last → (HasNumber (t Rollouts) number → ⊥) → IsUnreadable t
   missing_rule : (rollout n i : ℕ) → HasGroupCount t rollout n → 1 ≤ i → i ≤ n → HasNoRule t rollout i → IsUnreadable t
-  no_grouping : (rollout : ℕ) (rules : List GroupRule) → HasGroupCount t rollout (length rules) → HaveRules (HasRule t rollout) 1 rules → grouping_of rules ≡ None → IsUnreadable t
+  no_grouping : (rollout : ℕ) (rules : List GroupRule) → HasGroupCount t rollout (length rules) → HaveRules (HasRule t rollout) 1 rules
+      → grouping_of rules ≡ None → IsUnreadable t
   large_number : (row : Row) → Has (t Rollouts) row → number_in (column row 0) ≡ None → IsUnreadable t
   large_count : (row : Row) → Has (t Actions) row → has_wide_count (action_shown row) ≡ true → IsUnreadable t
   many_rows : (p : Place) → 2 ^ 32 ≤ length (t p) → IsUnreadable t

@@ -33,7 +33,8 @@ IsNeverDamaged r found = (h : CommandList) → IsValid h → r ≡ records h →
 
 -- a call of the store failed, or whatever tables are shown have what can't be read
 abbrev pub HasCause : {S : Type 0} → Ghosts S → Calls S → Calls S → Type 0
-HasCause g old new = (t : Tables) → HasCleanDisk (state g new.conn) → Shows HoldsTables (state g old.conn) t → HasFailed old.failures new.failures ⊎ IsUnreadable t
+HasCause g old new =
+    (t : Tables) → HasCleanDisk (state g new.conn) → Shows HoldsTables (state g old.conn) t → HasFailed old.failures new.failures ⊎ IsUnreadable t
 
 -- ---- the desk
 
