@@ -12,7 +12,7 @@ abbrev pub artifact_limit : ℕ
 artifact_limit = 256
 
 abbrev pub artifact_size_limit : ℕ
-artifact_size_limit = 1048576
+artifact_size_limit = 4194304
 
 abbrev pub set_limit : ℕ
 set_limit = 1000
@@ -71,6 +71,10 @@ digest_length = 32
 abbrev pub number_limit : ℕ
 number_limit = 2147483647
 
+-- a number that a device gives its feedback
+abbrev pub feedback_number_limit : ℕ
+feedback_number_limit = 4294967295
+
 -- the bytes of a filter, and how deep its parentheses nest
 abbrev pub filter_length_limit : ℕ
 filter_length_limit = 512
@@ -87,14 +91,14 @@ token_length_limit = 64
 
 -- the bytes of a request's body, and of its head
 abbrev pub body_length_limit : ℕ
-body_length_limit = 1048576
+body_length_limit = 4194304
 
 abbrev pub head_length_limit : ℕ
 head_length_limit = 8192
 
 -- the bytes of a file of targets that is handed in as an import
 abbrev pub file_length_limit : ℕ
-file_length_limit = 1048576
+file_length_limit = 4194304
 
 -- the fields of a head
 abbrev pub field_limit : ℕ

@@ -4,7 +4,7 @@ pub use Rattle.rollout_model.specs.declared.refusal.Refusal.{Refusal}
 pub use Rattle.rollout_model.specs.declared.refusal.Refusal.TheVariants.{BadRequest, Unauthorized, NotFound, BadMethod, Exists, Locked, WrongState}
 pub use Rattle.rollout_model.specs.declared.refusal.Refusal.TheVariants.{ClosedAction, TooLarge, Quota, BadFilter, TooFewTargets, WrongDigest}
 pub use Rattle.rollout_model.specs.declared.refusal.Refusal.TheVariants.{BadImportLine, NoMemory, StoreFailed, Stopped, BadHead, BadLength}
-pub use Rattle.rollout_model.specs.declared.refusal.Refusal.TheVariants.{HeadTooLarge, BadCoding}
+pub use Rattle.rollout_model.specs.declared.refusal.Refusal.TheVariants.{HeadTooLarge, BadCoding, OldNumber}
 
 pub record RefusalRow : Type 0 where
   pub number : ℕ
@@ -34,3 +34,4 @@ refusal_row BadHead = record { number = 18; name = codes "head"; status = 400; e
 refusal_row BadLength = record { number = 19; name = codes "length"; status = 400; ends = true }
 refusal_row HeadTooLarge = record { number = 20; name = codes "head_size"; status = 431; ends = true }
 refusal_row BadCoding = record { number = 21; name = codes "coding"; status = 501; ends = true }
+refusal_row OldNumber = record { number = 22; name = codes "old_number"; status = 410; ends = false }

@@ -1,6 +1,6 @@
 -- The rules of the short texts and the numbers: which letters, how long, in which range.
 use Rattle.rollout_model.specs.Limits.{word_length_limit, filename_length_limit, text_length_limit, detail_length_limit, detail_limit, digest_length}
-use Rattle.rollout_model.specs.Limits.{artifact_size_limit, group_limit, percentage_limit, number_limit, set_module_limit, tag_limit}
+use Rattle.rollout_model.specs.Limits.{artifact_size_limit, feedback_number_limit, group_limit, percentage_limit, number_limit, set_module_limit, tag_limit}
 use Rattle.rollout_model.specs.Limits.{token_length_least, token_length_limit}
 use Rattle.std.specs.Prelude.{ℕ, Bool, true, ◌&&◌, ◌||◌, not, nat_eq, nat_le, List, [], ◌∷◌, length, codes, Option, Some, None, if◌then◌else◌}
 use Rattle.std.specs.List.{list_any, list_all}
@@ -65,6 +65,10 @@ is_contents bs = nat_le (length bs) artifact_size_limit && list_all is_byte bs
 abbrev pub is_number : ℕ → Bool
 is_number n = is_between 1 number_limit n
 
+-- a number that a device gives its feedback
+abbrev pub is_feedback_number : ℕ → Bool
+is_feedback_number n = is_between 1 feedback_number_limit n
+
 -- a threshold of a rollout
 abbrev pub is_percentage : ℕ → Bool
 is_percentage p = is_between 1 percentage_limit p
@@ -110,6 +114,9 @@ value_of bs = if is_value bs then Some bs else None
 
 abbrev pub number_of : ℕ → Option ℕ
 number_of n = if is_number n then Some n else None
+
+abbrev pub feedback_number_of : ℕ → Option ℕ
+feedback_number_of n = if is_feedback_number n then Some n else None
 
 abbrev pub sha256_digest_of : List ℕ → Option (List ℕ)
 sha256_digest_of bs = if is_digest bs then Some bs else None

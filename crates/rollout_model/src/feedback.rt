@@ -4,6 +4,7 @@ ghost use Rattle.std.specs.Prelude.{◌≡◌, IfOk};
 
 use crate::credential::Credential;
 use crate::details::Details;
+use crate::feedback_number::FeedbackNumber;
 use crate::number::ActionNo;
 use std::alloc::{AllocError, Global};
 
@@ -46,6 +47,8 @@ pub struct DeviceFeedback<W> {
     pub action: ActionNo,
     pub word: W,
     pub details: Details,
+    /// By which the device tells what it sends again.
+    pub number: Option<FeedbackNumber>,
 }
 
 impl<W: Copy> DeviceFeedback<W> {
@@ -59,6 +62,7 @@ impl<W: Copy> DeviceFeedback<W> {
             action: self.action,
             word: self.word,
             details,
+            number: self.number,
         })
     }
 }
@@ -70,7 +74,7 @@ pub enum Said {
     Cancel(CancelWord),
 }
 
-/// Feedback as the history of its action keeps it.
+/// What a device said of an action, as the action's history keeps it.
 #[derive(Drop)]
 pub struct HistoryEntry {
     pub said: Said,
@@ -85,6 +89,25 @@ impl HistoryEntry {
         Ok(HistoryEntry {
             said: self.said,
             details: self.details.copy(alloc)?,
+        })
+    }
+}
+
+/// An entry of a history with the number that the device gave it, if it gave one.
+#[derive(Drop)]
+pub struct Reported {
+    pub entry: HistoryEntry,
+    pub number: Option<FeedbackNumber>,
+}
+
+impl Reported {
+    /// The same in memory of its own.
+    pub fn copy(&self, alloc: Global) -> Result<Reported, AllocError>
+        ensures { IfOk result (λ reported. reported ≡ self.now) }
+    {
+        Ok(Reported {
+            entry: self.entry.copy(alloc)?,
+            number: self.number,
         })
     }
 }

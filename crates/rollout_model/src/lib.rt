@@ -14,6 +14,7 @@ mod details;
 mod digest;
 mod distribution_set;
 mod feedback;
+mod feedback_number;
 mod filename;
 mod filter_text;
 mod group_count;
@@ -56,7 +57,10 @@ pub use detail::Detail;
 pub use details::Details;
 pub use digest::Digest;
 pub use distribution_set::{DistributionSet, SetLabel};
-pub use feedback::{CancelWord, DeploymentWord, DeviceFeedback, HistoryEntry, NoteWord, Said};
+pub use feedback::{
+    CancelWord, DeploymentWord, DeviceFeedback, HistoryEntry, NoteWord, Reported, Said,
+};
+pub use feedback_number::FeedbackNumber;
 pub use filename::Filename;
 pub use filter_text::FilterText;
 pub use group_count::GroupCount;

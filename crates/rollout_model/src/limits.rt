@@ -10,7 +10,7 @@ pub const MODULE_ARTIFACT_LIMIT: usize = 8;
 pub const ARTIFACT_LIMIT: u32 = 256;
 
 /// The most bytes of an artifact's contents.
-pub const ARTIFACT_SIZE_LIMIT: usize = 1_048_576;
+pub const ARTIFACT_SIZE_LIMIT: usize = 4_194_304;
 
 /// The bytes of every piece of an artifact's contents but the last, which may be shorter.
 pub const PIECE_LENGTH: usize = 65_536;
@@ -85,10 +85,10 @@ pub const HEAD_LENGTH_LIMIT: usize = 8192;
 pub const FIELD_LIMIT: usize = 32;
 
 /// The most bytes of a request's body.
-pub const BODY_LENGTH_LIMIT: usize = 1_048_576;
+pub const BODY_LENGTH_LIMIT: usize = 4_194_304;
 
 /// The most bytes of a file of targets that is handed in as an import.
-pub const FILE_LENGTH_LIMIT: usize = 1_048_576;
+pub const FILE_LENGTH_LIMIT: usize = 4_194_304;
 
 /// The most entries of a page.
 pub const PAGE_LIMIT: u32 = 500;

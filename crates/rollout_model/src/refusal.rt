@@ -50,10 +50,12 @@ pub enum Refusal {
     HeadTooLarge,
     /// The body has a transfer coding.
     BadCoding,
+    /// The action has feedback of this number or a greater one already, and not this.
+    OldNumber,
 }
 
 impl Refusal {
-    /// Its number, from 1 to 21.
+    /// Its number, from 1 to 22.
     pub fn number(&self) -> u8
         ensures { result ≡ (refusal_row self.now).number }
     {
@@ -79,6 +81,7 @@ impl Refusal {
             Refusal::BadLength => 19,
             Refusal::HeadTooLarge => 20,
             Refusal::BadCoding => 21,
+            Refusal::OldNumber => 22,
         }
     }
 
@@ -108,6 +111,7 @@ impl Refusal {
             Refusal::BadLength => "length",
             Refusal::HeadTooLarge => "head_size",
             Refusal::BadCoding => "coding",
+            Refusal::OldNumber => "old_number",
         }
     }
 
@@ -128,7 +132,7 @@ impl Refusal {
             Refusal::NotFound => 404,
             Refusal::BadMethod => 405,
             Refusal::Exists | Refusal::Locked | Refusal::WrongState => 409,
-            Refusal::ClosedAction => 410,
+            Refusal::ClosedAction | Refusal::OldNumber => 410,
             Refusal::TooLarge => 413,
             Refusal::HeadTooLarge => 431,
             Refusal::StoreFailed => 500,

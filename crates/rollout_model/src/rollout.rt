@@ -2,7 +2,7 @@
 
 use crate::action_word::ActionWord;
 use crate::artifact::Artifact;
-use crate::feedback::HistoryEntry;
+use crate::feedback::Reported;
 use crate::filter_text::FilterText;
 use crate::group_word::GroupWord;
 use crate::module::ModuleLabel;
@@ -60,7 +60,7 @@ pub struct Action {
 #[derive(Drop)]
 pub struct NumberedEntry {
     pub number: u32,
-    pub entry: HistoryEntry,
+    pub reported: Reported,
 }
 
 /// What a device is offered: an action, or that it be canceled.
