@@ -1,5 +1,5 @@
 -- The actions of a command list: their numbers, outcomes and cancels.
-use Rattle.std.specs.Prelude.{ℕ, zero, suc, Bool, true, false, ◌&&◌, cond, nat_eq, List, [], ◌∷◌, ◌++◌, Option, Some, None, is_some, is_none}
+use Rattle.std.specs.Prelude.{ℕ, zero, suc, Bool, true, false, ◌&&◌, not, cond, nat_eq, List, [], ◌∷◌, ◌++◌, Option, Some, None, is_some, is_none}
 use Rattle.std.specs.Option.{option_or}
 use Rattle.rollout_machine.specs.ByteStrings.{item_numbered}
 use Rattle.rollout_machine.specs.CommandList.{CommandList, Make, ◌▸◌}
@@ -7,10 +7,7 @@ use Rattle.rollout_machine.specs.Commands.{DeploymentWord, CancelWord, Succeeded
 use Rattle.rollout_machine.specs.Commands.{RejectedCancel, NotedCancel, Command, Start, Cancel, Feedback, CancelFeedback, DeviceFeedback}
 use Rattle.rollout_machine.specs.Commands.{Outcome, Good, Bad, Gone}
 use Rattle.rollout_machine.specs.Rollouts.{Rollout, rollout_at, size_of}
--- an entry of an action's history, and what a device says of an action
-pub use Rattle.rollout_model.specs.declared.feedback.HistoryEntry.{HistoryEntry}
-pub use Rattle.rollout_model.specs.declared.feedback.Said.{Said}
-pub use Rattle.rollout_model.specs.declared.feedback.Said.TheVariants.{Deployment as OfDeployment, Cancel as OfCancel}
+use Rattle.rollout_machine.specs.Reports.{Reported, Said, OfDeployment, OfCancel, is_again, reported_by}
 
 -- an action, by its rollout and its member's position, from 1
 pub record ActionPlace : Type 0 where
@@ -51,6 +48,15 @@ is_action_place (Some p) r j = nat_eq p.rollout r && nat_eq p.position j
 abbrev pub is_on_action : CommandList → Command → ℕ → ℕ → Bool
 is_on_action h c r j = is_action_place (action_of h c) r j
 
+-- what was reported on the action, without what was sent again
+abbrev pub reports : CommandList → ℕ → ℕ → List Reported
+reports (Make approval) r j = []
+reports (h ▸ c) r j = reports h r j ++ cond (is_on_action h c r j && not (is_again (reports h r j) c)) (reported_by c) []
+
+-- a command is on the action, and is no report that was sent again
+abbrev pub is_heard : CommandList → Command → ℕ → ℕ → Bool
+is_heard h c r j = is_on_action h c r j && not (is_again (reports h r j) c)
+
 abbrev pub outcome_of_deployment : DeploymentWord → Option Outcome
 outcome_of_deployment Succeeded = Some Good
 outcome_of_deployment Failed = Some Bad
@@ -81,30 +87,21 @@ cancel_standing_said (Cancel t a force) = Some true
 cancel_standing_said (CancelFeedback feedback) = elim (feedback.word) [ RejectedCancel ↦ Some false | _ ↦ None ]
 cancel_standing_said _ = None
 
--- the last among the action's cancels and its rejections of one is a cancel
+-- the last heard among the action's cancels and its rejections of one is a cancel
 abbrev pub cancel_stands : CommandList → ℕ → ℕ → Bool
 cancel_stands (Make approval) r j = false
-cancel_stands (h ▸ c) r j = cond (is_on_action h c r j && is_some (cancel_standing_said c))
+cancel_stands (h ▸ c) r j = cond (is_heard h c r j && is_some (cancel_standing_said c))
     (elim (cancel_standing_said c) [ None ↦ false | Some b ↦ b ]) (cancel_stands h r j)
 
--- the outcome by the first command on the action that gives one
+-- the outcome by the first command heard on the action that gives one
 abbrev pub outcome : CommandList → ℕ → ℕ → Option Outcome
 outcome (Make approval) r j = None
-outcome (h ▸ c) r j = option_or (outcome h r j) (cond (is_on_action h c r j) (outcome_given c (is_none (outcome h r j) && cancel_stands h r j)) None)
+outcome (h ▸ c) r j = option_or (outcome h r j) (cond (is_heard h c r j) (outcome_given c (is_none (outcome h r j) && cancel_stands h r j)) None)
 
 abbrev pub is_canceling : CommandList → ℕ → ℕ → Bool
 is_canceling h r j = is_none (outcome h r j) && cancel_stands h r j
 
--- what is kept of feedback
-abbrev pub entry_of : {W : Type 0} → (W → Said) → DeviceFeedback W → HistoryEntry
-entry_of said feedback = record { said = said feedback.word; details = feedback.details }
-
-abbrev pub entries_of : Command → List HistoryEntry
-entries_of (Feedback feedback) = entry_of OfDeployment feedback ∷ []
-entries_of (CancelFeedback feedback) = entry_of OfCancel feedback ∷ []
-entries_of _ = []
-
--- the feedback on the action up to and with the one that gave the outcome
-abbrev pub history : CommandList → ℕ → ℕ → List HistoryEntry
+-- what was reported on the action up to and with what gave the outcome
+abbrev pub history : CommandList → ℕ → ℕ → List Reported
 history (Make approval) r j = []
-history (h ▸ c) r j = history h r j ++ cond (is_on_action h c r j && is_none (outcome h r j)) (entries_of c) []
+history (h ▸ c) r j = history h r j ++ cond (is_heard h c r j && is_none (outcome h r j)) (reported_by c) []

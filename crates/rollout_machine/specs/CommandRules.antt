@@ -1,12 +1,12 @@
 -- The rules that the parts of a command keep: those of the words and numbers, ranges, and the limits of lists.
 use Rattle.rollout_model.specs.Groupings.{is_grouping}
 use Rattle.rollout_model.specs.Rules.{are_details, is_percentage, is_word, is_filename, is_text, is_value, is_byte, is_digest}
-use Rattle.rollout_model.specs.Rules.{is_module_list, is_number, is_tag_list}
+use Rattle.rollout_model.specs.Rules.{is_feedback_number, is_module_list, is_number, is_tag_list}
 use Rattle.rollout_machine.specs.Commands.{AddArtifact, Cancel, CancelFeedback, RolloutPlan, Start, Command, Attribute, Pause, CreateRollout}
 use Rattle.rollout_machine.specs.Commands.{SetLabel, PutTargets, Untag, Deny, Approve, AddModule, Feedback, PutAttributes, Tag, Resume, TriggerNext}
-use Rattle.rollout_machine.specs.Commands.{TargetRow, AddSet, Upload, Bytes, Credential}
+use Rattle.rollout_machine.specs.Commands.{TargetRow, AddSet, Upload, Bytes, Credential, DeviceFeedback}
 use Rattle.rollout_model.specs.Limits.{artifact_size_limit, attribute_limit}
-use Rattle.std.specs.Prelude.{◌≡◌, Bool, true, ◌&&◌, nat_le, length, Option, Some, None}
+use Rattle.std.specs.Prelude.{◌≡◌, Bool, true, ◌&&◌, nat_le, length, ℕ, Option, Some, None}
 use Rattle.std.specs.List.{list_all}
 use Rattle.std.specs.Str.{is_utf8}
 
@@ -24,6 +24,15 @@ is_attribute a = is_word a.key && is_value a.value
 abbrev pub is_digest_or_none : Option Bytes → Bool
 is_digest_or_none None = true
 is_digest_or_none (Some d) = is_digest d
+
+-- of feedback, if it has one
+abbrev pub is_feedback_number_or_none : Option ℕ → Bool
+is_feedback_number_or_none None = true
+is_feedback_number_or_none (Some n) = is_feedback_number n
+
+abbrev pub is_device_feedback : {W : Type 0} → DeviceFeedback W → Bool
+is_device_feedback feedback = is_credential feedback.credential
+    && (is_number feedback.action && (are_details feedback.details && is_feedback_number_or_none feedback.number))
 
 abbrev pub is_upload : Upload → Bool
 is_upload u = is_number u.module_number && (is_filename u.filename
@@ -54,8 +63,8 @@ is_well_formed (Pause r) = is_number r
 is_well_formed (Resume r) = is_number r
 is_well_formed (TriggerNext r) = is_number r
 is_well_formed (Cancel t k force) = is_word t && is_number k
-is_well_formed (Feedback feedback) = is_credential feedback.credential && (is_number feedback.action && are_details feedback.details)
-is_well_formed (CancelFeedback feedback) = is_credential feedback.credential && (is_number feedback.action && are_details feedback.details)
+is_well_formed (Feedback feedback) = is_device_feedback feedback
+is_well_formed (CancelFeedback feedback) = is_device_feedback feedback
 
 abbrev pub IsWellFormed : Command → Type 0
 IsWellFormed c = is_well_formed c ≡ true

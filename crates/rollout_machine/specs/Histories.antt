@@ -1,7 +1,8 @@
 -- How the outcome of an action fits its history.
 use Rattle.std.specs.Prelude.{◌≡◌, ◌⊎◌, ℕ, List, [], ◌∷◌, Option, Some, None}
 use Rattle.std.specs.Option.{option_or}
-use Rattle.rollout_machine.specs.Actions.{HistoryEntry, outcome_said}
+use Rattle.rollout_machine.specs.Actions.{outcome_said}
+use Rattle.rollout_machine.specs.Reports.{HistoryEntry, entries_in}
 use Rattle.rollout_machine.specs.ByteStrings.{item_numbered}
 use Rattle.rollout_machine.specs.CommandList.{CommandList}
 use Rattle.rollout_machine.specs.Commands.{Outcome, Gone}
@@ -19,4 +20,4 @@ pub record FitsHistory (outcome : Option Outcome) (history : List HistoryEntry) 
 
 -- so it is with each action of the records
 abbrev pub OutcomesFitHistories : Type 0
-OutcomesFitHistories = (h : CommandList) (k : ℕ) (a : ActionRecord) → item_numbered (records h).actions k ≡ Some a → FitsHistory a.outcome a.history
+OutcomesFitHistories = (h : CommandList) (k : ℕ) (a : ActionRecord) → item_numbered (records h).actions k ≡ Some a → FitsHistory a.outcome (entries_in a.history)

@@ -1,5 +1,5 @@
 -- What the computing definitions mean, in words about the commands of a list.
-use Rattle.rollout_machine.specs.Actions.{is_canceling, is_on_action, ActionPlace, outcome, action_of, action_place, cancel_standing_said}
+use Rattle.rollout_machine.specs.Actions.{is_canceling, is_heard, is_on_action, ActionPlace, outcome, action_of, action_place, cancel_standing_said, reports}
 use Rattle.rollout_machine.specs.ByteStrings.{item_numbered, same_bytes, contains_word}
 use Rattle.rollout_machine.specs.CommandList.{Make, followed_by, ◌▸◌, CommandList}
 use Rattle.rollout_machine.specs.Commands.{CanceledCancel, Bad, Feedback, Start, CancelFeedback, Resume, Outcome, Pause, Gone, TriggerNext, Command}
@@ -9,6 +9,7 @@ use Rattle.rollout_machine.specs.Effects.{IsInGroup}
 use Rattle.rollout_machine.specs.Offers.{Offer, offer}
 use Rattle.rollout_machine.specs.Progress.{is_paused, is_group_started}
 use Rattle.rollout_machine.specs.Records.{records, group_in}
+use Rattle.rollout_machine.specs.Reports.{is_again}
 use Rattle.rollout_machine.specs.Rollouts.{rollout_at, Rollout, size_of}
 use Rattle.rollout_machine.specs.StateWords.{all_final}
 use Rattle.rollout_machine.specs.Targets.{import_rows_of, last_row_of, has_tag, tags_in, target_ids, attributes_in}
@@ -90,7 +91,7 @@ ValueIsLast = (t k : Bytes) (h : CommandList) → value_of k (attributes_in t h)
 abbrev pub TagsAreSaid : Type 0
 TagsAreSaid = (t x : Bytes) (h : CommandList) → contains_word x (tags_in t h) ≡ has_tag t x h
 
--- ---- the first command on the action that gives an outcome
+-- ---- the first command on the action, but what is sent again, that gives an outcome
 abbrev pub Says : CommandList → Command → ℕ → ℕ → Outcome → Type 0
 Says before (Feedback feedback) r j o = ((feedback.word ≡ Succeeded) × (o ≡ Good)) ⊎ ((feedback.word ≡ Failed) × (o ≡ Bad))
 Says before (CancelFeedback feedback) r j o = ((feedback.word ≡ ClosedCancel) ⊎ (feedback.word ≡ CanceledCancel)) × (o ≡ Gone)
@@ -98,7 +99,8 @@ Says before (Cancel t a force) r j o = (force ≡ true) × (is_canceling before 
 Says before _ r j o = ⊥
 
 abbrev pub GivesOutcome : CommandList → Command → ℕ → ℕ → Outcome → Type 0
-GivesOutcome before c r j o = (action_of before c ≡ Some (record { rollout = r; position = j })) × Says before c r j o
+GivesOutcome before c r j o = (action_of before c ≡ Some (record { rollout = r; position = j })) × (is_again (reports before r j) c ≡ false)
+    × Says before c r j o
 
 -- no command of the list gives one
 abbrev pub NoneGave : CommandList → ℕ → ℕ → Type 0
@@ -115,7 +117,7 @@ OutcomeIsFirst = (h : CommandList) (r j : ℕ) (o : Outcome) → (outcome h r j 
 
 -- ---- canceling: open, and the last among the action's cancels and rejections is a cancel
 abbrev pub SpeaksOfCancel : CommandList → Command → ℕ → ℕ → Type 0
-SpeaksOfCancel before c r j = (is_on_action before c r j ≡ true) × (is_some (cancel_standing_said c) ≡ true)
+SpeaksOfCancel before c r j = (is_heard before c r j ≡ true) × (is_some (cancel_standing_said c) ≡ true)
 
 abbrev pub NoneSpeaks : CommandList → List Command → ℕ → ℕ → Type 0
 NoneSpeaks h [] r j = ⊤

@@ -1,11 +1,11 @@
 -- The objects that replies show, found in the records.
 use Rattle.std.specs.Prelude.{ℕ, suc, ◌-◌, Bool, cond, nat_eq, List, [], ◌∷◌, ◌++◌, length, take, drop, Option, Some, None}
-use Rattle.rollout_machine.specs.Actions.{HistoryEntry}
 use Rattle.rollout_machine.specs.ByteStrings.{item_numbered}
 use Rattle.rollout_machine.specs.Commands.{Bytes, ModuleLabel, SetLabel}
 use Rattle.rollout_machine.specs.Records.{ArtifactRecord, GroupRecord, RolloutRecord, ActionRecord, Records}
 use Rattle.rollout_machine.specs.Replies.{Module, Artifact, DistributionSet, ShownTarget, ShownRollout, ShownGroup, ShownAction, ShownEntry, Chunk}
 use Rattle.rollout_machine.specs.Replies.{Deployment, PageOf, Report}
+use Rattle.rollout_machine.specs.Reports.{Reported}
 use Rattle.rollout_machine.specs.Requests.{Page}
 use Rattle.rollout_machine.specs.Rollouts.{success_at, error_at}
 use Rattle.rollout_machine.specs.StateWords.{action_word, group_number_of, group_word, is_for, member_at, rollout_word, size_of_group, target_word}
@@ -114,8 +114,8 @@ actions_of_target rs t = actions_where (is_for rs t) rs 1 rs.actions
 abbrev pub actions_of_rollout : Records → ℕ → List ShownAction
 actions_of_rollout rs r = actions_where (λ (a : ActionRecord). nat_eq a.rollout r) rs 1 rs.actions
 
-abbrev pub entry_shown : ℕ → HistoryEntry → ShownEntry
-entry_shown k entry = record { number = k; entry = entry }
+abbrev pub entry_shown : ℕ → Reported → ShownEntry
+entry_shown k reported = record { number = k; reported = reported }
 
 -- ---- deployments
 

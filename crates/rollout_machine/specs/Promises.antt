@@ -1,8 +1,8 @@
 -- What users of a desk rely on, said of every list of accepted commands.
-use Rattle.std.specs.Prelude.{None, Option, Some, cond, false, filter, is_none, length, nat_eq, suc, true, ℕ, ◌+◌, ◌<◌, ◌≡◌, ◌≢◌, ◌≤◌, ◌⊎◌}
+use Rattle.std.specs.Prelude.{List, None, Option, Some, cond, false, filter, is_none, length, nat_eq, suc, true, ℕ, ◌+◌, ◌<◌, ◌≡◌, ◌≢◌, ◌≤◌, ◌⊎◌}
 use Rattle.std.specs.List.{list_any}
 use Rattle.std.specs.Option.{option_map}
-use Rattle.rollout_machine.specs.Actions.{ActionPlace, action_of, action_place, entries_of, outcome}
+use Rattle.rollout_machine.specs.Actions.{ActionPlace, action_of, action_place, outcome}
 use Rattle.rollout_machine.specs.Effects.{IsInGroup}
 use Rattle.rollout_machine.specs.RecordSteps.{action_after}
 use Rattle.rollout_machine.specs.Verdicts.{is_note, notes_of}
@@ -18,6 +18,7 @@ use Rattle.rollout_machine.specs.Offers.{Offer, offer}
 use Rattle.rollout_machine.specs.Progress.{is_group_started, is_paused}
 use Rattle.rollout_machine.specs.Records.{ActionRecord, ArtifactRecord, records, rollout_in}
 use Rattle.rollout_machine.specs.Replies.{Reply, PollShown, DeploymentShown, CancelShown, ContentsShown}
+use Rattle.rollout_machine.specs.Reports.{Reported, entries_in, reported_by}
 use Rattle.rollout_machine.specs.Requests.{Query, Download, Ask, Asks}
 use Rattle.rollout_machine.specs.Rollouts.{Rollout, rollout_at}
 use Rattle.rollout_machine.specs.Validity.{IsValid}
@@ -126,4 +127,15 @@ OffersFollow = (h : CommandList) (c : Command) (t : Bytes) (k : ℕ) (p : Action
 
 -- an action has as many notes more as its feedback adds, and a closed one none
 abbrev pub NotesGrow : Type 0
-NotesGrow = (c : Command) (a : ActionRecord) → notes_of (action_after c a) ≡ notes_of a + cond (is_none a.outcome) (length (filter is_note (entries_of c))) 0
+NotesGrow = (c : Command) (a : ActionRecord) → notes_of (action_after c a) ≡ notes_of a + cond (is_none a.outcome) (length (filter is_note (entries_in (reported_by c)))) 0
+
+-- ---- numbers of feedback
+
+-- of two entries that bear numbers the later bears the greater
+abbrev pub NumbersRiseIn : List Reported → Type 0
+NumbersRiseIn history = (i j m n : ℕ) (a b : Reported) → i < j → item_numbered history i ≡ Some a → item_numbered history j ≡ Some b
+    → a.number ≡ Some m → b.number ≡ Some n → m < n
+
+-- so it is in each history: the last numbered report is the one of the greatest number
+abbrev pub NumbersRise : Type 0
+NumbersRise = (h : CommandList) (k : ℕ) (a : ActionRecord) → IsValid h → item_numbered (records h).actions k ≡ Some a → NumbersRiseIn a.history

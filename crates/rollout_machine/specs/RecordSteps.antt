@@ -1,7 +1,7 @@
 -- The records after one accepted command, from the records before it.
 use Rattle.std.specs.Prelude.{ℕ, suc, ◌+◌, Bool, true, false, ◌&&◌, ◌||◌, cond, nat_eq, nat_lt, List, [], ◌∷◌, ◌++◌, map, length, Option, Some, None, is_none}
 use Rattle.std.specs.Option.{option_or, unwrap_or}
-use Rattle.rollout_machine.specs.Actions.{ActionPlace, places_from, outcome_given, cancel_standing_said, entries_of}
+use Rattle.rollout_machine.specs.Actions.{ActionPlace, places_from, outcome_given, cancel_standing_said}
 use Rattle.rollout_machine.specs.ByteStrings.{item_numbered, same_bytes, bytes_below, with_word, without_word, sorted_words}
 use Rattle.rollout_machine.specs.Commands.{Bytes, TargetRow, RolloutPlan, Command, AddModule, AddArtifact, AddSet, PutTargets, Tag, Untag}
 use Rattle.rollout_machine.specs.Commands.{PutAttributes, CreateRollout, Approve, Deny, Start, Pause, Resume, TriggerNext, Cancel, Feedback}
@@ -11,6 +11,7 @@ use Rattle.rollout_machine.specs.Effects.{feedback_pauses, good_after, starts_ne
 use Rattle.target_filter.specs.Profile.{filter_of}
 use Rattle.rollout_machine.specs.Ranges.{each_from}
 use Rattle.rollout_machine.specs.Records.{artifact_from, Waiting, Denied, Given, GroupRecord, RolloutRecord, ActionRecord, Records}
+use Rattle.rollout_machine.specs.Reports.{is_again, reported_by}
 use Rattle.rollout_machine.specs.Rollouts.{success_at, error_at, bounds_at, chosen}
 use Rattle.rollout_machine.specs.StateWords.{size_of_group, group_numbered, group_number_of}
 use Rattle.rollout_machine.specs.Targets.{Target, with_attributes}
@@ -118,7 +119,7 @@ action_after c a =
     record a {
       outcome = gives;
       canceling = is_none gives && unwrap_or (cancel_standing_said c) a.canceling;
-      history = a.history ++ cond (is_none a.outcome) (entries_of c) [];
+      history = a.history ++ cond (is_none a.outcome) (reported_by c) [];
     }
 
 abbrev pub is_same_action : ActionRecord → ActionRecord → Bool
@@ -138,13 +139,17 @@ abbrev pub rollouts_after_outcome : Option Outcome → List RolloutRecord → Ac
 rollouts_after_outcome None xs a = xs
 rollouts_after_outcome (Some o) xs a = change_rollout a.rollout (rollout_after o (own_group (item_numbered xs a.rollout) a)) xs
 
--- a command on this action
-abbrev pub step_action : Records → Command → Option ActionRecord → Records
-step_action rs c None = rs
-step_action rs c (Some a) = record rs {
+-- a command on this action, which is heard there
+abbrev pub act_on : Records → Command → ActionRecord → Records
+act_on rs c a = record rs {
   rollouts = rollouts_after_outcome (outcome_if_new a.outcome (outcome_given c a.canceling)) rs.rollouts a;
   actions = map (λ (b : ActionRecord). cond (is_same_action b a) (action_after c b) b) rs.actions;
 }
+
+-- a command on this action: what is sent again changes nothing
+abbrev pub step_action : Records → Command → Option ActionRecord → Records
+step_action rs c None = rs
+step_action rs c (Some a) = cond (is_again a.history c) rs (act_on rs c a)
 
 abbrev pub step_records : Records → Command → Records
 step_records rs (AddModule label) = record rs { modules = rs.modules ++ label ∷ [] }

@@ -1,30 +1,26 @@
 -- Repeats, imports that come twice, and the command list without them.
-use Rattle.rollout_machine.specs.Actions.{ActionPlace, action_place, outcome}
+use Rattle.rollout_machine.specs.Actions.{ActionPlace, action_place, history, outcome}
 use Rattle.rollout_machine.specs.Answers.{answer}
 use Rattle.rollout_machine.specs.Requests.{Asked}
-use Rattle.rollout_machine.specs.ByteStrings.{same_bytes}
+use Rattle.rollout_machine.specs.ByteStrings.{same_bytes, same_words}
 use Rattle.rollout_machine.specs.CommandList.{◌▸◌, Make, CommandList}
 use Rattle.rollout_machine.specs.Commands.{PutTargets, TargetRow, Feedback, CancelFeedback, Bytes, Command}
 use Rattle.rollout_machine.specs.Records.{records}
+use Rattle.rollout_machine.specs.Reports.{is_again}
 use Rattle.rollout_machine.specs.Validity.{IsValid}
 use Rattle.rollout_machine.specs.Verdicts.{verdict}
 use Rattle.std.specs.Prelude.{◌≡◌, Bool, true, false, ◌&&◌, ◌||◌, cond, List, [], ◌∷◌, Option, Some, None, is_some}
 
-abbrev pub has_outcome : CommandList → Option ActionPlace → Bool
-has_outcome h None = false
-has_outcome h (Some p) = is_some (outcome h p.rollout p.position)
+-- the action has an outcome, or has heard this by its number
+abbrev pub is_had : CommandList → Command → Option ActionPlace → Bool
+is_had h c None = false
+is_had h c (Some p) = is_some (outcome h p.rollout p.position) || is_again (history h p.rollout p.position) c
 
--- a feedback on an action that has an outcome before it
+-- a feedback on an action that has an outcome before it, or that is sent again with its number
 abbrev pub is_repeat : CommandList → Command → Bool
-is_repeat h (Feedback feedback) = has_outcome h (action_place h feedback.action)
-is_repeat h (CancelFeedback feedback) = has_outcome h (action_place h feedback.action)
+is_repeat h (Feedback feedback) = is_had h (Feedback feedback) (action_place h feedback.action)
+is_repeat h (CancelFeedback feedback) = is_had h (CancelFeedback feedback) (action_place h feedback.action)
 is_repeat h _ = false
-
-abbrev pub same_words : List Bytes → List Bytes → Bool
-same_words [] [] = true
-same_words [] (v ∷ vs) = false
-same_words (w ∷ ws) [] = false
-same_words (w ∷ ws) (v ∷ vs) = same_bytes w v && same_words ws vs
 
 abbrev pub same_row : TargetRow → TargetRow → Bool
 same_row a b = same_bytes a.id b.id && (same_bytes a.name b.name && (same_bytes a.digest b.digest && same_words a.tags b.tags))

@@ -2,7 +2,7 @@
 use Rattle.std.specs.Prelude.{ℕ, Bool, true, false, ◌&&◌, ◌||◌, not, cond, nat_eq, nat_lt, nat_le, List, [], ◌∷◌, ◌++◌, map, filter, length, Option}
 use Rattle.std.specs.Prelude.{Some, None, is_none, is_some}
 use Rattle.std.specs.List.{list_any, find}
-use Rattle.rollout_machine.specs.Actions.{HistoryEntry, Said, OfDeployment, OfCancel, outcome_of_deployment, outcome_of_cancel}
+use Rattle.rollout_machine.specs.Actions.{outcome_of_deployment, outcome_of_cancel}
 use Rattle.rollout_machine.specs.ByteStrings.{item_numbered, same_bytes, contains_word, with_words}
 use Rattle.rollout_machine.specs.CommandList.{CommandList}
 use Rattle.rollout_machine.specs.Commands.{Bytes, Credential, TargetRow, Attribute, ModuleLabel, SetLabel, Upload, RolloutPlan, NotedCancel, Command}
@@ -16,8 +16,10 @@ use Rattle.rollout_model.specs.Limits.{rollout_limit, module_limit, set_limit, m
 use Rattle.rollout_model.specs.Limits.{attribute_limit, note_limit}
 use Rattle.rollout_machine.specs.Records.{ArtifactRecord, GroupRecord, RolloutRecord, ActionRecord, Records, records}
 use Rattle.rollout_model.specs.declared.refusal.Refusal.{Refusal}
-use Rattle.rollout_model.specs.declared.refusal.Refusal.TheVariants.{Unauthorized, NotFound, Exists, Locked, WrongState, ClosedAction, Quota}
+use Rattle.rollout_model.specs.declared.refusal.Refusal.TheVariants.{Unauthorized, NotFound, Exists, Locked, WrongState, ClosedAction, OldNumber, Quota}
 use Rattle.rollout_model.specs.declared.refusal.Refusal.TheVariants.{BadFilter, TooFewTargets, WrongDigest}
+use Rattle.rollout_machine.specs.Reports.{HistoryEntry, Reported, Said, OfDeployment, OfCancel, Standing, entries_in, reported, says_again, says_old}
+use Rattle.rollout_machine.specs.Reports.{standing_of}
 use Rattle.rollout_machine.specs.Rollouts.{chosen}
 use Rattle.rollout_machine.specs.StateWords.{rollout_word, has_started, is_for, WaitingForApproval, ReadyRollout, PausedRollout, RunningRollout, RolloutWord}
 use Rattle.rollout_machine.specs.Targets.{Target}
@@ -78,7 +80,7 @@ abbrev pub is_note : HistoryEntry → Bool
 is_note entry = says_note entry.said
 
 abbrev pub notes_of : ActionRecord → ℕ
-notes_of a = length (filter is_note a.history)
+notes_of a = length (filter is_note (entries_in a.history))
 
 abbrev pub same_outcome : Option Outcome → Option Outcome → Bool
 same_outcome (Some o) p = is_outcome o p
@@ -91,6 +93,18 @@ is_device_action rs t (Some a) = is_for rs t a && has_started rs a
 abbrev pub on_action : (ActionRecord → Bool) → Option ActionRecord → Bool
 on_action p None = false
 on_action p (Some a) = p a
+
+-- a report that an open action has heard of a later one, or another one of its number
+abbrev pub is_old : Reported → ActionRecord → Bool
+is_old new a = is_none a.outcome && says_old (standing_of a.history new)
+
+-- a report that changes an open action
+abbrev pub is_new : Reported → ActionRecord → Bool
+is_new new a = is_none a.outcome && not (says_again (standing_of a.history new))
+
+-- a note for which there is no room
+abbrev pub is_beyond : Reported → ActionRecord → Bool
+is_beyond new a = is_note new.entry && nat_le note_limit (notes_of a)
 
 abbrev pub plan_row : Records → RolloutPlan → List (Bool × Refusal)
 plan_row rs plan =
@@ -156,9 +170,9 @@ verdict_row rs (Feedback feedback) =
           (item_numbered rs.actions feedback.action),
       ClosedAction,
     )
+    ∷ (on_action (is_old (reported OfDeployment feedback)) (item_numbered rs.actions feedback.action), OldNumber)
     ∷ (
-      on_action (λ a. is_none a.outcome && (says_note (OfDeployment feedback.word) && nat_le note_limit (notes_of a)))
-          (item_numbered rs.actions feedback.action),
+      on_action (λ a. is_new (reported OfDeployment feedback) a && is_beyond (reported OfDeployment feedback) a) (item_numbered rs.actions feedback.action),
       Quota,
     ) ∷ []
 verdict_row rs (CancelFeedback feedback) =
@@ -168,10 +182,10 @@ verdict_row rs (CancelFeedback feedback) =
       on_action (λ a. is_some a.outcome && not (same_outcome (outcome_of_cancel feedback.word) a.outcome)) (item_numbered rs.actions feedback.action),
       ClosedAction,
     )
-    ∷ (on_action (λ a. is_none a.outcome && not a.canceling) (item_numbered rs.actions feedback.action), WrongState)
+    ∷ (on_action (is_old (reported OfCancel feedback)) (item_numbered rs.actions feedback.action), OldNumber)
+    ∷ (on_action (λ a. is_new (reported OfCancel feedback) a && not a.canceling) (item_numbered rs.actions feedback.action), WrongState)
     ∷ (
-      on_action (λ a. is_none a.outcome && (says_note (OfCancel feedback.word) && nat_le note_limit (notes_of a)))
-          (item_numbered rs.actions feedback.action),
+      on_action (λ a. is_new (reported OfCancel feedback) a && is_beyond (reported OfCancel feedback) a) (item_numbered rs.actions feedback.action),
       Quota,
     ) ∷ []
 

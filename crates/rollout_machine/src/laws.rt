@@ -4,7 +4,7 @@ ghost use Rattle.rollout_machine.specs.Groupings.{GroupingCovers};
 ghost use Rattle.rollout_machine.specs.Meanings.{NumbersActions, NumbersDiffer, RowIsLast, TagsAreSaid, OutcomeIsFirst, CancelingIsLast, PausedIs};
 ghost use Rattle.rollout_machine.specs.Meanings.{FirstStartedIs, StartedIs, FinalIsAll, OfferIsLeast, TargetsAreNamed, ValueIsLast};
 ghost use Rattle.rollout_machine.specs.Promises.{OneGroupStarts, OthersStay, NoGroupIsLeft, NamedIsOfferable, DownloadsAreOffered, StoredSayAll};
-ghost use Rattle.rollout_machine.specs.Promises.{DerivedFollow, OffersStay, OffersFollow, NotesGrow};
+ghost use Rattle.rollout_machine.specs.Promises.{DerivedFollow, NumbersRise, OffersStay, OffersFollow, NotesGrow};
 ghost use Rattle.rollout_machine.specs.Repeats.{RepeatsLeaveNoTrace};
 ghost use Rattle.rollout_machine.specs.Splits.{FirstEmptyTells, SplitCovers};
 ghost use Rattle.rollout_machine.specs.Validity.{StepsRecords};
@@ -132,6 +132,11 @@ pub fn offers_follow()
 /// An action has as many notes more as its feedback adds.
 pub fn notes_grow()
     ensures { NotesGrow }
+{}
+
+/// The numbers of the feedback on an action rise.
+pub fn numbers_rise()
+    ensures { NumbersRise }
 {}
 
 /// The groups of a split by percentages, of which none is empty and the last takes all that is left, follow one another from the first

@@ -2,7 +2,7 @@
 
 use crate::bounds::Bounds;
 use crate::outcome::Outcome;
-use rollout_model::{Approval, ControllerId, HistoryEntry, Items, RolloutNo, RolloutPlan};
+use rollout_model::{Approval, ControllerId, Items, Reported, RolloutNo, RolloutPlan};
 
 /// A group of a rollout, with how many of its actions have which outcome.
 #[derive(Clone, Copy)]
@@ -39,5 +39,5 @@ pub struct ActionRecord {
     pub canceling: bool,
     pub outcome: Option<Outcome>,
     /// The feedback up to the one that gave the outcome.
-    pub history: Items<HistoryEntry>,
+    pub history: Items<Reported>,
 }

@@ -35,12 +35,8 @@ pub fn command_is_well_formed(command: &Command)
         | Command::Resume(number)
         | Command::TriggerNext(number) => number_is_well_formed(*number),
         Command::Cancel(cancel) => cancel_is_well_formed(cancel),
-        Command::Feedback(feedback) => {
-            feedback_is_well_formed(&feedback.credential, feedback.action, &feedback.details)
-        }
-        Command::CancelFeedback(feedback) => {
-            feedback_is_well_formed(&feedback.credential, feedback.action, &feedback.details)
-        }
+        Command::Feedback(feedback) => feedback_is_well_formed(feedback),
+        Command::CancelFeedback(feedback) => feedback_is_well_formed(feedback),
     }
 }
 

@@ -1,10 +1,10 @@
 //! What the types of the parts of a command on rollouts promise.
 
 ghost use Rattle.std.specs.Prelude.{◌≡◌, ◌&&◌, true};
-ghost use Rattle.rollout_machine.specs.CommandRules.{is_credential, is_plan};
-ghost use Rattle.rollout_model.specs.Rules.{are_details, is_number, is_word};
+ghost use Rattle.rollout_machine.specs.CommandRules.{is_device_feedback, is_plan};
+ghost use Rattle.rollout_model.specs.Rules.{is_number, is_word};
 
-use rollout_model::{ActionNo, Cancel, Credential, Details, RolloutNo, RolloutPlan};
+use rollout_model::{Cancel, DeviceFeedback, RolloutNo, RolloutPlan};
 
 pub(super) fn plan_is_well_formed(plan: &RolloutPlan)
     ensures { is_plan plan.now ≡ true }
@@ -31,11 +31,14 @@ pub(super) fn cancel_is_well_formed(cancel: &Cancel)
     let _action = cancel.action.get();
 }
 
-pub(super) fn feedback_is_well_formed(credential: &Credential, action: ActionNo, details: &Details)
-    ensures { (is_credential credential.now && (is_number action && are_details details.now)) ≡ true }
+pub(super) fn feedback_is_well_formed<W: Copy>(feedback: &DeviceFeedback<W>)
+    ensures { is_device_feedback feedback.now ≡ true }
 {
-    let _id = credential.id.as_str();
-    let _digest = credential.digest.as_bytes();
-    let _action = action.get();
-    let _details = details.as_slice();
+    let _id = feedback.credential.id.as_str();
+    let _digest = feedback.credential.digest.as_bytes();
+    let _action = feedback.action.get();
+    let _details = feedback.details.as_slice();
+    if let Some(number) = &feedback.number {
+        let _number = number.get();
+    }
 }
