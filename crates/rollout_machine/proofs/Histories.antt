@@ -1,12 +1,13 @@
 -- The outcome of an action fits its history.
-use Rattle.std.proofs.Common.{◌≡◌, ℕ, Bool, true, false, cond, ◌&&◌, List, [], ◌∷◌, ◌++◌, refl, sym, ◌∙◌, subst, inl, inr, Option, Some, None}
+use Rattle.std.proofs.Common.{◌≡◌, ℕ, Bool, true, false, cond, ◌&&◌, List, [], ◌∷◌, ◌++◌, refl, sym, ◌∙◌, ap, subst, inl, inr, Option, Some, None}
 use Rattle.std.specs.Prelude.{is_none}
 use Rattle.std.specs.Option.{option_or}
-use Rattle.rollout_machine.specs.Actions.{HistoryEntry, entries_of, history, is_on_action, outcome, outcome_given, outcome_said, cancel_stands}
+use Rattle.rollout_machine.specs.Actions.{history, is_heard, outcome, outcome_given, outcome_said, cancel_stands}
 use Rattle.rollout_machine.specs.CommandList.{CommandList, Make, ◌▸◌}
 use Rattle.rollout_machine.specs.Commands.{Command, Cancel, CancelFeedback, Feedback, Outcome, Gone}
 use Rattle.rollout_machine.specs.Histories.{first_outcome, FitsHistory, OutcomesFitHistories}
-use Rattle.rollout_machine.proofs.Actions.{append_none}
+use Rattle.rollout_machine.specs.Reports.{HistoryEntry, Reported, entries_in, reported_by}
+use Rattle.rollout_machine.proofs.Actions.{append_none, entries_both}
 use Rattle.rollout_machine.proofs.AtNumbers.{has_place}
 
 or_none : (o : Option Outcome) → option_or o None ≡ o
@@ -27,7 +28,7 @@ given_fits : (o : Option Outcome) (es : List HistoryEntry) → first_outcome es 
 given_fits o es e = record { given = λ said d. sym e ∙ d; not_given = λ none. inl (sym e ∙ none) }
 
 -- the entries of a command on an open action give the outcome that the command gives; a forced cancel has no entry
-entries_fit : (c : Command) (canceling : Bool) → FitsHistory (outcome_given c canceling) (entries_of c)
+entries_fit : (c : Command) (canceling : Bool) → FitsHistory (outcome_given c canceling) (entries_in (reported_by c))
 entries_fit (Feedback report) canceling = given_fits _ _ (or_none _)
 entries_fit (CancelFeedback report) canceling = given_fits _ _ (or_none _)
 entries_fit (Cancel t k force) canceling = go (force && canceling)
@@ -52,11 +53,18 @@ fits_after (Some x) given es fs false v w = rw append_none v
 fits_after None given es fs false v w = rw append_none v
 fits_after None given es fs true v w = let same = first_behind es fs (open_gives_none es v) in record { given = λ said e. w.given said (sym same ∙ e); not_given = λ none. w.not_given (sym same ∙ none) }
 
-fits : (h : CommandList) (r j : ℕ) → FitsHistory (outcome h r j) (history h r j)
+entries_if : (b : Bool) (reports : List Reported) → entries_in (cond b reports []) ≡ cond b (entries_in reports) []
+entries_if true reports = refl
+entries_if false reports = refl
+
+fits : (h : CommandList) (r j : ℕ) → FitsHistory (outcome h r j) (entries_in (history h r j))
 fits (Make approval) r j = given_fits None [] refl
-fits (h ▸ c) r j = fits_after (outcome h r j) _ (history h r j) (entries_of c) (is_on_action h c r j) (fits h r j) (entries_fit c (is_none (outcome h r j) && cancel_stands h r j))
+fits (h ▸ c) r j =
+    let entries = entries_both (history h r j) _ ∙ ap (λ es. entries_in (history h r j) ++ es) (entries_if (is_heard h c r j && is_none (outcome h r j)) (reported_by c)) in
+    subst (FitsHistory (outcome (h ▸ c) r j)) (sym entries) (fits_after (outcome h r j) _ (entries_in (history h r j)) (entries_in (reported_by c)) (is_heard h c r j) (fits h r j)
+    (entries_fit c (is_none (outcome h r j) && cancel_stands h r j)))
 
 pub outcomes_fit_histories : OutcomesFitHistories
 outcomes_fit_histories h k a e =
     let at = has_place h k a e in
-    subst (λ b. FitsHistory b.outcome b.history) (sym at.is) (fits h at.place.rollout at.place.position)
+    subst (λ b. FitsHistory b.outcome (entries_in b.history)) (sym at.is) (fits h at.place.rollout at.place.position)

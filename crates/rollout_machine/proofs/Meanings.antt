@@ -1,5 +1,6 @@
 -- What the computing definitions mean, in words about the commands of a history.
-use Rattle.rollout_machine.specs.Actions.{ActionPlace, action_places, places_from, places_of, new_places, action_place, action_of, is_on_action, is_action_place, outcome_given, outcome, outcome_of_deployment, outcome_of_cancel, cancel_standing_said, cancel_stands, is_canceling}
+use Rattle.rollout_machine.specs.Actions.{ActionPlace, action_places, places_from, places_of, new_places, action_place, action_of, is_heard, is_on_action, is_action_place, outcome_given, outcome, outcome_of_deployment, outcome_of_cancel, cancel_standing_said, cancel_stands, is_canceling, reports}
+use Rattle.rollout_machine.specs.Reports.{is_again}
 use Rattle.rollout_machine.specs.ByteStrings.{same_bytes, item_numbered}
 use Rattle.rollout_machine.specs.CommandList.{CommandList, Make, ◌▸◌, followed_by}
 use Rattle.rollout_machine.specs.Commands.{Bytes, TargetRow, Command, PutTargets, Start, Pause, TriggerNext, Cancel, Feedback, CancelFeedback, Succeeded, Failed, Noted, ClosedCancel, CanceledCancel, RejectedCancel, NotedCancel, DeploymentWord, CancelWord, Outcome, Good, Bad, Gone, Rejected}
@@ -136,6 +137,17 @@ at_place (Some p) r j e =
 on_place : (h : CommandList) (c : Command) (r j : ℕ) → action_of h c ≡ Some (record { rollout = r; position = j }) → is_on_action h c r j ≡ true
 on_place h c r j e = rw e (rw (eq-eqb r r refl, eq-eqb j j refl) refl)
 
+-- what is heard on an action is on it, and isn't sent again
+heard_place : (h : CommandList) (c : Command) (r j : ℕ) → action_of h c ≡ Some (record { rollout = r; position = j }) → is_again (reports h r j) c ≡ false → is_heard h c r j ≡ true
+heard_place h c r j e n = rw (on_place h c r j e, n) refl
+
+pub placed : (h : CommandList) (c : Command) (r j : ℕ) → is_heard h c r j ≡ true → (action_of h c ≡ Some (record { rollout = r; position = j })) × (is_again (reports h r j) c ≡ false)
+placed h c r j e = let w : (is_on_action h c r j ≡ true) × (not (is_again (reports h r j) c) ≡ true) = and_parts _ _ e in (at_place (action_of h c) r j w.0, was (is_again (reports h r j) c) w.1)
+  where
+    was : (b : Bool) → not b ≡ true → b ≡ false
+    was true d = cc
+    was false d = refl
+
 -- the outcome after one more command
 abbrev outcome_after : Option Outcome → Bool → Option Outcome → Option Outcome
 outcome_after was on gives = option_or was (cond on gives None)
@@ -158,29 +170,29 @@ all_none was true gives e (inr d) = rw (e, d) refl
 pub none_gave : (h : CommandList) (r j : ℕ) → outcome h r j ≡ None → NoneGave h r j
 none_gave (Make approval) r j e = tt
 none_gave (h ▸ c) r j e =
-    let was : outcome h r j ≡ None = none_before (outcome h r j) (is_on_action h c r j) _ e in
-    (none_gave h r j was, λ o g. none_given (outcome h r j) (is_on_action h c r j) (outcome_given c (is_canceling h r j)) o e (on_place h c r j g.0) (gives_it h c r j o g.1))
+    let was : outcome h r j ≡ None = none_before (outcome h r j) (is_heard h c r j) _ e in
+    (none_gave h r j was, λ o g. none_given (outcome h r j) (is_heard h c r j) (outcome_given c (is_canceling h r j)) o e (heard_place h c r j g.0 g.1) (gives_it h c r j o g.2))
 
 pub not_given : (h : CommandList) (r j : ℕ) → NoneGave h r j → outcome h r j ≡ None
 not_given (Make approval) r j w = refl
-not_given (h ▸ c) r j w = go (is_on_action h c r j) (outcome_given c (is_canceling h r j)) refl refl (not_given h r j w.0)
+not_given (h ▸ c) r j w = go (is_heard h c r j) (outcome_given c (is_canceling h r j)) refl refl (not_given h r j w.0)
   where
-    go : (on : Bool) (gives : Option Outcome) → is_on_action h c r j ≡ on → outcome_given c (is_canceling h r j) ≡ gives → outcome h r j ≡ None → outcome_after (outcome h r j) (is_on_action h c r j) (outcome_given c (is_canceling h r j)) ≡ None
-    go false gives d k was = all_none (outcome h r j) (is_on_action h c r j) (outcome_given c (is_canceling h r j)) was (inl d)
-    go true None d k was = all_none (outcome h r j) (is_on_action h c r j) (outcome_given c (is_canceling h r j)) was (inr k)
-    go true (Some o) d k was = absurd (w.1 o (at_place (action_of h c) r j d, gave h c r j o k))
+    go : (on : Bool) (gives : Option Outcome) → is_heard h c r j ≡ on → outcome_given c (is_canceling h r j) ≡ gives → outcome h r j ≡ None → outcome_after (outcome h r j) (is_heard h c r j) (outcome_given c (is_canceling h r j)) ≡ None
+    go false gives d k was = all_none (outcome h r j) (is_heard h c r j) (outcome_given c (is_canceling h r j)) was (inl d)
+    go true None d k was = all_none (outcome h r j) (is_heard h c r j) (outcome_given c (is_canceling h r j)) was (inr k)
+    go true (Some o) d k was = absurd (w.1 o ((placed h c r j d).0, (placed h c r j d).1, gave h c r j o k))
 
 first_to : (h : CommandList) (r j : ℕ) (o : Outcome) → outcome h r j ≡ Some o → FirstOutcome h r j o
 first_to (Make approval) r j o e = cc
 first_to (h ▸ c) r j o e = go (outcome h r j) refl e (first_to h r j o)
   where
-    now : (on : Bool) → is_on_action h c r j ≡ on → outcome h r j ≡ None → outcome_after None on (outcome_given c (is_canceling h r j)) ≡ Some o → FirstOutcome (h ▸ c) r j o
-    now true d was e = record { at_end = record { before = h; command = c; rest = []; whole = refl }; gives = (at_place (action_of h c) r j d, gave h c r j o e); first = none_gave h r j was }
+    now : (on : Bool) → is_heard h c r j ≡ on → outcome h r j ≡ None → outcome_after None on (outcome_given c (is_canceling h r j)) ≡ Some o → FirstOutcome (h ▸ c) r j o
+    now true d was e = record { at_end = record { before = h; command = c; rest = []; whole = refl }; gives = ((placed h c r j d).0, (placed h c r j d).1, gave h c r j o e); first = none_gave h r j was }
     now false d was e = cc
 
-    go : (was : Option Outcome) → outcome h r j ≡ was → outcome_after was (is_on_action h c r j) (outcome_given c (is_canceling h r j)) ≡ Some o → (outcome h r j ≡ Some o → FirstOutcome h r j o) → FirstOutcome (h ▸ c) r j o
+    go : (was : Option Outcome) → outcome h r j ≡ was → outcome_after was (is_heard h c r j) (outcome_given c (is_canceling h r j)) ≡ Some o → (outcome h r j ≡ Some o → FirstOutcome h r j o) → FirstOutcome (h ▸ c) r j o
     go (Some p) d e ih = let w = ih (d ∙ e) in record { at_end = longer h c w.at_end; gives = w.gives; first = w.first }
-    go None d e ih = now (is_on_action h c r j) refl d e
+    go None d e ih = now (is_heard h c r j) refl d e
 
 stays : (g : CommandList) (cs : List Command) (r j : ℕ) (o : Outcome) → outcome g r j ≡ Some o → outcome (followed_by g cs) r j ≡ Some o
 stays g [] r j o e = e
@@ -193,7 +205,7 @@ first_from : (h : CommandList) (r j : ℕ) (o : Outcome) → FirstOutcome h r j 
 first_from h r j o w =
     let g : CommandList = w.at_end.before in
     let c : Command = w.at_end.command in
-    let now : outcome (g ▸ c) r j ≡ Some o = all_given (outcome g r j) (is_on_action g c r j) (outcome_given c (is_canceling g r j)) o (not_given g r j w.first) (on_place g c r j w.gives.0) (gives_it g c r j o w.gives.1) in
+    let now : outcome (g ▸ c) r j ≡ Some o = all_given (outcome g r j) (is_heard g c r j) (outcome_given c (is_canceling g r j)) o (not_given g r j w.first) (heard_place g c r j w.gives.0 w.gives.1) (gives_it g c r j o w.gives.2) in
     subst (λ (k : CommandList). outcome k r j ≡ Some o) w.at_end.whole (stays (g ▸ c) w.at_end.rest r j o now)
 
 pub outcome_is_first : OutcomeIsFirst
@@ -261,7 +273,7 @@ silent_after h (d ∷ cs) c r j w k = (w.0, silent_after (h ▸ d) cs c r j w.1 
 
 stands_to : (h : CommandList) (r j : ℕ) → cancel_stands h r j ≡ true → LastIsCancel h r j
 stands_to (Make approval) r j e = cc
-stands_to (h ▸ c) r j e = go (is_on_action h c r j) (cancel_standing_said c) refl refl e (stands_to h r j)
+stands_to (h ▸ c) r j e = go (is_heard h c r j) (cancel_standing_said c) refl refl e (stands_to h r j)
   where
     more : (SpeaksOfCancel h c r j → ⊥) → LastIsCancel h r j → LastIsCancel (h ▸ c) r j
     more k w = record {
@@ -275,19 +287,19 @@ stands_to (h ▸ c) r j e = go (is_on_action h c r j) (cancel_standing_said c) r
       last = silent_after (w.before ▸ Cancel w.target w.action w.force) w.rest c r j w.last (subst (λ (g : CommandList). SpeaksOfCancel g c r j → ⊥) (sym w.whole) k);
     }
 
-    now : (w : (t : Bytes) × (a : ℕ) × (force : Bool) × (c ≡ Cancel t a force)) → is_on_action h c r j ≡ true → LastIsCancel (h ▸ c) r j
-    now w d = record { before = h; target = w.0; action = w.1; force = w.2; rest = []; whole = ap (λ k. h ▸ k) (sym w.3); on = subst (λ (k : Command). is_on_action h k r j ≡ true) w.3 d; last = tt }
+    now : (w : (t : Bytes) × (a : ℕ) × (force : Bool) × (c ≡ Cancel t a force)) → is_heard h c r j ≡ true → LastIsCancel (h ▸ c) r j
+    now w d = record { before = h; target = w.0; action = w.1; force = w.2; rest = []; whole = ap (λ k. h ▸ k) (sym w.3); on = subst (λ (k : Command). is_on_action h k r j ≡ true) w.3 (and_parts _ _ d).0; last = tt }
 
-    go : (on : Bool) (said : Option Bool) → is_on_action h c r j ≡ on → cancel_standing_said c ≡ said → stands_after on said (cancel_stands h r j) ≡ true → (cancel_stands h r j ≡ true → LastIsCancel h r j) → LastIsCancel (h ▸ c) r j
+    go : (on : Bool) (said : Option Bool) → is_heard h c r j ≡ on → cancel_standing_said c ≡ said → stands_after on said (cancel_stands h r j) ≡ true → (cancel_stands h r j ≡ true → LastIsCancel h r j) → LastIsCancel (h ▸ c) r j
     go false said d k e ih = more (λ s. false≢true (sym d ∙ s.0)) (ih e)
     go true None d k e ih = more (λ s. false≢true (sym (ap (λ (v : Option Bool). is_some v) k) ∙ s.1)) (ih e)
     go true (Some b) d k e ih = now (is_cancel c b k e) d
 
 still_stands : (g : CommandList) (cs : List Command) (r j : ℕ) → NoneSpeaks g cs r j → cancel_stands g r j ≡ true → cancel_stands (followed_by g cs) r j ≡ true
 still_stands g [] r j w e = e
-still_stands g (c ∷ cs) r j w e = still_stands (g ▸ c) cs r j w.1 (go (is_on_action g c r j) (cancel_standing_said c) refl refl)
+still_stands g (c ∷ cs) r j w e = still_stands (g ▸ c) cs r j w.1 (go (is_heard g c r j) (cancel_standing_said c) refl refl)
   where
-    go : (on : Bool) (said : Option Bool) → is_on_action g c r j ≡ on → cancel_standing_said c ≡ said → stands_after on said (cancel_stands g r j) ≡ true
+    go : (on : Bool) (said : Option Bool) → is_heard g c r j ≡ on → cancel_standing_said c ≡ said → stands_after on said (cancel_stands g r j) ≡ true
     go false said d k = e
     go true None d k = e
     go true (Some b) d k = absurd (w.0 (d, ap (λ (v : Option Bool). is_some v) k))

@@ -1,9 +1,10 @@
 -- How many notes a command adds to an action.
-use Rattle.rollout_machine.specs.Actions.{HistoryEntry, entries_of}
 use Rattle.rollout_machine.specs.Promises.{NotesGrow}
+use Rattle.rollout_machine.specs.Reports.{HistoryEntry, entries_in, reported_by}
 use Rattle.rollout_machine.specs.Verdicts.{is_note, notes_of}
-use Rattle.std.proofs.Common.{◌≡◌, ◌+◌, Bool, true, false, cond, List, [], ◌∷◌, ◌++◌, length, refl, arith}
+use Rattle.std.proofs.Common.{◌≡◌, ◌+◌, Bool, true, false, cond, List, [], ◌∷◌, ◌++◌, length, refl, ◌∙◌, ap, arith}
 use Rattle.std.specs.Prelude.{filter, is_none}
+use Rattle.rollout_machine.proofs.Actions.{entries_both}
 
 notes_both : (es fs : List HistoryEntry) → length (filter is_note (es ++ fs)) ≡ length (filter is_note es) + length (filter is_note fs)
 notes_both [] fs = omega arith
@@ -14,6 +15,6 @@ notes_both (e ∷ es) fs = go (is_note e) refl (notes_both es fs) where
 
 pub notes_grow : NotesGrow
 notes_grow c a = go (is_none a.outcome) where
-  go : (b : Bool) → length (filter is_note (a.history ++ cond b (entries_of c) [])) ≡ notes_of a + cond b (length (filter is_note (entries_of c))) 0
-  go true = notes_both a.history (entries_of c)
-  go false = notes_both a.history []
+  go : (b : Bool) → length (filter is_note (entries_in (a.history ++ cond b (reported_by c) []))) ≡ notes_of a + cond b (length (filter is_note (entries_in (reported_by c)))) 0
+  go true = ap (λ es. length (filter is_note es)) (entries_both a.history (reported_by c)) ∙ notes_both (entries_in a.history) (entries_in (reported_by c))
+  go false = ap (λ es. length (filter is_note es)) (entries_both a.history []) ∙ notes_both (entries_in a.history) []

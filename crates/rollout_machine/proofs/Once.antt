@@ -3,71 +3,32 @@ use Rattle.rollout_machine.specs.Answers.{answer, query_reply, command_reply}
 use Rattle.rollout_machine.specs.Requests.{Asked, Rejected, Asks, Do, Ask}
 use Rattle.rollout_machine.proofs.Answering.{rejected_answer, query_answer, refused_answer, accepted_step}
 use Rattle.rollout_model.specs.declared.refusal.Refusal.{Refusal}
-use Rattle.rollout_machine.specs.Actions.{ActionPlace, action_of, is_on_action, is_action_place, outcome, action_places, action_place, history}
-use Rattle.rollout_machine.specs.ByteStrings.{contains_word, with_words, same_bytes, bytes_below, with_word}
+use Rattle.rollout_machine.specs.Actions.{ActionPlace, action_places, action_place}
+use Rattle.rollout_machine.specs.ByteStrings.{contains_word, with_words, same_bytes, same_words, bytes_below, with_word}
 use Rattle.rollout_machine.specs.CommandList.{CommandList, ◌▸◌, Make}
-use Rattle.rollout_machine.specs.Commands.{DeviceFeedback, DeploymentWord, Command, Feedback, Outcome, CancelWord, Bytes, PutTargets, TargetRow, CancelFeedback}
+use Rattle.rollout_machine.specs.Commands.{Command, Feedback, Bytes, PutTargets, TargetRow, CancelFeedback}
 use Rattle.rollout_machine.specs.RecordSteps.{step_records}
-use Rattle.rollout_machine.specs.Records.{rollouts_in, rollout_in, action_in, needs_approval, modules, artifacts, sets, records}
-use Rattle.rollout_machine.specs.Repeats.{without_repeats, is_doubled, same_rows, same_row, IsTraceless, same_words, has_outcome, RepeatsLeaveNoTrace, is_repeat}
+use Rattle.rollout_machine.specs.Records.{rollouts_in, action_in, needs_approval, modules, artifacts, sets, records}
+use Rattle.rollout_machine.specs.Repeats.{without_repeats, is_doubled, same_rows, same_row, IsTraceless, is_had, RepeatsLeaveNoTrace, is_repeat}
 use Rattle.rollout_machine.specs.Rollouts.{rollouts}
 use Rattle.rollout_machine.specs.Targets.{target_in, last_row_of, tags_in, target_ids, targets, attributes_in, Target, last_row_for, tags_by_row}
 use Rattle.rollout_machine.specs.Validity.{IsValid}
 use Rattle.rollout_machine.specs.Verdicts.{verdict, check}
 use Rattle.std.proofs.Common.{List, [], ◌∷◌, ◌||◌, cond, Option, None, subst, inl, inr}
-use Rattle.std.specs.Prelude.{map, is_some, ⊤}
+use Rattle.std.specs.Prelude.{map, ⊤}
 use Rattle.std.specs.Option.{option_or, unwrap_or}
 use Rattle.std.proofs.lemmas.Bool.{false≢true, cases_Bool}
 use Rattle.rollout_machine.proofs.Imports.{IsSorted, sorted_ids, not_above, above_more, never_with}
 use Rattle.rollout_machine.proofs.TargetTies.{same_refl, same_true, has_with}
 use Rattle.rollout_machine.proofs.EffectLaws.{calm_outcome}
 use Rattle.rollout_machine.proofs.Actions.{calm_actions}
-use Rattle.rollout_machine.proofs.Whole.{calm_everywhere}
+use Rattle.rollout_machine.proofs.Whole.{bare, calm_everywhere, had_changes_nothing}
 use Rattle.rollout_machine.proofs.Induction.{accepted}
 use Rattle.rollout_machine.proofs.Main.{records_step}
 use Rattle.std.proofs.Common.{◌≡◌, Bool, true, false, ◌&&◌, refl, sym, ◌∙◌, ap, Some}
-use Rattle.std.specs.Prelude.{nat_eq}
-use Rattle.rollout_machine.proofs.Tallies.{closed_stays}
-use Rattle.rollout_machine.proofs.Actions.{same_action, append_none, map_same, off_action}
-use Rattle.rollout_machine.proofs.Whole.{IsAccepted, keeps, kept, from_numbers, same_outcomes, same_records, bare}
-use Rattle.std.proofs.lemmas.Bool.{and_parts, eqb-true}
-
-closed_action : (h : CommandList) (c : Command) (p : ActionPlace) (o : Outcome) → is_on_action h c p.rollout p.position ≡ true → outcome h p.rollout p.position ≡ Some o → action_in (h ▸ c) p ≡ action_in h p
-closed_action h c p o on e = same_action p _ _ _ _ _ _ (rw e refl) (rw e refl) (rw (on, e) (append_none (history h p.rollout p.position)))
-
-any_action : (h : CommandList) (c : Command) (q : ActionPlace) (o : Outcome) → action_of h c ≡ Some q → outcome h q.rollout q.position ≡ Some o → (p : ActionPlace) → action_in (h ▸ c) p ≡ action_in h p
-any_action h c q o t e p = go (is_on_action h c p.rollout p.position) refl
-  where
-    go : (b : Bool) → is_on_action h c p.rollout p.position ≡ b → action_in (h ▸ c) p ≡ action_in h p
-    go false f = off_action h c p f
-    go true f =
-        let both : (nat_eq q.rollout p.rollout && nat_eq q.position p.position) ≡ true = sym (ap (λ s. is_action_place s p.rollout p.position) t) ∙ f in
-        let parts : (nat_eq q.rollout p.rollout ≡ true) × (nat_eq q.position p.position ≡ true) = and_parts _ _ both in
-        let er : q.rollout ≡ p.rollout = eqb-true _ _ parts.0 in
-        let ej : q.position ≡ p.position = eqb-true _ _ parts.1 in
-        closed_action h c p o f (sym (ap (λ i. outcome h i p.position) er) ∙ sym (ap (λ i. outcome h q.rollout i) ej) ∙ e)
-
--- the records after a repeated feedback are those before it
-pub repeat_changes_nothing : (h : CommandList) (feedback : DeviceFeedback DeploymentWord) (q : ActionPlace) (o : Outcome) → IsAccepted h (Feedback feedback) → action_place h feedback.action ≡ Some q → outcome h q.rollout q.position ≡ Some o → records (h ▸ Feedback feedback) ≡ records h
-unfolding records
-repeat_changes_nothing h feedback q o w t e =
-    let c : Command = Feedback feedback in
-    bare h c _ _ _ _ _ (append_none (modules h)) (append_none (artifacts h)) (append_none (sets h)) (append_none (rollouts h)) (append_none (action_places h))
-    ∙ same_records (needs_approval h) _ _ _ _ _ _ _ _ _ _ _ _ refl refl refl refl
-    (kept h (h ▸ c) 1 (rollouts h) (from_numbers (λ r y. rollout_in (h ▸ c) r y ≡ rollout_in h r y) (rollouts h) (λ r y d.
-    keeps h c q w t r y d (same_outcomes h c q t (closed_stays h c q.rollout q.position o e ∙ sym e) r))))
-    (map_same (action_in (h ▸ c)) (action_in h) (any_action h c q o t e) (action_places h))
-
--- the records after a repeated feedback of a cancel are those before it
-pub cancel_repeat_changes_nothing : (h : CommandList) (feedback : DeviceFeedback CancelWord) (q : ActionPlace) (o : Outcome) → IsAccepted h (CancelFeedback feedback) → action_place h feedback.action ≡ Some q → outcome h q.rollout q.position ≡ Some o → records (h ▸ CancelFeedback feedback) ≡ records h
-unfolding records
-cancel_repeat_changes_nothing h feedback q o w t e =
-    let c : Command = CancelFeedback feedback in
-    bare h c _ _ _ _ _ (append_none (modules h)) (append_none (artifacts h)) (append_none (sets h)) (append_none (rollouts h)) (append_none (action_places h))
-    ∙ same_records (needs_approval h) _ _ _ _ _ _ _ _ _ _ _ _ refl refl refl refl
-    (kept h (h ▸ c) 1 (rollouts h) (from_numbers (λ r y. rollout_in (h ▸ c) r y ≡ rollout_in h r y) (rollouts h) (λ r y d.
-    keeps h c q w t r y d (same_outcomes h c q t (closed_stays h c q.rollout q.position o e ∙ sym e) r))))
-    (map_same (action_in (h ▸ c)) (action_in h) (any_action h c q o t e) (action_places h))
+use Rattle.rollout_machine.proofs.Actions.{append_none, map_same}
+use Rattle.rollout_machine.proofs.Whole.{same_records}
+use Rattle.std.proofs.lemmas.Bool.{and_parts}
 
 -- ---- an import that comes twice
 
@@ -162,24 +123,17 @@ rows_same (a ∷ as') (b ∷ bs) e =
 -- ---- the list without them
 
 repeat_same : (h : CommandList) (c : Command) → IsValid h → verdict h c ≡ None → is_repeat h c ≡ true → records (h ▸ c) ≡ records h
+unfolding records
 repeat_same h (Feedback feedback) v e d = go (action_place h feedback.action) refl d
   where
-    go : (p : Option ActionPlace) → action_place h feedback.action ≡ p → has_outcome h p ≡ true → records (h ▸ Feedback feedback) ≡ records h
+    go : (p : Option ActionPlace) → action_place h feedback.action ≡ p → is_had h (Feedback feedback) p ≡ true → records (h ▸ Feedback feedback) ≡ records h
     go None k d = cc
-    go (Some q) k d = had (outcome h q.rollout q.position) refl d
-      where
-        had : (o : Option Outcome) → outcome h q.rollout q.position ≡ o → is_some o ≡ true → records (h ▸ Feedback feedback) ≡ records h
-        had None j d = cc
-        had (Some o) j d = repeat_changes_nothing h feedback q o (accepted h (Feedback feedback) v e) k j
+    go (Some q) k d = bare h (Feedback feedback) _ _ _ _ _ (append_none (modules h)) (append_none (artifacts h)) (append_none (sets h)) (append_none (rollouts h)) (append_none (action_places h)) ∙ had_changes_nothing h (Feedback feedback) q (accepted h (Feedback feedback) v e) k d
 repeat_same h (CancelFeedback feedback) v e d = go (action_place h feedback.action) refl d
   where
-    go : (p : Option ActionPlace) → action_place h feedback.action ≡ p → has_outcome h p ≡ true → records (h ▸ CancelFeedback feedback) ≡ records h
+    go : (p : Option ActionPlace) → action_place h feedback.action ≡ p → is_had h (CancelFeedback feedback) p ≡ true → records (h ▸ CancelFeedback feedback) ≡ records h
     go None k d = cc
-    go (Some q) k d = had (outcome h q.rollout q.position) refl d
-      where
-        had : (o : Option Outcome) → outcome h q.rollout q.position ≡ o → is_some o ≡ true → records (h ▸ CancelFeedback feedback) ≡ records h
-        had None j d = cc
-        had (Some o) j d = cancel_repeat_changes_nothing h feedback q o (accepted h (CancelFeedback feedback) v e) k j
+    go (Some q) k d = bare h (CancelFeedback feedback) _ _ _ _ _ (append_none (modules h)) (append_none (artifacts h)) (append_none (sets h)) (append_none (rollouts h)) (append_none (action_places h)) ∙ had_changes_nothing h (CancelFeedback feedback) q (accepted h (CancelFeedback feedback) v e) k d
 repeat_same h _ v e d = cc
 
 doubled_same : (h : CommandList) (c : Command) → IsValid h → verdict h c ≡ None → is_doubled h c ≡ true → records (h ▸ c) ≡ records h

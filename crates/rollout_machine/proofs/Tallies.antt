@@ -3,7 +3,7 @@ use Rattle.std.proofs.Common.{◌≡◌, ℕ, zero, suc, ◌+◌, ◌*◌, ◌�
 use Rattle.std.specs.Prelude.{nat_le, nat_eq}
 use Rattle.std.specs.Option.{option_or}
 use Rattle.std.proofs.lemmas.Bool.{cases_eq, cases_Bool, lt-leb, ne_eqb, false≢true}
-use Rattle.rollout_machine.specs.Actions.{ActionPlace, action_of, is_on_action, is_action_place, outcome, outcome_given, cancel_stands}
+use Rattle.rollout_machine.specs.Actions.{ActionPlace, action_of, is_heard, is_on_action, is_action_place, outcome, outcome_given, cancel_stands}
 use Rattle.rollout_machine.specs.CommandList.{CommandList, ◌▸◌}
 use Rattle.rollout_machine.specs.Commands.{Command, Cancel, Feedback, CancelFeedback, Outcome, Good, Bad, Gone}
 use Rattle.rollout_machine.specs.Counts.{tally, reaches, success_holds, is_outcome}
@@ -25,7 +25,7 @@ untouched h c r j e = rw e (or_none (outcome h r j))
 pub closed_stays : (h : CommandList) (c : Command) (r j : ℕ) (o : Outcome) → outcome h r j ≡ Some o → outcome (h ▸ c) r j ≡ Some o
 closed_stays h c r j o e = rw e refl
 
-pub gives : (h : CommandList) (c : Command) (r j : ℕ) → is_on_action h c r j ≡ true → outcome h r j ≡ None → outcome (h ▸ c) r j ≡ outcome_given c (cancel_stands h r j)
+pub gives : (h : CommandList) (c : Command) (r j : ℕ) → is_heard h c r j ≡ true → outcome h r j ≡ None → outcome (h ▸ c) r j ≡ outcome_given c (cancel_stands h r j)
 gives h c r j on open' = rw (on, open') refl
 
 -- an open action of a group that isn't started stays so at the next command

@@ -1,23 +1,24 @@
 -- The records after one more command are the step of the records before it.
-use Rattle.std.proofs.Common.{◌≡◌, ℕ, zero, suc, ◌+◌, ◌≤◌, Bool, true, false, cond, ◌&&◌, List, [], ◌∷◌, ◌++◌, refl, sym, ◌∙◌, ap, subst, arith, inl, inr, Option, Some, None}
-use Rattle.std.specs.Prelude.{nat_eq, map, slice_get}
+use Rattle.std.proofs.Common.{◌≡◌, ℕ, zero, suc, ◌+◌, ◌≤◌, Bool, true, false, cond, ◌&&◌, ◌||◌, List, [], ◌∷◌, ◌++◌, refl, sym, ◌∙◌, ap, subst, arith, inl, inr, Option, Some, None}
+use Rattle.std.specs.Prelude.{is_some, nat_eq, map, slice_get}
 use Rattle.std.specs.Option.{option_map}
 use Rattle.std.proofs.lemmas.Bool.{cases_eq, cases_lt, ne_eqb, eq-eqb, eqb-true, false≢true, and_parts}
-use Rattle.rollout_machine.specs.Actions.{ActionPlace, action_of, is_on_action, is_action_place, outcome, outcome_given, cancel_stands, is_canceling, action_places, action_place, new_places, places_of, places_from, history}
+use Rattle.rollout_machine.specs.Actions.{ActionPlace, action_of, is_heard, is_on_action, is_action_place, outcome, outcome_given, cancel_stands, is_canceling, action_places, action_place, new_places, places_of, places_from, history}
 use Rattle.rollout_machine.specs.ByteStrings.{item_numbered}
 use Rattle.rollout_machine.specs.CommandList.{CommandList, ◌▸◌}
 use Rattle.rollout_machine.specs.Commands.{Command, DeviceFeedback, DeploymentWord, CancelWord, AddModule, Cancel, Feedback, CancelFeedback, Resume, TriggerNext, Pause, Start, Outcome, ModuleLabel, SetLabel}
 use Rattle.rollout_machine.specs.Effects.{IsLast, StartedOnly, HasSoundPlan}
 use Rattle.rollout_machine.specs.Progress.{is_group_started, is_pause_of, is_resume_of, is_trigger_of, is_start_of}
-use Rattle.rollout_machine.specs.RecordSteps.{change_rollout, rollout_after, resumed, triggered, begin_rollout, rollouts_after_outcome, outcome_if_new, own_group, step_action, step_records, new_action, new_actions}
+use Rattle.rollout_machine.specs.RecordSteps.{change_rollout, rollout_after, resumed, triggered, begin_rollout, rollouts_after_outcome, outcome_if_new, own_group, act_on, step_action, step_records, new_action, new_actions}
 use Rattle.rollout_machine.specs.Records.{ArtifactRecord, RolloutRecord, ActionRecord, Records, rollout_in, rollouts_in, action_in, approval_of, decision_on, needs_approval, modules, artifacts, sets, records}
+use Rattle.rollout_machine.specs.Reports.{is_again}
 use Rattle.rollout_machine.specs.Rollouts.{Rollout, rollouts, rollout_at, size_of}
 use Rattle.rollout_machine.specs.StateWords.{number_of_group}
 use Rattle.rollout_machine.specs.Targets.{Target, targets}
 use Rattle.rollout_machine.proofs.Cuts.{IsOwnGroup, group_of, in_its_group}
 use Rattle.rollout_machine.proofs.Tallies.{untouched, closed_stays, gives, quiet}
 use Rattle.rollout_machine.proofs.Ties.{find_holding, IsFollowed, IsCalm, calm_rollout, outcome_rollout, resume_rollout, trigger_rollout, pause_rollout, start_rollout, same_approval, silent}
-use Rattle.rollout_machine.proofs.Actions.{append_none, all_actions, calm_actions, numbered_map, map_append, same_action}
+use Rattle.rollout_machine.proofs.Actions.{append_none, all_actions, calm_actions, had_action, heard_open, map_same, numbered_map, map_append, on_own, same_action}
 use Rattle.rollout_machine.proofs.EffectLaws.{calm_outcome}
 
 -- ---- over the list of rollouts
@@ -93,7 +94,7 @@ gets o h c q x w t e a b was now =
     let f : IsFollowed x q.rollout h (w.last q.rollout) = w.follows q.rollout x e in
     let g : ℕ = group_of x q.position in
     let own : IsOwnGroup x g q.position = in_its_group x q.position f.sound a b in
-    let on : is_on_action h c q.rollout q.position ≡ true = rw (t, eq-eqb q.rollout q.rollout refl, eq-eqb q.position q.position refl) refl in
+    let on : is_on_action h c q.rollout q.position ≡ true = on_own h c q t in
     let st : is_group_started x q.rollout g h ≡ true = (w.started q.rollout x e).started g q.position own.first own.within on in
     outcome_rollout o x q.rollout g q.position (w.last q.rollout) h c f (w.started q.rollout x e) (some_last _ _ _ _ _ f.is_last own.first st)
     (record { on = t; within = own.within; first = own.first; last = own.last; was = was; now = now })
@@ -104,15 +105,15 @@ gets o h c q x w t e a b was now =
 own_is : (h : CommandList) (q : ActionPlace) (x : Rollout) → HasSoundPlan x → rollout_at h q.rollout ≡ Some x → 1 ≤ q.position → q.position ≤ size_of x → own_group (item_numbered (rollouts_in h 1 (rollouts h)) q.rollout) (action_in h q) ≡ group_of x q.position
 own_is h q x s e a b = ap (λ o. own_group o (action_in h q)) (rollout_numbered h q.rollout x e) ∙ ap number_of_group (find_holding x q.rollout h _ q.position s (in_its_group x q.position s a b))
 
-pub act_rollouts : (h : CommandList) (c : Command) (q : ActionPlace) (x : Rollout) → IsAccepted h c → action_of h c ≡ Some q → rollout_at h q.rollout ≡ Some x → 1 ≤ q.position → q.position ≤ size_of x
+pub act_rollouts : (h : CommandList) (c : Command) (q : ActionPlace) (x : Rollout) → IsAccepted h c → action_of h c ≡ Some q → rollout_at h q.rollout ≡ Some x → 1 ≤ q.position → q.position ≤ size_of x → is_again (history h q.rollout q.position) c ≡ false
     → rollouts_in (h ▸ c) 1 (rollouts h) ≡ rollouts_after_outcome (outcome_if_new (outcome h q.rollout q.position) (outcome_given c (is_canceling h q.rollout q.position))) (rollouts_in h 1 (rollouts h)) (action_in h q)
-act_rollouts h c q x w t e a b = go (outcome h q.rollout q.position) (outcome_given c (is_canceling h q.rollout q.position)) refl refl
+act_rollouts h c q x w t e a b new = go (outcome h q.rollout q.position) (outcome_given c (is_canceling h q.rollout q.position)) refl refl
   where
     calm : ((r j : ℕ) → outcome (h ▸ c) r j ≡ outcome h r j) → rollouts_in (h ▸ c) 1 (rollouts h) ≡ rollouts_in h 1 (rollouts h)
     calm o = kept h (h ▸ c) 1 (rollouts h) (from_numbers (λ r y. rollout_in (h ▸ c) r y ≡ rollout_in h r y) (rollouts h) (λ r y d. keeps h c q w t r y d (o r)))
 
-    on : is_on_action h c q.rollout q.position ≡ true
-    on = rw (t, eq-eqb q.rollout q.rollout refl, eq-eqb q.position q.position refl) refl
+    heard : outcome h q.rollout q.position ≡ None → is_heard h c q.rollout q.position ≡ true
+    heard n = heard_open h c q.rollout q.position (on_own h c q t) n new
 
     same_given : outcome h q.rollout q.position ≡ None → outcome_given c (cancel_stands h q.rollout q.position) ≡ outcome_given c (is_canceling h q.rollout q.position)
     same_given n = rw n refl
@@ -122,7 +123,7 @@ act_rollouts h c q x w t e a b = go (outcome h q.rollout q.position) (outcome_gi
     one o n gv r y d = elim (cases_eq r q.rollout) [
       | inr other ↦ (let test : nat_eq r q.rollout ≡ false = ne_eqb r q.rollout other in rw test (keeps h c q w t r y d (other_rollout h c q t r (λ s. other (sym s)))))
       | inl same ↦ (let P : ℕ → Rollout → Type 0 = λ s z. rollout_in (h ▸ c) s z ≡ cond (nat_eq s q.rollout) (rollout_after o (group_of x q.position) (rollout_in h s z)) (rollout_in h s z) in
-          let now : outcome (h ▸ c) q.rollout q.position ≡ Some o = gives h c q.rollout q.position on n ∙ same_given n ∙ gv in
+          let now : outcome (h ▸ c) q.rollout q.position ≡ Some o = gives h c q.rollout q.position (heard n) n ∙ same_given n ∙ gv in
           let own : P q.rollout x = gets o h c q x w t e a b n now ∙ sym (ap (λ v. cond v (rollout_after o (group_of x q.position) (rollout_in h q.rollout x)) (rollout_in h q.rollout x)) (eq-eqb q.rollout q.rollout refl)) in
           let options : Some y ≡ Some x = sym d ∙ ap (rollout_at h) same ∙ e in
           let rollout : y ≡ x = cc in
@@ -131,13 +132,17 @@ act_rollouts h c q x w t e a b = go (outcome h q.rollout q.position) (outcome_gi
 
     go : (o gv : Option Outcome) → outcome h q.rollout q.position ≡ o → outcome_given c (is_canceling h q.rollout q.position) ≡ gv → rollouts_in (h ▸ c) 1 (rollouts h) ≡ rollouts_after_outcome (outcome_if_new o gv) (rollouts_in h 1 (rollouts h)) (action_in h q)
     go (Some o) gv e1 e2 = calm (same_outcomes h c q t (closed_stays h c q.rollout q.position o e1 ∙ sym e1))
-    go None None e1 e2 = calm (same_outcomes h c q t (gives h c q.rollout q.position on e1 ∙ same_given e1 ∙ e2 ∙ sym e1))
+    go None None e1 e2 = calm (same_outcomes h c q t (gives h c q.rollout q.position (heard e1) e1 ∙ same_given e1 ∙ e2 ∙ sym e1))
     go None (Some o) e1 e2 =
         changed q.rollout (rollout_after o (group_of x q.position)) h (h ▸ c) 1 (rollouts h)
         (from_numbers (λ r y. rollout_in (h ▸ c) r y ≡ cond (nat_eq r q.rollout) (rollout_after o (group_of x q.position) (rollout_in h r y)) (rollout_in h r y)) (rollouts h) (one o e1 e2))
         ∙ ap (λ g. change_rollout q.rollout (rollout_after o g) (rollouts_in h 1 (rollouts h))) (sym (own_is h q x (w.follows q.rollout x e).sound e a b))
 
 -- ---- the whole records
+
+or_true : (b : Bool) → (b || true) ≡ true
+or_true true = refl
+or_true false = refl
 
 abbrev pub records_from : Bool → List ModuleLabel → List ArtifactRecord → List SetLabel → List Target → List RolloutRecord → List ActionRecord → Records
 records_from a ms us ss ts xs as' = record { approval = a; modules = ms; artifacts = us; sets = ss; targets = ts; rollouts = xs; actions = as' }
@@ -155,13 +160,28 @@ pub record IsPlaced (h : CommandList) (c : Command) (k : ℕ) : Type 0 where
   pub low : 1 ≤ place.position
   pub high : place.position ≤ size_of rollout
 
+-- what finds its action closed, or is sent again, changes nothing
+pub had_changes_nothing : (h : CommandList) (c : Command) (q : ActionPlace) → IsAccepted h c → action_of h c ≡ Some q → (is_some (outcome h q.rollout q.position) || is_again (history h q.rollout q.position) c) ≡ true
+    → records_from (needs_approval h) (modules h) (artifacts h) (sets h) (targets h) (rollouts_in (h ▸ c) 1 (rollouts h)) (map (action_in (h ▸ c)) (action_places h)) ≡ records h
+unfolding records
+had_changes_nothing h c q w t had =
+    let stays : (p : ActionPlace) → action_in (h ▸ c) p ≡ action_in h p = had_action h c q t had in
+    same_records (needs_approval h) _ _ _ _ _ _ _ _ _ _ _ _ refl refl refl refl
+    (kept h (h ▸ c) 1 (rollouts h) (from_numbers (λ r y. rollout_in (h ▸ c) r y ≡ rollout_in h r y) (rollouts h) (λ r y d.
+    keeps h c q w t r y d (same_outcomes h c q t (ap (λ (a : ActionRecord). a.outcome) (stays q)) r))))
+    (map_same (action_in (h ▸ c)) (action_in h) stays (action_places h))
+
 act_is : (h : CommandList) (c : Command) (k : ℕ) → IsAccepted h c → (p : IsPlaced h c k) → action_of h c ≡ Some p.place
     → records_from (needs_approval h) (modules h) (artifacts h) (sets h) (targets h) (rollouts_in (h ▸ c) 1 (rollouts h)) (map (action_in (h ▸ c)) (action_places h)) ≡ step_action (records h) c (item_numbered (map (action_in h) (action_places h)) k)
 unfolding records
 act_is h c k w p t =
     let found : item_numbered (map (action_in h) (action_places h)) k ≡ Some (action_in h p.place) = numbered_map (action_in h) (action_places h) k ∙ ap (option_map (action_in h)) p.numbered in
-    same_records (needs_approval h) _ _ _ _ _ _ _ _ _ _ _ _ refl refl refl refl (act_rollouts h c p.place p.rollout w t p.there p.low p.high) (all_actions h c p.place t (action_places h))
-    ∙ sym (ap (step_action (records h) c) found)
+    go (is_again (history h p.place.rollout p.place.position) c) refl ∙ sym (ap (step_action (records h) c) found)
+  where
+    go : (b : Bool) → is_again (history h p.place.rollout p.place.position) c ≡ b
+        → records_from (needs_approval h) (modules h) (artifacts h) (sets h) (targets h) (rollouts_in (h ▸ c) 1 (rollouts h)) (map (action_in (h ▸ c)) (action_places h)) ≡ cond b (records h) (act_on (records h) c (action_in h p.place))
+    go true d = had_changes_nothing h c p.place w t (rw d (or_true (is_some (outcome h p.place.rollout p.place.position))))
+    go false d = same_records (needs_approval h) _ _ _ _ _ _ _ _ _ _ _ _ refl refl refl refl (act_rollouts h c p.place p.rollout w t p.there p.low p.high d) (all_actions h c p.place t d (action_places h))
 
 -- nothing is made: the rollouts and actions are those that were there
 pub bare : (h : CommandList) (c : Command) → (ms : List ModuleLabel) (us : List ArtifactRecord) (ss : List SetLabel) (xs : List Rollout) (ps : List ActionPlace) → ms ≡ modules h → us ≡ artifacts h → ss ≡ sets h → xs ≡ rollouts h → ps ≡ action_places h

@@ -4,7 +4,7 @@ use Rattle.std.specs.Option.{option_or}
 use Rattle.rollout_machine.specs.ByteStrings.{item_numbered}
 use Rattle.rollout_machine.specs.CommandList.{CommandList, Make, ◌▸◌}
 use Rattle.rollout_machine.specs.Commands.{DeploymentWord, CancelWord, Succeeded, Failed, Rejected, Noted, ClosedCancel, CanceledCancel}
-use Rattle.rollout_machine.specs.Commands.{RejectedCancel, NotedCancel, Command, Start, Cancel, Feedback, CancelFeedback, DeviceFeedback}
+use Rattle.rollout_machine.specs.Commands.{RejectedCancel, NotedCancel, Command, Start, Cancel, Feedback, CancelFeedback}
 use Rattle.rollout_machine.specs.Commands.{Outcome, Good, Bad, Gone}
 use Rattle.rollout_machine.specs.Rollouts.{Rollout, rollout_at, size_of}
 use Rattle.rollout_machine.specs.Reports.{Reported, Said, OfDeployment, OfCancel, is_again, reported_by}

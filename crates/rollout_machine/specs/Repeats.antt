@@ -4,7 +4,7 @@ use Rattle.rollout_machine.specs.Answers.{answer}
 use Rattle.rollout_machine.specs.Requests.{Asked}
 use Rattle.rollout_machine.specs.ByteStrings.{same_bytes, same_words}
 use Rattle.rollout_machine.specs.CommandList.{◌▸◌, Make, CommandList}
-use Rattle.rollout_machine.specs.Commands.{PutTargets, TargetRow, Feedback, CancelFeedback, Bytes, Command}
+use Rattle.rollout_machine.specs.Commands.{PutTargets, TargetRow, Feedback, CancelFeedback, Command}
 use Rattle.rollout_machine.specs.Records.{records}
 use Rattle.rollout_machine.specs.Reports.{is_again}
 use Rattle.rollout_machine.specs.Validity.{IsValid}

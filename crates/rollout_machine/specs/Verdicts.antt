@@ -18,7 +18,7 @@ use Rattle.rollout_machine.specs.Records.{ArtifactRecord, GroupRecord, RolloutRe
 use Rattle.rollout_model.specs.declared.refusal.Refusal.{Refusal}
 use Rattle.rollout_model.specs.declared.refusal.Refusal.TheVariants.{Unauthorized, NotFound, Exists, Locked, WrongState, ClosedAction, OldNumber, Quota}
 use Rattle.rollout_model.specs.declared.refusal.Refusal.TheVariants.{BadFilter, TooFewTargets, WrongDigest}
-use Rattle.rollout_machine.specs.Reports.{HistoryEntry, Reported, Said, OfDeployment, OfCancel, Standing, entries_in, reported, says_again, says_old}
+use Rattle.rollout_machine.specs.Reports.{HistoryEntry, Reported, Said, OfDeployment, OfCancel, entries_in, reported, says_again, says_old}
 use Rattle.rollout_machine.specs.Reports.{standing_of}
 use Rattle.rollout_machine.specs.Rollouts.{chosen}
 use Rattle.rollout_machine.specs.StateWords.{rollout_word, has_started, is_for, WaitingForApproval, ReadyRollout, PausedRollout, RunningRollout, RolloutWord}

@@ -1,7 +1,7 @@
 -- Answers at their borders: what is shown, what is not found, pages, offers and downloads.
 use Rattle.rollout_machine.specs.Answers.{query_reply, command_reply}
 use Rattle.rollout_machine.specs.Commands.{ModuleLabel, AddModule, AddArtifact, AddSet, PutTargets, CreateRollout, Cancel, Succeeded}
-use Rattle.rollout_machine.specs.Actions.{OfDeployment}
+use Rattle.rollout_machine.specs.Reports.{OfDeployment}
 use Rattle.rollout_machine.specs.RecordSteps.{no_records, step_records}
 use Rattle.rollout_machine.specs.Records.{ArtifactRecord, Records}
 use Rattle.rollout_machine.specs.Replies.{Refused, ModuleAdded, ArtifactAdded, SetAdded, TargetsPut, PollShown, DeploymentShown, CancelShown, ContentsShown, TargetsShown, ActionsShown, ActionShown, HistoryShown, ModulesShown, ModuleShown, ArtifactsShown, ArtifactShown, RolloutsShown, GroupShown, ActionsTableShown, Module, Artifact, ShownTarget, ShownAction}
@@ -131,7 +131,7 @@ shown_action k i = record { number = k; rollout = 1; group = i; target = device 
 actions_of_devices : map (query_reply running) (ShowAction (device 4) 4 ∷ ShowAction (device 4) 5 ∷ ShowTargetActions (device 4) (page 0 50) ∷ []) ≡ ActionShown (shown_action 4 2) ∷ Refused NotFound ∷ ActionsShown (record { content = shown_action 4 2 ∷ []; total = 1 }) ∷ []
 actions_of_devices = refl
 
-histories : query_reply (run_of (rolled_out everyone 3 50 100 ++ succeeds 1 1 ∷ succeeds 1 1 ∷ [])) (ShowHistory (device 1) 1 (page 0 50)) ≡ HistoryShown (record { content = record { number = 1; entry = record { said = OfDeployment Succeeded; details = [] } } ∷ []; total = 1 })
+histories : query_reply (run_of (rolled_out everyone 3 50 100 ++ succeeds 1 1 ∷ succeeds 1 1 ∷ [])) (ShowHistory (device 1) 1 (page 0 50)) ≡ HistoryShown (record { content = record { number = 1; reported = record { entry = record { said = OfDeployment Succeeded; details = [] }; number = None } } ∷ []; total = 1 })
 histories = refl
 
 -- the table of actions is empty before the start

@@ -1,5 +1,5 @@
 -- A fleet of ten devices, and runs over it: what the worked examples speak of.
-use Rattle.std.specs.Prelude.{ℕ, codes, ◌+◌, replicate, Bool, true, false, ◌&&◌, List, [], ◌∷◌, ◌++◌, map, Option, is_none}
+use Rattle.std.specs.Prelude.{ℕ, codes, ◌+◌, replicate, Bool, true, false, ◌&&◌, List, [], ◌∷◌, ◌++◌, map, Option, None, is_none}
 use Rattle.std.specs.Option.{option_map}
 use Rattle.rollout_model.specs.Groupings.{evenly}
 use Rattle.rollout_machine.specs.ByteStrings.{item_numbered}
@@ -43,13 +43,13 @@ abbrev pub by : ℕ → Credential
 by k = record { id = device k; digest = token k }
 
 abbrev pub succeeds : ℕ → ℕ → Command
-succeeds k a = Feedback (record { credential = by k; action = a; word = Succeeded; details = [] })
+succeeds k a = Feedback (record { credential = by k; action = a; word = Succeeded; details = []; number = None })
 
 abbrev pub fails : ℕ → ℕ → Command
-fails k a = Feedback (record { credential = by k; action = a; word = Failed; details = [] })
+fails k a = Feedback (record { credential = by k; action = a; word = Failed; details = []; number = None })
 
 abbrev pub rejects : ℕ → ℕ → Command
-rejects k a = CancelFeedback (record { credential = by k; action = a; word = RejectedCancel; details = [] })
+rejects k a = CancelFeedback (record { credential = by k; action = a; word = RejectedCancel; details = []; number = None })
 
 -- ---- runs by the records, and by the history
 abbrev pub run_of : List Command → Records

@@ -79,7 +79,7 @@ first_counts : outcome (history_of (rolled_out (only 1) 1 50 100 ++ Cancel (devi
 first_counts = refl
 
 -- verdicts of feedback: 2 before 3 before 8 before 10
-v_unknown : verdict (history_of (rolled_out (only 1) 1 50 100)) (Feedback (record { credential = record { id = device 1; digest = device 2 }; action = 77; word = Succeeded; details = [] })) ≡ Some Unauthorized
+v_unknown : verdict (history_of (rolled_out (only 1) 1 50 100)) (Feedback (record { credential = record { id = device 1; digest = device 2 }; action = 77; word = Succeeded; details = []; number = None })) ≡ Some Unauthorized
 unfolding records
 v_unknown = refl
 
@@ -99,7 +99,7 @@ v_repeat : verdict (history_of (rolled_out (only 1) 1 50 100 ++ succeeds 1 1 ∷
 unfolding records
 v_repeat = refl
 
-v_note_closed : verdict (history_of (rolled_out (only 1) 1 50 100 ++ succeeds 1 1 ∷ [])) (Feedback (record { credential = by 1; action = 1; word = Noted Proceeding; details = [] })) ≡ Some ClosedAction
+v_note_closed : verdict (history_of (rolled_out (only 1) 1 50 100 ++ succeeds 1 1 ∷ [])) (Feedback (record { credential = by 1; action = 1; word = Noted Proceeding; details = []; number = None })) ≡ Some ClosedAction
 unfolding records
 v_note_closed = refl
 
@@ -111,7 +111,7 @@ v_feedback_scheduled : verdict (history_of (rolled_out everyone 3 50 100)) (succ
 unfolding records
 v_feedback_scheduled = refl
 
-v_gone : verdict (history_of (rolled_out (only 1) 1 50 100 ++ Cancel (device 1) 1 true ∷ Cancel (device 1) 1 true ∷ [])) (CancelFeedback (record { credential = by 1; action = 1; word = CanceledCancel; details = [] })) ≡ None
+v_gone : verdict (history_of (rolled_out (only 1) 1 50 100 ++ Cancel (device 1) 1 true ∷ Cancel (device 1) 1 true ∷ [])) (CancelFeedback (record { credential = by 1; action = 1; word = CanceledCancel; details = []; number = None })) ≡ None
 unfolding records
 v_gone = refl
 
@@ -129,7 +129,7 @@ v_pause_finished = refl
 
 -- notes: 100 are taken, the next is refused, whatever its kind; a final one isn't
 abbrev note : Command
-note = Feedback (record { credential = by 1; action = 1; word = Rejected; details = [] })
+note = Feedback (record { credential = by 1; action = 1; word = Rejected; details = []; number = None })
 
 abbrev noted : Records
 noted = run_of (rolled_out (only 1) 1 50 100 ++ replicate 99 note)
@@ -143,13 +143,13 @@ n_more = refl
 n_final : check (step_records noted note) (succeeds 1 1) ≡ None
 n_final = refl
 
-n_cancel_note : check (step_records (step_records noted note) (Cancel (device 1) 1 false)) (CancelFeedback (record { credential = by 1; action = 1; word = NotedCancel Proceeding; details = [] })) ≡ Some Quota
+n_cancel_note : check (step_records (step_records noted note) (Cancel (device 1) 1 false)) (CancelFeedback (record { credential = by 1; action = 1; word = NotedCancel Proceeding; details = []; number = None })) ≡ Some Quota
 n_cancel_note = refl
 
 n_rejects : check (step_records (step_records noted note) (Cancel (device 1) 1 false)) (rejects 1 1) ≡ None
 n_rejects = refl
 
-n_order : check (step_records noted note) (CancelFeedback (record { credential = by 1; action = 1; word = NotedCancel Proceeding; details = [] })) ≡ Some WrongState
+n_order : check (step_records noted note) (CancelFeedback (record { credential = by 1; action = 1; word = NotedCancel Proceeding; details = []; number = None })) ≡ Some WrongState
 n_order = refl
 
 -- the word of the target by its last started action
