@@ -10,7 +10,7 @@ use Rattle.rollout_model.specs.PlanRules.{rule_by}
 use Rattle.rollout_model.specs.Rules.{is_between, is_group_count, is_percentage}
 use Rattle.rollout_machine.specs.CommandRules.{is_plan}
 use Rattle.rollout_machine.specs.Commands.{RolloutPlan}
-use Rattle.rollout_machine.specs.GroupRules.{success_at, error_at}
+use Rattle.rollout_machine.specs.GroupRules.{GroupRule, rule_at, success_at, error_at}
 use Rattle.rollout_machine.specs.Groupings.{GroupDefinition, GroupingCovers, last_defined, percentages, some_empty}
 use Rattle.rollout_machine.specs.Groups.{IsCut}
 use Rattle.rollout_machine.specs.Splits.{LeavesNoneEmpty, first_empty, split_last}
@@ -80,14 +80,18 @@ pub record HasThresholds (s e : ℕ) : Type 0 where
 thresholds : (success error : ℕ) → is_percentage success ≡ true → is_percentage error ≡ true → HasThresholds success error
 thresholds success error s e = record { success = least 1 percentage_limit success s; error = least 1 percentage_limit error e }
 
-by_rule : (o : Option GroupDefinition) (plan : RolloutPlan) → is_percentage plan.success ≡ true → is_percentage plan.error ≡ true → ((d : GroupDefinition) → o ≡ Some d → is_definition d ≡ true)
-    → HasThresholds (rule_by o plan).success (rule_by o plan).error
-by_rule None plan s e each = thresholds plan.success plan.error s e
-by_rule (Some d) plan s e each = let parts = and_parts _ _ (and_parts _ _ (each d refl)).1 in thresholds d.success d.error parts.0 parts.1
+-- what holds of the rollout's own thresholds, and of each definition that keeps its rules, holds of what is said of each group
+pub each_rule : (P : GroupRule → Type 0) (plan : RolloutPlan) (i : ℕ) → is_plan plan ≡ true → (is_percentage plan.success ≡ true → is_percentage plan.error ≡ true → P (rule_by None plan)) → ((d : GroupDefinition) → is_definition d ≡ true → P (rule_by (Some d) plan)) → P (rule_at plan i)
+each_rule P plan i formed even defined =
+    let parts = and_parts _ _ formed in
+    let more = and_parts _ _ parts.1 in
+    go (definition_numbered plan.groups.definitions i) (even more.0 (and_parts _ _ more.1).0) (λ d at. defined d (numbered_is plan.groups.definitions plan.groups.count i d (and_parts _ _ parts.0).1 at))
+  where
+    go : (o : Option GroupDefinition) → P (rule_by None plan) → ((d : GroupDefinition) → o ≡ Some d → P (rule_by (Some d) plan)) → P (rule_by o plan)
+    go None own each = own
+    go (Some d) own each = each d refl
 
 pub has_thresholds : (plan : RolloutPlan) (i : ℕ) → is_plan plan ≡ true → HasThresholds (success_at plan i) (error_at plan i)
 has_thresholds plan i formed =
-    let parts = and_parts _ _ formed in
-    let more = and_parts _ _ parts.1 in
-    let each = (and_parts _ _ parts.0).1 in
-    by_rule (definition_numbered plan.groups.definitions i) plan more.0 (and_parts _ _ more.1).0 (λ d at. numbered_is plan.groups.definitions plan.groups.count i d each at)
+    each_rule (λ (rule : GroupRule). HasThresholds rule.success rule.error) plan i formed (thresholds plan.success plan.error)
+    (λ d own. let parts = and_parts _ _ (and_parts _ _ own).1 in thresholds d.success d.error parts.0 parts.1)

@@ -16,6 +16,11 @@ get_each f a zero i x e = cc
 get_each f a (suc n) zero x e = let k : a + 0 ≡ a = omega arith in (omega arith, rw k (cc))
 get_each f a (suc n) (suc i) x e = let rest = get_each f (suc a) n i x e in let k : suc a + i ≡ a + suc i = omega arith in (omega (arith, rest.0), rw (← k) rest.1)
 
+pub each_there : {X : Type 0} (f : ℕ → X) (first n k i : ℕ) → k < n → i ≡ first + k → slice_get (each_from f first n) k ≡ Some (f i)
+each_there f first zero k i below at = absurd (omega (arith, below))
+each_there f first (suc n) zero i below at = ap (λ j. Some (f j)) (omega (arith, at))
+each_there f first (suc n) (suc k) i below at = each_there f (suc first) n k i (omega (arith, below)) (omega (arith, at))
+
 -- what stands at a number in the list of the numbers from 1 on
 pub numbered_each : {X : Type 0} (f : ℕ → X) (n i : ℕ) (x : X) → item_numbered (each_from f 1 n) i ≡ Some x → (1 ≤ i) × (i ≤ n) × (x ≡ f i)
 numbered_each f n zero x e = cc

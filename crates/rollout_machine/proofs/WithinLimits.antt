@@ -87,28 +87,34 @@ record IsSmall (x : Rollout) : Type 0 where
   members : size_of x ≤ 10000
   groups : x.plan.groups.count ≤ 50
 
-abbrev made : RolloutPlan → List Bytes → Rollout
+abbrev pub made : RolloutPlan → List Bytes → Rollout
 made plan members = record { plan = plan; members = members }
 
 few_groups : (plan : RolloutPlan) → is_plan plan ≡ true → plan.groups.count ≤ 50
 few_groups plan formed = leb-true _ _ (and_parts _ _ (and_parts _ _ (and_parts _ _ formed).0).0).1
 
-new_is_small : (h : CommandList) (c : Command) → IsWellFormed c → length (targets h) ≤ 10000 → (i : ℕ) (x : Rollout) → slice_get (created h c) i ≡ Some x → IsSmall x
-new_is_small h (CreateRollout plan) formed few zero x e =
-    let new : IsSmall (made plan (members_of plan.filter_text h)) = record { members = omega (arith, chosen_few (filter_of plan.filter_text) (targets h), few); groups = few_groups plan formed } in
-    let both : Some (made plan (members_of plan.filter_text h)) ≡ Some x = e in
-    let same : made plan (members_of plan.filter_text h) ≡ x = cc in
-    subst IsSmall same new
-new_is_small h (CreateRollout plan) formed few (suc i) x e = cc
-new_is_small h _ formed few i x e = cc
+-- what holds of each rollout that is created holds of all
+pub each_created : (P : Rollout → Type 0) → ((h : CommandList) (plan : RolloutPlan) → IsValid h → is_plan plan ≡ true → verdict h (CreateRollout plan) ≡ None → P (made plan (members_of plan.filter_text h))) → (h : CommandList) → IsValid h → (r : ℕ) (x : Rollout) → rollout_at h r ≡ Some x → P x
+each_created P new (Make approval) valid zero x e = cc
+each_created P new (Make approval) valid (suc i) x e = cc
+each_created P new (h ▸ c) valid r x e = elim (either_numbered (rollouts h) (created h c) r x e) [
+  | inl old ↦ each_created P new h valid.0 r x old
+  | inr more ↦ by_command c valid.1 valid.2 more.1.0 more.1.1
+]
+  where
+    by_command : (c : Command) → IsWellFormed c → verdict h c ≡ None → (i : ℕ) → slice_get (created h c) i ≡ Some x → P x
+    by_command (CreateRollout plan) formed accepted zero d =
+        let both : Some (made plan (members_of plan.filter_text h)) ≡ Some x = d in
+        let same : made plan (members_of plan.filter_text h) ≡ x = cc in
+        subst P same (new h plan valid.0 formed accepted)
+    by_command (CreateRollout plan) formed accepted (suc i) d = cc
+    by_command _ formed accepted i d = cc
 
 are_small : (h : CommandList) → IsValid h → (r : ℕ) (x : Rollout) → rollout_at h r ≡ Some x → IsSmall x
-are_small (Make approval) valid zero x e = cc
-are_small (Make approval) valid (suc i) x e = cc
-are_small (h ▸ c) valid r x e = elim (either_numbered (rollouts h) (created h c) r x e) [
-  | inl old ↦ are_small h valid.0 r x old
-  | inr new ↦ new_is_small h c valid.1 (few_targets h valid.0) new.1.0 x new.1.1
-]
+are_small = each_created IsSmall (λ h plan valid formed accepted. record {
+  members = omega (arith, chosen_few (filter_of plan.filter_text) (targets h), few_targets h valid);
+  groups = few_groups plan formed;
+})
 
 -- ---- counts
 
