@@ -12,12 +12,14 @@ pub mod Artifacts
 pub mod ArtifactRow
 pub mod TargetRow
 pub mod Rollouts
+pub mod FeedbackNumbers
 pub mod Actions
 pub mod NewEntries
 pub mod Offers
 pub mod Codes
 pub mod RolloutRow
 pub mod RuleRow
+pub mod NumberRow
 pub mod LedgerSteps
 pub mod EntryRow
 pub mod NextOffers

@@ -60,6 +60,9 @@ pub enum Column {
     EntryWord,
     EntryDetails,
     EntrySequence,
+    NumberSequence,
+    NumberValue,
+    NumberPlace,
     OfferAction,
     OfferKind,
 }
