@@ -2,7 +2,7 @@
 use Rattle.std.proofs.Common.{◌≡◌, ◌++◌, ℕ, suc, ◌+◌, List, [], ◌∷◌, length, slice_get, Option, Some, None, refl, sym, ap, subst, ◌∙◌, arith, append_assoc, append-nil}
 use Rattle.std.specs.List.{last_or}
 use Rattle.std.specs.Option.{option_or}
-use Rattle.rollout_machine.specs.Reports.{Reported, bearing, numbered_if}
+use Rattle.rollout_machine.specs.Reports.{Reported, bearing}
 use Rattle.desk_records.specs.FeedbackNumbers.{borne_at, numbers_from}
 use Rattle.desk_records.specs.declared.number_row.PlacedNumber.{PlacedNumber}
 use Rattle.desk_records.proofs.NumberRecords.{last_joined}

@@ -1,5 +1,5 @@
 -- The tables of the newest version hold records as the program keeps them.
-use Rattle.std.proofs.Common.{◌≡◌, ◌≤◌, ℕ, List, [], ◌∷◌, Option, Some, None, refl, sym, ap, ◌∙◌, arith}
+use Rattle.std.proofs.Common.{◌≡◌, ◌≤◌, ℕ, List, [], ◌∷◌, Option, Some, if◌then◌else◌, nat_eq, refl, sym, ap, ◌∙◌, arith}
 use Rattle.std.specs.List.{AllByRecursion}
 use Rattle.sqlite.specs.Effect.{Database}
 use Rattle.rollout_machine.specs.Records.{Records}
@@ -50,11 +50,8 @@ is_known Two = omega arith
 is_known Three = omega arith
 
 -- the one of a number
-numbered : ℕ → Option Version
-numbered 1 = Some One
-numbered 2 = Some Two
-numbered 3 = Some Three
-numbered n = None
+abbrev numbered : ℕ → Option Version
+numbered n = if nat_eq n 1 then Some One else (if nat_eq n 2 then Some Two else Some Three)
 
 is_numbered : (v : Version) → numbered (number_of v) ≡ Some v
 is_numbered One = refl

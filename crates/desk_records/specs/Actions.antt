@@ -3,11 +3,10 @@ use Rattle.std.specs.Prelude.{ℕ, List, [], ◌∷◌, ◌++◌, length, Option
 use Rattle.std.specs.List.{flat_map}
 use Rattle.sqlite_value.specs.declared.value.Value.TheVariants.{Null, Int, Text}
 use Rattle.sqlite_value.specs.Order.{Row}
-use Rattle.rollout_machine.specs.Actions.{HistoryEntry, Said, OfDeployment, OfCancel}
 use Rattle.rollout_machine.specs.ByteStrings.{item_numbered}
 use Rattle.rollout_machine.specs.Commands.{Bytes, DeploymentWord, CancelWord, NoteWord, Proceeding, Scheduled, Resumed, Succeeded, Failed, Rejected}
 use Rattle.rollout_machine.specs.Commands.{Noted, ClosedCancel, CanceledCancel, RejectedCancel, NotedCancel}
-use Rattle.rollout_machine.specs.Reports.{entries_in}
+use Rattle.rollout_machine.specs.Reports.{HistoryEntry, Said, OfDeployment, OfCancel, entries_in}
 use Rattle.rollout_machine.specs.StateWords.{member_at}
 use Rattle.rollout_machine.specs.Verdicts.{notes_of}
 use Rattle.rollout_machine.specs.declared.outcome.Outcome.{Outcome}

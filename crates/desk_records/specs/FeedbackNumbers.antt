@@ -4,7 +4,7 @@ use Rattle.std.specs.List.{last_or}
 use Rattle.std.specs.Option.{option_map}
 use Rattle.sqlite_value.specs.declared.value.Value.TheVariants.{Int}
 use Rattle.sqlite_value.specs.Order.{Row}
-use Rattle.rollout_model.specs.declared.feedback.Reported.{Reported}
+use Rattle.rollout_machine.specs.Reports.{Reported}
 use Rattle.rollout_machine.specs.declared.records.ActionRecord.{ActionRecord}
 use Rattle.desk_records.specs.Parts.{listed_parts, part_row, parts_numbered}
 use Rattle.desk_records.specs.declared.number_row.LastNumber.{LastNumber}

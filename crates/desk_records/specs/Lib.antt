@@ -1,4 +1,5 @@
 pub mod ModuleRow
+pub mod RowFaults
 pub mod Schema
 pub mod Versions
 pub mod Targets

@@ -1,7 +1,7 @@
 -- What is written of feedback: what the row of a history's entry tells, and the number of the entry.
 use Rattle.std.specs.Prelude.{◌≡◌, [], ◌∷◌, pos, string_bytes}
 use Rattle.sqlite_value.specs.declared.value.Value.TheVariants.{Int, Text}
-use Rattle.rollout_model.specs.declared.feedback.Reported.{Reported}
+use Rattle.rollout_machine.specs.Reports.{Reported}
 use Rattle.rollout_machine.specs.Verdicts.{is_note}
 use Rattle.desk_records.specs.Actions.{told_entry}
 use Rattle.desk_records.specs.declared.new_entry.NewEntry.{NewEntry}

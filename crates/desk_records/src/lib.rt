@@ -68,6 +68,7 @@ pub use crate::member_row::PlacedMember;
 pub use crate::member_row::read_placed_member;
 pub use crate::module_row::Column;
 pub use crate::module_row::RowFault;
+pub use crate::module_row::fault_of_row;
 pub use crate::module_row::read_module_label;
 pub use crate::new_entry::NewEntry;
 pub use crate::new_entry::tell_entry;
