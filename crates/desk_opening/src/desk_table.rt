@@ -6,9 +6,10 @@ ghost use Rattle.desk_records.specs.Schema.{name_of};
 ghost use Rattle.desk_opening.specs.Places.{place_of, create_text_of};
 
 use desk_records::{
-    CREATE_ACTION, CREATE_ARTIFACT, CREATE_DESK, CREATE_FEEDBACK, CREATE_GROUP_RULE, CREATE_MEMBER,
-    CREATE_MODULE, CREATE_OFFER, CREATE_PIECE, CREATE_ROLLOUT, CREATE_ROLLOUT_GROUP, CREATE_SET,
-    CREATE_SET_MODULE, CREATE_TARGET, CREATE_TARGET_ATTRIBUTE, CREATE_TARGET_TAG,
+    CREATE_ACTION, CREATE_ARTIFACT, CREATE_DESK, CREATE_FEEDBACK, CREATE_FEEDBACK_NUMBER,
+    CREATE_GROUP_RULE, CREATE_MEMBER, CREATE_MODULE, CREATE_OFFER, CREATE_PIECE, CREATE_ROLLOUT,
+    CREATE_ROLLOUT_GROUP, CREATE_SET, CREATE_SET_MODULE, CREATE_TARGET, CREATE_TARGET_ATTRIBUTE,
+    CREATE_TARGET_TAG,
 };
 
 /// A table of a desk.
@@ -30,10 +31,11 @@ pub(crate) enum DeskTable {
     Feedbacks,
     Offers,
     Rules,
+    Numbers,
 }
 
 /// All of them, in the order in which they are made.
-pub(crate) const TABLES: [DeskTable; 16] = [
+pub(crate) const TABLES: [DeskTable; 17] = [
     DeskTable::Desk,
     DeskTable::Modules,
     DeskTable::Sets,
@@ -50,6 +52,7 @@ pub(crate) const TABLES: [DeskTable; 16] = [
     DeskTable::Feedbacks,
     DeskTable::Offers,
     DeskTable::Rules,
+    DeskTable::Numbers,
 ];
 
 impl DeskTable {
@@ -74,6 +77,7 @@ impl DeskTable {
             DeskTable::Feedbacks => "feedback",
             DeskTable::Offers => "offer",
             DeskTable::Rules => "group_rule",
+            DeskTable::Numbers => "feedback_number",
         }
     }
 
@@ -98,6 +102,7 @@ impl DeskTable {
             DeskTable::Feedbacks => CREATE_FEEDBACK,
             DeskTable::Offers => CREATE_OFFER,
             DeskTable::Rules => CREATE_GROUP_RULE,
+            DeskTable::Numbers => CREATE_FEEDBACK_NUMBER,
         }
     }
 }

@@ -1,6 +1,6 @@
 -- Written by tools/meanings. What it makes is proved; the tool is not trusted.
 -- What the texts of src/action_texts.rt mean, wherever their tables stand.
-use Rattle.std.proofs.Common.{refl, List, [], ◌∷◌, ℕ, codes, pos, true, false}
+use Rattle.std.proofs.Common.{refl, List, [], ◌∷◌, ℕ, codes, pos, negsuc, true, false}
 use Rattle.sqlite.specs.declared.types.Value.TheVariants.{Null, Int}
 use Rattle.sqlite.specs.Collation.TheVariants.{Binary}
 use Rattle.sqlite.specs.Schema.{Schema}
@@ -21,8 +21,8 @@ use Rattle.sql_front.proofs.Change.{Updates, Removes, updates_known, removes_kno
 use Rattle.sql_calls.specs.Means.{Means}
 use Rattle.sql_calls.proofs.Selects.{simple, by}
 use Rattle.sql_calls.proofs.Counts.{count_query}
-use Rattle.desk_records.specs.declared.action_texts.TheConstants.{LAST_ACTION, GET_ACTION, LIST_ACTIONS, COUNT_ACTIONS, LIST_TARGET_ACTIONS, PUT_ACTION, SET_ACTION, PUT_FEEDBACK, LIST_ENTRIES, GET_OFFER, LIST_OFFERS, SET_OFFER, DROP_OFFER, NEXT_OFFER}
-use Rattle.desk_records.specs.Schema.{group_table, action_table, feedback_table, offer_table}
+use Rattle.desk_records.specs.declared.action_texts.TheConstants.{LAST_ACTION, GET_ACTION, LIST_ACTIONS, COUNT_ACTIONS, LIST_TARGET_ACTIONS, PUT_ACTION, SET_ACTION, PUT_FEEDBACK, LIST_ENTRIES, PUT_NUMBER, LAST_NUMBER, LIST_NUMBERS, GET_OFFER, LIST_OFFERS, SET_OFFER, DROP_OFFER, NEXT_OFFER}
+use Rattle.desk_records.specs.Schema.{group_table, action_table, feedback_table, offer_table, number_table}
 use Rattle.desk_records.proofs.MeaningWords.{means_of, is_equal, is_least, is_most, at_key}
 
 abbrev pub last_action_query : ℕ → Query
@@ -242,6 +242,78 @@ list_entries_queries tree = record {
 
 pub list_entries_is : (s : Schema) (at tree : ℕ) → Stands s (codes "feedback") at (feedback_table tree) → Means s LIST_ENTRIES.now (Select (record { lets = []; body = list_entries_query tree }) entry_names)
 list_entries_is s at tree stands = means_of s LIST_ENTRIES.now _ (queries_known _ _ _ _ _ (list_entries_queries tree) s at stands) refl refl
+
+abbrev pub number_terms : List Term
+number_terms = lit Null ∷ col 0 0 ∷ col 0 1 ∷ col 0 2 ∷ col 0 3 ∷ []
+
+put_number_adds : (tree : ℕ) → Adds PUT_NUMBER.now (codes "feedback_number") (number_table tree) (Values number_terms 5)
+unfolding first new_rows everything
+put_number_adds tree = record { parsed = _; columns = _; rows = _; read = refl; statement = refl; formats = refl; fits = λ s. refl }
+
+pub put_number_is : (s : Schema) (at tree : ℕ) → Stands s (codes "feedback_number") at (number_table tree) → Means s PUT_NUMBER.now (Insert at (Values number_terms 5))
+put_number_is s at tree stands = means_of s PUT_NUMBER.now _ (adds_known _ _ (number_table tree) _ (put_number_adds tree) s at stands) refl refl
+
+abbrev pub last_number_names : List (List ℕ)
+last_number_names = codes "sequence" ∷ codes "number" ∷ codes "place" ∷ []
+
+abbrev pub last_number_columns : List Term
+last_number_columns = col 1 3 ∷ col 1 4 ∷ col 1 2 ∷ []
+
+abbrev pub last_number_query : ℕ → Query
+last_number_query tree = by (simple tree of_action last_number_columns) ((col 1 2, record { descending = true; collation = Binary }) ∷ []) (lit (Int (pos 1))) (lit (Int (pos 0)))
+
+last_number_queries : (tree : ℕ) → Queries LAST_NUMBER.now (codes "feedback_number") (number_table tree) (last_number_query tree) last_number_names
+unfolding first combine named paging everything
+last_number_queries tree = record {
+  parsed = _;
+  select = _;
+  page = _;
+  shown = _;
+  read = refl;
+  selects = record { statement = refl; formats = refl; with = refl; others = refl };
+  one = record { source = _; from = refl; table = refl; alias = refl; on = refl; using = refl; is_inner = refl; group = refl; having = refl; shown = (tt, (tt, (tt, tt))); filter = ((refl, λ cx how x y. refl), tt, tt); sorts = (tt, tt) };
+  paged = λ s. refl;
+  named_alone = refl;
+  known = refl;
+  is_body = refl;
+  are_columns = refl;
+  over = refl;
+  fits = refl;
+}
+
+pub last_number_is : (s : Schema) (at tree : ℕ) → Stands s (codes "feedback_number") at (number_table tree) → Means s LAST_NUMBER.now (Select (record { lets = []; body = last_number_query tree }) last_number_names)
+last_number_is s at tree stands = means_of s LAST_NUMBER.now _ (queries_known _ _ _ _ _ (last_number_queries tree) s at stands) refl refl
+
+abbrev pub number_names : List (List ℕ)
+number_names = codes "sequence" ∷ codes "number" ∷ []
+
+abbrev pub number_columns : List Term
+number_columns = col 1 3 ∷ col 1 4 ∷ []
+
+abbrev pub list_numbers_query : ℕ → Query
+list_numbers_query tree = by (simple tree of_action number_columns) ((col 1 2, record { descending = false; collation = Binary }) ∷ []) (lit (Int (negsuc 0))) (lit (Int (pos 0)))
+
+list_numbers_queries : (tree : ℕ) → Queries LIST_NUMBERS.now (codes "feedback_number") (number_table tree) (list_numbers_query tree) number_names
+unfolding first combine named paging everything
+list_numbers_queries tree = record {
+  parsed = _;
+  select = _;
+  page = _;
+  shown = _;
+  read = refl;
+  selects = record { statement = refl; formats = refl; with = refl; others = refl };
+  one = record { source = _; from = refl; table = refl; alias = refl; on = refl; using = refl; is_inner = refl; group = refl; having = refl; shown = (tt, (tt, tt)); filter = ((refl, λ cx how x y. refl), tt, tt); sorts = (tt, tt) };
+  paged = λ s. refl;
+  named_alone = refl;
+  known = refl;
+  is_body = refl;
+  are_columns = refl;
+  over = refl;
+  fits = refl;
+}
+
+pub list_numbers_is : (s : Schema) (at tree : ℕ) → Stands s (codes "feedback_number") at (number_table tree) → Means s LIST_NUMBERS.now (Select (record { lets = []; body = list_numbers_query tree }) number_names)
+list_numbers_is s at tree stands = means_of s LIST_NUMBERS.now _ (queries_known _ _ _ _ _ (list_numbers_queries tree) s at stands) refl refl
 
 abbrev pub of_controller : List Term
 of_controller = at_key 1 0 ∷ []

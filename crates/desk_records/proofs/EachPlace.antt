@@ -2,7 +2,7 @@
 -- The places of the schema, one by one.
 use Rattle.std.specs.List.{AllByRecursion}
 use Rattle.desk_records.specs.Schema.{Place, Desk, Modules, Sets, SetModules, Artifacts, Pieces, Targets, TargetTags, TargetAttributes, Rollouts}
-use Rattle.desk_records.specs.Schema.{Members, Groups, Actions, Feedbacks, Offers, Rules, places}
+use Rattle.desk_records.specs.Schema.{Members, Groups, Actions, Feedbacks, Offers, Rules, Numbers, places}
 
 -- what holds of all places in the list holds of each place
 abbrev pub each_place : (P : Place → Type 0) → AllByRecursion P places → (t : Place) → P t
@@ -22,3 +22,4 @@ each_place P all Actions = all.1.1.1.1.1.1.1.1.1.1.1.1.0
 each_place P all Feedbacks = all.1.1.1.1.1.1.1.1.1.1.1.1.1.0
 each_place P all Offers = all.1.1.1.1.1.1.1.1.1.1.1.1.1.1.0
 each_place P all Rules = all.1.1.1.1.1.1.1.1.1.1.1.1.1.1.1.0
+each_place P all Numbers = all.1.1.1.1.1.1.1.1.1.1.1.1.1.1.1.1.0

@@ -13,8 +13,7 @@ use Rattle.sql_calls.proofs.KeyedRows.{on_content}
 use Rattle.sql_calls.proofs.Selects.{passes, shown_of}
 use Rattle.desk_records.specs.Parts.{part_row}
 use Rattle.rollout_machine.specs.ByteStrings.{item_numbered}
-use Rattle.rollout_machine.specs.declared.records.ActionRecord.{ActionRecord}
-use Rattle.desk_records.specs.Actions.{history_of, told_entry}
+use Rattle.desk_records.specs.Actions.{entries_of, history_of, told_entry}
 use Rattle.desk_records.specs.Holds.{HoldsLedger, Ledger}
 use Rattle.desk_records.specs.Schema.{Feedbacks}
 use Rattle.desk_records.proofs.ActionMeaning.{entry_columns, list_entries_query, of_action}
@@ -44,7 +43,7 @@ module _ (db : Database) (l : Ledger) (holds : HoldsLedger db l) (names : List (
       let all = history_of (item_numbered l.records.actions number) in
       let its = filter (on_content (passes of_action params)) (rows_from (part_row told_entry number) 1 all) in
       let shown = map (on_content (shown_of entry_columns params)) its in
-      ap (map told_part) (reads_parts told_entry (λ (a : ActionRecord). a.history) (holds.spot Feedbacks).tree of_action entry_columns (col 0 1) (col 0 2) params false number least (λ id x. refl) (λ id x. refl) (λ n place e apart. and_true _ ∙ numbers_equal n number ∙ apart)
+      ap (map told_part) (reads_parts told_entry entries_of (holds.spot Feedbacks).tree of_action entry_columns (col 0 1) (col 0 2) params false number least (λ id x. refl) (λ id x. refl) (λ n place e apart. and_true _ ∙ numbers_equal n number ∙ apart)
       db.trees l.records.actions (holds.rows Feedbacks) rows (shows.answer Null))
       ∙ sym (paged told_part limit offset shown)
       ∙ ap (λ more. take limit (drop offset more)) (map-map told_part (on_content (shown_of entry_columns params)) its ∙ all_shown told_entry told_entry number of_action told_columns params (λ place e. and_true _ ∙ numbers_equal number number ∙ same number) (λ place e. refl) 1 all)

@@ -24,12 +24,14 @@ use Rattle.rollout_machine.specs.declared.records.ActionRecord.{ActionRecord}
 use Rattle.rollout_machine.specs.declared.records.RolloutRecord.{RolloutRecord}
 use Rattle.rollout_model.specs.declared.approval.Approval.{Approval}
 use Rattle.rollout_model.specs.declared.group_rule.GroupRule.{GroupRule}
-use Rattle.desk_records.specs.Actions.{Tally, action_row, entry_row, outcome_code}
+use Rattle.desk_records.specs.Actions.{Tally, action_row, entries_of, entry_row, outcome_code}
+use Rattle.desk_records.specs.FeedbackNumbers.{number_row, number_rows}
 use Rattle.desk_records.specs.Holds.{HoldsLedger, Ledger, Ordered, Unordered}
-use Rattle.desk_records.specs.LedgerSteps.{AddsRollout, AddsAction, SetsRollout, SetsAction, acted, created, no_tally, scheduled, turned, with_actions, with_rollouts, with_rules}
-use Rattle.desk_records.specs.Parts.{parts_from}
+use Rattle.desk_records.specs.LedgerSteps.{AddsRollout, AddsAction, SetsRollout, SetsAction, acted, created, no_tally, scheduled, turned, with_actions, with_numbers, with_rollouts, with_rules}
+use Rattle.desk_records.specs.Parts.{listed_parts, parts_from}
 use Rattle.desk_records.specs.Rollouts.{approval_code, flag, group_row, groups_from, member_row, members_from, rollout_row, rule_row, rules_from}
-use Rattle.desk_records.specs.Schema.{Place, Rollouts, Members, Groups, Actions, Feedbacks, Rules, action_table, rollout_table}
+use Rattle.desk_records.specs.Schema.{Place, Rollouts, Members, Groups, Actions, Feedbacks, Rules, Numbers, action_table, rollout_table}
+use Rattle.desk_records.specs.declared.number_row.PlacedNumber.{PlacedNumber}
 use Rattle.desk_records.proofs.ActionMeaning.{action_terms, action_values, set_action_query}
 use Rattle.desk_records.proofs.HoldsAfter.{ChangesOnly, contents_differ, ledger_after}
 use Rattle.desk_records.proofs.LedgerLists.{actions_stay, actors_of_more, actors_stay, first_of, length_zip, parts_stay, zip_more, zip_set}
@@ -47,12 +49,19 @@ pub rollouts_differ : (l : Ledger) (ys : List RolloutRecord) (k : Place) → (Ro
 rollouts_differ l ys k rollouts members groups actors = contents_differ k l (with_rollouts l ys) (Rollouts ∷ Members ∷ Groups ∷ Actions ∷ []) refl
     ((λ apart. ap Ordered (rollouts apart)), ((λ apart. ap Unordered (members apart)), ((λ apart. ap Unordered (groups apart)), ((λ apart. ap Ordered actors), tt))))
 
--- what is said of groups
+-- what is said of groups, and the numbers of actions
 pub rules_differ : (l : Ledger) (rules : List (List GroupRule)) (k : Place) → (Rules ≢ k → rules_from rules ≡ rules_from l.rules) → ChangesOnly k l (with_rules l rules)
 rules_differ l rules k same = contents_differ k l (with_rules l rules) (Rules ∷ []) refl ((λ apart. ap Unordered (same apart)), tt)
 
+pub numbers_differ : (l : Ledger) (numbers : List (List PlacedNumber)) (k : Place) → (Numbers ≢ k → number_rows numbers ≡ number_rows l.numbers) → ChangesOnly k l (with_numbers l numbers)
+numbers_differ l numbers k same = contents_differ k l (with_numbers l numbers) (Numbers ∷ []) refl ((λ apart. ap Unordered (same apart)), tt)
+
+-- a record is kept as no part yet
+none_listed : {Y : Type 0} (f : ℕ → ℕ → Y → Row) (all : List (List Y)) → listed_parts f (all ++ [] ∷ []) ≡ listed_parts f all
+none_listed f all = no_parts f (λ its. its) [] refl 1 all
+
 abbrev pub histories_from : ℕ → List ActionRecord → List Row
-histories_from n as' = parts_from entry_row (λ (a : ActionRecord). a.history) n as'
+histories_from n as' = parts_from entry_row entries_of n as'
 
 -- other actions
 pub actions_differ : (l : Ledger) (as' : List ActionRecord) (ts : List Tally) (k : Place) → (Actions ≢ k → rows_from (action_row l.records.rollouts) 1 (zip as' ts) ≡ rows_from (action_row l.records.rollouts) 1 (zip l.records.actions l.tallies))
@@ -88,7 +97,7 @@ adds_rollout number plan approval old new text count l next holds change w =
     made.applies.rows ∙ rw (cast_int number, cast_null, cast_int plan.set_number, cast_int plan.groups.count, cast_int plan.success, cast_int plan.error, cast_int (approval_code approval), cast_int 0, holds.rows Rollouts)
     (ap (λ m. put_row (rollout_row m x) (rows_from rollout_row 1 xs)) at ∙ put_next rollout_row (λ n x. refl) 1 xs x) in
     subst (HoldsLedger new.now) (sym change.next_is) (ledger_after Rollouts l (with_rules after (l.rules ++ [] ∷ [])) old.now new.now holds (record { schema = made.schema_is; sound = w.sound; others = made.applies.tables }) table
-    (λ t apart. rules_differ after (l.rules ++ [] ∷ []) Rollouts (λ other. no_parts rule_row (λ (its : List GroupRule). its) [] refl 1 l.rules) t apart
+    (λ t apart. rules_differ after (l.rules ++ [] ∷ []) Rollouts (λ other. none_listed rule_row l.rules) t apart
     ∙ rollouts_differ l (xs ++ x ∷ []) Rollouts (λ apart. absurd (apart refl)) (λ apart. no_parts member_row (λ (y : RolloutRecord). y.members) x refl 1 xs) (λ apart. no_parts group_row (λ (y : RolloutRecord). y.groups) x refl 1 xs) (actions_stay xs (xs ++ x ∷ []) (actors_of_more x refl xs) 1 _) t apart) holds.sorted)
 
 -- ---- a rollout's approval, started and paused
@@ -126,14 +135,16 @@ adds_action number rollout place id old new text count l next holds change w =
     let row = action_row l.records.rollouts in
     let zs = zip l.records.actions l.tallies in
     let a = scheduled rollout place in
+    let after = with_actions l (l.records.actions ++ a ∷ []) (l.tallies ++ no_tally ∷ []) in
     let made = inserts old.now.schema spot.at (action_table spot.tree) action_terms 9 (holds.stands Actions).got old new refl text (scheduled_params number rollout place id) count w in
     let at : number ≡ 1 + length zs = omega (arith, change.number_is, length_zip l.records.actions l.tallies change.tallied) in
     let table : new.now.trees spot.tree ≡ rows_from row 1 (zip (l.records.actions ++ a ∷ []) (l.tallies ++ no_tally ∷ [])) =
     made.applies.rows ∙ rw (cast_int number, cast_null, cast_int rollout, cast_int place, cast_int 0, holds.rows Actions, change.id_is)
     (ap (λ m. put_row (row m (a, no_tally)) (rows_from row 1 zs)) at ∙ put_next row (λ n x. refl) 1 zs (a, no_tally)) ∙ ap (rows_from row 1) (sym (zip_more l.records.actions l.tallies a no_tally change.tallied)) in
-    subst (HoldsLedger new.now) (sym change.next_is) (ledger_after Actions l (with_actions l (l.records.actions ++ a ∷ []) (l.tallies ++ no_tally ∷ [])) old.now new.now holds
+    subst (HoldsLedger new.now) (sym change.next_is) (ledger_after Actions l (with_numbers after (l.numbers ++ [] ∷ [])) old.now new.now holds
     (record { schema = made.schema_is; sound = w.sound; others = made.applies.tables }) table
-    (actions_differ l (l.records.actions ++ a ∷ []) (l.tallies ++ no_tally ∷ []) Actions (λ apart. absurd (apart refl)) (λ apart. no_parts entry_row (λ (b : ActionRecord). b.history) a refl 1 l.records.actions)) holds.sorted)
+    (λ t apart. numbers_differ after (l.numbers ++ [] ∷ []) Actions (λ other. none_listed number_row l.numbers) t apart
+    ∙ actions_differ l (l.records.actions ++ a ∷ []) (l.tallies ++ no_tally ∷ []) Actions (λ apart. absurd (apart refl)) (λ apart. no_parts entry_row entries_of a refl 1 l.records.actions) t apart) holds.sorted)
 
 -- ---- an action's cancel, outcome and numbers
 
@@ -157,4 +168,4 @@ sets_action (suc k) canceling outcome tally old new text count l next holds chan
     ∙ ap (rows_from row 1) (sym (zip_set as' l.tallies k a tally)) in
     subst (HoldsLedger new.now) (sym change.next_is) (ledger_after Actions l (with_actions l (set as' k a) (set l.tallies k tally)) old.now new.now holds
     (record { schema = made.schema_is; sound = w.sound; others = made.applies.tables }) table
-    (actions_differ l (set as' k a) (set l.tallies k tally) Actions (λ apart. absurd (apart refl)) (λ apart. parts_stay it.0 a entry_row (λ (b : ActionRecord). b.history) refl 1 k as' (first_of as' l.tallies k it change.is_there))) holds.sorted)
+    (actions_differ l (set as' k a) (set l.tallies k tally) Actions (λ apart. absurd (apart refl)) (λ apart. parts_stay it.0 a entry_row entries_of refl 1 k as' (first_of as' l.tallies k it change.is_there))) holds.sorted)

@@ -37,6 +37,8 @@ pub mod PartWrites
 pub mod DeskRecords
 pub mod DetailLines
 pub mod EntryRecords
+pub mod NumberRecords
+pub mod NumberLists
 pub mod NextOfferRecords
 pub mod GroupOffersMeaning
 mod OfferPuts

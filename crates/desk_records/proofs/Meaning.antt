@@ -24,7 +24,7 @@ use Rattle.desk_records.specs.Schema.{desk_table, module_table}
 use Rattle.desk_records.proofs.MeaningWords.{means_of, is_equal, at_key}
 
 abbrev pub desk_terms : List Term
-desk_terms = lit (Int (pos 1)) ∷ lit Null ∷ lit (Text (codes "fwdesk")) ∷ lit (Int (pos 2)) ∷ col 0 0 ∷ []
+desk_terms = lit (Int (pos 1)) ∷ lit Null ∷ lit (Text (codes "fwdesk")) ∷ lit (Int (pos 3)) ∷ col 0 0 ∷ []
 
 put_desk_adds : (tree : ℕ) → Adds PUT_DESK.now (codes "desk") (desk_table tree) (Values desk_terms 5)
 unfolding first new_rows everything
@@ -34,7 +34,7 @@ pub put_desk_is : (s : Schema) (at tree : ℕ) → Stands s (codes "desk") at (d
 put_desk_is s at tree stands = means_of s PUT_DESK.now _ (adds_known _ _ (desk_table tree) _ (put_desk_adds tree) s at stands) refl refl
 
 abbrev pub version_values : List Term
-version_values = lit Null ∷ col 1 2 ∷ lit (Int (pos 2)) ∷ col 1 4 ∷ []
+version_values = lit Null ∷ col 1 2 ∷ lit (Int (pos 3)) ∷ col 1 4 ∷ []
 
 abbrev pub set_version_query : ℕ → Query
 set_version_query tree = simple tree (is_equal (col 1 0) (lit (Int (pos 1))) ∷ []) (col 1 0 ∷ col 1 0 ∷ version_values)

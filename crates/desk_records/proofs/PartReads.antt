@@ -24,7 +24,9 @@ use Rattle.sql_calls.specs.Keyed.{rows_from, IsHeldBy}
 use Rattle.sql_calls.proofs.KeyedRows.{IsBlind, on_content, held_seen}
 use Rattle.sql_calls.proofs.Selects.{simple, by, passes, shown_of, shown_in, ordered_rows}
 use Rattle.rollout_machine.specs.ByteStrings.{item_numbered}
-use Rattle.desk_records.specs.Parts.{part_row, parts_from, parts_of}
+use Rattle.desk_records.specs.Parts.{listed_parts, part_row, parts_from, parts_numbered, parts_of}
+use Rattle.desk_records.proofs.Comparisons.{and_true, numbers_equal}
+use Rattle.desk_records.proofs.MeaningWords.{at_key}
 use Rattle.desk_records.proofs.Parts.{its_parts}
 
 -- ---- either direction
@@ -108,11 +110,21 @@ module _ {X Y : Type 0} (rest : Y → Row) (parts : X → List Y) (tree : ℕ) (
       ∙ ap (page q params) (map_turned (λ (o : Output). o.1) falling (map (shown falling) kept) ∙ ap (turned falling) (map-map (λ (o : Output). o.1) (shown falling) kept))
 
 -- of all parts of the record, by a test that each of them passes
+pub all_placed : {Y : Type 0} (rest : Y → Row) (told : ℕ → Y → Row) (number : ℕ) (test shows : List Term) (params : Row) → ((place : ℕ) (y : Y) → on_content (passes test params) (part_row rest number place y) ≡ true)
+    → ((place : ℕ) (y : Y) → on_content (shown_of shows params) (part_row rest number place y) ≡ told place y) → (place : ℕ) (ys : List Y)
+    → map (on_content (shown_of shows params)) (filter (on_content (passes test params)) (rows_from (part_row rest number) place ys)) ≡ rows_from told place ys
+all_placed rest told number test shows params all is place [] = refl
+all_placed rest told number test shows params all is place (y ∷ ys) = rw (all place y, is place y) (ap (λ more. told place y ∷ more) (all_placed rest told number test shows params all is (place + 1) ys))
+
+-- .. where what is shown doesn't tell the place
+pub unplaced : {Y : Type 0} (told : Y → Row) (place : ℕ) (ys : List Y) → rows_from (λ n. told) place ys ≡ map told ys
+unplaced told place [] = refl
+unplaced told place (y ∷ ys) = ap (λ more. told y ∷ more) (unplaced told (place + 1) ys)
+
 pub all_shown : {Y : Type 0} (rest told : Y → Row) (number : ℕ) (test shows : List Term) (params : Row) → ((place : ℕ) (y : Y) → on_content (passes test params) (part_row rest number place y) ≡ true)
     → ((place : ℕ) (y : Y) → on_content (shown_of shows params) (part_row rest number place y) ≡ told y) → (place : ℕ) (ys : List Y)
     → map (on_content (shown_of shows params)) (filter (on_content (passes test params)) (rows_from (part_row rest number) place ys)) ≡ map told ys
-all_shown rest told number test shows params all is place [] = refl
-all_shown rest told number test shows params all is place (y ∷ ys) = rw (all place y, is place y) (ap (λ more. told y ∷ more) (all_shown rest told number test shows params all is (place + 1) ys))
+all_shown rest told number test shows params all is place ys = all_placed rest (λ n. told) number test shows params all is place ys ∙ unplaced told place ys
 
 -- of the parts after so many, of which some are left before the first that passes
 pub later_shown : {Y : Type 0} (rest told : Y → Row) (number : ℕ) (test shows : List Term) (params : Row) (offset : ℕ) → ((place : ℕ) (y : Y) → on_content (passes test params) (part_row rest number place y) ≡ nat_lt offset place)
@@ -125,3 +137,26 @@ later_shown rest told number test shows params offset past is before zero none (
 later_shown rest told number test shows params offset past is before (suc left) so_many (y ∷ ys) =
     let skipped : nat_lt offset (before + 1) ≡ false = grind (arith, nat_tests, so_many) in
     rw (past (before + 1) y, skipped) (later_shown rest told number test shows params offset past is (before + 1) left (omega (arith, so_many)) ys)
+
+-- ---- of a record that is kept as the list of its parts, by its number
+
+module _ {Y : Type 0} (rest : Y → Row) (tree : ℕ) (shows : List Term) (limit offset : Term) (number : ℕ) where
+  -- WHERE the record's number = ?1
+  abbrev of_number : List Term
+  of_number = at_key 1 0 ∷ []
+
+  abbrev given : Row
+  given = Int (pos number) ∷ []
+
+  abbrev asked : Bool → Query
+  asked = place_query rest (λ (its : List Y). its) tree of_number shows limit offset given
+
+  pub reads_listed : (falling : Bool) → 1 ≤ number → IsBlind (shown_in (asked falling) given) → (told : ℕ → Y → Row) → ((place : ℕ) (y : Y) → on_content (shown_of shows given) (part_row rest number place y) ≡ told place y)
+      → (db : Trees) (all : List (List Y)) → IsHeldBy (db tree) (listed_parts (part_row rest) all) → (rows : List Row) → IsAnswer (asked falling) (overlay db []) given rows
+      → rows ≡ page (asked falling) given (turned falling (rows_from told 1 (parts_numbered all number)))
+  reads_listed falling least fair told is db all held rows answer =
+      reads_parts rest (λ (its : List Y). its) tree of_number shows limit offset given falling number least (λ id x. refl) fair (λ n place y apart. and_true _ ∙ numbers_equal n number ∙ apart) db all held rows answer
+      ∙ ap (λ l. page (asked falling) given (turned falling l)) (all_placed rest told number of_number shows given (λ place y. and_true _ ∙ numbers_equal number number ∙ own) is 1 (parts_numbered all number))
+    where
+      own : nat_eq number number ≡ true
+      own = grind (arith, nat_tests)

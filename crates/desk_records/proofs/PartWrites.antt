@@ -1,5 +1,6 @@
 -- The statements on members, groups and histories that write, in ledgers.
-use Rattle.std.proofs.Common.{◌≡◌, ◌∷◌, ◌++◌, ◌&&◌, ℕ, zero, suc, pos, List, [], Bool, true, set, slice_get, string_bytes, Option, Some, None, refl, sym, ap, subst, ◌∙◌, arith, nat_eq}
+use Rattle.std.proofs.Common.{◌≡◌, ◌∷◌, ◌++◌, ◌&&◌, ℕ, zero, suc, ◌+◌, pos, List, [], Bool, true, length, set, slice_get, string_bytes, Option, Some, None, refl, sym, ap, subst, ◌∙◌, arith, nat_eq}
+use Rattle.std.proofs.lemmas.List.{length-map, map-append}
 use Rattle.sqlite_value.specs.declared.value.Value.TheVariants.{Int, Text}
 use Rattle.sqlite_value.specs.Keys.{plain, first_key}
 use Rattle.sqlite_value.specs.Order.{Row}
@@ -20,21 +21,25 @@ use Rattle.sql_calls.proofs.Selects.{passes, shown_of}
 use Rattle.sql_calls.proofs.Updates.{updates}
 use Rattle.rollout_model.specs.declared.group_rule.GroupRule.{GroupRule}
 use Rattle.rollout_machine.specs.Commands.{Bytes}
+use Rattle.rollout_machine.specs.Reports.{Reported, entries_in}
 use Rattle.rollout_machine.specs.declared.bounds.Bounds.{Bounds}
-use Rattle.rollout_machine.specs.declared.records.ActionRecord.{ActionRecord}
 use Rattle.rollout_machine.specs.declared.records.GroupRecord.{GroupRecord}
 use Rattle.rollout_machine.specs.declared.records.RolloutRecord.{RolloutRecord}
-use Rattle.desk_records.specs.Actions.{entry_row}
+use Rattle.desk_records.specs.Actions.{entries_of, entry_row}
 use Rattle.desk_records.specs.declared.new_entry.NewEntry.{NewEntry}
-use Rattle.desk_records.specs.Holds.{HoldsLedger, Ledger}
-use Rattle.desk_records.specs.LedgerSteps.{AddsMember, AddsGroup, AddsRule, SetsGroup, AddsEntry, and_member, and_group, and_entry, counted, cut_group, with_actions, with_groups, with_rollouts, with_rules}
-use Rattle.desk_records.specs.Rollouts.{flag, group_row, groups_from, member_row, members_from, rollout_row, rule_row, rules_from, told_group}
-use Rattle.desk_records.specs.Schema.{Members, Groups, Feedbacks, Rules, feedback_table, group_table, member_table, rule_table}
-use Rattle.desk_records.proofs.ActionMeaning.{feedback_terms}
+use Rattle.desk_records.specs.declared.number_row.PlacedNumber.{PlacedNumber}
+use Rattle.desk_records.specs.FeedbackNumbers.{number_row, number_rows, told_number}
+use Rattle.desk_records.specs.Holds.{AreRowsOf, HoldsLedger, Ledger, Unordered, content_of}
+use Rattle.desk_records.specs.LedgerSteps.{AddsMember, AddsGroup, AddsRule, AddsNumber, SetsGroup, AddsEntry, and_member, and_group, and_entry, counted, cut_group, with_actions, with_groups, with_numbers, with_rollouts, with_rules}
+use Rattle.desk_records.specs.Parts.{listed_parts, part_row}
+use Rattle.desk_records.specs.Rollouts.{flag, group_row, groups_from, member_row, members_from, rollout_row, rule_row, rules_from, told_group, told_rule}
+use Rattle.desk_records.specs.Schema.{Place, Members, Groups, Feedbacks, Rules, Numbers, feedback_table, group_table, member_table, number_table, rule_table}
+use Rattle.desk_records.specs.Targets.{are_sorted}
+use Rattle.desk_records.proofs.ActionMeaning.{feedback_terms, number_terms}
 use Rattle.desk_records.proofs.Comparisons.{and_true, numbers_equal}
-use Rattle.desk_records.proofs.HoldsAfter.{Leaves, ledger_after}
+use Rattle.desk_records.proofs.HoldsAfter.{ChangesOnly, Leaves, ledger_after}
 use Rattle.desk_records.proofs.LedgerLists.{acts_stay, actions_of_others, actions_stay, actors_stay, part_held, part_set, parts_stay, rows_stay}
-use Rattle.desk_records.proofs.LedgerWrites.{actions_differ, histories_from, rollouts_differ, rules_differ}
+use Rattle.desk_records.proofs.LedgerWrites.{actions_differ, histories_from, numbers_differ, rollouts_differ, rules_differ}
 use Rattle.desk_records.proofs.RolloutMeaning.{group_terms, group_values, member_terms, of_group, rule_terms, set_group_query}
 
 -- ---- a new member
@@ -126,20 +131,42 @@ cast_or_null : (o : Option ℕ) → cast Integer (or_null (λ n. Int (pos n)) o)
 cast_or_null None = cast_null
 cast_or_null (Some n) = cast_int n
 
+-- one more part of a record that is kept as the list of its parts
+module _ {Y : Type 0} (rest : Y → Row) (t : Place) (lists : Ledger → List (List Y)) (kept : (l : Ledger) → content_of l t ≡ Unordered (listed_parts (part_row rest) (lists l))) where
+  listed_more : (k place : ℕ) (its : List Y) (it : Y) (l next : Ledger) (old new : Database) (holds : HoldsLedger old l) → slice_get (lists l) k ≡ Some its → place ≡ length its + 1 → lists next ≡ set (lists l) k (its ++ it ∷ [])
+      → Leaves old new (holds.spot t).tree → IsHeldBy (new.trees (holds.spot t).tree) (part_row rest (suc k) place it ∷ listed_parts (part_row rest) (lists l)) → ChangesOnly t l next → next.records.targets ≡ l.records.targets → HoldsLedger new next
+  listed_more k place its it l next old new holds there at made left more only targets =
+      let held = part_held (part_row rest) (λ (own : List Y). own) its (its ++ it ∷ []) it refl k place (lists l) (new.trees (holds.spot t).tree) there at more in
+      let all : listed_parts (part_row rest) (set (lists l) k (its ++ it ∷ [])) ≡ listed_parts (part_row rest) (lists next) = ap (listed_parts (part_row rest)) (sym made) in
+      ledger_after t l next old new holds left (subst (λ c. AreRowsOf c (new.trees (holds.spot t).tree)) (sym (kept next)) (subst (IsHeldBy (new.trees (holds.spot t).tree)) all held)) only (ap are_sorted targets ∙ holds.sorted)
+
 pub adds_rule : (number group : ℕ) (rule : GroupRule) (old new : State) (text : List ℕ) (count : ℕ) (l next : Ledger) (holds : HoldsLedger old.now l) → AddsRule number group rule l next
     → (w : Writes old new None (Insert (holds.spot Rules).at (Values rule_terms 6)) text (rule_row number group rule) count) → HoldsLedger new.now next
 adds_rule zero group rule old new text count l next holds change w = absurd (let none = change.is_there in cc)
 adds_rule (suc k) group rule old new text count l next holds change w =
-    let spot = holds.spot Rules in
-    let table = rule_table spot.tree in
-    let after = change.its ++ rule ∷ [] in
+    let table = rule_table (holds.spot Rules).tree in
     let given = rule_row (suc k) group rule in
-    let made = inserts old.now.schema spot.at table rule_terms 6 (holds.stands Rules).got old new refl text given count w in
+    let made = inserts old.now.schema (holds.spot Rules).at table rule_terms 6 (holds.stands Rules).got old new refl text given count w in
     let more = adds_row old.now.schema table (1 ∷ 2 ∷ []) given rule_terms 6 given refl old.now new.now (rules_from l.rules) (holds.rows Rules) made in
     let cast : cast_all table.columns given ≡ given = rw (cast_int (suc k), cast_int group, cast_or_null rule.percentage, cast_int rule.success, cast_int rule.error) refl in
-    let held = part_held rule_row (λ (its : List GroupRule). its) change.its after rule refl k group l.rules (new.now.trees spot.tree) change.is_there change.group_is (subst (λ r. IsHeldBy (new.now.trees spot.tree) (r ∷ rules_from l.rules)) cast more) in
-    subst (HoldsLedger new.now) (sym change.next_is) (ledger_after Rules l (with_rules l (set l.rules k after)) old.now new.now holds (record { schema = made.schema_is; sound = w.sound; others = made.applies.tables }) held
-    (rules_differ l (set l.rules k after) Rules (λ apart. absurd (apart refl))) holds.sorted)
+    let after = set l.rules k (change.its ++ rule ∷ []) in
+    subst (HoldsLedger new.now) (sym change.next_is) (listed_more told_rule Rules (λ (m : Ledger). m.rules) (λ m. refl) k group change.its rule l (with_rules l after) old.now new.now holds change.is_there change.group_is refl
+    (record { schema = made.schema_is; sound = w.sound; others = made.applies.tables }) (subst (λ r. IsHeldBy (new.now.trees table.tree) (r ∷ rules_from l.rules)) cast more) (rules_differ l after Rules (λ apart. absurd (apart refl))) refl)
+
+-- ---- the numbers of actions
+
+pub adds_number : (number place : ℕ) (it : PlacedNumber) (old new : State) (text : List ℕ) (count : ℕ) (l next : Ledger) (holds : HoldsLedger old.now l) → AddsNumber number place it l next
+    → (w : Writes old new None (Insert (holds.spot Numbers).at (Values number_terms 5)) text (number_row number place it) count) → HoldsLedger new.now next
+adds_number zero place it old new text count l next holds change w = absurd (let none = change.is_there in cc)
+adds_number (suc k) place it old new text count l next holds change w =
+    let table = number_table (holds.spot Numbers).tree in
+    let given = number_row (suc k) place it in
+    let made = inserts old.now.schema (holds.spot Numbers).at table number_terms 5 (holds.stands Numbers).got old new refl text given count w in
+    let more = adds_row old.now.schema table (1 ∷ 2 ∷ []) given number_terms 5 given refl old.now new.now (number_rows l.numbers) (holds.rows Numbers) made in
+    let cast : cast_all table.columns given ≡ given = rw (cast_int (suc k), cast_int place, cast_int it.sequence, cast_int it.number) refl in
+    let after = set l.numbers k (change.its ++ it ∷ []) in
+    subst (HoldsLedger new.now) (sym change.next_is) (listed_more told_number Numbers (λ (m : Ledger). m.numbers) (λ m. refl) k place change.its it l (with_numbers l after) old.now new.now holds change.is_there change.place_is refl
+    (record { schema = made.schema_is; sound = w.sound; others = made.applies.tables }) (subst (λ r. IsHeldBy (new.now.trees table.tree) (r ∷ number_rows l.numbers)) cast more) (numbers_differ l after Numbers (λ apart. absurd (apart refl))) refl)
 
 -- ---- histories
 
@@ -154,12 +181,14 @@ adds_entry (suc k) sequence entry old new text count l next holds change w =
     let table = feedback_table spot.tree in
     let as' = l.records.actions in
     let a = change.action in
-    let after = and_entry a change.entry in
+    let after = and_entry a change.reported in
+    let entries : entries_in (a.history ++ change.reported ∷ []) ≡ entries_in a.history ++ change.reported.entry ∷ [] = map-append (λ (it : Reported). it.entry) a.history (change.reported ∷ []) in
+    let at : sequence ≡ length (entries_in a.history) + 1 = change.sequence_is ∙ ap (λ n. n + 1) (sym (length-map a.history (λ (it : Reported). it.entry))) in
     let given = entry_params (suc k) sequence entry in
     let made = inserts old.now.schema spot.at table feedback_terms 6 (holds.stands Feedbacks).got old new refl text given count w in
     let more = adds_row old.now.schema table (1 ∷ 2 ∷ []) given feedback_terms 6 given refl old.now new.now (histories_from 1 as') (holds.rows Feedbacks) made in
     let cast : cast_all table.columns given ≡ given = rw (cast_int (suc k), cast_int sequence, cast_int entry.kind, cast_int entry.word) refl in
-    let row : cast_all table.columns given ≡ entry_row (suc k) sequence change.entry = cast ∙ ap (λ told. Int (pos (suc k)) ∷ Int (pos sequence) ∷ told) (sym change.told.row) in
-    let held = part_held entry_row (λ (z : ActionRecord). z.history) a after change.entry refl k sequence as' (new.now.trees spot.tree) change.is_there change.sequence_is (subst (λ r. IsHeldBy (new.now.trees spot.tree) (r ∷ histories_from 1 as')) row more) in
+    let row : cast_all table.columns given ≡ entry_row (suc k) sequence change.reported.entry = cast ∙ ap (λ told. Int (pos (suc k)) ∷ Int (pos sequence) ∷ told) (sym change.told.row) in
+    let held = part_held entry_row entries_of a after change.reported.entry entries k sequence as' (new.now.trees spot.tree) change.is_there at (subst (λ r. IsHeldBy (new.now.trees spot.tree) (r ∷ histories_from 1 as')) row more) in
     subst (HoldsLedger new.now) (sym change.next_is) (ledger_after Feedbacks l (with_actions l (set as' k after) l.tallies) old.now new.now holds (record { schema = made.schema_is; sound = w.sound; others = made.applies.tables }) held
     (actions_differ l (set as' k after) l.tallies Feedbacks (λ apart. acts_stay l.records.rollouts a after (λ n t. refl) 1 k as' l.tallies change.is_there) (λ apart. absurd (apart refl))) holds.sorted)

@@ -1,5 +1,5 @@
 -- The tables of the newest version hold records as the program keeps them.
-use Rattle.std.proofs.Common.{◌≡◌, ◌≤◌, List, [], ◌∷◌, refl, arith}
+use Rattle.std.proofs.Common.{◌≡◌, ◌≤◌, ℕ, List, [], ◌∷◌, Option, Some, if◌then◌else◌, nat_eq, refl, sym, ap, ◌∙◌, arith}
 use Rattle.std.specs.List.{AllByRecursion}
 use Rattle.sqlite.specs.Effect.{Database}
 use Rattle.rollout_machine.specs.Records.{Records}
@@ -8,7 +8,7 @@ use Rattle.desk_records.specs.Holds.{HoldsRecords}
 use Rattle.desk_records.specs.Readable.{HoldsAt, HoldsPlace, HoldsReadable}
 use Rattle.desk_records.specs.Versions.{newest, number_of, places_at}
 use Rattle.desk_records.specs.declared.version.Version.{Version}
-use Rattle.desk_records.specs.declared.version.Version.TheVariants.{One, Two}
+use Rattle.desk_records.specs.declared.version.Version.TheVariants.{One, Two, Three}
 use Rattle.desk_records.proofs.EachPlace.{each_place}
 
 -- what holds of each place holds of all in a list
@@ -42,13 +42,21 @@ module _ (db : Database) (r : Records) where
 pub has_desk : (v : Version) (P : Place → Type 0) → AllByRecursion P (places_at v) → P Desk
 has_desk One P all = all.0
 has_desk Two P all = all.0
+has_desk Three P all = all.0
 
 pub is_known : (v : Version) → number_of v ≤ number_of newest
 is_known One = omega arith
 is_known Two = omega arith
+is_known Three = omega arith
+
+-- the one of a number
+abbrev numbered : ℕ → Option Version
+numbered n = if nat_eq n 1 then Some One else (if nat_eq n 2 then Some Two else Some Three)
+
+is_numbered : (v : Version) → numbered (number_of v) ≡ Some v
+is_numbered One = refl
+is_numbered Two = refl
+is_numbered Three = refl
 
 pub one_numbered : (v w : Version) → number_of v ≡ number_of w → v ≡ w
-one_numbered One One same = refl
-one_numbered One Two same = absurd (omega (arith, same))
-one_numbered Two One same = absurd (omega (arith, same))
-one_numbered Two Two same = refl
+one_numbered v w same = let both : Some v ≡ Some w = sym (is_numbered v) ∙ ap numbered same ∙ is_numbered w in cc

@@ -29,7 +29,7 @@ use Rattle.desk_records.proofs.Comparisons.{and_true, numbers_above, numbers_equ
 use Rattle.desk_records.proofs.MeaningWords.{at_key}
 use Rattle.desk_records.proofs.RolloutMeaning.{same_name, last_rollout_query, rollout_columns, list_rollouts_query, of_rollout, group_columns, list_groups_query, of_group, get_group_query, holding, holding_group_query, reaching, group_and_next_query, after_place, list_members_query, list_rules_query, member_columns, rule_columns}
 use Rattle.desk_records.proofs.NumberedReads.{finds, gets, lasts, pages, passes_number}
-use Rattle.desk_records.proofs.PartReads.{all_shown, later_shown, reads_parts}
+use Rattle.desk_records.proofs.PartReads.{later_shown, reads_listed, reads_parts, unplaced}
 use Rattle.desk_records.proofs.PlacedParts.{gets_part}
 use Rattle.desk_records.proofs.TargetRecords.{first_row}
 
@@ -176,7 +176,5 @@ module _ (db : Database) (l : Ledger) (holds : HoldsLedger db l) (names : List (
   -- in the order of their numbers
   pub lists_rules : (number : ℕ) → 1 ≤ number → (rows : List Row) → Shows (Select (record { lets = []; body = list_rules_query (holds.spot Rules).tree }) names) db (Int (pos number) ∷ []) rows → rows ≡ map told_rule (rules_numbered l.rules number)
   lists_rules number least rows shows =
-      let params = Int (pos number) ∷ [] in
-      reads_parts told_rule (λ (its : List GroupRule). its) (holds.spot Rules).tree of_rollout rule_columns (lit (Int (negsuc 0))) (lit (Int (pos 0))) params false number least (λ id x. refl) (λ id x. refl) (λ n place rule apart. and_true _ ∙ numbers_equal n number ∙ apart)
-      db.trees l.rules (holds.rows Rules) rows (shows.answer Null)
-      ∙ all_shown told_rule told_rule number of_rollout rule_columns params (λ place rule. and_true _ ∙ numbers_equal number number ∙ same number) (λ place rule. refl) 1 (rules_numbered l.rules number)
+      reads_listed told_rule (holds.spot Rules).tree rule_columns (lit (Int (negsuc 0))) (lit (Int (pos 0))) number false least (λ id x. refl) (λ place. told_rule) (λ place rule. refl) db.trees l.rules (holds.rows Rules) rows (shows.answer Null)
+      ∙ unplaced told_rule 1 (rules_numbered l.rules number)

@@ -4,8 +4,8 @@ use Rattle.std.proofs.Common.{refl, codes}
 use Rattle.sqlite_tied.specs.Compute.{everything}
 use Rattle.sqlite_resolve.specs.Compile.{first, is_reserved}
 use Rattle.sql_front.proofs.Write.{Makes}
-use Rattle.desk_records.specs.declared.table_texts.TheConstants.{CREATE_DESK, CREATE_MODULE, CREATE_SET, CREATE_SET_MODULE, CREATE_ARTIFACT, CREATE_PIECE, CREATE_TARGET, CREATE_TARGET_TAG, CREATE_TARGET_ATTRIBUTE, CREATE_ROLLOUT, CREATE_MEMBER, CREATE_ROLLOUT_GROUP, CREATE_ACTION, CREATE_FEEDBACK, CREATE_OFFER, CREATE_GROUP_RULE}
-use Rattle.desk_records.specs.Schema.{desk_table, module_table, set_table, set_module_table, artifact_table, piece_table, target_table, target_tag_table, target_attribute_table, rollout_table, member_table, group_table, action_table, feedback_table, offer_table, rule_table}
+use Rattle.desk_records.specs.declared.table_texts.TheConstants.{CREATE_DESK, CREATE_MODULE, CREATE_SET, CREATE_SET_MODULE, CREATE_ARTIFACT, CREATE_PIECE, CREATE_TARGET, CREATE_TARGET_TAG, CREATE_TARGET_ATTRIBUTE, CREATE_ROLLOUT, CREATE_MEMBER, CREATE_ROLLOUT_GROUP, CREATE_ACTION, CREATE_FEEDBACK, CREATE_OFFER, CREATE_GROUP_RULE, CREATE_FEEDBACK_NUMBER}
+use Rattle.desk_records.specs.Schema.{desk_table, module_table, set_table, set_module_table, artifact_table, piece_table, target_table, target_tag_table, target_attribute_table, rollout_table, member_table, group_table, action_table, feedback_table, offer_table, rule_table, number_table}
 
 pub create_desk_makes : Makes CREATE_DESK.now (codes "desk") (desk_table 0)
 unfolding first is_reserved everything
@@ -70,3 +70,7 @@ create_offer_makes = record { parsed = _; made = _; read = refl; statement = ref
 pub create_group_rule_makes : Makes CREATE_GROUP_RULE.now (codes "group_rule") (rule_table 0)
 unfolding first is_reserved everything
 create_group_rule_makes = record { parsed = _; made = _; read = refl; statement = refl; named = refl; unreserved = refl; defined = refl; whole = refl }
+
+pub create_feedback_number_makes : Makes CREATE_FEEDBACK_NUMBER.now (codes "feedback_number") (number_table 0)
+unfolding first is_reserved everything
+create_feedback_number_makes = record { parsed = _; made = _; read = refl; statement = refl; named = refl; unreserved = refl; defined = refl; whole = refl }

@@ -3,10 +3,10 @@ use Rattle.std.specs.Prelude.{ℕ, List, [], ◌∷◌, ◌++◌, length, Option
 use Rattle.std.specs.List.{flat_map}
 use Rattle.sqlite_value.specs.declared.value.Value.TheVariants.{Null, Int, Text}
 use Rattle.sqlite_value.specs.Order.{Row}
-use Rattle.rollout_machine.specs.Actions.{HistoryEntry, Said, OfDeployment, OfCancel}
 use Rattle.rollout_machine.specs.ByteStrings.{item_numbered}
 use Rattle.rollout_machine.specs.Commands.{Bytes, DeploymentWord, CancelWord, NoteWord, Proceeding, Scheduled, Resumed, Succeeded, Failed, Rejected}
 use Rattle.rollout_machine.specs.Commands.{Noted, ClosedCancel, CanceledCancel, RejectedCancel, NotedCancel}
+use Rattle.rollout_machine.specs.Reports.{HistoryEntry, Said, OfDeployment, OfCancel, entries_in}
 use Rattle.rollout_machine.specs.StateWords.{member_at}
 use Rattle.rollout_machine.specs.Verdicts.{notes_of}
 use Rattle.rollout_machine.specs.declared.outcome.Outcome.{Outcome}
@@ -85,6 +85,10 @@ told_entry entry = Int (pos (kind_code entry.said)) ∷ Int (pos (word_code entr
 abbrev pub entry_row : ℕ → ℕ → HistoryEntry → Row
 entry_row = part_row told_entry
 
--- the history of an action that is there
+-- the entries of an action's history, without their numbers
+abbrev pub entries_of : ActionRecord → List HistoryEntry
+entries_of a = entries_in a.history
+
+-- .. of an action that is there
 abbrev pub history_of : Option ActionRecord → List HistoryEntry
-history_of found = parts_of (λ (a : ActionRecord). a.history) found
+history_of found = parts_of entries_of found

@@ -5,7 +5,7 @@ use Rattle.sqlite_value.specs.declared.value.Value.{Value}
 use Rattle.sqlite_value.specs.declared.value.Value.TheVariants.{Null}
 use Rattle.rollout_machine.specs.declared.outcome.Outcome.{Outcome}
 use Rattle.rollout_machine.specs.declared.outcome.Outcome.TheVariants.{Good, Bad, Gone}
-use Rattle.rollout_model.specs.Rules.{number_of, group_count_of, percentage_of}
+use Rattle.rollout_model.specs.Rules.{number_of, feedback_number_of, group_count_of, percentage_of}
 use Rattle.rollout_model.specs.declared.approval.Approval.{Approval}
 use Rattle.rollout_model.specs.declared.approval.Approval.TheVariants.{Waiting, Denied, Given}
 use Rattle.desk_records.specs.ArtifactRow.{small_number}
@@ -41,6 +41,16 @@ outcome_in = coded_in outcome_from
 
 abbrev pub number_in : Value → Option ℕ
 number_in = coded_in number_of
+
+-- a place, counted from 1
+abbrev pub place_from : ℕ → Option ℕ
+place_from n = if nat_eq n 0 then None else Some n
+
+abbrev pub place_in : Value → Option ℕ
+place_in = coded_in place_from
+
+abbrev pub feedback_number_in : Value → Option ℕ
+feedback_number_in = coded_in feedback_number_of
 
 abbrev pub group_count_in : Value → Option ℕ
 group_count_in = coded_in group_count_of

@@ -4,7 +4,7 @@ use Rattle.std.specs.Option.{is_some, option_map}
 use Rattle.sqlite_value.specs.declared.value.Value.{Value}
 use Rattle.sqlite_value.specs.declared.value.Value.TheVariants.{Int, Text}
 use Rattle.sqlite_value.specs.Order.{Row, column}
-use Rattle.rollout_machine.specs.Actions.{HistoryEntry, Said, OfDeployment, OfCancel}
+use Rattle.rollout_machine.specs.Reports.{HistoryEntry, Said, OfDeployment, OfCancel}
 use Rattle.rollout_machine.specs.Commands.{Bytes, DeploymentWord, CancelWord, Proceeding, Scheduled, Resumed, Succeeded, Failed, Rejected, Noted}
 use Rattle.rollout_machine.specs.Commands.{ClosedCancel, CanceledCancel, RejectedCancel, NotedCancel}
 use Rattle.rollout_model.specs.Rules.{are_details}

@@ -13,17 +13,18 @@ use Rattle.rollout_machine.specs.Commands.{Bytes, ModuleLabel}
 use Rattle.rollout_machine.specs.GroupRules.{rules_of}
 use Rattle.rollout_machine.specs.Offers.{offer}
 use Rattle.rollout_machine.specs.Records.{Records}
-use Rattle.rollout_machine.specs.declared.records.ActionRecord.{ActionRecord}
 use Rattle.rollout_machine.specs.declared.records.RolloutRecord.{RolloutRecord}
 use Rattle.desk_records.specs.Schema.{Place, Desk, Modules, Sets, SetModules, Artifacts, Pieces, Targets, TargetTags, TargetAttributes, Rollouts}
-use Rattle.desk_records.specs.Schema.{Members, Groups, Actions, Feedbacks, Offers, Rules, offer_table, table_at, name_of}
-use Rattle.desk_records.specs.Actions.{Tally, tally_of, action_row, entry_row}
+use Rattle.desk_records.specs.Schema.{Members, Groups, Actions, Feedbacks, Offers, Rules, Numbers, offer_table, table_at, name_of}
+use Rattle.desk_records.specs.Actions.{Tally, tally_of, action_row, entries_of, entry_row}
 use Rattle.desk_records.specs.Artifacts.{artifact_row, pieces_from}
+use Rattle.desk_records.specs.FeedbackNumbers.{number_rows, numbers_of}
 use Rattle.desk_records.specs.Offers.{HoldsOffers}
 use Rattle.desk_records.specs.Parts.{parts_from}
 use Rattle.desk_records.specs.Rollouts.{flag, rollout_row, members_from, groups_from, rules_from}
 use Rattle.desk_records.specs.Sets.{set_row, places_from}
 use Rattle.desk_records.specs.Versions.{newest, number_of}
+use Rattle.desk_records.specs.declared.number_row.PlacedNumber.{PlacedNumber}
 use Rattle.desk_records.specs.declared.version.Version.{Version}
 use Rattle.desk_records.specs.Targets.{target_row, tag_rows, attribute_rows, are_sorted}
 
@@ -34,17 +35,24 @@ desk_row v approval = Int (pos 1) ∷ Null ∷ Text (codes "fwdesk") ∷ Int (po
 abbrev pub module_row : ℕ → ModuleLabel → Row
 module_row number m = Int (pos number) ∷ Null ∷ Text m.name ∷ Text m.kind ∷ Text m.version ∷ []
 
--- What tables keep: records, and beside them how many notes and entries each action has, what each target is offered, and what is said of the
--- groups of each rollout.
+-- What tables keep: records, and beside them how many notes and entries each action has, what each target is offered, what is said of the
+-- groups of each rollout, and the numbers of each action.
 pub record Ledger : Type 0 where
   pub records : Records
   pub tallies : List Tally
   pub offers : Bytes → Option Offer
   pub rules : List (List GroupRule)
+  pub numbers : List (List PlacedNumber)
 
 -- of records alone: what follows from them
 abbrev pub ledger_of : Records → Ledger
-ledger_of r = record { records = r; tallies = map tally_of r.actions; offers = offer r; rules = map (λ (x : RolloutRecord). rules_of x.plan) r.rollouts }
+ledger_of r = record {
+  records = r;
+  tallies = map tally_of r.actions;
+  offers = offer r;
+  rules = map (λ (x : RolloutRecord). rules_of x.plan) r.rollouts;
+  numbers = map numbers_of r.actions;
+}
 
 -- What the rows of a table are: these in this order, these in any order, or those of offers.
 pub data Content : Type 0 where
@@ -72,9 +80,10 @@ content_at v l Rollouts = Ordered (rows_from rollout_row 1 l.records.rollouts)
 content_at v l Members = Unordered (members_from 1 l.records.rollouts)
 content_at v l Groups = Unordered (groups_from 1 l.records.rollouts)
 content_at v l Actions = Ordered (rows_from (action_row l.records.rollouts) 1 (zip l.records.actions l.tallies))
-content_at v l Feedbacks = Unordered (parts_from entry_row (λ (a : ActionRecord). a.history) 1 l.records.actions)
+content_at v l Feedbacks = Unordered (parts_from entry_row entries_of 1 l.records.actions)
 content_at v l Offers = Offered l.offers
 content_at v l Rules = Unordered (rules_from l.rules)
+content_at v l Numbers = Unordered (number_rows l.numbers)
 
 -- .. of the version that the program writes
 abbrev pub content_of : Ledger → Place → Content

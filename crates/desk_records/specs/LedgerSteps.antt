@@ -3,7 +3,7 @@ use Rattle.std.specs.Prelude.{◌≡◌, ℕ, zero, suc, ◌+◌, Bool, true, fa
 use Rattle.std.specs.List.{list_all, zip}
 use Rattle.rollout_machine.specs.ByteStrings.{item_numbered, same_bytes}
 use Rattle.rollout_machine.specs.Commands.{Bytes, RolloutPlan}
-use Rattle.rollout_machine.specs.Actions.{HistoryEntry}
+use Rattle.rollout_machine.specs.Reports.{Reported}
 use Rattle.rollout_machine.specs.declared.bounds.Bounds.{Bounds}
 use Rattle.rollout_machine.specs.declared.records.GroupRecord.{GroupRecord}
 use Rattle.rollout_machine.specs.declared.outcome.Outcome.{Outcome}
@@ -14,6 +14,7 @@ use Rattle.rollout_model.specs.declared.group_rule.GroupRule.{GroupRule}
 use Rattle.rollout_model.specs.declared.rollout.Offer.{Offer}
 use Rattle.offer_laws.specs.GroupOffers.{group_offers, put_offers}
 use Rattle.desk_records.specs.declared.new_entry.NewEntry.{NewEntry}
+use Rattle.desk_records.specs.declared.number_row.PlacedNumber.{PlacedNumber}
 use Rattle.desk_records.specs.Actions.{Tally, actor_of}
 use Rattle.desk_records.specs.NewEntries.{TellsEntry}
 use Rattle.desk_records.specs.Holds.{Ledger}
@@ -31,6 +32,9 @@ with_actions l as' tallies = record l { records = record l.records { actions = a
 
 abbrev pub with_rules : Ledger → List (List GroupRule) → Ledger
 with_rules l rules = record l { rules = rules }
+
+abbrev pub with_numbers : Ledger → List (List PlacedNumber) → Ledger
+with_numbers l numbers = record l { numbers = numbers }
 
 -- ---- rollouts
 
@@ -108,12 +112,13 @@ scheduled rollout place = record { rollout = rollout; position = place; cancelin
 abbrev pub no_tally : Tally
 no_tally = record { notes = 0; entries = 0 }
 
--- the number is the next, and the target that of the rollout's member at the place
+-- the number is the next, the target is that of the rollout's member at the place, and no feedback bears a number
 pub record AddsAction (number rollout place : ℕ) (id : Bytes) (l next : Ledger) : Type 0 where
   pub tallied : length l.tallies ≡ length l.records.actions
   pub number_is : number ≡ length l.records.actions + 1
   pub id_is : id ≡ actor_of l.records.rollouts (scheduled rollout place)
-  pub next_is : next ≡ with_actions l (l.records.actions ++ scheduled rollout place ∷ []) (l.tallies ++ no_tally ∷ [])
+  pub next_is : next ≡ with_numbers (with_actions l (l.records.actions ++ scheduled rollout place ∷ []) (l.tallies ++ no_tally ∷ []))
+      (l.numbers ++ [] ∷ [])
 
 abbrev pub acted : Bool → Option Outcome → ActionRecord → ActionRecord
 acted canceling outcome a = record a { canceling = canceling; outcome = outcome }
@@ -124,17 +129,24 @@ pub record SetsAction (number : ℕ) (canceling : Bool) (outcome : Option Outcom
   pub is_there : item_numbered (zip l.records.actions l.tallies) number ≡ Some action
   pub next_is : next ≡ with_actions l (set_numbered l.records.actions number (acted canceling outcome action.0)) (set_numbered l.tallies number tally)
 
-abbrev pub and_entry : ActionRecord → HistoryEntry → ActionRecord
-and_entry a entry = record a { history = a.history ++ entry ∷ [] }
+abbrev pub and_entry : ActionRecord → Reported → ActionRecord
+and_entry a reported = record a { history = a.history ++ reported ∷ [] }
 
--- the action is there, the place is its history's next, and what is written tells the entry; the action's tally stays
+-- the action is there, the place is its history's next, and what is written tells the entry; the action's tally and its numbers stay
 pub record AddsEntry (number sequence : ℕ) (new : NewEntry) (l next : Ledger) : Type 0 where
   pub action : ActionRecord
   pub is_there : item_numbered l.records.actions number ≡ Some action
   pub sequence_is : sequence ≡ length action.history + 1
-  pub entry : HistoryEntry
-  pub told : TellsEntry entry new
-  pub next_is : next ≡ with_actions l (set_numbered l.records.actions number (and_entry action entry)) l.tallies
+  pub reported : Reported
+  pub told : TellsEntry reported new
+  pub next_is : next ≡ with_actions l (set_numbered l.records.actions number (and_entry action reported)) l.tallies
+
+-- the action is there, and the place is that of its next number
+pub record AddsNumber (number place : ℕ) (it : PlacedNumber) (l next : Ledger) : Type 0 where
+  pub its : List PlacedNumber
+  pub is_there : item_numbered l.numbers number ≡ Some its
+  pub place_is : place ≡ length its + 1
+  pub next_is : next ≡ with_numbers l (set_numbered l.numbers number (its ++ it ∷ []))
 
 -- ---- offers
 

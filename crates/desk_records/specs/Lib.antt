@@ -1,4 +1,5 @@
 pub mod ModuleRow
+pub mod RowFaults
 pub mod Schema
 pub mod Versions
 pub mod Targets
@@ -12,12 +13,14 @@ pub mod Artifacts
 pub mod ArtifactRow
 pub mod TargetRow
 pub mod Rollouts
+pub mod FeedbackNumbers
 pub mod Actions
 pub mod NewEntries
 pub mod Offers
 pub mod Codes
 pub mod RolloutRow
 pub mod RuleRow
+pub mod NumberRow
 pub mod LedgerSteps
 pub mod EntryRow
 pub mod NextOffers

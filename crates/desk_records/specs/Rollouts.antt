@@ -10,7 +10,7 @@ use Rattle.rollout_machine.specs.declared.records.RolloutRecord.{RolloutRecord}
 use Rattle.rollout_model.specs.declared.group_rule.GroupRule.{GroupRule}
 use Rattle.rollout_model.specs.declared.approval.Approval.{Approval}
 use Rattle.rollout_model.specs.declared.approval.Approval.TheVariants.{Waiting, Denied, Given}
-use Rattle.desk_records.specs.Parts.{part_row, parts_from, parts_of}
+use Rattle.desk_records.specs.Parts.{listed_parts, part_row, parts_from, parts_numbered, parts_of}
 
 abbrev pub flag : Bool → ℕ
 flag b = if b then 1 else 0
@@ -72,11 +72,11 @@ rule_row = part_row told_rule
 
 -- of what is said of the groups of each rollout
 abbrev pub rules_from : List (List GroupRule) → List Row
-rules_from rules = parts_from rule_row (λ (its : List GroupRule). its) 1 rules
+rules_from = listed_parts rule_row
 
 -- of one rollout, where it is there
 abbrev pub rules_numbered : List (List GroupRule) → ℕ → List GroupRule
-rules_numbered rules number = parts_of (λ (its : List GroupRule). its) (item_numbered rules number)
+rules_numbered = parts_numbered
 
 -- .. of one of its groups
 abbrev pub rule_numbered : List (List GroupRule) → ℕ → ℕ → Option GroupRule

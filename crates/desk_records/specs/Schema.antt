@@ -158,6 +158,15 @@ rule_table tree = table_of (codes "group_rule") tree
     ∷ strict (codes "error") Integer true
     ∷ []) None (1 ∷ 2 ∷ []) ((1 ∷ 2 ∷ []) ∷ []) (plain ∷ [])
 
+-- The numbers that devices gave their feedback, by places among those of the action, from 1; none is taken twice.
+abbrev pub number_table : ℕ → Table
+number_table tree = table_of (codes "feedback_number") tree
+    (strict (codes "action") Integer true
+    ∷ strict (codes "place") Integer true
+    ∷ strict (codes "sequence") Integer true
+    ∷ strict (codes "number") Integer true
+    ∷ []) None (1 ∷ 2 ∷ []) ((1 ∷ 2 ∷ []) ∷ []) (plain ∷ [])
+
 pub data Place : Type 0 where
   Desk : Place
   Modules : Place
@@ -175,11 +184,12 @@ pub data Place : Type 0 where
   Feedbacks : Place
   Offers : Place
   Rules : Place
+  Numbers : Place
 
 -- all of them, in the order in which they are made
 abbrev pub places : List Place
 places = Desk ∷ Modules ∷ Sets ∷ SetModules ∷ Artifacts ∷ Pieces ∷ Targets ∷ TargetTags ∷ TargetAttributes ∷ Rollouts ∷ Members ∷ Groups
-    ∷ Actions ∷ Feedbacks ∷ Offers ∷ Rules ∷ []
+    ∷ Actions ∷ Feedbacks ∷ Offers ∷ Rules ∷ Numbers ∷ []
 
 abbrev pub table_by : Place → Table
 table_by Desk = desk_table 0
@@ -198,6 +208,7 @@ table_by Actions = action_table 0
 table_by Feedbacks = feedback_table 0
 table_by Offers = offer_table 0
 table_by Rules = rule_table 0
+table_by Numbers = number_table 0
 
 -- the table, with its rows in a tree
 abbrev pub table_at : Place → ℕ → Table

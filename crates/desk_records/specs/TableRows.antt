@@ -2,18 +2,20 @@
 use Rattle.std.specs.Prelude.{◌≡◌, ℕ, true, ◌∷◌, [], None, Some, pos}
 use Rattle.sqlite_value.specs.declared.value.Value.TheVariants.{Blob, Int, Text}
 use Rattle.sqlite_value.specs.Order.{Row, column}
-use Rattle.rollout_machine.specs.Actions.{HistoryEntry}
+use Rattle.rollout_machine.specs.Reports.{HistoryEntry}
 use Rattle.rollout_machine.specs.Commands.{Bytes}
 use Rattle.rollout_machine.specs.declared.records.GroupRecord.{GroupRecord}
 use Rattle.rollout_model.specs.declared.group_rule.GroupRule.{GroupRule}
 use Rattle.rollout_model.specs.declared.rollout.Offer.{Offer}
 use Rattle.desk_records.specs.ArtifactRow.{IsStoredRow, broken_stored_column, has_size, small_number}
-use Rattle.desk_records.specs.Codes.{number_in}
+use Rattle.desk_records.specs.Codes.{number_in, place_in}
 use Rattle.desk_records.specs.EntryRow.{IsEntryRow}
+use Rattle.desk_records.specs.NumberRow.{IsNumberRow}
 use Rattle.desk_records.specs.RolloutRow.{IsActionRow, IsGroupRow, IsOfferRow, IsRolloutRow, broken_group_column}
 use Rattle.desk_records.specs.RuleRow.{IsRuleRow}
 use Rattle.desk_records.specs.TargetRow.{has_word}
 use Rattle.desk_records.specs.declared.artifact_row.StoredArtifact.{StoredArtifact}
+use Rattle.desk_records.specs.declared.number_row.PlacedNumber.{PlacedNumber}
 use Rattle.desk_records.specs.declared.rollout_row.StoredAction.{StoredAction}
 use Rattle.desk_records.specs.declared.rollout_row.StoredRollout.{StoredRollout}
 
@@ -37,6 +39,9 @@ action_shown row = column row 2 ∷ column row 3 ∷ column row 4 ∷ column row
 
 abbrev pub entry_shown : Row → Row
 entry_shown row = column row 3 ∷ column row 4 ∷ column row 5 ∷ []
+
+abbrev pub number_shown : Row → Row
+number_shown row = column row 3 ∷ column row 4 ∷ []
 
 abbrev pub offer_shown : Row → Row
 offer_shown row = column row 2 ∷ column row 3 ∷ column row 1 ∷ []
@@ -88,6 +93,12 @@ pub record IsAction (row : Row) (number : ℕ) (a : StoredAction) : Type 0 where
 pub record IsEntry (row : Row) (sequence : ℕ) (entry : HistoryEntry) : Type 0 where
   pub sequence_is : column row 2 ≡ Int (pos sequence)
   pub shows : IsEntryRow (entry_shown row) entry
+
+-- a number of an action, at its place among those of the action
+pub record IsNumber (row : Row) (action place : ℕ) (it : PlacedNumber) : Type 0 where
+  pub action_is : number_in (column row 1) ≡ Some action
+  pub place_is : place_in (column row 2) ≡ Some place
+  pub shows : IsNumberRow (number_shown row) it
 
 -- what a target is offered
 pub record IsOffer (row : Row) (id : Bytes) (o : Offer) : Type 0 where

@@ -1,4 +1,4 @@
-//! The texts of actions, their history and offers.
+//! The texts of actions, their history and its numbers, and offers.
 
 /// The last number, which is how many actions there are.
 pub const LAST_ACTION: &str = "SELECT number FROM action ORDER BY number DESC LIMIT 1";
@@ -30,6 +30,18 @@ pub const PUT_FEEDBACK: &str =
 /// The history of an action, in its order: at most as many entries as the second parameter, after as many as the third.
 pub const LIST_ENTRIES: &str =
     "SELECT kind, word, details, sequence FROM feedback WHERE action = ?1 ORDER BY sequence LIMIT ?2 OFFSET ?3";
+
+/// The number of an entry, at its place among those of the action.
+pub const PUT_NUMBER: &str =
+    "INSERT INTO feedback_number (action, place, sequence, number) VALUES (?1, ?2, ?3, ?4)";
+
+/// The last number of an action, with its place.
+pub const LAST_NUMBER: &str =
+    "SELECT sequence, number, place FROM feedback_number WHERE action = ?1 ORDER BY place DESC LIMIT 1";
+
+/// The numbers of an action, in the order of their places.
+pub const LIST_NUMBERS: &str =
+    "SELECT sequence, number FROM feedback_number WHERE action = ?1 ORDER BY place";
 
 /// The offer of a target.
 pub const GET_OFFER: &str = "SELECT action, kind FROM offer WHERE controller = ?1";

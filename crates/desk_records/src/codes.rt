@@ -2,11 +2,12 @@
 
 ghost use Rattle.std.specs.Prelude.{◌≡◌};
 ghost use Rattle.sqlite_value.specs.Order.{column};
-ghost use Rattle.desk_records.specs.Codes.{approval_in, flag_in, group_count_in, number_in, outcome_in, percentage_in, percentage_or_none_in};
+ghost use Rattle.desk_records.specs.Codes.{approval_in, feedback_number_in, flag_in, group_count_in, number_in, outcome_in, percentage_in};
+ghost use Rattle.desk_records.specs.Codes.{percentage_or_none_in, place_in};
 
 use crate::artifact_row::number_at;
 use rollout_machine::Outcome;
-use rollout_model::{Approval, GroupCount, Number, Percentage};
+use rollout_model::{Approval, FeedbackNumber, GroupCount, Number, Percentage};
 use sqlite::Row;
 use sqlite_value::value::ValueRef;
 
@@ -49,6 +50,23 @@ pub(crate) fn numbered_at<Kind>(row: &Row, at: usize) -> Option<Number<Kind>>
 {
     let number = number_at(row, at)?;
     Number::new(number)
+}
+
+/// A place, counted from 1, of 32 bits.
+pub(crate) fn place_at(row: &Row, at: usize) -> Option<u32>
+    ensures { result ≡ place_in (column row.now at) }
+{
+    match number_at(row, at) {
+        Some(0) => None,
+        place => place,
+    }
+}
+
+pub(crate) fn feedback_number_at(row: &Row, at: usize) -> Option<FeedbackNumber>
+    ensures { result ≡ feedback_number_in (column row.now at) }
+{
+    let number = number_at(row, at)?;
+    FeedbackNumber::new(number)
 }
 
 pub(crate) fn group_count_at(row: &Row, at: usize) -> Option<GroupCount>

@@ -3,8 +3,10 @@
 ghost use Rattle.std.specs.Prelude.{◌≡◌, ◌⊎◌, IfOk, IfErr, true, false, Some};
 ghost use Rattle.sqlite_value.specs.Order.{column};
 ghost use Rattle.desk_records.specs.ModuleRow.{StoredText, has_text, fault_at, IsLabelRow, broken_column};
+ghost use Rattle.desk_records.specs.RowFaults.{fault_of_row};
 
 use rollout_model::{ModuleLabel, Text};
+use sql_calls::Fault;
 use sqlite::{Error, ErrorCode, Row};
 use std::alloc::Global;
 
@@ -60,6 +62,9 @@ pub enum Column {
     EntryWord,
     EntryDetails,
     EntrySequence,
+    NumberSequence,
+    NumberValue,
+    NumberPlace,
     OfferAction,
     OfferKind,
 }
@@ -70,6 +75,16 @@ pub enum RowFault {
     Memory,
     /// The first column that breaks its rule.
     Broken(Column),
+}
+
+/// What a row that gives no record makes of a call. One that breaks a rule is a failed store.
+pub fn fault_of_row(fault: RowFault) -> Fault
+    ensures { result ≡ fault_of_row fault }
+{
+    match fault {
+        RowFault::Memory => Fault::Memory,
+        RowFault::Broken(_) => Fault::Store,
+    }
 }
 
 /// The module in a row of name, type and version.

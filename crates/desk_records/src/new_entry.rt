@@ -5,11 +5,11 @@ ghost use Rattle.desk_records.specs.Actions.{cancel_code, deployment_code, kind_
 ghost use Rattle.desk_records.specs.NewEntries.{TellsEntry};
 
 use rollout_machine::says_note;
-use rollout_model::{CancelWord, DeploymentWord, Details, NoteWord, Said};
+use rollout_model::{CancelWord, DeploymentWord, Details, FeedbackNumber, NoteWord, Said};
 use sql_calls::Fault;
 use std::alloc::{AllocError, Global};
 
-/// What the row of an entry tells.
+/// What the row of an entry tells, and the number that the entry bears.
 #[derive(Drop)]
 pub struct NewEntry {
     pub kind: u32,
@@ -17,6 +17,7 @@ pub struct NewEntry {
     pub is_note: bool,
     /// Each line ended by a line feed.
     pub details: String,
+    pub number: Option<FeedbackNumber>,
 }
 
 fn note_code(word: NoteWord) -> u32
@@ -81,9 +82,14 @@ fn join_lines(alloc: Global, details: &Details) -> Result<String, AllocError>
     Ok(text)
 }
 
-/// What the row of this feedback tells.
-pub fn tell_entry(alloc: Global, said: Said, details: &Details) -> Result<NewEntry, Fault>
-    ensures { IfOk result (TellsEntry (record { said = said; details = details.now })) }
+/// What the row of this feedback tells, and the number that it bears.
+pub fn tell_entry(
+    alloc: Global,
+    said: Said,
+    details: &Details,
+    number: Option<FeedbackNumber>,
+) -> Result<NewEntry, Fault>
+    ensures { IfOk result (TellsEntry (record { entry = record { said = said; details = details.now }; number = number })) }
 {
     let Ok(details) = join_lines(alloc, details) else {
         return Err(Fault::Memory);
@@ -93,5 +99,6 @@ pub fn tell_entry(alloc: Global, said: Said, details: &Details) -> Result<NewEnt
         word: word_code(said),
         is_note: says_note(said),
         details,
+        number,
     })
 }

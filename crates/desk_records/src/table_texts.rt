@@ -72,3 +72,8 @@ pub const CREATE_OFFER: &str =
 pub const CREATE_GROUP_RULE: &str =
     "CREATE TABLE group_rule (rollout INTEGER NOT NULL, number INTEGER NOT NULL, percentage INTEGER, success INTEGER NOT NULL, \
         error INTEGER NOT NULL, PRIMARY KEY (rollout, number)) STRICT";
+
+/// The numbers that devices gave their feedback, by places among those of the action, from 1; none is taken twice.
+pub const CREATE_FEEDBACK_NUMBER: &str =
+    "CREATE TABLE feedback_number (action INTEGER NOT NULL, place INTEGER NOT NULL, sequence INTEGER NOT NULL, number INTEGER NOT NULL, \
+        PRIMARY KEY (action, place)) STRICT";

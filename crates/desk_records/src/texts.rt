@@ -2,10 +2,10 @@
 
 /// The row of `desk`; its parameter is whether rollouts wait for approval.
 pub const PUT_DESK: &str =
-    "INSERT INTO desk (id, format, version, approval) VALUES (1, 'fwdesk', 2, ?1)";
+    "INSERT INTO desk (id, format, version, approval) VALUES (1, 'fwdesk', 3, ?1)";
 
 /// The row of `desk` says the newest version.
-pub const SET_VERSION: &str = "UPDATE desk SET version = 2 WHERE id = 1";
+pub const SET_VERSION: &str = "UPDATE desk SET version = 3 WHERE id = 1";
 
 pub const GET_DESK: &str = "SELECT format, version, approval FROM desk WHERE id = 1";
 

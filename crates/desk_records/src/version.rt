@@ -8,6 +8,7 @@ ghost use Rattle.desk_records.specs.Versions.{table_count_of};
 pub enum Version {
     One,
     Two,
+    Three,
 }
 
 impl Version {
@@ -18,6 +19,7 @@ impl Version {
         match self {
             Version::One => 15,
             Version::Two => 16,
+            Version::Three => 17,
         }
     }
 }

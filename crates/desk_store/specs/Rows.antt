@@ -4,12 +4,9 @@ use Rattle.sqlite_value.specs.declared.value.Value.TheVariants.{Int}
 use Rattle.std.specs.List.{AllZip}
 use Rattle.sqlite_value.specs.Order.{Row, column}
 use Rattle.sqlite_rules.specs.Lists.{Has}
-use Rattle.sql_calls.specs.declared.fault.Fault.{Fault}
-use Rattle.sql_calls.specs.declared.fault.Fault.TheVariants.{Memory, Store}
-use Rattle.desk_records.specs.declared.module_row.Column.{Column}
-use Rattle.desk_records.specs.declared.module_row.RowFault.{RowFault}
-use Rattle.desk_records.specs.declared.module_row.RowFault.TheVariants as row_fault
 use Rattle.desk_records.specs.Codes.{flag_in}
+-- what a row that can't be read makes of a call
+pub use Rattle.desk_records.specs.RowFaults.{BreaksRule, IfBroken, IfStore}
 use Rattle.desk_records.specs.SetRow.{StoredNumber}
 
 -- no row is nothing
@@ -32,19 +29,6 @@ IsApproval approval None = ⊥
 IsApproval approval (Some row) = flag_in (column row 2) ≡ Some approval
 
 -- ---- rows that can't be read
-
--- a column breaks its rule
-pub record BreaksRule (column : Option Column) : Type 0 where
-  pub first : Column
-  pub is : column ≡ Some first
-
-abbrev pub IfBroken : RowFault → Type 0 → Type 0
-IfBroken row_fault.Memory Why = Unit {0}
-IfBroken (row_fault.Broken c) Why = Why
-
-abbrev pub IfStore : Fault → Type 0 → Type 0
-IfStore Memory Why = Unit {0}
-IfStore Store Why = Why
 
 -- one of the rows is broken
 pub record HasBroken (is_broken : Row → Type 0) (rows : List Row) : Type 0 where

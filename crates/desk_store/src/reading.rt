@@ -4,10 +4,10 @@ ghost use Rattle.std.specs.Prelude.{◌≡◌, ◌<◌, ◌≤◌, ◌^◌, ◌�
 ghost use Rattle.desk_records.specs.Modules.{IsLastRow};
 ghost use Rattle.desk_records.specs.TargetRow.{IsAttributeRow};
 ghost use Rattle.desk_store.specs.Rows.{AreReadAs, HasBroken, HasNoNumber, IfStore, IsApproval, IsCount, IsReadAs};
-ghost use Rattle.desk_store.specs.Faults.{as_store, fault_of_row};
+ghost use Rattle.desk_store.specs.Faults.{as_store};
 
 use crate::from_row::FromRow;
-use desk_records::{RowFault, read_approval};
+use desk_records::{fault_of_row, read_approval};
 use rollout_model::{Attribute, Attributes};
 use sql_calls::{Fault, fault_of};
 use sqlite::Row;
@@ -91,7 +91,7 @@ fn read_one<T: FromRow>(alloc: Global, row: &Row) -> Result<T, Fault>
 {
     match T::from_row(alloc, row) {
         Ok(one) => Ok(one),
-        Err(fault) => Err(row_fault(fault)),
+        Err(fault) => Err(fault_of_row(fault)),
     }
 }
 
@@ -130,16 +130,7 @@ pub(crate) fn approval_in(row: Option<Row>) -> Result<bool, Fault>
     };
     match read_approval(&row) {
         Ok(approval) => Ok(approval),
-        Err(fault) => Err(row_fault(fault)),
-    }
-}
-
-fn row_fault(fault: RowFault) -> Fault
-    ensures { result ≡ fault_of_row fault }
-{
-    match fault {
-        RowFault::Memory => Fault::Memory,
-        RowFault::Broken(_) => Fault::Store,
+        Err(fault) => Err(fault_of_row(fault)),
     }
 }
 

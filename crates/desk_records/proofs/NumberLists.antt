@@ -1,0 +1,54 @@
+-- The numbers of a history, one more, and the last of them.
+use Rattle.std.proofs.Common.{◌≡◌, ◌++◌, ℕ, suc, ◌+◌, List, [], ◌∷◌, length, slice_get, Option, Some, None, refl, sym, ap, subst, ◌∙◌, arith, append_assoc, append-nil}
+use Rattle.std.specs.List.{last_or}
+use Rattle.std.specs.Option.{option_or}
+use Rattle.rollout_machine.specs.Reports.{Reported, bearing}
+use Rattle.desk_records.specs.FeedbackNumbers.{borne_at, numbers_from}
+use Rattle.desk_records.specs.declared.number_row.PlacedNumber.{PlacedNumber}
+use Rattle.desk_records.proofs.NumberRecords.{last_joined}
+
+-- one more entry
+pub numbers_more : (sequence : ℕ) (history : List Reported) (r : Reported) → numbers_from sequence (history ++ r ∷ []) ≡ numbers_from sequence history ++ borne_at (sequence + length history) r.number
+numbers_more sequence [] r = let at : sequence ≡ sequence + 0 = omega arith in append-nil (borne_at sequence r.number) ∙ ap (λ n. borne_at n r.number) at
+numbers_more sequence (x ∷ history) r =
+    let at : (sequence + 1) + length history ≡ sequence + suc (length history) = omega arith in
+    let rest = numbers_from (sequence + 1) history in
+    ap (λ l. borne_at sequence x.number ++ l) (numbers_more (sequence + 1) history r ∙ ap (λ n. rest ++ borne_at n r.number) at)
+    ∙ sym (append_assoc (borne_at sequence x.number) rest (borne_at (sequence + suc (length history)) r.number))
+
+-- ---- the last that bears one
+
+-- the entry that bears this number, the last of the history's
+pub record IsBearer (sequence : ℕ) (history : List Reported) (it : PlacedNumber) : Type 0 where
+  pub index : ℕ
+  pub reported : Reported
+  pub sequence_is : it.sequence ≡ sequence + index
+  pub got : slice_get history index ≡ Some reported
+  pub number_is : reported.number ≡ Some it.number
+  pub bears : bearing history ≡ Some (record { entry = reported.entry; number = it.number })
+
+abbrev pub BearsLast : ℕ → List Reported → Option PlacedNumber → Type 0
+BearsLast sequence history None = bearing history ≡ None
+BearsLast sequence history (Some it) = IsBearer sequence history it
+
+last_append : {X : Type 0} (xs ys : List X) (o : Option X) → last_or o (xs ++ ys) ≡ last_or (last_or o xs) ys
+last_append [] ys o = refl
+last_append (x ∷ xs) ys o = last_append xs ys (Some x)
+
+pub bears_last : (sequence : ℕ) (history : List Reported) → BearsLast sequence history (last_or None (numbers_from sequence history))
+bears_last sequence [] = refl
+bears_last sequence (r ∷ history) =
+    subst (BearsLast sequence (r ∷ history)) (sym (last_append (borne_at sequence r.number) (numbers_from (sequence + 1) history) None ∙ last_joined (last_or None (borne_at sequence r.number)) (numbers_from (sequence + 1) history)))
+    (go r.number refl (last_or None (numbers_from (sequence + 1) history)) (bears_last (sequence + 1) history))
+  where
+    go : (n : Option ℕ) → r.number ≡ n → (last : Option PlacedNumber) → BearsLast (sequence + 1) history last → BearsLast sequence (r ∷ history) (option_or last (last_or None (borne_at sequence n)))
+    go n is (Some it) later = record {
+      index = suc later.index;
+      reported = later.reported;
+      sequence_is = omega (arith, later.sequence_is);
+      got = later.got;
+      number_is = later.number_is;
+      bears = rw later.bears refl;
+    }
+    go None is None none = rw (none, is) refl
+    go (Some n) is None none = record { index = 0; reported = r; sequence_is = omega arith; got = refl; number_is = is; bears = rw (none, is) refl }
