@@ -4,11 +4,12 @@ use Rattle.std.specs.Prelude.{IfSome, is_none, is_some, map, nat_eq, not}
 use Rattle.std.specs.Option.{option_map, option_or, unwrap_or}
 use Rattle.std.proofs.lemmas.Bool.{eq-eqb}
 use Rattle.rollout_machine.proofs.Actions.{append_none}
-use Rattle.rollout_machine.specs.Actions.{HistoryEntry, cancel_standing_said, entries_of, outcome_given}
+use Rattle.rollout_machine.specs.Actions.{cancel_standing_said, outcome_given}
 use Rattle.rollout_machine.specs.ByteStrings.{item_numbered}
 use Rattle.rollout_machine.specs.Commands.{Bytes, Cancel, Command}
-use Rattle.rollout_machine.specs.RecordSteps.{action_after, change_rollout, counted, is_same_action, outcome_if_new, own_group, rollout_after, rollouts_after_outcome, step_action}
+use Rattle.rollout_machine.specs.RecordSteps.{action_after, change_rollout, counted, is_same_action, outcome_if_new, own_group, rollout_after, rollouts_after_outcome, act_on, step_action}
 use Rattle.rollout_machine.specs.Records.{Records}
+use Rattle.rollout_machine.specs.Reports.{Reported, is_again, reported_by}
 use Rattle.rollout_machine.specs.declared.records.ActionRecord.{ActionRecord}
 use Rattle.rollout_machine.specs.declared.records.RolloutRecord.{RolloutRecord}
 use Rattle.rollout_machine.specs.StateWords.{group_number_of, has_started, is_for}
@@ -20,7 +21,7 @@ use Rattle.rollout_model.specs.declared.refusal.Refusal.{Refusal}
 use Rattle.rollout_model.specs.declared.refusal.Refusal.TheVariants.{ClosedAction, NotFound, WrongState}
 use Rattle.campaign_core.specs.OwnGroups.{OwnDecides, own_effects, own_view_of}
 use Rattle.campaign_core.specs.declared.own_group.OwnView.{OwnView}
-use Rattle.campaign_core.specs.RolloutChecks.{AreSound, BothOrNone, ChangesAction, Decides, IsActionView, IsCancelView, MakesCancel, MayChangeAction, action_for, action_with, cancel_refusal, change_by, change_if_open, change_numbered, ended_by, moved_by, only_if, outcome_forced, rollout_with, rollouts_with}
+use Rattle.campaign_core.specs.RolloutChecks.{AreSound, BothOrNone, ChangesAction, Decides, IsActionView, IsCancelView, MakesCancel, action_for, action_with, cancel_refusal, change_by, change_numbered, ended_by, moved_by, only_if, outcome_forced, rollout_with, rollouts_with}
 use Rattle.campaign_core.specs.declared.rollout_checks.RolloutChange.TheVariants as change
 use Rattle.campaign_core.specs.declared.rollout_checks.RolloutCommandView.TheVariants as seen
 use Rattle.campaign_core.specs.declared.rollout_checks.actions.ActionChange.{ActionChange}
@@ -44,28 +45,28 @@ actions_changed rs sound k a f at =
     itself = rw (eq-eqb a.rollout a.rollout refl, eq-eqb a.position a.position refl) refl
 
 -- an action record with an outcome, its canceling and its history
-abbrev set_to : ActionRecord → Option Outcome → Bool → List HistoryEntry → ActionRecord
+abbrev set_to : ActionRecord → Option Outcome → Bool → List Reported → ActionRecord
 set_to a o b es = record a { outcome = o; canceling = b; history = es }
 
 -- an open action after a command that gives it this, or nothing
 open_after : (c : Command) (a : ActionRecord) (v : ActionView) (gives : Option Outcome) (canceling : Bool) → a.outcome ≡ None → outcome_given c a.canceling ≡ gives → unwrap_or (cancel_standing_said c) a.canceling ≡ canceling
-    → action_after c a ≡ record (action_with (change_by v gives canceling) a) { history = a.history ++ entries_of c }
+    → action_after c a ≡ record (action_with (change_by v gives canceling) a) { history = a.history ++ reported_by c }
 open_after c a v gives canceling was given said = stepped ∙ go gives
   where
-    stepped : action_after c a ≡ set_to a gives (is_none gives && canceling) (a.history ++ entries_of c)
+    stepped : action_after c a ≡ set_to a gives (is_none gives && canceling) (a.history ++ reported_by c)
     stepped =
-        ap (λ o. set_to a (option_or o (outcome_given c a.canceling)) (is_none (option_or o (outcome_given c a.canceling)) && unwrap_or (cancel_standing_said c) a.canceling) (a.history ++ cond (is_none o) (entries_of c) [])) was
-        ∙ ap (λ g. set_to a g (is_none g && unwrap_or (cancel_standing_said c) a.canceling) (a.history ++ entries_of c)) given
-        ∙ ap (λ b. set_to a gives (is_none gives && b) (a.history ++ entries_of c)) said
+        ap (λ o. set_to a (option_or o (outcome_given c a.canceling)) (is_none (option_or o (outcome_given c a.canceling)) && unwrap_or (cancel_standing_said c) a.canceling) (a.history ++ cond (is_none o) (reported_by c) [])) was
+        ∙ ap (λ g. set_to a g (is_none g && unwrap_or (cancel_standing_said c) a.canceling) (a.history ++ reported_by c)) given
+        ∙ ap (λ b. set_to a gives (is_none gives && b) (a.history ++ reported_by c)) said
 
-    go : (g : Option Outcome) → set_to a g (is_none g && canceling) (a.history ++ entries_of c) ≡ record (action_with (change_by v g canceling) a) { history = a.history ++ entries_of c }
-    go None = ap (λ o. set_to a o canceling (a.history ++ entries_of c)) (sym was)
+    go : (g : Option Outcome) → set_to a g (is_none g && canceling) (a.history ++ reported_by c) ≡ record (action_with (change_by v g canceling) a) { history = a.history ++ reported_by c }
+    go None = ap (λ o. set_to a o canceling (a.history ++ reported_by c)) (sym was)
     go (Some o) = refl
 
 -- one that has its outcome
 closed_after : (c : Command) (a : ActionRecord) (o : Outcome) → a.outcome ≡ Some o → a.canceling ≡ false → action_after c a ≡ a
 closed_after c a o had over =
-    ap (λ p. set_to a (option_or p (outcome_given c a.canceling)) (is_none (option_or p (outcome_given c a.canceling)) && unwrap_or (cancel_standing_said c) a.canceling) (a.history ++ cond (is_none p) (entries_of c) [])) had
+    ap (λ p. set_to a (option_or p (outcome_given c a.canceling)) (is_none (option_or p (outcome_given c a.canceling)) && unwrap_or (cancel_standing_said c) a.canceling) (a.history ++ cond (is_none p) (reported_by c) [])) had
     ∙ ap (λ p. set_to a p false (a.history ++ [])) (sym had)
     ∙ ap (λ b. set_to a a.outcome b (a.history ++ [])) (sym over)
     ∙ ap (λ es. set_to a a.outcome a.canceling es) (append_none a.history)
@@ -110,11 +111,15 @@ rollouts_ended rs sound k a v at is (Some o) canceling =
 both : (rs : Records) (xs ys : List RolloutRecord) (as' bs : List ActionRecord) → xs ≡ ys → as' ≡ bs → record rs { rollouts = xs; actions = as' } ≡ record rs { rollouts = ys; actions = bs }
 both rs xs ys as' bs e d = rw (e, d) refl
 
+-- what the action hears for the first time is acted on
+heard : (rs : Records) (c : Command) (k : ℕ) (a : ActionRecord) → item_numbered rs.actions k ≡ Some a → is_again a.history c ≡ false → step_action rs c (item_numbered rs.actions k) ≡ act_on rs c a
+heard rs c k a at new = ap (step_action rs c) at ∙ ap (λ b. cond b rs (act_on rs c a)) new
+
 -- an open action gets what the command gives it, and its rollout what follows
-pub acts : (rs : Records) → AreSound rs → (c : Command) (k : ℕ) (a : ActionRecord) (v : ActionView) (gives : Option Outcome) (canceling : Bool) → item_numbered rs.actions k ≡ Some a → v.outcome ≡ None → IsActionView v a rs
-    → outcome_given c a.canceling ≡ gives → unwrap_or (cancel_standing_said c) a.canceling ≡ canceling → ChangesAction (change_by v gives canceling) (entries_of c) k rs (step_action rs c (item_numbered rs.actions k))
-acts rs sound c k a v gives canceling at was is given said =
-    ap (step_action rs c) at
+pub acts : (rs : Records) → AreSound rs → (c : Command) (k : ℕ) (a : ActionRecord) (v : ActionView) (gives : Option Outcome) (canceling : Bool) → item_numbered rs.actions k ≡ Some a → is_again a.history c ≡ false → v.outcome ≡ None → IsActionView v a rs
+    → outcome_given c a.canceling ≡ gives → unwrap_or (cancel_standing_said c) a.canceling ≡ canceling → ChangesAction (change_by v gives canceling) (reported_by c) k rs (step_action rs c (item_numbered rs.actions k))
+acts rs sound c k a v gives canceling at new was is given said =
+    heard rs c k a at new
     ∙ both rs _ _ _ _
     (ap (λ p. rollouts_after_outcome (outcome_if_new p (outcome_given c a.canceling)) rs.rollouts a) is_open ∙ ap (λ g. rollouts_after_outcome g rs.rollouts a) given ∙ rollouts_ended rs sound k a v at is gives canceling)
     (actions_changed rs sound k a (action_after c) at
@@ -124,24 +129,19 @@ acts rs sound c k a v gives canceling at was is given said =
     is_open = sym is.outcome ∙ was
 
     after : ActionRecord → ActionRecord
-    after b = record (action_with (change_by v gives canceling) b) { history = b.history ++ entries_of c }
+    after b = record (action_with (change_by v gives canceling) b) { history = b.history ++ reported_by c }
 
--- and one that has its outcome stays as it is
+-- one that has its outcome stays as it is, whether it has heard this or not
 pub stays : (rs : Records) → AreSound rs → (c : Command) (k : ℕ) (a : ActionRecord) (o : Outcome) → item_numbered rs.actions k ≡ Some a → a.outcome ≡ Some o → step_action rs c (item_numbered rs.actions k) ≡ rs
-stays rs sound c k a o at had =
-    ap (step_action rs c) at
-    ∙ both rs _ _ _ _
-    (ap (λ p. rollouts_after_outcome (outcome_if_new p (outcome_given c a.canceling)) rs.rollouts a) had)
-    (actions_changed rs sound k a (action_after c) at
-    ∙ unchanged (action_after c) k rs.actions (λ b d. subst (λ z. action_after c z ≡ z) (same_item (item_numbered rs.actions k) a b at d) (closed_after c a o had (sound.over k a o at had))))
-
-pub may_act : (rs : Records) → AreSound rs → (c : Command) (k : ℕ) (a : ActionRecord) (v : ActionView) (gives : Option Outcome) (canceling : Bool) → item_numbered rs.actions k ≡ Some a → IsActionView v a rs
-    → outcome_given c a.canceling ≡ gives → unwrap_or (cancel_standing_said c) a.canceling ≡ canceling → MayChangeAction (change_if_open v gives canceling) (entries_of c) k rs (step_action rs c (item_numbered rs.actions k))
-may_act rs sound c k a v gives canceling at is given said = go v.outcome refl
+stays rs sound c k a o at had = ap (step_action rs c) at ∙ go (is_again a.history c)
   where
-    go : (o : Option Outcome) → v.outcome ≡ o → MayChangeAction (cond (is_none o) (Some (change_by v gives canceling)) None) (entries_of c) k rs (step_action rs c (item_numbered rs.actions k))
-    go None e = acts rs sound c k a v gives canceling at e is given said
-    go (Some o) e = stays rs sound c k a o at (sym is.outcome ∙ e)
+    go : (b : Bool) → cond b rs (act_on rs c a) ≡ rs
+    go true = refl
+    go false =
+        both rs _ _ _ _
+        (ap (λ p. rollouts_after_outcome (outcome_if_new p (outcome_given c a.canceling)) rs.rollouts a) had)
+        (actions_changed rs sound k a (action_after c) at
+        ∙ unchanged (action_after c) k rs.actions (λ b d. subst (λ z. action_after c z ≡ z) (same_item (item_numbered rs.actions k) a b at d) (closed_after c a o had (sound.over k a o at had))))
 
 -- ---- cancels
 
@@ -189,5 +189,5 @@ cancels (Some w) t k force c e by rs sound is =
     let at : item_numbered rs.actions k ≡ Some it.item = only_found (is_some (target_of rs t) && on_action (is_for rs t) (item_numbered rs.actions k)) (item_numbered rs.actions k) it.item it.there in (
       cancel_row rs t k force (Some w) is ∙ e,
       subst (λ d. ChangesAction d [] k rs (step_action rs (Cancel t k force) (item_numbered rs.actions k))) (sym by)
-          (acts rs sound (Cancel t k force) k it.item w.action (outcome_forced w.action.canceling force) true at (open_if w.action.outcome _ e) it.is.action (ap (λ b. outcome_forced b force) (sym it.is.action.canceling)) refl),
+          (acts rs sound (Cancel t k force) k it.item w.action (outcome_forced w.action.canceling force) true at refl (open_if w.action.outcome _ e) it.is.action (ap (λ b. outcome_forced b force) (sym it.is.action.canceling)) refl),
     )

@@ -6,9 +6,11 @@ use Rattle.rollout_machine.specs.StateWords.{PausedRollout, RunningRollout}
 use Rattle.rollout_machine.specs.Verdicts.{is_at_pause, is_running}
 use Rattle.rollout_machine.specs.declared.outcome.Outcome.{Outcome}
 use Rattle.rollout_machine.specs.declared.outcome.Outcome.TheVariants.{Good, Bad, Gone}
+use Rattle.rollout_machine.specs.declared.standing.Standing.{Standing}
+use Rattle.rollout_machine.specs.declared.standing.Standing.TheVariants.{Again, Fresh, Old}
 use Rattle.rollout_machine.specs.declared.view.GroupView.{GroupView}
-use Rattle.rollout_model.specs.declared.refusal.Refusal.TheVariants.{BadFilter, ClosedAction, Exists, NotFound, Quota, TooFewTargets, Unauthorized, WrongState}
-use Rattle.campaign_core.specs.RolloutChecks.{cancel_feedback_refusal, cancel_refusal, device_refusal, feedback_refusal, outcome_forced, plan_refusal, word_refusal}
+use Rattle.rollout_model.specs.declared.refusal.Refusal.TheVariants.{BadFilter, ClosedAction, Exists, NotFound, OldNumber, Quota, TooFewTargets, Unauthorized, WrongState}
+use Rattle.campaign_core.specs.RolloutChecks.{cancel_feedback_refusal, cancel_refusal, canceling_after, change_if_fresh, device_refusal, feedback_refusal, outcome_forced, plan_refusal, word_refusal}
 use Rattle.campaign_core.specs.declared.rollout_checks.actions.ActionView.{ActionView}
 use Rattle.campaign_core.specs.declared.rollout_checks.actions.CancelView.{CancelView}
 use Rattle.campaign_core.specs.declared.rollout_checks.plans.PlanView.{PlanView}
@@ -89,8 +91,8 @@ cancel_of_closed = refl
 
 -- ---- feedback
 
-abbrev own_action : (outcome : Option Outcome) (canceling : Bool) (notes : ℕ) → DeviceAction
-own_action o canceling notes = record { notes = notes; action = acted o canceling }
+abbrev own_action : (standing : Standing) (outcome : Option Outcome) (canceling : Bool) (notes : ℕ) → DeviceAction
+own_action standing o canceling notes = record { notes = notes; standing = standing; action = acted o canceling }
 
 stranger : device_refusal (record { misses_device = true; own_action = None }) ≡ Some Unauthorized
 stranger = refl
@@ -98,35 +100,63 @@ stranger = refl
 action_of_another : device_refusal (record { misses_device = false; own_action = None }) ≡ Some NotFound
 action_of_another = refl
 
-note_100 : feedback_refusal (Noted Proceeding) (own_action None false 99) ≡ None
+note_100 : feedback_refusal (Noted Proceeding) (own_action Fresh None false 99) ≡ None
 note_100 = refl
 
-note_101 : feedback_refusal (Noted Proceeding) (own_action None false 100) ≡ Some Quota
+note_101 : feedback_refusal (Noted Proceeding) (own_action Fresh None false 100) ≡ Some Quota
 note_101 = refl
 
-rejection_101 : feedback_refusal Rejected (own_action None false 100) ≡ Some Quota
+rejection_101 : feedback_refusal Rejected (own_action Fresh None false 100) ≡ Some Quota
 rejection_101 = refl
 
-failure_after_100 : feedback_refusal Failed (own_action None false 100) ≡ None
+failure_after_100 : feedback_refusal Failed (own_action Fresh None false 100) ≡ None
 failure_after_100 = refl
 
-failure_again : feedback_refusal Failed (own_action (Some Bad) false 100) ≡ None
+failure_again : feedback_refusal Failed (own_action Fresh (Some Bad) false 100) ≡ None
 failure_again = refl
 
-failure_after_success : feedback_refusal Failed (own_action (Some Good) false 100) ≡ Some ClosedAction
+failure_after_success : feedback_refusal Failed (own_action Fresh (Some Good) false 100) ≡ Some ClosedAction
 failure_after_success = refl
 
-note_after_success : feedback_refusal (Noted Proceeding) (own_action (Some Good) false 0) ≡ Some ClosedAction
+note_after_success : feedback_refusal (Noted Proceeding) (own_action Fresh (Some Good) false 0) ≡ Some ClosedAction
 note_after_success = refl
 
-cancel_not_asked : cancel_feedback_refusal CanceledCancel (own_action None false 0) ≡ Some WrongState
+cancel_not_asked : cancel_feedback_refusal CanceledCancel (own_action Fresh None false 0) ≡ Some WrongState
 cancel_not_asked = refl
 
-rejection_after_100 : cancel_feedback_refusal RejectedCancel (own_action None true 100) ≡ None
+rejection_after_100 : cancel_feedback_refusal RejectedCancel (own_action Fresh None true 100) ≡ None
 rejection_after_100 = refl
 
-cancel_note_101 : cancel_feedback_refusal (NotedCancel Resumed) (own_action None true 100) ≡ Some Quota
+cancel_note_101 : cancel_feedback_refusal (NotedCancel Resumed) (own_action Fresh None true 100) ≡ Some Quota
 cancel_note_101 = refl
 
-canceled_again : cancel_feedback_refusal CanceledCancel (own_action (Some Gone) false 0) ≡ None
+canceled_again : cancel_feedback_refusal CanceledCancel (own_action Fresh (Some Gone) false 0) ≡ None
 canceled_again = refl
+
+-- ---- feedback with a number
+
+note_100_again : feedback_refusal (Noted Proceeding) (own_action Again None false 100) ≡ None
+note_100_again = refl
+
+again_changes_nothing : change_if_fresh (own_action Again None false 100) None false ≡ None
+again_changes_nothing = refl
+
+old_note_101 : feedback_refusal (Noted Proceeding) (own_action Old None false 100) ≡ Some OldNumber
+old_note_101 = refl
+
+old_note_after_success : feedback_refusal (Noted Proceeding) (own_action Old (Some Good) false 100) ≡ Some ClosedAction
+old_note_after_success = refl
+
+failure_again_as_old : feedback_refusal Failed (own_action Old (Some Bad) false 100) ≡ None
+failure_again_as_old = refl
+
+-- the rejection ended the canceling, and is sent again
+rejection_again : cancel_feedback_refusal RejectedCancel (own_action Again None false 0) ≡ None
+rejection_again = refl
+
+-- it ends no newer one
+rejection_ends_once : change_if_fresh (own_action Again None true 0) None (canceling_after RejectedCancel true) ≡ None
+rejection_ends_once = refl
+
+old_rejection : cancel_feedback_refusal RejectedCancel (own_action Old None false 0) ≡ Some OldNumber
+old_rejection = refl

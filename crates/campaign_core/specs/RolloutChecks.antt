@@ -2,9 +2,9 @@
 use Rattle.std.specs.Prelude.{◌≡◌, ◌+◌, ℕ, zero, suc, Bool, true, false, ◌&&◌, ◌||◌, not, cond, nat_le, List, [], ◌∷◌, ◌++◌, map, length}
 use Rattle.std.specs.Prelude.{Option, Some, None, is_none, is_some, Result, Ok, Err, ⊤}
 use Rattle.std.specs.List.{list_any}
-use Rattle.std.specs.Option.{option_map}
+use Rattle.std.specs.Option.{option_map, option_or}
 use Rattle.target_filter.specs.Profile.{filter_of}
-use Rattle.rollout_machine.specs.Actions.{HistoryEntry, OfDeployment, OfCancel, entry_of, outcome_of_cancel, outcome_of_deployment}
+use Rattle.rollout_machine.specs.Actions.{outcome_of_cancel, outcome_of_deployment}
 use Rattle.rollout_machine.specs.ByteStrings.{item_numbered, same_bytes}
 use Rattle.rollout_machine.specs.CommandList.{CommandList, ◌▸◌}
 use Rattle.rollout_machine.specs.Commands.{Bytes, CancelWord, Command, Credential, DeploymentWord, RolloutPlan, RejectedCancel, Approve, Cancel}
@@ -15,6 +15,7 @@ use Rattle.rollout_machine.specs.RecordSteps.{begin_rollout, counted, is_same_ac
 use Rattle.rollout_machine.specs.Records.{Approval, Denied, Given, Records, Waiting, records}
 use Rattle.rollout_machine.specs.declared.records.ActionRecord.{ActionRecord}
 use Rattle.rollout_machine.specs.declared.records.RolloutRecord.{RolloutRecord}
+use Rattle.rollout_machine.specs.Reports.{OfDeployment, OfCancel, Reported, reported, says_old, standing_of}
 use Rattle.rollout_machine.specs.Rollouts.{chosen}
 use Rattle.rollout_machine.specs.StateWords.{RolloutWord, group_number_of, has_started, is_for, rollout_word}
 use Rattle.rollout_machine.specs.Validity.{IsValid}
@@ -22,11 +23,14 @@ use Rattle.rollout_machine.specs.Verdicts.{check, first_refusal, has_next, is_de
 use Rattle.rollout_machine.specs.Verdicts.{target_of, verdict}
 use Rattle.rollout_machine.specs.declared.outcome.Outcome.{Outcome}
 use Rattle.rollout_machine.specs.declared.outcome.Outcome.TheVariants.{Gone}
+use Rattle.rollout_machine.specs.declared.standing.Standing.{Standing}
+use Rattle.rollout_machine.specs.declared.standing.Standing.TheVariants.{Fresh}
 use Rattle.rollout_machine.specs.declared.view.Effects.{Effects}
 use Rattle.campaign_core.specs.OwnGroups.{OwnDecides, effects_by, following, own_view_of}
 use Rattle.rollout_model.specs.Limits.{note_limit, rollout_limit}
 use Rattle.rollout_model.specs.declared.refusal.Refusal.{Refusal}
-use Rattle.rollout_model.specs.declared.refusal.Refusal.TheVariants.{BadFilter, ClosedAction, Exists, NotFound, Quota, TooFewTargets, Unauthorized, WrongState}
+use Rattle.rollout_model.specs.declared.refusal.Refusal.TheVariants.{BadFilter, ClosedAction, Exists, NotFound, OldNumber, Quota, TooFewTargets}
+use Rattle.rollout_model.specs.declared.refusal.Refusal.TheVariants.{Unauthorized, WrongState}
 use Rattle.campaign_core.specs.declared.rollout_checks.RolloutCommandView.{RolloutCommandView}
 use Rattle.campaign_core.specs.declared.rollout_checks.RolloutCommandView.TheVariants as seen
 use Rattle.campaign_core.specs.declared.rollout_checks.RolloutChange.{RolloutChange}
@@ -165,8 +169,10 @@ pub record IsCancelView (v : CancelView) (a : ActionRecord) (rs : Records) : Typ
   pub started : v.started ≡ has_started rs a
   pub action : IsActionView v.action a rs
 
-pub record IsDeviceAction (v : DeviceAction) (a : ActionRecord) (rs : Records) : Type 0 where
+-- what is reported of the action; how it stands among its history matters while the action is open
+pub record IsDeviceAction (v : DeviceAction) (a : ActionRecord) (new : Reported) (rs : Records) : Type 0 where
   pub notes : v.notes ≡ notes_of a
+  pub standing : a.outcome ≡ None → v.standing ≡ standing_of a.history new
   pub action : IsActionView v.action a rs
 
 -- what is there, where the test holds
@@ -181,10 +187,10 @@ action_for rs t k = only_if (is_some (target_of rs t) && on_action (is_for rs t)
 abbrev pub device_action : Records → Bytes → ℕ → Option ActionRecord
 device_action rs t k = only_if (is_device_action rs t (item_numbered rs.actions k)) (item_numbered rs.actions k)
 
--- of feedback on action k by a device, in these records
-pub record IsFeedbackView (v : FeedbackView) (device : Credential) (k : ℕ) (rs : Records) : Type 0 where
+-- of what a device reports of action k, in these records
+pub record IsFeedbackView (v : FeedbackView) (device : Credential) (k : ℕ) (new : Reported) (rs : Records) : Type 0 where
   pub misses_device : v.misses_device ≡ not (is_known rs device)
-  pub own_action : BothOrNone (λ v a. IsDeviceAction v a rs) v.own_action (device_action rs device.id k)
+  pub own_action : BothOrNone (λ v a. IsDeviceAction v a new rs) v.own_action (device_action rs device.id k)
 
 -- an open action is canceled, but one that is canceling already only by force
 abbrev pub cancel_refusal : Option CancelView → Bool → Option Refusal
@@ -203,18 +209,33 @@ device_refusal v = first_refusal ((v.misses_device, Unauthorized) ∷ (is_none v
 abbrev pub gives_other : Option Outcome → ActionView → Bool
 gives_other gives v = is_some v.outcome && not (same_outcome gives v.outcome)
 
--- a note for which an open action has no room
+abbrev pub says_fresh : Standing → Bool
+says_fresh Fresh = true
+says_fresh _ = false
+
+-- an open action gets a report that is new to it
+abbrev pub is_fresh : DeviceAction → Bool
+is_fresh v = is_none v.action.outcome && says_fresh v.standing
+
+-- or one that was overtaken
+abbrev pub is_old : DeviceAction → Bool
+is_old v = is_none v.action.outcome && says_old v.standing
+
+-- a note for which there is no room
 abbrev pub is_beyond : Bool → DeviceAction → Bool
-is_beyond note v = is_none v.action.outcome && (note && nat_le note_limit v.notes)
+is_beyond note v = is_fresh v && (note && nat_le note_limit v.notes)
+
+-- what feedback of both kinds is refused with first
+abbrev pub report_refusal : Option Outcome → DeviceAction → Option Refusal
+report_refusal gives v = first_refusal ((gives_other gives v.action, ClosedAction) ∷ (is_old v, OldNumber) ∷ [])
 
 abbrev pub feedback_refusal : DeploymentWord → DeviceAction → Option Refusal
-feedback_refusal word v = first_refusal ((gives_other (outcome_of_deployment word) v.action, ClosedAction)
-    ∷ (is_beyond (says_note (OfDeployment word)) v, Quota) ∷ [])
+feedback_refusal word v = option_or (report_refusal (outcome_of_deployment word) v)
+    (first_refusal ((is_beyond (says_note (OfDeployment word)) v, Quota) ∷ []))
 
 abbrev pub cancel_feedback_refusal : CancelWord → DeviceAction → Option Refusal
-cancel_feedback_refusal word v =
-    first_refusal ((gives_other (outcome_of_cancel word) v.action, ClosedAction) ∷ (is_none v.action.outcome && not v.action.canceling, WrongState)
-    ∷ (is_beyond (says_note (OfCancel word)) v, Quota) ∷ [])
+cancel_feedback_refusal word v = option_or (report_refusal (outcome_of_cancel word) v)
+    (first_refusal ((is_fresh v && not v.action.canceling, WrongState) ∷ (is_beyond (says_note (OfCancel word)) v, Quota) ∷ []))
 
 -- the action ends so, in its own group
 abbrev pub ended_by : ActionView → Outcome → Ending
@@ -225,9 +246,9 @@ abbrev pub change_by : ActionView → Option Outcome → Bool → ActionChange
 change_by v None canceling = StaysOpen canceling
 change_by v (Some o) canceling = Ends (ended_by v o)
 
--- an action that has its outcome stays as it is
-abbrev pub change_if_open : ActionView → Option Outcome → Bool → Option ActionChange
-change_if_open v gives canceling = cond (is_none v.outcome) (Some (change_by v gives canceling)) None
+-- an action that has its outcome, or has heard the report, stays as it is
+abbrev pub change_if_fresh : DeviceAction → Option Outcome → Bool → Option ActionChange
+change_if_fresh v gives canceling = cond (is_fresh v) (Some (change_by v.action gives canceling)) None
 
 -- whether it is canceling after a word on its cancel
 abbrev pub canceling_after : CancelWord → Bool → Bool
@@ -236,7 +257,7 @@ canceling_after _ canceling = canceling
 
 -- accepted feedback makes of its action what its outcome says, and what it says of the canceling
 abbrev pub MakesFeedback : FeedbackView → Option Outcome → (Bool → Bool) → Option ActionChange → Type 0
-MakesFeedback v gives canceling c = (a : DeviceAction) × (v.own_action ≡ Some a) × (c ≡ change_if_open a.action gives (canceling a.action.canceling))
+MakesFeedback v gives canceling c = (a : DeviceAction) × (v.own_action ≡ Some a) × (c ≡ change_if_fresh a gives (canceling a.action.canceling))
 
 -- so does an accepted cancel
 abbrev pub MakesCancel : Option CancelView → Bool → ActionChange → Type 0
@@ -255,18 +276,18 @@ abbrev pub rollouts_with : ActionChange → List RolloutRecord → List RolloutR
 rollouts_with (StaysOpen canceling) xs = xs
 rollouts_with (Ends e) xs = change_numbered e.rollout (rollout_with e) xs
 
--- action k is changed, and what was said of it is put at the end of its history
-abbrev pub ChangesAction : ActionChange → List HistoryEntry → ℕ → Records → Records → Type 0
-ChangesAction c entries k old new =
+-- action k is changed, and what was reported of it is put at the end of its history
+abbrev pub ChangesAction : ActionChange → List Reported → ℕ → Records → Records → Type 0
+ChangesAction c reports k old new =
     new ≡ record old {
       rollouts = rollouts_with c old.rollouts;
-      actions = change_numbered k (λ (a : ActionRecord). record (action_with c a) { history = a.history ++ entries }) old.actions;
+      actions = change_numbered k (λ (a : ActionRecord). record (action_with c a) { history = a.history ++ reports }) old.actions;
     }
 
 -- where there is no change, all stays
-abbrev pub MayChangeAction : Option ActionChange → List HistoryEntry → ℕ → Records → Records → Type 0
-MayChangeAction None entries k old new = new ≡ old
-MayChangeAction (Some c) entries k old new = ChangesAction c entries k old new
+abbrev pub MayChangeAction : Option ActionChange → List Reported → ℕ → Records → Records → Type 0
+MayChangeAction None reports k old new = new ≡ old
+MayChangeAction (Some c) reports k old new = ChangesAction c reports k old new
 
 -- ---- any command
 
@@ -280,8 +301,8 @@ IsViewOf (seen.Pause v) (Pause r) rs = IsStandingView v r rs
 IsViewOf (seen.Resume v) (Resume r) rs = BothOrNone IsResumeView v (item_numbered rs.rollouts r)
 IsViewOf (seen.TriggerNext v) (TriggerNext r) rs = BothOrNone IsTriggerView v (item_numbered rs.rollouts r)
 IsViewOf (seen.Cancel v) (Cancel t k force) rs = BothOrNone (λ v a. IsCancelView v a rs) v (action_for rs t k)
-IsViewOf (seen.Feedback v) (Feedback feedback) rs = IsFeedbackView v feedback.credential feedback.action rs
-IsViewOf (seen.CancelFeedback v) (CancelFeedback feedback) rs = IsFeedbackView v feedback.credential feedback.action rs
+IsViewOf (seen.Feedback v) (Feedback feedback) rs = IsFeedbackView v feedback.credential feedback.action (reported OfDeployment feedback) rs
+IsViewOf (seen.CancelFeedback v) (CancelFeedback feedback) rs = IsFeedbackView v feedback.credential feedback.action (reported OfCancel feedback) rs
 IsViewOf _ _ rs = ⊥
 
 -- the change of the command takes the old records to the new ones
@@ -294,8 +315,8 @@ LeadsTo change.Pause (Pause r) old new = ChangesRollout r paused old new
 LeadsTo (change.Resume effects) (Resume r) old new = ChangesRollout r (resumed_by effects) old new
 LeadsTo (change.TriggerNext effects) (TriggerNext r) old new = ChangesRollout r (moved_by effects) old new
 LeadsTo (change.Cancel c) (Cancel t k force) old new = ChangesAction c [] k old new
-LeadsTo (change.Feedback c) (Feedback feedback) old new = MayChangeAction c (entry_of OfDeployment feedback ∷ []) feedback.action old new
-LeadsTo (change.CancelFeedback c) (CancelFeedback feedback) old new = MayChangeAction c (entry_of OfCancel feedback ∷ []) feedback.action old new
+LeadsTo (change.Feedback c) (Feedback feedback) old new = MayChangeAction c (reported OfDeployment feedback ∷ []) feedback.action old new
+LeadsTo (change.CancelFeedback c) (CancelFeedback feedback) old new = MayChangeAction c (reported OfCancel feedback ∷ []) feedback.action old new
 LeadsTo _ _ old new = ⊥
 
 -- the machine's verdict over these records, and its step

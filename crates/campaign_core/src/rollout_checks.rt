@@ -50,9 +50,9 @@ pub enum RolloutChange {
     Resume(Effects),
     TriggerNext(Effects),
     Cancel(ActionChange),
-    /// Nothing where the action had the same outcome.
+    /// Nothing where the action had the same outcome, or had heard it by its number.
     Feedback(Option<ActionChange>),
-    /// Nothing where the action had the same outcome.
+    /// Nothing where the action had the same outcome, or had heard it by its number.
     CancelFeedback(Option<ActionChange>),
 }
 

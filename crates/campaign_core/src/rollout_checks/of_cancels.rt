@@ -3,13 +3,13 @@
 ghost use Rattle.std.specs.Prelude.{◌≡◌, Some, None, IfOk, MatchResult};
 ghost use Rattle.rollout_machine.specs.Actions.{outcome_of_cancel};
 ghost use Rattle.rollout_machine.specs.Commands.{CancelFeedback};
-ghost use Rattle.campaign_core.specs.RolloutChecks.{cancel_feedback_refusal, canceling_after, change_if_open, Decides, MakesFeedback};
+ghost use Rattle.campaign_core.specs.RolloutChecks.{cancel_feedback_refusal, canceling_after, change_if_fresh, Decides, MakesFeedback};
 ghost use Rattle.campaign_core.specs.declared.rollout_checks.RolloutCommandView.TheVariants as seen;
 ghost use Rattle.campaign_core.specs.declared.rollout_checks.RolloutChange.TheVariants as made;
 
 use super::RolloutChange;
 use super::actions::{ActionChange, change};
-use super::of_devices::{DeviceAction, FeedbackView, device_action, repeat};
+use super::of_devices::{DeviceAction, FeedbackView, device_action, is_news};
 use rollout_machine::{outcome_of_cancel, says_note};
 use rollout_model::limits::NOTE_LIMIT;
 use rollout_model::{CancelWord, DeviceFeedback, Refusal, Said};
@@ -31,13 +31,13 @@ fn after_cancel_feedback(
 ) -> Result<Option<ActionChange>, Refusal>
     ensures { MatchResult result
         (λ c. (cancel_feedback_refusal word own_action.now ≡ None)
-        × (c ≡ change_if_open own_action.now.action (outcome_of_cancel word) (canceling_after word own_action.now.action.canceling)))
+        × (c ≡ change_if_fresh own_action.now (outcome_of_cancel word) (canceling_after word own_action.now.action.canceling)))
         (λ refusal. cancel_feedback_refusal word own_action.now ≡ Some refusal) }
 {
     let action = own_action.action;
     let gives = outcome_of_cancel(word);
-    if let Some(had) = action.outcome {
-        return repeat(gives, had);
+    if !is_news(own_action, gives)? {
+        return Ok(None);
     }
     if !action.canceling {
         return Err(Refusal::WrongState);

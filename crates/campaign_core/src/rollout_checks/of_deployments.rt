@@ -3,13 +3,13 @@
 ghost use Rattle.std.specs.Prelude.{◌≡◌, Some, None, IfOk, MatchResult};
 ghost use Rattle.rollout_machine.specs.Actions.{outcome_of_deployment};
 ghost use Rattle.rollout_machine.specs.Commands.{Feedback};
-ghost use Rattle.campaign_core.specs.RolloutChecks.{change_if_open, feedback_refusal, Decides, MakesFeedback};
+ghost use Rattle.campaign_core.specs.RolloutChecks.{change_if_fresh, feedback_refusal, Decides, MakesFeedback};
 ghost use Rattle.campaign_core.specs.declared.rollout_checks.RolloutCommandView.TheVariants as seen;
 ghost use Rattle.campaign_core.specs.declared.rollout_checks.RolloutChange.TheVariants as made;
 
 use super::RolloutChange;
 use super::actions::{ActionChange, change};
-use super::of_devices::{DeviceAction, FeedbackView, device_action, repeat};
+use super::of_devices::{DeviceAction, FeedbackView, device_action, is_news};
 use rollout_machine::outcome_of_deployment;
 use rollout_model::limits::NOTE_LIMIT;
 use rollout_model::{DeploymentWord, DeviceFeedback, Refusal};
@@ -21,13 +21,13 @@ fn after_feedback(
 ) -> Result<Option<ActionChange>, Refusal>
     ensures { MatchResult result
         (λ c. (feedback_refusal word own_action.now ≡ None)
-        × (c ≡ change_if_open own_action.now.action (outcome_of_deployment word) own_action.now.action.canceling))
+        × (c ≡ change_if_fresh own_action.now (outcome_of_deployment word) own_action.now.action.canceling))
         (λ refusal. feedback_refusal word own_action.now ≡ Some refusal) }
 {
     let action = own_action.action;
     let gives = outcome_of_deployment(word);
-    if let Some(had) = action.outcome {
-        return repeat(gives, had);
+    if !is_news(own_action, gives)? {
+        return Ok(None);
     }
     if gives.is_none() && own_action.notes >= NOTE_LIMIT {
         return Err(Refusal::Quota);

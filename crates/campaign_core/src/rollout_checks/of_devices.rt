@@ -3,10 +3,10 @@
 ghost use Rattle.std.specs.Prelude.{◌≡◌, true, false, Some, None, MatchResult};
 ghost use Rattle.rollout_machine.specs.Verdicts.{same_outcome};
 ghost use Rattle.rollout_model.specs.declared.refusal.Refusal.TheVariants.{ClosedAction};
-ghost use Rattle.campaign_core.specs.RolloutChecks.{device_refusal};
+ghost use Rattle.campaign_core.specs.RolloutChecks.{device_refusal, is_fresh, report_refusal};
 
-use super::actions::{ActionChange, ActionView};
-use rollout_machine::{Outcome, is_outcome};
+use super::actions::ActionView;
+use rollout_machine::{Outcome, Standing, is_outcome};
 use rollout_model::Refusal;
 
 /// An action of the device that the feedback is from, whose group is started.
@@ -14,6 +14,8 @@ use rollout_model::Refusal;
 pub struct DeviceAction {
     /// How many notes were taken.
     pub notes: u32,
+    /// How the feedback stands among what the action has heard. It matters only while the action is open.
+    pub standing: Standing,
     pub action: ActionView,
 }
 
@@ -36,16 +38,24 @@ fn is_same(gives: Option<Outcome>, had: Outcome) -> bool
     }
 }
 
-/// What feedback does to an action that has its outcome: nothing, where it gives the same one again.
-pub(crate) fn repeat(gives: Option<Outcome>, had: Outcome) -> Result<Option<ActionChange>, Refusal>
+/// Whether the feedback is new to its action: not where it gives the same outcome again, or is sent again with its number. Or the first
+/// refusal that applies.
+pub(crate) fn is_news(own_action: &DeviceAction, gives: Option<Outcome>) -> Result<bool, Refusal>
     ensures { MatchResult result
-        (λ c. (same_outcome gives (Some had) ≡ true) × (c ≡ None))
-        (λ refusal. (same_outcome gives (Some had) ≡ false) × (refusal ≡ ClosedAction)) }
+        (λ news. (report_refusal gives own_action.now ≡ None) × (news ≡ is_fresh own_action.now))
+        (λ refusal. report_refusal gives own_action.now ≡ Some refusal) }
 {
-    if is_same(gives, had) {
-        Ok(None)
-    } else {
-        Err(Refusal::ClosedAction)
+    if let Some(had) = own_action.action.outcome {
+        return if is_same(gives, had) {
+            Ok(false)
+        } else {
+            Err(Refusal::ClosedAction)
+        };
+    }
+    match own_action.standing {
+        Standing::Fresh => Ok(true),
+        Standing::Again => Ok(false),
+        Standing::Old => Err(Refusal::OldNumber),
     }
 }
 
