@@ -39,7 +39,7 @@ impl Upload {
 pub struct Artifact {
     pub number: ArtifactNo,
     pub filename: Filename,
-    /// In bytes, from 0 to 1,048,576.
+    /// In bytes, from 0 to 4,194,304.
     pub size: u32,
     /// By SHA-256 (FIPS 180-4).
     pub digest: Digest,

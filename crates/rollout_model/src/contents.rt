@@ -10,7 +10,7 @@ use crate::limits::ARTIFACT_SIZE_LIMIT;
 use std::alloc::{AllocError, Global};
 use std::marker::Model;
 
-/// The contents of an artifact: 0 to 1,048,576 bytes.
+/// The contents of an artifact: 0 to 4,194,304 bytes.
 #[derive(Drop)]
 pub struct Contents {
     bytes: Vec<u8>,
