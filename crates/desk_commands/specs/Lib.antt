@@ -4,8 +4,9 @@ pub mod Changing
 pub mod Imports
 pub mod Attributes
 pub mod GroupStarts
-pub mod Entries
+pub mod Telling
 pub mod GroupViews
+pub mod SeenReports
 pub mod SeenActions
 pub mod Offering
 pub mod Endings

@@ -6,6 +6,7 @@ use Rattle.rollout_machine.specs.ByteStrings.{item_numbered, same_bytes}
 use Rattle.rollout_machine.specs.Commands.{Bytes, Credential}
 use Rattle.rollout_machine.specs.GroupRules.{GroupRule}
 use Rattle.rollout_machine.specs.Records.{Records}
+use Rattle.rollout_machine.specs.Reports.{Reported, Standing}
 use Rattle.rollout_machine.specs.Verdicts.{is_known, target_of}
 use Rattle.rollout_machine.specs.declared.records.ActionRecord.{ActionRecord}
 use Rattle.rollout_machine.specs.declared.records.GroupRecord.{GroupRecord}
@@ -20,10 +21,12 @@ use Rattle.desk_records.specs.Actions.{Tally}
 use Rattle.desk_records.specs.Holds.{Ledger, ledger_of}
 use Rattle.desk_records.specs.RolloutRow.{stored_action, stored_rollout}
 use Rattle.desk_records.specs.Rollouts.{groups_of, rule_numbered}
+use Rattle.desk_reads.specs.AtLists.{AreOfList}
 use Rattle.desk_store.specs.GroupPairs.{group_and_next}
 use Rattle.desk_records.specs.declared.rollout_row.StoredAction.{StoredAction}
 use Rattle.desk_records.specs.declared.rollout_row.StoredRollout.{StoredRollout}
 use Rattle.desk_commands.specs.GroupViews.{view_by}
+use Rattle.desk_commands.specs.SeenReports.{StandsAt, asked}
 use Rattle.desk_commands.specs.declared.seen_actions.SeenAction.{SeenAction}
 use Rattle.desk_commands.specs.declared.seen_actions.SeenFeedback.{SeenFeedback}
 
@@ -77,12 +80,13 @@ abbrev pub only_started : Option SeenAction → Option SeenAction
 only_started None = None
 only_started (Some seen) = seen_if seen.own.started seen
 
--- The device, and action k where it is the device's and its group is started.
-pub record SeesFeedback (device : Credential) (k : ℕ) (r : Records) (seen : SeenFeedback) : Type 0 where
+-- The device, action k where it is the device's and its group is started, and how the report stands among what that has heard.
+pub record SeesFeedback (device : Credential) (k : ℕ) (new : Reported) (r : Records) (seen : SeenFeedback) : Type 0 where
   pub misses_device : seen.misses_device ≡ not (is_known r device)
   pub found : Option SeenAction
   pub sees : MaySee k (ledger_of r) found
   pub action : seen.action ≡ only_started (only_of device.id found)
+  pub report : AreOfList r → StandsAt k (asked seen.action new) r seen.report
 
 -- action k, where it is of the target, and the target is there
 pub record SeesTarget (id : Bytes) (k : ℕ) (r : Records) (seen : Option SeenAction) : Type 0 where
@@ -98,8 +102,11 @@ action_view_seen seen = record { outcome = seen.action.outcome; canceling = seen
 abbrev pub cancel_view_seen : SeenAction → CancelView
 cancel_view_seen seen = record { started = seen.own.started; action = action_view_seen seen }
 
-abbrev pub device_action_seen : SeenAction → DeviceAction
-device_action_seen seen = record { notes = seen.action.notes; action = action_view_seen seen }
+abbrev pub device_action_seen : Standing → SeenAction → DeviceAction
+device_action_seen standing seen = record { notes = seen.action.notes; standing = standing; action = action_view_seen seen }
 
 abbrev pub feedback_view_seen : SeenFeedback → FeedbackView
-feedback_view_seen seen = record { misses_device = seen.misses_device; own_action = option_map device_action_seen seen.action }
+feedback_view_seen seen = record {
+  misses_device = seen.misses_device;
+  own_action = option_map (device_action_seen seen.report.standing) seen.action;
+}

@@ -1,27 +1,29 @@
 //! Feedback on actions, and the cancels of actions.
 
-ghost use Rattle.std.specs.Prelude.{◌≡◌, ◌&&◌, IfOk, Some, true};
-ghost use Rattle.rollout_machine.specs.CommandRules.{is_credential};
-ghost use Rattle.rollout_model.specs.Rules.{are_details, is_number, is_word};
+ghost use Rattle.std.specs.Prelude.{◌≡◌, ◌+◌, ◌&&◌, cond, IfOk, Some, is_some, true};
+ghost use Rattle.rollout_machine.specs.CommandRules.{is_device_feedback};
+ghost use Rattle.rollout_machine.specs.Reports.{reported};
+ghost use Rattle.rollout_model.specs.Rules.{is_number, is_word};
 ghost use Rattle.rollout_machine.specs.Commands.{Cancel as CancelCommand, CancelFeedback, Feedback};
-ghost use Rattle.desk_commands.specs.ActionSteps.{Acts, ActsBy, Follows, MayAct, TellsAction, WritesTold};
-ghost use Rattle.desk_commands.specs.ActionSteps.{action_change_of, canceling_by, entries_by, notes_by, outcome_by, stays_offered};
+ghost use Rattle.desk_commands.specs.ActionSteps.{Acts, ActsBy, Follows, MayAct, TellsAction, WritesFeedback};
+ghost use Rattle.desk_commands.specs.ActionSteps.{action_change_of, canceling_by, does_act, outcome_by, stays_offered};
 ghost use Rattle.desk_commands.specs.Offering.{MayReoffer};
+ghost use Rattle.desk_commands.specs.Telling.{if_numbered, number_in};
 ghost use Rattle.desk_store.specs.Counting.{AddsIn};
 ghost use Rattle.desk_store.specs.Changing.{MakesLedger, StaysIn};
 ghost use Rattle.desk_commands.specs.Changing.{StepsIn};
 
 use crate::endings::follow_ending;
-use crate::entries::{more_if, one_more};
 use crate::offering::offer_anew;
-use crate::seen_actions::{SeenAction, cancel_view, feedback_view, see_feedback, see_target};
-use crate::step::Step;
-use campaign_core::{ActionChange, RolloutChange, cancel, cancel_feedback, feedback};
-use desk_store::{Fault, NewEntry, OpenChange, tell_entry};
-use rollout_machine::Outcome;
-use rollout_model::{
-    ActionNo, Cancel, CancelWord, Credential, DeploymentWord, Details, DeviceFeedback, Reply, Said,
+use crate::seen_actions::{
+    SeenAction, SeenFeedback, cancel_view, feedback_view, see_feedback, see_target,
 };
+use crate::step::Step;
+use crate::telling::{Told, entries_with, notes_with, write_told};
+use campaign_core::{ActionChange, RolloutChange, cancel, cancel_feedback, feedback};
+use desk_store::{Fault, OpenChange, tell_entry};
+use rollout_machine::Outcome;
+use rollout_model::{Cancel, CancelWord, DeploymentWord, DeviceFeedback, Reply, Said};
 use sqlite::Alter;
 use std::alloc::Global;
 
@@ -45,58 +47,21 @@ fn outcome_by(seen: &SeenAction, after: &ActionChange) -> Option<Outcome>
     }
 }
 
-/// How many notes there are with what was told.
-fn notes_with(notes: u32, told: &Option<NewEntry>) -> Result<u32, Fault>
-    ensures { IfOk result (λ more. more ≡ notes_by told.now notes) }
-{
-    match told {
-        Some(told) => more_if(told.is_note, notes),
-        None => Ok(notes),
-    }
-}
-
-/// How many entries there are with what was told.
-fn entries_with(entries: u32, told: &Option<NewEntry>) -> Result<u32, Fault>
-    ensures { IfOk result (λ more. more ≡ entries_by told.now entries) }
-{
-    match told {
-        Some(_) => one_more(entries),
-        None => Ok(entries),
-    }
-}
-
-/// Adds what was told to the history of an action, where something was, as its entry of this place.
-fn write_told<S: Alter>(
-    change: &mut OpenChange<'_, S>,
-    seen: &SeenAction,
-    place: u32,
-    told: &Option<NewEntry>,
-) -> Result<(), Fault>
-    ensures stays { StaysIn S.Store change.old change.new result }
-    ensures writes { MakesLedger S.Store change.old change.new result (WritesTold seen.now.number place told.now) }
-    ensures work { AddsIn 1 0 change.old change.new }
-{
-    match told {
-        Some(told) => change.write_entry(seen.number, place, told),
-        None => Ok(()),
-    }
-}
-
 /// Writes what was told of an action, and what becomes of it.
 fn tell_action<S: Alter>(
     change: &mut OpenChange<'_, S>,
     seen: &SeenAction,
     after: &ActionChange,
-    told: &Option<NewEntry>,
+    told: &Option<Told>,
 ) -> Result<(), Fault>
     ensures stays { StaysIn S.Store change.old change.new result }
     ensures writes { MakesLedger S.Store change.old change.new result (TellsAction seen.now after.now told.now) }
-    ensures work { AddsIn 2 0 change.old change.new }
+    ensures work { AddsIn (2 + if_numbered (number_in told.now) 1) 0 change.old change.new }
 {
     let notes = notes_with(seen.action.notes, told)?;
     let entries = entries_with(seen.action.entries, told)?;
     let outcome = outcome_by(seen, after);
-    write_told(change, seen, entries, told)?;
+    write_told(change, seen.number, entries, told)?;
     change.change_action(seen.number, canceling_by(after), outcome, notes, entries)
 }
 
@@ -154,11 +119,11 @@ fn act<S: Alter>(
     change: &mut OpenChange<'_, S>,
     seen: &SeenAction,
     after: &ActionChange,
-    told: &Option<NewEntry>,
+    told: &Option<Told>,
 ) -> Result<(), Fault>
     ensures stays { StaysIn S.Store change.old change.new result }
     ensures writes { MakesLedger S.Store change.old change.new result (Acts seen.now after.now told.now) }
-    ensures work { AddsIn 7 1 change.old change.new }
+    ensures work { AddsIn (7 + if_numbered (number_in told.now) 1) 1 change.old change.new }
 {
     tell_action(change, seen, after, told)?;
     offer_next(change, seen, after)?;
@@ -170,11 +135,11 @@ fn may_act<S: Alter>(
     change: &mut OpenChange<'_, S>,
     seen: &Option<SeenAction>,
     after: &Option<ActionChange>,
-    told: &Option<NewEntry>,
+    told: &Option<Told>,
 ) -> Result<(), Fault>
     ensures stays { StaysIn S.Store change.old change.new result }
     ensures writes { MakesLedger S.Store change.old change.new result (MayAct seen.now after.now told.now) }
-    ensures work { AddsIn 7 1 change.old change.new }
+    ensures work { AddsIn (cond (is_some after.now) (7 + if_numbered (number_in told.now) 1) 0) (cond (is_some after.now) 1 0) change.old change.new }
 {
     let Some(after) = after else {
         return Ok(());
@@ -202,24 +167,27 @@ fn act_by<S: Alter>(
     change: &mut OpenChange<'_, S>,
     seen: &Option<SeenAction>,
     accepted: &RolloutChange,
-    told: &Option<NewEntry>,
+    told: &Option<Told>,
 ) -> Result<(), Fault>
     ensures stays { StaysIn S.Store change.old change.new result }
     ensures writes { MakesLedger S.Store change.old change.new result (ActsBy seen.now accepted.now told.now) }
-    ensures work { AddsIn 7 1 change.old change.new }
+    ensures work { AddsIn (cond (does_act accepted.now) (7 + if_numbered (number_in told.now) 1) 0) (cond (does_act accepted.now) 1 0) change.old change.new }
 {
     let after = action_change(accepted)?;
     may_act(change, seen, &after, told)
 }
 
 /// Feedback keeps the rules of its parts' types.
-fn feedback_is_well_formed(credential: &Credential, action: ActionNo, details: &Details)
-    ensures { (is_credential credential.now && (is_number action && are_details details.now)) ≡ true }
+fn feedback_is_well_formed<W: Copy>(given: &DeviceFeedback<W>)
+    ensures { is_device_feedback given.now ≡ true }
 {
-    let _id = credential.id.as_str();
-    let _digest = credential.digest.as_bytes();
-    let _action = action.get();
-    let _details = details.as_slice();
+    let _id = given.credential.id.as_str();
+    let _digest = given.credential.digest.as_bytes();
+    let _action = given.action.get();
+    let _details = given.details.as_slice();
+    if let Some(number) = &given.number {
+        let _number = number.get();
+    }
 }
 
 /// So does a cancel.
@@ -230,7 +198,29 @@ fn cancel_is_well_formed(asked: &Cancel)
     let _action = asked.action.get();
 }
 
-/// Takes feedback on a deployment. The memory for it is taken before anything is written.
+/// Writes accepted feedback. The memory for it is taken before anything is written.
+fn write_feedback<S: Alter, W: Copy>(
+    alloc: Global,
+    change: &mut OpenChange<'_, S>,
+    seen: &SeenFeedback,
+    accepted: &RolloutChange,
+    given: &DeviceFeedback<W>,
+    said: Said,
+) -> Result<(), Fault>
+    ensures stays { StaysIn S.Store change.old change.new result }
+    ensures writes { MakesLedger S.Store change.old change.new result
+        (WritesFeedback seen.now accepted.now (reported (λ word. said) given.now)) }
+    ensures work { AddsIn (cond (does_act accepted.now) (7 + if_numbered given.now.number 1) 0) (cond (does_act accepted.now) 1 0) change.old change.new }
+{
+    let entry = tell_entry(alloc, said, &given.details, given.number)?;
+    let told = Told {
+        entry,
+        numbers: seen.report.numbers,
+    };
+    act_by(change, &seen.action, accepted, &Some(told))
+}
+
+/// Takes feedback on a deployment.
 pub(crate) fn take_feedback<S: Alter>(
     alloc: Global,
     change: &mut OpenChange<'_, S>,
@@ -238,20 +228,20 @@ pub(crate) fn take_feedback<S: Alter>(
 ) -> Result<Step, Fault>
     ensures stays { StaysIn S.Store change.old change.new result }
     ensures steps { StepsIn S.Store change.old change.new (Feedback given.now) result }
-    ensures work { AddsIn 12 7 change.old change.new }
+    ensures work { AddsIn (12 + if_numbered given.now.number 2) (7 + if_numbered given.now.number 1) change.old change.new }
 {
-    feedback_is_well_formed(&given.credential, given.action, &given.details);
-    let seen = see_feedback(change, &given.credential, given.action)?;
+    feedback_is_well_formed(given);
+    let said = Said::Deployment(given.word);
+    let seen = see_feedback(change, given, said)?;
     let accepted = match feedback(&feedback_view(&seen), given) {
         Ok(accepted) => accepted,
         Err(refusal) => return Ok(Step::Refused(refusal)),
     };
-    let told = tell_entry(alloc, Said::Deployment(given.word), &given.details)?;
-    act_by(change, &seen.action, &accepted, &Some(told))?;
+    write_feedback(alloc, change, &seen, &accepted, given, said)?;
     Ok(Step::Accepted(Reply::Done))
 }
 
-/// Takes feedback on the cancel of a deployment. The memory for it is taken before anything is written.
+/// Takes feedback on the cancel of a deployment.
 pub(crate) fn take_cancel_feedback<S: Alter>(
     alloc: Global,
     change: &mut OpenChange<'_, S>,
@@ -259,16 +249,16 @@ pub(crate) fn take_cancel_feedback<S: Alter>(
 ) -> Result<Step, Fault>
     ensures stays { StaysIn S.Store change.old change.new result }
     ensures steps { StepsIn S.Store change.old change.new (CancelFeedback given.now) result }
-    ensures work { AddsIn 12 7 change.old change.new }
+    ensures work { AddsIn (12 + if_numbered given.now.number 2) (7 + if_numbered given.now.number 1) change.old change.new }
 {
-    feedback_is_well_formed(&given.credential, given.action, &given.details);
-    let seen = see_feedback(change, &given.credential, given.action)?;
+    feedback_is_well_formed(given);
+    let said = Said::Cancel(given.word);
+    let seen = see_feedback(change, given, said)?;
     let accepted = match cancel_feedback(&feedback_view(&seen), given) {
         Ok(accepted) => accepted,
         Err(refusal) => return Ok(Step::Refused(refusal)),
     };
-    let told = tell_entry(alloc, Said::Cancel(given.word), &given.details)?;
-    act_by(change, &seen.action, &accepted, &Some(told))?;
+    write_feedback(alloc, change, &seen, &accepted, given, said)?;
     Ok(Step::Accepted(Reply::Done))
 }
 

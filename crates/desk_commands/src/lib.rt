@@ -13,6 +13,7 @@ mod groups;
 mod modules;
 mod offering;
 mod progress;
+mod reports;
 mod seen_actions;
 mod sets;
 mod standing;
@@ -20,6 +21,7 @@ mod starting;
 mod step;
 mod tags;
 mod targets;
+mod telling;
 
 pub use crate::commands::take_step;
 pub use crate::step::Step;

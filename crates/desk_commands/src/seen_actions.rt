@@ -1,20 +1,23 @@
 //! An action as commands on it find it: with its group and its rollout.
 
-ghost use Rattle.std.specs.Prelude.{◌≡◌, option_map, MatchResult};
+ghost use Rattle.std.specs.Prelude.{◌≡◌, ◌+◌, option_map, MatchResult};
 ghost use Rattle.sql_calls.specs.declared.fault.Fault.TheVariants.{Store};
 ghost use Rattle.campaign_core.specs.OwnGroups.{waits};
 ghost use Rattle.desk_store.specs.Counting.{AddsIn};
+ghost use Rattle.rollout_machine.specs.Reports.{reported};
+ghost use Rattle.desk_commands.specs.SeenReports.{reads_for};
 ghost use Rattle.desk_commands.specs.SeenActions.{MaySee, SeesIn, SeesFeedback, SeesTarget, action_view_seen};
 ghost use Rattle.desk_commands.specs.SeenActions.{cancel_view_seen, only_of, only_started, own_seen, feedback_view_seen};
 ghost use Rattle.desk_store.specs.Changing.{FindsIn, FindsLedger, StaysIn};
 
 use crate::group_views::group_view;
+use crate::reports::{SeenReport, see_report};
 use crate::tags::lacks_target;
 use campaign_core::{ActionView, CancelView, DeviceAction, FeedbackView, OwnView};
 use desk_reads::knows_device;
 use desk_store::{Fault, OpenChange, StoredAction, StoredRollout};
 use rollout_machine::GroupRecord;
-use rollout_model::{ActionNo, Approval, ControllerId, Credential, GroupRule};
+use rollout_model::{ActionNo, Approval, ControllerId, DeviceFeedback, GroupRule, Said};
 use sqlite::Alter;
 
 /// An action with its group and its rollout.
@@ -41,6 +44,8 @@ pub(crate) struct SeenFeedback {
     pub(crate) misses_device: bool,
     /// The action, where it is the device's and its group is started.
     pub(crate) action: Option<SeenAction>,
+    /// How it stands among what the action has heard.
+    pub(crate) report: SeenReport,
 }
 
 /// Whether the group is there and waits for its start.
@@ -143,21 +148,27 @@ fn only_started(seen: Option<SeenAction>) -> Option<SeenAction>
     }
 }
 
-/// Whether the device is known, and the action that its feedback is on.
-pub(crate) fn see_feedback<S: Alter>(
+/// Whether the device is known, the action that its feedback is on, and how it stands among what that has heard.
+pub(crate) fn see_feedback<S: Alter, W: Copy>(
     change: &mut OpenChange<'_, S>,
-    device: &Credential,
-    number: ActionNo,
+    given: &DeviceFeedback<W>,
+    said: Said,
 ) -> Result<SeenFeedback, Fault>
     ensures stays { StaysIn S.Store change.old change.new result }
-    ensures reads { FindsIn S.Store change.old change.new result (SeesFeedback device.now number) }
-    ensures work { AddsIn 5 6 change.old change.new }
+    ensures reads { FindsIn S.Store change.old change.new result
+        (SeesFeedback given.now.credential given.now.action (reported (λ word. said) given.now)) }
+    ensures work { AddsIn (5 + reads_for given.now.number (λ seen. seen.report.standing) result)
+        (6 + reads_for given.now.number (λ seen. seen.report.standing) result) change.old change.new }
 {
+    let device = &given.credential;
     let knows = knows_device(change, device)?;
-    let seen = see_action(change, number)?;
+    let seen = see_action(change, given.action)?;
+    let action = only_started(only_of(&device.id, seen));
+    let report = see_report(change, &action, given, said)?;
     Ok(SeenFeedback {
         misses_device: !knows,
-        action: only_started(only_of(&device.id, seen)),
+        action,
+        report,
     })
 }
 
@@ -195,9 +206,11 @@ fn action_view(seen: &SeenAction) -> ActionView
 pub(crate) fn feedback_view(seen: &SeenFeedback) -> FeedbackView
     ensures { result ≡ feedback_view_seen seen.now }
 {
+    let standing = seen.report.standing;
     let own_action = match &seen.action {
         Some(seen) => Some(DeviceAction {
             notes: seen.action.notes,
+            standing,
             action: action_view(seen),
         }),
         None => None,

@@ -1,0 +1,50 @@
+-- How a report stands among what its action has heard, and what asking for that costs.
+use Rattle.std.specs.Prelude.{◌≡◌, ℕ, ◌+◌, true, cond, List, length, Option, Some, None, is_none, is_some, Result, Ok, Err}
+use Rattle.rollout_machine.specs.ByteStrings.{item_numbered}
+use Rattle.rollout_machine.specs.Records.{Records}
+use Rattle.rollout_machine.specs.Reports.{HistoryEntry, Reported, Standing, against, standing_of}
+use Rattle.rollout_machine.specs.declared.records.ActionRecord.{ActionRecord}
+use Rattle.campaign_core.specs.RolloutChecks.{says_fresh}
+use Rattle.desk_records.specs.Actions.{history_of}
+use Rattle.desk_records.specs.FeedbackNumbers.{numbers_from}
+use Rattle.desk_records.specs.declared.number_row.PlacedNumber.{PlacedNumber}
+use Rattle.desk_commands.specs.declared.reports.SeenReport.{SeenReport}
+use Rattle.desk_commands.specs.declared.seen_actions.SeenAction.{SeenAction}
+
+-- so among these, whose numbers are counted where it bears one
+pub record StandsAmong (reports : List Reported) (new : Reported) (seen : SeenReport) : Type 0 where
+  pub standing : seen.standing ≡ standing_of reports new
+  pub numbers : is_some new.number ≡ true → seen.numbers ≡ length (numbers_from 1 reports)
+
+-- among those of action k, where that is there
+abbrev pub StandsAt : ℕ → Reported → Records → SeenReport → Type 0
+StandsAt k new r seen = (a : ActionRecord) → item_numbered r.actions k ≡ Some a → StandsAmong a.history new seen
+
+-- an entry of this number, where the last number of action k is this one
+abbrev pub StandsAgainst : ℕ → PlacedNumber → ℕ → HistoryEntry → Records → Standing → Type 0
+StandsAgainst k last number new r standing = (entry : HistoryEntry)
+    → item_numbered (history_of (item_numbered r.actions k)) last.sequence ≡ Some entry
+    → standing ≡ against (Some (record { entry = entry; number = last.number })) number new
+
+abbrev pub with_number : Reported → Option ℕ → Reported
+with_number new number = record new { number = number }
+
+-- on an open action its number is asked for, on another none
+abbrev pub number_asked : Option SeenAction → Option ℕ → Option ℕ
+number_asked None number = None
+number_asked (Some seen) number = cond (is_none seen.action.outcome) number None
+
+abbrev pub asked : Option SeenAction → Reported → Reported
+asked seen new = with_number new (number_asked seen new.number)
+
+-- ---- what it costs
+
+-- where it isn't new, the entry that bears the last number was read
+abbrev pub more_reads : {A E : Type 0} → (A → Standing) → Result A E → ℕ
+more_reads standing (Ok seen) = cond (says_fresh (standing seen)) 0 1
+more_reads standing (Err e) = 1
+
+-- where it bears a number, the last one was read
+abbrev pub reads_for : {A E : Type 0} → Option ℕ → (A → Standing) → Result A E → ℕ
+reads_for None standing result = 0
+reads_for (Some number) standing result = 1 + more_reads standing result
