@@ -1,9 +1,9 @@
 -- A command on an action, to its end: what is written makes the ledger of the records after it.
 use Rattle.std.proofs.Common.{◌≡◌, ℕ, ◌+◌, Bool, true, false, cond, ◌||◌, not, List, [], ◌∷◌, ◌++◌, map, filter, length, Option, Some, None, option_map, refl, sym, ap, ◌∙◌, subst, arith, nat_eq, inl, inr}
 use Rattle.std.proofs.lemmas.Bool.{and_parts, cases_Bool, eq-eqb, eqb-true, false≢true, not-true}
-use Rattle.std.proofs.lemmas.List.{length-append, length-map}
+use Rattle.std.proofs.lemmas.List.{length-append, length-map, map-append}
 use Rattle.std.proofs.lemmas.List.Elements.{filter-append}
-use Rattle.rollout_machine.specs.Actions.{HistoryEntry}
+use Rattle.rollout_machine.specs.Reports.{HistoryEntry, Reported, entries_in}
 use Rattle.rollout_machine.specs.ByteStrings.{item_numbered, same_bytes}
 use Rattle.rollout_machine.specs.CommandList.{CommandList, ◌▸◌}
 use Rattle.rollout_machine.specs.CommandRules.{IsWellFormed}
@@ -30,31 +30,33 @@ use Rattle.campaign_core.specs.declared.own_group.Following.TheVariants as so
 use Rattle.campaign_core.specs.declared.own_group.OwnView.{OwnView}
 use Rattle.campaign_core.specs.declared.rollout_checks.actions.ActionChange.{ActionChange}
 use Rattle.campaign_core.specs.declared.rollout_checks.actions.ActionChange.TheVariants.{StaysOpen, Ends}
-use Rattle.desk_records.specs.Actions.{tally_of}
+use Rattle.desk_records.specs.Actions.{Tally, tally_of}
+use Rattle.desk_records.specs.FeedbackNumbers.{borne_at, numbers_from, numbers_of}
 use Rattle.desk_records.specs.Holds.{Ledger, ledger_of}
-use Rattle.desk_records.specs.LedgerSteps.{set_numbered, with_actions, with_groups, with_offer}
+use Rattle.desk_records.specs.LedgerSteps.{set_numbered, with_actions, with_groups, with_offer, with_rollouts}
 use Rattle.desk_records.specs.NextOffers.{next_offer}
 use Rattle.offer_laws.specs.GroupOffers.{actor, offers_before_start, with_actor, acted as acted_records}
-use Rattle.desk_commands.specs.ActionSteps.{Acts, Follows, TellsAction, stays_offered, tally_by, with_entries}
+use Rattle.desk_commands.specs.ActionSteps.{Acts, Follows, TellsAction, stays_offered, with_changed}
 use Rattle.desk_commands.specs.Endings.{FollowsSo, StartsGroupOf, with_outcome, with_rollout}
-use Rattle.desk_commands.specs.Entries.{TellsEntries}
 use Rattle.desk_commands.specs.GroupStarts.{StartsGroup, started, with_group}
 use Rattle.desk_commands.specs.LedgerEnds.{StartsNoGroup, starts_of}
 use Rattle.desk_commands.specs.Offering.{MayReoffer}
 use Rattle.desk_commands.specs.SeenActions.{action_view_seen}
-use Rattle.desk_records.specs.declared.new_entry.NewEntry.{NewEntry}
+use Rattle.desk_commands.specs.Telling.{CountsNumbers, TellsReports, entries_by, numbers_by, tally_by, with_reports}
+use Rattle.desk_commands.specs.declared.telling.Told.{Told}
+use Rattle.desk_records.proofs.NumberLists.{numbers_more}
 use Rattle.desk_commands.specs.declared.seen_actions.SeenAction.{SeenAction}
 use Rattle.desk_commands.proofs.GroupNumbers.{Numbered, map_at, numbered_groups, set_numbered_still}
 use Rattle.desk_commands.proofs.ItemSteps.{append_none, map_set, set_elsewhere, set_is_change, set_twice, zip_map}
 use Rattle.desk_commands.proofs.KnownActions.{IsPlaced, seen_at, started_is}
 use Rattle.desk_commands.proofs.OfferingLemmas.{next_is_offer, offer_stays, offer_there}
-use Rattle.desk_commands.proofs.LedgerEnds.{ends_with_group, ends_with_none, said_in, said_stays, same_but_for, set_is_there}
+use Rattle.desk_commands.proofs.LedgerEnds.{FollowsRecords, ends_with_group, ends_with_none, said_in, said_stays, same_but_for, set_is_there}
 
 -- ---- the action and its tally
 
-is_changed : (after : ActionChange) (entries : List HistoryEntry) (a : ActionRecord) → with_entries entries (action_with after a) ≡ record (action_with after a) { history = a.history ++ entries }
-is_changed (StaysOpen canceling) entries a = refl
-is_changed (Ends e) entries a = refl
+is_changed : (after : ActionChange) (reports : List Reported) (a : ActionRecord) → with_reports reports (action_with after a) ≡ record (action_with after a) { history = a.history ++ reports }
+is_changed (StaysOpen canceling) reports a = refl
+is_changed (Ends e) reports a = refl
 
 same_history : (after : ActionChange) (a : ActionRecord) → (action_with after a).history ≡ a.history
 same_history (StaysOpen canceling) a = refl
@@ -67,17 +69,32 @@ notes_grow entry b is = go (is_note entry) refl ∙ sym (ap (λ c. cond c 1 0) i
     go true at = refl
     go false at = refl
 
-tally_grows : (entries : List HistoryEntry) (told : Option NewEntry) (hs : List HistoryEntry) → TellsEntries entries told
-    → record { notes = length (filter is_note (hs ++ entries)); entries = length (hs ++ entries) } ≡ tally_by told (record { notes = length (filter is_note hs); entries = length hs })
-tally_grows [] None hs tells = λ i. record { notes = length (filter is_note (append_none hs i)); entries = length (append_none hs i) }
+-- of a history
+abbrev tally_in : List Reported → Tally
+tally_in hs = record { notes = length (filter is_note (entries_in hs)); entries = length hs }
+
+tally_grows : (reports : List Reported) (told : Option Told) (hs : List Reported) → TellsReports reports told → tally_in (hs ++ reports) ≡ tally_by told (tally_in hs)
+tally_grows [] None hs tells = ap tally_in (append_none hs)
 tally_grows [] (Some told) hs tells = absurd tells
-tally_grows (entry ∷ []) None hs tells = absurd tells
-tally_grows (entry ∷ []) (Some told) hs tells = λ i. record {
-  notes = (ap length (filter-append is_note hs (entry ∷ [])) ∙ length-append (filter is_note hs) (filter is_note (entry ∷ [])) ∙ ap (λ n. length (filter is_note hs) + n) (notes_grow entry told.is_note tells.is_note)) i;
-  entries = length-append hs (entry ∷ []) i;
-}
-tally_grows (entry ∷ other ∷ more) None hs tells = absurd tells
-tally_grows (entry ∷ other ∷ more) (Some told) hs tells = absurd tells
+tally_grows (it ∷ []) None hs tells = absurd tells
+tally_grows (it ∷ []) (Some told) hs tells =
+    let notes = ap (filter is_note) (map-append (λ (r : Reported). r.entry) hs (it ∷ [])) ∙ filter-append is_note (entries_in hs) (it.entry ∷ []) in
+    λ i. record {
+      notes = (ap length notes ∙ length-append (filter is_note (entries_in hs)) (filter is_note (it.entry ∷ [])) ∙ ap (λ n. length (filter is_note (entries_in hs)) + n) (notes_grow it.entry told.entry.is_note tells.is_note)) i;
+      entries = length-append hs (it ∷ []) i;
+    }
+tally_grows (it ∷ other ∷ more) None hs tells = absurd tells
+tally_grows (it ∷ other ∷ more) (Some told) hs tells = absurd tells
+
+numbers_grow : (reports : List Reported) (told : Option Told) (hs : List Reported) → TellsReports reports told → numbers_from 1 (hs ++ reports) ≡ numbers_by (entries_by told (length hs)) told (numbers_from 1 hs)
+numbers_grow [] None hs tells = ap (numbers_from 1) (append_none hs)
+numbers_grow [] (Some told) hs tells = absurd tells
+numbers_grow (it ∷ []) None hs tells = absurd tells
+numbers_grow (it ∷ []) (Some told) hs tells =
+    let place : 1 + length hs ≡ length hs + 1 = omega arith in
+    numbers_more 1 hs it ∙ (λ i. numbers_from 1 hs ++ borne_at (place i) (sym tells.number i))
+numbers_grow (it ∷ other ∷ more) None hs tells = absurd tells
+numbers_grow (it ∷ other ∷ more) (Some told) hs tells = absurd tells
 
 -- ---- groups
 
@@ -147,8 +164,8 @@ starts_waiting v Gone is = cc
 
 -- ---- of a list of accepted commands
 
-module _ (h : CommandList) (c : Command) (valid : IsValid h) (formed : IsWellFormed c) (accepted : check (records h) c ≡ None) (k : ℕ) (w : IsPlaced (records h) k) (told : Option NewEntry) (entries : List HistoryEntry) (tells : TellsEntries entries told)
-    (by : actor c ≡ Some (seen_at (records h) k w).action.target) (open_still : is_none w.action.outcome ≡ true) (begun : w.own.started ≡ true) where
+module _ (h : CommandList) (c : Command) (valid : IsValid h) (formed : IsWellFormed c) (accepted : check (records h) c ≡ None) (k : ℕ) (w : IsPlaced (records h) k) (told : Option Told) (reports : List Reported) (tells : TellsReports reports told)
+    (counts : CountsNumbers told (numbers_of w.action)) (by : actor c ≡ Some (seen_at (records h) k w).action.target) (open_still : is_none w.action.outcome ≡ true) (begun : w.own.started ≡ true) where
   abbrev rs : Records
   rs = records h
 
@@ -165,12 +182,12 @@ module _ (h : CommandList) (c : Command) (valid : IsValid h) (formed : IsWellFor
   offered : (o : Offer) × (offer rs id ≡ Some o)
   offered = offer_there rs id k w.action w.at (rw (open_still, same_refl id, started_is rs k w, begun) refl)
 
-  module _ (after : ActionChange) (leads : ChangesAction after entries k rs (step_records rs c)) where
+  module _ (after : ActionChange) (leads : ChangesAction after reports k rs (step_records rs c)) where
     abbrev one : ActionRecord
-    one = with_entries entries (action_with after w.action)
+    one = with_reports reports (action_with after w.action)
 
     abbrev acted : Ledger
-    acted = with_actions (ledger_of rs) (set_numbered rs.actions k one) (set_numbered (map tally_of rs.actions) k (tally_by told (tally_of w.action)))
+    acted = with_changed s after told reports (w.action, tally_of w.action) (numbers_of w.action) (ledger_of rs)
 
     abbrev mid : Ledger
     mid = with_offer acted id (next_offer acted.records id)
@@ -178,14 +195,24 @@ module _ (h : CommandList) (c : Command) (valid : IsValid h) (formed : IsWellFor
     actions_are : (step_records rs c).actions ≡ set_numbered rs.actions k one
     actions_are =
         ap (λ (q : Records). q.actions) leads
-        ∙ set_is_change (λ (a : ActionRecord). record (action_with after a) { history = a.history ++ entries }) k rs.actions w.action w.at
-        ∙ ap (set_numbered rs.actions k) (sym (is_changed after entries w.action))
+        ∙ set_is_change (λ (a : ActionRecord). record (action_with after a) { history = a.history ++ reports }) k rs.actions w.action w.at
+        ∙ ap (set_numbered rs.actions k) (sym (is_changed after reports w.action))
 
     tally_one : tally_of one ≡ tally_by told (tally_of w.action)
-    tally_one = ap (λ (hs : List HistoryEntry). record { notes = length (filter is_note (hs ++ entries)); entries = length (hs ++ entries) }) (same_history after w.action) ∙ tally_grows entries told w.action.history tells
+    tally_one = ap (λ (hs : List Reported). tally_in (hs ++ reports)) (same_history after w.action) ∙ tally_grows reports told w.action.history tells
+
+    numbers_one : numbers_of one ≡ numbers_by (entries_by told (length w.action.history)) told (numbers_of w.action)
+    numbers_one = ap (λ (hs : List Reported). numbers_from 1 (hs ++ reports)) (same_history after w.action) ∙ numbers_grow reports told w.action.history tells
 
     tallies_are : mid.tallies ≡ map tally_of mid.records.actions
     tallies_are = sym (map_set tally_of k rs.actions one ∙ ap (set_numbered (map tally_of rs.actions) k) tally_one)
+
+    numbers_are : mid.numbers ≡ map numbers_of mid.records.actions
+    numbers_are = sym (map_set numbers_of k rs.actions one ∙ ap (set_numbered (map numbers_of rs.actions) k) numbers_one)
+
+    -- whatever is offered, and whatever is done to rollouts of the same plans
+    follows_with : (offers : Bytes → Option Offer) (xs : List RolloutRecord) → mid.rules ≡ said_in xs → FollowsRecords (record (with_rollouts mid xs) { offers = offers })
+    follows_with offers xs rules = record { tallies = tallies_are; rules = rules; numbers = numbers_are }
 
     is_step : records (h ▸ c) ≡ step_records rs c
     is_step = records_step h c valid accepted
@@ -198,12 +225,15 @@ module _ (h : CommandList) (c : Command) (valid : IsValid h) (formed : IsWellFor
 
     told_so : TellsAction s after told (ledger_of rs) acted
     told_so = record {
-      entries = entries;
+      reports = reports;
       tells = tells;
       action = (w.action, tally_of w.action);
       is_there = zip_map tally_of k rs.actions ∙ ap (option_map (λ (a : ActionRecord). (a, tally_of a))) w.at;
       seen_as = refl;
-      counted = refl;
+      tallied = refl;
+      numbers = numbers_of w.action;
+      are_its = numbered_map numbers_of rs.actions k ∙ ap (option_map numbers_of) w.at;
+      counted = counts;
       next_is = refl;
     }
 
@@ -217,7 +247,7 @@ module _ (h : CommandList) (c : Command) (valid : IsValid h) (formed : IsWellFor
     }
 
   -- it stays open
-  module _ (canceling : Bool) (leads : ChangesAction (StaysOpen canceling) entries k rs (step_records rs c)) where
+  module _ (canceling : Bool) (leads : ChangesAction (StaysOpen canceling) reports k rs (step_records rs c)) where
     still_open : step_records rs c ≡ (acted (StaysOpen canceling) leads).records
     still_open = leads ∙ ap (λ (as' : List ActionRecord). record rs { actions = as' }) (sym (ap (λ (q : Records). q.actions) leads) ∙ actions_are (StaysOpen canceling) leads)
 
@@ -236,8 +266,8 @@ module _ (h : CommandList) (c : Command) (valid : IsValid h) (formed : IsWellFor
 
         its : offer rs id ≡ offer (acted_records h c) id
         its =
-            sym (offer_stays rs k w.action (w.action.history ++ entries) id w.at)
-            ∙ ap (λ b. offer (record rs { actions = set_numbered rs.actions k (record w.action { canceling = b; history = w.action.history ++ entries }) }) id) (sym (as_it_was canceling w.action.canceling same))
+            sym (offer_stays rs k w.action (w.action.history ++ reports) id w.at)
+            ∙ ap (λ b. offer (record rs { actions = set_numbered rs.actions k (record w.action { canceling = b; history = w.action.history ++ reports }) }) id) (sym (as_it_was canceling w.action.canceling same))
             ∙ ap (λ (as' : List ActionRecord). offer (record rs { actions = as' }) id) (sym (actions_are (StaysOpen canceling) leads) ∙ sym (ap (λ (q : Records). q.actions) (is_step (StaysOpen canceling) leads)))
 
         go : (b : Bool) → same_bytes id t ≡ b → offer rs t ≡ cond b (offer (acted_records h c) id) (offer rs t)
@@ -253,12 +283,12 @@ module _ (h : CommandList) (c : Command) (valid : IsValid h) (formed : IsWellFor
           tells = told_so (StaysOpen canceling) leads;
           offered = acted (StaysOpen canceling) leads;
           offers = subst (λ b. MayReoffer b id (acted (StaysOpen canceling) leads) (acted (StaysOpen canceling) leads)) (sym same) refl;
-          follows = ends_with_none h c valid formed accepted (acted (StaysOpen canceling) leads) still_open (tallies_are (StaysOpen canceling) leads) (offers_stay same) refl none_begun;
+          follows = ends_with_none h c valid formed accepted (acted (StaysOpen canceling) leads) still_open (follows_with (StaysOpen canceling) leads (offer rs) rs.rollouts refl) (offers_stay same) none_begun;
         }
-        go false changes = all_acts (StaysOpen canceling) leads changes (ends_with_none h c valid formed accepted (mid (StaysOpen canceling) leads) still_open (tallies_are (StaysOpen canceling) leads) (offers_are (StaysOpen canceling) leads) refl none_begun)
+        go false changes = all_acts (StaysOpen canceling) leads changes (ends_with_none h c valid formed accepted (mid (StaysOpen canceling) leads) still_open (follows_with (StaysOpen canceling) leads (mid (StaysOpen canceling) leads).offers rs.rollouts refl) (offers_are (StaysOpen canceling) leads) none_begun)
 
   -- it ends
-  module _ (o : Outcome) (leads : ChangesAction (Ends (ended_by (action_view_seen s) o)) entries k rs (step_records rs c)) where
+  module _ (o : Outcome) (leads : ChangesAction (Ends (ended_by (action_view_seen s) o)) reports k rs (step_records rs c)) where
     abbrev e : ActionChange
     e = Ends (ended_by (action_view_seen s) o)
 
@@ -280,6 +310,9 @@ module _ (h : CommandList) (c : Command) (valid : IsValid h) (formed : IsWellFor
 
     rules_are : counted_in.rules ≡ said_in counted_in.records.rollouts
     rules_are = sym (said_stays rs.rollouts r w.rollout x2 w.its refl)
+
+    follows_so : FollowsRecords counted_in
+    follows_so = follows_with e leads counted_in.offers counted_in.records.rollouts rules_are
 
     -- with what follows
     rollouts_are : (f : Following) → following s.rollout o ≡ f → (step_records rs c).rollouts ≡ set_numbered rs.rollouts r (moved_by (effects_by w.own.number f) x2)
@@ -310,7 +343,7 @@ module _ (h : CommandList) (c : Command) (valid : IsValid h) (formed : IsWellFor
     ends_by : (f : Following) → following s.rollout o ≡ f → FollowsSo s f counted_in (ledger_of (step_records rs c))
     ends_by so.Nothing is =
         let are = rollouts_are so.Nothing is ∙ ap (set_numbered rs.rollouts r) (pausing x2.paused) in
-        ends_with_none h c valid formed accepted counted_in (with_these (set_numbered rs.rollouts r x2) are) (tallies_are e leads) (offers_are e leads) rules_are (none_begins x2 refl are)
+        ends_with_none h c valid formed accepted counted_in (with_these (set_numbered rs.rollouts r x2) are) follows_so (offers_are e leads) (none_begins x2 refl are)
     ends_by so.Pauses is =
         let x3 = record x2 { paused = true } in
         let are = rollouts_are so.Pauses is ∙ ap (set_numbered rs.rollouts r) (pausing true) in
@@ -319,8 +352,8 @@ module _ (h : CommandList) (c : Command) (valid : IsValid h) (formed : IsWellFor
           is_its = there;
           approval = refl;
           started = refl;
-          next_is = ends_with_none h c valid formed accepted (with_rollout counted_in r x3) (with_these (set_numbered counted_in.records.rollouts r x3) (are ∙ sym (set_twice r rs.rollouts x2 x3))) (tallies_are e leads) (offers_are e leads)
-              (rules_are ∙ sym (said_stays counted_in.records.rollouts r x2 x3 there refl)) (none_begins x3 refl are);
+          next_is = ends_with_none h c valid formed accepted (with_rollout counted_in r x3) (with_these (set_numbered counted_in.records.rollouts r x3) (are ∙ sym (set_twice r rs.rollouts x2 x3)))
+              (follows_with e leads counted_in.offers (with_rollout counted_in r x3).records.rollouts (rules_are ∙ sym (said_stays counted_in.records.rollouts r x2 x3 there refl))) (offers_are e leads) (none_begins x3 refl are);
         }
     ends_by so.StartsNext is = starts (item_numbered w.rollout.groups n) refl (and_parts _ _ (starts_waiting s.rollout o is)).1
       where
@@ -336,7 +369,7 @@ module _ (h : CommandList) (c : Command) (valid : IsValid h) (formed : IsWellFor
             (rollouts_are so.StartsNext is
             ∙ ap (λ gs. set_numbered rs.rollouts r (with_groups x2 gs)) (started_one n x2.groups g still its2 ∙ ap (λ m. set_numbered x2.groups m (started g)) (sym number))
             ∙ sym (set_twice r rs.rollouts x2 (with_groups x2 (set_numbered x2.groups g.number (started g))))))
-            (tallies_are e leads) (offers_are e leads) rules_are
+            follows_so (offers_are e leads)
           where
             number : g.number ≡ n
             number = numbered n g its
@@ -352,7 +385,7 @@ module _ (h : CommandList) (c : Command) (valid : IsValid h) (formed : IsWellFor
     ends = all_acts e leads refl (record { rollout = w.rollout; is_its = w.its; own = w.own_at; follows = ends_by (following s.rollout o) refl })
 
   -- whichever it does
-  pub acts : (gives : Option Outcome) (canceling : Bool) → ChangesAction (change_by (action_view_seen s) gives canceling) entries k rs (step_records rs c)
+  pub acts : (gives : Option Outcome) (canceling : Bool) → ChangesAction (change_by (action_view_seen s) gives canceling) reports k rs (step_records rs c)
       → Acts s (change_by (action_view_seen s) gives canceling) told (ledger_of rs) (ledger_of (step_records rs c))
   acts None canceling leads = stays_open canceling leads
   acts (Some o) canceling leads = ends o leads

@@ -2,20 +2,23 @@
 use Rattle.std.proofs.Common.{◌≡◌, ℕ, Bool, true, false, cond, ◌&&◌, ◌||◌, not, List, [], ◌∷◌, Option, Some, None, option_map, Ok, refl, sym, ap, ◌∙◌, subst}
 use Rattle.std.specs.Prelude.{is_some}
 use Rattle.std.specs.Option.{is_none}
-use Rattle.rollout_machine.specs.Actions.{HistoryEntry}
-use Rattle.rollout_machine.specs.ByteStrings.{same_bytes}
+use Rattle.std.proofs.lemmas.Bool.{and_parts}
+use Rattle.rollout_machine.specs.ByteStrings.{item_numbered, same_bytes}
 use Rattle.rollout_machine.specs.CommandList.{CommandList}
 use Rattle.rollout_machine.specs.CommandRules.{IsWellFormed}
 use Rattle.rollout_machine.specs.Commands.{Bytes, Cancel, Command, Credential}
 use Rattle.rollout_machine.specs.RecordSteps.{step_records}
 use Rattle.rollout_machine.specs.Records.{Records, records}
+use Rattle.rollout_machine.specs.Reports.{Reported}
+use Rattle.rollout_machine.specs.declared.standing.Standing.{Standing}
 use Rattle.rollout_machine.specs.Validity.{IsValid}
 use Rattle.rollout_machine.specs.Verdicts.{check, first_refusal, target_of}
 use Rattle.rollout_machine.specs.declared.outcome.Outcome.{Outcome}
+use Rattle.rollout_machine.specs.declared.records.ActionRecord.{ActionRecord}
 use Rattle.rollout_machine.proofs.TargetTies.{same_true}
 use Rattle.rollout_model.specs.declared.refusal.Refusal.{Refusal}
 use Rattle.rollout_model.specs.declared.refusal.Refusal.TheVariants.{ClosedAction, WrongState}
-use Rattle.campaign_core.specs.RolloutChecks.{ChangesAction, Decides, IsFeedbackView, IsViewOf, LeadsTo, MakesCancel, MakesFeedback, MayChangeAction, cancel_refusal, change_by, change_if_open, outcome_forced}
+use Rattle.campaign_core.specs.RolloutChecks.{ChangesAction, Decides, IsFeedbackView, IsViewOf, LeadsTo, MakesCancel, MakesFeedback, MayChangeAction, cancel_refusal, change_by, change_if_fresh, is_fresh, outcome_forced, says_fresh}
 use Rattle.campaign_core.specs.declared.rollout_checks.RolloutChange.{RolloutChange}
 use Rattle.campaign_core.specs.declared.rollout_checks.RolloutChange.TheVariants as change
 use Rattle.campaign_core.specs.declared.rollout_checks.RolloutCommandView.{RolloutCommandView}
@@ -24,16 +27,17 @@ use Rattle.campaign_core.specs.declared.rollout_checks.actions.ActionChange.{Act
 use Rattle.campaign_core.specs.declared.rollout_checks.actions.CancelView.{CancelView}
 use Rattle.campaign_core.specs.declared.rollout_checks.of_devices.DeviceAction.{DeviceAction}
 use Rattle.campaign_core.proofs.SoundLemmas.{records_are_sound}
+use Rattle.desk_records.specs.FeedbackNumbers.{numbers_of}
 use Rattle.desk_records.specs.Holds.{ledger_of}
 use Rattle.offer_laws.specs.GroupOffers.{actor}
-use Rattle.desk_commands.specs.ActionSteps.{Acts, ActsBy, MayAct, action_change_of}
-use Rattle.desk_commands.specs.Entries.{TellsEntries}
+use Rattle.desk_commands.specs.ActionSteps.{Acts, ActsBy, MayAct, WritesFeedback, action_change_of, does_act}
+use Rattle.desk_commands.specs.Telling.{CountsNumbers, TellsReports}
 use Rattle.desk_commands.specs.SeenActions.{IsSeen, MaySee, SeesFeedback, SeesTarget, action_view_seen, cancel_view_seen, only_of, only_started, feedback_view_seen, device_action_seen, seen_if}
-use Rattle.desk_records.specs.declared.new_entry.NewEntry.{NewEntry}
+use Rattle.desk_commands.specs.declared.telling.Told.{Told}
 use Rattle.desk_commands.specs.declared.seen_actions.SeenAction.{SeenAction}
 use Rattle.desk_commands.specs.declared.seen_actions.SeenFeedback.{SeenFeedback}
 use Rattle.desk_commands.proofs.ActingEnds.{acts}
-use Rattle.desk_commands.proofs.KnownActions.{IsKnown, cancel_viewed, known, feedback_viewed, seen_at}
+use Rattle.desk_commands.proofs.KnownActions.{IsKnown, cancel_viewed, feedback_viewed, heard_whole, known, seen_at}
 
 -- ---- which action was seen
 
@@ -60,60 +64,92 @@ started_too (Some t) s is = go t.own.started refl is
 
 -- ---- what is made of it
 
-module _ (h : CommandList) (c : Command) (valid : IsValid h) (formed : IsWellFormed c) (accepted : check (records h) c ≡ None) (k : ℕ) (told : Option NewEntry) (entries : List HistoryEntry) (tells : TellsEntries entries told) where
-  acts_on : (s : SeenAction) → IsSeen (ledger_of (records h)) k s → actor c ≡ Some s.action.target → is_none s.action.outcome ≡ true → s.own.started ≡ true → (gives : Option Outcome) (canceling : Bool)
-      → ChangesAction (change_by (action_view_seen s) gives canceling) entries k (records h) (step_records (records h) c) → Acts s (change_by (action_view_seen s) gives canceling) told (ledger_of (records h)) (ledger_of (step_records (records h) c))
-  acts_on s sees by unended begun gives canceling leads = go (known h valid k s sees)
+none_of : {X : Type 0} (o : Option X) → is_none o ≡ true → o ≡ None
+none_of None is = refl
+none_of (Some x) is = cc
+
+module _ (h : CommandList) (c : Command) (valid : IsValid h) (formed : IsWellFormed c) (accepted : check (records h) c ≡ None) (k : ℕ) (told : Option Told) (reports : List Reported) (tells : TellsReports reports told) where
+  -- the numbers of the action are counted
+  abbrev Counted : Type 0
+  Counted = (a : ActionRecord) → item_numbered (records h).actions k ≡ Some a → CountsNumbers told (numbers_of a)
+
+  acts_on : (s : SeenAction) → IsSeen (ledger_of (records h)) k s → Counted → actor c ≡ Some s.action.target → is_none s.action.outcome ≡ true → s.own.started ≡ true → (gives : Option Outcome) (canceling : Bool)
+      → ChangesAction (change_by (action_view_seen s) gives canceling) reports k (records h) (step_records (records h) c) → Acts s (change_by (action_view_seen s) gives canceling) told (ledger_of (records h)) (ledger_of (step_records (records h) c))
+  acts_on s sees counted by unended begun gives canceling leads = go (known h valid k s sees)
     where
       go : IsKnown (records h) k s → Acts s (change_by (action_view_seen s) gives canceling) told (ledger_of (records h)) (ledger_of (step_records (records h) c))
       go w = at s w.is by unended begun leads
         where
-          at : (t : SeenAction) → t ≡ seen_at (records h) k w.placed → actor c ≡ Some t.action.target → is_none t.action.outcome ≡ true → t.own.started ≡ true → ChangesAction (change_by (action_view_seen t) gives canceling) entries k (records h) (step_records (records h) c)
+          at : (t : SeenAction) → t ≡ seen_at (records h) k w.placed → actor c ≡ Some t.action.target → is_none t.action.outcome ≡ true → t.own.started ≡ true → ChangesAction (change_by (action_view_seen t) gives canceling) reports k (records h) (step_records (records h) c)
               → Acts t (change_by (action_view_seen t) gives canceling) told (ledger_of (records h)) (ledger_of (step_records (records h) c))
           at t is = subst
-              (λ (u : SeenAction). actor c ≡ Some u.action.target → is_none u.action.outcome ≡ true → u.own.started ≡ true → ChangesAction (change_by (action_view_seen u) gives canceling) entries k (records h) (step_records (records h) c)
+              (λ (u : SeenAction). actor c ≡ Some u.action.target → is_none u.action.outcome ≡ true → u.own.started ≡ true → ChangesAction (change_by (action_view_seen u) gives canceling) reports k (records h) (step_records (records h) c)
               → Acts u (change_by (action_view_seen u) gives canceling) told (ledger_of (records h)) (ledger_of (step_records (records h) c)))
-              (sym is) (λ by unended begun leads. acts h c valid formed accepted k w.placed told entries tells by unended begun gives canceling leads)
+              (sym is) (λ by unended begun leads. acts h c valid formed accepted k w.placed told reports tells (counted w.placed.action w.placed.at) by unended begun gives canceling leads)
 
   -- by feedback
-  may_act : (id : Bytes) (found seen : Option SeenAction) → MaySee k (ledger_of (records h)) found → seen ≡ only_started (only_of id found) → actor c ≡ Some id → (gives : Option Outcome) (canceling : Bool → Bool) (a : DeviceAction) (after : Option ActionChange)
-      → option_map device_action_seen seen ≡ Some a → after ≡ change_if_open a.action gives (canceling a.action.canceling) → MayChangeAction after entries k (records h) (step_records (records h) c)
+  may_act : (id : Bytes) (found seen : Option SeenAction) → MaySee k (ledger_of (records h)) found → seen ≡ only_started (only_of id found) → ((s : SeenAction) → seen ≡ Some s → s.action.outcome ≡ None → Counted) → actor c ≡ Some id
+      → (gives : Option Outcome) (canceling : Bool → Bool) (standing : Standing) (a : DeviceAction) (after : Option ActionChange)
+      → option_map (device_action_seen standing) seen ≡ Some a → after ≡ change_if_fresh a gives (canceling a.action.canceling) → MayChangeAction after reports k (records h) (step_records (records h) c)
       → MayAct seen after told (ledger_of (records h)) (ledger_of (step_records (records h) c))
-  may_act id found None sees is by gives canceling a after viewed made leads = cc
-  may_act id found (Some s) sees is by gives canceling a after viewed made leads =
+  may_act id found None sees is counted by gives canceling standing a after viewed made leads = cc
+  may_act id found (Some s) sees is counted by gives canceling standing a after viewed made leads =
       let on = started_too (only_of id found) s (sym is) in
       let its = of_target id found s on.0 in
-      let view : device_action_seen s ≡ a = cc in
-      go (is_none s.action.outcome) refl its on.1 (made ∙ ap (λ (v : DeviceAction). change_if_open v.action gives (canceling v.action.canceling)) (sym view))
+      let view : device_action_seen standing s ≡ a = cc in
+      go (is_fresh (device_action_seen standing s)) refl its on.1 (made ∙ ap (λ (v : DeviceAction). change_if_fresh v gives (canceling v.action.canceling)) (sym view))
     where
-      go : (unended : Bool) → is_none s.action.outcome ≡ unended → IsOf id found s → s.own.started ≡ true → after ≡ cond (is_none s.action.outcome) (Some (change_by (action_view_seen s) gives (canceling s.action.canceling))) None
+      after_it : ActionChange
+      after_it = change_by (action_view_seen s) gives (canceling s.action.canceling)
+
+      go : (fresh : Bool) → is_fresh (device_action_seen standing s) ≡ fresh → IsOf id found s → s.own.started ≡ true → after ≡ cond (is_fresh (device_action_seen standing s)) (Some after_it) None
           → MayAct (Some s) after told (ledger_of (records h)) (ledger_of (step_records (records h) c))
-      go true unended its begun made =
-          let is : after ≡ Some (change_by (action_view_seen s) gives (canceling s.action.canceling)) = made ∙ ap (λ b. cond b (Some (change_by (action_view_seen s) gives (canceling s.action.canceling))) None) unended in
-          let leads2 : ChangesAction (change_by (action_view_seen s) gives (canceling s.action.canceling)) entries k (records h) (step_records (records h) c) = subst (λ o. MayChangeAction o entries k (records h) (step_records (records h) c)) is leads in
+      go true fresh its begun made =
+          let unended = (and_parts (is_none s.action.outcome) _ fresh).0 in
+          let is : after ≡ Some after_it = made ∙ ap (λ b. cond b (Some after_it) None) fresh in
+          let leads2 : ChangesAction after_it reports k (records h) (step_records (records h) c) = subst (λ o. MayChangeAction o reports k (records h) (step_records (records h) c)) is leads in
           subst (λ o. MayAct (Some s) o told (ledger_of (records h)) (ledger_of (step_records (records h) c))) (sym is)
-          (acts_on s (subst (λ o. MaySee k (ledger_of (records h)) o) its.is_found sees) (by ∙ ap (λ t. Some t) (sym its.target)) unended begun gives (canceling s.action.canceling) leads2)
-      go false unended its begun made =
-          let is : after ≡ None = made ∙ ap (λ b. cond b (Some (change_by (action_view_seen s) gives (canceling s.action.canceling))) None) unended in
-          let leads2 : step_records (records h) c ≡ records h = subst (λ o. MayChangeAction o entries k (records h) (step_records (records h) c)) is leads in
+          (acts_on s (subst (λ o. MaySee k (ledger_of (records h)) o) its.is_found sees) (counted s refl (none_of s.action.outcome unended)) (by ∙ ap (λ t. Some t) (sym its.target)) unended begun gives (canceling s.action.canceling) leads2)
+      go false fresh its begun made =
+          let is : after ≡ None = made ∙ ap (λ b. cond b (Some after_it) None) fresh in
+          let leads2 : step_records (records h) c ≡ records h = subst (λ o. MayChangeAction o reports k (records h) (step_records (records h) c)) is leads in
           subst (λ o. MayAct (Some s) o told (ledger_of (records h)) (ledger_of (step_records (records h) c))) (sym is) (ap ledger_of leads2)
 
 -- ---- feedback, on a deployment or on its cancel
 
-module _ (seen : SeenFeedback) (accepted : RolloutChange) (told : NewEntry) (device : Credential) (k : ℕ) (c : Command) (entries : List HistoryEntry) (v : RolloutCommandView) (its : Option ActionChange → RolloutChange) (gives : Option Outcome) (canceling : Bool → Bool)
-    (is_its : (o : Option ActionChange) → action_change_of (its o) ≡ Some o) (views : (rs : Records) → IsFeedbackView (feedback_view_seen seen) device k rs → IsViewOf v c rs) (leads : (o : Option ActionChange) (old new : Records) → LeadsTo (its o) c old new → MayChangeAction o entries k old new) (by : actor c ≡ Some device.id)
-    (formed : IsWellFormed c) (decides : Decides v c (Ok accepted)) (makes : (o : Option ActionChange) × (accepted ≡ its o) × MakesFeedback (feedback_view_seen seen) gives canceling o) (tells : TellsEntries entries (Some told)) where
-  pub feedback_taken : (h : CommandList) → IsValid h → SeesFeedback device k (records h) seen → (check (records h) c ≡ None) × ActsBy seen.action accepted (Some told) (ledger_of (records h)) (ledger_of (step_records (records h) c))
-  feedback_taken h valid w =
-      let it = decides (records h) (records_are_sound h valid) (views (records h) (feedback_viewed h valid k device seen w)) in
-      let changed : MayChangeAction makes.0 entries k (records h) (step_records (records h) c) = leads makes.0 (records h) (step_records (records h) c) (subst (λ o. LeadsTo o c (records h) (step_records (records h) c)) makes.1 it.1) in (
-        it.0,
-        record {
-          after = makes.0;
-          is_its = ap action_change_of makes.1 ∙ is_its makes.0;
-          acts = may_act h c valid formed it.0 k (Some told) entries tells device.id w.found seen.action w.sees w.action by gives canceling makes.2.0 makes.0 makes.2.1 makes.2.2 changed;
-        },
-      )
+module _ (seen : SeenFeedback) (accepted : RolloutChange) (device : Credential) (k : ℕ) (new : Reported) (c : Command) (v : RolloutCommandView) (its : Option ActionChange → RolloutChange) (gives : Option Outcome) (canceling : Bool → Bool)
+    (makes : (o : Option ActionChange) × (accepted ≡ its o) × MakesFeedback (feedback_view_seen seen) gives canceling o) where
+  module _ (is_its : (o : Option ActionChange) → action_change_of (its o) ≡ Some o) (views : (rs : Records) → IsFeedbackView (feedback_view_seen seen) device k new rs → IsViewOf v c rs)
+      (leads : (o : Option ActionChange) (old new' : Records) → LeadsTo (its o) c old new' → MayChangeAction o (new ∷ []) k old new') (by : actor c ≡ Some device.id) (formed : IsWellFormed c) (decides : Decides v c (Ok accepted)) where
+    pub feedback_taken : (h : CommandList) → IsValid h → SeesFeedback device k new (records h) seen → (check (records h) c ≡ None) × WritesFeedback seen accepted new (ledger_of (records h)) (ledger_of (step_records (records h) c))
+    feedback_taken h valid w =
+        let it = decides (records h) (records_are_sound h valid) (views (records h) (feedback_viewed h valid k device new seen w)) in
+        let changed : MayChangeAction makes.0 (new ∷ []) k (records h) (step_records (records h) c) = leads makes.0 (records h) (step_records (records h) c) (subst (λ o. LeadsTo o c (records h) (step_records (records h) c)) makes.1 it.1) in (
+          it.0,
+          record {
+            acts = λ told tells numbers. record {
+              after = makes.0;
+              is_its = ap action_change_of makes.1 ∙ is_its makes.0;
+              acts = may_act h c valid formed it.0 k (Some told) (new ∷ []) tells device.id w.found seen.action w.sees w.action
+                  (λ s is open_still a at bears. numbers ∙ (heard_whole h valid k device new seen w s is open_still a at).numbers (sym (ap is_some tells.number) ∙ bears))
+                  by gives canceling seen.report.standing makes.2.0 makes.0 makes.2.1 makes.2.2 changed;
+            };
+          },
+        )
+
+  -- it acts only where the report is new
+  pub acts_on_fresh : ((o : Option ActionChange) → does_act (its o) ≡ is_some o) → does_act accepted ≡ true → says_fresh seen.report.standing ≡ true
+  acts_on_fresh its_act acts = go seen.action makes.2.0 makes.2.1 (sym (ap is_some makes.2.2) ∙ sym (its_act makes.0) ∙ sym (ap does_act makes.1) ∙ acts)
+    where
+      if_fresh : (b : Bool) (o : Option ActionChange) → is_some (cond b o None) ≡ true → b ≡ true
+      if_fresh true o is = refl
+      if_fresh false o is = cc
+
+      go : (o : Option SeenAction) (a : DeviceAction) → option_map (device_action_seen seen.report.standing) o ≡ Some a → is_some (change_if_fresh a gives (canceling a.action.canceling)) ≡ true → says_fresh seen.report.standing ≡ true
+      go None a viewed some = cc
+      go (Some s) a viewed some =
+          let view : device_action_seen seen.report.standing s ≡ a = cc in
+          ap (λ (v : DeviceAction). says_fresh v.standing) view ∙ (and_parts (is_none a.action.outcome) _ (if_fresh (is_fresh a) _ some)).1
 
 -- ---- cancels
 
@@ -164,5 +200,5 @@ module _ (id : Bytes) (k : ℕ) (force : Bool) (seen : Option SeenAction) (accep
           let its = of_target id w.found s (there (is_none (target_of (records h) id)) s is) in
           let made_so : makes.0 ≡ change_by (action_view_seen s) (outcome_forced s.action.canceling force) true = made ∙ ap (λ (u : CancelView). change_by u.action (outcome_forced u.action.canceling force) true) (sym view) in
           subst (λ o. Acts s o None (ledger_of (records h)) (ledger_of (step_records (records h) (Cancel id k force)))) (sym made_so)
-          (acts_on h (Cancel id k force) valid formed none k None [] tt s (subst (λ o. MaySee k (ledger_of (records h)) o) its.is_found w.sees) (ap (λ t. Some t) (sym its.target)) (ap (λ (u : CancelView). is_none u.action.outcome) view ∙ unended) (ap (λ (u : CancelView). u.started) view ∙ begun)
+          (acts_on h (Cancel id k force) valid formed none k None [] tt s (subst (λ o. MaySee k (ledger_of (records h)) o) its.is_found w.sees) (λ a at. tt) (ap (λ t. Some t) (sym its.target)) (ap (λ (u : CancelView). is_none u.action.outcome) view ∙ unended) (ap (λ (u : CancelView). u.started) view ∙ begun)
           (outcome_forced s.action.canceling force) true (subst (λ o. ChangesAction o [] k (records h) (step_records (records h) (Cancel id k force))) made_so leads))

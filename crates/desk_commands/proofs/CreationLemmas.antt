@@ -264,7 +264,7 @@ module _ (plan : RolloutPlan) (n : NewRollout) (members : List Bytes) where
         number_is = is.number_is;
         ruled = length-map r.rollouts (λ (x : RolloutRecord). rules_of x.plan);
         unacted = ap (λ k. list_all (λ (a : ActionRecord). not (nat_eq a.rollout k)) r.actions) is.number_is ∙ none;
-        next_is = same_ledger _ _ (ap (λ x. record r { rollouts = r.rollouts ++ x ∷ [] }) (same_rollout r is)) refl (λ t. same_offers r (made plan r) t 1 r.actions none) (map-append (λ (x : RolloutRecord). rules_of x.plan) r.rollouts (made plan r ∷ []));
+        next_is = same_ledger _ _ (ap (λ x. record r { rollouts = r.rollouts ++ x ∷ [] }) (same_rollout r is)) refl (λ t. same_offers r (made plan r) t 1 r.actions none) (map-append (λ (x : RolloutRecord). rules_of x.plan) r.rollouts (made plan r ∷ [])) refl;
       }
 
   pub shown_added : (r : Records) → IsReady plan n members r → (count : ℕ) → count ≡ length members → (shown : Rollout) → (word : RolloutWord) × IsWordOf n.approval word × (shown ≡ shown_new plan n.number word count)

@@ -8,6 +8,8 @@ use Rattle.rollout_machine.specs.Commands.{Bytes, Credential}
 use Rattle.rollout_machine.specs.GroupRules.{rule_at}
 use Rattle.rollout_machine.specs.RecordSteps.{view_from_group}
 use Rattle.rollout_machine.specs.Records.{Records, action_in, records, rollout_in}
+use Rattle.rollout_machine.specs.Reports.{Reported, standing_of}
+use Rattle.rollout_machine.specs.declared.standing.Standing.{Standing}
 use Rattle.rollout_machine.specs.StateWords.{group_holding, group_is_started, group_number_of, group_numbered, has_started, is_for, is_started_in, number_of_group}
 use Rattle.rollout_machine.specs.Targets.{Target}
 use Rattle.rollout_machine.specs.Validity.{IsValid}
@@ -26,6 +28,7 @@ use Rattle.desk_store.specs.GroupPairs.{group_and_next}
 use Rattle.desk_store.specs.declared.rollouts.GroupAndNext.{GroupAndNext}
 use Rattle.desk_records.specs.RolloutRow.{stored_action, stored_rollout}
 use Rattle.desk_commands.specs.SeenActions.{IsSeen, MaySee, SeesIn, SeesFeedback, SeesTarget, action_seen, action_view_seen, cancel_view_seen, only_of, only_started, feedback_view_seen, device_action_seen, seen_if}
+use Rattle.desk_commands.specs.SeenReports.{StandsAt, asked, with_number}
 use Rattle.desk_commands.specs.declared.seen_actions.SeenAction.{SeenAction}
 use Rattle.desk_commands.specs.declared.seen_actions.SeenFeedback.{SeenFeedback}
 use Rattle.desk_commands.proofs.GroupNumbers.{Numbered, held_stands, numbered_groups, same_groups}
@@ -129,23 +132,30 @@ module _ (rs : Records) (k : ℕ) (w : IsPlaced rs k) where
   pub started_is : has_started rs w.action ≡ w.own.started
   started_is = ap (λ o. is_started_in o w.action) w.its ∙ ap group_is_started w.held
 
-  -- its group is started, or not
-  if_started : (b : Bool) → BothOrNone (λ v a. IsDeviceAction v a rs) (option_map device_action_seen (seen_if b (seen_at rs k w))) (only_if b (Some w.action))
-  if_started true = record { notes = refl; action = view_is }
-  if_started false = tt
+  module _ (new : Reported) (standing : Standing) where
+    -- where it is seen as a device's, and open
+    abbrev Stands : Option SeenAction → Type 0
+    Stands seen = seen ≡ Some (seen_at rs k w) → w.action.outcome ≡ None → standing ≡ standing_of w.action.history new
 
-  -- it is a device's, or not
-  device_action_is : (for : Bool) → BothOrNone (λ v a. IsDeviceAction v a rs) (option_map device_action_seen (only_started (seen_if for (seen_at rs k w)))) (only_if (for && has_started rs w.action) (Some w.action))
-  device_action_is true = subst (λ b. BothOrNone (λ v a. IsDeviceAction v a rs) (option_map device_action_seen (seen_if w.own.started (seen_at rs k w))) (only_if b (Some w.action))) (sym started_is) (if_started w.own.started)
-  device_action_is false = tt
+    -- its group is started, or not
+    if_started : (b : Bool) → Stands (seen_if b (seen_at rs k w)) → BothOrNone (λ v a. IsDeviceAction v a new rs) (option_map (device_action_seen standing) (seen_if b (seen_at rs k w))) (only_if b (Some w.action))
+    if_started true stands = record { notes = refl; standing = stands refl; action = view_is }
+    if_started false stands = tt
+
+    -- it is a device's, or not
+    device_action_is : (for : Bool) → Stands (only_started (seen_if for (seen_at rs k w)))
+        → BothOrNone (λ v a. IsDeviceAction v a new rs) (option_map (device_action_seen standing) (only_started (seen_if for (seen_at rs k w)))) (only_if (for && has_started rs w.action) (Some w.action))
+    device_action_is true stands = subst (λ b. BothOrNone (λ v a. IsDeviceAction v a new rs) (option_map (device_action_seen standing) (seen_if w.own.started (seen_at rs k w))) (only_if b (Some w.action))) (sym started_is) (if_started w.own.started stands)
+    device_action_is false stands = tt
+
+    pub its_action : (t : Bytes) → Stands (only_started (only_of t (Some (seen_at rs k w))))
+        → BothOrNone (λ v a. IsDeviceAction v a new rs) (option_map (device_action_seen standing) (only_started (only_of t (Some (seen_at rs k w))))) (device_action rs t k)
+    its_action t stands = rw w.at (device_action_is (is_for rs t w.action) stands)
 
   canceled_is : (there for : Bool) → BothOrNone (λ v a. IsCancelView v a rs) (option_map cancel_view_seen (cond there (seen_if for (seen_at rs k w)) None)) (only_if (there && for) (Some w.action))
   canceled_is true true = record { started = sym started_is; action = view_is }
   canceled_is true false = tt
   canceled_is false for = tt
-
-  pub its_action : (t : Bytes) → BothOrNone (λ v a. IsDeviceAction v a rs) (option_map device_action_seen (only_started (only_of t (Some (seen_at rs k w))))) (device_action rs t k)
-  its_action t = rw w.at (device_action_is (is_for rs t w.action))
 
   pub its_cancel : (t : Bytes) → BothOrNone (λ v a. IsCancelView v a rs) (option_map cancel_view_seen (cond (is_none (target_of rs t)) None (only_of t (Some (seen_at rs k w))))) (action_for rs t k)
   its_cancel t = rw w.at (go (target_of rs t))
@@ -154,16 +164,34 @@ module _ (rs : Records) (k : ℕ) (w : IsPlaced rs k) where
       go None = tt
       go (Some x) = canceled_is true (is_for rs t w.action)
 
+-- on an open action the number is asked for
+asked_whole : (new : Reported) (seen : Option SeenAction) (s : SeenAction) → seen ≡ Some s → s.action.outcome ≡ None → asked seen new ≡ new
+asked_whole new seen s is open_still = ap (λ o. asked o new) is ∙ ap (λ o. with_number new (cond (is_none o) new.number None)) open_still
+
 module _ (h : CommandList) (valid : IsValid h) (k : ℕ) where
-  pub feedback_viewed : (device : Credential) (seen : SeenFeedback) → SeesFeedback device k (records h) seen → IsFeedbackView (feedback_view_seen seen) device k (records h)
-  feedback_viewed device seen w = record {
-    misses_device = w.misses_device;
-    own_action = subst (λ o. BothOrNone (λ v a. IsDeviceAction v a (records h)) (option_map device_action_seen o) (device_action (records h) device.id k)) (sym w.action) (go w.found w.sees);
-  }
-    where
-      go : (found : Option SeenAction) → MaySee k (ledger_of (records h)) found → BothOrNone (λ v a. IsDeviceAction v a (records h)) (option_map device_action_seen (only_started (only_of device.id found))) (device_action (records h) device.id k)
-      go None none = rw (none_known h valid k none) tt
-      go (Some s) sees = let it = known h valid k s sees in rw it.is (its_action (records h) k it.placed device.id)
+  module _ (device : Credential) (new : Reported) (seen : SeenFeedback) (w : SeesFeedback device k new (records h) seen) where
+    -- what an open action has heard, all of the report is seen among
+    pub heard_whole : (s : SeenAction) → seen.action ≡ Some s → s.action.outcome ≡ None → StandsAt k new (records h) seen.report
+    heard_whole s is open_still = subst (λ (it : Reported). StandsAt k it (records h) seen.report) (asked_whole new seen.action s is open_still) (w.report (record { list = h; valid = valid; are = refl }))
+
+    abbrev Viewed : Option SeenAction → Type 0
+    Viewed action = BothOrNone (λ v a. IsDeviceAction v a new (records h)) (option_map (device_action_seen seen.report.standing) action) (device_action (records h) device.id k)
+
+    pub feedback_viewed : IsFeedbackView (feedback_view_seen seen) device k new (records h)
+    feedback_viewed = record {
+      misses_device = w.misses_device;
+      own_action = subst Viewed (sym w.action) (go w.found w.sees (λ s is. heard_whole s (w.action ∙ is)));
+    }
+      where
+        go : (found : Option SeenAction) → MaySee k (ledger_of (records h)) found → ((s : SeenAction) → only_started (only_of device.id found) ≡ Some s → s.action.outcome ≡ None → StandsAt k new (records h) seen.report)
+            → Viewed (only_started (only_of device.id found))
+        go None none heard = rw (none_known h valid k none) tt
+        go (Some s) sees heard =
+            let it = known h valid k s sees in
+            let t = seen_at (records h) k it.placed in
+            subst (λ (u : SeenAction). Viewed (only_started (only_of device.id (Some u)))) (sym it.is)
+            (its_action (records h) k it.placed new seen.report.standing device.id
+            (λ own open_still. (heard t (ap (λ (u : SeenAction). only_started (only_of device.id (Some u))) it.is ∙ own) open_still it.placed.action it.placed.at).standing))
 
   pub cancel_viewed : (id : Bytes) (seen : Option SeenAction) → SeesTarget id k (records h) seen → BothOrNone (λ v a. IsCancelView v a (records h)) (option_map cancel_view_seen seen) (action_for (records h) id k)
   cancel_viewed id seen w = subst (λ o. BothOrNone (λ v a. IsCancelView v a (records h)) (option_map cancel_view_seen o) (action_for (records h) id k)) (sym w.action) (go w.found w.sees)

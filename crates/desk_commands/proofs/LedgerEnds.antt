@@ -30,6 +30,7 @@ use Rattle.campaign_core.proofs.SoundLemmas.{records_are_sound}
 use Rattle.offer_laws.specs.GroupOffers.{GroupStarts, group_offers, put_offers, offers_before_start}
 use Rattle.offer_laws.proofs.Starts.{IsRollout, offers_after_group, offers_after_no_group}
 use Rattle.desk_records.specs.Actions.{tally_of}
+use Rattle.desk_records.specs.FeedbackNumbers.{numbers_of}
 use Rattle.desk_records.specs.Holds.{Ledger, ledger_of}
 use Rattle.desk_records.specs.LedgerSteps.{set_numbered, with_groups, with_rollouts}
 use Rattle.desk_commands.specs.GroupStarts.{StartsGroup, started, with_group}
@@ -107,6 +108,12 @@ said_in xs = map (λ (x : RolloutRecord). rules_of x.plan) xs
 pub said_stays : (xs : List RolloutRecord) (r : ℕ) (x y : RolloutRecord) → item_numbered xs r ≡ Some x → y.plan ≡ x.plan → said_in (set_numbered xs r y) ≡ said_in xs
 said_stays xs r x y there same = same_but_for (λ (z : RolloutRecord). rules_of z.plan) xs r x y there (ap rules_of same)
 
+-- what follows from the records of a ledger, but its offers
+pub record FollowsRecords (l : Ledger) : Type 0 where
+  pub tallies : l.tallies ≡ map tally_of l.records.actions
+  pub rules : l.rules ≡ said_in l.records.rollouts
+  pub numbers : l.numbers ≡ map numbers_of l.records.actions
+
 abbrev pub then_started : RolloutRecord → GroupRecord → RolloutRecord
 then_started x g = with_groups x (set_numbered x.groups g.number (started g))
 
@@ -124,19 +131,20 @@ none_starts h c same r i b s =
 module _ (h : CommandList) (c : Command) (valid : IsValid (h ▸ c)) where
   -- a group is started last
   group_last : (r : ℕ) (g : GroupRecord) (mid : Ledger) (x : RolloutRecord) → item_numbered mid.records.rollouts r ≡ Some x → item_numbered x.groups g.number ≡ Some g → Waits (records h) r g
-      → records (h ▸ c) ≡ (with_group mid r x (started g)).records → mid.tallies ≡ map tally_of mid.records.actions → ((t : Bytes) → mid.offers t ≡ offers_before_start h c t) → mid.rules ≡ said_in mid.records.rollouts
+      → records (h ▸ c) ≡ (with_group mid r x (started g)).records → FollowsRecords mid → ((t : Bytes) → mid.offers t ≡ offers_before_start h c t)
       → StartsGroup r g mid (ledger_of (records (h ▸ c)))
-  group_last r g mid x there its waits after tallies offers rules = record {
-    tallied = ap length tallies ∙ length-map mid.records.actions tally_of;
+  group_last r g mid x there its waits after follows offers = record {
+    tallied = ap length follows.tallies ∙ length-map mid.records.actions tally_of;
     rollout = x;
     is_there = there;
     is_its = its;
     next_is = λ i. record {
       records = after i;
-      tallies = (ap (λ (rs : Records). map tally_of rs.actions) after ∙ sym tallies) i;
+      tallies = (ap (λ (rs : Records). map tally_of rs.actions) after ∙ sym follows.tallies) i;
       offers = λ t. (offers_after_group h c r g.number g.bounds t valid starts ∙ ap (λ rs. put_offers (offers_before_start h c) (group_offers rs r g.bounds) t) after
           ∙ ap (λ f. put_offers f (group_offers (with_group mid r x (started g)).records r g.bounds) t) (sym (λ i. λ u. offers u i))) i;
-      rules = (ap (λ (rs : Records). said_in rs.rollouts) after ∙ said_stays mid.records.rollouts r x (then_started x g) there refl ∙ sym rules) i;
+      rules = (ap (λ (rs : Records). said_in rs.rollouts) after ∙ said_stays mid.records.rollouts r x (then_started x g) there refl ∙ sym follows.rules) i;
+      numbers = (ap (λ (rs : Records). map numbers_of rs.actions) after ∙ sym follows.numbers) i;
     };
   }
     where
@@ -159,13 +167,14 @@ module _ (h : CommandList) (c : Command) (valid : IsValid (h ▸ c)) where
       }
 
   -- none is started
-  no_group : (next : Ledger) → records (h ▸ c) ≡ next.records → next.tallies ≡ map tally_of next.records.actions → ((t : Bytes) → next.offers t ≡ offers_before_start h c t) → next.rules ≡ said_in next.records.rollouts → StartsNoGroup (records h) (records (h ▸ c))
+  no_group : (next : Ledger) → records (h ▸ c) ≡ next.records → FollowsRecords next → ((t : Bytes) → next.offers t ≡ offers_before_start h c t) → StartsNoGroup (records h) (records (h ▸ c))
       → ledger_of (records (h ▸ c)) ≡ next
-  no_group next after tallies offers rules none = λ i. record {
+  no_group next after follows offers none = λ i. record {
     records = after i;
-    tallies = (ap (λ (rs : Records). map tally_of rs.actions) after ∙ sym tallies) i;
+    tallies = (ap (λ (rs : Records). map tally_of rs.actions) after ∙ sym follows.tallies) i;
     offers = λ t. (offers_after_no_group h c t valid (none_starts h c none) ∙ sym (offers t)) i;
-    rules = (ap (λ (rs : Records). said_in rs.rollouts) after ∙ sym rules) i;
+    rules = (ap (λ (rs : Records). said_in rs.rollouts) after ∙ sym follows.rules) i;
+    numbers = (ap (λ (rs : Records). map numbers_of rs.actions) after ∙ sym follows.numbers) i;
   }
 
 -- An accepted command whose last write starts a group, and one that starts none. Before it the records lack that start alone, each action has its numbers, and of all
@@ -175,15 +184,15 @@ module _ (h : CommandList) (c : Command) (valid : IsValid h) (formed : IsWellFor
   is_step = records_step h c valid accepted
 
   pub ends_with_group : (r : ℕ) (g : GroupRecord) (mid : Ledger) (x : RolloutRecord) → item_numbered mid.records.rollouts r ≡ Some x → item_numbered x.groups g.number ≡ Some g → Waits (records h) r g
-      → step_records (records h) c ≡ (with_group mid r x (started g)).records → mid.tallies ≡ map tally_of mid.records.actions → ((t : Bytes) → mid.offers t ≡ offers_before_start h c t) → mid.rules ≡ said_in mid.records.rollouts
+      → step_records (records h) c ≡ (with_group mid r x (started g)).records → FollowsRecords mid → ((t : Bytes) → mid.offers t ≡ offers_before_start h c t)
       → StartsGroup r g mid (ledger_of (step_records (records h) c))
-  ends_with_group r g mid x there its waits after tallies offers rules =
-      subst (λ (rs : Records). StartsGroup r g mid (ledger_of rs)) is_step (group_last h c (valid, formed, accepted) r g mid x there its waits (is_step ∙ after) tallies offers rules)
+  ends_with_group r g mid x there its waits after follows offers =
+      subst (λ (rs : Records). StartsGroup r g mid (ledger_of rs)) is_step (group_last h c (valid, formed, accepted) r g mid x there its waits (is_step ∙ after) follows offers)
 
-  pub ends_with_none : (next : Ledger) → step_records (records h) c ≡ next.records → next.tallies ≡ map tally_of next.records.actions → ((t : Bytes) → next.offers t ≡ offers_before_start h c t) → next.rules ≡ said_in next.records.rollouts
+  pub ends_with_none : (next : Ledger) → step_records (records h) c ≡ next.records → FollowsRecords next → ((t : Bytes) → next.offers t ≡ offers_before_start h c t)
       → StartsNoGroup (records h) (step_records (records h) c) → ledger_of (step_records (records h) c) ≡ next
-  ends_with_none next after tallies offers rules none =
-      sym (ap ledger_of is_step) ∙ no_group h c (valid, formed, accepted) next (is_step ∙ after) tallies offers rules (subst (λ (rs : Records). StartsNoGroup (records h) rs) (sym is_step) none)
+  ends_with_none next after follows offers none =
+      sym (ap ledger_of is_step) ∙ no_group h c (valid, formed, accepted) next (is_step ∙ after) follows offers (subst (λ (rs : Records). StartsNoGroup (records h) rs) (sym is_step) none)
 
 -- ---- commands on one rollout
 
@@ -203,8 +212,8 @@ module _ (h : CommandList) (c : Command) (valid : IsValid h) (formed : IsWellFor
   -- it starts no group
   pub sets_alone : starts_of y ≡ starts_of x → ledger_of (step_records (records h) c) ≡ with_rollouts (ledger_of (records h)) (set_numbered (records h).rollouts r y)
   sets_alone same =
-      ends_with_none h c valid formed accepted (with_rollouts (ledger_of (records h)) (set_numbered (records h).rollouts r y)) step refl calm
-      (sym (said_stays (records h).rollouts r x y there planned))
+      ends_with_none h c valid formed accepted (with_rollouts (ledger_of (records h)) (set_numbered (records h).rollouts r y)) step
+      (record { tallies = refl; rules = sym (said_stays (records h).rollouts r x y there planned); numbers = refl }) calm
       (λ q x' y' at still. keeps_starts (records h).rollouts (set_numbered (records h).rollouts r y) (same_but_for starts_of (records h).rollouts r x y there same) q x' y' at (sym (ap (λ (rs : Records). item_numbered rs.rollouts q) step) ∙ still))
 
   -- it makes z of the rollout, and then starts a group
@@ -212,5 +221,5 @@ module _ (h : CommandList) (c : Command) (valid : IsValid h) (formed : IsWellFor
       → StartsGroup r g (with_rollouts (ledger_of (records h)) (set_numbered (records h).rollouts r z)) (ledger_of (step_records (records h) c))
   starts_last z g its waits is =
       ends_with_group h c valid formed accepted r g (with_rollouts (ledger_of (records h)) (set_numbered (records h).rollouts r z)) z (set_is_there (records h).rollouts r x z there) its waits
-      (step ∙ ap (λ (xs : List RolloutRecord). record (records h) { rollouts = xs }) (ap (set_numbered (records h).rollouts r) is ∙ sym (set_twice r (records h).rollouts z (then_started z g)))) refl calm
-      (sym (said_stays (records h).rollouts r x z there (sym (ap (λ (w : RolloutRecord). w.plan) is) ∙ planned)))
+      (step ∙ ap (λ (xs : List RolloutRecord). record (records h) { rollouts = xs }) (ap (set_numbered (records h).rollouts r) is ∙ sym (set_twice r (records h).rollouts z (then_started z g))))
+      (record { tallies = refl; rules = sym (said_stays (records h).rollouts r x z there (sym (ap (λ (w : RolloutRecord). w.plan) is) ∙ planned)); numbers = refl }) calm

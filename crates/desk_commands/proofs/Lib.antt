@@ -16,6 +16,8 @@ pub mod OfferingLemmas
 pub mod ItemSteps
 pub mod EndingLemmas
 pub mod TellingLemmas
+pub mod ReportLemmas
+pub mod WorkLemmas
 pub mod GroupNumbers
 pub mod KnownActions
 pub mod ActingEnds

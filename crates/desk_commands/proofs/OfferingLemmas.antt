@@ -8,7 +8,7 @@ use Rattle.rollout_machine.specs.CommandList.{CommandList, ◌▸◌}
 use Rattle.rollout_machine.specs.Commands.{Bytes, Command}
 use Rattle.rollout_machine.specs.Offers.{Offer, first_offer, offer}
 use Rattle.rollout_machine.specs.StateWords.{has_started, is_for, is_started_in}
-use Rattle.rollout_machine.specs.Actions.{HistoryEntry}
+use Rattle.rollout_machine.specs.Reports.{Reported}
 use Rattle.rollout_machine.specs.Records.{Records}
 use Rattle.rollout_machine.specs.Validity.{IsValid}
 use Rattle.rollout_machine.specs.declared.records.ActionRecord.{ActionRecord}
@@ -82,11 +82,11 @@ others_offered : (rs : Records) (as' : List ActionRecord) (t : Bytes) (n : ℕ) 
 others_offered rs as' t n [] = refl
 others_offered rs as' t n (x ∷ xs) = ap (λ o. cond (is_none x.outcome && (is_for rs t x && has_started rs x)) (Some (record { action = n; canceling = x.canceling })) o) (others_offered rs as' t (suc n) xs)
 
-started_alike : (o : Option RolloutRecord) (a : ActionRecord) (hs : List HistoryEntry) → is_started_in o (record a { history = hs }) ≡ is_started_in o a
+started_alike : (o : Option RolloutRecord) (a : ActionRecord) (hs : List Reported) → is_started_in o (record a { history = hs }) ≡ is_started_in o a
 started_alike None a hs = refl
 started_alike (Some x) a hs = refl
 
-still_offered : (rs : Records) (as' : List ActionRecord) (t : Bytes) (hs : List HistoryEntry) (a : ActionRecord) (n k : ℕ) (xs : List ActionRecord) → slice_get xs k ≡ Some a → first_offer (record rs { actions = as' }) t n (set xs k (record a { history = hs })) ≡ first_offer rs t n xs
+still_offered : (rs : Records) (as' : List ActionRecord) (t : Bytes) (hs : List Reported) (a : ActionRecord) (n k : ℕ) (xs : List ActionRecord) → slice_get xs k ≡ Some a → first_offer (record rs { actions = as' }) t n (set xs k (record a { history = hs })) ≡ first_offer rs t n xs
 still_offered rs as' t hs a n k [] at = cc
 still_offered rs as' t hs a n zero (x ∷ xs) at =
     let same : a ≡ x = cc in
@@ -95,6 +95,6 @@ still_offered rs as' t hs a n zero (x ∷ xs) at =
 still_offered rs as' t hs a n (suc k) (x ∷ xs) at = ap (λ o. cond (is_none x.outcome && (is_for rs t x && has_started rs x)) (Some (record { action = n; canceling = x.canceling })) o) (still_offered rs as' t hs a (suc n) k xs at)
 
 -- whatever is told of an action, its target is offered the same
-pub offer_stays : (rs : Records) (k : ℕ) (a : ActionRecord) (hs : List HistoryEntry) (t : Bytes) → item_numbered rs.actions k ≡ Some a → offer (record rs { actions = set_numbered rs.actions k (record a { history = hs }) }) t ≡ offer rs t
+pub offer_stays : (rs : Records) (k : ℕ) (a : ActionRecord) (hs : List Reported) (t : Bytes) → item_numbered rs.actions k ≡ Some a → offer (record rs { actions = set_numbered rs.actions k (record a { history = hs }) }) t ≡ offer rs t
 offer_stays rs zero a hs t at = cc
 offer_stays rs (suc k) a hs t at = still_offered rs (set rs.actions k (record a { history = hs })) t hs a 1 k rs.actions at

@@ -25,12 +25,13 @@ use Rattle.rollout_model.specs.Rules.{is_number}
 use Rattle.rollout_model.specs.declared.refusal.Refusal.TheVariants.{NotFound, WrongState}
 use Rattle.campaign_core.proofs.SoundLemmas.{records_are_sound}
 use Rattle.desk_records.specs.Actions.{actor_of, tally_of}
+use Rattle.desk_records.specs.FeedbackNumbers.{numbers_of}
 use Rattle.desk_records.specs.Holds.{Ledger, ledger_of}
-use Rattle.desk_records.specs.LedgerSteps.{AddsAction, SetsRollout, scheduled, set_numbered, turned, with_actions, with_groups, with_rollouts}
+use Rattle.desk_records.specs.LedgerSteps.{AddsAction, SetsRollout, scheduled, set_numbered, turned, with_actions, with_groups, with_numbers, with_rollouts}
 use Rattle.desk_records.specs.Rollouts.{members_of}
 use Rattle.desk_reads.specs.declared.rollouts.SeenRollout.{SeenRollout}
 use Rattle.desk_commands.specs.GroupStarts.{StartsGroup, started}
-use Rattle.desk_commands.specs.Starts.{AddsActions, ReadsMembers, StartsWhole, new_for}
+use Rattle.desk_commands.specs.Starts.{AddsActions, ReadsMembers, StartsWhole, and_actions, new_for}
 use Rattle.desk_commands.proofs.ItemSteps.{set_twice}
 use Rattle.desk_commands.proofs.LedgerEnds.{changed_at, ends_with_group, rollout_of, said_stays, set_is_there}
 use Rattle.desk_commands.proofs.StandingLemmas.{Found}
@@ -43,11 +44,14 @@ all_members r count l members is size = is ∙ take_all count (members_of (item_
 -- ---- the actions, one by one
 
 pub no_action : (r last : ℕ) (members : List Bytes) (l next : Ledger) → AddsActions r last members 0 l next → next ≡ l
-no_action r last members l next h = h.next_is ∙ (λ i. with_actions l (append-nil l.records.actions i) (append-nil l.tallies i))
+no_action r last members l next h = h.next_is ∙ (λ i. with_numbers (with_actions l (append-nil l.records.actions i) (append-nil l.tallies i)) (append-nil l.numbers i))
 
 as_many : {X : Type 0} (f : ℕ → X) (a n : ℕ) → length (each_from f a n) ≡ n
 as_many f a zero = refl
 as_many f a (suc n) = ap suc (as_many f (suc a) n)
+
+one_behind : {X : Type 0} (f : ActionRecord → X) (xs : List X) (as' : List ActionRecord) (a : ActionRecord) → xs ++ map f (as' ++ a ∷ []) ≡ (xs ++ map f as') ++ f a ∷ []
+one_behind f xs as' a = ap (λ ys. xs ++ ys) (map-append f as' (a ∷ [])) ∙ sym (append_assoc xs (map f as') (f a ∷ []))
 
 pub one_action : (r last : ℕ) (members : List Bytes) (id : Bytes) (i number : ℕ) → i < length members → id ≡ get_or members i id → number ≡ last + (i + 1) → (l next : Ledger) → AddsActions r last members (i + 1) l next
     → (mid : Ledger) × AddsActions r last members i l mid × AddsAction number r (i + 1) id mid next
@@ -59,7 +63,7 @@ one_action r last members id i number within is numbered l next h =
     let place : i + 1 ≡ suc i = omega arith in
     let actor : actor_of l.records.rollouts (scheduled r (i + 1)) ≡ id =
     ap (λ o. member_in o (i + 1)) h.is_there ∙ ap (λ ids. unwrap_or (item_numbered ids (i + 1)) []) (sym h.members_are) ∙ ap (λ k. unwrap_or (item_numbered members k) []) place ∙ ap (λ o. unwrap_or o []) there in (
-      with_actions l (as' ++ new) (l.tallies ++ map tally_of new),
+      and_actions l new,
       record { tallied = h.tallied; last_is = h.last_is; rollout = h.rollout; is_there = h.is_there; members_are = h.members_are; next_is = refl },
       record {
         tallied = length-append l.tallies (map tally_of new) ∙ ap (λ k. length l.tallies + k) (length-map new tally_of) ∙ ap (λ k. k + length new) h.tallied ∙ sym (length-append as' new);
@@ -70,8 +74,8 @@ one_action r last members id i number within is numbered l next h =
             omega (arith, numbered, size, count, before);
         id_is = sym actor;
         next_is =
-            h.next_is ∙ (λ j. with_actions l (as' ++ more j) (l.tallies ++ map tally_of (more j)))
-            ∙ (λ j. with_actions l (sym (append_assoc as' new (scheduled r (i + 1) ∷ [])) j) ((ap (λ ts. l.tallies ++ ts) (map-append tally_of new (scheduled r (i + 1) ∷ [])) ∙ sym (append_assoc l.tallies (map tally_of new) _)) j));
+            h.next_is ∙ ap (and_actions l) more
+            ∙ (λ j. with_numbers (with_actions l (sym (append_assoc as' new (scheduled r (i + 1) ∷ [])) j) (one_behind tally_of l.tallies new (scheduled r (i + 1)) j)) (one_behind numbers_of l.numbers new (scheduled r (i + 1)) j));
       },
     )
   where
@@ -177,8 +181,12 @@ starts_whole h valid r seen g last count members number found accepted first siz
   starts =
       ends_with_group h (Start r) valid number accepted r g acting_ledger y (set_is_there rs.rollouts r x y there) (ap (item_numbered x.groups) fg.number ∙ fg.its)
       (record { rollout = x; is_there = there; group = g; is_its = ap (item_numbered x.groups) fg.number ∙ fg.its; bounds = refl; waits = fg.waits (unstarted rs r x there accepted) })
-      (λ i. record rs { rollouts = rolls i; actions = acts i }) (sym (map-append tally_of rs.actions (new_for r (length members)))) (λ t. refl)
-      (sym (said_stays rs.rollouts r x y there refl));
+      (λ i. record rs { rollouts = rolls i; actions = acts i })
+      (record {
+        tallies = sym (map-append tally_of rs.actions (new_for r (length members)));
+        rules = sym (said_stays rs.rollouts r x y there refl);
+        numbers = sym (map-append numbers_of rs.actions (new_for r (length members)));
+      }) (λ t. refl);
 }
   where
     rs : Records
@@ -206,7 +214,7 @@ starts_whole h valid r seen g last count members number found accepted first siz
     turned_ledger = with_rollouts (ledger_of rs) (set_numbered rs.rollouts r y)
 
     acting_ledger : Ledger
-    acting_ledger = with_actions turned_ledger (rs.actions ++ new_for r (length members)) (map tally_of rs.actions ++ map tally_of (new_for r (length members)))
+    acting_ledger = and_actions turned_ledger (new_for r (length members))
 
     begins : begin_rollout x ≡ z
     begins =

@@ -6,7 +6,8 @@ use Rattle.rollout_machine.specs.ByteStrings.{item_numbered, same_bytes}
 use Rattle.rollout_machine.specs.Commands.{Bytes, Credential}
 use Rattle.rollout_machine.specs.GroupRules.{GroupRule}
 use Rattle.rollout_machine.specs.Records.{Records}
-use Rattle.rollout_machine.specs.Reports.{Reported, Standing}
+use Rattle.rollout_machine.specs.Reports.{Reported}
+use Rattle.rollout_machine.specs.declared.standing.Standing.{Standing}
 use Rattle.rollout_machine.specs.Verdicts.{is_known, target_of}
 use Rattle.rollout_machine.specs.declared.records.ActionRecord.{ActionRecord}
 use Rattle.rollout_machine.specs.declared.records.GroupRecord.{GroupRecord}

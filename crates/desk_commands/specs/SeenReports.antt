@@ -2,7 +2,8 @@
 use Rattle.std.specs.Prelude.{◌≡◌, ℕ, ◌+◌, true, cond, List, length, Option, Some, None, is_none, is_some, Result, Ok, Err}
 use Rattle.rollout_machine.specs.ByteStrings.{item_numbered}
 use Rattle.rollout_machine.specs.Records.{Records}
-use Rattle.rollout_machine.specs.Reports.{HistoryEntry, Reported, Standing, against, standing_of}
+use Rattle.rollout_machine.specs.Reports.{HistoryEntry, Reported, against, standing_of}
+use Rattle.rollout_machine.specs.declared.standing.Standing.{Standing}
 use Rattle.rollout_machine.specs.declared.records.ActionRecord.{ActionRecord}
 use Rattle.campaign_core.specs.RolloutChecks.{says_fresh}
 use Rattle.desk_records.specs.Actions.{history_of}
@@ -39,12 +40,16 @@ asked seen new = with_number new (number_asked seen new.number)
 
 -- ---- what it costs
 
--- where it isn't new, the entry that bears the last number was read
-abbrev pub more_reads : {A E : Type 0} → (A → Standing) → Result A E → ℕ
-more_reads standing (Ok seen) = cond (says_fresh (standing seen)) 0 1
-more_reads standing (Err e) = 1
+abbrev pub standing_in : {A E : Type 0} → (A → Standing) → Result A E → Option Standing
+standing_in standing (Ok seen) = Some (standing seen)
+standing_in standing (Err e) = None
 
--- where it bears a number, the last one was read
-abbrev pub reads_for : {A E : Type 0} → Option ℕ → (A → Standing) → Result A E → ℕ
-reads_for None standing result = 0
-reads_for (Some number) standing result = 1 + more_reads standing result
+-- the entry that bears the last number is read, but where the report is new
+abbrev pub more_reads : Option Standing → ℕ
+more_reads None = 1
+more_reads (Some standing) = cond (says_fresh standing) 0 1
+
+-- the last number is read where it bears one itself
+abbrev pub reads_for : Option ℕ → Option Standing → ℕ
+reads_for None standing = 0
+reads_for (Some number) standing = 1 + more_reads standing

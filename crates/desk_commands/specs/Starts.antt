@@ -7,8 +7,9 @@ use Rattle.rollout_machine.specs.declared.records.ActionRecord.{ActionRecord}
 use Rattle.rollout_machine.specs.declared.records.GroupRecord.{GroupRecord}
 use Rattle.rollout_machine.specs.declared.records.RolloutRecord.{RolloutRecord}
 use Rattle.desk_records.specs.Actions.{tally_of}
+use Rattle.desk_records.specs.FeedbackNumbers.{numbers_of}
 use Rattle.desk_records.specs.Holds.{Ledger}
-use Rattle.desk_records.specs.LedgerSteps.{SetsRollout, scheduled, with_actions}
+use Rattle.desk_records.specs.LedgerSteps.{SetsRollout, scheduled, with_actions, with_numbers}
 use Rattle.desk_records.specs.Rollouts.{members_of}
 use Rattle.desk_reads.specs.declared.rollouts.SeenRollout.{SeenRollout}
 use Rattle.desk_commands.specs.GroupStarts.{StartsGroup}
@@ -21,6 +22,10 @@ ReadsMembers r count l members = length (members_of (item_numbered l.records.rol
 abbrev pub new_for : ℕ → ℕ → List ActionRecord
 new_for r count = each_from (scheduled r) 1 count
 
+-- actions are put behind those that are there, each with its tally and its numbers
+abbrev pub and_actions : Ledger → List ActionRecord → Ledger
+and_actions l new = with_numbers (with_actions l (l.records.actions ++ new) (l.tallies ++ map tally_of new)) (l.numbers ++ map numbers_of new)
+
 -- actions of the first members, so many, are put behind those that are there, which have these numbers up to the last
 pub record AddsActions (r last : ℕ) (members : List Bytes) (count : ℕ) (l next : Ledger) : Type 0 where
   pub tallied : length l.tallies ≡ length l.records.actions
@@ -28,7 +33,7 @@ pub record AddsActions (r last : ℕ) (members : List Bytes) (count : ℕ) (l ne
   pub rollout : RolloutRecord
   pub is_there : item_numbered l.records.rollouts r ≡ Some rollout
   pub members_are : members ≡ rollout.members
-  pub next_is : next ≡ with_actions l (l.records.actions ++ new_for r count) (l.tallies ++ map tally_of (new_for r count))
+  pub next_is : next ≡ and_actions l (new_for r count)
 
 -- the rollout that is seen is started, each member has an action, and then its first group starts
 pub record StartsWhole (r : ℕ) (seen : SeenRollout) (first : GroupRecord) (last : ℕ) (members : List Bytes) (l next : Ledger) : Type 0 where

@@ -2,7 +2,7 @@
 
 ghost use Rattle.std.specs.Prelude.{◌≡◌, ◌+◌, Some};
 ghost use Rattle.rollout_machine.specs.Reports.{reported, same_cancel, same_deployment, same_entry, same_note, same_said};
-ghost use Rattle.desk_commands.specs.SeenReports.{StandsAgainst, StandsAt, asked, more_reads, number_asked, reads_for, with_number};
+ghost use Rattle.desk_commands.specs.SeenReports.{StandsAgainst, StandsAt, asked, more_reads, number_asked, reads_for, standing_in, with_number};
 ghost use Rattle.desk_reads.specs.AtLists.{FindsAtListsIn};
 ghost use Rattle.desk_store.specs.Counting.{AddsIn};
 ghost use Rattle.desk_store.specs.Changing.{StaysIn};
@@ -88,7 +88,7 @@ fn stand_against<S: Alter, W: Copy>(
     ensures stays { StaysIn S.Store change.old change.new result }
     ensures reads { FindsAtListsIn S.Store change.old change.new result
         (StandsAgainst given.now.action last.now number (reported (λ word. said) given.now).entry) }
-    ensures work { AddsIn (more_reads (λ standing. standing) result) (more_reads (λ standing. standing) result) change.old change.new }
+    ensures work { AddsIn (more_reads (standing_in (λ it. it) result)) (more_reads (standing_in (λ it. it) result)) change.old change.new }
 {
     if last.number.get() < number.get() {
         return Ok(Standing::Fresh);
@@ -116,7 +116,7 @@ fn see_numbered<S: Alter, W: Copy>(
     ensures stays { StaysIn S.Store change.old change.new result }
     ensures reads { FindsAtListsIn S.Store change.old change.new result
         (StandsAt given.now.action (with_number (reported (λ word. said) given.now) (Some number))) }
-    ensures work { AddsIn (1 + more_reads (λ seen. seen.standing) result) (1 + more_reads (λ seen. seen.standing) result) change.old change.new }
+    ensures work { AddsIn (1 + more_reads (standing_in (λ seen. seen.standing) result)) (1 + more_reads (standing_in (λ seen. seen.standing) result)) change.old change.new }
 {
     let found = change.read_last_number(given.action)?;
     match &found {
@@ -157,8 +157,8 @@ pub(crate) fn see_report<S: Alter, W: Copy>(
     ensures stays { StaysIn S.Store change.old change.new result }
     ensures reads { FindsAtListsIn S.Store change.old change.new result
         (StandsAt given.now.action (asked action.now (reported (λ word. said) given.now))) }
-    ensures work { AddsIn (reads_for given.now.number (λ seen. seen.standing) result)
-        (reads_for given.now.number (λ seen. seen.standing) result) change.old change.new }
+    ensures work { AddsIn (reads_for given.now.number (standing_in (λ seen. seen.standing) result))
+        (reads_for given.now.number (standing_in (λ seen. seen.standing) result)) change.old change.new }
 {
     match number_asked(action, given.number) {
         Some(number) => see_numbered(change, given, said, number),

@@ -5,7 +5,7 @@ ghost use Rattle.sql_calls.specs.declared.fault.Fault.TheVariants.{Store};
 ghost use Rattle.campaign_core.specs.OwnGroups.{waits};
 ghost use Rattle.desk_store.specs.Counting.{AddsIn};
 ghost use Rattle.rollout_machine.specs.Reports.{reported};
-ghost use Rattle.desk_commands.specs.SeenReports.{reads_for};
+ghost use Rattle.desk_commands.specs.SeenReports.{reads_for, standing_in};
 ghost use Rattle.desk_commands.specs.SeenActions.{MaySee, SeesIn, SeesFeedback, SeesTarget, action_view_seen};
 ghost use Rattle.desk_commands.specs.SeenActions.{cancel_view_seen, only_of, only_started, own_seen, feedback_view_seen};
 ghost use Rattle.desk_store.specs.Changing.{FindsIn, FindsLedger, StaysIn};
@@ -157,8 +157,8 @@ pub(crate) fn see_feedback<S: Alter, W: Copy>(
     ensures stays { StaysIn S.Store change.old change.new result }
     ensures reads { FindsIn S.Store change.old change.new result
         (SeesFeedback given.now.credential given.now.action (reported (λ word. said) given.now)) }
-    ensures work { AddsIn (5 + reads_for given.now.number (λ seen. seen.report.standing) result)
-        (6 + reads_for given.now.number (λ seen. seen.report.standing) result) change.old change.new }
+    ensures work { AddsIn (5 + reads_for given.now.number (standing_in (λ seen. seen.report.standing) result))
+        (6 + reads_for given.now.number (standing_in (λ seen. seen.report.standing) result)) change.old change.new }
 {
     let device = &given.credential;
     let knows = knows_device(change, device)?;

@@ -1,21 +1,25 @@
 use Rattle.desk_store.proofs.LedgersOfRecords.{ledger_made}
 use Rattle.desk_commands.proofs.ComposeLemmas.{accepted_at, refused_at}
-use Rattle.std.proofs.Common.{[], ◌∷◌, refl}
+use Rattle.std.proofs.Common.{refl}
 use Rattle.campaign_core.proofs.SoundLemmas.{records_are_sound}
-use Rattle.rollout_machine.specs.Actions.{OfDeployment, entry_of, outcome_of_deployment}
+use Rattle.rollout_machine.specs.Actions.{outcome_of_deployment}
 use Rattle.rollout_machine.specs.Commands.{Feedback}
 use Rattle.rollout_machine.specs.Records.{records}
+use Rattle.rollout_machine.specs.Reports.{OfDeployment, reported}
 use Rattle.campaign_core.specs.declared.rollout_checks.RolloutChange.TheVariants as change
 use Rattle.campaign_core.specs.declared.rollout_checks.RolloutCommandView.TheVariants as view
+use Rattle.desk_commands.specs.ActionSteps.{does_act}
 use Rattle.desk_commands.specs.SeenActions.{feedback_view_seen}
-use Rattle.desk_commands.proofs.ActingSteps.{feedback_taken}
+use Rattle.desk_commands.proofs.ActingSteps.{acts_on_fresh, feedback_taken}
 use Rattle.desk_commands.proofs.KnownActions.{feedback_viewed}
+use Rattle.desk_commands.proofs.WorkLemmas.{seen_within, taken_within}
 use Rattle.desk_commands.proofs.actions.take_feedback.Goals as goal
 
 pub returns-in-Err-clause-steps : goal.returns-in-Err-clause-steps
 returns-in-Err-clause-steps g c =
+    let given = c.args.given.now in
     refused_at c.in_ok-seen.ensures.reads
-    (λ h valid w. (rw c.feedback_view.ensures at c.in-Err.ensures.decides) (records h) (records_are_sound h valid) (feedback_viewed h valid c.args.given.now.action c.args.given.now.credential c.in_ok-seen.seen w))
+    (λ h valid w. (rw c.feedback_view.ensures at c.in-Err.ensures.decides) (records h) (records_are_sound h valid) (feedback_viewed h valid given.action given.credential (reported OfDeployment given) c.in_ok-seen.seen w))
 
 pub returns-clause-steps : goal.returns-clause-steps
 returns-clause-steps g c =
@@ -23,6 +27,18 @@ returns-clause-steps g c =
     let seen = c.in_ok-seen.seen in
     let decides = rw c.feedback_view.ensures at c.in-Ok.ensures.decides in
     let makes = rw c.feedback_view.ensures at c.in-Ok.ensures.makes in
-    let taken = feedback_taken seen c.in-Ok.accepted c.in_ok-told.told given.credential given.action (Feedback given) (entry_of OfDeployment given ∷ []) (view.Feedback (feedback_view_seen seen)) change.Feedback (outcome_of_deployment given.word) (λ b. b)
-    (λ o. refl) (λ rs w. w) (λ o old new leads. leads) refl c.feedback_is_well_formed.ensures decides makes c.in_ok-told.ensures in
-    accepted_at c.in_ok-seen.ensures.reads _ (λ h valid w. (taken h valid w).1) (ledger_made _ c.in_ok-act_by.ensures.writes) _ (λ h valid w. ((taken h valid w).0, refl))
+    let taken = feedback_taken seen c.in-Ok.accepted given.credential given.action (reported OfDeployment given) (Feedback given) (view.Feedback (feedback_view_seen seen)) change.Feedback (outcome_of_deployment given.word) (λ b. b) makes
+    (λ o. refl) (λ rs w. w) (λ o old new leads. leads) refl c.feedback_is_well_formed.ensures decides in
+    accepted_at c.in_ok-seen.ensures.reads _ (λ h valid w. (taken h valid w).1) (ledger_made _ c.in_ok-write_feedback.ensures.writes) _ (λ h valid w. ((taken h valid w).0, refl))
+
+-- the report is seen, and told where it is new
+within : goal.returns-clause-work
+within g c =
+    let given = c.args.given.now in
+    let seen = c.in_ok-seen.seen in
+    let makes = rw c.feedback_view.ensures at c.in-Ok.ensures.makes in
+    let fresh = acts_on_fresh seen c.in-Ok.accepted given.credential given.action (reported OfDeployment given) (Feedback given) (view.Feedback (feedback_view_seen seen)) change.Feedback (outcome_of_deployment given.word) (λ b. b) makes (λ o. refl) in
+    taken_within given.number seen.report.standing (does_act c.in-Ok.accepted) fresh c.in_ok-seen.ensures.work c.in_ok-write_feedback.ensures.work
+
+pub returns-clause-work : goal.returns-clause-work
+returns-clause-work = within

@@ -1,0 +1,97 @@
+-- How a report stands among what its action has heard, by the last number.
+use Rattle.std.proofs.Common.{◌≡◌, ℕ, suc, Bool, true, false, cond, List, [], ◌∷◌, length, Option, Some, None, option_map, refl, sym, ap, ◌∙◌, subst, nat_eq, nat_lt, ◌&&◌}
+use Rattle.std.specs.Option.{is_none}
+use Rattle.std.specs.List.{last_or}
+use Rattle.std.proofs.lemmas.Bool.{false≢true}
+use Rattle.rollout_machine.specs.ByteStrings.{item_numbered}
+use Rattle.rollout_machine.specs.Records.{Records}
+use Rattle.rollout_machine.specs.Reports.{HistoryEntry, Reported, against, entries_in, same_entry, standing_of}
+use Rattle.rollout_machine.specs.declared.standing.Standing.{Standing}
+use Rattle.rollout_machine.specs.declared.standing.Standing.TheVariants.{Fresh, Again, Old}
+use Rattle.rollout_machine.specs.declared.records.ActionRecord.{ActionRecord}
+use Rattle.rollout_machine.proofs.Actions.{numbered_map}
+use Rattle.desk_records.specs.Actions.{history_of}
+use Rattle.desk_records.specs.FeedbackNumbers.{last_number, numbers_numbered, numbers_of}
+use Rattle.desk_records.specs.Holds.{ledger_of}
+use Rattle.desk_records.specs.Parts.{parts_of}
+use Rattle.desk_records.specs.declared.number_row.LastNumber.{LastNumber}
+use Rattle.desk_records.specs.declared.number_row.PlacedNumber.{PlacedNumber}
+use Rattle.desk_records.proofs.NumberLists.{BearsLast, bears_last}
+use Rattle.desk_commands.specs.SeenReports.{StandsAgainst, StandsAmong, StandsAt, number_asked}
+use Rattle.desk_commands.specs.declared.reports.SeenReport.{SeenReport}
+use Rattle.desk_commands.specs.declared.seen_actions.SeenAction.{SeenAction}
+
+-- ---- the last number
+
+some_last : {X : Type 0} (x : X) (xs : List X) → last_or (Some x) xs ≡ None → ⊥
+some_last x [] is = cc
+some_last x (y ∷ ys) is = some_last y ys is
+
+none_last : {X : Type 0} (xs : List X) → last_or None xs ≡ None → length xs ≡ 0
+none_last [] is = refl
+none_last (x ∷ xs) is = absurd (some_last x xs is)
+
+numbers_at : (r : Records) (k : ℕ) (a : ActionRecord) → item_numbered r.actions k ≡ Some a → numbers_numbered (ledger_of r).numbers k ≡ numbers_of a
+numbers_at r k a at = ap (parts_of (λ (its : List PlacedNumber). its)) (numbered_map numbers_of r.actions k ∙ ap (option_map numbers_of) at)
+
+module _ (a : ActionRecord) (entry : HistoryEntry) (n : ℕ) where
+  abbrev new : Reported
+  new = record { entry = entry; number = Some n }
+
+  stands_by : (last : LastNumber) (standing : Standing) → last_number (numbers_of a) ≡ Some last
+      → ((e : HistoryEntry) → item_numbered (entries_in a.history) last.it.sequence ≡ Some e → standing ≡ against (Some (record { entry = e; number = last.it.number })) n entry)
+      → StandsAmong a.history new (record { standing = standing; numbers = last.place })
+  stands_by last standing is means = go (last_or None (numbers_of a)) refl (bears_last 1 a.history) is
+    where
+      go : (o : Option PlacedNumber) → last_or None (numbers_of a) ≡ o → BearsLast 1 a.history o → option_map (λ it. record { place = length (numbers_of a); it = it }) o ≡ Some last
+          → StandsAmong a.history new (record { standing = standing; numbers = last.place })
+      go None at b is = cc
+      go (Some it) at b is =
+          let same : record { place = length (numbers_of a); it = it } ≡ last = cc in
+          let there : item_numbered (entries_in a.history) it.sequence ≡ Some b.reported.entry =
+          ap (item_numbered (entries_in a.history)) b.sequence_is ∙ numbered_map (λ (r : Reported). r.entry) a.history (suc b.index) ∙ ap (option_map (λ (r : Reported). r.entry)) b.got in
+          record {
+            standing = means b.reported.entry (ap (λ (l : LastNumber). item_numbered (entries_in a.history) l.it.sequence) (sym same) ∙ there)
+                ∙ ap (λ (l : LastNumber). against (Some (record { entry = b.reported.entry; number = l.it.number })) n entry) (sym same)
+                ∙ ap (λ o. against o n entry) (sym b.bears);
+            numbers = λ bears. ap (λ (l : LastNumber). l.place) (sym same);
+          }
+
+  stands_alone : last_number (numbers_of a) ≡ None → StandsAmong a.history new (record { standing = Fresh; numbers = 0 })
+  stands_alone is = go (last_or None (numbers_of a)) refl (bears_last 1 a.history) is
+    where
+      go : (o : Option PlacedNumber) → last_or None (numbers_of a) ≡ o → BearsLast 1 a.history o → option_map (λ it. record { place = length (numbers_of a); it = it }) o ≡ None → StandsAmong a.history new (record { standing = Fresh; numbers = 0 })
+      go None at b is = record { standing = ap (λ o. against o n entry) (sym b); numbers = λ bears. sym (none_last (numbers_of a) at) }
+      go (Some it) at b is = cc
+
+module _ (r : Records) (k n : ℕ) (entry : HistoryEntry) where
+  pub stands_at : (last : LastNumber) (standing : Standing) → Some last ≡ last_number (numbers_numbered (ledger_of r).numbers k) → StandsAgainst k last.it n entry r standing
+      → StandsAt k (record { entry = entry; number = Some n }) r (record { standing = standing; numbers = last.place })
+  stands_at last standing is means a at =
+      stands_by a entry n last standing (ap last_number (sym (numbers_at r k a at)) ∙ sym is) (λ e there. means e (ap (λ o. item_numbered (history_of o) last.it.sequence) at ∙ there))
+
+  pub none_at : None ≡ last_number (numbers_numbered (ledger_of r).numbers k) → StandsAt k (record { entry = entry; number = Some n }) r (record { standing = Fresh; numbers = 0 })
+  none_at is a at = stands_alone a entry n (ap last_number (sym (numbers_at r k a at)) ∙ sym is)
+
+pub unnumbered_at : (r : Records) (k : ℕ) (entry : HistoryEntry) → StandsAt k (record { entry = entry; number = None }) r (record { standing = Fresh; numbers = 0 })
+unnumbered_at r k entry a at = record { standing = refl; numbers = λ bears. absurd (false≢true bears) }
+
+pub number_given : (o : Option SeenAction) (number : Option ℕ) (n : ℕ) → number_asked o number ≡ Some n → number ≡ Some n
+number_given None number n is = cc
+number_given (Some s) number n is = go s.action.outcome is
+  where
+    go : {X : Type 0} (o : Option X) → cond (is_none o) number None ≡ Some n → number ≡ Some n
+    go None is = is
+    go (Some x) is = cc
+
+-- ---- against the last one
+
+module _ (last n : ℕ) (entry new : HistoryEntry) where
+  pub greater : nat_lt last n ≡ true → Fresh ≡ against (Some (record { entry = entry; number = last })) n new
+  greater is = sym (ap (λ b. cond b Fresh (cond (nat_eq last n && same_entry entry new) Again Old)) is)
+
+  pub lesser : nat_lt last n ≡ false → nat_eq last n ≡ false → Old ≡ against (Some (record { entry = entry; number = last })) n new
+  lesser over other = sym (λ i. cond (over i) Fresh (cond (other i && same_entry entry new) Again Old))
+
+  pub equal : (same : Bool) → nat_lt last n ≡ false → nat_eq last n ≡ true → same ≡ same_entry entry new → cond same Again Old ≡ against (Some (record { entry = entry; number = last })) n new
+  equal same over is both = λ i. cond (sym over i) Fresh (cond (sym is i && both i) Again Old)
