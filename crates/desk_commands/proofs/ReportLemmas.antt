@@ -1,8 +1,9 @@
 -- How a report stands among what its action has heard, by the last number.
-use Rattle.std.proofs.Common.{◌≡◌, ℕ, suc, Bool, true, false, cond, List, [], ◌∷◌, length, Option, Some, None, option_map, refl, sym, ap, ◌∙◌, subst, nat_eq, nat_lt, ◌&&◌}
+use Rattle.std.proofs.Common.{◌≡◌, ℕ, suc, Bool, true, false, cond, List, [], ◌∷◌, length, Option, Some, None, option_map, refl, sym, ap, ◌∙◌, subst, nat_eq, nat_lt, ◌&&◌, ◌≤◌, arith}
 use Rattle.std.specs.Option.{is_none}
 use Rattle.std.specs.List.{last_or}
 use Rattle.std.proofs.lemmas.Bool.{false≢true}
+use Rattle.std.proofs.lemmas.Bool.Decides.{nat_tests}
 use Rattle.rollout_machine.specs.ByteStrings.{item_numbered}
 use Rattle.rollout_machine.specs.Records.{Records}
 use Rattle.rollout_machine.specs.Reports.{HistoryEntry, Reported, against, entries_in, same_entry, standing_of}
@@ -43,13 +44,13 @@ module _ (a : ActionRecord) (entry : HistoryEntry) (n : ℕ) where
       → StandsAmong a.history new (record { standing = standing; numbers = last.place })
   stands_by last standing is means = go (last_or None (numbers_of a)) refl (bears_last 1 a.history) is
     where
-      go : (o : Option PlacedNumber) → last_or None (numbers_of a) ≡ o → BearsLast 1 a.history o → option_map (λ it. record { place = length (numbers_of a); it = it }) o ≡ Some last
+      go : (o : Option PlacedNumber) → last_or None (numbers_of a) ≡ o → BearsLast 1 a.history o → option_map {U = LastNumber} (λ it. record { place = length (numbers_of a); it = it }) o ≡ Some last
           → StandsAmong a.history new (record { standing = standing; numbers = last.place })
       go None at b is = cc
       go (Some it) at b is =
           let same : record { place = length (numbers_of a); it = it } ≡ last = cc in
           let there : item_numbered (entries_in a.history) it.sequence ≡ Some b.reported.entry =
-          ap (item_numbered (entries_in a.history)) b.sequence_is ∙ numbered_map (λ (r : Reported). r.entry) a.history (suc b.index) ∙ ap (option_map (λ (r : Reported). r.entry)) b.got in
+          ap (item_numbered (entries_in a.history)) (let at : it.sequence ≡ suc b.index = omega (arith, b.sequence_is) in at) ∙ numbered_map (λ (r : Reported). r.entry) a.history (suc b.index) ∙ ap (option_map (λ (r : Reported). r.entry)) b.got in
           record {
             standing = means b.reported.entry (ap (λ (l : LastNumber). item_numbered (entries_in a.history) l.it.sequence) (sym same) ∙ there)
                 ∙ ap (λ (l : LastNumber). against (Some (record { entry = b.reported.entry; number = l.it.number })) n entry) (sym same)
@@ -60,7 +61,7 @@ module _ (a : ActionRecord) (entry : HistoryEntry) (n : ℕ) where
   stands_alone : last_number (numbers_of a) ≡ None → StandsAmong a.history new (record { standing = Fresh; numbers = 0 })
   stands_alone is = go (last_or None (numbers_of a)) refl (bears_last 1 a.history) is
     where
-      go : (o : Option PlacedNumber) → last_or None (numbers_of a) ≡ o → BearsLast 1 a.history o → option_map (λ it. record { place = length (numbers_of a); it = it }) o ≡ None → StandsAmong a.history new (record { standing = Fresh; numbers = 0 })
+      go : (o : Option PlacedNumber) → last_or None (numbers_of a) ≡ o → BearsLast 1 a.history o → option_map {U = LastNumber} (λ it. record { place = length (numbers_of a); it = it }) o ≡ None → StandsAmong a.history new (record { standing = Fresh; numbers = 0 })
       go None at b is = record { standing = ap (λ o. against o n entry) (sym b); numbers = λ bears. sym (none_last (numbers_of a) at) }
       go (Some it) at b is = cc
 
@@ -86,12 +87,12 @@ number_given (Some s) number n is = go s.action.outcome is
 
 -- ---- against the last one
 
-module _ (last n : ℕ) (entry new : HistoryEntry) where
-  pub greater : nat_lt last n ≡ true → Fresh ≡ against (Some (record { entry = entry; number = last })) n new
-  greater is = sym (ap (λ b. cond b Fresh (cond (nat_eq last n && same_entry entry new) Again Old)) is)
-
-  pub lesser : nat_lt last n ≡ false → nat_eq last n ≡ false → Old ≡ against (Some (record { entry = entry; number = last })) n new
-  lesser over other = sym (λ i. cond (over i) Fresh (cond (other i && same_entry entry new) Again Old))
-
-  pub equal : (same : Bool) → nat_lt last n ≡ false → nat_eq last n ≡ true → same ≡ same_entry entry new → cond same Again Old ≡ against (Some (record { entry = entry; number = last })) n new
-  equal same over is both = λ i. cond (sym over i) Fresh (cond (sym is i && both i) Again Old)
+-- the entry that bears the same number
+pub stands_equal : (last : PlacedNumber) (n : ℕ) (new : HistoryEntry) (r : Records) (k : ℕ) (entry : HistoryEntry) (same : Bool) → n ≤ last.number → last.number ≤ n → same ≡ same_entry entry new
+    → item_numbered (history_of (item_numbered r.actions k)) last.sequence ≡ Some entry → StandsAgainst k last n new r (cond same Again Old)
+stands_equal last n new r k entry same over under both at e there =
+    let same_one : Some entry ≡ Some e = sym at ∙ there in
+    let one : entry ≡ e = cc in
+    let less : nat_lt last.number n ≡ false = grind (arith, nat_tests, over, under) in
+    let equal : nat_eq last.number n ≡ true = grind (arith, nat_tests, over, under) in
+    λ i. cond (sym less i) Fresh (cond (sym equal i && (both ∙ ap (λ (it : HistoryEntry). same_entry it new) one) i) Again Old)

@@ -1,3 +1,4 @@
+use Rattle.desk_commands.proofs.WorkLemmas.{number_within}
 use Rattle.desk_commands.proofs.commands.take_step.Goals as goal
 
 pub returns-in-AddModule-clause-steps : goal.returns-in-AddModule-clause-steps
@@ -50,3 +51,9 @@ returns-in-Feedback-clause-steps g c = rw c.in-Feedback.is c.take_feedback.ensur
 
 pub returns-in-CancelFeedback-clause-steps : goal.returns-in-CancelFeedback-clause-steps
 returns-in-CancelFeedback-clause-steps g c = rw c.in-CancelFeedback.is c.take_cancel_feedback.ensures.steps
+
+pub returns-in-Feedback-clause-work : goal.returns-in-Feedback-clause-work
+returns-in-Feedback-clause-work g c is = number_within c.in-Feedback.feedback.now.number c.take_feedback.ensures.work
+
+pub returns-in-CancelFeedback-clause-work : goal.returns-in-CancelFeedback-clause-work
+returns-in-CancelFeedback-clause-work g c is = number_within c.in-CancelFeedback.feedback.now.number c.take_cancel_feedback.ensures.work

@@ -1,0 +1,13 @@
+use Rattle.sql_calls.proofs.Composing.{both_found, finds_as}
+use Rattle.desk_store.proofs.LedgersOfRecords.{ledger_found}
+use Rattle.desk_commands.proofs.ReportLemmas.{none_at, stands_at}
+use Rattle.desk_commands.proofs.reports.see_numbered.Goals as goal
+
+pub returns-in_ok-standing-in-Some-clause-reads : goal.returns-in_ok-standing-in-Some-clause-reads
+returns-in_ok-standing-in-Some-clause-reads g c =
+    finds_as (both_found (ledger_found _ (rw c.in-Some.is at c.in_ok-found.ensures.reads)) c.in_ok-standing-in-Some.ensures.reads)
+    (λ r is of. stands_at r c.args.given.now.action c.args.number _ c.in-Some.last c.in_ok-standing-in-Some.standing is.0 (is.1 of))
+
+pub returns-in-None-clause-reads : goal.returns-in-None-clause-reads
+returns-in-None-clause-reads g c =
+    finds_as (ledger_found _ (rw c.in-None.is at c.in_ok-found.ensures.reads)) (λ r is of. none_at r c.args.given.now.action c.args.number _ is)

@@ -1,0 +1,19 @@
+use Rattle.sql_calls.proofs.Composing.{finds_as}
+use Rattle.std.proofs.Common.{true, false, sym, ◌∙◌}
+use Rattle.desk_store.proofs.LedgersOfRecords.{ledger_found}
+use Rattle.desk_reads.proofs.HistoryKept.{details_kept}
+use Rattle.desk_commands.proofs.ReportLemmas.{stands_equal}
+use Rattle.desk_commands.proofs.SeenLemmas.{ok_or_some}
+use Rattle.desk_commands.proofs.reports.stand_against.Goals as goal
+
+pub returns-then-same_entry-clause-reads : goal.returns-then-same_entry-clause-reads
+returns-then-same_entry-clause-reads g c =
+    finds_as (ledger_found _ c.in_ok-read_entry.ensures.reads)
+    (λ r is of. stands_equal c.args.last.now c.args.number _ r c.args.given.now.action c.in_ok-entry.entry true (rw (c.get.ensures.value, c.get-2.ensures.value) at c.if-get.false) (rw (c.get-3.ensures.value, c.get-4.ensures.value) at c.if-get-2.false)
+    (sym c.if-same_entry.true ∙ c.same_entry.ensures) (sym (is (details_kept r of c.args.given.now.action)) ∙ ok_or_some _ _ _ c.in_ok-entry.ensures.value))
+
+pub returns-clause-reads : goal.returns-clause-reads
+returns-clause-reads g c =
+    finds_as (ledger_found _ c.in_ok-read_entry.ensures.reads)
+    (λ r is of. stands_equal c.args.last.now c.args.number _ r c.args.given.now.action c.in_ok-entry.entry false (rw (c.get.ensures.value, c.get-2.ensures.value) at c.if-get.false) (rw (c.get-3.ensures.value, c.get-4.ensures.value) at c.if-get-2.false)
+    (sym c.if-same_entry.false ∙ c.same_entry.ensures) (sym (is (details_kept r of c.args.given.now.action)) ∙ ok_or_some _ _ _ c.in_ok-entry.ensures.value))
