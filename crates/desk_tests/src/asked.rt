@@ -117,5 +117,6 @@ pub(super) fn feedback<W: Copy>(
         action,
         word,
         details,
+        number: None,
     })
 }
