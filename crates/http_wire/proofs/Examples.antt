@@ -1,6 +1,6 @@
 -- Computed examples: they guard the definitions against slips.
 use Rattle.std.proofs.Common.{◌≡◌, ℕ, ◌+◌, true, false, List, [], ◌∷◌, ◌++◌, Some, None, refl}
-use Rattle.std.specs.Prelude.{codes, replicate, map, Ok, Err}
+use Rattle.std.specs.Prelude.{codes, decimal, replicate, map, Ok, Err}
 use Rattle.std.specs.List.{flat_map}
 use Rattle.std.specs.Fmt.{digits}
 use Rattle.httparse.specs.Grammar.{trim_ows}
@@ -20,11 +20,11 @@ no_length : body_length [] ≡ Ok 0
 unfolding body_length
 no_length = refl
 
-length_over : body_length ((codes "Content-LENGTH", digits (body_length_limit + 1)) ∷ []) ≡ Err TooLarge
+length_over : body_length ((codes "Content-LENGTH", decimal (body_length_limit + 1)) ∷ []) ≡ Err TooLarge
 unfolding body_length
 length_over = refl
 
-length_at_limit : body_length ((codes "Content-LENGTH", codes "000" ++ digits body_length_limit) ∷ []) ≡ Ok body_length_limit
+length_at_limit : body_length ((codes "Content-LENGTH", codes "000" ++ decimal body_length_limit) ∷ []) ≡ Ok body_length_limit
 unfolding body_length
 length_at_limit = refl
 
