@@ -21,11 +21,11 @@ unfolding body_length
 no_length = refl
 
 length_over : body_length ((codes "Content-LENGTH", decimal (body_length_limit + 1)) ∷ []) ≡ Err TooLarge
-unfolding body_length
+unfolding body_length digits
 length_over = refl
 
 length_at_limit : body_length ((codes "Content-LENGTH", codes "000" ++ decimal body_length_limit) ∷ []) ≡ Ok body_length_limit
-unfolding body_length
+unfolding body_length digits
 length_at_limit = refl
 
 length_long : body_length ((codes "content-length", codes "99999999999999999999") ∷ []) ≡ Err TooLarge
