@@ -9,7 +9,7 @@
 #include <unistd.h>
 
 enum { HEAD_LIMIT = 8192, MODULE_LIMIT = 1000 };
-enum { MODULE_ARTIFACT_LIMIT = 8, ARTIFACT_LIMIT = 256, PIECE_LENGTH = 65536 };
+enum { MODULE_ARTIFACT_LIMIT = 8, ARTIFACT_LIMIT = 256 };
 
 typedef struct { Text name, type, version; } Label;
 
