@@ -1,5 +1,5 @@
 -- The calls on actions and offers.
-use Rattle.std.proofs.Common.{◌≡◌, ◌≤◌, ℕ, zero, suc, pos, take, drop, Bool, true, List, [], ◌∷◌, length, Option, Some, Ok, Err, Result, IfOk, option_map, Vec, vec_items, refl, ap, subst, ◌∙◌, codes}
+use Rattle.std.proofs.Common.{◌≡◌, ◌≤◌, ℕ, zero, suc, pos, take, drop, Bool, true, List, [], ◌∷◌, length, Option, Some, None, Ok, Err, Result, IfOk, option_map, Vec, vec_items, refl, ap, subst, slice_get, ◌∙◌, codes}
 use Rattle.std.specs.List.{list_all, zip}
 use Rattle.std.specs.declared.alloc.Global.{Global}
 use Rattle.sqlite_value.specs.declared.value.Value.TheVariants.{Int, Text}
@@ -15,14 +15,16 @@ use Rattle.sql_calls.proofs.Finding.{ShowsFirst}
 use Rattle.sql_calls.proofs.Selects.{simple}
 use Rattle.sql_calls.proofs.Finding.{ask_finds, first_finds}
 use Rattle.std.proofs.lemmas.Bool.{and_parts}
-use Rattle.rollout_machine.specs.Actions.{HistoryEntry}
+use Rattle.std.proofs.lemmas.Option.{slice_get-map}
+use Rattle.sqlite_keyed.proofs.ListLemmas.{first_taken}
+use Rattle.rollout_machine.specs.Reports.{HistoryEntry}
 use Rattle.rollout_machine.specs.ByteStrings.{item_numbered}
 use Rattle.rollout_machine.specs.Commands.{Bytes}
 use Rattle.rollout_model.specs.declared.rollout.Offer.{Offer}
 use Rattle.desk_records.specs.declared.action_texts.TheConstants.{LAST_ACTION, GET_ACTION, LIST_ACTIONS, LIST_TARGET_ACTIONS, LIST_ENTRIES, GET_OFFER}
 use Rattle.desk_records.specs.declared.rollout_row.ListedAction.{ListedAction}
 use Rattle.desk_records.specs.declared.rollout_row.StoredAction.{StoredAction}
-use Rattle.desk_records.specs.Actions.{history_of}
+use Rattle.desk_records.specs.Actions.{history_of, told_entry}
 use Rattle.desk_records.specs.EntryRow.{IsEntryRow, keeps_details}
 use Rattle.desk_records.specs.Holds.{HoldsLedger, Ledger}
 use Rattle.desk_records.specs.Modules.{IsLastRow}
@@ -34,9 +36,9 @@ use Rattle.desk_records.proofs.ActionRecords.{shown_action, told_listed, lasts_a
 use Rattle.desk_records.proofs.EntryRecords.{lists_entries, told_part}
 use Rattle.desk_store.specs.Rows.{AreReadAs, IsReadAs}
 use Rattle.desk_store.proofs.Known.{ledger_knows}
-use Rattle.desk_store.proofs.LedgerReads.{both_mapped, one_action, one_listed, one_offer, same_entries}
+use Rattle.desk_store.proofs.LedgerReads.{both_mapped, one_action, one_entry, one_listed, one_offer, same_entries}
 use Rattle.desk_store.proofs.ModuleCalls.{one_last}
-use Rattle.desk_store.proofs.ReadLemmas.{asks_all, read_parts, takes_one}
+use Rattle.desk_store.proofs.ReadLemmas.{asks_all, one_read, read_parts, takes_one}
 
 -- ---- what the texts mean where a ledger is held
 
@@ -116,6 +118,58 @@ entries_read number limit offset least old new rows h out are_read =
         same_entries found.items (part l) (kept_to keeps_details limit (drop offset all) (kept_from keeps_details offset all keep))
         (subst (λ rs. AreReadAs IsEntryRow rs found.items) (lists_entries db l holds entry_names number limit offset least rows.items shown) (read_parts told_part IsEntryRow rows.items found.items is))
     answers (Err e) is = tt
+
+-- ---- one entry
+
+first_from : {X : Type 0} (n : ℕ) (xs : List X) → slice_get (drop n xs) 0 ≡ slice_get xs n
+first_from zero xs = refl
+first_from (suc n) [] = refl
+first_from (suc n) (x ∷ xs) = first_from n xs
+
+kept_at : (p : HistoryEntry → Bool) (n : ℕ) (es : List HistoryEntry) (e : HistoryEntry) → list_all p es ≡ true → slice_get es n ≡ Some e → p e ≡ true
+kept_at p n [] e h is = absurd cc
+kept_at p zero (x ∷ es) e h is = let same : x ≡ e = cc in subst (λ v. p v ≡ true) same (and_parts (p x) (list_all p es) h).0
+kept_at p (suc n) (x ∷ es) e h is = kept_at p n es e (and_parts (p x) (list_all p es) h).1 is
+
+part_read : (found : Option HistoryEntry) (row : Option Row) → IsReadAs IsEntryRow found row → IsReadAs IsEntryRow found (option_map told_part row)
+part_read found None h = h
+part_read found (Some row) h = h
+
+module _ (number before : ℕ) (least : 1 ≤ number) where
+  abbrev page_of_one : Row
+  page_of_one = Int (pos number) ∷ Int (pos 1) ∷ Int (pos before) ∷ []
+
+  abbrev its : Ledger → List HistoryEntry
+  its l = history_of (item_numbered l.records.actions number)
+
+  abbrev IsAt : Ledger → Option HistoryEntry → Type 0
+  IsAt l found = list_all keeps_details (its l) ≡ true → found ≡ slice_get (its l) before
+
+  entry_shown : (db : Database) (l : Ledger) (holds : HoldsLedger db l) (row : Option Row) → ShowsFirst (listing_entries db l holds).command db page_of_one row → option_map told_part row ≡ option_map told_entry (slice_get (its l) before)
+  entry_shown db l holds row shown = go row shown
+    where
+      first : (rows : List Row) → Shows (listing_entries db l holds).command db page_of_one rows → slice_get (map told_part rows) 0 ≡ option_map told_entry (slice_get (its l) before)
+      first rows shows =
+          ap (λ (rs : List Row). slice_get rs 0) (lists_entries db l holds entry_names number 1 before least rows shows) ∙ slice_get-map told_entry (take 1 (drop before (its l))) 0
+          ∙ ap (option_map told_entry) (first_taken (drop before (its l)) ∙ first_from before (its l))
+
+      go : (row : Option Row) → ShowsFirst (listing_entries db l holds).command db page_of_one row → option_map told_part row ≡ option_map told_entry (slice_get (its l) before)
+      go None shown = first [] shown
+      go (Some row) shown = first (row ∷ shown.0) shown.1
+
+  pub entry_read : (old new : State) (row : Option Row) → TakesFirst old new LIST_ENTRIES.now page_of_one (Ok row) → (out : Result (Option HistoryEntry) Fault) → IfOk out (λ found. IsReadAs IsEntryRow found row)
+      → Finds HoldsLedger (λ (l : Ledger). l) old new out IsAt
+  entry_read old new row h out is_read = first_finds HoldsLedger (λ (l : Ledger). l) LIST_ENTRIES.now page_of_one old new IsAt listing_entries (λ db l holds at given. tt) row h out (answers out is_read)
+    where
+      Tells : Option HistoryEntry → Option HistoryEntry → Type 0
+      Tells found wanted = ((e : HistoryEntry) → wanted ≡ Some e → keeps_details e ≡ true) → found ≡ wanted
+
+      answers : (out : Result (Option HistoryEntry) Fault) → IfOk out (λ found. IsReadAs IsEntryRow found row)
+          → IfOk out (λ found. (db : Database) (l : Ledger) (holds : HoldsLedger db l) → ShowsFirst (listing_entries db l holds).command db page_of_one row → IsAt l found)
+      answers (Ok found) is = λ db l holds shown keep.
+          one_read IsEntryRow told_entry Tells (λ kept. refl) (λ a b same kept. ap Some (one_entry a b (kept b refl) same)) found (slice_get (its l) before) (option_map told_part row) (part_read found row is)
+          (entry_shown db l holds row shown) (λ e at. kept_at keeps_details before (its l) e keep at)
+      answers (Err e) is = tt
 
 -- ---- offers
 

@@ -1,16 +1,16 @@
 -- What rows of rollouts, groups, actions and offers tell of the ledger that they show.
-use Rattle.std.proofs.Common.{◌≡◌, ℕ, pos, List, [], ◌∷◌, map, Bool, true, false, Option, Some, None, option_map, refl, sym, ◌∙◌, ap, ap₂, if◌then◌else◌, nat_lt}
+use Rattle.std.proofs.Common.{◌≡◌, ℕ, pos, List, [], ◌∷◌, map, Bool, true, false, Option, Some, None, option_map, refl, sym, ◌∙◌, ap, ap₂, if◌then◌else◌, nat_eq, nat_lt}
 use Rattle.std.specs.List.{list_all}
 use Rattle.std.proofs.lemmas.Bool.{and_parts}
 use Rattle.std.specs.Option.{option_and_then}
 use Rattle.sqlite_value.specs.declared.value.Value.TheVariants.{Int, Text}
 use Rattle.sqlite_value.specs.Order.{Row}
-use Rattle.rollout_machine.specs.Actions.{HistoryEntry, Said, OfDeployment, OfCancel}
+use Rattle.rollout_machine.specs.Reports.{HistoryEntry, Said, OfDeployment, OfCancel}
 use Rattle.rollout_machine.specs.Commands.{DeploymentWord, CancelWord, Proceeding, Scheduled, Resumed, Succeeded, Failed, Rejected, Noted, ClosedCancel, CanceledCancel, RejectedCancel, NotedCancel}
 use Rattle.rollout_machine.specs.declared.outcome.Outcome.{Outcome}
 use Rattle.rollout_machine.specs.declared.outcome.Outcome.TheVariants.{Good, Bad, Gone}
 use Rattle.rollout_machine.specs.declared.records.GroupRecord.{GroupRecord}
-use Rattle.rollout_model.specs.Rules.{is_number, is_group_count, is_percentage}
+use Rattle.rollout_model.specs.Rules.{is_number, is_feedback_number, is_group_count, is_percentage}
 use Rattle.rollout_model.specs.declared.approval.Approval.{Approval}
 use Rattle.rollout_model.specs.declared.approval.Approval.TheVariants.{Waiting, Denied, Given}
 use Rattle.rollout_model.specs.declared.rollout.Offer.{Offer}
@@ -20,7 +20,11 @@ use Rattle.desk_records.specs.declared.rollout_row.StoredRollout.{StoredRollout}
 use Rattle.desk_records.specs.Actions.{cancel_code, deployment_code, kind_code, lines_of, outcome_code, told_entry, word_code}
 use Rattle.desk_records.specs.EntryRow.{IsEntryRow, cancel_from, cancel_in, deployment_from, deployment_in, keeps_details, said_in}
 use Rattle.sqlite.specs.Values.{or_null}
-use Rattle.desk_records.specs.Codes.{coded_in, flag_of, approval_from, outcome_from, flag_in, approval_in, outcome_in, percentage_in, percentage_or_none_in}
+use Rattle.desk_records.specs.Codes.{coded_in, flag_of, approval_from, outcome_from, place_from, flag_in, approval_in, outcome_in, place_in, percentage_in, percentage_or_none_in}
+use Rattle.desk_records.specs.FeedbackNumbers.{told_number}
+use Rattle.desk_records.specs.NumberRow.{IsLastNumberRow, IsNumberRow}
+use Rattle.desk_records.specs.declared.number_row.LastNumber.{LastNumber}
+use Rattle.desk_records.specs.declared.number_row.PlacedNumber.{PlacedNumber}
 use Rattle.desk_records.specs.RolloutRow.{IsRolloutRow, IsGroupRow, IsActionRow, IsListedActionRow, IsOfferRow}
 use Rattle.desk_records.specs.Rollouts.{approval_code, flag, told_rule}
 use Rattle.desk_records.specs.RuleRow.{IsRuleRow}
@@ -28,6 +32,8 @@ use Rattle.rollout_model.specs.declared.group_rule.GroupRule.{GroupRule}
 use Rattle.desk_records.proofs.RolloutRecords.{shown_group}
 use Rattle.desk_records.proofs.ActionRecords.{shown_action, told_listed, told_offer}
 use Rattle.desk_records.proofs.DetailLines.{same_details}
+use Rattle.desk_records.proofs.NumberColumns.{ranged_is}
+use Rattle.desk_records.proofs.NumberRecords.{told_last}
 use Rattle.desk_store.specs.Rows.{AreReadAs}
 
 pub both_mapped : {A B C : Type 0} (f : B → C) (g : A → B) (o : Option A) → option_map (λ a. f (g a)) o ≡ option_map f (option_map g o)
@@ -43,13 +49,23 @@ coded meant n a h = go (nat_lt n 4294967296) h
     go true e = e
     go false e = absurd cc
 
+same_text : (a b : List ℕ) → Text a ≡ Text b → b ≡ a
+same_text a b h = cc
+
+same_int : (a b : ℕ) → Int (pos a) ≡ Int (pos b) → b ≡ a
+same_int a b h = cc
+
 -- a number of a range is read as itself
 kept_number : (fits : ℕ → Bool) (n m : ℕ) → coded_in (λ k. if fits k then Some k else None) (Int (pos n)) ≡ Some m → m ≡ n
-kept_number fits n m h = go (fits n) (coded (λ k. if fits k then Some k else None) n m h)
+kept_number fits n m h = same_int n m (ranged_is fits (Int (pos n)) m h)
+
+-- .. and so is a place
+kept_place : (n m : ℕ) → place_in (Int (pos n)) ≡ Some m → m ≡ n
+kept_place n m h = go (nat_eq n 0) (coded place_from n m h)
   where
-    go : (b : Bool) → (if b then Some n else None) ≡ Some m → m ≡ n
-    go true e = cc
-    go false e = absurd cc
+    go : (b : Bool) → (if b then None else Some n) ≡ Some m → m ≡ n
+    go true e = absurd cc
+    go false e = cc
 
 pub kept_flag : (b c : Bool) → flag_in (Int (pos (flag b))) ≡ Some c → c ≡ b
 kept_flag true c h = let e : Some true ≡ Some c = coded flag_of 1 c h in cc
@@ -65,12 +81,6 @@ kept_outcome None c h = let e : Some None ≡ Some c = coded outcome_from 0 c h 
 kept_outcome (Some Good) c h = let e : Some (Some Good) ≡ Some c = coded outcome_from 1 c h in cc
 kept_outcome (Some Bad) c h = let e : Some (Some Bad) ≡ Some c = coded outcome_from 2 c h in cc
 kept_outcome (Some Gone) c h = let e : Some (Some Gone) ≡ Some c = coded outcome_from 3 c h in cc
-
-same_text : (a b : List ℕ) → Text a ≡ Text b → b ≡ a
-same_text a b h = cc
-
-same_int : (a b : ℕ) → Int (pos a) ≡ Int (pos b) → b ≡ a
-same_int a b h = cc
 
 -- ---- rows
 
@@ -105,6 +115,18 @@ one_rule a b h =
     let success = kept_number is_percentage b.success a.success h.success in
     let error = kept_number is_percentage b.error a.error h.error in
     λ i. record { percentage = percentage i; success = success i; error = error i }
+
+pub one_placed : (a b : PlacedNumber) → IsNumberRow (told_number b) a → a ≡ b
+one_placed a b h =
+    let sequence = kept_place b.sequence a.sequence h.sequence in
+    let number = kept_number is_feedback_number b.number a.number h.number in
+    λ i. record { sequence = sequence i; number = number i }
+
+pub one_last_placed : (a b : LastNumber) → IsLastNumberRow (told_last b) a → a ≡ b
+one_last_placed a b h =
+    let it = one_placed a.it b.it (record { sequence = h.it.sequence; number = h.it.number }) in
+    let place = kept_place b.place a.place h.place in
+    λ i. record { place = place i; it = it i }
 
 pub one_group : (a b : GroupRecord) → IsGroupRow (shown_group b) a → a ≡ b
 one_group a b h =
@@ -171,7 +193,7 @@ kept_said : (w v : Said) → said_in (Int (pos (kind_code w)) ∷ Int (pos (word
 kept_said (OfDeployment w) v h = let it = from_mapped OfDeployment (deployment_in (Int (pos (deployment_code w)))) v h in sym it.2 ∙ ap OfDeployment (kept_deployment w it.0 it.1)
 kept_said (OfCancel w) v h = let it = from_mapped OfCancel (cancel_in (Int (pos (cancel_code w)))) v h in sym it.2 ∙ ap OfCancel (kept_cancel w it.0 it.1)
 
-one_entry : (a b : HistoryEntry) → keeps_details b ≡ true → IsEntryRow (told_entry b) a → a ≡ b
+pub one_entry : (a b : HistoryEntry) → keeps_details b ≡ true → IsEntryRow (told_entry b) a → a ≡ b
 one_entry a b keep h =
     let said = kept_said b.said a.said h.0 in
     let details = same_details a.details b.details h.2 keep (same_text (lines_of b.details) (lines_of a.details) h.1) in

@@ -10,6 +10,7 @@ pub mod GroupPlaces
 pub mod LedgerReads
 pub mod RolloutCalls
 pub mod ActionCalls
+pub mod NumberCalls
 pub mod WriteCalls
 pub mod LedgersOfRecords
 pub mod CountingLemmas

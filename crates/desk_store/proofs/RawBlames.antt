@@ -29,12 +29,13 @@ use Rattle.sql_calls.specs.Means.{Knows, Means}
 use Rattle.sql_calls.proofs.Finding.{ShowsFirst, first_finds}
 use Rattle.sql_calls.proofs.Selects.{IsOrdered, by, ordered_rows, passes, shown_in, shown_of, simple}
 use Rattle.sql_front.specs.Stands.{Stands}
-use Rattle.desk_records.specs.Schema.{Actions, Artifacts, Feedbacks, Groups, Members, Offers, Pieces, Place, Rollouts, Rules, name_of, table_at}
+use Rattle.desk_records.specs.Schema.{Actions, Artifacts, Feedbacks, Groups, Members, Numbers, Offers, Pieces, Place, Rollouts, Rules, name_of, table_at}
 use Rattle.desk_records.specs.Tables.{HoldsTables, Tables}
 use Rattle.desk_records.specs.ArtifactRow.{has_bytes}
 use Rattle.desk_records.specs.CheckedRows.{has_wide_count, is_wide}
 use Rattle.desk_records.specs.Codes.{first_broken, number_in}
 use Rattle.desk_records.specs.EntryRow.{BreaksSequenced}
+use Rattle.desk_records.specs.NumberRow.{broken_number_column}
 use Rattle.desk_records.specs.RolloutRow.{broken_action_column, broken_offer_column, broken_rollout_column}
 use Rattle.desk_records.specs.RuleRow.{broken_rule_column}
 use Rattle.desk_records.specs.TableRows.{IsAction, IsOffer, action_shown, offer_shown}
@@ -42,10 +43,10 @@ use Rattle.rollout_model.specs.declared.rollout.Offer.{Offer}
 use Rattle.desk_records.specs.declared.module_row.Column.{Column}
 use Rattle.desk_records.specs.declared.module_row.Column.TheVariants as rule
 use Rattle.desk_records.specs.declared.rollout_row.StoredAction.{StoredAction}
-use Rattle.desk_records.specs.declared.action_texts.TheConstants.{GET_ACTION, GET_OFFER, LIST_ACTIONS, LIST_ENTRIES, LIST_OFFERS}
+use Rattle.desk_records.specs.declared.action_texts.TheConstants.{GET_ACTION, GET_OFFER, LIST_ACTIONS, LIST_ENTRIES, LIST_NUMBERS, LIST_OFFERS}
 use Rattle.desk_records.specs.declared.artifact_texts.TheConstants.{GET_PIECE, LIST_ALL_ARTIFACTS}
 use Rattle.desk_records.specs.declared.rollout_texts.TheConstants.{GET_ROLLOUT, GET_RULE, LAST_ROLLOUT, LIST_GROUPS, LIST_PLACES}
-use Rattle.desk_records.proofs.ActionMeaning.{action_columns, action_names, entry_columns, entry_names, get_action_is, get_offer_is, list_actions_is, list_actions_query, list_entries_is, list_entries_query, list_offers_is, listed_columns, listed_names, of_action, of_controller, of_rollout as of_its_rollout, offer_columns, owned_columns, owned_names}
+use Rattle.desk_records.proofs.ActionMeaning.{action_columns, action_names, entry_columns, entry_names, get_action_is, get_offer_is, list_actions_is, list_actions_query, list_entries_is, list_entries_query, list_numbers_is, list_numbers_query, list_offers_is, listed_columns, listed_names, number_columns, number_names, of_action, of_controller, of_rollout as of_its_rollout, offer_columns, owned_columns, owned_names}
 use Rattle.desk_records.proofs.AnyRows.{count_shown, from_shown}
 use Rattle.desk_records.proofs.ArtifactMeaning.{all_artifacts_query, all_columns, all_names, at_piece, get_piece_is, list_all_artifacts_is}
 use Rattle.desk_records.proofs.MeaningWords.{at_key}
@@ -54,7 +55,7 @@ use Rattle.desk_store.specs.Blaming.{Blames, BlamesGiven}
 use Rattle.desk_store.specs.Changing.{FindsTables, seen_in}
 use Rattle.desk_store.specs.RawLists.{AreActions, AreOffers}
 use Rattle.desk_store.specs.Rows.{BreaksRule, HasBroken, HasNoNumber, IfStore}
-use Rattle.desk_store.specs.Unreadable.{IsUnreadable, broken_entry, broken_piece, broken_rollout, broken_rule, large_count, large_number, many_rows}
+use Rattle.desk_store.specs.Unreadable.{IsUnreadable, broken_entry, broken_number, broken_piece, broken_rollout, broken_rule, large_count, large_number, many_rows}
 use Rattle.desk_store.specs.declared.change.OpenChange.{OpenChange}
 use Rattle.desk_store.proofs.BlameLemmas.{blamed}
 use Rattle.desk_store.proofs.Known.{tables_know}
@@ -169,6 +170,11 @@ module _ {S B : Type 0} (g : Ghosts S) (old new : OpenChange S) (rows : Vec Row 
   history_blamed n broken =
       all_blamed Feedbacks LIST_ENTRIES.now of_action entry_columns (list_entries_query 0).order (col 0 1) (col 0 2) entry_names list_entries_is (all_of n) (λ tree xs. refl) rows
       g nothing (λ row. (c : Column) × BreaksSequenced row c) (λ t row among is given. broken_entry row is.0 among is.1) old new grows out broken
+
+  pub numbers_blamed : (n : ℕ) → Broken (λ row. BreaksRule (broken_number_column row)) → Asks LIST_NUMBERS.now (Int (pos n) ∷ []) → Blames g old new out
+  numbers_blamed n broken =
+      all_blamed Numbers LIST_NUMBERS.now of_action number_columns (list_numbers_query 0).order (lit (Int (negsuc 0))) (lit (Int (pos 0))) number_names list_numbers_is (Int (pos n) ∷ []) (λ tree xs. refl) rows
+      g nothing (λ row. BreaksRule (broken_number_column row)) (λ t row among is given. broken_number row among is) old new grows out broken
 
   pub pieces_blamed : (number place : ℕ) → Broken (λ row. has_bytes (column row 0) ≡ false) → Asks GET_PIECE.now (Int (pos number) ∷ Int (pos place) ∷ []) → Blames g old new out
   pieces_blamed number place broken =

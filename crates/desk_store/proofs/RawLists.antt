@@ -28,27 +28,29 @@ use Rattle.desk_records.specs.Codes.{first_broken, flag_in, number_in, outcome_i
 use Rattle.desk_records.specs.Holds.{HoldsLedger}
 use Rattle.desk_records.specs.Listings.{AreRead, AreSaid, has_at}
 use Rattle.desk_records.specs.EntryRow.{IsSequencedRow}
+use Rattle.desk_records.specs.NumberRow.{IsNumberRow}
 use Rattle.desk_records.specs.RolloutRow.{broken_group_column, broken_listed_action_column}
-use Rattle.desk_records.specs.Schema.{Actions, Artifacts, Feedbacks, Groups, Offers, Place, name_of, table_at}
+use Rattle.desk_records.specs.Schema.{Actions, Artifacts, Feedbacks, Groups, Numbers, Offers, Place, name_of, table_at}
 use Rattle.desk_records.specs.SetRow.{has_number}
 use Rattle.desk_records.specs.Tables.{HoldsTables, Tables}
 use Rattle.desk_records.specs.TargetRow.{has_word}
 use Rattle.desk_records.specs.declared.module_row.Column.{Column}
 use Rattle.desk_records.specs.declared.module_row.Column.TheVariants as rule
-use Rattle.desk_records.specs.declared.action_texts.TheConstants.{LIST_ACTIONS, LIST_ENTRIES, LIST_OFFERS}
+use Rattle.desk_records.specs.declared.action_texts.TheConstants.{LIST_ACTIONS, LIST_ENTRIES, LIST_NUMBERS, LIST_OFFERS}
 use Rattle.desk_records.specs.declared.artifact_texts.TheConstants.{LIST_ALL_ARTIFACTS}
 use Rattle.desk_records.specs.declared.checked_rows.CheckedArtifact.{CheckedArtifact}
 use Rattle.desk_records.specs.declared.checked_rows.OwnedOffer.{OwnedOffer}
 use Rattle.desk_records.specs.declared.entry_row.SequencedEntry.{SequencedEntry}
+use Rattle.desk_records.specs.declared.number_row.PlacedNumber.{PlacedNumber}
 use Rattle.desk_records.specs.declared.rollout_row.ListedAction.{ListedAction}
 use Rattle.desk_records.specs.declared.rollout_texts.TheConstants.{LIST_GROUPS}
-use Rattle.desk_records.proofs.ActionMeaning.{entry_columns, entry_names, list_actions_is, list_actions_query, list_entries_is, list_entries_query, list_offers_is, listed_columns, listed_names, of_action, of_rollout as of_its_rollout, owned_columns, owned_names}
+use Rattle.desk_records.proofs.ActionMeaning.{entry_columns, entry_names, list_actions_is, list_actions_query, list_entries_is, list_entries_query, list_numbers_is, list_numbers_query, list_offers_is, listed_columns, listed_names, number_columns, number_names, of_action, of_rollout as of_its_rollout, owned_columns, owned_names}
 use Rattle.desk_records.proofs.AnyRows.{are_said, broken, number_order, rise}
 use Rattle.desk_records.proofs.ArtifactMeaning.{all_artifacts_query, all_columns, all_names, list_all_artifacts_is}
 use Rattle.desk_records.proofs.NumberColumns.{is_number_in, number_in_good, number_in_is, number_is}
 use Rattle.desk_records.proofs.RolloutMeaning.{group_columns, group_names, list_groups_is, list_groups_query, of_rollout}
 use Rattle.desk_records.proofs.TableColumns.{passes_integer}
-use Rattle.desk_store.specs.RawLists.{AreInOrder, IsKeptActionRow, IsKeptGroupRow, ListsRows, SaysAction, SaysArtifact, SaysEntry, SaysGroup, SaysOffer, any_row}
+use Rattle.desk_store.specs.RawLists.{AreInOrder, IsKeptActionRow, IsKeptGroupRow, ListsRows, SaysAction, SaysArtifact, SaysEntry, SaysGroup, SaysNumber, SaysOffer, any_row}
 use Rattle.desk_store.specs.Rows.{AreReadAs}
 use Rattle.desk_store.proofs.Known.{ledger_knows, tables_know}
 use Rattle.desk_store.proofs.RawCalls.{FindsOf, all_read}
@@ -220,3 +222,12 @@ module _ (n : ℕ) where
       → FindsOf old new out (λ t found. IsNonDecreasingBy (λ (e : SequencedEntry). e.sequence) found.items)
   history_in_order = each_in_order Feedbacks LIST_ENTRIES.now of_action entry_columns (list_entries_query 0).order (col 0 1) (col 0 2) entry_names list_entries_is (all_of n) (λ tree xs. refl) (has_at 1 n) judges_entry IsSequencedRow SaysEntry says_entry
       (λ (e : SequencedEntry). e.sequence) (λ tree low high a b of_a of_b up. number_order tree of_action entry_columns (col 0 1) (col 0 2) (all_of n) 2 low high a.sequence b.sequence of_a.sequence_is of_b.sequence_is up)
+
+  -- ---- the numbers of an action
+
+  judges_number : (db : Database) (t : Tables) → HoldsTables db t → (row : Row) → Has (t Numbers) row → passes of_action (Int (pos n) ∷ []) row ≡ has_at 1 n row
+  judges_number db t holds row among = passes_integer db t holds Numbers row among 0 (record { c = _; there = refl; kind_is = refl; strict = refl; filled = refl; apart = refl }) n []
+
+  pub numbers_read : (old new : State) (rows : Vec Row Global) → AsksText old new LIST_NUMBERS.now (Int (pos n) ∷ []) (Ok rows) → (out : Result (Vec PlacedNumber Global) Fault) → IfOk out (λ found. AreReadAs IsNumberRow rows.items found.items)
+      → FindsOf old new out (λ t found. AreSaid (t Numbers) (has_at 1 n) SaysNumber found.items)
+  numbers_read = each_read Numbers LIST_NUMBERS.now of_action number_columns (list_numbers_query 0).order (lit (Int (negsuc 0))) (lit (Int (pos 0))) number_names list_numbers_is (Int (pos n) ∷ []) (λ tree xs. refl) (has_at 1 n) judges_number IsNumberRow SaysNumber (λ row of it is. is)

@@ -8,14 +8,16 @@ use Rattle.rollout_machine.specs.declared.records.GroupRecord.{GroupRecord}
 use Rattle.rollout_model.specs.declared.group_rule.GroupRule.{GroupRule}
 use Rattle.rollout_model.specs.declared.rollout.Offer.{Offer}
 use Rattle.desk_records.specs.Listings.{AreBroken, AreSaid}
+use Rattle.desk_records.specs.NumberRow.{IsNumberRow}
 use Rattle.desk_records.specs.RolloutRow.{IsActionRow, IsGroupRow, IsListedActionRow, broken_group_column, broken_listed_action_column}
 use Rattle.desk_records.specs.RuleRow.{IsRuleRow}
 use Rattle.desk_records.specs.Schema.{Actions, Offers}
 use Rattle.desk_records.specs.Tables.{Tables}
-use Rattle.desk_records.specs.TableRows.{IsAction, IsArtifact, IsEntry, IsGroup, IsOffer, action_shown, rule_shown}
+use Rattle.desk_records.specs.TableRows.{IsAction, IsArtifact, IsEntry, IsGroup, IsOffer, action_shown, number_shown, rule_shown}
 use Rattle.desk_records.specs.declared.checked_rows.CheckedArtifact.{CheckedArtifact}
 use Rattle.desk_records.specs.declared.checked_rows.OwnedOffer.{OwnedOffer}
 use Rattle.desk_records.specs.declared.entry_row.SequencedEntry.{SequencedEntry}
+use Rattle.desk_records.specs.declared.number_row.PlacedNumber.{PlacedNumber}
 use Rattle.desk_records.specs.declared.rollout_row.ListedAction.{ListedAction}
 use Rattle.desk_records.specs.declared.rollout_row.StoredAction.{StoredAction}
 
@@ -46,6 +48,10 @@ SaysAction row a = IsAction row a.number a.action
 
 abbrev pub SaysEntry : Row → SequencedEntry → Type 0
 SaysEntry row e = IsEntry row e.sequence e.entry
+
+-- a number of an action that is known
+abbrev pub SaysNumber : Row → PlacedNumber → Type 0
+SaysNumber row it = IsNumberRow (number_shown row) it
 
 -- the action of a number that is known
 abbrev pub SaysNumbered : Row → StoredAction → Type 0

@@ -9,11 +9,12 @@ use Rattle.desk_records.specs.Codes.{number_in}
 use Rattle.desk_records.specs.EntryRow.{BreaksSequenced}
 use Rattle.rollout_model.specs.declared.group_rule.GroupRule.{GroupRule}
 use Rattle.desk_records.specs.Listings.{AreSaid, HasNumber, has_at}
+use Rattle.desk_records.specs.NumberRow.{broken_number_column}
 use Rattle.desk_records.specs.PlaceLists.{SaysMember, is_of}
 use Rattle.desk_records.specs.RuleRow.{broken_rule_column}
-use Rattle.desk_records.specs.Schema.{Actions, Feedbacks, Members, Pieces, Place, Rollouts, Rules}
+use Rattle.desk_records.specs.Schema.{Actions, Feedbacks, Members, Numbers, Pieces, Place, Rollouts, Rules}
 use Rattle.desk_records.specs.RolloutRow.{broken_rollout_column}
-use Rattle.desk_records.specs.TableRows.{action_shown, rollout_shown, rule_shown}
+use Rattle.desk_records.specs.TableRows.{action_shown, number_shown, rollout_shown, rule_shown}
 use Rattle.desk_records.specs.Tables.{Tables}
 use Rattle.desk_records.specs.declared.entry_row.SequencedEntry.{SequencedEntry}
 use Rattle.desk_records.specs.declared.member_row.PlacedMember.{PlacedMember}
@@ -46,6 +47,7 @@ pub data IsUnreadable (t : Tables) : Type 0 where
   broken_rule : (row : Row) → Has (t Rules) row → BreaksRule (broken_rule_column (rule_shown row)) → IsUnreadable t
   broken_piece : (row : Row) → Has (t Pieces) row → has_bytes (column row 3) ≡ false → IsUnreadable t
   broken_entry : (row : Row) (c : Column) → Has (t Feedbacks) row → BreaksSequenced (sequenced_shown row) c → IsUnreadable t
+  broken_number : (row : Row) → Has (t Numbers) row → BreaksRule (broken_number_column (number_shown row)) → IsUnreadable t
   twin_members : (rollout : ℕ) → HasTwins (t Members) (is_of rollout) (SaysMember rollout) (λ (m : PlacedMember). m.place) → IsUnreadable t
   twin_actions : (rollout : ℕ) → HasTwins (t Actions) (has_at 2 rollout) SaysAction (λ (a : ListedAction). a.number) → IsUnreadable t
   twin_entries : (action : ℕ) → HasTwins (t Feedbacks) (has_at 1 action) SaysEntry (λ (e : SequencedEntry). e.sequence) → IsUnreadable t

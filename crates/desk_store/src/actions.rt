@@ -156,6 +156,26 @@ impl<'a, S: Alter> OpenChange<'a, S> {
         read_all(alloc, &rows)
     }
 
+    /// The entry at a place of the sequence of an action's history, from 1. A row that breaks a column's rule is a failed store.
+    pub fn read_entry(
+        &mut self,
+        number: ActionNo,
+        sequence: u32,
+    ) -> Result<Option<HistoryEntry>, Fault>
+        ensures stays { StaysIn S.Store self.old self.new result }
+        ensures reads { FindsLedger S.Store self.old self.new result
+            (λ l found. list_all keeps_details (history_of (item_numbered l.records.actions number)) ≡ true
+            → found ≡ item_numbered (history_of (item_numbered l.records.actions number)) sequence) }
+        ensures work { AddsIn 1 1 self.old self.new }
+    {
+        if sequence == 0 {
+            return Ok(None);
+        }
+        let alloc = self.store.alloc;
+        let row = self.first(LIST_ENTRIES, params![number.get(), 1_u32, sequence - 1])?;
+        read_optional(alloc, row)
+    }
+
     /// What the target of an id is offered. A row that breaks a column's rule is a failed store.
     pub fn read_offer(&mut self, id: &ControllerId) -> Result<Option<Offer>, Fault>
         ensures stays { StaysIn S.Store self.old self.new result }

@@ -9,10 +9,12 @@ mod checked_row;
 mod codes;
 mod from_row;
 mod group_offers;
+mod numbers;
 mod raw_actions;
 mod raw_artifacts;
 mod raw_groups;
 mod raw_members;
+mod raw_numbers;
 mod raw_offers;
 mod raw_rollouts;
 mod raw_rules;
@@ -28,8 +30,8 @@ pub use crate::change::OpenChange;
 pub use crate::rollouts::GroupAndNext;
 pub use crate::store::DeskStore;
 pub use desk_records::{
-    CheckedArtifact, CountedAction, ListedAction, ListedTarget, NewEntry, OwnedOffer, PlacedMember,
-    SequencedEntry, SetName, StoredAction, StoredArtifact, StoredRollout, StoredTarget, ToldPlan,
-    tell_entry,
+    CheckedArtifact, CountedAction, LastNumber, ListedAction, ListedTarget, NewEntry, OwnedOffer,
+    PlacedMember, PlacedNumber, SequencedEntry, SetName, StoredAction, StoredArtifact,
+    StoredRollout, StoredTarget, ToldPlan, tell_entry,
 };
 pub use sql_calls::{Fault, Work};

@@ -1,0 +1,16 @@
+use Rattle.std.proofs.Common.{[], ◌∷◌, pos, subst, ◌≤◌, Ok}
+use Rattle.sqlite_value.specs.declared.value.Value.TheVariants.{Int}
+use Rattle.sqlite.specs.Held.{state}
+use Rattle.sql_calls.specs.Calls.{AsksText}
+use Rattle.desk_records.specs.declared.action_texts.TheConstants.{LIST_NUMBERS}
+use Rattle.desk_store.proofs.NumberCalls.{listing_numbers, numbers_read}
+use Rattle.desk_store.proofs.change.OpenChange.read_numbers.Goals as goal
+
+pub returns-clause-reads : goal.returns-clause-reads
+returns-clause-reads g c =
+    let it : AsksText (state g.S.Store c.args.self.now.store.now.calls.conn) (state g.S.Store c.ask.new.self.store.now.calls.conn) LIST_NUMBERS.now (Int (pos c.args.action) ∷ []) (Ok c.in_ok-rows.rows) =
+    rw (c.params-to_sql.ensures, c.get.ensures.value) at c.in_ok-rows.ensures.asks in
+    numbers_read c.args.action (subst (λ n. 1 ≤ n) c.get.ensures.value c.get.ensures.least) _ _ c.in_ok-rows.rows it c.read_all.result (rw c.deref.ensures.value at c.read_all.ensures.ok)
+
+pub ask-requires : goal.ask-requires
+ask-requires g c = listing_numbers

@@ -1,0 +1,15 @@
+use Rattle.sqlite.specs.Held.{state}
+use Rattle.sql_calls.specs.Calls.{RunsText}
+use Rattle.desk_records.specs.FeedbackNumbers.{number_row}
+use Rattle.desk_records.specs.declared.action_texts.TheConstants.{PUT_NUMBER}
+use Rattle.desk_store.proofs.NumberCalls.{knows_put_number, number_written}
+use Rattle.desk_store.proofs.change.OpenChange.write_number.Goals as goal
+
+pub returns-clause-writes : goal.returns-clause-writes
+returns-clause-writes g c =
+    let ran : RunsText (state g.S.Store c.args.self.now.store.now.calls.conn) (state g.S.Store c.run.new.self.store.now.calls.conn) PUT_NUMBER.now (number_row c.args.action c.args.place c.args.it.now) c.run.result =
+    rw (c.params-to_sql.ensures, c.params-to_sql-2.ensures, c.params-to_sql-3.ensures, c.params-to_sql-4.ensures, c.get.ensures.value, c.get-2.ensures.value) at c.run.ensures.runs in
+    number_written c.args.action c.args.place c.args.it.now _ _ c.run.result ran
+
+pub run-requires : goal.run-requires
+run-requires g c = knows_put_number

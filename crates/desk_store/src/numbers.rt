@@ -1,0 +1,85 @@
+//! The numbers that devices give entries of histories, in a change that is under way.
+
+ghost use Rattle.std.specs.Prelude.{◌≡◌, ◌≤◌, ◌+◌};
+ghost use Rattle.desk_records.specs.FeedbackNumbers.{last_number, numbers_numbered};
+ghost use Rattle.desk_records.specs.LedgerSteps.{AddsNumber};
+ghost use Rattle.desk_records.specs.NumberRow.{IsLastNumberRow, IsNumberRow, broken_number_column};
+ghost use Rattle.desk_store.specs.Counting.{AddsIn};
+ghost use Rattle.desk_store.specs.Rows.{BreaksRule};
+ghost use Rattle.desk_store.specs.Changing.{FindsLedger, MakesLedger, StaysIn};
+
+use crate::change::OpenChange;
+use crate::from_row::FromRow;
+use crate::reading::{read_all, read_optional};
+use desk_records::{
+    LAST_NUMBER, LIST_NUMBERS, LastNumber, PUT_NUMBER, PlacedNumber, RowFault, read_last_number,
+    read_number,
+};
+use rollout_model::ActionNo;
+use sql_calls::Fault;
+use sqlite::{Alter, Row, params};
+use std::alloc::Global;
+
+/// Of sequence and number.
+impl FromRow for PlacedNumber {
+    ghost is_row = { IsNumberRow };
+
+    ghost is_broken = { λ row. BreaksRule (broken_number_column row) };
+
+    fn from_row(_alloc: Global, row: &Row) -> Result<Self, RowFault> {
+        read_number(row)
+    }
+}
+
+/// Of sequence, number and place.
+impl FromRow for LastNumber {
+    ghost is_row = { IsLastNumberRow };
+
+    ghost is_broken = { λ row. Unit };
+
+    fn from_row(_alloc: Global, row: &Row) -> Result<Self, RowFault> {
+        read_last_number(row)
+    }
+}
+
+impl<'a, S: Alter> OpenChange<'a, S> {
+    /// The last number of an action, with its place among those of the action. A row that breaks a column's rule is a failed store.
+    pub fn read_last_number(&mut self, action: ActionNo) -> Result<Option<LastNumber>, Fault>
+        ensures stays { StaysIn S.Store self.old self.new result }
+        ensures reads { FindsLedger S.Store self.old self.new result (λ l found. found ≡ last_number (numbers_numbered l.numbers action)) }
+        ensures work { AddsIn 1 1 self.old self.new }
+    {
+        let alloc = self.store.alloc;
+        let row = self.first(LAST_NUMBER, params![action.get()])?;
+        read_optional(alloc, row)
+    }
+
+    /// The numbers of an action, in the order of their places; none where there is no such action. A row that breaks a column's rule is a
+    /// failed store.
+    pub fn read_numbers(&mut self, action: ActionNo) -> Result<Vec<PlacedNumber>, Fault>
+        ensures stays { StaysIn S.Store self.old self.new result }
+        ensures reads { FindsLedger S.Store self.old self.new result (λ l found. found.items ≡ numbers_numbered l.numbers action) }
+        ensures work { self.new.store.now.calls.work.statements ≤ self.old.store.now.calls.work.statements + 1 }
+    {
+        let alloc = self.store.alloc;
+        let rows = self.ask(LIST_NUMBERS, params![action.get()])?;
+        read_all(alloc, &rows)
+    }
+
+    /// Adds a number to those of an action that is there, at their next place.
+    pub fn write_number(
+        &mut self,
+        action: ActionNo,
+        place: u32,
+        it: &PlacedNumber,
+    ) -> Result<(), Fault>
+        ensures stays { StaysIn S.Store self.old self.new result }
+        ensures writes { MakesLedger S.Store self.old self.new result (AddsNumber action place it.now) }
+        ensures work { AddsIn 1 0 self.old self.new }
+    {
+        self.run(
+            PUT_NUMBER,
+            params![action.get(), place, it.sequence, it.number.get()],
+        )
+    }
+}
