@@ -124,7 +124,8 @@ OffersFollow = (h : CommandList) (c : Command) (t : Bytes) (k : ℕ) (p : Action
 
 -- an action has as many notes more as its feedback adds, and a closed one none
 abbrev pub NotesGrow : Type 0
-NotesGrow = (c : Command) (a : ActionRecord) → notes_of (action_after c a) ≡ notes_of a + cond (is_none a.outcome) (length (filter is_note (entries_in (reported_by c)))) 0
+NotesGrow = (c : Command) (a : ActionRecord)
+    → notes_of (action_after c a) ≡ notes_of a + cond (is_none a.outcome) (length (filter is_note (entries_in (reported_by c)))) 0
 
 -- ---- numbers of feedback
 
