@@ -1,0 +1,12 @@
+use Rattle.sql_calls.proofs.Composing.{both_found, finds_as}
+use Rattle.desk_store.proofs.LedgersOfRecords.{ledger_found}
+use Rattle.desk_views.proofs.HistoryViews.{none_numbered, page_numbered}
+use Rattle.desk_views.proofs.actions.read_numbered.Goals as goal
+
+pub returns-then-is_empty-clause-reads : goal.returns-then-is_empty-clause-reads
+returns-then-is_empty-clause-reads g c = finds_as c.in_ok-entries.ensures.reads (λ r is of. none_numbered r c.args.number c.args.page c.in_ok-entries.entries.items (is of) ?)
+
+pub returns-clause-reads : goal.returns-clause-reads
+returns-clause-reads g c =
+    finds_as (both_found c.in_ok-entries.ensures.reads (ledger_found _ c.in_ok-numbers.ensures.reads))
+    (λ r is of. page_numbered r c.args.number c.args.page c.in_ok-entries.entries.items c.in_ok-numbers.numbers.items c.in_ok-shown.shown.items (is.0 of) is.1 ?)
