@@ -6,7 +6,7 @@ use Rattle.rollout_machine.specs.Commands.{RolloutPlan}
 use Rattle.rollout_machine.specs.GroupRules.{GroupRule, rule_at, rules_of}
 use Rattle.rollout_machine.specs.Records.{Records}
 use Rattle.rollout_machine.specs.declared.records.RolloutRecord.{RolloutRecord}
-use Rattle.rollout_machine.proofs.Lists.{numbered_each}
+use Rattle.rollout_machine.proofs.Lists.{each_there, numbered_each}
 use Rattle.desk_records.specs.Holds.{ledger_of}
 use Rattle.desk_records.specs.Rollouts.{rule_numbered, rules_numbered}
 
