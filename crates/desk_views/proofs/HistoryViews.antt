@@ -107,10 +107,14 @@ page_numbered r k page entries numbers content read borne shown =
     ∙ ap (λ es. take page.limit (drop page.offset es)) (all_shown history)
 
 -- an empty one
-pub none_numbered : (r : Records) (k : ℕ) (page : Page) (entries : List HistoryEntry) → entries ≡ take page.limit (drop page.offset (history_of (item_numbered r.actions k))) → entries ≡ []
+none_there : {X : Type 0} (xs : List X) → length xs ≡ 0 → xs ≡ []
+none_there [] none = refl
+none_there (x ∷ xs) none = absurd (omega (arith, none))
+
+pub none_numbered : (r : Records) (k : ℕ) (page : Page) (entries : List HistoryEntry) → entries ≡ take page.limit (drop page.offset (history_of (item_numbered r.actions k))) → length entries ≡ 0
     → [] ≡ take page.limit (drop page.offset (numbered entry_shown 1 (reports_of (item_numbered r.actions k))))
 none_numbered r k page entries read none =
-    page_numbered r k page entries (numbers_numbered (ledger_of r).numbers k) [] read refl (sym (ap (numbered (entry_by (numbers_numbered (ledger_of r).numbers k)) (page.offset + 1)) none))
+    let numbers = numbers_numbered (ledger_of r).numbers k in page_numbered r k page entries numbers [] read refl (sym (ap (numbered (entry_by numbers) (page.offset + 1)) (none_there entries none)))
 
 history_page : (page : Page) (history : List Reported) (content : List ShownEntry) (total : ℕ) → content ≡ take page.limit (drop page.offset (numbered entry_shown 1 history)) → total ≡ length history
     → record { content = content; total = total } ≡ page_of page (numbered entry_shown 1 history)
