@@ -3,3 +3,4 @@ pub mod ListLemmas
 pub mod RuleLemmas
 pub mod ListedTargets
 pub mod KnownDevices
+pub mod HistoryKept

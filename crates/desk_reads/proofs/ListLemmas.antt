@@ -15,6 +15,7 @@ use Rattle.rollout_machine.specs.Validity.{IsValid}
 use Rattle.rollout_machine.specs.declared.records.GroupRecord.{GroupRecord}
 use Rattle.rollout_machine.specs.declared.records.RolloutRecord.{RolloutRecord}
 use Rattle.rollout_machine.proofs.Induction.{invariant_of, no_record}
+use Rattle.rollout_machine.proofs.Lists.{each_there, length_each}
 use Rattle.rollout_machine.proofs.Whole.{rollout_numbered}
 use Rattle.desk_records.specs.Holds.{HoldsLedger, ledger_of}
 use Rattle.desk_records.specs.Parts.{parts_of}
@@ -63,15 +64,6 @@ groups_are rs of r = go (item_numbered rs.rollouts r) refl where
   go None e = refl
   go (Some x) e = let it = made rs of r x e in rw it.is (same_numbers it.made r of.list 1 it.made.plan.groups.count)
 
-pub get_each : {X : Type 0} (f : ℕ → X) (a n i k : ℕ) → i < n → k ≡ a + i → slice_get (each_from f a n) i ≡ Some (f k)
-get_each f a zero i k less at = absurd (omega (arith, less))
-get_each f a (suc n) zero k less at = ap (λ j. Some (f j)) (omega (arith, at))
-get_each f a (suc n) (suc i) k less at = get_each f (suc a) n i k (omega (arith, less)) (omega (arith, at))
-
-each_length : {X : Type 0} (f : ℕ → X) (a n : ℕ) → length (each_from f a n) ≡ n
-each_length f a zero = refl
-each_length f a (suc n) = ap suc (each_length f (suc a) n)
-
 -- a group that is found is one of them
 found_each : (f : ℕ → GroupRecord) (i a n : ℕ) (g : GroupRecord) → Some g ≡ group_numbered i (each_from f a n) → (k : ℕ) × (a ≤ k) × (k < a + n) × (g ≡ f k)
 found_each f i a zero g is = absurd cc
@@ -97,8 +89,8 @@ group_within rs of r x e i g is =
 last_in_each : (y : Rollout) (r : ℕ) (h : CommandList) → HasSoundPlan y → last_place (each_from (group_in y r h) 1 y.plan.groups.count) ≡ size_of y
 last_in_each y r h sound =
     let n = y.plan.groups.count in
-    ap (λ k. last_in (slice_get (each_from (group_in y r h) 1 n) (k - 1))) (each_length (group_in y r h) 1 n)
-    ∙ ap last_in (get_each (group_in y r h) 1 n (n - 1) n (omega (arith, sound.some_groups)) (omega (arith, sound.some_groups)))
+    ap (λ k. last_in (slice_get (each_from (group_in y r h) 1 n) (k - 1))) (length_each (group_in y r h) 1 n)
+    ∙ ap last_in (each_there (group_in y r h) 1 n (n - 1) n (omega (arith, sound.some_groups)) (omega (arith, sound.some_groups)))
     ∙ sound.cut.whole
 
 -- they are as many as the last place

@@ -6,10 +6,9 @@ use Rattle.rollout_machine.specs.Commands.{RolloutPlan}
 use Rattle.rollout_machine.specs.GroupRules.{GroupRule, rule_at, rules_of}
 use Rattle.rollout_machine.specs.Records.{Records}
 use Rattle.rollout_machine.specs.declared.records.RolloutRecord.{RolloutRecord}
-use Rattle.rollout_machine.proofs.Lists.{numbered_each}
+use Rattle.rollout_machine.proofs.Lists.{each_there, numbered_each}
 use Rattle.desk_records.specs.Holds.{ledger_of}
 use Rattle.desk_records.specs.Rollouts.{rule_numbered, rules_numbered}
-use Rattle.desk_reads.proofs.ListLemmas.{get_each}
 
 -- those of a rollout that is there are its plan's
 pub rules_there : (r : Records) (number : ℕ) (x : RolloutRecord) → item_numbered r.rollouts number ≡ Some x → rules_numbered (ledger_of r).rules number ≡ rules_of x.plan
@@ -23,7 +22,7 @@ rule_is plan i rule there = (numbered_each (rule_at plan) plan.groups.count i ru
 -- .. and one is there for each group
 pub rule_there : (plan : RolloutPlan) (i : ℕ) → 1 ≤ i → i ≤ plan.groups.count → item_numbered (rules_of plan) i ≡ Some (rule_at plan i)
 rule_there plan zero least most = absurd (omega (arith, least))
-rule_there plan (suc k) least most = get_each (rule_at plan) 1 plan.groups.count k (suc k) (omega (arith, most)) (omega arith)
+rule_there plan (suc k) least most = each_there (rule_at plan) 1 plan.groups.count k (suc k) (omega (arith, most)) (omega arith)
 
 -- what is said of a group of a rollout that is there
 pub said_of : (r : Records) (number i : ℕ) (x : RolloutRecord) (rule : GroupRule) → item_numbered r.rollouts number ≡ Some x → Some rule ≡ rule_numbered (ledger_of r).rules number i → rule ≡ rule_at x.plan i

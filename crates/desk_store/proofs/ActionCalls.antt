@@ -1,5 +1,5 @@
 -- The calls on actions and offers.
-use Rattle.std.proofs.Common.{◌≡◌, ◌≤◌, ℕ, zero, suc, pos, take, drop, Bool, true, List, [], ◌∷◌, length, Option, Some, None, Ok, Err, Result, IfOk, option_map, Vec, vec_items, refl, ap, subst, slice_get, ◌∙◌, codes}
+use Rattle.std.proofs.Common.{◌≡◌, ◌≤◌, ℕ, zero, suc, pos, take, drop, Bool, true, List, [], ◌∷◌, length, Option, Some, None, Ok, Err, Result, IfOk, option_map, Vec, vec_items, refl, sym, ap, subst, map, slice_get, ◌∙◌, codes}
 use Rattle.std.specs.List.{list_all, zip}
 use Rattle.std.specs.declared.alloc.Global.{Global}
 use Rattle.sqlite_value.specs.declared.value.Value.TheVariants.{Int, Text}
@@ -135,7 +135,7 @@ part_read : (found : Option HistoryEntry) (row : Option Row) → IsReadAs IsEntr
 part_read found None h = h
 part_read found (Some row) h = h
 
-module _ (number before : ℕ) (least : 1 ≤ number) where
+module _ (number sequence before : ℕ) (least : 1 ≤ number) (behind : sequence ≡ suc before) where
   abbrev page_of_one : Row
   page_of_one = Int (pos number) ∷ Int (pos 1) ∷ Int (pos before) ∷ []
 
@@ -143,7 +143,7 @@ module _ (number before : ℕ) (least : 1 ≤ number) where
   its l = history_of (item_numbered l.records.actions number)
 
   abbrev IsAt : Ledger → Option HistoryEntry → Type 0
-  IsAt l found = list_all keeps_details (its l) ≡ true → found ≡ slice_get (its l) before
+  IsAt l found = list_all keeps_details (its l) ≡ true → found ≡ item_numbered (its l) sequence
 
   entry_shown : (db : Database) (l : Ledger) (holds : HoldsLedger db l) (row : Option Row) → ShowsFirst (listing_entries db l holds).command db page_of_one row → option_map told_part row ≡ option_map told_entry (slice_get (its l) before)
   entry_shown db l holds row shown = go row shown
@@ -168,7 +168,7 @@ module _ (number before : ℕ) (least : 1 ≤ number) where
           → IfOk out (λ found. (db : Database) (l : Ledger) (holds : HoldsLedger db l) → ShowsFirst (listing_entries db l holds).command db page_of_one row → IsAt l found)
       answers (Ok found) is = λ db l holds shown keep.
           one_read IsEntryRow told_entry Tells (λ kept. refl) (λ a b same kept. ap Some (one_entry a b (kept b refl) same)) found (slice_get (its l) before) (option_map told_part row) (part_read found row is)
-          (entry_shown db l holds row shown) (λ e at. kept_at keeps_details before (its l) e keep at)
+          (entry_shown db l holds row shown) (λ e at. kept_at keeps_details before (its l) e keep at) ∙ ap (item_numbered (its l)) (sym behind)
       answers (Err e) is = tt
 
 -- ---- offers

@@ -1,5 +1,5 @@
 -- What a failed store is blamed on, by what was read before.
-use Rattle.std.proofs.Common.{◌≡◌, ◌≤◌, inr, Ok, Err, Result, IfErr, arith}
+use Rattle.std.proofs.Common.{◌≤◌, inr, Ok, Err, Result, IfErr, arith}
 use Rattle.sqlite.specs.Store.{Ghosts}
 use Rattle.sql_calls.specs.declared.fault.Fault.{Fault}
 use Rattle.sql_calls.specs.declared.fault.Fault.TheVariants.{Memory, Store}

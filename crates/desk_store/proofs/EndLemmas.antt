@@ -1,5 +1,5 @@
 -- The ends of a change, where each failure is a failed store.
-use Rattle.std.proofs.Common.{◌≡◌, Bool, true, false, not, [], Ok, Err, Result, IfErr, refl}
+use Rattle.std.proofs.Common.{◌≡◌, Bool, true, false, not, Ok, Err, Result, refl}
 use Rattle.sql_calls.specs.Calls.{errors_in}
 use Rattle.sqlite.specs.State.{State}
 use Rattle.sql_calls.specs.declared.fault.Fault.{Fault}

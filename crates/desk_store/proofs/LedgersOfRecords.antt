@@ -14,5 +14,5 @@ module _ {A E : Type 0} {old new : State} where
   ledger_made = made_of ledger_of
 
 -- ledgers that offer the same, id by id, are the same
-pub same_ledger : (l m : Ledger) → l.records ≡ m.records → l.tallies ≡ m.tallies → ((id : Bytes) → l.offers id ≡ m.offers id) → l.rules ≡ m.rules → l ≡ m
-same_ledger l m records tallies offers rules = λ i. record { records = records i; tallies = tallies i; offers = λ id. offers id i; rules = rules i }
+pub same_ledger : (l m : Ledger) → l.records ≡ m.records → l.tallies ≡ m.tallies → ((id : Bytes) → l.offers id ≡ m.offers id) → l.rules ≡ m.rules → l.numbers ≡ m.numbers → l ≡ m
+same_ledger l m records tallies offers rules numbers = λ i. record { records = records i; tallies = tallies i; offers = λ id. offers id i; rules = rules i; numbers = numbers i }

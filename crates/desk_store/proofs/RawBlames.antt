@@ -18,7 +18,6 @@ use Rattle.sqlite.specs.Command.TheVariants.{Select}
 use Rattle.sqlite.specs.Effect.{Database, Reads as Shows}
 use Rattle.sqlite.specs.Query.{Output, Query, page}
 use Rattle.sqlite.specs.Schema.{Schema}
-use Rattle.sqlite.specs.State.{State}
 use Rattle.sqlite.specs.Store.{Ghosts}
 use Rattle.sqlite.specs.Term.{Term, col, lit}
 use Rattle.sqlite_rules.specs.Lists.{Has}
@@ -59,7 +58,7 @@ use Rattle.desk_store.specs.Unreadable.{IsUnreadable, broken_entry, broken_numbe
 use Rattle.desk_store.specs.declared.change.OpenChange.{OpenChange}
 use Rattle.desk_store.proofs.BlameLemmas.{blamed}
 use Rattle.desk_store.proofs.Known.{tables_know}
-use Rattle.desk_store.proofs.RawCalls.{FindsOf, all_read, count_shown as row_of_count, counted, ending_any, few_read}
+use Rattle.desk_store.proofs.RawCalls.{all_read, count_shown as row_of_count, counted, ending_any, few_read}
 use Rattle.desk_store.proofs.RawLists.{all_of, small_or_wide}
 
 -- ---- any read of one table

@@ -8,7 +8,7 @@ use Rattle.sqlite.specs.Effect.{Database}
 use Rattle.sqlite_rules.specs.Lists.{Has}
 use Rattle.sqlite_rules.proofs.ListLemmas.{has_got}
 use Rattle.rollout_model.specs.Rules.{is_number, is_word}
-use Rattle.rollout_machine.specs.Actions.{HistoryEntry, Said, OfDeployment, OfCancel, outcome_said}
+use Rattle.rollout_machine.specs.Actions.{outcome_said}
 use Rattle.rollout_machine.specs.ByteStrings.{item_numbered}
 use Rattle.rollout_machine.specs.CommandList.{CommandList}
 use Rattle.rollout_machine.specs.Commands.{Bytes, CancelWord, DeploymentWord, Proceeding, Scheduled, Resumed, Succeeded, Failed, Rejected}
@@ -16,6 +16,7 @@ use Rattle.rollout_machine.specs.Commands.{Noted, ClosedCancel, CanceledCancel, 
 use Rattle.rollout_machine.specs.Histories.{first_outcome}
 use Rattle.rollout_machine.specs.MemberActions.{FollowMembers, IsOfMember}
 use Rattle.rollout_machine.specs.Records.{records}
+use Rattle.rollout_machine.specs.Reports.{HistoryEntry, Said, OfDeployment, OfCancel}
 use Rattle.rollout_machine.specs.StateWords.{member_at}
 use Rattle.rollout_machine.specs.Validity.{IsValid}
 use Rattle.rollout_machine.specs.WithinLimits.{AreWithinLimits}
@@ -26,7 +27,7 @@ use Rattle.rollout_machine.specs.declared.records.RolloutRecord.{RolloutRecord}
 use Rattle.rollout_machine.proofs.Histories.{outcomes_fit_histories}
 use Rattle.rollout_machine.proofs.MemberActions.{actions_follow_members}
 use Rattle.rollout_machine.proofs.WithinLimits.{limits_hold}
-use Rattle.desk_records.specs.Actions.{Tally, action_row, actor_of, entry_row, kind_code, outcome_code, tally_of, word_code}
+use Rattle.desk_records.specs.Actions.{Tally, action_row, actor_of, entries_of, entry_row, kind_code, outcome_code, tally_of, word_code}
 use Rattle.desk_records.specs.Codes.{flag_in, outcome_in}
 use Rattle.desk_records.specs.EntryRow.{said_by}
 use Rattle.desk_records.specs.Holds.{HoldsRecords, ledger_of}
@@ -114,9 +115,6 @@ its_tally (b ∷ actions) zero it e = let same : (b, tally_of b) ≡ it = cc in 
 its_tally (b ∷ actions) (suc d) it e = its_tally actions d it e
 
 -- ---- histories
-
-abbrev entries_in : ActionRecord → List HistoryEntry
-entries_in a = a.history
 
 -- an entry that gives an outcome where none before it does
 first_is : (es : List HistoryEntry) (i : ℕ) (e : HistoryEntry) (o : Outcome) → slice_get es i ≡ Some e → outcome_said e.said ≡ Some o
@@ -245,10 +243,10 @@ module _ (h : CommandList) (valid : IsValid h) (db : Database) (t : Tables) (hel
 
     -- ---- its entries
 
-    gives : (i : ℕ) (e : HistoryEntry) (o : Outcome) → slice_get a.history i ≡ Some e → outcome_said e.said ≡ Some o → GivesOutcome t (suc d) (suc i) o
+    gives : (i : ℕ) (e : HistoryEntry) (o : Outcome) → slice_get (entries_of a) i ≡ Some e → outcome_said e.said ≡ Some o → GivesOutcome t (suc d) (suc i) o
     gives i e o at said =
-        let part = part_among entry_row entries_in 1 (suc d) d (records h).actions a (entry_row (suc d) (suc i) e) (omega arith) got (item_row (entry_row (suc d)) 1 (suc i) i a.history e (omega arith) at) in
-        let it = row_of (t Feedbacks) (parts_from entry_row entries_in 1 (records h).actions) (entry_row (suc d) (suc i) e) (held_rows db (ledger_of (records h)) held t holds Feedbacks) part in
+        let part = part_among entry_row entries_of 1 (suc d) d (records h).actions a (entry_row (suc d) (suc i) e) (omega arith) got (item_row (entry_row (suc d)) 1 (suc i) i (entries_of a) e (omega arith) at) in
+        let it = row_of (t Feedbacks) (parts_from entry_row entries_of 1 (records h).actions) (entry_row (suc d) (suc i) e) (held_rows db (ledger_of (records h)) held t holds Feedbacks) part in
         let whole = Int (pos it.0) ∷ entry_row (suc d) (suc i) e in
         record { row = whole; among = it.1; of = is_at whole 1 (suc d) refl; at = is_at whole 2 (suc i) refl; said = e.said; says = said_is e.said; gives = said }
 
@@ -256,14 +254,14 @@ module _ (h : CommandList) (valid : IsValid h) (db : Database) (t : Tables) (hel
       index : ℕ
       at : sequence ≡ suc index
       entry : HistoryEntry
-      lies : slice_get a.history index ≡ Some entry
+      lies : slice_get (entries_of a) index ≡ Some entry
       gives : outcome_said entry.said ≡ Some o
 
     gave : (sequence : ℕ) (o : Outcome) → GivesOutcome t (suc d) sequence o → Gives sequence o
     gave sequence o it =
-        let content = wanted_of (t Feedbacks) (parts_from entry_row entries_in 1 (records h).actions) it.row (held_rows db (ledger_of (records h)) held t holds Feedbacks) it.among in
-        let of = of_part entry_row entries_in 1 (records h).actions content.1 content.2 in
-        let item = numbered (entry_row of.number) 1 of.whole.history content.1 of.among in
+        let content = wanted_of (t Feedbacks) (parts_from entry_row entries_of 1 (records h).actions) it.row (held_rows db (ledger_of (records h)) held t holds Feedbacks) it.among in
+        let of = of_part entry_row entries_of 1 (records h).actions content.1 content.2 in
+        let item = numbered (entry_row of.number) 1 (entries_of of.whole) content.1 of.among in
         let is : it.row ≡ Int (pos content.0) ∷ entry_row of.number item.at item.one = content.3 ∙ ap (λ x. Int (pos content.0) ∷ x) item.is in
         let number : of.number ≡ suc d = one_number (column it.row 1) of.number (suc d) (ap (λ (r : Row). column r 1) is) (number_is _ _ it.of) in
         let place : item.at ≡ sequence = one_number (column it.row 2) item.at sequence (ap (λ (r : Row). column r 2) is) (number_is _ _ it.at) in
@@ -276,7 +274,7 @@ module _ (h : CommandList) (valid : IsValid h) (db : Database) (t : Tables) (hel
           index = item.index;
           at = (let k = item.at_is in omega (arith, k, place));
           entry = item.one;
-          lies = ap (λ (b : ActionRecord). slice_get b.history item.index) (sym whole) ∙ item.got;
+          lies = ap (λ (b : ActionRecord). slice_get (entries_of b) item.index) (sym whole) ∙ item.got;
           gives = ap outcome_said said ∙ it.gives;
         }
 
@@ -285,9 +283,9 @@ module _ (h : CommandList) (valid : IsValid h) (db : Database) (t : Tables) (hel
       given = λ sequence o first. (
           let it = gave sequence o first.gives in
           let history = outcomes_fit_histories h (suc d) a got in
-          history.given o (first_is a.history it.index it.entry o it.lies it.gives (λ j f p at said. (let least = first.first (suc j) p (gives j f p at said) in let k = it.at in omega (arith, least, k))))
+          history.given o (first_is (entries_of a) it.index it.entry o it.lies it.gives (λ j f p at said. (let least = first.first (suc j) p (gives j f p at said) in let k = it.at in omega (arith, least, k))))
           );
-      not_given = λ none. (outcomes_fit_histories h (suc d) a got).not_given (none_is a.history (λ i e o at said. none (suc i) o (gives i e o at said)));
+      not_given = λ none. (outcomes_fit_histories h (suc d) a got).not_given (none_is (entries_of a) (λ i e o at said. none (suc i) o (gives i e o at said)));
     }
 
     right : IsRightAction t row

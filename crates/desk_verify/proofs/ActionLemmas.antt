@@ -15,9 +15,9 @@ use Rattle.desk_records.specs.declared.rollout_row.ListedAction.{ListedAction}
 use Rattle.desk_records.specs.declared.rollout_row.StoredAction.{StoredAction}
 use Rattle.desk_records.specs.declared.rollout_row.StoredRollout.{StoredRollout}
 use Rattle.desk_records.proofs.NumberColumns.{is_at, number_in_is, number_in_least, number_is, one_number}
-use Rattle.desk_verify.specs.ActionChecks.{AreActionsInTurn, AreMembersInTurn, AreWhole, FitsHistory, ListsActions, are_for, count_none, is_for}
-use Rattle.desk_verify.specs.Actions.{AgreesActions, AreInOrder, FitsEntries, HasActions, HasMember, IsRightAction, IsStarted}
-use Rattle.desk_verify.specs.Agreement.{Decides}
+use Rattle.desk_verify.specs.ActionChecks.{AreActionsInTurn, AreMembersInTurn, AreWhole, FitsHistory, ListsActions, PassesHistory, are_for, count_none, is_for}
+use Rattle.desk_verify.specs.Actions.{AgreesActions, AreInOrder, FitsEntries, HasActions, HasMember, IsRightAction, IsStarted, KeepsNumbers, PassesActions}
+use Rattle.desk_verify.specs.Agreement.{Settles}
 use Rattle.desk_verify.specs.RolloutChecks.{AreAllChecked, HasRollout, IsChecked, JudgesOne}
 use Rattle.desk_verify.specs.Rollouts.{IsThere}
 use Rattle.desk_verify.proofs.OneRow.{one_action, one_in}
@@ -57,6 +57,7 @@ module _ (t : Tables) (r : ℕ) (rollout : StoredRollout) (there : HasRollout t 
     whole = record {
       all = λ started. absurd (true≢false (sym (said_started started) ∙ waits));
       in_order = λ row other j k a b among others is other_is same other_same. absurd (listed.said.complete row among (of_rollout row r j a is same)).among;
+      numbers = λ row number a among is same. absurd (listed.said.complete row among (of_rollout row r number a is same)).among;
     };
   }
 
@@ -89,10 +90,10 @@ module _ (t : Tables) (r : ℕ) (rollout : StoredRollout) (there : HasRollout t 
         let texts : Text it.one.id ≡ Text id = sym it.is.id_is ∙ has.is.id_is in
         record { one = it.one; among = it.among; place_is = one_in _ _ _ it.is.place_is has.is.place_is; id_is = cc }
 
-    pub fits : are_for members actions ≡ true → AllByRecursion (FitsHistory t) actions → (many : ℕ) → many ≡ length actions → IsChecked Actions 2 IsRightAction AreWhole t r many
+    pub fits : are_for members actions ≡ true → AllByRecursion (PassesHistory t) actions → (many : ℕ) → many ≡ length actions → IsChecked Actions 2 IsRightAction AreWhole t r many
     fits are histories many is = record {
       rows = record { each = each; all = is ∙ listed.said.count };
-      whole = record { all = λ begun. all; in_order = in_order };
+      whole = record { all = λ begun. all; in_order = in_order; numbers = numbers };
     }
       where
         ours : AreTurns members actions
@@ -111,7 +112,7 @@ module _ (t : Tables) (r : ℕ) (rollout : StoredRollout) (there : HasRollout t 
               started = subst (IsStarted t) (sym own) (is_started started);
               member = subst (λ n. HasMember t n it.one.action.position it.one.action.target) (sym own)
                   (subst (λ p. HasMember t r p it.one.action.target) (sym at.0) (subst (HasMember t r m.0.place) (sym at.1) (has_member m.0 m.1)));
-              fits = all_has (FitsHistory t) actions it.one histories it.among;
+              fits = (all_has (PassesHistory t) actions it.one histories it.among).fits;
             }
 
         all : HasActions t r
@@ -134,6 +135,11 @@ module _ (t : Tables) (r : ℕ) (rollout : StoredRollout) (there : HasRollout t 
               apart = λ same. (let it = order.0 (omega (arith, same, a_at, b_at)) in omega (arith, it, j_is, k_is));
               order = λ less. (let it = order.1 (omega (arith, less, a_at, b_at)) in omega (arith, it, j_is, k_is));
             }
+
+        numbers : (row : Row) (number : ℕ) (a : StoredAction) → Has (t Actions) row → IsAction row number a → a.rollout ≡ r → KeepsNumbers t number
+        numbers row number a among is of =
+            let it = listed.said.complete row among (of_rollout row r number a is of) in
+            subst (KeepsNumbers t) (one_action_number row it.one.number number it.one.action a it.is is) (all_has (PassesHistory t) actions it.one histories it.among).numbers
 
     follows : AgreesActions t → AreFollowing members actions
     follows agree = record { its_member = own; its_action = all; order = order }
@@ -179,18 +185,21 @@ is_there : (t : Tables) (r : ℕ) → IsStarted t r → IsThere t r
 is_there t r it = record { row = it.row; among = it.among; numbered = it.numbered }
 
 -- the actions of all rollouts that are there, where there are no more
-pub agrees : (t : Tables) (listed all : ℕ) → AreAllChecked Actions 2 IsRightAction AreWhole t listed → all ≡ length (t Actions) → Decides (AgreesActions t) (nat_eq listed all)
-agrees t listed all checked is = decided Actions 2 IsRightAction AreWhole AgreesActions t listed all checked is
-    (λ each whole. record {
-      each = each;
-      all = λ rollout started place id has. (whole rollout (number_in_least (column has.row 1) rollout has.is.rollout_is) (is_there t rollout started)).all started place id has;
-      in_order = λ row other j k a b among others says other_says same. (
-          let it = each row among in
-          let own : it.action.rollout ≡ a.rollout = ap (λ (x : StoredAction). x.rollout) (one_action row it.action a it.is.shows says.shows) in
-          let there = is_there t a.rollout (subst (IsStarted t) own it.started) in
-          (whole a.rollout (number_in_least (column row 2) a.rollout says.shows.rollout) there).in_order row other j k a b among others says other_says refl (sym same)
-          );
-    })
+pub agrees : (t : Tables) (listed all : ℕ) → AreAllChecked Actions 2 IsRightAction AreWhole t listed → all ≡ length (t Actions) → Settles (PassesActions t) (AgreesActions t) (nat_eq listed all)
+agrees t listed all checked is = decided Actions 2 IsRightAction AreWhole PassesActions AgreesActions t listed all checked is
+    (λ each whole. (
+    let at : (row : Row) (number : ℕ) (action : StoredAction) → Has (t Actions) row → IsAction row number action → AreWhole t action.rollout = (λ row number action among says.
+    let it = each row among in
+    let own : it.action.rollout ≡ action.rollout = ap (λ (x : StoredAction). x.rollout) (one_action row it.action action it.is.shows says.shows) in
+    whole action.rollout (number_in_least (column row 2) action.rollout says.shows.rollout) (is_there t action.rollout (subst (IsStarted t) own it.started))) in
+    record {
+      agrees = record {
+        each = each;
+        all = λ rollout started place id has. (whole rollout (number_in_least (column has.row 1) rollout has.is.rollout_is) (is_there t rollout started)).all started place id has;
+        in_order = λ row other j k a b among others says other_says same. (at row j a among says).in_order row other j k a b among others says other_says refl (sym same);
+      };
+      numbers = λ row number action among says. (at row number action among says).numbers row number action among says refl;
+    }))
     (λ agree row among.
     let it = agree.each row among in
     record { rollout = it.action.rollout; low = number_in_least (column row 2) it.action.rollout it.is.shows.rollout; there = is_there t it.action.rollout it.started; of = of_rollout row it.action.rollout it.number it.action it.is refl })

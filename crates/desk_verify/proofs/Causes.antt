@@ -28,7 +28,7 @@ use Rattle.desk_store.specs.Unreadable.{IsUnreadable, large_number, many_rows, r
 use Rattle.desk_store.specs.declared.change.OpenChange.{OpenChange}
 use Rattle.desk_verify.specs.ActionChecks.{count_on}
 use Rattle.desk_verify.specs.Actions.{AgreesActions}
-use Rattle.desk_verify.specs.Agreement.{AgreeBefore, Agrees, checked}
+use Rattle.desk_verify.specs.Agreement.{AgreeBefore, Passes, checked}
 use Rattle.desk_verify.specs.declared.damage.CheckedTable.TheVariants.{Artifact}
 use Rattle.desk_verify.specs.Following.{follow}
 use Rattle.desk_verify.specs.Members.{AgreesMembers}
@@ -150,10 +150,10 @@ together one other = record { wears = one.wears; finds = λ t was. ((one.finds t
 -- ---- the order of the checks
 
 -- those so far are those before
-pub so_far : (t : Tables) (i : ℕ) → i < 5 → AllByRecursion (Agrees t) (take i checked) → AgreeBefore (slice_index_or checked i Artifact) t
-so_far t zero within agree = agree
-so_far t (suc zero) within agree = agree
-so_far t (suc (suc zero)) within agree = agree
-so_far t (suc (suc (suc zero))) within agree = agree
-so_far t (suc (suc (suc (suc zero)))) within agree = agree
-so_far t (suc (suc (suc (suc (suc i))))) within agree = absurd (omega (arith, within))
+pub so_far : (t : Tables) (i : ℕ) → i < 5 → AllByRecursion (Passes t) (take i checked) → AgreeBefore (slice_index_or checked i Artifact) t
+so_far t zero within pass = pass
+so_far t (suc zero) within pass = pass
+so_far t (suc (suc zero)) within pass = pass
+so_far t (suc (suc (suc zero))) within pass = pass
+so_far t (suc (suc (suc (suc zero)))) within pass = (pass.0, (pass.1.0, (pass.1.1.0, (pass.1.1.1.0.agrees, tt))))
+so_far t (suc (suc (suc (suc (suc i))))) within pass = absurd (omega (arith, within))

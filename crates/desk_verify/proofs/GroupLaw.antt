@@ -34,6 +34,7 @@ use Rattle.rollout_machine.specs.declared.records.GroupRecord.{GroupRecord}
 use Rattle.rollout_machine.specs.declared.records.RolloutRecord.{RolloutRecord}
 use Rattle.rollout_machine.proofs.GroupCounts.{groups_are_counted}
 use Rattle.rollout_machine.proofs.Groupings.{grouping_is_cut}
+use Rattle.rollout_machine.proofs.Lists.{each_there}
 use Rattle.rollout_machine.proofs.MemberActions.{actions_follow_members}
 use Rattle.rollout_machine.proofs.WithinLimits.{limits_hold}
 use Rattle.desk_records.specs.Actions.{action_row, outcome_code, tally_of}
@@ -53,7 +54,6 @@ use Rattle.desk_records.proofs.HeldTables.{held_rows, numbered, of_part, row_of,
 use Rattle.desk_records.proofs.NumberColumns.{has_own_number, is_number_in}
 use Rattle.desk_store.specs.RuleTables.{HasGroupCount, HasRule}
 use Rattle.desk_verify.specs.Groups.{AgreesGroups, HasGroup, IsCutBy, IsInRollout, IsRightGroup, ended_in, has_ended, members_in}
-use Rattle.desk_verify.proofs.GroupLemmas.{each_there}
 use Rattle.desk_verify.proofs.PlanLaw.{IsPlanned, each_has, plans_are, rule_told, rules_make}
 
 -- ---- rows

@@ -10,7 +10,7 @@ use Rattle.sqlite_rules.proofs.ListLemmas.{some_from, some_has, test_from, test_
 use Rattle.rollout_machine.specs.ByteStrings.{item_numbered}
 use Rattle.rollout_machine.specs.Groupings.{Grouping, bounds_by, cut_by, leaves_empty}
 use Rattle.rollout_machine.specs.Ranges.{each_from}
-use Rattle.rollout_machine.proofs.Lists.{numbered_each}
+use Rattle.rollout_machine.proofs.Lists.{each_there, numbered_each}
 use Rattle.rollout_machine.specs.declared.bounds.Bounds.{Bounds}
 use Rattle.rollout_machine.specs.declared.outcome.Outcome.{Outcome}
 use Rattle.rollout_machine.specs.declared.outcome.Outcome.TheVariants.{Good, Bad, Gone}
@@ -112,11 +112,6 @@ own_bounds by m g h = go (item_numbered (cut_by by m) g.number) refl h
     go : (o : Option Bounds) → item_numbered (cut_by by m) g.number ≡ o → are_bounds o g.bounds ≡ true → (1 ≤ g.number) × (g.number ≤ by.count) × (g.bounds ≡ bounds_by by m g.number)
     go None none h = absurd cc
     go (Some own) found h = let it = numbered_each (bounds_by by m) by.count g.number own found in (it.0, it.1, both_bounds g.bounds own h ∙ it.2)
-
-pub each_there : {X : Type 0} (f : ℕ → X) (first n k i : ℕ) → k < n → i ≡ first + k → slice_get (each_from f first n) k ≡ Some (f i)
-each_there f first zero k i below at = absurd (omega (arith, below))
-each_there f first (suc n) zero i below at = ap (λ j. Some (f j)) (omega (arith, at))
-each_there f first (suc n) (suc k) i below at = each_there f (suc first) n k i (omega (arith, below)) (omega (arith, at))
 
 cut_so : (by : Grouping) (m i : ℕ) (bounds : Bounds) → 1 ≤ i → i ≤ by.count → bounds ≡ bounds_by by m i → are_bounds (item_numbered (cut_by by m) i) bounds ≡ true
 cut_so by m zero bounds low high is = absurd (omega (arith, low))
@@ -233,7 +228,7 @@ fails_broken t r broken agree =
 
 -- the groups of all rollouts that are there, where there are no more
 pub agrees : (t : Tables) (listed all : ℕ) → AreAllChecked Groups 1 IsInRollout HasEach t listed → all ≡ length (t Groups) → Decides (AgreesGroups t) (nat_eq listed all)
-agrees t listed all checked is = decided Groups 1 IsInRollout HasEach AgreesGroups t listed all checked is
+agrees t listed all checked is = decided Groups 1 IsInRollout HasEach AgreesGroups AgreesGroups t listed all checked is
     (λ each whole. record { each = each; all = λ rollout n i low has. whole rollout low (is_there t rollout n has) n i has })
     (λ agree row among. let it = agree.each row among in
     record { rollout = it.rollout; low = number_in_least (column row 1) it.rollout it.is.rollout_is; there = is_there t it.rollout it.groups.count it.cut.there; of = of_rollout row it.rollout it.group it.is })

@@ -8,15 +8,18 @@ use Rattle.rollout_machine.specs.Counts.{is_outcome}
 use Rattle.rollout_machine.specs.declared.outcome.Outcome.{Outcome}
 use Rattle.rollout_machine.specs.declared.outcome.Outcome.TheVariants.{Good, Bad, Gone}
 use Rattle.desk_records.specs.Listings.{AreSaid, has_at}
-use Rattle.desk_records.specs.Schema.{Feedbacks}
+use Rattle.desk_records.specs.Schema.{Feedbacks, Numbers}
 use Rattle.desk_records.specs.TableRows.{IsEntry}
 use Rattle.desk_records.specs.Tables.{Tables}
 use Rattle.desk_records.specs.declared.entry_row.SequencedEntry.{SequencedEntry}
+use Rattle.desk_records.specs.declared.number_row.PlacedNumber.{PlacedNumber}
+use Rattle.desk_records.specs.declared.rollout_row.ListedAction.{ListedAction}
 use Rattle.desk_records.proofs.NumberColumns.{is_at, number_is, one_number}
+use Rattle.desk_store.specs.RawLists.{SaysNumber}
 use Rattle.desk_store.specs.Unreadable.{rise}
-use Rattle.desk_verify.specs.ActionChecks.{IsGiven, IsGivenFirst, first_said, is_fit, sequences_rise}
-use Rattle.desk_verify.specs.Actions.{FitsEntries, GivesOutcome}
-use Rattle.desk_verify.specs.Agreement.{Decides}
+use Rattle.desk_verify.specs.ActionChecks.{FitsHistory, IsGiven, IsGivenFirst, PassesHistory, first_said, is_fit, sequences_rise}
+use Rattle.desk_verify.specs.Actions.{FitsEntries, GivesOutcome, KeepsNumbers}
+use Rattle.desk_verify.specs.Agreement.{Decides, Settles}
 use Rattle.desk_verify.proofs.Rising.{above, only_one, rest_rises}
 
 abbrev sequence_of : SequencedEntry → ℕ
@@ -129,7 +132,7 @@ is_open_or_gone : (outcome : Option Outcome) → (outcome ≡ None) ⊎ (outcome
 is_open_or_gone outcome (inl is) = ap (is_fit None) is
 is_open_or_gone outcome (inr is) = ap (is_fit None) is
 
-pub decides : (t : Tables) (k : ℕ) (given outcome : Option Outcome) → IsGiven t k given → Decides (FitsEntries t k outcome) (is_fit given outcome)
+decides : (t : Tables) (k : ℕ) (given outcome : Option Outcome) → IsGiven t k given → Decides (FitsEntries t k outcome) (is_fit given outcome)
 decides t k given outcome is = go given is (is_fit given outcome) refl
   where
     go : (given : Option Outcome) → IsGiven t k given → (b : Bool) → is_fit given outcome ≡ b → Decides (FitsEntries t k outcome) b
@@ -137,3 +140,16 @@ decides t k given outcome is = go given is (is_fit given outcome) refl
     go (Some o) it false fit = λ fits. true≢false (sym (ap (is_outcome o) (fits.given it.sequence o it.first) ∙ own_outcome o) ∙ fit)
     go None it true fit = record { given = λ s p first. absurd (it s p first.gives); not_given = λ none. open_or_gone outcome fit }
     go None it false fit = λ fits. true≢false (sym (is_open_or_gone outcome (fits.not_given it)) ∙ fit)
+
+-- ---- the numbers
+
+kept : (t : Tables) (k : ℕ) (found : List PlacedNumber) → AreSaid (t Numbers) (has_at 1 k) SaysNumber found → KeepsNumbers t k
+kept t k found are row among of = let it = are.complete row among of in (it.one, it.is)
+
+pub settles : (t : Tables) (a : ListedAction) (given : Option Outcome) (found : List PlacedNumber) → IsGiven t a.number given → AreSaid (t Numbers) (has_at 1 a.number) SaysNumber found
+    → Settles (PassesHistory t a) (FitsHistory t a) (is_fit given a.action.outcome)
+settles t a given found is are = go (is_fit given a.action.outcome) (decides t a.number given a.action.outcome is)
+  where
+    go : (b : Bool) → Decides (FitsHistory t a) b → Settles (PassesHistory t a) (FitsHistory t a) b
+    go true fits = record { fits = fits; numbers = kept t a.number found are }
+    go false other = other

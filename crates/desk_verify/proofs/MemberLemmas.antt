@@ -24,7 +24,7 @@ fits t r members count there are h is = record { rows = record { each = in_place
 
 -- the members of all rollouts that are there, where there are no more
 pub agrees : (t : Tables) (listed all : ℕ) → AreAllChecked Members 1 IsInPlace (λ t r. Unit) t listed → all ≡ length (t Members) → Decides (AgreesMembers t) (nat_eq listed all)
-agrees t listed all checked is = decided Members 1 IsInPlace (λ t r. Unit) AgreesMembers t listed all checked is
+agrees t listed all checked is = decided Members 1 IsInPlace (λ t r. Unit) AgreesMembers AgreesMembers t listed all checked is
     (λ each whole. each)
     (λ agree row among. let it = agree row among in
     record { rollout = it.rollout; low = number_in_least (column row 1) it.rollout it.is.rollout_is; there = it.there; of = is_at row 1 it.rollout (number_in_is (column row 1) it.rollout it.is.rollout_is) })

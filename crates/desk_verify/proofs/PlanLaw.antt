@@ -1,30 +1,29 @@
 -- The plans of accepted commands: each is well formed, and leaves no group of its members empty.
-use Rattle.std.proofs.Common.{◌≡◌, ◌≤◌, ◌<◌, inl, inr, ℕ, zero, suc, ◌+◌, ◌^◌, pos, true, false, List, [], ◌∷◌, length, nat_lt, slice_get, Option, Some, None, refl, sym, ap, subst, ◌∙◌, arith}
+use Rattle.std.proofs.Common.{◌≡◌, ◌≤◌, ◌<◌, ℕ, zero, suc, ◌+◌, ◌^◌, pos, true, false, List, [], ◌∷◌, length, nat_lt, slice_get, Option, Some, None, refl, sym, ap, subst, ◌∙◌, arith}
 use Rattle.std.specs.Option.{option_map}
-use Rattle.std.specs.List.{list_all}
 use Rattle.std.proofs.lemmas.Bool.{and_parts, eqb-true, leb-true}
 use Rattle.std.proofs.lemmas.Bool.Decides.{nat_tests}
 use Rattle.sqlite_value.specs.declared.value.Value.TheVariants.{Int}
-use Rattle.rollout_model.specs.Groupings.{define_each, definition_numbered, is_definition, is_grouping}
+use Rattle.rollout_model.specs.Groupings.{define_each, is_grouping}
 use Rattle.rollout_model.specs.Limits.{percentage_limit}
-use Rattle.rollout_model.specs.PlanRules.{rule_by}
 use Rattle.rollout_model.specs.Rules.{is_percentage}
 use Rattle.rollout_machine.specs.ByteStrings.{item_numbered}
-use Rattle.rollout_machine.specs.CommandList.{CommandList, Make, ◌▸◌}
-use Rattle.rollout_machine.specs.CommandRules.{IsWellFormed, is_plan}
-use Rattle.rollout_machine.specs.Commands.{Bytes, Command, CreateRollout, RolloutPlan}
+use Rattle.rollout_machine.specs.CommandList.{CommandList}
+use Rattle.rollout_machine.specs.CommandRules.{is_plan}
+use Rattle.rollout_machine.specs.Commands.{CreateRollout, RolloutPlan}
 use Rattle.rollout_machine.specs.GroupRules.{GroupRule, rule_at, rules_of}
 use Rattle.rollout_machine.specs.Groupings.{GroupDefinition, leaves_empty}
 use Rattle.rollout_machine.specs.Ranges.{each_from}
 use Rattle.rollout_machine.specs.Records.{records}
-use Rattle.rollout_machine.specs.Rollouts.{Rollout, created, members_of, rollout_at, rollouts, size_of}
+use Rattle.rollout_machine.specs.Rollouts.{Rollout, members_of, size_of}
 use Rattle.rollout_machine.specs.Validity.{IsValid}
 use Rattle.rollout_machine.specs.Verdicts.{verdict, verdict_row}
 use Rattle.rollout_machine.specs.declared.records.RolloutRecord.{RolloutRecord}
 use Rattle.rollout_machine.proofs.AtNumbers.{of_rollout}
-use Rattle.rollout_machine.proofs.Induction.{either_numbered}
+use Rattle.rollout_machine.proofs.Groupings.{each_rule}
 use Rattle.rollout_machine.proofs.Lists.{length_each}
 use Rattle.rollout_machine.proofs.Valid.{NoneHolds, none_holds}
+use Rattle.rollout_machine.proofs.WithinLimits.{each_created, made}
 use Rattle.desk_records.specs.Codes.{percentage_in}
 use Rattle.desk_records.specs.RuleRow.{IsRuleRow}
 use Rattle.desk_records.specs.Rollouts.{told_rule}
@@ -36,30 +35,15 @@ pub record IsPlanned (plan : RolloutPlan) (members : ℕ) : Type 0 where
   pub formed : is_plan plan ≡ true
   pub full : leaves_empty plan.groups members ≡ false
 
-abbrev made : RolloutPlan → List Bytes → Rollout
-made plan members = record { plan = plan; members = members }
-
 abbrev IsPlannedRollout : Rollout → Type 0
 IsPlannedRollout x = IsPlanned x.plan (size_of x)
 
-new_is_planned : (h : CommandList) (c : Command) → IsWellFormed c → verdict h c ≡ None → (i : ℕ) (x : Rollout) → slice_get (created h c) i ≡ Some x → IsPlannedRollout x
+new_is_planned : (h : CommandList) (plan : RolloutPlan) → IsValid h → is_plan plan ≡ true → verdict h (CreateRollout plan) ≡ None → IsPlannedRollout (made plan (members_of plan.filter_text h))
 unfolding records
-new_is_planned h (CreateRollout plan) formed e zero x d =
-    let row : NoneHolds (verdict_row (records h) (CreateRollout plan)) = none_holds (verdict_row (records h) (CreateRollout plan)) e in
-    let new : IsPlannedRollout (made plan (members_of plan.filter_text h)) = record { formed = formed; full = row.1.1.1.0 } in
-    let both : Some (made plan (members_of plan.filter_text h)) ≡ Some x = d in
-    let same : made plan (members_of plan.filter_text h) ≡ x = cc in
-    subst IsPlannedRollout same new
-new_is_planned h (CreateRollout plan) formed e (suc i) x d = cc
-new_is_planned h _ formed e i x d = cc
-
-are_planned : (h : CommandList) → IsValid h → (r : ℕ) (x : Rollout) → rollout_at h r ≡ Some x → IsPlannedRollout x
-are_planned (Make approval) valid zero x e = cc
-are_planned (Make approval) valid (suc i) x e = cc
-are_planned (h ▸ c) valid r x e = elim (either_numbered (rollouts h) (created h c) r x e) [ inl old ↦ are_planned h valid.0 r x old | inr new ↦ new_is_planned h c valid.1 valid.2 new.1.0 x new.1.1 ]
+new_is_planned h plan valid formed accepted = let row : NoneHolds (verdict_row (records h) (CreateRollout plan)) = none_holds (verdict_row (records h) (CreateRollout plan)) accepted in record { formed = formed; full = row.1.1.1.0 }
 
 pub plans_are : (h : CommandList) → IsValid h → (r : ℕ) (y : RolloutRecord) → item_numbered (records h).rollouts r ≡ Some y → IsPlanned y.plan (length y.members)
-plans_are h valid r y e = let of = of_rollout h r y e in subst (λ (z : RolloutRecord). IsPlanned z.plan (length z.members)) (sym of.is) (are_planned h valid r of.rollout of.there)
+plans_are h valid r y e = let of = of_rollout h r y e in subst (λ (z : RolloutRecord). IsPlanned z.plan (length z.members)) (sym of.is) (each_created IsPlannedRollout new_is_planned h valid r of.rollout of.there)
 
 -- ---- the rules of a plan, as rows say them
 
@@ -69,29 +53,13 @@ percentage_is p good =
     let few : nat_lt p (2 ^ 32) ≡ true = grind (arith, nat_tests, high) in
     rw (few, good) refl
 
-each_is : (ds : List GroupDefinition) (i : ℕ) (d : GroupDefinition) → list_all is_definition ds ≡ true → slice_get ds i ≡ Some d → is_definition d ≡ true
-each_is [] i d all at = absurd cc
-each_is (e ∷ ds) zero d all at = let same : e ≡ d = cc in subst (λ f. is_definition f ≡ true) same (and_parts _ _ all).0
-each_is (e ∷ ds) (suc i) d all at = each_is ds i d (and_parts _ _ all).1 at
-
-numbered_is : (ds : List GroupDefinition) (count i : ℕ) (d : GroupDefinition) → define_each ds count ≡ true → definition_numbered ds i ≡ Some d → is_definition d ≡ true
-numbered_is ds count zero d each at = absurd cc
-numbered_is [] count (suc i) d each at = absurd cc
-numbered_is (e ∷ ds) count (suc i) d each at = each_is (e ∷ ds) i d (and_parts _ _ (and_parts _ _ (and_parts _ _ each).0).1).0 at
-
-by_rule : (o : Option GroupDefinition) (plan : RolloutPlan) → is_percentage plan.success ≡ true → is_percentage plan.error ≡ true → ((d : GroupDefinition) → o ≡ Some d → is_definition d ≡ true) → IsRuleRow (told_rule (rule_by o plan)) (rule_by o plan)
-by_rule None plan success error each = record { percentage = refl; success = percentage_is plan.success success; error = percentage_is plan.error error }
-by_rule (Some d) plan success error each =
-    let good = and_parts _ _ (each d refl) in
-    let rest = and_parts _ _ good.1 in
-    record { percentage = ap (option_map Some) (percentage_is d.percentage good.0); success = percentage_is d.success rest.0; error = percentage_is d.error rest.1 }
-
 pub rule_told : (plan : RolloutPlan) (i : ℕ) → is_plan plan ≡ true → IsRuleRow (told_rule (rule_at plan i)) (rule_at plan i)
 rule_told plan i formed =
-    let parts = and_parts _ _ formed in
-    let more = and_parts _ _ parts.1 in
-    let each = (and_parts _ _ parts.0).1 in
-    by_rule (definition_numbered plan.groups.definitions i) plan more.0 (and_parts _ _ more.1).0 (λ d at. numbered_is plan.groups.definitions plan.groups.count i d each at)
+    each_rule (λ (rule : GroupRule). IsRuleRow (told_rule rule) rule) plan i formed
+    (λ success error. record { percentage = refl; success = percentage_is plan.success success; error = percentage_is plan.error error })
+    (λ d own. let good = and_parts _ _ own in
+    let rest = and_parts _ _ good.1 in
+    record { percentage = ap (option_map Some) (percentage_is d.percentage good.0); success = percentage_is d.success rest.0; error = percentage_is d.error rest.1 })
 
 -- ---- they make its grouping
 

@@ -7,7 +7,7 @@ use Rattle.desk_records.specs.Listings.{has_at}
 use Rattle.desk_records.specs.Schema.{Place}
 use Rattle.desk_records.specs.Tables.{Tables}
 use Rattle.desk_records.specs.declared.rollout_row.StoredRollout.{StoredRollout}
-use Rattle.desk_verify.specs.Agreement.{Decides}
+use Rattle.desk_verify.specs.Agreement.{Settles}
 use Rattle.desk_verify.specs.RolloutChecks.{AreAllChecked, AreChecked, IsChecked, HasRollout}
 use Rattle.desk_verify.specs.Rollouts.{IsThere}
 use Rattle.desk_verify.proofs.Counting.{all_judged, is_within, judged_all, more_judged, none_judged}
@@ -45,12 +45,12 @@ module _ (table : Place) (column : ℕ) (IsRight : Tables → Row → Type 0) (I
           go false other = so_far.whole rollout low (grind (arith, nat_tests, other, high))
 
   -- as many as there are: none is of a rollout that isn't there
-  pub decided : (Agrees : Tables → Type 0) (t : Tables) (listed all : ℕ) → AreAllChecked table column IsRight IsWhole t listed → all ≡ length (t table)
-      → (((row : Row) → Has (t table) row → IsRight t row) → ((rollout : ℕ) → 1 ≤ rollout → IsThere t rollout → IsWhole t rollout) → Agrees t)
-      → (Agrees t → (row : Row) → Has (t table) row → IsOfRollout t column row) → Decides (Agrees t) (nat_eq listed all)
-  decided Agrees t listed all it is agree its = go (nat_eq listed all) refl
+  pub decided : (Passes Agrees : Tables → Type 0) (t : Tables) (listed all : ℕ) → AreAllChecked table column IsRight IsWhole t listed → all ≡ length (t table)
+      → (((row : Row) → Has (t table) row → IsRight t row) → ((rollout : ℕ) → 1 ≤ rollout → IsThere t rollout → IsWhole t rollout) → Passes t)
+      → (Agrees t → (row : Row) → Has (t table) row → IsOfRollout t column row) → Settles (Passes t) (Agrees t) (nat_eq listed all)
+  decided Passes Agrees t listed all it is agree its = go (nat_eq listed all) refl
     where
-      go : (b : Bool) → nat_eq listed all ≡ b → Decides (Agrees t) b
+      go : (b : Bool) → nat_eq listed all ≡ b → Settles (Passes t) (Agrees t) b
       go true same = agree (all_judged column (t table) (IsRight t) it.last listed all it.checked.rows is same) (λ rollout low there. it.checked.whole rollout low (it.is_last.greatest rollout there))
       go false other = λ agrees.
           absurd (true≢false (sym (judged_all column (t table) (IsRight t) it.last listed all it.checked.rows is (λ row among. let of = its agrees row among in is_within column it.last of.rollout row of.low (it.is_last.greatest of.rollout of.there) of.of)) ∙ other))

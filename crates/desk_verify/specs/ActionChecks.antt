@@ -19,7 +19,7 @@ use Rattle.desk_records.specs.declared.rollout_row.ListedAction.{ListedAction}
 use Rattle.desk_records.specs.declared.rollout_row.StoredAction.{StoredAction}
 use Rattle.desk_store.specs.RawLists.{SaysAction}
 use Rattle.desk_store.specs.Unreadable.{rise}
-use Rattle.desk_verify.specs.Actions.{AreInOrder, FitsEntries, GivesFirst, GivesOutcome, HasActions, IsStarted}
+use Rattle.desk_verify.specs.Actions.{AreInOrder, FitsEntries, GivesFirst, GivesOutcome, HasActions, IsStarted, KeepsNumbers}
 
 -- ---- turns
 
@@ -71,6 +71,11 @@ IsGiven t action None = (sequence : ℕ) (outcome : Outcome) → GivesOutcome t 
 abbrev pub FitsHistory : Tables → ListedAction → Type 0
 FitsHistory t a = FitsEntries t a.number a.action.outcome
 
+-- .. and its numbers can be read
+pub record PassesHistory (t : Tables) (a : ListedAction) : Type 0 where
+  pub fits : FitsHistory t a
+  pub numbers : KeepsNumbers t a.number
+
 -- ---- what is read of one rollout
 
 -- its members, at the places 1, 2 and so on
@@ -95,8 +100,9 @@ abbrev pub count_none : List ListedAction → Option ℕ
 count_none [] = Some 0
 count_none (a ∷ actions) = None
 
--- where the rollout is started it has an action for each member, and its actions are in the members' order
+-- where the rollout is started it has an action for each member; its actions are in the members' order, and their numbers can be read
 pub record AreWhole (t : Tables) (rollout : ℕ) : Type 0 where
   pub all : IsStarted t rollout → HasActions t rollout
   pub in_order : (row other : Row) (j k : ℕ) (a b : StoredAction) → Has (t Actions) row → Has (t Actions) other → IsAction row j a → IsAction other k b
       → a.rollout ≡ rollout → b.rollout ≡ rollout → AreInOrder j k a b
+  pub numbers : (row : Row) (number : ℕ) (a : StoredAction) → Has (t Actions) row → IsAction row number a → a.rollout ≡ rollout → KeepsNumbers t number

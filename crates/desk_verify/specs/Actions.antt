@@ -3,17 +3,20 @@ use Rattle.std.specs.Prelude.{◌≡◌, ◌≤◌, ◌<◌, ◌⊎◌, ℕ, tru
 use Rattle.sqlite_value.specs.Order.{Row, column}
 use Rattle.sqlite_trees.specs.Tree.{has_rowid}
 use Rattle.sqlite_rules.specs.Lists.{Has}
-use Rattle.rollout_machine.specs.Actions.{Said, outcome_said}
+use Rattle.rollout_machine.specs.Actions.{outcome_said}
 use Rattle.rollout_machine.specs.Commands.{Bytes}
+use Rattle.rollout_machine.specs.Reports.{Said}
 use Rattle.rollout_machine.specs.declared.outcome.Outcome.{Outcome}
 use Rattle.rollout_machine.specs.declared.outcome.Outcome.TheVariants.{Gone}
 use Rattle.desk_records.specs.Codes.{flag_in}
 use Rattle.desk_records.specs.EntryRow.{said_by}
 use Rattle.desk_records.specs.Listings.{has_at}
-use Rattle.desk_records.specs.Schema.{Actions, Feedbacks, Members, Rollouts}
+use Rattle.desk_records.specs.Schema.{Actions, Feedbacks, Members, Numbers, Rollouts}
 use Rattle.desk_records.specs.TableRows.{IsAction, IsMember}
 use Rattle.desk_records.specs.Tables.{Tables}
+use Rattle.desk_records.specs.declared.number_row.PlacedNumber.{PlacedNumber}
 use Rattle.desk_records.specs.declared.rollout_row.StoredAction.{StoredAction}
+use Rattle.desk_store.specs.RawLists.{SaysNumber}
 
 -- ---- what the other tables say
 
@@ -86,3 +89,14 @@ pub record AgreesActions (t : Tables) : Type 0 where
   pub all : (rollout : ℕ) → IsStarted t rollout → HasActions t rollout
   pub in_order : (row other : Row) (j k : ℕ) (a b : StoredAction) → Has (t Actions) row → Has (t Actions) other → IsAction row j a → IsAction other k b
       → a.rollout ≡ b.rollout → AreInOrder j k a b
+
+-- ---- what a check of them reads besides
+
+-- each number that feedback on the action bears can be read
+abbrev pub KeepsNumbers : Tables → ℕ → Type 0
+KeepsNumbers t action = (row : Row) → Has (t Numbers) row → has_at 1 action row ≡ true → (it : PlacedNumber) × SaysNumber row it
+
+-- the table agrees, and the numbers of each action can be read
+pub record PassesActions (t : Tables) : Type 0 where
+  pub agrees : AgreesActions t
+  pub numbers : (row : Row) (number : ℕ) (action : StoredAction) → Has (t Actions) row → IsAction row number action → KeepsNumbers t number

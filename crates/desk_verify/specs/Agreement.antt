@@ -2,7 +2,7 @@
 use Rattle.std.specs.Prelude.{◌≡◌, Bool, true, false, List, [], ◌∷◌, ◌++◌, Option, Some, None}
 use Rattle.std.specs.List.{AllByRecursion}
 use Rattle.desk_records.specs.Tables.{Tables}
-use Rattle.desk_verify.specs.Actions.{AgreesActions}
+use Rattle.desk_verify.specs.Actions.{AgreesActions, PassesActions}
 use Rattle.desk_verify.specs.Artifacts.{AgreesArtifacts}
 use Rattle.desk_verify.specs.Groups.{AgreesGroups}
 use Rattle.desk_verify.specs.Members.{AgreesMembers}
@@ -22,23 +22,32 @@ Agrees t RolloutGroup = AgreesGroups t
 Agrees t Action = AgreesActions t
 Agrees t Offer = AgreesOffers t
 
--- those before it agree, and it doesn't
+-- it agrees, and what its check reads besides can be read
+abbrev pub Passes : Tables → CheckedTable → Type 0
+Passes t Action = PassesActions t
+Passes t table = Agrees t table
+
+-- those before it pass, and it doesn't agree
 pub record NamesFirst (t : Tables) (table : CheckedTable) : Type 0 where
   pub before : List CheckedTable
   pub after : List CheckedTable
   pub order : checked ≡ before ++ table ∷ after
-  pub agree : AllByRecursion (Agrees t) before
+  pub pass : AllByRecursion (Passes t) before
   pub differs : Agrees t table → ⊥
 
--- the first table that doesn't agree, or all agree
+-- the first table that doesn't agree, or all pass
 abbrev pub IsDamage : Tables → Option CheckedTable → Type 0
-IsDamage t None = AllByRecursion (Agrees t) checked
+IsDamage t None = AllByRecursion (Passes t) checked
 IsDamage t (Some table) = NamesFirst t table
 
--- the answer of a check
+-- the answer of a check: what it found, or what is not so
+abbrev pub Settles : Type 0 → Type 0 → Bool → Type 0
+Settles P Q true = P
+Settles P Q false = Q → ⊥
+
+-- .. of one and the same
 abbrev pub Decides : Type 0 → Bool → Type 0
-Decides P true = P
-Decides P false = P → ⊥
+Decides P = Settles P P
 
 -- ---- the order of the checks
 

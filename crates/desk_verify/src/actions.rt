@@ -5,8 +5,8 @@ ghost use Rattle.desk_records.specs.Schema.{Actions};
 ghost use Rattle.desk_store.specs.Blaming.{Blames, BlamesGiven};
 ghost use Rattle.desk_store.specs.Changing.{FindsTables, StaysIn};
 ghost use Rattle.desk_verify.specs.ActionChecks.{AreMembersInTurn, AreWhole, ListsActions, count_none};
-ghost use Rattle.desk_verify.specs.Actions.{AgreesActions, IsRightAction};
-ghost use Rattle.desk_verify.specs.Agreement.{AgreeBefore, Decides};
+ghost use Rattle.desk_verify.specs.Actions.{AgreesActions, IsRightAction, PassesActions};
+ghost use Rattle.desk_verify.specs.Agreement.{AgreeBefore, Settles};
 ghost use Rattle.desk_verify.specs.declared.damage.CheckedTable.TheVariants as checked;
 
 use crate::histories::fit_histories;
@@ -55,10 +55,10 @@ impl<S: Alter> ByRollout<S> for Actions {
     }
 }
 
-/// Whether the table of actions agrees.
+/// Whether the table of actions agrees. A number of their feedback that breaks a rule is a failed store.
 pub(crate) fn check_actions<S: Alter>(change: &mut OpenChange<'_, S>) -> Result<bool, Fault>
     ensures stays { StaysIn S.Store change.old change.new result }
-    ensures judges { FindsTables S.Store change.old change.new result (λ t agrees. Decides (AgreesActions t) agrees) }
+    ensures judges { FindsTables S.Store change.old change.new result (λ t agrees. Settles (PassesActions t) (AgreesActions t) agrees) }
     ensures blames { BlamesGiven S.Store (AgreeBefore checked.Action) change.old change.new result }
 {
     let Some(listed) = check_rollouts::<Actions, S>(change)? else {

@@ -1,6 +1,6 @@
 //! The first table that doesn't agree.
 
-ghost use Rattle.desk_verify.specs.Agreement.{AgreeBefore, Agrees, Decides, IsDamage};
+ghost use Rattle.desk_verify.specs.Agreement.{AgreeBefore, Agrees, IsDamage, Passes, Settles};
 ghost use Rattle.desk_verify.specs.Promises.{NamesNone};
 ghost use Rattle.desk_store.specs.Blaming.{Blames, BlamesGiven};
 ghost use Rattle.desk_store.specs.Changing.{FindsTables, StaysIn, seen_in};
@@ -50,7 +50,7 @@ fn check_tables<S: Alter>(change: &mut OpenChange<'_, S>) -> Result<Option<Check
 /// Whether the table agrees.
 fn check_table<S: Alter>(change: &mut OpenChange<'_, S>, table: CheckedTable) -> Result<bool, Fault>
     ensures stays { StaysIn S.Store change.old change.new result }
-    ensures judges { FindsTables S.Store change.old change.new result (λ t agrees. Decides (Agrees t table) agrees) }
+    ensures judges { FindsTables S.Store change.old change.new result (λ t agrees. Settles (Passes t table) (Agrees t table) agrees) }
     ensures blames { BlamesGiven S.Store (AgreeBefore table) change.old change.new result }
 {
     match table {

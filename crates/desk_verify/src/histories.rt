@@ -4,8 +4,8 @@ ghost use Rattle.std.specs.Prelude.{◌≡◌};
 ghost use Rattle.std.specs.List.{AllByRecursion};
 ghost use Rattle.desk_store.specs.Blaming.{Blames};
 ghost use Rattle.desk_store.specs.Changing.{FindsTables, StaysIn};
-ghost use Rattle.desk_verify.specs.ActionChecks.{FitsHistory, IsGiven, first_said, is_fit};
-ghost use Rattle.desk_verify.specs.Agreement.{Decides};
+ghost use Rattle.desk_verify.specs.ActionChecks.{FitsHistory, IsGiven, PassesHistory, first_said, is_fit};
+ghost use Rattle.desk_verify.specs.Agreement.{Settles};
 
 use crate::turns::sequences_rise;
 use desk_store::{Fault, ListedAction, OpenChange, SequencedEntry};
@@ -19,7 +19,8 @@ pub(crate) fn fit_histories<S: Alter>(
     actions: &[ListedAction],
 ) -> Result<bool, Fault>
     ensures stays { StaysIn S.Store change.old change.new result }
-    ensures judges { FindsTables S.Store change.old change.new result (λ t fit. Decides (AllByRecursion (FitsHistory t) actions.now) fit) }
+    ensures judges { FindsTables S.Store change.old change.new result
+        (λ t fit. Settles (AllByRecursion (PassesHistory t) actions.now) (AllByRecursion (FitsHistory t) actions.now) fit) }
     ensures blames { Blames S.Store change.old change.new result }
 {
     for action in actions {
@@ -30,15 +31,17 @@ pub(crate) fn fit_histories<S: Alter>(
     Ok(true)
 }
 
+/// Whether the outcome of an action fits its history. Its numbers are read beside, and nothing is recounted of them.
 fn fits_history<S: Alter>(
     change: &mut OpenChange<'_, S>,
     action: &ListedAction,
 ) -> Result<bool, Fault>
     ensures stays { StaysIn S.Store change.old change.new result }
-    ensures judges { FindsTables S.Store change.old change.new result (λ t fits. Decides (FitsHistory t action.now) fits) }
+    ensures judges { FindsTables S.Store change.old change.new result (λ t fits. Settles (PassesHistory t action.now) (FitsHistory t action.now) fits) }
     ensures blames { Blames S.Store change.old change.new result }
 {
     let given = find_given(change, action.number)?;
+    change.list_numbers(action.number)?;
     Ok(is_fit(given, action.action.outcome))
 }
 

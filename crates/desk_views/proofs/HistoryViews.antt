@@ -1,17 +1,25 @@
 -- From entries of histories that were read to what is shown of them.
-use Rattle.std.proofs.Common.{◌≡◌, ℕ, zero, suc, ◌+◌, Bool, true, false, cond, List, [], ◌∷◌, ◌++◌, length, take, drop, Option, Some, None, refl, sym, ap, ◌∙◌, arith}
+use Rattle.std.proofs.Common.{◌≡◌, ◌<◌, ℕ, zero, suc, ◌+◌, nat_eq, Bool, true, false, cond, List, [], ◌∷◌, ◌++◌, length, slice_get, take, drop, Option, Some, None, refl, sym, ap, ◌∙◌, arith}
 use Rattle.std.specs.Option.{option_map}
-use Rattle.rollout_machine.specs.Actions.{HistoryEntry}
+use Rattle.std.proofs.lemmas.Bool.Decides.{nat_tests}
 use Rattle.rollout_machine.specs.Answers.{action_if, if_found}
+use Rattle.rollout_machine.specs.ByteStrings.{item_numbered}
 use Rattle.rollout_machine.specs.Commands.{Bytes}
 use Rattle.rollout_machine.specs.Objects.{entry_shown, numbered, page_of}
 use Rattle.rollout_machine.specs.Records.{Records}
 use Rattle.rollout_machine.specs.Replies.{HistoryShown, ShownEntry}
+use Rattle.rollout_machine.specs.Reports.{HistoryEntry, Reported, entries_in}
 use Rattle.rollout_machine.specs.Requests.{Page}
 use Rattle.rollout_machine.specs.StateWords.{is_for}
 use Rattle.rollout_machine.specs.declared.records.ActionRecord.{ActionRecord}
+use Rattle.desk_records.specs.Actions.{history_of}
+use Rattle.desk_records.specs.FeedbackNumbers.{borne_at, numbers_from, numbers_numbered, numbers_of}
+use Rattle.desk_records.specs.Holds.{ledger_of}
+use Rattle.desk_records.specs.Parts.{parts_of}
+use Rattle.desk_records.specs.declared.number_row.PlacedNumber.{PlacedNumber}
 use Rattle.desk_records.specs.declared.rollout_row.StoredAction.{StoredAction}
-use Rattle.desk_views.specs.Actions.{history_of, stored_in}
+use Rattle.rollout_machine.proofs.Actions.{numbered_map}
+use Rattle.desk_views.specs.Actions.{entry_by, number_at, reports_of, stored_in}
 use Rattle.desk_views.proofs.PageLemmas.{numbered_length}
 
 numbered_taken : {X Y : Type 0} (f : ℕ → X → Y) (k n : ℕ) (xs : List X) → take n (numbered f k xs) ≡ numbered f k (take n xs)
@@ -29,20 +37,97 @@ pub numbered_more : {X Y : Type 0} (f : ℕ → X → Y) (k number : ℕ) (xs : 
 numbered_more f k number [] x at = ap (λ j. f j x ∷ []) (omega (arith, at))
 numbered_more f k number (y ∷ ys) x at = ap (λ l. f k y ∷ l) (numbered_more f (suc k) number ys x (omega (arith, at)))
 
-history_page : (page : Page) (history entries : List HistoryEntry) (content : List ShownEntry) (total : ℕ) → entries ≡ take page.limit (drop page.offset history) → content ≡ numbered entry_shown (page.offset + 1) entries → total ≡ length history
-    → record { content = content; total = total } ≡ page_of page (numbered entry_shown 1 history)
-history_page page history entries content total read shown count =
-    let here : content ≡ take page.limit (drop page.offset (numbered entry_shown 1 history)) =
-    shown ∙ ap (numbered entry_shown (page.offset + 1)) read ∙ sym (numbered_taken entry_shown (page.offset + 1) page.limit (drop page.offset history)) ∙ ap (take page.limit) (sym (numbered_dropped entry_shown 1 page.offset (page.offset + 1) history refl)) in
-    let many : total ≡ length (numbered entry_shown 1 history) = count ∙ sym (numbered_length entry_shown 1 history) in
-    λ i. record { content = here i; total = many i }
+-- ---- the numbers of entries
 
-pub history_replied : (r : Records) (id : Bytes) (page : Page) (o : Option ActionRecord) (action : StoredAction) (entries : List HistoryEntry) (content : List ShownEntry) → Some action ≡ option_map (stored_in r) (action_if r id o)
-    → entries ≡ take page.limit (drop page.offset (history_of o)) → content ≡ numbered entry_shown (page.offset + 1) entries
+-- one further on bears no number of a place before it
+passed : (place sequence : ℕ) (n : Option ℕ) (rest : List PlacedNumber) → place < sequence → number_at place (borne_at sequence n ++ rest) ≡ number_at place rest
+passed place sequence None rest less = refl
+passed place sequence (Some n) rest less = let other : nat_eq sequence place ≡ false = grind (arith, nat_tests, less) in rw other refl
+
+none_before : (place sequence : ℕ) (history : List Reported) → place < sequence → number_at place (numbers_from sequence history) ≡ None
+none_before place sequence [] less = refl
+none_before place sequence (r ∷ history) less = passed place sequence r.number _ less ∙ none_before place (sequence + 1) history (omega (arith, less))
+
+own_number : (place : ℕ) (n : Option ℕ) (rest : List PlacedNumber) → number_at place rest ≡ None → number_at place (borne_at place n ++ rest) ≡ n
+own_number place None rest none = none
+own_number place (Some n) rest none = let own : nat_eq place place ≡ true = grind (arith, nat_tests) in rw own refl
+
+-- the entry at a place bears the number that is found there
+number_there : (sequence index place : ℕ) (history : List Reported) (r : Reported) → slice_get history index ≡ Some r → place ≡ sequence + index → number_at place (numbers_from sequence history) ≡ r.number
+number_there sequence index place [] r got at = absurd cc
+number_there sequence zero place (x ∷ history) r got at =
+    let here : place ≡ sequence = omega (arith, at) in
+    let same : x.number ≡ r.number = ap (λ o. elim o [ None ↦ x.number | Some y ↦ y.number ]) got in
+    rw here (own_number sequence x.number _ (none_before sequence (sequence + 1) history (omega arith)) ∙ same)
+number_there sequence (suc index) place (x ∷ history) r got at =
+    later x.number (number_there (sequence + 1) index place history r got (omega (arith, at)))
+  where
+    later : (n : Option ℕ) → number_at place (numbers_from (sequence + 1) history) ≡ r.number → number_at place (borne_at sequence n ++ numbers_from (sequence + 1) history) ≡ r.number
+    later None is = is
+    later (Some m) is = let other : nat_eq sequence place ≡ false = grind (arith, nat_tests, at) in rw other is
+
+-- so each is shown with its own
+each_shown : (numbers : List PlacedNumber) (k : ℕ) (history : List Reported) → ((i : ℕ) (r : Reported) → slice_get history i ≡ Some r → number_at (k + i) numbers ≡ r.number) → numbered (entry_by numbers) k (entries_in history) ≡ numbered entry_shown k history
+each_shown numbers k [] own = refl
+each_shown numbers k (r ∷ history) own =
+    let at : k + 0 ≡ k = omega arith in
+    let number : number_at k numbers ≡ r.number = ap (λ n. number_at n numbers) (sym at) ∙ own 0 r refl in
+    let further : (i : ℕ) (x : Reported) → slice_get history i ≡ Some x → number_at (suc k + i) numbers ≡ x.number = (λ i x got. let next : suc k + i ≡ k + suc i = omega arith in ap (λ n. number_at n numbers) next ∙ own (suc i) x got) in
+    λ j. entry_shown k (record { entry = r.entry; number = number j }) ∷ each_shown numbers (suc k) history further j
+
+all_shown : (history : List Reported) → numbered (entry_by (numbers_from 1 history)) 1 (entries_in history) ≡ numbered entry_shown 1 history
+all_shown history = each_shown (numbers_from 1 history) 1 history (λ i r got. number_there 1 i (1 + i) history r got refl)
+
+-- ---- the page
+
+-- of these entries, of any function of place and entry
+part_numbered : {X Y : Type 0} (f : ℕ → X → Y) (page : Page) (xs entries : List X) → entries ≡ take page.limit (drop page.offset xs) → numbered f (page.offset + 1) entries ≡ take page.limit (drop page.offset (numbered f 1 xs))
+part_numbered f page xs entries read =
+    ap (numbered f (page.offset + 1)) read ∙ sym (numbered_taken f (page.offset + 1) page.limit (drop page.offset xs)) ∙ ap (take page.limit) (sym (numbered_dropped f 1 page.offset (page.offset + 1) xs refl))
+
+-- the numbers of an action are those of its history
+numbers_read : (r : Records) (k : ℕ) → numbers_numbered (ledger_of r).numbers k ≡ numbers_from 1 (reports_of (item_numbered r.actions k))
+numbers_read r k = ap (parts_of (λ (its : List PlacedNumber). its)) (numbered_map numbers_of r.actions k) ∙ go (item_numbered r.actions k)
+  where
+    go : (o : Option ActionRecord) → parts_of (λ (its : List PlacedNumber). its) (option_map numbers_of o) ≡ numbers_from 1 (reports_of o)
+    go None = refl
+    go (Some a) = refl
+
+entries_read : (o : Option ActionRecord) → history_of o ≡ entries_in (reports_of o)
+entries_read None = refl
+entries_read (Some a) = refl
+
+-- a page with the numbers that were read
+pub page_numbered : (r : Records) (k : ℕ) (page : Page) (entries : List HistoryEntry) (numbers : List PlacedNumber) (content : List ShownEntry) → entries ≡ take page.limit (drop page.offset (history_of (item_numbered r.actions k)))
+    → numbers ≡ numbers_numbered (ledger_of r).numbers k → content ≡ numbered (entry_by numbers) (page.offset + 1) entries → content ≡ take page.limit (drop page.offset (numbered entry_shown 1 (reports_of (item_numbered r.actions k))))
+page_numbered r k page entries numbers content read borne shown =
+    let history = reports_of (item_numbered r.actions k) in
+    shown ∙ ap (λ ns. numbered (entry_by ns) (page.offset + 1) entries) (borne ∙ numbers_read r k)
+    ∙ part_numbered (entry_by (numbers_from 1 history)) page (entries_in history) entries (read ∙ ap (λ es. take page.limit (drop page.offset es)) (entries_read (item_numbered r.actions k)))
+    ∙ ap (λ es. take page.limit (drop page.offset es)) (all_shown history)
+
+-- an empty one
+none_there : {X : Type 0} (xs : List X) → length xs ≡ 0 → xs ≡ []
+none_there [] none = refl
+none_there (x ∷ xs) none = absurd (omega (arith, none))
+
+pub none_numbered : (r : Records) (k : ℕ) (page : Page) (entries : List HistoryEntry) → entries ≡ take page.limit (drop page.offset (history_of (item_numbered r.actions k))) → length entries ≡ 0
+    → [] ≡ take page.limit (drop page.offset (numbered entry_shown 1 (reports_of (item_numbered r.actions k))))
+none_numbered r k page entries read none =
+    let numbers = numbers_numbered (ledger_of r).numbers k in page_numbered r k page entries numbers [] read refl (sym (ap (numbered (entry_by numbers) (page.offset + 1)) (none_there entries none)))
+
+history_page : (page : Page) (history : List Reported) (content : List ShownEntry) (total : ℕ) → content ≡ take page.limit (drop page.offset (numbered entry_shown 1 history)) → total ≡ length history
+    → record { content = content; total = total } ≡ page_of page (numbered entry_shown 1 history)
+history_page page history content total shown count =
+    let many : total ≡ length (numbered entry_shown 1 history) = count ∙ sym (numbered_length entry_shown 1 history) in
+    λ i. record { content = shown i; total = many i }
+
+pub history_replied : (r : Records) (id : Bytes) (page : Page) (o : Option ActionRecord) (action : StoredAction) (content : List ShownEntry) → Some action ≡ option_map (stored_in r) (action_if r id o)
+    → content ≡ take page.limit (drop page.offset (numbered entry_shown 1 (reports_of o)))
     → HistoryShown (record { content = content; total = action.entries }) ≡ if_found (λ (a : ActionRecord). HistoryShown (page_of page (numbered entry_shown 1 a.history))) (action_if r id o)
-history_replied r id page None action entries content is read shown = absurd cc
-history_replied r id page (Some a) action entries content is read shown = go (is_for r id a) is where
+history_replied r id page None action content is shown = absurd cc
+history_replied r id page (Some a) action content is shown = go (is_for r id a) is where
   go : (b : Bool) → Some action ≡ option_map (stored_in r) (cond b (Some a) None)
       → HistoryShown (record { content = content; total = action.entries }) ≡ if_found (λ (a : ActionRecord). HistoryShown (page_of page (numbered entry_shown 1 a.history))) (cond b (Some a) None)
   go false other = absurd cc
-  go true own = let same : action ≡ stored_in r a = cc in ap HistoryShown (history_page page a.history entries content action.entries read shown (ap (λ (s : StoredAction). s.entries) same))
+  go true own = let same : action ≡ stored_in r a = cc in ap HistoryShown (history_page page a.history content action.entries shown (ap (λ (s : StoredAction). s.entries) same))

@@ -12,4 +12,3 @@ pub mod WordViews
 pub mod TargetViews
 pub mod TargetPages
 pub mod DeviceViews
-pub mod HistoryKept

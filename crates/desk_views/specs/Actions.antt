@@ -1,9 +1,12 @@
 -- Actions as they are listed and shown.
-use Rattle.std.specs.Prelude.{List, Option}
-use Rattle.rollout_machine.specs.Actions.{HistoryEntry}
+use Rattle.std.specs.Prelude.{ℕ, nat_eq, List, Option}
+use Rattle.std.specs.List.{find}
+use Rattle.std.specs.Option.{option_map}
 use Rattle.rollout_machine.specs.ByteStrings.{item_numbered}
+use Rattle.rollout_machine.specs.Objects.{entry_shown}
 use Rattle.rollout_machine.specs.Records.{Records}
-use Rattle.rollout_machine.specs.Replies.{ShownAction}
+use Rattle.rollout_machine.specs.Replies.{ShownAction, ShownEntry}
+use Rattle.rollout_machine.specs.Reports.{HistoryEntry, Reported}
 use Rattle.rollout_machine.specs.StateWords.{group_holding, group_is_started, number_of_group}
 use Rattle.rollout_machine.specs.declared.records.ActionRecord.{ActionRecord}
 use Rattle.rollout_machine.specs.declared.records.GroupRecord.{GroupRecord}
@@ -12,6 +15,7 @@ use Rattle.campaign_core.specs.StatusWords.{action_word_from}
 use Rattle.desk_records.specs.Actions.{tally_of}
 use Rattle.desk_records.specs.Parts.{parts_of}
 use Rattle.desk_records.specs.RolloutRow.{stored_action}
+use Rattle.desk_records.specs.declared.number_row.PlacedNumber.{PlacedNumber}
 use Rattle.desk_records.specs.declared.rollout_row.ListedAction.{ListedAction}
 use Rattle.desk_records.specs.declared.rollout_row.StoredAction.{StoredAction}
 
@@ -37,6 +41,16 @@ shown_among groups it = shown_in it (group_holding it.action.position groups)
 abbrev pub listed_shown : Records → ListedAction → ShownAction
 listed_shown r it = shown_among (parts_of (λ (x : RolloutRecord). x.groups) (item_numbered r.rollouts it.action.rollout)) it
 
--- the feedback on an action that is there
-abbrev pub history_of : Option ActionRecord → List HistoryEntry
-history_of found = parts_of (λ (a : ActionRecord). a.history) found
+-- ---- histories
+
+-- what was reported on an action that is there
+abbrev pub reports_of : Option ActionRecord → List Reported
+reports_of found = parts_of (λ (a : ActionRecord). a.history) found
+
+-- the number of the entry at this place of the sequence, if it bears one
+abbrev pub number_at : ℕ → List PlacedNumber → Option ℕ
+number_at place numbers = option_map (λ (it : PlacedNumber). it.number) (find (λ (it : PlacedNumber). nat_eq it.sequence place) numbers)
+
+-- the entry at this place, with what it bears of these numbers
+abbrev pub entry_by : List PlacedNumber → ℕ → HistoryEntry → ShownEntry
+entry_by numbers place entry = entry_shown place (record { entry = entry; number = number_at place numbers })

@@ -8,18 +8,19 @@ ghost use Rattle.rollout_machine.specs.Groups.{holds_position};
 ghost use Rattle.rollout_machine.specs.Objects.{entry_shown, numbered};
 ghost use Rattle.rollout_machine.specs.StateWords.{group_holding};
 ghost use Rattle.rollout_machine.specs.Requests.{ShowAction, ShowActionsTable, ShowHistory, ShowTargetActions};
-ghost use Rattle.desk_views.specs.Actions.{history_of, listed_shown, shown_among, shown_in, stored_in};
+ghost use Rattle.desk_records.specs.Actions.{history_of};
+ghost use Rattle.desk_views.specs.Actions.{entry_by, listed_shown, number_at, reports_of, shown_among, shown_in, stored_in};
 ghost use Rattle.desk_reads.specs.AtLists.{FindsAtListsIn};
 ghost use Rattle.desk_views.specs.Showing.{ShowsIn};
 ghost use Rattle.desk_store.specs.Changing.{FindsIn, StaysIn};
 
 use crate::pages::part_on;
 use campaign_core::{ActionStatus, action_word};
-use desk_store::{Fault, ListedAction, OpenChange, StoredAction};
+use desk_store::{Fault, ListedAction, OpenChange, PlacedNumber, StoredAction};
 use rollout_machine::GroupRecord;
 use rollout_model::{
-    Action, ActionNo, ControllerId, HistoryEntry, NumberedEntry, Page, PageOf, Refusal, Reply,
-    RolloutNo,
+    Action, ActionNo, ControllerId, FeedbackNumber, HistoryEntry, NumberedEntry, Page, PageOf,
+    Refusal, Reply, Reported, RolloutNo,
 };
 use sqlite::Alter;
 use std::alloc::Global;
@@ -101,10 +102,29 @@ pub fn show_history<S: Alter>(
         Some(action) => action,
         None => return Ok(Reply::Refused(Refusal::NotFound)),
     };
-    let entries = read_entries(change, number, page)?;
-    let content = numbered_after(alloc, page.offset, entries)?;
+    let content = read_numbered(alloc, change, number, page)?;
     let total = action.entries;
     Ok(Reply::History(PageOf { content, total }))
+}
+
+/// What was reported on an action, as far as it is on a page, with its places and numbers. Of an empty page no numbers are read.
+fn read_numbered<S: Alter>(
+    alloc: Global,
+    change: &mut OpenChange<'_, S>,
+    number: ActionNo,
+    page: Page,
+) -> Result<Vec<NumberedEntry>, Fault>
+    ensures stays { StaysIn S.Store change.old change.new result }
+    ensures reads { FindsAtListsIn S.Store change.old change.new result
+        (λ now found. found.items ≡ take page.limit (drop page.offset (numbered entry_shown 1 (reports_of (item_numbered now.actions number))))) }
+{
+    let entries = read_entries(change, number, page)?;
+    if entries.is_empty() {
+        return Ok(Vec::new(alloc));
+    }
+    let numbers = change.read_numbers(number)?;
+    let shown = numbered_after(alloc, page.offset, entries, &numbers)?;
+    Ok(shown)
 }
 
 /// The entries of an action's history that are on a page.
@@ -121,27 +141,43 @@ fn read_entries<S: Alter>(
     Ok(entries)
 }
 
-/// Entries with their numbers, of which so many come before them. Where there are more than are counted, the store has failed.
+/// Entries with their places, of which so many come before them, and with what they bear of these numbers. Where there are more than are
+/// counted, the store has failed.
 fn numbered_after(
     alloc: Global,
     before: u32,
     entries: Vec<HistoryEntry>,
+    numbers: &[PlacedNumber],
 ) -> Result<Vec<NumberedEntry>, Fault>
-    ensures { IfOk result (λ all. all.items ≡ numbered entry_shown (before + 1) entries.items) }
+    ensures { IfOk result (λ all. all.items ≡ numbered (entry_by numbers.now) (before + 1) entries.items) }
 {
     let mut all = Vec::new(alloc);
     let mut last = before;
     for entry in entries {
-        let Some(number) = last.checked_add(1) else {
+        let Some(place) = last.checked_add(1) else {
             return Err(Fault::Store);
         };
-        match all.push(NumberedEntry { number, entry }) {
+        let number = number_at(numbers, place);
+        let reported = Reported { entry, number };
+        let shown = NumberedEntry {
+            number: place,
+            reported,
+        };
+        match all.push(shown) {
             Ok(()) => {}
             Err(_) => return Err(Fault::Memory),
         }
-        last = number;
+        last = place;
     }
     Ok(all)
+}
+
+/// The number of the entry at a place of the sequence, if it bears one.
+fn number_at(numbers: &[PlacedNumber], place: u32) -> Option<FeedbackNumber>
+    ensures { result ≡ number_at place numbers.now }
+{
+    let borne = numbers.iter().find(|it| it.sequence == place)?;
+    Some(borne.number)
 }
 
 /// How many were listed. Where they are as many as a statement lists there may be more, and the store has failed.

@@ -3,13 +3,13 @@ use Rattle.std.specs.List.{AllByRecursion}
 use Rattle.sql_calls.specs.declared.fault.Fault.{Fault}
 use Rattle.desk_store.specs.Blaming.{Blames}
 use Rattle.desk_store.specs.Changing.{FindsTables, StaysIn}
-use Rattle.desk_verify.specs.Agreement.{Agrees, checked}
+use Rattle.desk_verify.specs.Agreement.{Passes, checked}
 use Rattle.desk_verify.proofs.finding.check_tables.Given as goal
 
--- those so far agree
+-- those so far pass
 abbrev pub invariant-loop-table : goal.invariant-loop-table
 invariant-loop-table g l = record {
   stays : StaysIn g.S.Store l.fn.change l.change (Ok (tt {0}));
   blames : Blames g.S.Store l.fn.change l.change (Ok (tt {0}));
-  judged : FindsTables g.S.Store {E = Fault} l.fn.change l.change (Ok (tt {0})) (λ t u. AllByRecursion (Agrees t) (take l.table-index checked));
+  judged : FindsTables g.S.Store {E = Fault} l.fn.change l.change (Ok (tt {0})) (λ t u. AllByRecursion (Passes t) (take l.table-index checked));
 }

@@ -1,18 +1,21 @@
 use Rattle.std.proofs.Common.{◌+◌, sym, ap, ◌∙◌, arith, ◌++◌, ◌∷◌, []}
 use Rattle.std.proofs.lemmas.List.{length-append}
 use Rattle.std.specs.Result.{is_ok}
-use Rattle.rollout_machine.specs.Objects.{entry_shown, numbered}
+use Rattle.rollout_machine.specs.Objects.{numbered}
+use Rattle.desk_views.specs.Actions.{entry_by}
 use Rattle.desk_views.proofs.HistoryViews.{numbered_more}
 use Rattle.desk_reads.proofs.ListedTargets.{all_given}
 use Rattle.desk_views.proofs.actions.numbered_after.Goals as goal
 
 pub loop-entry-preserved : goal.loop-entry-preserved
-loop-entry-preserved c = record {
-  last = let more = length-append c.loop-entry.yielded (c.in-Some.entry ∷ []) in omega (arith, more, c.loop-entry.invariant.last, c.in-Some-checked_add.ensures);
-  all = (rw (ap is_ok c.in-Ok.is) at c.push.ensures.items) ∙ (λ i. c.loop-entry.invariant.all i ++ entry_shown c.in-Some-checked_add.number c.in-Some.entry ∷ []) ∙ sym (numbered_more entry_shown (c.args.before + 1) c.in-Some-checked_add.number c.loop-entry.yielded c.in-Some.entry (omega (arith, c.loop-entry.invariant.last)));
-}
+loop-entry-preserved c =
+    let shown = entry_by c.args.numbers.now in
+    record {
+      last = let more = length-append c.loop-entry.yielded (c.in-Some.entry ∷ []) in omega (arith, more, c.loop-entry.invariant.last, c.in-Some-checked_add.ensures);
+      all = (rw (c.number_at-number.ensures, ap is_ok c.in-Ok.is) at c.push.ensures.items) ∙ (λ i. c.loop-entry.invariant.all i ++ shown c.in-Some-checked_add.place c.in-Some.entry ∷ []) ∙ sym (numbered_more shown (c.args.before + 1) c.in-Some-checked_add.place c.loop-entry.yielded c.in-Some.entry (omega (arith, c.loop-entry.invariant.last)));
+    }
 
 pub returns : goal.returns
 returns c =
     let given = all_given c.into_iter-entry-iterator.result _ c.next.new.self _ _ c.into_iter-entry-iterator.ensures.into_iter_gives.0 c.loop-entry.yielded_by c.in-None.ensures.steps in
-    c.loop-entry.invariant.all ∙ ap (numbered entry_shown (c.args.before + 1)) given
+    c.loop-entry.invariant.all ∙ ap (numbered (entry_by c.args.numbers.now) (c.args.before + 1)) given

@@ -13,5 +13,5 @@ returns-in-None-clause-shows g c = finds_as (rw c.in-None.is at c.in_ok-action.e
 
 pub returns-clause-shows : goal.returns-clause-shows
 returns-clause-shows g c =
-    finds_as (both_found (rw c.in-Some.is at c.in_ok-action.ensures.reads) c.in_ok-entries.ensures.reads)
-    (λ r is of. history_replied r c.args.id c.args.page (item_numbered r.actions c.args.number) c.in-Some.action c.in_ok-entries.entries.items c.in_ok-content.content.items is.0 (is.1 of) c.in_ok-content.ensures)
+    finds_as (both_found (rw c.in-Some.is at c.in_ok-action.ensures.reads) c.in_ok-content.ensures.reads)
+    (λ r is of. history_replied r c.args.id c.args.page (item_numbered r.actions c.args.number) c.in-Some.action c.in_ok-content.content.items is.0 (is.1 of))

@@ -4,30 +4,34 @@ use Rattle.std.specs.List.{list_all}
 use Rattle.std.specs.Option.{option_map}
 use Rattle.std.proofs.lemmas.Bool.{and_parts}
 use Rattle.std.proofs.lemmas.List.Folds.{list_all-append}
-use Rattle.rollout_machine.specs.Actions.{ActionPlace, action_place, action_places, entries_of, history}
+use Rattle.rollout_machine.specs.Actions.{ActionPlace, action_place, action_places, history}
 use Rattle.rollout_machine.specs.ByteStrings.{item_numbered}
 use Rattle.rollout_machine.specs.CommandList.{CommandList, Make, ◌▸◌}
-use Rattle.rollout_machine.specs.CommandRules.{IsWellFormed, is_credential}
-use Rattle.rollout_machine.specs.Commands.{Command, Feedback, CancelFeedback}
+use Rattle.rollout_machine.specs.CommandRules.{IsWellFormed, is_credential, is_device_feedback}
+use Rattle.rollout_machine.specs.Commands.{Command, DeviceFeedback, Feedback, CancelFeedback}
 use Rattle.rollout_machine.specs.Records.{Records, action_in, records}
+use Rattle.rollout_machine.specs.Reports.{entries_in, reported_by}
 use Rattle.rollout_machine.specs.Validity.{IsValid}
-use Rattle.rollout_machine.proofs.Actions.{numbered_map}
-use Rattle.rollout_model.specs.Rules.{are_details}
+use Rattle.rollout_machine.proofs.Actions.{entries_both, numbered_map}
+use Rattle.rollout_model.specs.Rules.{are_details, is_number}
+use Rattle.desk_records.specs.Actions.{history_of}
 use Rattle.desk_records.specs.EntryRow.{keeps_details}
-use Rattle.desk_views.specs.Actions.{history_of}
 use Rattle.desk_reads.specs.AtLists.{AreOfList}
 
 -- of one command
-one_keeps : (c : Command) → IsWellFormed c → list_all keeps_details (entries_of c) ≡ true
-one_keeps (Feedback report) formed = let kept : are_details report.details ≡ true = (and_parts _ _ (and_parts (is_credential report.credential) _ formed).1).1 in rw kept refl
-one_keeps (CancelFeedback report) formed = let kept : are_details report.details ≡ true = (and_parts _ _ (and_parts (is_credential report.credential) _ formed).1).1 in rw kept refl
+of_feedback : {W : Type 0} (feedback : DeviceFeedback W) → is_device_feedback feedback ≡ true → are_details feedback.details ≡ true
+of_feedback feedback formed = (and_parts _ _ (and_parts (is_number feedback.action) _ (and_parts (is_credential feedback.credential) _ formed).1).1).0
+
+one_keeps : (c : Command) → IsWellFormed c → list_all keeps_details (entries_in (reported_by c)) ≡ true
+one_keeps (Feedback feedback) formed = rw (of_feedback feedback formed) refl
+one_keeps (CancelFeedback feedback) formed = rw (of_feedback feedback formed) refl
 one_keeps _ formed = refl
 
-history_keeps : (h : CommandList) → IsValid h → (r j : ℕ) → list_all keeps_details (history h r j) ≡ true
+history_keeps : (h : CommandList) → IsValid h → (r j : ℕ) → list_all keeps_details (entries_in (history h r j)) ≡ true
 history_keeps (Make approval) valid r j = refl
-history_keeps (h ▸ c) valid r j = list_all-append keeps_details (history h r j) _ ∙ rw (history_keeps h valid.0 r j) (if_added _ (one_keeps c valid.1))
+history_keeps (h ▸ c) valid r j = ap (list_all keeps_details) (entries_both (history h r j) _) ∙ list_all-append keeps_details (entries_in (history h r j)) _ ∙ rw (history_keeps h valid.0 r j) (if_added _ (one_keeps c valid.1))
   where
-    if_added : (b : Bool) → list_all keeps_details (entries_of c) ≡ true → list_all keeps_details (cond b (entries_of c) []) ≡ true
+    if_added : (b : Bool) → list_all keeps_details (entries_in (reported_by c)) ≡ true → list_all keeps_details (entries_in (cond b (reported_by c) [])) ≡ true
     if_added true all = all
     if_added false all = refl
 
