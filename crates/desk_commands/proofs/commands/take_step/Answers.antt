@@ -53,7 +53,7 @@ pub returns-in-CancelFeedback-clause-steps : goal.returns-in-CancelFeedback-clau
 returns-in-CancelFeedback-clause-steps g c = rw c.in-CancelFeedback.is c.take_cancel_feedback.ensures.steps
 
 pub returns-in-Feedback-clause-work : goal.returns-in-Feedback-clause-work
-returns-in-Feedback-clause-work g c is = number_within c.in-Feedback.feedback.now.number c.take_feedback.ensures.work
+returns-in-Feedback-clause-work g c is = number_within c.in-Feedback.feedback.number c.take_feedback.ensures.work
 
 pub returns-in-CancelFeedback-clause-work : goal.returns-in-CancelFeedback-clause-work
-returns-in-CancelFeedback-clause-work g c is = number_within c.in-CancelFeedback.feedback.now.number c.take_cancel_feedback.ensures.work
+returns-in-CancelFeedback-clause-work g c is = number_within c.in-CancelFeedback.feedback.number c.take_cancel_feedback.ensures.work
