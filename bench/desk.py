@@ -53,9 +53,12 @@ def added(number):
     return reply("201 Created", f"[{module(number)}]")
 
 
-def contents(number):
-    """The bytes of the artifact that is added in this place: 1 MiB."""
-    return random.Random(number).randbytes(1 << 20)
+MIB = 1 << 20
+
+
+def contents(number, size=MIB):
+    """The bytes of the artifact that is added in this place: 1 MiB where nothing is said."""
+    return random.Random(number).randbytes(size)
 
 
 def holder(number):
@@ -63,18 +66,18 @@ def holder(number):
     return (number - 1) // 8 + 1
 
 
-def uploading(number):
+def uploading(number, size=MIB):
     """The request that adds the artifact."""
     head = f"POST /rest/v1/softwaremodules/{holder(number)}/artifacts?filename=f{number}.bin HTTP/1.1"
-    return f"{head}\r\nContent-Length: {1 << 20}\r\n\r\n".encode() + contents(number)
+    return f"{head}\r\nContent-Length: {size}\r\n\r\n".encode() + contents(number, size)
 
 
-def uploaded(number):
+def uploaded(number, size=MIB):
     """The reply to it."""
-    digest = hashlib.sha256(contents(number)).hexdigest()
+    digest = hashlib.sha256(contents(number, size)).hexdigest()
     return reply(
         "201 Created",
-        f'{{"hashes":{{"sha256":"{digest}"}},"id":{number},"providedFilename":"f{number}.bin","size":{1 << 20}}}',
+        f'{{"hashes":{{"sha256":"{digest}"}},"id":{number},"providedFilename":"f{number}.bin","size":{size}}}',
     )
 
 
@@ -83,10 +86,10 @@ def downloading(number):
     return f"GET /rest/v1/softwaremodules/{holder(number)}/artifacts/{number}/download HTTP/1.1\r\n\r\n".encode()
 
 
-def downloaded(number):
+def downloaded(number, size=MIB):
     """The reply to it."""
-    head = f"HTTP/1.1 200 OK\r\nContent-Type: application/octet-stream\r\nContent-Length: {1 << 20}\r\n\r\n"
-    return head.encode() + contents(number)
+    head = f"HTTP/1.1 200 OK\r\nContent-Type: application/octet-stream\r\nContent-Length: {size}\r\n\r\n"
+    return head.encode() + contents(number, size)
 
 
 def target(number):

@@ -1,7 +1,7 @@
-"""The groups part of `run`: rollouts whose groups are defined one by one beside even ones, and files of version 1, which the program migrates.
+"""The groups part of `run`: rollouts whose groups are defined one by one beside even ones, and older files, which the program migrates.
 
-A full file of version 1 is made by the system's SQLite, with the texts that a kept case has, and once migrated by the program. Both files are
-opened by turns, each time as a copy, by the order that shows little, `report`.
+A full file of version 1 is made by the system's SQLite, with the texts that a kept case has, and once migrated by the program; one of version 2
+is the migrated one without what version 3 has more. The files are opened by turns, each time as a copy, by the order that shows little, `report`.
 """
 import hashlib
 import os
@@ -128,22 +128,34 @@ def migrated(program, old):
     found = db.execute("SELECT version, (SELECT count(*) FROM group_rule WHERE percentage IS NULL AND success = 50 AND error = 100) FROM desk").fetchall()
     whole = db.execute("PRAGMA integrity_check").fetchall()
     close(db)
-    if found != [(2, ROLLOUTS * GROUPS)] or whole != [("ok",)]:
+    if found != [(3, ROLLOUTS * GROUPS)] or whole != [("ok",)]:
         raise SystemExit(f"{program}: a migrated file has version and rules {found}, integrity_check {whole}")
+    return path
+
+
+def of_version_2(new):
+    """A copy of a file of version 3 without numbers, as one of version 2."""
+    path = new + "-2"
+    shutil.copyfile(new, path)
+    db = sqlite3.connect(path, isolation_level=None)
+    db.executescript("DROP TABLE feedback_number; UPDATE desk SET version = 2")
+    close(db)
     return path
 
 
 def print_migrating(folder, program, turns):
     """The table of openings, a file to a row."""
-    print(f"\nOpening and migrating a file of version 1, {ROLLOUTS} rollouts of {GROUPS} groups; least of {turns} turns, processor seconds\n")
-    print("| | migrated before (s) | of version 1 (s) | ratio | MiB before | MiB | asked |\n|---|---|---|---|---|---|---|")
+    print(f"\nOpening and migrating older files, {ROLLOUTS} rollouts of {GROUPS} groups; least of {turns} turns, processor seconds\n")
+    print("| | migrated before (s) | MiB | of version | (s) | MiB | ratio | asked |\n|---|---|---|---|---|---|---|---|")
     for called, is_started in ("none started", False), ("all started", True):
         old = os.path.join(folder, f"{is_started}.db")
         make_version_1(old, is_started)
         new = migrated(program, old)
-        taken = [[opened_copy(program, path) for path in (new, old)] for _ in range(turns)]
-        (before, after), (lean, full) = ([kind(it[k][what] for it in taken) for k in (0, 1)] for what, kind in enumerate((min, max)))
-        print(f"| {called} | {before:.2f} | {after:.2f} | {after / before:.2f} | {lean:.1f} | {full:.1f} | {told(after / before, MIGRATING)} |")
+        taken = [[opened_copy(program, path) for path in (new, old, of_version_2(new))] for _ in range(turns)]
+        (before, *after), (lean, *full) = ([kind(it[k][what] for it in taken) for k in range(3)] for what, kind in enumerate((min, max)))
+        for version, (seconds, memory) in enumerate(zip(after, full), 1):
+            ratio = seconds / before
+            print(f"| {called} | {before:.2f} | {lean:.1f} | {version} | {seconds:.2f} | {memory:.1f} | {ratio:.2f} | {told(ratio, MIGRATING)} |")
 
 
 def run(program, folder, turns):

@@ -47,21 +47,22 @@ def polled(number, action):
     return desk.reply("200 OK", f'{{"_links":{{{base}}},"config":{{"polling":{{"sleep":"00:05:00"}}}}}}')
 
 
-def reporting(number, action, execution, finished):
-    """The request by which a device reports of an action."""
-    body = f'{{"status":{{"execution":"{execution}","result":{{"finished":"{finished}"}},"details":["at work"]}}}}'
+def reporting(number, action, execution, finished, given=None):
+    """The request by which a device reports of an action, with a number where one is given."""
+    numbered = f'"number":{given},' if given else ""
+    body = f'{{{numbered}"status":{{"execution":"{execution}","result":{{"finished":"{finished}"}},"details":["at work"]}}}}'
     head = f"POST {device(number)}/deploymentBase/{action}/feedback HTTP/1.1\r\nAuthorization: TargetToken {desk.target(number)[2]}"
     return f"{head}\r\nContent-Length: {len(body)}\r\n\r\n{body}".encode()
 
 
-def noting(number, action):
+def noting(number, action, given=None):
     """A report that ends nothing."""
-    return reporting(number, action, "proceeding", "none")
+    return reporting(number, action, "proceeding", "none", given)
 
 
-def ending(number, action):
+def ending(number, action, given=None):
     """A report that an action succeeded."""
-    return reporting(number, action, "closed", "success")
+    return reporting(number, action, "closed", "success", given)
 
 
 def conditions(success, error):
@@ -372,11 +373,15 @@ class Sides:
 
     def ask_all(self, pairs):
         """The median of the seconds of these requests with their replies, by the program's name."""
-        pairs, names = list(pairs), list(self.asked)
+        return self.ask_each(dict.fromkeys(self.asked, list(pairs)))
+
+    def ask_each(self, pairs):
+        """The same of each program's own requests, by its name; each has as many, and one without any isn't asked."""
+        names = [it for it in self.asked if it in pairs]
         seconds = {name: [] for name in names}
-        for first in range(0, len(pairs), BLOCK):
+        for first in range(0, len(pairs[names[0]]), BLOCK):
             for name in names:
-                seconds[name].extend(self.asked[name].ask(*pair) for pair in pairs[first : first + BLOCK])
+                seconds[name].extend(self.asked[name].ask(*pair) for pair in pairs[name][first : first + BLOCK])
             names.append(names.pop(0))
         return {name: statistics.median(values) for name, values in seconds.items()}
 

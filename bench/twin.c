@@ -9,7 +9,7 @@
 #include <unistd.h>
 
 enum { HEAD_LIMIT = 8192, MODULE_LIMIT = 1000 };
-enum { MODULE_ARTIFACT_LIMIT = 8, ARTIFACT_LIMIT = 256, PIECE_LENGTH = 65536 };
+enum { MODULE_ARTIFACT_LIMIT = 8, ARTIFACT_LIMIT = 256 };
 
 typedef struct { Text name, type, version; } Label;
 
@@ -53,7 +53,8 @@ static void open_store(const char *path) {
         "CREATE TABLE IF NOT EXISTS feedback (action INTEGER NOT NULL, sequence INTEGER NOT NULL, kind INTEGER NOT NULL, word INTEGER NOT NULL, details TEXT NOT NULL, PRIMARY KEY (action, sequence)) STRICT;"
         "CREATE TABLE IF NOT EXISTS offer (controller TEXT NOT NULL PRIMARY KEY, action INTEGER NOT NULL, kind INTEGER NOT NULL) STRICT;"
         "CREATE TABLE IF NOT EXISTS group_rule (rollout INTEGER NOT NULL, number INTEGER NOT NULL, percentage INTEGER, success INTEGER NOT NULL, error INTEGER NOT NULL, PRIMARY KEY (rollout, number)) STRICT;"
-        "INSERT OR IGNORE INTO desk (id, format, version, approval) VALUES (1, 'fwdesk', 2, 0);"
+        "CREATE TABLE IF NOT EXISTS feedback_number (action INTEGER NOT NULL, place INTEGER NOT NULL, sequence INTEGER NOT NULL, number INTEGER NOT NULL, PRIMARY KEY (action, place)) STRICT;"
+        "INSERT OR IGNORE INTO desk (id, format, version, approval) VALUES (1, 'fwdesk', 3, 0);"
         "COMMIT;";
     if (sqlite3_exec(db, setup, NULL, NULL, NULL) != SQLITE_OK) die("setup");
     begin = prepared("BEGIN IMMEDIATE");

@@ -4,7 +4,7 @@
 #include <stdint.h>
 #include <stdio.h>
 
-enum { BODY_LIMIT = 1048576, TEXT_LIMIT = 128, TAG_LIMIT = 16, ATTRIBUTE_LIMIT = 32, TARGET_LIMIT = 10000, GROUP_LIMIT = 50 };
+enum { PIECE_LENGTH = 65536, BODY_LIMIT = 64 * PIECE_LENGTH, TEXT_LIMIT = 128, TAG_LIMIT = 16, ATTRIBUTE_LIMIT = 32, TARGET_LIMIT = 10000, GROUP_LIMIT = 50 };
 
 typedef struct { char bytes[TEXT_LIMIT + 1]; size_t len; } Text;
 

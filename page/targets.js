@@ -181,8 +181,9 @@ export const one = {
   },
 };
 
-function entry({id, kind, execution, finished, details}) {
-  return h("li", {}, h("p", {}, h("strong", {}, execution), finished === "none" ? "" : `, ${finished}`, kind === "cancel" ? " (of the cancel)" : ""),
+function entry({id, kind, execution, finished, details, number: given}) {
+  return h("li", {}, h("p", {}, h("strong", {}, execution), finished === "none" ? "" : `, ${finished}`, kind === "cancel" ? " (of the cancel)" : "",
+    given === undefined ? null : h("span", {class: "facts", "data-number": given}, ` number ${number(given)}`)),
     details.length ? h("ul", {class: "details", "aria-label": `Details of entry ${id}`}, details.map((it) => h("li", {}, it))) : null);
 }
 

@@ -59,6 +59,7 @@ REFUSALS = {
     "length": (19, 400),
     "head_size": (20, 431),
     "coding": (21, 501),
+    "old_number": (22, 410),
 }
 CLOSING = {"too_large", "head", "length", "head_size", "coding"}
 

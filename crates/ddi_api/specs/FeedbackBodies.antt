@@ -2,11 +2,11 @@
 use Rattle.std.specs.Prelude.{ℕ, List, [], ◌∷◌, codes, bytes_eq, ◌&&◌, Option, Some, None, option_and_then, option_map, if◌then◌else◌}
 use Rattle.serde_json.specs.Data.{Data}
 use Rattle.serde_json.specs.Find.{get, as_str}
-use Rattle.rollout_model.specs.Rules.{detail_of, details_of}
+use Rattle.rollout_model.specs.Rules.{detail_of, details_of, feedback_number_of}
 use Rattle.rollout_model.specs.declared.feedback.DeviceFeedback.{DeviceFeedback}
 use Rattle.rollout_machine.specs.Commands.{Credential, Proceeding, Scheduled, Resumed, DeploymentWord, Succeeded, Failed, Rejected, Noted, CancelWord}
 use Rattle.rollout_machine.specs.Commands.{ClosedCancel, CanceledCancel, RejectedCancel, NotedCancel}
-use Rattle.mgmt_objects.specs.Bodies.{body_data}
+use Rattle.mgmt_objects.specs.Bodies.{body_data, if_given, whole_of}
 use Rattle.mgmt_objects.specs.Traverse.{array_of}
 
 -- `execution` and `finished`, and the word that the two say
@@ -65,13 +65,26 @@ lines_if (Some d) = array_of detail_in d
 abbrev pub details_member : Data → Option (List (List ℕ))
 details_member status = option_and_then details_of (lines_if (get (codes "details") status))
 
-abbrev pub new_feedback : {W : Type 0} → Credential → ℕ → W → List (List ℕ) → DeviceFeedback W
-new_feedback device action word details = record { credential = device; action = action; word = word; details = details }
+-- the number of a feedback
+abbrev pub feedback_number_in : Data → Option ℕ
+feedback_number_in d = option_and_then feedback_number_of (whole_of d)
 
--- what an object's `status` says of an action
-abbrev pub feedback_of : {W : Type 0} → (List ℕ → List ℕ → Option W) → Credential → ℕ → Data → Option (DeviceFeedback W)
-feedback_of words device action status = option_and_then (λ word. option_map (λ details. new_feedback device action word details)
+-- the number that the device gave, which stands beside `status`, and none where it is missing
+abbrev pub number_given : Data → Option (Option ℕ)
+number_given d = if_given feedback_number_in (get (codes "number") d)
+
+abbrev pub new_feedback : {W : Type 0} → Credential → ℕ → W → List (List ℕ) → Option ℕ → DeviceFeedback W
+new_feedback device action word details number = record { credential = device; action = action; word = word; details = details; number = number }
+
+-- what `status` says of an action, beside the number
+abbrev pub feedback_of : {W : Type 0} → (List ℕ → List ℕ → Option W) → Credential → ℕ → Option ℕ → Data → Option (DeviceFeedback W)
+feedback_of words device action number status = option_and_then (λ word. option_map (λ details. new_feedback device action word details number)
     (details_member status)) (word_member words status)
 
+-- an object with `status`, and perhaps `number`
+abbrev pub feedback_in : {W : Type 0} → (List ℕ → List ℕ → Option W) → Credential → ℕ → Data → Option (DeviceFeedback W)
+feedback_in words device action d = option_and_then (λ number. option_and_then (feedback_of words device action number) (get (codes "status") d))
+    (number_given d)
+
 abbrev pub feedback_body : {W : Type 0} → (List ℕ → List ℕ → Option W) → Credential → ℕ → List ℕ → Option (DeviceFeedback W)
-feedback_body words device action bytes = option_and_then (feedback_of words device action) (option_and_then (get (codes "status")) (body_data bytes))
+feedback_body words device action bytes = option_and_then (feedback_in words device action) (body_data bytes)

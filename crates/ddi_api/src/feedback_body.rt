@@ -6,12 +6,12 @@ ghost use Rattle.serde_json.specs.View.{view};
 ghost use Rattle.mgmt_objects.specs.Readings.{ReadsAs, ReadsBy};
 ghost use Rattle.mgmt_objects.specs.Traverse.{array_of, traverse};
 ghost use Rattle.ddi_api.specs.FeedbackBodies.{cancel_word, deployment_word, detail_in, details_member, finished_in, lines_if, feedback_body};
-ghost use Rattle.ddi_api.specs.FeedbackBodies.{feedback_of, string_member, word_member};
+ghost use Rattle.ddi_api.specs.FeedbackBodies.{feedback_in, feedback_number_in, feedback_of, number_given, string_member, word_member};
 
-use mgmt_objects::read_value;
+use mgmt_objects::{read_value, read_whole};
 use rollout_model::{
-    ActionNo, CancelWord, Credential, DeploymentWord, Detail, Details, DeviceFeedback, NoteWord,
-    Refusal,
+    ActionNo, CancelWord, Credential, DeploymentWord, Detail, Details, DeviceFeedback,
+    FeedbackNumber, NoteWord, Refusal,
 };
 use serde_json::Value;
 use std::alloc::Global;
@@ -161,13 +161,34 @@ fn read_details(alloc: Global, status: &Value) -> Result<Details, Refusal>
     }
 }
 
+fn feedback_number_in(value: &Value) -> Option<FeedbackNumber>
+    ensures { result ≡ feedback_number_in (view value.now) }
+{
+    let number = read_whole(value)?;
+    FeedbackNumber::new(number)
+}
+
+/// The number that the device gave, and none where it is missing.
+fn read_number(body: &Value) -> Result<Option<FeedbackNumber>, Refusal>
+    ensures { ReadsAs (number_given (view body.now)) result }
+{
+    let Some(value) = body.get("number") else {
+        return Ok(None);
+    };
+    match feedback_number_in(value) {
+        Some(number) => Ok(Some(number)),
+        None => Err(Refusal::BadRequest),
+    }
+}
+
 fn read_status<W: FeedbackWord>(
     alloc: Global,
     credential: Credential,
     action: ActionNo,
+    number: Option<FeedbackNumber>,
     status: &Value,
 ) -> Result<DeviceFeedback<W>, Refusal>
-    ensures { ReadsAs (feedback_of W.words credential action (view status.now)) result }
+    ensures { ReadsAs (feedback_of W.words credential action number (view status.now)) result }
 {
     let Some(word) = word_in::<W>(status) else {
         return Err(Refusal::BadRequest);
@@ -178,10 +199,27 @@ fn read_status<W: FeedbackWord>(
         action,
         word,
         details,
+        number,
     })
 }
 
-/// What the body of feedback says: an object with `status`, and in there `execution`, `result` with `finished`, and perhaps `details`.
+fn read_members<W: FeedbackWord>(
+    alloc: Global,
+    credential: Credential,
+    action: ActionNo,
+    body: &Value,
+) -> Result<DeviceFeedback<W>, Refusal>
+    ensures { ReadsAs (feedback_in W.words credential action (view body.now)) result }
+{
+    let number = read_number(body)?;
+    let Some(status) = body.get("status") else {
+        return Err(Refusal::BadRequest);
+    };
+    read_status::<W>(alloc, credential, action, number, status)
+}
+
+/// What the body of feedback says: an object with `status`, and perhaps `number`. In `status` are `execution`, `result` with `finished`, and
+/// perhaps `details`.
 pub(crate) fn read_feedback<W: FeedbackWord>(
     alloc: Global,
     credential: Credential,
@@ -191,8 +229,5 @@ pub(crate) fn read_feedback<W: FeedbackWord>(
     ensures { ReadsAs (feedback_body W.words credential action bytes.now) result }
 {
     let value = read_value(alloc, bytes)?;
-    let Some(status) = value.get("status") else {
-        return Err(Refusal::BadRequest);
-    };
-    read_status::<W>(alloc, credential, action, status)
+    read_members::<W>(alloc, credential, action, &value)
 }

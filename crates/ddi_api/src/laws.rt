@@ -1,6 +1,6 @@
 //! The table of routes, the first refusals, the text of refusals, and worked messages, bodies and replies.
 
-ghost use Rattle.std.specs.Prelude.{◌≡◌, ℕ, List, Option, [], ◌∷◌, true, codes, ◌++◌, bytes_eq, replicate, Some, None, false};
+ghost use Rattle.std.specs.Prelude.{◌≡◌, ℕ, List, Option, [], ◌∷◌, true, codes, ◌++◌, bytes_eq, replicate, Some, None, false, option_and_then};
 ghost use Rattle.serde_json.specs.Written.{compact_text};
 ghost use Rattle.request_target.specs.Rows.{are_routes};
 ghost use Rattle.http_wire.specs.Messages.{WireMessage};
@@ -13,11 +13,12 @@ ghost use Rattle.rollout_machine.specs.Commands.{Succeeded, RejectedCancel};
 ghost use Rattle.rollout_machine.specs.Replies.{Deployment, PollShown, Refused};
 ghost use Rattle.rollout_machine.specs.Offers.{Offer};
 ghost use Rattle.rollout_machine.specs.Requests.{Ask, Asks, Poll, Rejected};
+ghost use Rattle.mgmt_objects.specs.Bodies.{body_data};
 ghost use Rattle.mgmt_objects.specs.ModuleBodies.{new_label};
 ghost use Rattle.ddi_api.specs.declared.call.DeviceCall.{DeviceCall};
 ghost use Rattle.ddi_api.specs.ConfigBodies.{config_body, new_attribute};
 ghost use Rattle.ddi_api.specs.Credentials.{credential_of, digest_of_value};
-ghost use Rattle.ddi_api.specs.FeedbackBodies.{cancel_word, deployment_word, new_feedback, feedback_body};
+ghost use Rattle.ddi_api.specs.FeedbackBodies.{cancel_word, deployment_word, new_feedback, number_given, feedback_body};
 ghost use Rattle.ddi_api.specs.Letters.{cancel_letters, deployment_letters, poll_letters};
 ghost use Rattle.ddi_api.specs.Objects.{cancel_data, deployment_data, poll_data};
 ghost use Rattle.ddi_api.specs.Reading.{device_reading};
@@ -93,14 +94,33 @@ pub fn no_authorization()
 pub fn worked_feedback()
     ensures { feedback_body deployment_word (record { id = codes "dev-01"; digest = [] }) 4
         (codes "{\"status\":{\"execution\":\"closed\",\"result\":{\"finished\":\"success\"},\"details\":[\"done\"]}}")
-        ≡ Some (new_feedback (record { id = codes "dev-01"; digest = [] }) 4 Succeeded (codes "done" ∷ [])) }
+        ≡ Some (new_feedback (record { id = codes "dev-01"; digest = [] }) 4 Succeeded (codes "done" ∷ []) None) }
 {}
 
-/// A worked body says that a device goes on in spite of a cancel.
+/// A worked body says that a device goes on in spite of a cancel, by a number.
 pub fn worked_cancel_feedback()
     ensures { feedback_body cancel_word (record { id = codes "dev-01"; digest = [] }) 4
-        (codes "{\"status\":{\"execution\":\"rejected\",\"result\":{\"finished\":\"none\"}}}")
-        ≡ Some (new_feedback (record { id = codes "dev-01"; digest = [] }) 4 RejectedCancel []) }
+        (codes "{\"number\":7,\"status\":{\"execution\":\"rejected\",\"result\":{\"finished\":\"none\"}}}")
+        ≡ Some (new_feedback (record { id = codes "dev-01"; digest = [] }) 4 RejectedCancel [] (Some 7)) }
+{}
+
+/// Numbers of feedback that are given, and two that stand for none.
+pub fn worked_numbers()
+    ensures greatest { option_and_then number_given (body_data (codes "{\"number\":4294967295}")) ≡ Some (Some 4294967295) }
+    ensures last { option_and_then number_given (body_data (codes "{\"number\":0,\"number\":1}")) ≡ Some (Some 1) }
+    ensures missing { option_and_then number_given (body_data (codes "{}")) ≡ Some None }
+    ensures inside { option_and_then number_given (body_data (codes "{\"status\":{\"number\":5}}")) ≡ Some None }
+{}
+
+/// What no number is.
+pub fn no_numbers()
+    ensures nothing { option_and_then number_given (body_data (codes "{\"number\":0}")) ≡ None }
+    ensures over { option_and_then number_given (body_data (codes "{\"number\":4294967296}")) ≡ None }
+    ensures negative { option_and_then number_given (body_data (codes "{\"number\":-1}")) ≡ None }
+    ensures fraction { option_and_then number_given (body_data (codes "{\"number\":1.0}")) ≡ None }
+    ensures exponent { option_and_then number_given (body_data (codes "{\"number\":1e0}")) ≡ None }
+    ensures text { option_and_then number_given (body_data (codes "{\"number\":\"5\"}")) ≡ None }
+    ensures null { option_and_then number_given (body_data (codes "{\"number\":null}")) ≡ None }
 {}
 
 /// Of equal keys the last one counts, and keys stand in byte order.

@@ -14,4 +14,3 @@ pub mod LedgerEnds
 pub mod Standings
 pub mod Creations
 pub mod Starts
-pub mod FeedbackCommands

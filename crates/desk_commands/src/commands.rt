@@ -2,7 +2,7 @@
 
 ghost use Rattle.std.specs.Prelude.{◌≡◌, true};
 ghost use Rattle.rollout_machine.specs.Views.{command_of};
-ghost use Rattle.desk_commands.specs.FeedbackCommands.{is_feedback};
+ghost use Rattle.rollout_machine.specs.Bounds.{is_feedback};
 ghost use Rattle.desk_store.specs.Counting.{AddsIn};
 ghost use Rattle.desk_store.specs.Changing.{StaysIn};
 ghost use Rattle.desk_commands.specs.Changing.{StepsIn};

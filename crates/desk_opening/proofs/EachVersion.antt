@@ -1,37 +1,46 @@
 -- What is known of each version by its cases.
-use Rattle.std.proofs.Common.{◌≡◌, ℕ, ◌+◌, List, [], ◌∷◌, ◌++◌, map, None, refl, ap, subst}
+use Rattle.std.proofs.Common.{◌≡◌, ℕ, ◌+◌, List, [], ◌∷◌, ◌++◌, map, true, None, refl, ap, subst}
 use Rattle.std.specs.List.{AllByRecursion}
 use Rattle.std.proofs.lemmas.List.{take-append-drop}
+use Rattle.sqlite_value.specs.Order.{Row}
 use Rattle.rollout_machine.specs.Records.{Records}
+use Rattle.rollout_machine.specs.declared.records.ActionRecord.{ActionRecord}
 use Rattle.rollout_machine.specs.declared.records.RolloutRecord.{RolloutRecord}
 use Rattle.desk_records.specs.Holds.{Content, Ordered, Unordered, Offered, content_at, ledger_of}
-use Rattle.desk_records.specs.Rollouts.{rule_row}
+use Rattle.desk_records.specs.Rollouts.{rule_row, rules_from}
 use Rattle.desk_records.specs.Parts.{parts_from}
-use Rattle.desk_records.specs.Schema.{Place, Offers, Rules, places}
-use Rattle.desk_records.specs.Versions.{later_than, places_at, table_count_of}
+use Rattle.desk_records.specs.FeedbackNumbers.{number_row, number_rows, numbers_of}
+use Rattle.desk_records.specs.Schema.{Place, Offers, places}
+use Rattle.desk_records.specs.Versions.{IsTellable, IsUnnumbered, later_than, places_at, table_count_of}
 use Rattle.desk_records.specs.declared.version.Version.{Version}
-use Rattle.desk_records.specs.declared.version.Version.TheVariants.{One, Two}
-use Rattle.rollout_model.specs.declared.group_rule.GroupRule.{GroupRule}
+use Rattle.desk_records.specs.declared.version.Version.TheVariants.{One, Two, Three}
+use Rattle.desk_records.proofs.Places.{among, is_among}
+use Rattle.desk_records.proofs.Readable.{of_all}
 use Rattle.desk_opening.specs.Filling.{bare_ledger, no_rules}
 
--- the table of offers is there
-pub has_offers : (v : Version) (P : Place → Type 0) → AllByRecursion P (places_at v) → P Offers
-has_offers One P all = all.1.1.1.1.1.1.1.1.1.1.1.1.1.1.0
-has_offers Two P all = all.1.1.1.1.1.1.1.1.1.1.1.1.1.1.0
+-- what holds of a version's tables holds of one of them
+pub has_at : (v : Version) (t : Place) → is_among (places_at v) t ≡ true → (P : Place → Type 0) → AllByRecursion P (places_at v) → P t
+has_at v t there P all = among P (places_at v) t all there
 
--- .. that of what is said of groups
-pub has_rules : (P : Place → Type 0) → AllByRecursion P (places_at Two) → P Rules
-has_rules P all = all.1.1.1.1.1.1.1.1.1.1.1.1.1.1.1.0
+-- the table of offers is there
+offers_there : (v : Version) → is_among (places_at v) Offers ≡ true
+offers_there One = refl
+offers_there Two = refl
+offers_there Three = refl
+
+pub has_offers : (v : Version) (P : Place → Type 0) → AllByRecursion P (places_at v) → P Offers
+has_offers v = has_at v Offers (offers_there v)
 
 -- its tables hold what is told of the records
 pub older_held : (v : Version) (r : Records) → map (content_at v (ledger_of r)) (places_at v) ≡ map (content_at v (bare_ledger v r)) (places_at v)
 older_held One r = refl
 older_held Two r = refl
+older_held Three r = refl
 
--- nothing is said of groups
-no_rule_rows : (n : ℕ) (xs : List RolloutRecord) → parts_from rule_row (λ (its : List GroupRule). its) n (no_rules xs) ≡ []
-no_rule_rows n [] = refl
-no_rule_rows n (x ∷ xs) = no_rule_rows (n + 1) xs
+-- records without parts have no rows of them
+no_part_rows : {X Y : Type 0} (f : ℕ → ℕ → Y → Row) (parts : X → List Y) (n : ℕ) (xs : List X) → AllByRecursion (λ x. parts x ≡ []) xs → parts_from f (λ (its : List Y). its) n (map parts xs) ≡ []
+no_part_rows f parts n [] none = refl
+no_part_rows f parts n (x ∷ xs) none = rw none.0 (no_part_rows f parts (n + 1) xs none.1)
 
 -- the content that is of the same kind and tells of nothing
 abbrev pub nothing : Content → Content
@@ -39,10 +48,18 @@ nothing (Ordered wanted) = Ordered []
 nothing (Unordered wanted) = Unordered []
 nothing (Offered offers) = Offered (λ id. None)
 
+-- nothing is said of groups, and no feedback bears a number
+no_rule_rows : (xs : List RolloutRecord) → rules_from (no_rules xs) ≡ []
+no_rule_rows xs = no_part_rows rule_row (λ (x : RolloutRecord). []) 1 xs (of_all (λ (x : RolloutRecord). [] ≡ []) (λ x. refl) xs)
+
+no_number_rows : (as' : List ActionRecord) → AllByRecursion IsUnnumbered as' → number_rows (map numbers_of as') ≡ []
+no_number_rows = no_part_rows number_row numbers_of 1
+
 -- later ones hold nothing
-pub later_held : (v : Version) (r : Records) → AllByRecursion (λ t. content_at v (bare_ledger v r) t ≡ nothing (content_at v (bare_ledger v r) t)) (later_than v)
-later_held One r = (ap Unordered (no_rule_rows 1 r.rollouts), tt)
-later_held Two r = tt
+pub later_held : (v : Version) (r : Records) → IsTellable v r → AllByRecursion (λ t. content_at v (bare_ledger v r) t ≡ nothing (content_at v (bare_ledger v r) t)) (later_than v)
+later_held One r told = (ap Unordered (no_rule_rows r.rollouts), (ap Unordered (no_number_rows r.actions told.1), tt))
+later_held Two r told = (ap Unordered (no_number_rows r.actions told), tt)
+later_held Three r told = tt
 
 -- ---- of all
 

@@ -1,5 +1,5 @@
 -- Reads and writes of a change that fills the tables of the newest version.
-use Rattle.std.proofs.Common.{◌≡◌, ◌<◌, ◌≤◌, ◌++◌, ℕ, zero, suc, ◌+◌, List, [], ◌∷◌, length, map, codes, pos, slice_get, set, Option, Some, None, option_map, Ok, Err, Result, IsErr, IfOk, MatchOption, Bool, if◌then◌else◌, refl, sym, ap, subst, ◌∙◌, arith}
+use Rattle.std.proofs.Common.{◌≡◌, ◌<◌, ◌≤◌, ◌⊎◌, inl, inr, ◌++◌, ℕ, zero, suc, ◌+◌, List, [], ◌∷◌, length, map, codes, pos, slice_get, set, Option, Some, None, option_map, Ok, Err, Result, IsErr, IfOk, MatchOption, Bool, if◌then◌else◌, refl, sym, ap, subst, ◌∙◌, arith}
 use Rattle.sqlite_value.specs.declared.value.Value.TheVariants.{Int}
 use Rattle.sqlite_value.specs.Order.{Row}
 use Rattle.sqlite.specs.Command.TheVariants.{Insert, Select}
@@ -31,7 +31,7 @@ use Rattle.desk_records.specs.Schema.{Rollouts, Rules, name_of, rule_table, tabl
 use Rattle.desk_records.specs.declared.rollout_row.StoredRollout.{StoredRollout}
 use Rattle.desk_records.specs.declared.rollout_texts.TheConstants.{GET_ROLLOUT, LAST_ROLLOUT, PUT_RULE}
 use Rattle.desk_records.specs.declared.version.Version.{Version}
-use Rattle.desk_records.specs.declared.version.Version.TheVariants.{One, Two}
+use Rattle.desk_records.specs.declared.version.Version.TheVariants.{One, Two, Three}
 use Rattle.desk_records.proofs.MeaningWords.{at_key}
 use Rattle.desk_records.proofs.NumberColumns.{ranged_is}
 use Rattle.desk_records.proofs.PartWrites.{adds_rule}
@@ -254,14 +254,16 @@ rules_written k last reached a b c read h = found_then_makes read (all_filled k 
 one_filled : (l next : Ledger) → FillsLater One l next → WritesRules l next
 one_filled l next w = record {
   none = ap (λ (m : Ledger). m.rules) w.bare ∙ ap (λ (m : Ledger). no_rules m.records.rollouts) (sym w.bare);
-  next_is = w.next_is ∙ ap (with_rules (ledger_of w.records)) (sym (all_even w.records.rollouts w.tellable)) ∙ ap (λ (m : Ledger). with_rules m (map (λ (x : RolloutRecord). even_rules x.plan) m.records.rollouts)) (sym w.bare);
+  next_is = w.next_is ∙ ap (with_rules (ledger_of w.records)) (sym (all_even w.records.rollouts w.tellable.0)) ∙ ap (λ (m : Ledger). with_rules m (map (λ (x : RolloutRecord). even_rules x.plan) m.records.rollouts)) (sym w.bare);
 }
 
 pub later_filled : (v : Version) → v ≡ One → (a b : State) (out : Result (Unit {0}) Fault) → MakesLedger a b out WritesRules → MakesLedger a b out (FillsLater v)
 later_filled v is a b out h = makes_as (λ l next w. one_filled l next (subst (λ u. FillsLater u l next) is w)) out h
 
-none_missing : (l next : Ledger) → FillsLater Two l next → next ≡ l
-none_missing l next w = w.next_is ∙ sym w.bare
+-- the tables that other versions don't have hold nothing
+none_lacking : (v : Version) → (v ≡ Two) ⊎ (v ≡ Three) → (l next : Ledger) → FillsLater v l next → next ≡ l
+none_lacking v (inl is) l next w = let same : FillsLater Two l next = subst (λ u. FillsLater u l next) is w in same.next_is ∙ sym same.bare
+none_lacking v (inr is) l next w = let same : FillsLater Three l next = subst (λ u. FillsLater u l next) is w in same.next_is ∙ sym same.bare
 
-pub none_later : (v : Version) → v ≡ Two → (s : State) → MakesLedger {A = Unit {0}} {E = Fault} s s (Ok tt) (FillsLater v)
-none_later v is s = makes_nothing (λ l next w. none_missing l next (subst (λ u. FillsLater u l next) is w))
+pub none_later : (v : Version) → (v ≡ Two) ⊎ (v ≡ Three) → (s : State) → MakesLedger {A = Unit {0}} {E = Fault} s s (Ok tt) (FillsLater v)
+none_later v is s = makes_nothing (none_lacking v is)

@@ -1,5 +1,5 @@
 -- The row of `desk` is read in a change that is given up.
-use Rattle.std.proofs.Common.{◌≡◌, ◌≢◌, inl, inr, [], codes, false, Option, Some, None, MatchOption, Ok, Err, Result, IsErr, refl, ap, subst, arith}
+use Rattle.std.proofs.Common.{◌≡◌, ◌≢◌, inl, inr, [], codes, true, false, Option, Some, None, MatchOption, Ok, Err, Result, IsErr, refl, ap, subst, arith}
 use Rattle.std.proofs.lemmas.Bool.{both_ways}
 use Rattle.sqlite.specs.Order.{Row}
 use Rattle.sqlite.specs.Tree.{Trees}
@@ -18,15 +18,17 @@ use Rattle.sql_calls.proofs.Ends.{begin_is, rollback_is}
 use Rattle.sql_calls.proofs.FrameEnds.{begins, fails_to_begin, gives_up}
 use Rattle.sql_calls.proofs.Framing.{first_frames}
 use Rattle.rollout_machine.specs.Records.{Records}
-use Rattle.desk_records.specs.Schema.{Place, Desk, Rules, name_of, table_at}
+use Rattle.desk_records.specs.Schema.{Place, Desk, Rules, Numbers, name_of, table_at}
 use Rattle.desk_records.specs.Readable.{HoldsAt, HoldsPlace, HoldsReadable}
 use Rattle.desk_records.specs.declared.version.Version.{Version}
-use Rattle.desk_records.specs.declared.version.Version.TheVariants.{One, Two}
+use Rattle.desk_records.specs.declared.version.Version.TheVariants.{One, Two, Three}
+use Rattle.desk_records.specs.Versions.{places_at}
+use Rattle.desk_records.proofs.Places.{is_among}
 use Rattle.desk_records.proofs.Readable.{has_desk}
 use Rattle.desk_records.specs.declared.texts.TheConstants.{GET_DESK}
 use Rattle.desk_records.proofs.Meaning.{desk_query, get_desk_is}
 use Rattle.desk_opening.specs.Opening.{Keeps, HasDeskTables}
-use Rattle.desk_opening.proofs.EachVersion.{has_rules}
+use Rattle.desk_opening.proofs.EachVersion.{has_at}
 use Rattle.desk_opening.proofs.VersionLemmas.{used_at}
 
 -- every crash leaves what stood
@@ -109,12 +111,21 @@ module _ (a b : State) where
 stands_used : (s : Schema) (t : Place) → StandsSomewhere s (table_at t 0) → ¬ (is_used s (name_of t) ≡ false)
 stands_used s t it free = both_ways (is_used s (name_of t)) free (used_at s (name_of t) it.at it.stands.named)
 
+-- a table of the one version has a name that the other leaves free
+clash : (s : Schema) (v : Version) (t : Place) → is_among (places_at v) t ≡ true → HasDeskTables v s → ¬ (is_used s (name_of t) ≡ false)
+clash s v t there has = stands_used s t (has_at v t there (λ u. StandsSomewhere s (table_at u 0)) has.stands)
+
 -- tables of two versions don't stand at once
 one_standing : (s : Schema) (v w : Version) → HasDeskTables v s → HasDeskTables w s → v ≡ w
 one_standing s One One has other = refl
-one_standing s One Two has other = absurd (stands_used s Rules (has_rules (λ t. StandsSomewhere s (table_at t 0)) other.stands) has.free.0)
-one_standing s Two One has other = absurd (stands_used s Rules (has_rules (λ t. StandsSomewhere s (table_at t 0)) has.stands) other.free.0)
+one_standing s One Two has other = absurd (clash s Two Rules refl other has.free.0)
+one_standing s One Three has other = absurd (clash s Three Rules refl other has.free.0)
+one_standing s Two One has other = absurd (clash s Two Rules refl has other.free.0)
 one_standing s Two Two has other = refl
+one_standing s Two Three has other = absurd (clash s Three Numbers refl other has.free.0)
+one_standing s Three One has other = absurd (clash s Three Rules refl has other.free.0)
+one_standing s Three Two has other = absurd (clash s Three Numbers refl has other.free.0)
+one_standing s Three Three has other = refl
 
 pub lacks_tables : (s : Schema) (found : Option Version) (v : Version) → MatchOption found ((w : Version) → ¬ HasDeskTables w s) (λ w. HasDeskTables w s) → found ≢ Some v → ¬ HasDeskTables v s
 lacks_tables s None v none other has = none v has

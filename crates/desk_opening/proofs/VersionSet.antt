@@ -69,7 +69,7 @@ module _ (v : Version) (r : Records) where
 
   module _ (db : Database) (was : HoldsPartly db (Older v r) (later_than v) []) where
     abbrev pub each : (t : Place) → Has db t
-    each = each_place (Has db) (at_all v (Has db) (each_same was.kept.spot db (places_at v) (older_held v r) was.kept.tables) (each_empty db (later_than v) (later_held v r) was.stand))
+    each = each_place (Has db) (at_all v (Has db) (each_same was.kept.spot db (places_at v) (older_held v r) was.kept.tables) (each_empty db (later_than v) (later_held v r was.kept.tellable) was.stand))
 
     abbrev pub spot_in : Place → Spot
     spot_in t = (each t).0

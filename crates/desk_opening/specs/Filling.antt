@@ -1,5 +1,6 @@
 -- A change that fills the tables of the newest version.
-use Rattle.std.specs.Prelude.{◌≡◌, ◌≤◌, ℕ, zero, suc, List, [], ◌∷◌, length, map, Some, Result, Ok, Err}
+use Rattle.std.specs.Prelude.{◌≡◌, ◌≤◌, ℕ, zero, suc, List, [], ◌∷◌, length, map, Option, Some, None, Result, Ok, Err}
+use Rattle.sqlite_value.specs.Order.{Row}
 use Rattle.sqlite.specs.Tree.{Trees}
 use Rattle.sqlite.specs.State.{State, HasCleanDisk}
 use Rattle.sql_calls.specs.Standing.{Finds, HoldIn, Makes, Wears}
@@ -9,12 +10,14 @@ use Rattle.rollout_machine.specs.GroupRules.{even_rules}
 use Rattle.rollout_machine.specs.Ranges.{each_from}
 use Rattle.rollout_machine.specs.Records.{Records}
 use Rattle.rollout_machine.specs.declared.records.RolloutRecord.{RolloutRecord}
+use Rattle.desk_records.specs.RolloutRow.{broken_rollout_column}
+use Rattle.desk_records.specs.RowFaults.{BreaksRule}
 use Rattle.desk_records.specs.Holds.{HoldsLedger, Ledger, ledger_of}
 use Rattle.desk_records.specs.LedgerSteps.{set_numbered, with_rules}
 use Rattle.desk_records.specs.Versions.{IsTellable}
 use Rattle.desk_records.specs.declared.rollout_row.StoredRollout.{StoredRollout}
 use Rattle.desk_records.specs.declared.version.Version.{Version}
-use Rattle.desk_records.specs.declared.version.Version.TheVariants.{One, Two}
+use Rattle.desk_records.specs.declared.version.Version.TheVariants.{One, Two, Three}
 use Rattle.desk_opening.specs.Making.{Changes, HoldsStage, Stage, Standing}
 
 -- every crash leaves what the change began with
@@ -48,6 +51,11 @@ pub record IsOfNumber (number : ℕ) (l : Ledger) (found : StoredRollout) : Type
   pub groups : found.plan.groups ≡ rollout.plan.groups.count
   pub success : found.plan.success ≡ rollout.plan.success
   pub error : found.plan.error ≡ rollout.plan.error
+
+-- the row is not there, or one of its columns breaks its rule
+abbrev pub LacksRollout : Option Row → Type 0
+LacksRollout None = Unit {0}
+LacksRollout (Some row) = BreaksRule (broken_rollout_column row)
 
 -- the same of the first so many groups of a rollout of whose groups nothing is said
 pub record WritesCopies (number groups : ℕ) (rule : GroupRule) (l next : Ledger) : Type 0 where
@@ -86,8 +94,9 @@ pub record WritesRules (l next : Ledger) : Type 0 where
 abbrev pub bare_rules : Version → Records → List (List GroupRule)
 bare_rules One r = no_rules r.rollouts
 bare_rules Two r = (ledger_of r).rules
+bare_rules Three r = (ledger_of r).rules
 
--- what all tables hold where those that the version doesn't have were made with no row
+-- What all tables hold where those that the version doesn't have were made with no row. No feedback bears a number where the version has no table of them.
 abbrev pub bare_ledger : Version → Records → Ledger
 bare_ledger v r = with_rules (ledger_of r) (bare_rules v r)
 

@@ -1,15 +1,16 @@
 //! What the tables of later versions hold of the records of an older one.
 
-ghost use Rattle.std.specs.Prelude.{◌≡◌, ◌≤◌, IfOk, MatchOption, None, length};
+ghost use Rattle.std.specs.Prelude.{◌≡◌, ◌≤◌, IfErr, IfOk, MatchOption, None, length};
 ghost use Rattle.sqlite.specs.Held.{state};
 ghost use Rattle.desk_records.specs.LedgerSteps.{AddsRule};
 ghost use Rattle.desk_records.specs.Modules.{IsLastRow};
 ghost use Rattle.desk_records.specs.RolloutRow.{IsRolloutRow};
-ghost use Rattle.desk_opening.specs.Filling.{FillsLater, FillsRollout, FindsLedger, IsOfNumber, MakesLedger, Stays, WritesCopies, WritesRules};
+ghost use Rattle.desk_records.specs.RowFaults.{IfStore};
+ghost use Rattle.desk_opening.specs.Filling.{FillsLater, FillsRollout, FindsLedger, IsOfNumber, LacksRollout, MakesLedger, Stays, WritesCopies, WritesRules};
 
 use crate::running::{first, run};
 use desk_records::{
-    GET_ROLLOUT, LAST_ROLLOUT, PUT_RULE, RowFault, StoredRollout, Version, read_stored_rollout,
+    GET_ROLLOUT, LAST_ROLLOUT, PUT_RULE, StoredRollout, Version, fault_of_row, read_stored_rollout,
 };
 use sql_calls::{Fault, fault_of};
 use sqlite::{Alter, Connection, Row, params};
@@ -26,7 +27,7 @@ pub(crate) fn fill_later<S: Alter>(
 {
     match version {
         Version::One => write_rules(alloc, conn),
-        Version::Two => Ok(()),
+        Version::Two | Version::Three => Ok(()),
     }
 }
 
@@ -135,20 +136,14 @@ fn last_number(row: Option<Row>) -> Result<u32, Fault>
 
 /// The rollout in a row, which has to be there.
 fn rollout_in(alloc: Global, row: Option<Row>) -> Result<StoredRollout, Fault>
-    ensures { IfOk result (λ rollout. MatchOption row ⊥ (λ row. IsRolloutRow row rollout)) }
+    ensures ok { IfOk result (λ rollout. MatchOption row ⊥ (λ row. IsRolloutRow row rollout)) }
+    ensures err { IfErr result (λ fault. IfStore fault (LacksRollout row)) }
 {
     let Some(row) = row else {
         return Err(Fault::Store);
     };
     match read_stored_rollout(alloc, &row) {
         Ok(rollout) => Ok(rollout),
-        Err(fault) => Err(row_fault(fault)),
-    }
-}
-
-fn row_fault(fault: RowFault) -> Fault {
-    match fault {
-        RowFault::Memory => Fault::Memory,
-        RowFault::Broken(_) => Fault::Store,
+        Err(fault) => Err(fault_of_row(fault)),
     }
 }

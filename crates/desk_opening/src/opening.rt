@@ -117,6 +117,9 @@ fn standing_version(alloc: Global, schema: &Schema) -> Result<Option<Version>, O
     if has_tables_of(alloc, schema, Version::Two)? {
         return Ok(Some(Version::Two));
     }
+    if has_tables_of(alloc, schema, Version::Three)? {
+        return Ok(Some(Version::Three));
+    }
     Ok(None)
 }
 
@@ -128,6 +131,7 @@ fn is_standing(standing: Option<Version>, version: Version) -> bool
     match (standing, version) {
         (Some(Version::One), Version::One) => true,
         (Some(Version::Two), Version::Two) => true,
+        (Some(Version::Three), Version::Three) => true,
         _ => false,
     }
 }
@@ -153,7 +157,8 @@ fn judge(row: &Row) -> Result<Version, OpenFault>
     match row.get::<i64>(1) {
         Ok(1) => Ok(Version::One),
         Ok(2) => Ok(Version::Two),
-        Ok(number) if number > 2 => Err(OpenFault::NewerVersion),
+        Ok(3) => Ok(Version::Three),
+        Ok(number) if number > 3 => Err(OpenFault::NewerVersion),
         Ok(_) => Err(OpenFault::NotDesk),
         Err(error) => Err(unread(error)),
     }
@@ -249,7 +254,7 @@ fn renew<S: Alter>(
     ensures renewed { IfOk result (λ it. (version ≡ newest) ⊎ HasDeskTables newest (state S.Store conn.new).now.schema) }
     ensures failed { IfErr result IsFailure }
 {
-    if let Version::Two = version {
+    if let Version::Three = version {
         return Ok(());
     }
     match migrate(alloc, conn, version) {
@@ -263,7 +268,7 @@ fn look_again(alloc: Global, schema: &Schema) -> Result<(), OpenFault>
     ensures found { IfOk result (λ found. HasDeskTables newest schema.now) }
     ensures failed { IfErr result IsFailure }
 {
-    if has_tables_of(alloc, schema, Version::Two)? {
+    if has_tables_of(alloc, schema, Version::Three)? {
         Ok(())
     } else {
         Err(OpenFault::Store)

@@ -39,7 +39,7 @@ place_or_other t k = elim (cases_Bool (bytes_eq (name_of t) (name_of k))) [
 abbrev pub is_among : List Place → Place → Bool
 is_among ks t = list_any (λ k. bytes_eq (name_of t) (name_of k)) ks
 
-among : (Q : Place → Type 0) (ks : List Place) (t : Place) → AllByRecursion Q ks → is_among ks t ≡ true → Q t
+pub among : (Q : Place → Type 0) (ks : List Place) (t : Place) → AllByRecursion Q ks → is_among ks t ≡ true → Q t
 among Q [] t all here = absurd (true≢false (sym here))
 among Q (k ∷ ks) t all there = elim (or_cases (bytes_eq (name_of t) (name_of k)) (is_among ks t) there) [
   | inl here ↦ subst Q (sym (one_named t k here)) all.0

@@ -11,8 +11,8 @@ use Rattle.desk_records.specs.declared.version.Version.{Version}
 use Rattle.desk_records.specs.declared.version.Version.TheVariants.{One, Two, Three}
 use Rattle.desk_records.proofs.EachPlace.{each_place}
 
--- what holds of each place holds of all in a list
-pub of_all : (P : Place → Type 0) → ((t : Place) → P t) → (ts : List Place) → AllByRecursion P ts
+-- what holds of each holds of all in a list
+pub of_all : {X : Type 0} (P : X → Type 0) → ((t : X) → P t) → (ts : List X) → AllByRecursion P ts
 of_all P each [] = tt
 of_all P each (t ∷ ts) = (each t, of_all P each ts)
 

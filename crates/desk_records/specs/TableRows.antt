@@ -8,14 +8,12 @@ use Rattle.rollout_machine.specs.declared.records.GroupRecord.{GroupRecord}
 use Rattle.rollout_model.specs.declared.group_rule.GroupRule.{GroupRule}
 use Rattle.rollout_model.specs.declared.rollout.Offer.{Offer}
 use Rattle.desk_records.specs.ArtifactRow.{IsStoredRow, broken_stored_column, has_size, small_number}
-use Rattle.desk_records.specs.Codes.{number_in, place_in}
+use Rattle.desk_records.specs.Codes.{number_in}
 use Rattle.desk_records.specs.EntryRow.{IsEntryRow}
-use Rattle.desk_records.specs.NumberRow.{IsNumberRow}
 use Rattle.desk_records.specs.RolloutRow.{IsActionRow, IsGroupRow, IsOfferRow, IsRolloutRow, broken_group_column}
 use Rattle.desk_records.specs.RuleRow.{IsRuleRow}
 use Rattle.desk_records.specs.TargetRow.{has_word}
 use Rattle.desk_records.specs.declared.artifact_row.StoredArtifact.{StoredArtifact}
-use Rattle.desk_records.specs.declared.number_row.PlacedNumber.{PlacedNumber}
 use Rattle.desk_records.specs.declared.rollout_row.StoredAction.{StoredAction}
 use Rattle.desk_records.specs.declared.rollout_row.StoredRollout.{StoredRollout}
 
@@ -93,12 +91,6 @@ pub record IsAction (row : Row) (number : ℕ) (a : StoredAction) : Type 0 where
 pub record IsEntry (row : Row) (sequence : ℕ) (entry : HistoryEntry) : Type 0 where
   pub sequence_is : column row 2 ≡ Int (pos sequence)
   pub shows : IsEntryRow (entry_shown row) entry
-
--- a number of an action, at its place among those of the action
-pub record IsNumber (row : Row) (action place : ℕ) (it : PlacedNumber) : Type 0 where
-  pub action_is : number_in (column row 1) ≡ Some action
-  pub place_is : place_in (column row 2) ≡ Some place
-  pub shows : IsNumberRow (number_shown row) it
 
 -- what a target is offered
 pub record IsOffer (row : Row) (id : Bytes) (o : Offer) : Type 0 where

@@ -12,7 +12,7 @@ use Rattle.mgmt_api.specs.Reading.{imported}
 use Rattle.desk_server.specs.Program.{Tells}
 use Rattle.desk_server.specs.Telling.{TellsOutcome, outcome_of}
 
--- a file asks that its targets are put; one over 1,048,576 bytes is too large, whatever it says
+-- a file asks that its targets are put; one over the limit is too large, whatever it says
 abbrev pub asked_by_file : List ℕ → Asked
 asked_by_file file = if nat_le (length file) file_length_limit then imported (targets_of file) else Rejected TooLarge
 

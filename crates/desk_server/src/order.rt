@@ -188,7 +188,7 @@ fn file<'a>(alloc: Global) -> Arg<'a>
         .long("file")
         .action(ArgAction::Set)
         .required(true)
-        .help("The file of targets that is imported: CSV, at most 1048576 bytes")
+        .help("The file of targets that is imported: CSV, no longer than the body of a request")
 }
 
 fn import<'a>(alloc: Global) -> Result<Command<'a>, AllocError>

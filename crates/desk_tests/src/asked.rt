@@ -1,9 +1,10 @@
 //! What tests ask of a desk, in few words. `None` for want of memory, or where a word isn't what it has to be.
 
 use rollout_model::{
-    ActionNo, Command, Contents, ControllerId, Credential, Details, DeviceFeedback, Digest,
-    Filename, FilterText, GroupCount, Grouping, ModuleLabel, ModuleList, ModuleNo, Percentage,
-    RolloutNo, RolloutPlan, SetLabel, SetNo, Tags, TargetRow, TargetRows, Text, Upload,
+    ActionNo, ArtifactNo, Command, Contents, ControllerId, Credential, Details, DeviceFeedback,
+    Digest, Filename, FilterText, GroupCount, Grouping, ModuleLabel, ModuleList, ModuleNo,
+    Percentage, Query, RolloutNo, RolloutPlan, SetLabel, SetNo, Tags, TargetRow, TargetRows, Text,
+    Upload,
 };
 use std::alloc::Global;
 
@@ -37,6 +38,20 @@ pub(super) fn adds_artifact(filename: &str, bytes: Vec<u8>) -> Option<Command> {
         expected: None,
         contents,
     }))
+}
+
+/// So many bytes: 0, 1, 2 and so on, and from 251 on again from 0.
+pub(super) fn some_bytes(alloc: Global, size: usize) -> Option<Vec<u8>> {
+    let mut bytes = Vec::with_capacity(alloc, size).ok()?;
+    for place in 0..size {
+        bytes.push((place % 251) as u8).ok()?;
+    }
+    Some(bytes)
+}
+
+/// Asks for the contents of the first artifact of the first module.
+pub(super) fn asks_contents() -> Option<Query> {
+    Some(Query::Contents(ModuleNo::new(1)?, ArtifactNo::new(1)?))
 }
 
 /// Adds a set of the first module.
@@ -117,5 +132,6 @@ pub(super) fn feedback<W: Copy>(
         action,
         word,
         details,
+        number: None,
     })
 }

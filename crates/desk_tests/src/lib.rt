@@ -16,4 +16,6 @@ mod runs;
 #[cfg(test)]
 mod told;
 #[cfg(test)]
+mod whole_contents;
+#[cfg(test)]
 mod work;

@@ -1,33 +1,23 @@
 //! A download of two pieces where a request for memory may be refused: `tools/each-allocation` refuses each in turn. A piece for
 //! which memory was wanting is the next one again.
 
-use super::asked::{adds_artifact, adds_module};
+use super::asked::{adds_artifact, adds_module, asks_contents, some_bytes};
 use super::told::{does, download, new_desk, next_piece, refusal_in};
 use rollout_desk::{Desk, Download};
-use rollout_model::{ArtifactNo, Command, ModuleNo, Query, Refusal};
+use rollout_model::{Command, Query, Refusal};
 use sqlite::Alter;
 use std::alloc::Global;
 
 /// The bytes of every piece but the last.
 const PIECE: usize = 65_536;
 
-/// 65,537 bytes: 0, 1, 2 and so on, and from 251 on again from 0.
 fn two_pieces(alloc: Global) -> Option<Vec<u8>> {
-    let size = PIECE + 1;
-    let mut bytes = Vec::with_capacity(alloc, size).ok()?;
-    for place in 0..size {
-        bytes.push((place % 251) as u8).ok()?;
-    }
-    Some(bytes)
+    some_bytes(alloc, PIECE + 1)
 }
 
 /// Adds an artifact of two pieces.
 fn uploads(alloc: Global) -> Option<Command> {
     adds_artifact("abc.bin", two_pieces(alloc)?)
-}
-
-fn asks_contents() -> Option<Query> {
-    Some(Query::Contents(ModuleNo::new(1)?, ArtifactNo::new(1)?))
 }
 
 /// Whether the next piece of a download is these bytes; or no piece where these are none.

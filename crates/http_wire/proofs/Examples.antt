@@ -1,9 +1,10 @@
 -- Computed examples: they guard the definitions against slips.
-use Rattle.std.proofs.Common.{◌≡◌, ℕ, true, false, List, [], ◌∷◌, ◌++◌, Some, None, refl}
-use Rattle.std.specs.Prelude.{codes, replicate, map, Ok, Err}
+use Rattle.std.proofs.Common.{◌≡◌, ℕ, ◌+◌, true, false, List, [], ◌∷◌, ◌++◌, Some, None, refl}
+use Rattle.std.specs.Prelude.{codes, decimal, replicate, map, Ok, Err}
 use Rattle.std.specs.List.{flat_map}
 use Rattle.std.specs.Fmt.{digits}
 use Rattle.httparse.specs.Grammar.{trim_ows}
+use Rattle.rollout_model.specs.Limits.{body_length_limit}
 use Rattle.rollout_model.specs.declared.Refusal.TheVariants as refusals
 use Rattle.http_wire.specs.Faults.{TooLarge, BadLength, BadCoding}
 use Rattle.http_wire.specs.Regions.{line_ends}
@@ -19,12 +20,12 @@ no_length : body_length [] ≡ Ok 0
 unfolding body_length
 no_length = refl
 
-length_over : body_length ((codes "Content-LENGTH", codes "1048577") ∷ []) ≡ Err TooLarge
-unfolding body_length
+length_over : body_length ((codes "Content-LENGTH", decimal (body_length_limit + 1)) ∷ []) ≡ Err TooLarge
+unfolding body_length digits
 length_over = refl
 
-length_at_limit : body_length ((codes "Content-LENGTH", codes "0001048576") ∷ []) ≡ Ok 1048576
-unfolding body_length
+length_at_limit : body_length ((codes "Content-LENGTH", codes "000" ++ decimal body_length_limit) ∷ []) ≡ Ok body_length_limit
+unfolding body_length digits
 length_at_limit = refl
 
 length_long : body_length ((codes "content-length", codes "99999999999999999999") ∷ []) ≡ Err TooLarge

@@ -3,7 +3,7 @@ use Rattle.std.proofs.Common.{ℕ, ◌≤◌, ◌<◌, Bool, true, false, List, 
 use Rattle.std.specs.Prelude.{◌==◌, if◌then◌else◌, unwrap_or, codes}
 use Rattle.http.specs.StatusCode.{IsStatusCode, reason_phrase}
 use Rattle.rollout_model.specs.declared.Refusal.{Refusal}
-use Rattle.rollout_model.specs.declared.Refusal.TheVariants.{BadRequest, Unauthorized, NotFound, BadMethod, Exists, Locked, WrongState, ClosedAction, TooLarge, Quota, BadFilter, TooFewTargets, WrongDigest, BadImportLine, NoMemory, StoreFailed, Stopped, BadHead, BadLength, HeadTooLarge, BadCoding}
+use Rattle.rollout_model.specs.declared.Refusal.TheVariants.{BadRequest, Unauthorized, NotFound, BadMethod, Exists, Locked, WrongState, ClosedAction, TooLarge, Quota, BadFilter, TooFewTargets, WrongDigest, BadImportLine, NoMemory, StoreFailed, Stopped, BadHead, BadLength, HeadTooLarge, BadCoding, OldNumber}
 use Rattle.rollout_model.specs.Refusals.{refusal_row}
 use Rattle.http_wire.specs.Replies.{reason}
 
@@ -119,3 +119,4 @@ good_row BadHead = (omega arith, (omega arith, omega arith), omega arith)
 good_row BadLength = (omega arith, (omega arith, omega arith), omega arith)
 good_row HeadTooLarge = (omega arith, (omega arith, omega arith), omega arith)
 good_row BadCoding = (omega arith, (omega arith, omega arith), omega arith)
+good_row OldNumber = (omega arith, (omega arith, omega arith), omega arith)

@@ -54,7 +54,9 @@ impl Inbox {
         self.start == self.bytes.len()
     }
 
-    /// Takes the next piece of the stream, of any length.
+    /// Takes the next piece of the stream, of any length. Once the length of a message is known there is room for all of it, so that its
+    /// body isn't moved with each piece.
+    #[tactic(auto, using(crate::proofs::MessageLemmas::begins_append))]
     pub fn feed(&mut self, piece: &[u8]) -> Result<(), Refusal>
         ensures ok { OnOk result (self.new ≡ self.old ++ piece.now) }
         ensures memory { IfErr result (λ refusal. refusal ≡ NoMemory) }
@@ -69,6 +71,8 @@ impl Inbox {
     {
         let _ = self.bytes.drain(..self.start);
         self.start = 0;
+        let lacking = self.wanted.saturating_sub(self.bytes.len());
+        self.bytes.reserve(lacking.saturating_add(piece.len()))?;
         self.bytes.extend_from_slice(piece)?;
         Ok(())
     }

@@ -66,7 +66,7 @@ fn a_message_byte_by_byte(rt: HostRuntime) {
 /// A wrong head for each fault.
 const WRONG: [(&[u8], Refusal); 4] = [
     (
-        b"GET / HTTP/1.1\r\nContent-Length: 1048577\r\n\r\n",
+        b"GET / HTTP/1.1\r\nContent-Length: 99999999\r\n\r\n",
         Refusal::TooLarge,
     ),
     (b"GET  /a HTTP/1.1\r\n\r\n", Refusal::BadHead),

@@ -4,7 +4,7 @@ use http_wire::refusal_bytes;
 use rollout_model::Refusal;
 
 /// Each refusal with its number, its name, its status, and whether the connection ends.
-const ROWS: [(Refusal, u8, &str, u16, bool); 21] = [
+const ROWS: [(Refusal, u8, &str, u16, bool); 22] = [
     (Refusal::BadRequest, 1, "bad_request", 400, false),
     (Refusal::Unauthorized, 2, "unauthorized", 401, false),
     (Refusal::NotFound, 3, "not_found", 404, false),
@@ -26,6 +26,7 @@ const ROWS: [(Refusal, u8, &str, u16, bool); 21] = [
     (Refusal::BadLength, 19, "length", 400, true),
     (Refusal::HeadTooLarge, 20, "head_size", 431, true),
     (Refusal::BadCoding, 21, "coding", 501, true),
+    (Refusal::OldNumber, 22, "old_number", 410, false),
 ];
 
 /// Whether a refusal has this number and name, with this status.

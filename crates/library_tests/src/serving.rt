@@ -45,6 +45,10 @@ impl Handler for Shelf {
 
     ghost state = { λ _. unknown };
 
+    ghost statements = { λ _. 0 };
+
+    ghost rows = { λ _. 0 };
+
     fn handle(&mut self, request: &Request) -> Reply {
         let added = match request {
             Request::Do(Command::AddModule(label)) => self.add(label),

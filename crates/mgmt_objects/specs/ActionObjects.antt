@@ -1,8 +1,8 @@
 -- The objects of actions and of the entries of their histories.
-use Rattle.std.specs.Prelude.{ℕ, List, [], ◌∷◌, codes, decimal, map}
+use Rattle.std.specs.Prelude.{ℕ, List, [], ◌∷◌, codes, decimal, map, Option, Some, None}
 use Rattle.std.specs.List.{concat}
 use Rattle.json.specs.Print.{quoted}
-use Rattle.serde_json.specs.Data.{Data, array, string, object, member, no_members}
+use Rattle.serde_json.specs.Data.{Data, array, string, object, member, no_members, put}
 use Rattle.serde_json.specs.View.{items_of}
 use Rattle.rollout_model.specs.StateTexts.{action_text}
 use Rattle.rollout_model.specs.declared.feedback.NoteWord.{NoteWord}
@@ -11,6 +11,7 @@ use Rattle.rollout_model.specs.declared.feedback.DeploymentWord.{DeploymentWord}
 use Rattle.rollout_model.specs.declared.feedback.DeploymentWord.TheVariants as deployment
 use Rattle.rollout_model.specs.declared.feedback.CancelWord.{CancelWord}
 use Rattle.rollout_model.specs.declared.feedback.CancelWord.TheVariants as cancel
+use Rattle.rollout_model.specs.declared.feedback.HistoryEntry.{HistoryEntry}
 use Rattle.rollout_model.specs.declared.feedback.Said.{Said}
 use Rattle.rollout_model.specs.declared.feedback.Said.TheVariants.{Deployment, Cancel}
 use Rattle.rollout_model.specs.declared.rollout.Action.{Action}
@@ -82,6 +83,16 @@ abbrev pub finished_text : Said → List ℕ
 finished_text (Deployment word) = deployment_finished word
 finished_text (Cancel word) = cancel_finished word
 
--- an entry with its number in the history of its action
+-- an entry of this number in the history of its action
+abbrev pub entry_members : ℕ → HistoryEntry → Data
+entry_members number e = entry_object (kind_text e.said) (execution_text e.said) (finished_text e.said) number e.details
+
+-- an object, and the number that the device gave as one more member, if it gave one
+abbrev pub with_number : Option ℕ → Data → Data
+with_number None d = d
+with_number (Some n) (object members) = object (put (codes "number") (whole n) members)
+with_number (Some n) d = d
+
+-- an entry, and the number that the device gave it
 abbrev pub entry_data : NumberedEntry → Data
-entry_data e = entry_object (kind_text e.entry.said) (execution_text e.entry.said) (finished_text e.entry.said) e.number e.entry.details
+entry_data e = with_number e.reported.number (entry_members e.number e.reported.entry)

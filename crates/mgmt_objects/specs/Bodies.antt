@@ -1,5 +1,5 @@
 -- The parts of a body.
-use Rattle.std.specs.Prelude.{ℕ, List, Option, Some, None, option_and_then, if◌then◌else◌}
+use Rattle.std.specs.Prelude.{ℕ, List, Option, Some, None, option_and_then, option_map, if◌then◌else◌}
 use Rattle.std.specs.Str.{is_utf8}
 use Rattle.serde_json.specs.Data.{Data, Items, no_items, item}
 use Rattle.serde_json.specs.Read.{read}
@@ -27,6 +27,15 @@ string_member key d = option_and_then as_str (get key d)
 abbrev pub text_member : List ℕ → Data → Option (List ℕ)
 text_member key d = option_and_then text_of (string_member key d)
 
--- a member that is a whole number from 1 to 2,147,483,647, without fraction or exponent
+-- a whole number, without sign, fraction or exponent
+abbrev pub whole_of : Data → Option ℕ
+whole_of d = option_and_then as_u64 (as_number d)
+
+-- a member that is a whole number from 1 to 2,147,483,647
 abbrev pub number_member : List ℕ → Data → Option ℕ
-number_member key d = option_and_then number_of (option_and_then as_u64 (option_and_then as_number (get key d)))
+number_member key d = option_and_then number_of (option_and_then whole_of (get key d))
+
+-- what a member says that may be missing
+abbrev pub if_given : {A : Type 0} → (Data → Option A) → Option Data → Option (Option A)
+if_given reads None = Some None
+if_given reads (Some d) = option_map (λ a. Some a) (reads d)

@@ -1,14 +1,16 @@
 -- No reply shows a float. The types of what is shown need these lemmas.
-use Rattle.std.proofs.Common.{◌≡◌, ℕ, List, [], ◌∷◌, Bool, true, false, ◌||◌, true≢false, refl, map, Ordering, Less, Equal, Greater, nat_cmp}
+use Rattle.std.proofs.Common.{◌≡◌, ℕ, List, [], ◌∷◌, Bool, true, false, ◌||◌, true≢false}
+use Rattle.std.proofs.Common.{refl, map, Option, Some, None, Ordering, Less, Equal, Greater, nat_cmp}
 use Rattle.std.specs.Cmp.Lexicographic.{slice_cmp}
 use Rattle.std.specs.Ordering.{match_ordering}
 use Rattle.serde_json.specs.Data.{Data, Members, member, no_members, string, put}
 use Rattle.serde_json.specs.View.{items_of}
 use Rattle.serde_json.specs.Written.{has_float, items_have_float, members_have_float}
 use Rattle.rollout_model.specs.declared.target.Attribute.{Attribute}
+use Rattle.rollout_model.specs.declared.feedback.HistoryEntry.{HistoryEntry}
 use Rattle.rollout_model.specs.declared.rollout.NumberedEntry.{NumberedEntry}
 use Rattle.rollout_model.specs.declared.shown_target.ShownTarget.{ShownTarget}
-use Rattle.mgmt_objects.specs.ActionObjects.{entry_data}
+use Rattle.mgmt_objects.specs.ActionObjects.{entry_data, entry_members, with_number}
 use Rattle.mgmt_objects.specs.TargetObjects.{target_data, with_attributes, word_data}
 
 pub items_have_float-map : {A : Type 0} (show : A → Data) → ((x : A) → has_float (show x) ≡ false) → (xs : List A)
@@ -42,5 +44,9 @@ members_have_float-with ms (a ∷ more) none = members_have_float-with (put a.ke
 pub target_has_no_float : (t : ShownTarget) → has_float (target_data t) ≡ false
 target_has_no_float t = rw (members_have_float-with no_members t.attributes refl, items_have_float-map word_data (λ word. refl) t.tags) refl
 
+numbered_has_no_float : (number : Option ℕ) (id : ℕ) (entry : HistoryEntry) → has_float (with_number number (entry_members id entry)) ≡ false
+numbered_has_no_float None id entry = rw (items_have_float-map word_data (λ line. refl) entry.details) refl
+numbered_has_no_float (Some n) id entry = rw (items_have_float-map word_data (λ line. refl) entry.details) refl
+
 pub entry_has_no_float : (e : NumberedEntry) → has_float (entry_data e) ≡ false
-entry_has_no_float e = rw (items_have_float-map word_data (λ line. refl) e.entry.details) refl
+entry_has_no_float e = numbered_has_no_float e.reported.number e.number e.reported.entry

@@ -2,22 +2,22 @@
 use Rattle.std.specs.Prelude.{ℕ, List, map, codes, Option, Some, None, option_and_then, option_map}
 use Rattle.std.specs.Option.{unwrap_or}
 use Rattle.serde_json.specs.Data.{Data}
-use Rattle.serde_json.specs.Find.{get, as_number, as_u64}
+use Rattle.serde_json.specs.Find.{get}
 use Rattle.rollout_model.specs.Groupings.{Grouping, defined, definitions_of, evenly}
 use Rattle.rollout_model.specs.Rules.{group_count_of, percentage_of}
 use Rattle.rollout_model.specs.declared.group_definition.GroupDefinition.{GroupDefinition}
+use Rattle.mgmt_objects.specs.Bodies.{if_given, whole_of}
 use Rattle.mgmt_objects.specs.Thresholds.{threshold_of}
 use Rattle.mgmt_objects.specs.Traverse.{array_of}
 use Rattle.mgmt_objects.specs.declared.group_item.GroupItem.{GroupItem}
 
--- a member that is a whole number from 1 to 100, without fraction or exponent
+-- a member that is a whole number from 1 to 100
 abbrev pub percentage_member : List ℕ → Data → Option ℕ
-percentage_member key d = option_and_then percentage_of (option_and_then as_u64 (option_and_then as_number (get key d)))
+percentage_member key d = option_and_then percentage_of (option_and_then whole_of (get key d))
 
 -- a condition that may be missing: a group's own threshold, or none
 abbrev pub own_threshold : Option Data → Option (Option ℕ)
-own_threshold None = Some None
-own_threshold (Some d) = option_map (λ threshold. Some threshold) (threshold_of d)
+own_threshold condition = if_given threshold_of condition
 
 abbrev pub new_item : ℕ → Option ℕ → Option ℕ → GroupItem
 new_item percentage success error = record { percentage = percentage; success = success; error = error }
@@ -44,7 +44,7 @@ defined_groups success error d = option_map defined (option_and_then definitions
 
 -- a whole number from 1 to 50
 abbrev pub even_count : Data → Option ℕ
-even_count d = option_and_then group_count_of (option_and_then as_u64 (as_number d))
+even_count d = option_and_then group_count_of (whole_of d)
 
 -- so many groups, as even as can be
 abbrev pub even_groups : Data → Option Grouping

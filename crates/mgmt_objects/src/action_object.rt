@@ -1,13 +1,17 @@
 //! Actions in replies, and what devices said of them.
 
-ghost use Rattle.std.specs.Prelude.{◌≡◌, refl};
+ghost use Rattle.std.specs.Prelude.{◌≡◌, Some, IfOk, refl};
+ghost use Rattle.serde_json.specs.View.{view};
 ghost use Rattle.mgmt_objects.specs.ActionObjects.{action_data, cancel_execution, cancel_finished, deployment_execution, deployment_finished};
-ghost use Rattle.mgmt_objects.specs.ActionObjects.{entry_data, execution_text, finished_text, kind_text, note_text};
+ghost use Rattle.mgmt_objects.specs.ActionObjects.{entry_data, entry_members, execution_text, finished_text, kind_text, note_text, with_number};
 ghost use Rattle.mgmt_objects.specs.Floats.{entry_has_no_float};
 ghost use Rattle.mgmt_objects.specs.TargetObjects.{word_data};
 
 use crate::shown::{Shown, values};
-use rollout_model::{Action, CancelWord, DeploymentWord, Detail, NoteWord, NumberedEntry, Said};
+use rollout_model::{
+    Action, CancelWord, DeploymentWord, Detail, FeedbackNumber, HistoryEntry, NoteWord,
+    NumberedEntry, Said,
+};
 use serde_json::{Value, json};
 use std::alloc::{AllocError, Global};
 
@@ -119,20 +123,44 @@ fn finished_text(said: Said) -> &'static str
     }
 }
 
+/// An entry of this number in the history of its action.
+fn entry_members(alloc: Global, number: u32, entry: &HistoryEntry) -> Result<Value, AllocError>
+    ensures { IfOk result (λ v. view v ≡ entry_members number entry.now) }
+{
+    let details = values(alloc, entry.details.as_slice())?;
+    json!(in alloc; {
+        "details": Value::Array(details),
+        "execution": execution_text(entry.said),
+        "finished": finished_text(entry.said),
+        "id": number,
+        "kind": kind_text(entry.said),
+    })
+}
+
+/// An object, and the number that the device gave as one more member.
+fn with_number(alloc: Global, object: Value, number: FeedbackNumber) -> Result<Value, AllocError>
+    ensures { IfOk result (λ v. view v ≡ with_number (Some number) (view object)) }
+{
+    match object {
+        Value::Object(mut members) => {
+            let key = String::from_str(alloc, "number")?;
+            members.insert(key, Value::from(number.get()))?;
+            Ok(Value::Object(members))
+        }
+        other => Ok(other),
+    }
+}
+
 impl Shown for NumberedEntry {
     ghost shows = { entry_data };
 
     ghost has_no_float = { entry_has_no_float };
 
     fn value(&self, alloc: Global) -> Result<Value, AllocError> {
-        let entry = &self.entry;
-        let details = values(alloc, entry.details.as_slice())?;
-        json!(in alloc; {
-            "details": Value::Array(details),
-            "execution": execution_text(entry.said),
-            "finished": finished_text(entry.said),
-            "id": self.number,
-            "kind": kind_text(entry.said),
-        })
+        let entry = entry_members(alloc, self.number, &self.reported.entry)?;
+        match self.reported.number {
+            Some(number) => with_number(alloc, entry, number),
+            None => Ok(entry),
+        }
     }
 }

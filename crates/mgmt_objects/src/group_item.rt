@@ -7,6 +7,7 @@ ghost use Rattle.mgmt_objects.specs.GroupBodies.{definition_by, group_item_of, o
 ghost use Rattle.mgmt_objects.specs.Readings.{ReadsAs};
 
 use crate::list::Item;
+use crate::member::read_whole;
 use crate::threshold::threshold_of;
 use rollout_model::{GroupDefinition, Percentage, Refusal};
 use serde_json::Value;
@@ -36,7 +37,7 @@ impl GroupItem {
 fn percentage_member(object: &Value, key: &str) -> Option<Percentage>
     ensures { result ≡ percentage_member key.now (view object.now) }
 {
-    let percent = object.get(key).and_then(Value::as_u64)?;
+    let percent = object.get(key).and_then(read_whole)?;
     match u8::try_from(percent) {
         Ok(percent) => Percentage::new(percent),
         Err(_) => None,

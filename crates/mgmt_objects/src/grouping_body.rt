@@ -7,6 +7,7 @@ ghost use Rattle.mgmt_objects.specs.Readings.{ReadsAs, ReadsBy};
 
 use crate::group_item::GroupItem;
 use crate::list::read_array;
+use crate::member::read_whole;
 use rollout_model::{GroupCount, GroupDefinition, GroupDefinitions, Grouping, Percentage, Refusal};
 use serde_json::Value;
 use std::alloc::{AllocError, Global};
@@ -58,11 +59,8 @@ fn read_defined(
 fn even_count(amount: &Value) -> Option<GroupCount>
     ensures { result ≡ even_count (view amount.now) }
 {
-    let count = amount.as_u64()?;
-    match u32::try_from(count) {
-        Ok(count) => GroupCount::new(count),
-        Err(_) => None,
-    }
+    let count = read_whole(amount)?;
+    GroupCount::new(count)
 }
 
 /// So many even groups.

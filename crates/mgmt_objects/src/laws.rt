@@ -5,6 +5,8 @@ ghost use Rattle.serde_json.specs.Written.{compact_text};
 ghost use Rattle.rollout_model.specs.Groupings.{defined, evenly};
 ghost use Rattle.rollout_model.specs.declared.action_word.ActionWord.TheVariants as action;
 ghost use Rattle.rollout_model.specs.declared.feedback.CancelWord.TheVariants as cancel;
+ghost use Rattle.rollout_model.specs.declared.feedback.DeploymentWord.TheVariants as deployment;
+ghost use Rattle.rollout_model.specs.declared.feedback.NoteWord.TheVariants as note;
 ghost use Rattle.rollout_model.specs.declared.feedback.Said.TheVariants as said;
 ghost use Rattle.rollout_model.specs.declared.group_word.GroupWord.TheVariants as group;
 ghost use Rattle.rollout_model.specs.declared.module.Module.{Module};
@@ -175,8 +177,16 @@ pub fn worked_action_text()
         ≡ codes "{\"group\":1,\"id\":1,\"rollout\":1,\"status\":\"running\",\"target\":\"dev-01\"}" }
 {}
 
-/// The text of a worked entry of a history.
+/// The texts of two worked entries of a history, the second with the number that the device gave.
 pub fn worked_entry_text()
-    ensures { compact_text (entry_data (record { number = 2; entry = record { said = said.Cancel cancel.Canceled; details = codes "ok" ∷ [] } }))
+    ensures plain { compact_text (entry_data (record {
+      number = 2;
+      reported = record { entry = record { said = said.Cancel cancel.Canceled; details = codes "ok" ∷ [] }; number = None };
+    }))
         ≡ codes "{\"details\":[\"ok\"],\"execution\":\"canceled\",\"finished\":\"success\",\"id\":2,\"kind\":\"cancel\"}" }
+    ensures numbered { compact_text (entry_data (record {
+      number = 1;
+      reported = record { entry = record { said = said.Deployment (deployment.Noted note.Proceeding); details = [] }; number = Some 5 };
+    }))
+        ≡ codes "{\"details\":[],\"execution\":\"proceeding\",\"finished\":\"none\",\"id\":1,\"kind\":\"deployment\",\"number\":5}" }
 {}

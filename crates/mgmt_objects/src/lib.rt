@@ -32,7 +32,7 @@ pub use laws::{
     worked_set_body, worked_set_text, worked_target_text, worked_targets_body,
 };
 pub use list::{Item, read_array, read_list};
-pub use member::{read_number, read_text};
+pub use member::{read_number, read_text, read_whole};
 pub use module_body::read_module_body;
 pub use rollout_body::read_rollout_body;
 pub use set_body::read_set_body;

@@ -1,22 +1,10 @@
 -- How much a request makes the store do, and what it tells of a store that failed.
-use Rattle.std.specs.Prelude.{◌≡◌, ◌≤◌, ℕ, Bool, true, false, Result, Ok, Err}
-use Rattle.rollout_machine.specs.Commands.{Command}
+use Rattle.std.specs.Prelude.{◌≡◌, ◌≤◌, Bool, true, false, Result, Ok, Err}
 use Rattle.rollout_machine.specs.StoreFailures.{is_failed_store, is_store}
 use Rattle.rollout_machine.specs.Views.{reply_of}
 use Rattle.rollout_model.specs.declared.refusal.Refusal.{Refusal}
 use Rattle.rollout_model.specs.declared.request.Reply.{Reply}
 use Rattle.sql_calls.specs.declared.calls.Calls.{Calls}
-use Rattle.sql_calls.specs.declared.calls.Work.{Work}
-use Rattle.desk_commands.specs.FeedbackCommands.{is_feedback}
-
--- at most so many statements, which gave at most so many rows
-pub record IsWithin (statements rows : ℕ) (w : Work) : Type 0 where
-  pub ran : w.statements ≤ statements
-  pub took : w.rows ≤ rows
-
--- feedback runs at most 14 statements, and takes at most 24 rows
-abbrev pub KeepsBound : Command → Work → Type 0
-KeepsBound c w = is_feedback c ≡ true → IsWithin 14 24 w
 
 -- no count falls; and unless a failed store is told, no call failed but for want of memory
 pub record TellsFailures {S : Type 0} (told : Bool) (old new : Calls S) : Type 0 where

@@ -8,7 +8,7 @@ ghost use Rattle.rollout_machine.specs.StoreFailures.{is_failed_store};
 ghost use Rattle.rollout_machine.specs.Views.{command_of, query_of, reply_of};
 ghost use Rattle.desk_views.specs.Showing.{ShowsIn};
 ghost use Rattle.rollout_desk.specs.Working.{TellsFailures};
-ghost use Rattle.desk_commands.specs.FeedbackCommands.{is_feedback};
+ghost use Rattle.rollout_machine.specs.Bounds.{is_feedback};
 ghost use Rattle.rollout_desk.specs.Changes.{Handles, EndsByCommit, EndsByRollback};
 ghost use Rattle.desk_store.specs.Counting.{Adds};
 ghost use Rattle.desk_store.specs.Changing.{StaysIn};

@@ -2,6 +2,7 @@
 
 ghost use Rattle.std.specs.Prelude.{◌≡◌, true, false};
 ghost use Rattle.rollout_model.specs.declared.refusal.Refusal.TheVariants.{Stopped, StoreFailed};
+ghost use Rattle.rollout_machine.specs.Bounds.{KeepsBound};
 ghost use Rattle.rollout_machine.specs.Replies.{Refused};
 ghost use Rattle.rollout_machine.specs.Requests.{Asks, Do, Ask};
 ghost use Rattle.rollout_machine.specs.Standing.{Applies, StaysStopped};
@@ -9,7 +10,7 @@ ghost use Rattle.rollout_machine.specs.StoreFailures.{is_failed_store};
 ghost use Rattle.rollout_machine.specs.Views.{command_of, query_of, request_of, reply_of};
 ghost use Rattle.rollout_desk.specs.DeskStates.{desk_state};
 ghost use Rattle.rollout_desk.specs.Promises.{IsPromised, KeepsToOffers, ShowsWhole};
-ghost use Rattle.rollout_desk.specs.Working.{KeepsBound, TellsFailures};
+ghost use Rattle.rollout_desk.specs.Working.{TellsFailures};
 ghost use Rattle.sql_calls.specs.Calls.{no_work, since};
 
 use crate::change::{run_command, run_query};
@@ -58,7 +59,7 @@ impl<S: Alter> Desk<S> {
         ensures stopped { (desk_state S.Store self.old).is_stopped ≡ true → (reply_of result ≡ Refused Stopped)
             × StaysStopped (desk_state S.Store self.old) (desk_state S.Store self.new) }
         ensures untouched { (desk_state S.Store self.old).is_stopped ≡ true → self.new.store ≡ self.old.store }
-        ensures bound { KeepsBound (command_of command.now) self.new.work }
+        ensures bound { KeepsBound (command_of command.now) self.new.work.statements self.new.work.rows }
         ensures counted { self.new.work ≡ since self.new.store.calls.work self.old.store.calls.work }
         ensures tells { TellsFailures (is_failed_store (reply_of result)) self.old.store.calls self.new.store.calls }
     {
@@ -102,7 +103,7 @@ impl<S: Alter> Desk<S> {
         ensures stopped { (desk_state S.Store self.old).is_stopped ≡ true → (reply_of result ≡ Refused Stopped)
             × StaysStopped (desk_state S.Store self.old) (desk_state S.Store self.new) }
         ensures untouched { (desk_state S.Store self.old).is_stopped ≡ true → self.new.store ≡ self.old.store }
-        ensures bound { (c : _) → request_of request.now ≡ Do c → KeepsBound c self.new.work }
+        ensures bound { (c : _) → request_of request.now ≡ Do c → KeepsBound c self.new.work.statements self.new.work.rows }
         ensures tells { TellsFailures (is_failed_store (reply_of result)) self.old.store.calls self.new.store.calls }
     {
         match request {

@@ -14,6 +14,10 @@ impl<S: Alter> Handler for Desk<S> {
 
     ghost state = { desk_state S.Store };
 
+    ghost statements = { λ desk. desk.work.statements };
+
+    ghost rows = { λ desk. desk.work.rows };
+
     fn handle(&mut self, request: &Request) -> Reply {
         self.answer(request)
     }

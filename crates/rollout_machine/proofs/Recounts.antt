@@ -4,9 +4,9 @@ use Rattle.rollout_machine.specs.CommandList.{CommandList, Make, ◌▸◌}
 use Rattle.rollout_machine.specs.Commands.{Command, Start, Outcome, Good, Bad, Gone}
 use Rattle.rollout_machine.specs.Counts.{is_outcome, tally}
 use Rattle.rollout_machine.specs.Groups.{IsCut, holds_position}
-use Rattle.rollout_machine.specs.Kinds.{count_actions, counted_group, counted_rollout, stored_group, stored_rollout, derived}
+use Rattle.rollout_machine.specs.Kinds.{count_actions, counted_group, counted_rollout, stored_group, stored_rollout}
 use Rattle.rollout_machine.specs.Progress.{is_rollout_started, is_start_of, is_paused}
-use Rattle.rollout_machine.specs.Promises.{StoredSayAll, DerivedFollow}
+use Rattle.rollout_machine.specs.Promises.{StoredSayAll}
 use Rattle.rollout_machine.specs.Ranges.{count_from, each_from}
 use Rattle.rollout_machine.specs.Records.{records, action_in, ActionRecord, group_in, rollout_in, rollouts_in, approval_of, GroupRecord}
 use Rattle.rollout_machine.specs.Rollouts.{Rollout, rollout_at, rollouts, size_of, bounds_in, last_of, created}
@@ -199,6 +199,3 @@ rollouts_again h actions a (x ∷ xs) w = rw (w.0, rollouts_again h actions (suc
 pub stored_say_all : StoredSayAll
 unfolding records
 stored_say_all h v = ap (λ xs. record (records h) { rollouts = xs }) (rollouts_again h (map (action_in h) (action_places h)) 1 (rollouts h) (from_numbers _ (rollouts h) (λ r x d. rollout_again x r h v d)))
-
-pub derived_follow : DerivedFollow
-derived_follow h v = ap derived (sym (stored_say_all h v))

@@ -57,7 +57,7 @@ few_rollouts (h ▸ c) valid = rw (length-append (rollouts h) (created h c)) (go
         omega (arith, less, length_in h 1 (rollouts h))
     go _ e ih = omega (arith, ih)
 
-ids_are : (h : CommandList) (ids : List Bytes) → map (λ (t : Target). t.id) (map (target_in h) ids) ≡ ids
+pub ids_are : (h : CommandList) (ids : List Bytes) → map (λ (t : Target). t.id) (map (target_in h) ids) ≡ ids
 ids_are h [] = refl
 ids_are h (t ∷ ids) = ap (λ ts. t ∷ ts) (ids_are h ids)
 

@@ -20,4 +20,5 @@ pub record FitsHistory (outcome : Option Outcome) (history : List HistoryEntry) 
 
 -- so it is with each action of the records
 abbrev pub OutcomesFitHistories : Type 0
-OutcomesFitHistories = (h : CommandList) (k : ℕ) (a : ActionRecord) → item_numbered (records h).actions k ≡ Some a → FitsHistory a.outcome (entries_in a.history)
+OutcomesFitHistories = (h : CommandList) (k : ℕ) (a : ActionRecord) → item_numbered (records h).actions k ≡ Some a
+    → FitsHistory a.outcome (entries_in a.history)

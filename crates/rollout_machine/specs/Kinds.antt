@@ -1,12 +1,11 @@
--- The kinds of records: those that are stored at every schema, and the derived ones.
+-- The kinds of records that are stored at every schema, and the counts of groups, found again from them.
 use Rattle.rollout_machine.specs.Commands.{Bytes, RolloutPlan, SetLabel, ModuleLabel, Outcome, Good, Bad, Gone}
 use Rattle.rollout_machine.specs.Counts.{is_outcome}
 use Rattle.rollout_machine.specs.Groups.{holds_position}
-use Rattle.rollout_machine.specs.Offers.{Offer, offer}
+use Rattle.rollout_machine.specs.Offers.{Offer}
 use Rattle.rollout_machine.specs.Records.{ArtifactRecord, GroupRecord, Approval, ActionRecord, Records, RolloutRecord}
 use Rattle.rollout_machine.specs.Targets.{Target}
-use Rattle.rollout_machine.specs.Verdicts.{notes_of}
-use Rattle.std.specs.Prelude.{ℕ, ◌+◌, ◌&&◌, cond, nat_eq, Bool, List, [], ◌∷◌, ◌++◌, map, Option, Some, None}
+use Rattle.std.specs.Prelude.{ℕ, ◌+◌, ◌&&◌, cond, nat_eq, Bool, List, [], ◌∷◌, map, Option, Some, None}
 use Rattle.rollout_machine.specs.declared.bounds.Bounds.{Bounds}
 
 pub record StoredGroup : Type 0 where
@@ -98,21 +97,7 @@ recounted ss = record {
   actions = ss.actions;
 }
 
--- ---- derived kinds: counts of groups, numbers of notes by action, offers by target
-
-pub record GroupCounts : Type 0 where
-  pub rollout : ℕ
-  pub group : ℕ
-  pub ok : ℕ
-  pub bad : ℕ
-  pub gone : ℕ
-
-abbrev pub counts_of : RolloutRecord → List GroupCounts
-counts_of x = map (λ (g : GroupRecord). record { rollout = x.number; group = g.number; ok = g.ok; bad = g.bad; gone = g.gone }) x.groups
-
-abbrev pub counts_of_all : List RolloutRecord → List GroupCounts
-counts_of_all [] = []
-counts_of_all (x ∷ xs) = counts_of x ++ counts_of_all xs
+-- ---- the offer of a target
 
 pub record TargetOffer : Type 0 where
   pub target : Bytes
@@ -121,15 +106,3 @@ pub record TargetOffer : Type 0 where
 abbrev pub offer_to : Bytes → Option Offer → List TargetOffer
 offer_to t None = []
 offer_to t (Some o) = record { target = t; offer = o } ∷ []
-
-abbrev pub offers_to : Records → List Target → List TargetOffer
-offers_to rs [] = []
-offers_to rs (t ∷ ts) = offer_to t.id (offer rs t.id) ++ offers_to rs ts
-
-pub record DerivedRecords : Type 0 where
-  pub counts : List GroupCounts
-  pub notes : List ℕ
-  pub offers : List TargetOffer
-
-abbrev pub derived : Records → DerivedRecords
-derived rs = record { counts = counts_of_all rs.rollouts; notes = map notes_of rs.actions; offers = offers_to rs rs.targets }

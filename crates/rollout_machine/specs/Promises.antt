@@ -11,7 +11,7 @@ use Rattle.rollout_machine.specs.ByteStrings.{item_numbered}
 use Rattle.rollout_machine.specs.CommandList.{CommandList, ◌▸◌}
 use Rattle.rollout_machine.specs.Commands.{Bytes, Command, Credential, Approve, Deny, Start, Pause, Resume, TriggerNext}
 use Rattle.rollout_machine.specs.Counts.{success_holds}
-use Rattle.rollout_machine.specs.Kinds.{derived, recounted, stored}
+use Rattle.rollout_machine.specs.Kinds.{recounted, stored}
 use Rattle.rollout_machine.specs.Meanings.{IsOfferable}
 use Rattle.rollout_machine.specs.Objects.{modules_of_action}
 use Rattle.rollout_machine.specs.Offers.{Offer, offer}
@@ -83,16 +83,13 @@ abbrev pub DownloadsAreOffered : Type 0
 DownloadsAreOffered = (h : CommandList) (device : Credential) (m : ℕ) (filename contents : Bytes)
     → (answer h (Asks (Ask (Download device m filename)))).reply ≡ ContentsShown contents → IsDownloadable h device.id m filename contents
 
--- ---- derived kinds
+-- ---- what is stored
 
--- the records are found again from the stored kinds: the counts of groups are those of their actions, so no derived kind says more
+-- the records are found again from the stored kinds: the counts of groups are those of their actions
 abbrev pub StoredSayAll : Type 0
 StoredSayAll = (h : CommandList) → IsValid h → recounted (stored (records h)) ≡ records h
 
-abbrev pub DerivedFollow : Type 0
-DerivedFollow = (h : CommandList) → IsValid h → derived (records h) ≡ derived (recounted (stored (records h)))
-
--- ---- what one command does to the derived kinds
+-- ---- what one command does to offers and notes
 
 -- the command is on no action of the target, and starts no group with it
 pub record IsUntouched (h : CommandList) (c : Command) (t : Bytes) : Type 0 where
@@ -127,7 +124,8 @@ OffersFollow = (h : CommandList) (c : Command) (t : Bytes) (k : ℕ) (p : Action
 
 -- an action has as many notes more as its feedback adds, and a closed one none
 abbrev pub NotesGrow : Type 0
-NotesGrow = (c : Command) (a : ActionRecord) → notes_of (action_after c a) ≡ notes_of a + cond (is_none a.outcome) (length (filter is_note (entries_in (reported_by c)))) 0
+NotesGrow = (c : Command) (a : ActionRecord)
+    → notes_of (action_after c a) ≡ notes_of a + cond (is_none a.outcome) (length (filter is_note (entries_in (reported_by c)))) 0
 
 -- ---- numbers of feedback
 

@@ -4,9 +4,10 @@ use rollout_model::{Reply, Request};
 
 /// A desk that answers requests, seen by the list of commands that it stands for and by what a crash may leave of it.
 pub trait Handler {
-    ghost use Rattle.std.specs.Prelude.{◌≡◌, true};
+    ghost use Rattle.std.specs.Prelude.{◌≡◌, true, ℕ};
     ghost use Rattle.rollout_model.specs.declared.refusal.Refusal.TheVariants as refusal;
-    ghost use Rattle.rollout_machine.specs.Requests.{Asks};
+    ghost use Rattle.rollout_machine.specs.Bounds.{KeepsBound};
+    ghost use Rattle.rollout_machine.specs.Requests.{Asks, Do};
     ghost use Rattle.rollout_machine.specs.Replies.{Refused};
     ghost use Rattle.rollout_machine.specs.Views.{request_of, reply_of};
     ghost use Rattle.rollout_machine.specs.Standing.{DeskState, Applies, StaysStopped};
@@ -16,12 +17,18 @@ pub trait Handler {
 
     ghost state: { Self → DeskState File };
 
+    /// How many statements the last command ran, and how many rows they gave.
+    ghost statements: { Self → ℕ };
+
+    ghost rows: { Self → ℕ };
+
     /// Answers one request. A command is committed, or surely not, before it returns.
     fn handle(&mut self, request: &Request) -> Reply
         ensures clean { (state self.new).is_clean → (state self.old).is_clean }
         ensures applies { Applies (state self.old) (state self.new) (Asks (request_of request.now)) (reply_of result) }
         ensures stops { reply_of result ≡ Refused refusal.StoreFailed → (state self.new).is_stopped ≡ true }
-        ensures stopped { (state self.old).is_stopped ≡ true → (reply_of result ≡ Refused refusal.Stopped) × StaysStopped (state self.old) (state self.new) };
+        ensures stopped { (state self.old).is_stopped ≡ true → (reply_of result ≡ Refused refusal.Stopped) × StaysStopped (state self.old) (state self.new) }
+        ensures bound { (c : _) → request_of request.now ≡ Do c → KeepsBound c (statements self.new) (rows self.new) };
 
     /// Whether the desk refuses everything until it is reopened.
     fn is_stopped(&self) -> bool

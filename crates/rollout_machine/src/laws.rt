@@ -1,10 +1,12 @@
 //! What the definitions of the machine mean: laws of all command lists.
 
+ghost use Rattle.rollout_machine.specs.GroupCounts.{GroupsAreCounted};
 ghost use Rattle.rollout_machine.specs.Groupings.{GroupingCovers};
 ghost use Rattle.rollout_machine.specs.Meanings.{NumbersActions, NumbersDiffer, RowIsLast, TagsAreSaid, OutcomeIsFirst, CancelingIsLast, PausedIs};
 ghost use Rattle.rollout_machine.specs.Meanings.{FirstStartedIs, StartedIs, FinalIsAll, OfferIsLeast, TargetsAreNamed, ValueIsLast};
+ghost use Rattle.rollout_machine.specs.Orders.{ListsRiseInOrder};
 ghost use Rattle.rollout_machine.specs.Promises.{OneGroupStarts, OthersStay, NoGroupIsLeft, NamedIsOfferable, DownloadsAreOffered, StoredSayAll};
-ghost use Rattle.rollout_machine.specs.Promises.{DerivedFollow, NumbersRise, OffersStay, OffersFollow, NotesGrow};
+ghost use Rattle.rollout_machine.specs.Promises.{NumbersRise, OffersStay, OffersFollow, NotesGrow};
 ghost use Rattle.rollout_machine.specs.Repeats.{RepeatsLeaveNoTrace};
 ghost use Rattle.rollout_machine.specs.Splits.{FirstEmptyTells, SplitCovers};
 ghost use Rattle.rollout_machine.specs.Validity.{StepsRecords};
@@ -114,9 +116,9 @@ pub fn stored_say_all()
     ensures { StoredSayAll }
 {}
 
-/// The derived kinds of records follow from the stored ones.
-pub fn derived_follow()
-    ensures { DerivedFollow }
+/// The counts of a group are those of its actions.
+pub fn groups_are_counted()
+    ensures { GroupsAreCounted }
 {}
 
 /// The offers of the targets that a command doesn't touch stay.
@@ -137,6 +139,11 @@ pub fn notes_grow()
 /// The numbers of the feedback on an action rise.
 pub fn numbers_rise()
     ensures { NumbersRise }
+{}
+
+/// Targets, the tags of each, and the members of each rollout are listed in byte order, each once.
+pub fn lists_rise_in_order()
+    ensures { ListsRiseInOrder }
 {}
 
 /// The groups of a split by percentages, of which none is empty and the last takes all that is left, follow one another from the first

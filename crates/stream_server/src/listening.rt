@@ -38,10 +38,10 @@ fn limit_waiting(stream: &TcpStream) -> bool {
 }
 
 /// How many reads are made of what a client still sends once its connection is served.
-const LAST_READS: u32 = 1024;
+const LAST_READS: u32 = 4096;
 
-/// Ends the writing half of a connection and reads what the client still sends, up to 4 MiB: closing a connection with bytes unread takes
-/// back a reply that the client hasn't read yet. A client that sends nothing more and doesn't close is waited for once.
+/// Ends the writing half of a connection and reads what the client still sends, up to 16 MiB: closing it with bytes unread takes back a reply
+/// that the client hasn't read yet, as the refusal of a body that is too long. A client that sends nothing more is waited for once.
 fn let_go(mut stream: &TcpStream) {
     let Ok(()) = stream.shutdown(Shutdown::Write) else {
         return;

@@ -1,8 +1,7 @@
 //! Feedback of devices, on whichever of their actions.
 
-ghost use Rattle.std.specs.Prelude.{◌≡◌, true, false, Some, None, MatchResult};
+ghost use Rattle.std.specs.Prelude.{◌≡◌, false, Some, None, MatchResult};
 ghost use Rattle.rollout_machine.specs.Verdicts.{same_outcome};
-ghost use Rattle.rollout_model.specs.declared.refusal.Refusal.TheVariants.{ClosedAction};
 ghost use Rattle.campaign_core.specs.RolloutChecks.{device_refusal, is_fresh, report_refusal};
 
 use super::actions::ActionView;

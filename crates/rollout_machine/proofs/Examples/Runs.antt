@@ -1,9 +1,8 @@
-use Rattle.std.specs.Prelude.{replicate}
+use Rattle.std.specs.Prelude.{map}
 use Rattle.rollout_machine.proofs.Examples.Fleet.{fleet, run_of, only}
-use Rattle.std.proofs.Common.{◌≡◌, ℕ, List, [], ◌∷◌, ◌++◌, Some, true, false, refl}
+use Rattle.std.proofs.Common.{◌≡◌, ℕ, List, [], ◌∷◌, ◌++◌, Some, None, true, false, refl}
 use Rattle.rollout_machine.specs.CommandList.{◌▸◌}
 use Rattle.rollout_machine.specs.Commands.{Cancel, Command, PutTargets, CreateRollout, Start, Pause, Resume, TriggerNext, PutAttributes, Tag}
-use Rattle.rollout_machine.specs.Kinds.{derived}
 use Rattle.rollout_machine.specs.RecordSteps.{step_records}
 use Rattle.rollout_machine.specs.Records.{records}
 use Rattle.rollout_machine.specs.Repeats.{without_repeats}
@@ -53,13 +52,16 @@ imports_agree : records (history_of mixed ▸ import_twice) ≡ step_records (re
 unfolding records
 imports_agree = refl
 
--- the derived kinds of a run, and its list without repeats
-derived_kinds : derived (run_of (rolled_out everyone 3 50 100 ++ succeeds 1 1 ∷ Cancel (device 2) 2 false ∷ [])) ≡ record {
-  counts = record { rollout = 1; group = 1; ok = 1; bad = 0; gone = 0 } ∷ record { rollout = 1; group = 2; ok = 0; bad = 0; gone = 0 } ∷ record { rollout = 1; group = 3; ok = 0; bad = 0; gone = 0 } ∷ [];
-  notes = replicate 10 0;
-  offers = record { target = device 2; offer = record { action = 2; canceling = true } } ∷ record { target = device 3; offer = record { action = 3; canceling = false } } ∷ [];
-}
-derived_kinds = refl
+-- one device succeeds and one is canceled: who is offered what
+abbrev run : List Command
+run = rolled_out everyone 3 50 100 ++ succeeds 1 1 ∷ Cancel (device 2) 2 false ∷ []
 
+counts_of_run : shown (run_of run) 1 ≡ Some (RunningRollout, (true, 1, 0, 0) ∷ (false, 0, 0, 0) ∷ (false, 0, 0, 0) ∷ [])
+counts_of_run = refl
+
+offers_of_run : map (offered (run_of run)) (1 ∷ 2 ∷ 3 ∷ 4 ∷ []) ≡ None ∷ Some (2, true) ∷ Some (3, false) ∷ None ∷ []
+offers_of_run = refl
+
+-- a list without repeats
 calm_list : without_repeats (history_of (PutTargets fleet ∷ rolled_out (only 1) 1 50 100 ++ succeeds 1 1 ∷ succeeds 1 1 ∷ fails 1 1 ∷ [])) ≡ history_of (rolled_out (only 1) 1 50 100 ++ succeeds 1 1 ∷ [])
 calm_list = refl

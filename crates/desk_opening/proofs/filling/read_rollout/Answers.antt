@@ -14,5 +14,5 @@ returns g c =
     let it : TakesFirst (state g.S.Store c.args.conn.now) (state g.S.Store c.first.new.conn) GET_ROLLOUT.now (Int (pos c.args.number) ∷ []) (Ok c.in_ok-row.row) = rw c.params-to_sql.ensures at c.in_ok-row.ensures in
     record {
       stays = rollout_stays c.args.number _ _ c.in_ok-row.row it c.rollout_in.result;
-      reads = rollout_found c.args.number c.requires _ _ c.in_ok-row.row it c.rollout_in.result c.rollout_in.ensures;
+      reads = rollout_found c.args.number c.requires _ _ c.in_ok-row.row it c.rollout_in.result c.rollout_in.ensures.ok;
     }

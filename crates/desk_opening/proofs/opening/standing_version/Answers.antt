@@ -5,3 +5,6 @@ returns-then-branch-clause-found c = c.in_ok-has_tables_of.ensures.found c.if-br
 
 pub returns-then-branch-2-clause-found : goal.returns-then-branch-2-clause-found
 returns-then-branch-2-clause-found c = c.in_ok-has_tables_of-2.ensures.found c.if-branch-2.true
+
+pub returns-then-branch-3-clause-found : goal.returns-then-branch-3-clause-found
+returns-then-branch-3-clause-found c = c.in_ok-has_tables_of-3.ensures.found c.if-branch-3.true

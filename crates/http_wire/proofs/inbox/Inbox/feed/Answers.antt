@@ -14,9 +14,3 @@ pub returns-clause-fault : goal.returns-clause-fault
 returns-clause-fault c fault f =
     let longer : c.args.self.now ++ c.args.piece.now ≡ c.extend_from_slice.new.self.items = first_of (search rules, grind (arith, common_steps)) in
     subst (λ (x : List ℕ). IsFault x fault) longer (fault_append c.args.self.now c.args.piece.now fault f)
-
-pub returns-clause-first : goal.returns-clause-first
-returns-clause-first c fed given b = begins_append fed given c.args.self.now c.args.piece.now b
-
-pub returns-in_err-extend_from_slice-clause-first : goal.returns-in_err-extend_from_slice-clause-first
-returns-in_err-extend_from_slice-clause-first c fed given b = begins_append fed given c.args.self.now c.args.piece.now b
