@@ -33,7 +33,7 @@ use Rattle.campaign_core.specs.declared.rollout_checks.actions.ActionChange.TheV
 use Rattle.desk_records.specs.Actions.{Tally, tally_of}
 use Rattle.desk_records.specs.FeedbackNumbers.{borne_at, numbers_from, numbers_of}
 use Rattle.desk_records.specs.Holds.{Ledger, ledger_of}
-use Rattle.desk_records.specs.LedgerSteps.{set_numbered, with_actions, with_groups, with_offer, with_rollouts}
+use Rattle.desk_records.specs.LedgerSteps.{set_numbered, with_groups, with_offer, with_rollouts}
 use Rattle.desk_records.specs.NextOffers.{next_offer}
 use Rattle.offer_laws.specs.GroupOffers.{actor, offers_before_start, with_actor, acted as acted_records}
 use Rattle.desk_commands.specs.ActionSteps.{Acts, Follows, TellsAction, stays_offered, with_changed}

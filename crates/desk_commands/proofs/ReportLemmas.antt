@@ -1,12 +1,12 @@
 -- How a report stands among what its action has heard, by the last number.
-use Rattle.std.proofs.Common.{◌≡◌, ℕ, suc, Bool, true, false, cond, List, [], ◌∷◌, length, Option, Some, None, option_map, refl, sym, ap, ◌∙◌, subst, nat_eq, nat_lt, ◌&&◌, ◌≤◌, arith}
+use Rattle.std.proofs.Common.{◌≡◌, ℕ, suc, Bool, true, false, cond, List, [], ◌∷◌, length, Option, Some, None, option_map, refl, sym, ap, ◌∙◌, nat_eq, nat_lt, ◌&&◌, ◌≤◌, arith}
 use Rattle.std.specs.Option.{is_none}
 use Rattle.std.specs.List.{last_or}
 use Rattle.std.proofs.lemmas.Bool.{false≢true}
 use Rattle.std.proofs.lemmas.Bool.Decides.{nat_tests}
 use Rattle.rollout_machine.specs.ByteStrings.{item_numbered}
 use Rattle.rollout_machine.specs.Records.{Records}
-use Rattle.rollout_machine.specs.Reports.{HistoryEntry, Reported, against, entries_in, same_entry, standing_of}
+use Rattle.rollout_machine.specs.Reports.{HistoryEntry, Reported, against, entries_in, same_entry}
 use Rattle.rollout_machine.specs.declared.standing.Standing.{Standing}
 use Rattle.rollout_machine.specs.declared.standing.Standing.TheVariants.{Fresh, Again, Old}
 use Rattle.rollout_machine.specs.declared.records.ActionRecord.{ActionRecord}
@@ -19,7 +19,6 @@ use Rattle.desk_records.specs.declared.number_row.LastNumber.{LastNumber}
 use Rattle.desk_records.specs.declared.number_row.PlacedNumber.{PlacedNumber}
 use Rattle.desk_records.proofs.NumberLists.{BearsLast, bears_last}
 use Rattle.desk_commands.specs.SeenReports.{StandsAgainst, StandsAmong, StandsAt, number_asked}
-use Rattle.desk_commands.specs.declared.reports.SeenReport.{SeenReport}
 use Rattle.desk_commands.specs.declared.seen_actions.SeenAction.{SeenAction}
 
 -- ---- the last number

@@ -15,23 +15,17 @@ more_within (Some s) = go (says_fresh s)
     go true = omega arith
     go false = omega arith
 
-module _ {a b : Work} where
-  -- what is seen alone
-  pub seen_within : (n : Option ℕ) (s : Option Standing) → Adds (5 + reads_for n s) (6 + reads_for n s) a b → Adds (12 + if_numbered n 2) (7 + if_numbered n 1) a b
-  seen_within None s it = record { run = omega (arith, it.run); taken = omega (arith, it.taken) }
-  seen_within (Some n) s it = let few = more_within s in record { run = omega (arith, it.run, few); taken = omega (arith, it.taken, few) }
-
-  -- and then written, where it is new
-  pub taken_within : {c : Work} (n : Option ℕ) (s : Standing) (acts : Bool) → (acts ≡ true → says_fresh s ≡ true) → Adds (5 + reads_for n (Some s)) (6 + reads_for n (Some s)) a b → Adds (cond acts (7 + if_numbered n 1) 0) (cond acts 1 0) b c
-      → Adds (12 + if_numbered n 2) (7 + if_numbered n 1) a c
-  taken_within None s true fresh first second = record { run = omega (arith, first.run, second.run); taken = omega (arith, first.taken, second.taken) }
-  taken_within None s false fresh first second = record { run = omega (arith, first.run, second.run); taken = omega (arith, first.taken, second.taken) }
-  taken_within (Some n) s true fresh first second =
-      let new : more_reads (Some s) ≡ 0 = ap (λ b. cond b 0 1) (fresh refl) in
-      record { run = omega (arith, first.run, second.run, new); taken = omega (arith, first.taken, second.taken, new) }
-  taken_within (Some n) s false fresh first second =
-      let few = more_within (Some s) in
-      record { run = omega (arith, first.run, second.run, few); taken = omega (arith, first.taken, second.taken, few) }
+-- what is seen, and then written, where it is new
+pub taken_within : {a b c : Work} (n : Option ℕ) (s : Standing) (acts : Bool) → (acts ≡ true → says_fresh s ≡ true) → Adds (5 + reads_for n (Some s)) (6 + reads_for n (Some s)) a b → Adds (cond acts (7 + if_numbered n 1) 0) (cond acts 1 0) b c
+    → Adds (12 + if_numbered n 2) (7 + if_numbered n 1) a c
+taken_within None s true fresh first second = record { run = omega (arith, first.run, second.run); taken = omega (arith, first.taken, second.taken) }
+taken_within None s false fresh first second = record { run = omega (arith, first.run, second.run); taken = omega (arith, first.taken, second.taken) }
+taken_within (Some n) s true fresh first second =
+    let new : more_reads (Some s) ≡ 0 = ap (λ b. cond b 0 1) (fresh refl) in
+    record { run = omega (arith, first.run, second.run, new); taken = omega (arith, first.taken, second.taken, new) }
+taken_within (Some n) s false fresh first second =
+    let few = more_within (Some s) in
+    record { run = omega (arith, first.run, second.run, few); taken = omega (arith, first.taken, second.taken, few) }
 
 -- as the step's promise counts it
 pub number_within : {a b : Work} (n : Option ℕ) → Adds (12 + if_numbered n 2) (7 + if_numbered n 1) a b → Adds 14 24 a b

@@ -116,7 +116,8 @@ fn see_numbered<S: Alter, W: Copy>(
     ensures stays { StaysIn S.Store change.old change.new result }
     ensures reads { FindsAtListsIn S.Store change.old change.new result
         (StandsAt given.now.action (with_number (reported (λ word. said) given.now) (Some number))) }
-    ensures work { AddsIn (1 + more_reads (standing_in (λ seen. seen.standing) result)) (1 + more_reads (standing_in (λ seen. seen.standing) result)) change.old change.new }
+    ensures work { AddsIn (1 + more_reads (standing_in (λ seen. seen.standing) result))
+        (1 + more_reads (standing_in (λ seen. seen.standing) result)) change.old change.new }
 {
     let found = change.read_last_number(given.action)?;
     match &found {
@@ -142,7 +143,13 @@ fn number_asked(
     ensures { result ≡ number_asked action.now number }
 {
     match action {
-        Some(seen) => { if seen.action.outcome.is_none() { number } else { None } }
+        Some(seen) => {
+            if seen.action.outcome.is_none() {
+                number
+            } else {
+                None
+            }
+        }
         None => None,
     }
 }

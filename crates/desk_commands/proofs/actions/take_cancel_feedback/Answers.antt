@@ -13,7 +13,7 @@ use Rattle.desk_commands.specs.ActionSteps.{does_act}
 use Rattle.desk_commands.specs.SeenActions.{feedback_view_seen}
 use Rattle.desk_commands.proofs.ActingSteps.{acts_on_fresh, feedback_taken}
 use Rattle.desk_commands.proofs.KnownActions.{feedback_viewed}
-use Rattle.desk_commands.proofs.WorkLemmas.{seen_within, taken_within}
+use Rattle.desk_commands.proofs.WorkLemmas.{taken_within}
 use Rattle.desk_commands.proofs.actions.take_cancel_feedback.Goals as goal
 
 pub returns-in-Err-clause-steps : goal.returns-in-Err-clause-steps
@@ -32,14 +32,10 @@ returns-clause-steps g c =
     (λ o. refl) (λ rs w. w) (λ o old new leads. leads) refl c.feedback_is_well_formed.ensures decides in
     accepted_at c.in_ok-seen.ensures.reads _ (λ h valid w. (taken h valid w).1) (ledger_made _ c.in_ok-write_feedback.ensures.writes) _ (λ h valid w. ((taken h valid w).0, refl))
 
--- the report is seen, and told where it is new
-within : goal.returns-clause-work
-within g c =
+pub returns-clause-work : goal.returns-clause-work
+returns-clause-work g c =
     let given = c.args.given.now in
     let seen = c.in_ok-seen.seen in
     let makes = rw c.feedback_view.ensures at c.in-Ok.ensures.makes in
     let fresh = acts_on_fresh seen c.in-Ok.accepted given.credential given.action (reported OfCancel given) (CancelFeedback given) (view.CancelFeedback (feedback_view_seen seen)) change.CancelFeedback (outcome_of_cancel given.word) (canceling_after given.word) makes (λ o. refl) in
     taken_within given.number seen.report.standing (does_act c.in-Ok.accepted) fresh c.in_ok-seen.ensures.work c.in_ok-write_feedback.ensures.work
-
-pub returns-clause-work : goal.returns-clause-work
-returns-clause-work = within
