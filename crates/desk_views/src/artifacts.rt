@@ -11,12 +11,13 @@ ghost use Rattle.desk_views.specs.Contents.{contents_found};
 ghost use Rattle.desk_store.specs.Changing.{FindsIn, StaysIn};
 
 use desk_store::{Fault, OpenChange, StoredArtifact};
+use rollout_model::limits::{ARTIFACT_SIZE_LIMIT, PIECE_LENGTH};
 use rollout_model::{Artifact, ArtifactNo, Contents, ModuleNo, Page, PageOf, Refusal, Reply};
 use sqlite::Alter;
 use std::alloc::Global;
 
 /// How many pieces the contents of an artifact have at most.
-const PIECE_LIMIT: u32 = 16;
+const PIECE_LIMIT: u32 = (ARTIFACT_SIZE_LIMIT / PIECE_LENGTH) as u32;
 
 /// Shows a page of the artifacts of a module, in the order of their numbers.
 pub fn show_artifacts<S: Alter>(
