@@ -11,9 +11,6 @@ module_artifact_limit = 8
 abbrev pub artifact_limit : ℕ
 artifact_limit = 256
 
-abbrev pub artifact_size_limit : ℕ
-artifact_size_limit = 4194304
-
 abbrev pub set_limit : ℕ
 set_limit = 1000
 
@@ -96,9 +93,12 @@ body_length_limit = 4194304
 abbrev pub head_length_limit : ℕ
 head_length_limit = 8192
 
--- the bytes of a file of targets that is handed in as an import
+-- what a body hands in has as many bytes at most: a file of targets that is imported, and an artifact's contents
 abbrev pub file_length_limit : ℕ
-file_length_limit = 4194304
+file_length_limit = body_length_limit
+
+abbrev pub artifact_size_limit : ℕ
+artifact_size_limit = body_length_limit
 
 -- the fields of a head
 abbrev pub field_limit : ℕ

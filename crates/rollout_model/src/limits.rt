@@ -9,8 +9,8 @@ pub const MODULE_ARTIFACT_LIMIT: usize = 8;
 /// How many artifacts a desk takes.
 pub const ARTIFACT_LIMIT: u32 = 256;
 
-/// The most bytes of an artifact's contents.
-pub const ARTIFACT_SIZE_LIMIT: usize = 4_194_304;
+/// The most bytes of an artifact's contents, since a body hands them in.
+pub const ARTIFACT_SIZE_LIMIT: usize = BODY_LENGTH_LIMIT;
 
 /// The bytes of every piece of an artifact's contents but the last, which may be shorter.
 pub const PIECE_LENGTH: usize = 65_536;
@@ -87,8 +87,8 @@ pub const FIELD_LIMIT: usize = 32;
 /// The most bytes of a request's body.
 pub const BODY_LENGTH_LIMIT: usize = 4_194_304;
 
-/// The most bytes of a file of targets that is handed in as an import.
-pub const FILE_LENGTH_LIMIT: usize = 4_194_304;
+/// The most bytes of a file of targets, since a body hands it in as an import.
+pub const FILE_LENGTH_LIMIT: usize = BODY_LENGTH_LIMIT;
 
 /// The most entries of a page.
 pub const PAGE_LIMIT: u32 = 500;
