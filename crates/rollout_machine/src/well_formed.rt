@@ -11,9 +11,8 @@ use rollout_model::{
     Attribute, Command, ConfigData, ControllerId, Credential, ModuleLabel, SetLabel, TargetRow,
     TargetRows, Upload, Word,
 };
-use rollouts::{
-    cancel_is_well_formed, feedback_is_well_formed, number_is_well_formed, plan_is_well_formed,
-};
+use rollouts::plan_is_well_formed;
+pub use rollouts::{cancel_is_well_formed, feedback_is_well_formed, number_is_well_formed};
 
 /// Every command keeps the rules of commands: its parts' types keep theirs.
 pub fn command_is_well_formed(command: &Command)
