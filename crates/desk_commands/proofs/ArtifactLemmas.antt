@@ -1,5 +1,5 @@
 -- What the reads of an artifact's addition say, and what its writes come to.
-use Rattle.std.proofs.Common.{◌≡◌, ◌≤◌, ◌<◌, ℕ, suc, ◌+◌, ◌-◌, ◌*◌, min, nat_eq, nat_le, nat_lt, Bool, true, false, not, cond, ◌||◌, ◌&&◌, List, [], ◌∷◌, ◌++◌, length, filter, take, drop, Option, Some, None, refl, sym, ap, ◌∙◌, arith, subst, append_assoc, append-nil}
+use Rattle.std.proofs.Common.{◌≡◌, ◌≤◌, ◌<◌, ℕ, suc, ◌+◌, ◌-◌, ◌*◌, min, nat_eq, nat_le, nat_lt, Bool, true, false, not, cond, ◌||◌, List, [], ◌∷◌, ◌++◌, length, filter, take, drop, Option, Some, None, refl, sym, ap, ◌∙◌, arith, subst, append_assoc, append-nil}
 use Rattle.std.specs.Prelude.{slice_get}
 use Rattle.std.specs.List.{list_any}
 use Rattle.std.specs.Cmp.Lexicographic.{pointwise}
@@ -23,6 +23,7 @@ use Rattle.rollout_model.specs.declared.refusal.Refusal.{Refusal}
 use Rattle.rollout_model.specs.declared.refusal.Refusal.TheVariants.{NotFound, Locked, Exists, Quota, WrongDigest}
 use Rattle.rollout_model.specs.declared.request.Reply.TheVariants as reply
 use Rattle.desk_commands.specs.Additions.{AddsArtifact, AddsContents, is_full}
+use Rattle.rollout_machine.proofs.TargetTies.{same_pointwise}
 use Rattle.desk_commands.proofs.AdditionLemmas.{past_is_missing}
 
 -- ---- the first tests of a row, and the others
@@ -127,12 +128,6 @@ is_room true n number h = absurd (cc)
 is_room false n number h = (refl, (let e : number ≡ n = cc in e))
 
 -- ---- the digest
-
-same_pointwise : (xs ys : List ℕ) → pointwise nat_eq xs ys ≡ same_bytes xs ys
-same_pointwise [] [] = refl
-same_pointwise [] (y ∷ ys) = refl
-same_pointwise (x ∷ xs) [] = refl
-same_pointwise (x ∷ xs) (y ∷ ys) = ap (λ b. nat_eq x y && b) (same_pointwise xs ys)
 
 pub is_another : (u : Upload) (named digest : Bytes) → u.expected ≡ Some named → digest ≡ digest_of u.contents → not (pointwise nat_eq named digest) ≡ wrong_digest u
 is_another u named digest is same = rw is (ap not (same_pointwise named digest) ∙ ap (λ d. not (same_bytes named d)) same)

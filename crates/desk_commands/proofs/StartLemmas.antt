@@ -20,7 +20,7 @@ use Rattle.rollout_machine.specs.declared.records.ActionRecord.{ActionRecord}
 use Rattle.rollout_machine.specs.declared.records.GroupRecord.{GroupRecord}
 use Rattle.rollout_machine.specs.declared.records.RolloutRecord.{RolloutRecord}
 use Rattle.rollout_machine.proofs.Induction.{never_started}
-use Rattle.rollout_machine.proofs.Lists.{each_from_more}
+use Rattle.rollout_machine.proofs.Lists.{each_from_more, length_each}
 use Rattle.rollout_model.specs.Rules.{is_number}
 use Rattle.rollout_model.specs.declared.refusal.Refusal.TheVariants.{NotFound, WrongState}
 use Rattle.campaign_core.proofs.SoundLemmas.{records_are_sound}
@@ -46,10 +46,6 @@ all_members r count l members is size = is ∙ take_all count (members_of (item_
 pub no_action : (r last : ℕ) (members : List Bytes) (l next : Ledger) → AddsActions r last members 0 l next → next ≡ l
 no_action r last members l next h = h.next_is ∙ (λ i. with_numbers (with_actions l (append-nil l.records.actions i) (append-nil l.tallies i)) (append-nil l.numbers i))
 
-as_many : {X : Type 0} (f : ℕ → X) (a n : ℕ) → length (each_from f a n) ≡ n
-as_many f a zero = refl
-as_many f a (suc n) = ap suc (as_many f (suc a) n)
-
 one_behind : {X : Type 0} (f : ActionRecord → X) (xs : List X) (as' : List ActionRecord) (a : ActionRecord) → xs ++ map f (as' ++ a ∷ []) ≡ (xs ++ map f as') ++ f a ∷ []
 one_behind f xs as' a = ap (λ ys. xs ++ ys) (map-append f as' (a ∷ [])) ∙ sym (append_assoc xs (map f as') (f a ∷ []))
 
@@ -69,7 +65,7 @@ one_action r last members id i number within is numbered l next h =
         tallied = length-append l.tallies (map tally_of new) ∙ ap (λ k. length l.tallies + k) (length-map new tally_of) ∙ ap (λ k. k + length new) h.tallied ∙ sym (length-append as' new);
         number_is =
             let size = length-append as' new in
-            let count = as_many (scheduled r) 1 i in
+            let count = length_each (scheduled r) 1 i in
             let before = h.last_is in
             omega (arith, numbered, size, count, before);
         id_is = sym actor;

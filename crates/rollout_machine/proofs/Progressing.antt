@@ -36,7 +36,7 @@ at_most x r i l h last e = go (cases i l) where
   go (inl u) = u
   go (inr u) = absurd (false≢true (sym (last.beyond i u) ∙ e))
 
-positive : (x : Rollout) (r i : ℕ) (h : CommandList) → is_group_started x r i h ≡ true → 1 ≤ i
+pub positive : (x : Rollout) (r i : ℕ) (h : CommandList) → is_group_started x r i h ≡ true → 1 ≤ i
 positive x r zero h e = absurd (false≢true e)
 positive x r (suc i) h e = omega arith
 

@@ -66,7 +66,7 @@ and_false false = refl
 pub others : (x : Rollout) (r g j : ℕ) (h : CommandList) (c : Command) (o : Outcome) → GetsOutcome x r g j h c o → (k : ℕ) → (k ≡ j → ⊥) → outcome (h ▸ c) r k ≡ outcome h r k
 others x r g j h c o w k ne = untouched h c r k (ap (λ p. is_action_place p r k) w.on ∙ ap (λ b. nat_eq r r && b) (ne_eqb j k (λ e. ne (sym e))) ∙ and_false (nat_eq r r))
 
-none_is : (q : Outcome) → is_outcome q None ≡ false
+pub none_is : (q : Outcome) → is_outcome q None ≡ false
 none_is Good = refl
 none_is Bad = refl
 none_is Gone = refl
