@@ -9,9 +9,8 @@ mod rollouts;
 use rollout_model::{
     Command, ConfigData, ControllerId, Credential, ModuleLabel, SetLabel, TargetRows, Upload, Word,
 };
-use rollouts::{
-    cancel_is_well_formed, feedback_is_well_formed, number_is_well_formed, plan_is_well_formed,
-};
+use rollouts::plan_is_well_formed;
+pub use rollouts::{cancel_is_well_formed, feedback_is_well_formed, number_is_well_formed};
 
 /// Every command keeps the rules of commands: its parts' types keep theirs.
 pub fn command_is_well_formed(command: &Command)
