@@ -76,8 +76,8 @@ same_row gives (Some o) s t more is = of (same_outcome gives (Some o))
     of true = refl
     of false = refl
 
--- What feedback on action k says of it, and the tests that its kind alone has: by the action's notes, whether it is canceling, and whether it is open and the report
--- isn't sent again.
+-- What feedback on action k says of it, and the tests that its kind alone has: by the action's notes, whether it is canceling, and whether
+-- it is open and the report isn't sent again.
 pub record IsReport (c : Command) (device : Credential) (k : ℕ) (new : Reported) (gives : Option Outcome) (canceling : Bool → Bool) (tests : ℕ → Bool → Bool → List (Bool × Refusal)) : Type 0 where
   pub row : Option ActionRecord → Option Refusal
   pub check_is : (rs : Records) → check rs c
@@ -129,8 +129,9 @@ not_old gives w more accepted = go (gives_other gives w.action) (is_old w) accep
     go false true e = cc
     go false false e = refl
 
-module _ {c : Command} {device : Credential} {k : ℕ} {new : Reported} {gives : Option Outcome} {canceling : Bool → Bool} {tests : ℕ → Bool → Bool → List (Bool × Refusal)} (report : IsReport c device k new gives canceling tests)
-    (v : FeedbackView) (w : DeviceAction) (misses : v.misses_device ≡ false) (there : v.own_action ≡ Some w) (rs : Records) (is : IsFeedbackView v device k new rs) where
+module _ {c : Command} {device : Credential} {k : ℕ} {new : Reported} {gives : Option Outcome} {canceling : Bool → Bool} {tests : ℕ → Bool → Bool → List (Bool × Refusal)}
+    (report : IsReport c device k new gives canceling tests) (v : FeedbackView) (w : DeviceAction) (misses : v.misses_device ≡ false) (there : v.own_action ≡ Some w)
+    (rs : Records) (is : IsFeedbackView v device k new rs) where
   it : IsOfDevice w device k new rs
   it = own_action v w device k new rs misses there is
 
@@ -158,7 +159,8 @@ module _ {c : Command} {device : Credential} {k : ℕ} {new : Reported} {gives :
       sent : (s : Standing) → w.action.outcome ≡ None → w.standing ≡ s → is_again it.action.history c ≡ says_again s
       sent s e d = report.again it.action.history ∙ ap says_again (sym (it.is.standing (is_open e)) ∙ d)
 
-      go : (o : Option Outcome) (s : Standing) → w.action.outcome ≡ o → w.standing ≡ s → (is_none o && says_old s) ≡ false → Makes (cond (is_none o && says_fresh s) (Some (change_by w.action gives (canceling w.action.canceling))) None)
+      go : (o : Option Outcome) (s : Standing) → w.action.outcome ≡ o → w.standing ≡ s → (is_none o && says_old s) ≡ false
+          → Makes (cond (is_none o && says_fresh s) (Some (change_by w.action gives (canceling w.action.canceling))) None)
       go None Fresh e d f =
           acts rs sound c k it.action w.action gives (canceling w.action.canceling) it.numbered (sent Fresh e d) e it.is.action (report.given it.action.canceling)
           (report.said it.action.canceling ∙ ap canceling (sym it.is.action.canceling))
@@ -166,6 +168,7 @@ module _ {c : Command} {device : Credential} {k : ℕ} {new : Reported} {gives :
       go None Old e d f = cc
       go (Some o) s e d f = stays rs sound c k it.action o it.numbered (sym it.is.action.outcome ∙ e)
 
-  pub report_changes : (d : Option ActionChange) → option_or (report_refusal gives w) (first_refusal (tests w.notes w.action.canceling (is_fresh w))) ≡ None → d ≡ change_if_fresh w gives (canceling w.action.canceling)
+  pub report_changes : (d : Option ActionChange) → option_or (report_refusal gives w) (first_refusal (tests w.notes w.action.canceling (is_fresh w))) ≡ None
+      → d ≡ change_if_fresh w gives (canceling w.action.canceling)
       → AreSound rs → (check rs c ≡ None) × Makes d
   report_changes d accepted by sound = (report_row ∙ accepted, subst Makes (sym by) (may_act sound (not_old gives w _ accepted)))
