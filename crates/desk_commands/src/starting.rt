@@ -8,12 +8,12 @@ ghost use Rattle.desk_store.specs.Changing.{FindsLedger, MakesLedger, StaysIn};
 ghost use Rattle.desk_commands.specs.Changing.{StepsIn};
 
 use crate::groups::start_group;
-use crate::standing::{number_is_well_formed, refusal_in};
+use crate::standing::refusal_in;
 use crate::step::Step;
 use campaign_core::{StandingView, start};
 use desk_reads::{SeenRollout, read_seen_rollout};
 use desk_store::{Fault, OpenChange};
-use rollout_machine::GroupRecord;
+use rollout_machine::{GroupRecord, number_is_well_formed};
 use rollout_model::limits::NUMBER_LIMIT;
 use rollout_model::{ActionNo, ControllerId, Page, Refusal, Reply, RolloutNo};
 use sqlite::Alter;
