@@ -1,6 +1,7 @@
 //! Feedback on actions, and the cancels of actions.
 
-ghost use Rattle.std.specs.Prelude.{◌≡◌, ◌+◌, cond, IfOk, Some, is_some};
+ghost use Rattle.std.specs.Prelude.{◌≡◌, ◌+◌, cond, MatchResult, None, Some, is_some};
+ghost use Rattle.sql_calls.specs.declared.fault.Fault.TheVariants.{Store};
 ghost use Rattle.rollout_machine.specs.Reports.{reported};
 ghost use Rattle.rollout_machine.specs.Commands.{Cancel as CancelCommand, CancelFeedback, Feedback};
 ghost use Rattle.desk_commands.specs.ActionSteps.{Acts, ActsBy, Follows, MayAct, TellsAction, WritesFeedback};
@@ -142,15 +143,13 @@ fn may_act<S: Alter>(
     let Some(after) = after else {
         return Ok(());
     };
-    match seen {
-        Some(seen) => act(change, seen, after, told),
-        None => Err(Fault::Store),
-    }
+    let seen = seen.ok_or(Fault::Store)?;
+    act(change, &seen, after, told)
 }
 
 /// What an accepted command makes of its action: nothing where it repeats an outcome.
 fn action_change(accepted: &RolloutChange) -> Result<Option<ActionChange>, Fault>
-    ensures { IfOk result (λ after. action_change_of accepted.now ≡ Some after) }
+    ensures { MatchResult result (λ after. action_change_of accepted.now ≡ Some after) (λ e. (e ≡ Store) × (action_change_of accepted.now ≡ None)) }
 {
     match accepted {
         RolloutChange::Cancel(after) => Ok(Some(*after)),

@@ -171,10 +171,8 @@ fn start_next<S: Alter>(
     let Some(next) = starts else {
         return Ok(());
     };
-    match group_at(groups, next) {
-        Some(group) => start_group(change, number, &group),
-        None => Err(Fault::Store),
-    }
+    let group = group_at(groups, next).ok_or(Fault::Store)?;
+    start_group(change, number, &group)
 }
 
 /// Writes whether a rollout is paused, and starts a group of it.
