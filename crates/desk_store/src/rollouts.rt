@@ -14,7 +14,7 @@ ghost use Rattle.desk_records.specs.TargetRow.{has_word};
 ghost use Rattle.desk_store.specs.Counting.{AddsIn};
 ghost use Rattle.desk_store.specs.GroupPairs.{group_and_next};
 ghost use Rattle.desk_store.specs.Rows.{BreaksRule, HasBroken, IfStore, IsReadAs};
-ghost use Rattle.desk_store.specs.Changing.{FindsLedger, MakesLedger, StaysIn};
+ghost use Rattle.desk_store.specs.Changing.{FindsLedger, KeepsTables, MakesLedger, StaysIn};
 
 use crate::change::OpenChange;
 use crate::codes::{code_of_approval, flag_code};
@@ -115,6 +115,7 @@ impl<'a, S: Alter> OpenChange<'a, S> {
     /// The rollout of a number, without its members and groups. A row that breaks a column's rule is a failed store.
     pub fn read_rollout(&mut self, number: RolloutNo) -> Result<Option<StoredRollout>, Fault>
         ensures stays { StaysIn S.Store self.old self.new result }
+        ensures keeps { KeepsTables S.Store self.old self.new result }
         ensures reads { FindsLedger S.Store self.old self.new result (λ l found. found ≡ option_map stored_rollout (item_numbered l.records.rollouts number)) }
         ensures work { AddsIn 1 1 self.old self.new }
     {
