@@ -29,7 +29,7 @@ last_action_query tree = by (simple tree [] (col 1 0 ∷ [])) ((col 1 0, record 
 
 pub last_action_is : (s : Schema) (at tree : ℕ) → Stands s (codes "action") at (action_table tree) → Means s LAST_ACTION.now (Select (record { lets = []; body = last_action_query tree }) (codes "number" ∷ []))
 unfolding first combine named paging everything
-last_action_is s at tree = asks s at (queries refl (refl, refl, refl, refl) (refl, refl, refl) (refl, refl, refl, refl, refl) (tt, tt) tt (tt, tt) (λ s. refl) (refl, refl) (refl, refl, refl, refl))
+last_action_is s at tree = asks (action_table tree) s at (queries refl (refl, refl, refl, refl) (refl, refl, refl) (refl, refl, refl, refl, refl) (tt, tt) tt (tt, tt) (λ s. refl) (refl, refl) (refl, (refl, refl, refl)))
 
 abbrev pub action_names : List (List ℕ)
 action_names = codes "rollout" ∷ codes "place" ∷ codes "controller" ∷ codes "canceling" ∷ codes "outcome" ∷ codes "notes" ∷ codes "entries" ∷ []
@@ -39,7 +39,7 @@ action_columns = col 1 2 ∷ col 1 3 ∷ col 1 4 ∷ col 1 5 ∷ col 1 6 ∷ col
 
 pub get_action_is : (s : Schema) (at tree : ℕ) → Stands s (codes "action") at (action_table tree) → Means s GET_ACTION.now (Select (record { lets = []; body = simple tree (at_key 0 0 ∷ []) action_columns }) action_names)
 unfolding first combine named paging everything
-get_action_is s at tree = asks s at (queries refl (refl, refl, refl, refl) (refl, refl, refl) (refl, refl, refl, refl, refl) (tt, (tt, (tt, (tt, (tt, (tt, (tt, tt))))))) ((refl, λ cx how x y. refl), tt, tt) tt (λ s. refl) (refl, refl) (refl, refl, refl, refl))
+get_action_is s at tree = asks (action_table tree) s at (queries refl (refl, refl, refl, refl) (refl, refl, refl) (refl, refl, refl, refl, refl) (tt, (tt, (tt, (tt, (tt, (tt, (tt, tt))))))) ((refl, λ cx how x y. refl), tt, tt) tt (λ s. refl) (refl, refl) (refl, (refl, refl, refl)))
 
 abbrev pub listed_names : List (List ℕ)
 listed_names = codes "rollout" ∷ codes "place" ∷ codes "controller" ∷ codes "canceling" ∷ codes "outcome" ∷ codes "notes" ∷ codes "entries" ∷ codes "number" ∷ []
@@ -55,11 +55,11 @@ list_actions_query tree = by (simple tree of_rollout listed_columns) ((col 1 0, 
 
 pub list_actions_is : (s : Schema) (at tree : ℕ) → Stands s (codes "action") at (action_table tree) → Means s LIST_ACTIONS.now (Select (record { lets = []; body = list_actions_query tree }) listed_names)
 unfolding first combine named paging everything
-list_actions_is s at tree = asks s at (queries refl (refl, refl, refl, refl) (refl, refl, refl) (refl, refl, refl, refl, refl) (tt, (tt, (tt, (tt, (tt, (tt, (tt, (tt, tt)))))))) ((refl, λ cx how x y. refl), tt, tt) (tt, tt) (λ s. refl) (refl, refl) (refl, refl, refl, refl))
+list_actions_is s at tree = asks (action_table tree) s at (queries refl (refl, refl, refl, refl) (refl, refl, refl) (refl, refl, refl, refl, refl) (tt, (tt, (tt, (tt, (tt, (tt, (tt, (tt, tt)))))))) ((refl, λ cx how x y. refl), tt, tt) (tt, tt) (λ s. refl) (refl, refl) (refl, (refl, refl, refl)))
 
 pub count_actions_is : (s : Schema) (at tree : ℕ) → Stands s (codes "action") at (action_table tree) → Means s COUNT_ACTIONS.now (Select (record { lets = []; body = count_query tree }) (codes "count(*)" ∷ []))
 unfolding first combine named paging everything
-count_actions_is s at tree = asks s at (queries refl (refl, refl, refl, refl) (refl, refl, refl) (refl, refl, refl, refl, refl) (tt, tt) tt tt (λ s. refl) (refl, refl) (refl, refl, refl, refl))
+count_actions_is s at tree = asks (action_table tree) s at (queries refl (refl, refl, refl, refl) (refl, refl, refl) (refl, refl, refl, refl, refl) (tt, tt) tt tt (λ s. refl) (refl, refl) (refl, (refl, refl, refl)))
 
 abbrev pub of_actor : List Term
 of_actor = at_key 4 0 ∷ []
@@ -69,14 +69,14 @@ list_target_actions_query tree = by (simple tree of_actor listed_columns) ((col 
 
 pub list_target_actions_is : (s : Schema) (at tree : ℕ) → Stands s (codes "action") at (action_table tree) → Means s LIST_TARGET_ACTIONS.now (Select (record { lets = []; body = list_target_actions_query tree }) listed_names)
 unfolding first combine named paging everything
-list_target_actions_is s at tree = asks s at (queries refl (refl, refl, refl, refl) (refl, refl, refl) (refl, refl, refl, refl, refl) (tt, (tt, (tt, (tt, (tt, (tt, (tt, (tt, tt)))))))) ((refl, λ cx how x y. refl), tt, tt) (tt, tt) (λ s. refl) (refl, refl) (refl, refl, refl, refl))
+list_target_actions_is s at tree = asks (action_table tree) s at (queries refl (refl, refl, refl, refl) (refl, refl, refl) (refl, refl, refl, refl, refl) (tt, (tt, (tt, (tt, (tt, (tt, (tt, (tt, tt)))))))) ((refl, λ cx how x y. refl), tt, tt) (tt, tt) (λ s. refl) (refl, refl) (refl, (refl, refl, refl)))
 
 abbrev pub action_terms : List Term
 action_terms = col 0 0 ∷ lit Null ∷ col 0 1 ∷ col 0 2 ∷ col 0 3 ∷ lit (Int (pos 0)) ∷ lit (Int (pos 0)) ∷ lit (Int (pos 0)) ∷ lit (Int (pos 0)) ∷ []
 
 pub put_action_is : (s : Schema) (at tree : ℕ) → Stands s (codes "action") at (action_table tree) → Means s PUT_ACTION.now (Insert at (Values action_terms 9))
 unfolding first new_rows everything
-put_action_is s at tree = puts s at (record { parsed = _; columns = _; rows = _; read = refl; statement = refl; formats = refl; fits = λ s. refl })
+put_action_is s at tree = puts (action_table tree) s at (record { parsed = _; columns = _; rows = _; read = refl; statement = refl; formats = refl; fits = λ s. refl })
 
 abbrev pub action_values : List Term
 action_values = lit Null ∷ col 1 2 ∷ col 1 3 ∷ col 1 4 ∷ col 0 1 ∷ col 0 2 ∷ col 0 3 ∷ col 0 4 ∷ []
@@ -86,14 +86,14 @@ set_action_query tree = simple tree (at_key 0 0 ∷ []) (col 1 0 ∷ col 1 0 ∷
 
 pub set_action_is : (s : Schema) (at tree : ℕ) → Stands s (codes "action") at (action_table tree) → Means s SET_ACTION.now (Update at (record { lets = []; body = set_action_query tree }))
 unfolding first combine updated everything
-set_action_is s at tree = changes s at (updates refl (refl, refl) (tt, (tt, (tt, (tt, tt)))) ((refl, λ cx how x y. refl), tt, tt) (refl, refl, refl, refl))
+set_action_is s at tree = changes (action_table tree) s at (updates refl (refl, refl) (tt, (tt, (tt, (tt, tt)))) ((refl, λ cx how x y. refl), tt, tt) (refl, (refl, refl, refl)))
 
 abbrev pub feedback_terms : List Term
 feedback_terms = lit Null ∷ col 0 0 ∷ col 0 1 ∷ col 0 2 ∷ col 0 3 ∷ col 0 4 ∷ []
 
 pub put_feedback_is : (s : Schema) (at tree : ℕ) → Stands s (codes "feedback") at (feedback_table tree) → Means s PUT_FEEDBACK.now (Insert at (Values feedback_terms 6))
 unfolding first new_rows everything
-put_feedback_is s at tree = puts s at (record { parsed = _; columns = _; rows = _; read = refl; statement = refl; formats = refl; fits = λ s. refl })
+put_feedback_is s at tree = puts (feedback_table tree) s at (record { parsed = _; columns = _; rows = _; read = refl; statement = refl; formats = refl; fits = λ s. refl })
 
 abbrev pub entry_names : List (List ℕ)
 entry_names = codes "kind" ∷ codes "word" ∷ codes "details" ∷ codes "sequence" ∷ []
@@ -109,14 +109,14 @@ list_entries_query tree = by (simple tree of_action entry_columns) ((col 1 2, re
 
 pub list_entries_is : (s : Schema) (at tree : ℕ) → Stands s (codes "feedback") at (feedback_table tree) → Means s LIST_ENTRIES.now (Select (record { lets = []; body = list_entries_query tree }) entry_names)
 unfolding first combine named paging everything
-list_entries_is s at tree = asks s at (queries refl (refl, refl, refl, refl) (refl, refl, refl) (refl, refl, refl, refl, refl) (tt, (tt, (tt, (tt, tt)))) ((refl, λ cx how x y. refl), tt, tt) (tt, tt) (λ s. refl) (refl, refl) (refl, refl, refl, refl))
+list_entries_is s at tree = asks (feedback_table tree) s at (queries refl (refl, refl, refl, refl) (refl, refl, refl) (refl, refl, refl, refl, refl) (tt, (tt, (tt, (tt, tt)))) ((refl, λ cx how x y. refl), tt, tt) (tt, tt) (λ s. refl) (refl, refl) (refl, (refl, refl, refl)))
 
 abbrev pub number_terms : List Term
 number_terms = lit Null ∷ col 0 0 ∷ col 0 1 ∷ col 0 2 ∷ col 0 3 ∷ []
 
 pub put_number_is : (s : Schema) (at tree : ℕ) → Stands s (codes "feedback_number") at (number_table tree) → Means s PUT_NUMBER.now (Insert at (Values number_terms 5))
 unfolding first new_rows everything
-put_number_is s at tree = puts s at (record { parsed = _; columns = _; rows = _; read = refl; statement = refl; formats = refl; fits = λ s. refl })
+put_number_is s at tree = puts (number_table tree) s at (record { parsed = _; columns = _; rows = _; read = refl; statement = refl; formats = refl; fits = λ s. refl })
 
 abbrev pub last_number_names : List (List ℕ)
 last_number_names = codes "sequence" ∷ codes "number" ∷ codes "place" ∷ []
@@ -129,7 +129,7 @@ last_number_query tree = by (simple tree of_action last_number_columns) ((col 1 
 
 pub last_number_is : (s : Schema) (at tree : ℕ) → Stands s (codes "feedback_number") at (number_table tree) → Means s LAST_NUMBER.now (Select (record { lets = []; body = last_number_query tree }) last_number_names)
 unfolding first combine named paging everything
-last_number_is s at tree = asks s at (queries refl (refl, refl, refl, refl) (refl, refl, refl) (refl, refl, refl, refl, refl) (tt, (tt, (tt, tt))) ((refl, λ cx how x y. refl), tt, tt) (tt, tt) (λ s. refl) (refl, refl) (refl, refl, refl, refl))
+last_number_is s at tree = asks (number_table tree) s at (queries refl (refl, refl, refl, refl) (refl, refl, refl) (refl, refl, refl, refl, refl) (tt, (tt, (tt, tt))) ((refl, λ cx how x y. refl), tt, tt) (tt, tt) (λ s. refl) (refl, refl) (refl, (refl, refl, refl)))
 
 abbrev pub number_names : List (List ℕ)
 number_names = codes "sequence" ∷ codes "number" ∷ []
@@ -142,7 +142,7 @@ list_numbers_query tree = by (simple tree of_action number_columns) ((col 1 2, r
 
 pub list_numbers_is : (s : Schema) (at tree : ℕ) → Stands s (codes "feedback_number") at (number_table tree) → Means s LIST_NUMBERS.now (Select (record { lets = []; body = list_numbers_query tree }) number_names)
 unfolding first combine named paging everything
-list_numbers_is s at tree = asks s at (queries refl (refl, refl, refl, refl) (refl, refl, refl) (refl, refl, refl, refl, refl) (tt, (tt, tt)) ((refl, λ cx how x y. refl), tt, tt) (tt, tt) (λ s. refl) (refl, refl) (refl, refl, refl, refl))
+list_numbers_is s at tree = asks (number_table tree) s at (queries refl (refl, refl, refl, refl) (refl, refl, refl) (refl, refl, refl, refl, refl) (tt, (tt, tt)) ((refl, λ cx how x y. refl), tt, tt) (tt, tt) (λ s. refl) (refl, refl) (refl, (refl, refl, refl)))
 
 abbrev pub of_controller : List Term
 of_controller = at_key 1 0 ∷ []
@@ -152,7 +152,7 @@ offer_columns = col 1 2 ∷ col 1 3 ∷ []
 
 pub get_offer_is : (s : Schema) (at tree : ℕ) → Stands s (codes "offer") at (offer_table tree) → Means s GET_OFFER.now (Select (record { lets = []; body = simple tree of_controller offer_columns }) (codes "action" ∷ codes "kind" ∷ []))
 unfolding first combine named paging everything
-get_offer_is s at tree = asks s at (queries refl (refl, refl, refl, refl) (refl, refl, refl) (refl, refl, refl, refl, refl) (tt, (tt, tt)) ((refl, λ cx how x y. refl), tt, tt) tt (λ s. refl) (refl, refl) (refl, refl, refl, refl))
+get_offer_is s at tree = asks (offer_table tree) s at (queries refl (refl, refl, refl, refl) (refl, refl, refl) (refl, refl, refl, refl, refl) (tt, (tt, tt)) ((refl, λ cx how x y. refl), tt, tt) tt (λ s. refl) (refl, refl) (refl, (refl, refl, refl)))
 
 abbrev pub owned_names : List (List ℕ)
 owned_names = codes "action" ∷ codes "kind" ∷ codes "controller" ∷ []
@@ -165,7 +165,7 @@ offers_query tree = simple tree [] owned_columns
 
 pub list_offers_is : (s : Schema) (at tree : ℕ) → Stands s (codes "offer") at (offer_table tree) → Means s LIST_OFFERS.now (Select (record { lets = []; body = offers_query tree }) owned_names)
 unfolding first combine named paging everything
-list_offers_is s at tree = asks s at (queries refl (refl, refl, refl, refl) (refl, refl, refl) (refl, refl, refl, refl, refl) (tt, (tt, (tt, tt))) tt tt (λ s. refl) (refl, refl) (refl, refl, refl, refl))
+list_offers_is s at tree = asks (offer_table tree) s at (queries refl (refl, refl, refl, refl) (refl, refl, refl) (refl, refl, refl, refl, refl) (tt, (tt, (tt, tt))) tt tt (λ s. refl) (refl, refl) (refl, (refl, refl, refl)))
 
 abbrev pub offer_values : List Term
 offer_values = col 1 1 ∷ col 0 1 ∷ col 0 2 ∷ []
@@ -175,14 +175,14 @@ set_offer_query tree = simple tree of_controller (col 1 0 ∷ col 1 0 ∷ offer_
 
 pub set_offer_is : (s : Schema) (at tree : ℕ) → Stands s (codes "offer") at (offer_table tree) → Means s SET_OFFER.now (Update at (record { lets = []; body = set_offer_query tree }))
 unfolding first combine updated everything
-set_offer_is s at tree = changes s at (updates refl (refl, refl) (tt, (tt, tt)) ((refl, λ cx how x y. refl), tt, tt) (refl, refl, refl, refl))
+set_offer_is s at tree = changes (offer_table tree) s at (updates refl (refl, refl) (tt, (tt, tt)) ((refl, λ cx how x y. refl), tt, tt) (refl, (refl, refl, refl)))
 
 abbrev pub drop_offer_query : ℕ → Query
 drop_offer_query tree = simple tree of_controller (col 1 0 ∷ [])
 
 pub drop_offer_is : (s : Schema) (at tree : ℕ) → Stands s (codes "offer") at (offer_table tree) → Means s DROP_OFFER.now (Delete at (record { lets = []; body = drop_offer_query tree }))
 unfolding first combine deleted everything
-drop_offer_is s at tree = drops s at (removes refl (refl, refl) ((refl, λ cx how x y. refl), tt, tt) (refl, refl, refl, refl))
+drop_offer_is s at tree = drops (offer_table tree) s at (removes refl (refl, refl) ((refl, λ cx how x y. refl), tt, tt) (refl, (refl, refl, refl)))
 
 abbrev pub next_group : List Term
 next_group = is_equal (col 2 1) (col 1 2) ∷ is_most (col 2 3) (col 1 3) ∷ is_least (col 2 4) (col 1 3) ∷ is_equal (col 2 5) (lit (Int (pos 1))) ∷ []

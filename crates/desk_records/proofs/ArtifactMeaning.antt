@@ -25,14 +25,14 @@ same_file = at_key 2 0 ∷ at_key 3 1 ∷ []
 
 pub find_artifact_is : (s : Schema) (at tree : ℕ) → Stands s (codes "artifact") at (artifact_table tree) → Means s FIND_ARTIFACT.now (Select (record { lets = []; body = simple tree same_file (col 1 0 ∷ []) }) (codes "number" ∷ []))
 unfolding first combine named paging everything
-find_artifact_is s at tree = asks s at (queries refl (refl, refl, refl, refl) (refl, refl, refl) (refl, refl, refl, refl, refl) (tt, tt) ((refl, λ cx how x y. refl), ((refl, λ cx how x y. refl), tt, tt), ((refl, λ cx how x y. refl), tt, tt)) tt (λ s. refl) (refl, refl) (refl, refl, refl, refl))
+find_artifact_is s at tree = asks (artifact_table tree) s at (queries refl (refl, refl, refl, refl) (refl, refl, refl) (refl, refl, refl, refl, refl) (tt, tt) ((refl, λ cx how x y. refl), ((refl, λ cx how x y. refl), tt, tt), ((refl, λ cx how x y. refl), tt, tt)) tt (λ s. refl) (refl, refl) (refl, (refl, refl, refl)))
 
 abbrev pub last_artifact_query : ℕ → Query
 last_artifact_query tree = by (simple tree [] (col 1 0 ∷ [])) ((col 1 0, record { descending = true; collation = Binary }) ∷ []) (lit (Int (pos 1))) (lit (Int (pos 0)))
 
 pub last_artifact_is : (s : Schema) (at tree : ℕ) → Stands s (codes "artifact") at (artifact_table tree) → Means s LAST_ARTIFACT.now (Select (record { lets = []; body = last_artifact_query tree }) (codes "number" ∷ []))
 unfolding first combine named paging everything
-last_artifact_is s at tree = asks s at (queries refl (refl, refl, refl, refl) (refl, refl, refl) (refl, refl, refl, refl, refl) (tt, tt) tt (tt, tt) (λ s. refl) (refl, refl) (refl, refl, refl, refl))
+last_artifact_is s at tree = asks (artifact_table tree) s at (queries refl (refl, refl, refl, refl) (refl, refl, refl) (refl, refl, refl, refl, refl) (tt, tt) tt (tt, tt) (λ s. refl) (refl, refl) (refl, (refl, refl, refl)))
 
 abbrev pub told_names : List (List ℕ)
 told_names = codes "module" ∷ codes "filename" ∷ codes "size" ∷ codes "sha256" ∷ []
@@ -42,7 +42,7 @@ told_columns = col 1 2 ∷ col 1 3 ∷ col 1 4 ∷ col 1 5 ∷ []
 
 pub get_artifact_is : (s : Schema) (at tree : ℕ) → Stands s (codes "artifact") at (artifact_table tree) → Means s GET_ARTIFACT.now (Select (record { lets = []; body = simple tree (at_key 0 0 ∷ []) told_columns }) told_names)
 unfolding first combine named paging everything
-get_artifact_is s at tree = asks s at (queries refl (refl, refl, refl, refl) (refl, refl, refl) (refl, refl, refl, refl, refl) (tt, (tt, (tt, (tt, tt)))) ((refl, λ cx how x y. refl), tt, tt) tt (λ s. refl) (refl, refl) (refl, refl, refl, refl))
+get_artifact_is s at tree = asks (artifact_table tree) s at (queries refl (refl, refl, refl, refl) (refl, refl, refl) (refl, refl, refl, refl, refl) (tt, (tt, (tt, (tt, tt)))) ((refl, λ cx how x y. refl), tt, tt) tt (λ s. refl) (refl, refl) (refl, (refl, refl, refl)))
 
 abbrev pub shown_names : List (List ℕ)
 shown_names = codes "number" ∷ codes "filename" ∷ codes "size" ∷ codes "sha256" ∷ []
@@ -55,7 +55,7 @@ artifacts_query tree = by (simple tree (at_key 2 0 ∷ []) shown_columns) ((col 
 
 pub list_artifacts_is : (s : Schema) (at tree : ℕ) → Stands s (codes "artifact") at (artifact_table tree) → Means s LIST_ARTIFACTS.now (Select (record { lets = []; body = artifacts_query tree }) shown_names)
 unfolding first combine named paging everything
-list_artifacts_is s at tree = asks s at (queries refl (refl, refl, refl, refl) (refl, refl, refl) (refl, refl, refl, refl, refl) (tt, (tt, (tt, (tt, tt)))) ((refl, λ cx how x y. refl), tt, tt) (tt, tt) (λ s. refl) (refl, refl) (refl, refl, refl, refl))
+list_artifacts_is s at tree = asks (artifact_table tree) s at (queries refl (refl, refl, refl, refl) (refl, refl, refl) (refl, refl, refl, refl, refl) (tt, (tt, (tt, (tt, tt)))) ((refl, λ cx how x y. refl), tt, tt) (tt, tt) (λ s. refl) (refl, refl) (refl, (refl, refl, refl)))
 
 abbrev pub all_names : List (List ℕ)
 all_names = codes "module" ∷ codes "filename" ∷ codes "size" ∷ codes "sha256" ∷ codes "number" ∷ []
@@ -68,25 +68,25 @@ all_artifacts_query tree = by (simple tree [] all_columns) ((col 1 0, record { d
 
 pub list_all_artifacts_is : (s : Schema) (at tree : ℕ) → Stands s (codes "artifact") at (artifact_table tree) → Means s LIST_ALL_ARTIFACTS.now (Select (record { lets = []; body = all_artifacts_query tree }) all_names)
 unfolding first combine named paging everything
-list_all_artifacts_is s at tree = asks s at (queries refl (refl, refl, refl, refl) (refl, refl, refl) (refl, refl, refl, refl, refl) (tt, (tt, (tt, (tt, (tt, tt))))) tt (tt, tt) (λ s. refl) (refl, refl) (refl, refl, refl, refl))
+list_all_artifacts_is s at tree = asks (artifact_table tree) s at (queries refl (refl, refl, refl, refl) (refl, refl, refl) (refl, refl, refl, refl, refl) (tt, (tt, (tt, (tt, (tt, tt))))) tt (tt, tt) (λ s. refl) (refl, refl) (refl, (refl, refl, refl)))
 
 abbrev pub at_piece : List Term
 at_piece = at_key 1 0 ∷ at_key 2 1 ∷ []
 
 pub get_piece_is : (s : Schema) (at tree : ℕ) → Stands s (codes "piece") at (piece_table tree) → Means s GET_PIECE.now (Select (record { lets = []; body = simple tree at_piece (col 1 3 ∷ []) }) (codes "bytes" ∷ []))
 unfolding first combine named paging everything
-get_piece_is s at tree = asks s at (queries refl (refl, refl, refl, refl) (refl, refl, refl) (refl, refl, refl, refl, refl) (tt, tt) ((refl, λ cx how x y. refl), ((refl, λ cx how x y. refl), tt, tt), ((refl, λ cx how x y. refl), tt, tt)) tt (λ s. refl) (refl, refl) (refl, refl, refl, refl))
+get_piece_is s at tree = asks (piece_table tree) s at (queries refl (refl, refl, refl, refl) (refl, refl, refl) (refl, refl, refl, refl, refl) (tt, tt) ((refl, λ cx how x y. refl), ((refl, λ cx how x y. refl), tt, tt), ((refl, λ cx how x y. refl), tt, tt)) tt (λ s. refl) (refl, refl) (refl, (refl, refl, refl)))
 
 abbrev pub artifact_terms : List Term
 artifact_terms = col 0 0 ∷ lit Null ∷ col 0 1 ∷ col 0 2 ∷ col 0 3 ∷ col 0 4 ∷ []
 
 pub put_artifact_is : (s : Schema) (at tree : ℕ) → Stands s (codes "artifact") at (artifact_table tree) → Means s PUT_ARTIFACT.now (Insert at (Values artifact_terms 6))
 unfolding first new_rows everything
-put_artifact_is s at tree = puts s at (record { parsed = _; columns = _; rows = _; read = refl; statement = refl; formats = refl; fits = λ s. refl })
+put_artifact_is s at tree = puts (artifact_table tree) s at (record { parsed = _; columns = _; rows = _; read = refl; statement = refl; formats = refl; fits = λ s. refl })
 
 abbrev pub piece_terms : List Term
 piece_terms = lit Null ∷ col 0 0 ∷ col 0 1 ∷ col 0 2 ∷ []
 
 pub put_piece_is : (s : Schema) (at tree : ℕ) → Stands s (codes "piece") at (piece_table tree) → Means s PUT_PIECE.now (Insert at (Values piece_terms 4))
 unfolding first new_rows everything
-put_piece_is s at tree = puts s at (record { parsed = _; columns = _; rows = _; read = refl; statement = refl; formats = refl; fits = λ s. refl })
+put_piece_is s at tree = puts (piece_table tree) s at (record { parsed = _; columns = _; rows = _; read = refl; statement = refl; formats = refl; fits = λ s. refl })

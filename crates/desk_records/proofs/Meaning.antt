@@ -27,7 +27,7 @@ desk_terms = lit (Int (pos 1)) ∷ lit Null ∷ lit (Text (codes "fwdesk")) ∷ 
 
 pub put_desk_is : (s : Schema) (at tree : ℕ) → Stands s (codes "desk") at (desk_table tree) → Means s PUT_DESK.now (Insert at (Values desk_terms 5))
 unfolding first new_rows everything
-put_desk_is s at tree = puts s at (record { parsed = _; columns = _; rows = _; read = refl; statement = refl; formats = refl; fits = λ s. refl })
+put_desk_is s at tree = puts (desk_table tree) s at (record { parsed = _; columns = _; rows = _; read = refl; statement = refl; formats = refl; fits = λ s. refl })
 
 abbrev pub version_values : List Term
 version_values = lit Null ∷ col 1 2 ∷ lit (Int (pos 3)) ∷ col 1 4 ∷ []
@@ -37,39 +37,39 @@ set_version_query tree = simple tree (is_equal (col 1 0) (lit (Int (pos 1))) ∷
 
 pub set_version_is : (s : Schema) (at tree : ℕ) → Stands s (codes "desk") at (desk_table tree) → Means s SET_VERSION.now (Update at (record { lets = []; body = set_version_query tree }))
 unfolding first combine updated everything
-set_version_is s at tree = changes s at (updates refl (refl, refl) (tt, tt) ((refl, λ cx how x y. refl), tt, tt) (refl, refl, refl, refl))
+set_version_is s at tree = changes (desk_table tree) s at (updates refl (refl, refl) (tt, tt) ((refl, λ cx how x y. refl), tt, tt) (refl, (refl, refl, refl)))
 
 abbrev pub desk_query : ℕ → Query
 desk_query tree = simple tree (is_equal (col 1 0) (lit (Int (pos 1))) ∷ []) (col 1 2 ∷ col 1 3 ∷ col 1 4 ∷ [])
 
 pub get_desk_is : (s : Schema) (at tree : ℕ) → Stands s (codes "desk") at (desk_table tree) → Means s GET_DESK.now (Select (record { lets = []; body = desk_query tree }) (codes "format" ∷ codes "version" ∷ codes "approval" ∷ []))
 unfolding first combine named paging everything
-get_desk_is s at tree = asks s at (queries refl (refl, refl, refl, refl) (refl, refl, refl) (refl, refl, refl, refl, refl) (tt, (tt, (tt, tt))) ((refl, λ cx how x y. refl), tt, tt) tt (λ s. refl) (refl, refl) (refl, refl, refl, refl))
+get_desk_is s at tree = asks (desk_table tree) s at (queries refl (refl, refl, refl, refl) (refl, refl, refl) (refl, refl, refl, refl, refl) (tt, (tt, (tt, tt))) ((refl, λ cx how x y. refl), tt, tt) tt (λ s. refl) (refl, refl) (refl, (refl, refl, refl)))
 
 abbrev pub same_label : List Term
 same_label = at_key 2 0 ∷ at_key 3 1 ∷ at_key 4 2 ∷ []
 
 pub find_module_is : (s : Schema) (at tree : ℕ) → Stands s (codes "module") at (module_table tree) → Means s FIND_MODULE.now (Select (record { lets = []; body = simple tree same_label (col 1 0 ∷ []) }) (codes "number" ∷ []))
 unfolding first combine named paging everything
-find_module_is s at tree = asks s at (queries refl (refl, refl, refl, refl) (refl, refl, refl) (refl, refl, refl, refl, refl) (tt, tt) ((refl, λ cx how x y. refl), ((refl, λ cx how x y. refl), ((refl, λ cx how x y. refl), tt, tt), ((refl, λ cx how x y. refl), tt, tt)), ((refl, λ cx how x y. refl), tt, tt)) tt (λ s. refl) (refl, refl) (refl, refl, refl, refl))
+find_module_is s at tree = asks (module_table tree) s at (queries refl (refl, refl, refl, refl) (refl, refl, refl) (refl, refl, refl, refl, refl) (tt, tt) ((refl, λ cx how x y. refl), ((refl, λ cx how x y. refl), ((refl, λ cx how x y. refl), tt, tt), ((refl, λ cx how x y. refl), tt, tt)), ((refl, λ cx how x y. refl), tt, tt)) tt (λ s. refl) (refl, refl) (refl, (refl, refl, refl)))
 
 abbrev pub last_module_query : ℕ → Query
 last_module_query tree = by (simple tree [] (col 1 0 ∷ [])) ((col 1 0, record { descending = true; collation = Binary }) ∷ []) (lit (Int (pos 1))) (lit (Int (pos 0)))
 
 pub last_module_is : (s : Schema) (at tree : ℕ) → Stands s (codes "module") at (module_table tree) → Means s LAST_MODULE.now (Select (record { lets = []; body = last_module_query tree }) (codes "number" ∷ []))
 unfolding first combine named paging everything
-last_module_is s at tree = asks s at (queries refl (refl, refl, refl, refl) (refl, refl, refl) (refl, refl, refl, refl, refl) (tt, tt) tt (tt, tt) (λ s. refl) (refl, refl) (refl, refl, refl, refl))
+last_module_is s at tree = asks (module_table tree) s at (queries refl (refl, refl, refl, refl) (refl, refl, refl) (refl, refl, refl, refl, refl) (tt, tt) tt (tt, tt) (λ s. refl) (refl, refl) (refl, (refl, refl, refl)))
 
 abbrev pub label_columns : List Term
 label_columns = col 1 2 ∷ col 1 3 ∷ col 1 4 ∷ []
 
 pub get_module_is : (s : Schema) (at tree : ℕ) → Stands s (codes "module") at (module_table tree) → Means s GET_MODULE.now (Select (record { lets = []; body = simple tree (at_key 0 0 ∷ []) label_columns }) (codes "name" ∷ codes "type" ∷ codes "version" ∷ []))
 unfolding first combine named paging everything
-get_module_is s at tree = asks s at (queries refl (refl, refl, refl, refl) (refl, refl, refl) (refl, refl, refl, refl, refl) (tt, (tt, (tt, tt))) ((refl, λ cx how x y. refl), tt, tt) tt (λ s. refl) (refl, refl) (refl, refl, refl, refl))
+get_module_is s at tree = asks (module_table tree) s at (queries refl (refl, refl, refl, refl) (refl, refl, refl) (refl, refl, refl, refl, refl) (tt, (tt, (tt, tt))) ((refl, λ cx how x y. refl), tt, tt) tt (λ s. refl) (refl, refl) (refl, (refl, refl, refl)))
 
 abbrev pub module_terms : List Term
 module_terms = col 0 0 ∷ lit Null ∷ col 0 1 ∷ col 0 2 ∷ col 0 3 ∷ []
 
 pub put_module_is : (s : Schema) (at tree : ℕ) → Stands s (codes "module") at (module_table tree) → Means s PUT_MODULE.now (Insert at (Values module_terms 5))
 unfolding first new_rows everything
-put_module_is s at tree = puts s at (record { parsed = _; columns = _; rows = _; read = refl; statement = refl; formats = refl; fits = λ s. refl })
+put_module_is s at tree = puts (module_table tree) s at (record { parsed = _; columns = _; rows = _; read = refl; statement = refl; formats = refl; fits = λ s. refl })

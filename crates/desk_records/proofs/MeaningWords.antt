@@ -25,7 +25,7 @@ means_of s sql c is none timeless = record { is = rw is; plain = rw is (none, ti
 
 -- ---- what a text means wherever its table stands, from what computes of it
 
-module _ {text : List ℕ} {name : Name} {table : Table} (s : Schema) (at : ℕ) where
+module _ {text : List ℕ} {name : Name} (table : Table) (s : Schema) (at : ℕ) where
   pub asks : {body : Query} {columns : List Name} → Queries text name table body columns → Stands s name at table → Means s text (Select (record { lets = []; body = body }) columns)
   asks reads stands = means_of s text _ (queries_known _ _ _ _ _ reads s at stands) refl refl
 

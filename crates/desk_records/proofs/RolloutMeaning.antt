@@ -28,14 +28,14 @@ same_name = at_key 2 0 ∷ []
 
 pub find_rollout_is : (s : Schema) (at tree : ℕ) → Stands s (codes "rollout") at (rollout_table tree) → Means s FIND_ROLLOUT.now (Select (record { lets = []; body = simple tree same_name (col 1 0 ∷ []) }) (codes "number" ∷ []))
 unfolding first combine named paging everything
-find_rollout_is s at tree = asks s at (queries refl (refl, refl, refl, refl) (refl, refl, refl) (refl, refl, refl, refl, refl) (tt, tt) ((refl, λ cx how x y. refl), tt, tt) tt (λ s. refl) (refl, refl) (refl, refl, refl, refl))
+find_rollout_is s at tree = asks (rollout_table tree) s at (queries refl (refl, refl, refl, refl) (refl, refl, refl) (refl, refl, refl, refl, refl) (tt, tt) ((refl, λ cx how x y. refl), tt, tt) tt (λ s. refl) (refl, refl) (refl, (refl, refl, refl)))
 
 abbrev pub last_rollout_query : ℕ → Query
 last_rollout_query tree = by (simple tree [] (col 1 0 ∷ [])) ((col 1 0, record { descending = true; collation = Binary }) ∷ []) (lit (Int (pos 1))) (lit (Int (pos 0)))
 
 pub last_rollout_is : (s : Schema) (at tree : ℕ) → Stands s (codes "rollout") at (rollout_table tree) → Means s LAST_ROLLOUT.now (Select (record { lets = []; body = last_rollout_query tree }) (codes "number" ∷ []))
 unfolding first combine named paging everything
-last_rollout_is s at tree = asks s at (queries refl (refl, refl, refl, refl) (refl, refl, refl) (refl, refl, refl, refl, refl) (tt, tt) tt (tt, tt) (λ s. refl) (refl, refl) (refl, refl, refl, refl))
+last_rollout_is s at tree = asks (rollout_table tree) s at (queries refl (refl, refl, refl, refl) (refl, refl, refl) (refl, refl, refl, refl, refl) (tt, tt) tt (tt, tt) (λ s. refl) (refl, refl) (refl, (refl, refl, refl)))
 
 abbrev pub rollout_names : List (List ℕ)
 rollout_names = codes "name" ∷ codes "dset" ∷ codes "filter_text" ∷ codes "groups" ∷ codes "success" ∷ codes "error" ∷ codes "approval" ∷ codes "started" ∷ codes "paused" ∷ []
@@ -45,14 +45,14 @@ rollout_columns = col 1 2 ∷ col 1 3 ∷ col 1 4 ∷ col 1 5 ∷ col 1 6 ∷ co
 
 pub get_rollout_is : (s : Schema) (at tree : ℕ) → Stands s (codes "rollout") at (rollout_table tree) → Means s GET_ROLLOUT.now (Select (record { lets = []; body = simple tree (at_key 0 0 ∷ []) rollout_columns }) rollout_names)
 unfolding first combine named paging everything
-get_rollout_is s at tree = asks s at (queries refl (refl, refl, refl, refl) (refl, refl, refl) (refl, refl, refl, refl, refl) (tt, (tt, (tt, (tt, (tt, (tt, (tt, (tt, (tt, tt))))))))) ((refl, λ cx how x y. refl), tt, tt) tt (λ s. refl) (refl, refl) (refl, refl, refl, refl))
+get_rollout_is s at tree = asks (rollout_table tree) s at (queries refl (refl, refl, refl, refl) (refl, refl, refl) (refl, refl, refl, refl, refl) (tt, (tt, (tt, (tt, (tt, (tt, (tt, (tt, (tt, tt))))))))) ((refl, λ cx how x y. refl), tt, tt) tt (λ s. refl) (refl, refl) (refl, (refl, refl, refl)))
 
 abbrev pub list_rollouts_query : ℕ → Query
 list_rollouts_query tree = by (simple tree [] rollout_columns) ((col 1 0, record { descending = false; collation = Binary }) ∷ []) (col 0 0) (col 0 1)
 
 pub list_rollouts_is : (s : Schema) (at tree : ℕ) → Stands s (codes "rollout") at (rollout_table tree) → Means s LIST_ROLLOUTS.now (Select (record { lets = []; body = list_rollouts_query tree }) rollout_names)
 unfolding first combine named paging everything
-list_rollouts_is s at tree = asks s at (queries refl (refl, refl, refl, refl) (refl, refl, refl) (refl, refl, refl, refl, refl) (tt, (tt, (tt, (tt, (tt, (tt, (tt, (tt, (tt, tt))))))))) tt (tt, tt) (λ s. refl) (refl, refl) (refl, refl, refl, refl))
+list_rollouts_is s at tree = asks (rollout_table tree) s at (queries refl (refl, refl, refl, refl) (refl, refl, refl) (refl, refl, refl, refl, refl) (tt, (tt, (tt, (tt, (tt, (tt, (tt, (tt, (tt, tt))))))))) tt (tt, tt) (λ s. refl) (refl, refl) (refl, (refl, refl, refl)))
 
 abbrev pub after_place : List Term
 after_place = at_key 1 0 ∷ past 2 1 ∷ []
@@ -65,7 +65,7 @@ list_members_query tree = by (simple tree after_place member_columns) ((col 1 2,
 
 pub list_members_is : (s : Schema) (at tree : ℕ) → Stands s (codes "member") at (member_table tree) → Means s LIST_MEMBERS.now (Select (record { lets = []; body = list_members_query tree }) (codes "controller" ∷ []))
 unfolding first combine named paging everything
-list_members_is s at tree = asks s at (queries refl (refl, refl, refl, refl) (refl, refl, refl) (refl, refl, refl, refl, refl) (tt, tt) ((refl, λ cx how x y. refl), ((refl, λ cx how x y. refl), tt, tt), ((refl, λ cx how x y. refl), tt, tt)) (tt, tt) (λ s. refl) (refl, refl) (refl, refl, refl, refl))
+list_members_is s at tree = asks (member_table tree) s at (queries refl (refl, refl, refl, refl) (refl, refl, refl) (refl, refl, refl, refl, refl) (tt, tt) ((refl, λ cx how x y. refl), ((refl, λ cx how x y. refl), tt, tt), ((refl, λ cx how x y. refl), tt, tt)) (tt, tt) (λ s. refl) (refl, refl) (refl, (refl, refl, refl)))
 
 abbrev pub placed_names : List (List ℕ)
 placed_names = codes "controller" ∷ codes "place" ∷ []
@@ -81,11 +81,11 @@ places_query tree = by (simple tree of_rollout placed_columns) ((col 1 2, record
 
 pub list_places_is : (s : Schema) (at tree : ℕ) → Stands s (codes "member") at (member_table tree) → Means s LIST_PLACES.now (Select (record { lets = []; body = places_query tree }) placed_names)
 unfolding first combine named paging everything
-list_places_is s at tree = asks s at (queries refl (refl, refl, refl, refl) (refl, refl, refl) (refl, refl, refl, refl, refl) (tt, (tt, tt)) ((refl, λ cx how x y. refl), tt, tt) (tt, tt) (λ s. refl) (refl, refl) (refl, refl, refl, refl))
+list_places_is s at tree = asks (member_table tree) s at (queries refl (refl, refl, refl, refl) (refl, refl, refl) (refl, refl, refl, refl, refl) (tt, (tt, tt)) ((refl, λ cx how x y. refl), tt, tt) (tt, tt) (λ s. refl) (refl, refl) (refl, (refl, refl, refl)))
 
 pub count_members_is : (s : Schema) (at tree : ℕ) → Stands s (codes "member") at (member_table tree) → Means s COUNT_MEMBERS.now (Select (record { lets = []; body = count_query tree }) (codes "count(*)" ∷ []))
 unfolding first combine named paging everything
-count_members_is s at tree = asks s at (queries refl (refl, refl, refl, refl) (refl, refl, refl) (refl, refl, refl, refl, refl) (tt, tt) tt tt (λ s. refl) (refl, refl) (refl, refl, refl, refl))
+count_members_is s at tree = asks (member_table tree) s at (queries refl (refl, refl, refl, refl) (refl, refl, refl) (refl, refl, refl, refl, refl) (tt, tt) tt tt (λ s. refl) (refl, refl) (refl, (refl, refl, refl)))
 
 abbrev pub group_names : List (List ℕ)
 group_names = codes "number" ∷ codes "first_place" ∷ codes "last_place" ∷ codes "started" ∷ codes "ok" ∷ codes "bad" ∷ codes "gone" ∷ []
@@ -98,11 +98,11 @@ list_groups_query tree = by (simple tree of_rollout group_columns) ((col 1 2, re
 
 pub list_groups_is : (s : Schema) (at tree : ℕ) → Stands s (codes "rollout_group") at (group_table tree) → Means s LIST_GROUPS.now (Select (record { lets = []; body = list_groups_query tree }) group_names)
 unfolding first combine named paging everything
-list_groups_is s at tree = asks s at (queries refl (refl, refl, refl, refl) (refl, refl, refl) (refl, refl, refl, refl, refl) (tt, (tt, (tt, (tt, (tt, (tt, (tt, tt))))))) ((refl, λ cx how x y. refl), tt, tt) (tt, tt) (λ s. refl) (refl, refl) (refl, refl, refl, refl))
+list_groups_is s at tree = asks (group_table tree) s at (queries refl (refl, refl, refl, refl) (refl, refl, refl) (refl, refl, refl, refl, refl) (tt, (tt, (tt, (tt, (tt, (tt, (tt, tt))))))) ((refl, λ cx how x y. refl), tt, tt) (tt, tt) (λ s. refl) (refl, refl) (refl, (refl, refl, refl)))
 
 pub count_groups_is : (s : Schema) (at tree : ℕ) → Stands s (codes "rollout_group") at (group_table tree) → Means s COUNT_GROUPS.now (Select (record { lets = []; body = count_query tree }) (codes "count(*)" ∷ []))
 unfolding first combine named paging everything
-count_groups_is s at tree = asks s at (queries refl (refl, refl, refl, refl) (refl, refl, refl) (refl, refl, refl, refl, refl) (tt, tt) tt tt (λ s. refl) (refl, refl) (refl, refl, refl, refl))
+count_groups_is s at tree = asks (group_table tree) s at (queries refl (refl, refl, refl, refl) (refl, refl, refl) (refl, refl, refl, refl, refl) (tt, tt) tt tt (λ s. refl) (refl, refl) (refl, (refl, refl, refl)))
 
 abbrev pub of_group : List Term
 of_group = at_key 1 0 ∷ at_key 2 1 ∷ []
@@ -112,7 +112,7 @@ get_group_query tree = by (simple tree of_group group_columns) ((col 1 2, record
 
 pub get_group_is : (s : Schema) (at tree : ℕ) → Stands s (codes "rollout_group") at (group_table tree) → Means s GET_GROUP.now (Select (record { lets = []; body = get_group_query tree }) group_names)
 unfolding first combine named paging everything
-get_group_is s at tree = asks s at (queries refl (refl, refl, refl, refl) (refl, refl, refl) (refl, refl, refl, refl, refl) (tt, (tt, (tt, (tt, (tt, (tt, (tt, tt))))))) ((refl, λ cx how x y. refl), ((refl, λ cx how x y. refl), tt, tt), ((refl, λ cx how x y. refl), tt, tt)) (tt, tt) (λ s. refl) (refl, refl) (refl, refl, refl, refl))
+get_group_is s at tree = asks (group_table tree) s at (queries refl (refl, refl, refl, refl) (refl, refl, refl) (refl, refl, refl, refl, refl) (tt, (tt, (tt, (tt, (tt, (tt, (tt, tt))))))) ((refl, λ cx how x y. refl), ((refl, λ cx how x y. refl), tt, tt), ((refl, λ cx how x y. refl), tt, tt)) (tt, tt) (λ s. refl) (refl, refl) (refl, (refl, refl, refl)))
 
 abbrev pub holding : List Term
 holding = at_key 1 0 ∷ at_most 3 1 ∷ at_least 4 1 ∷ []
@@ -122,7 +122,7 @@ holding_group_query tree = by (simple tree holding group_columns) ((col 1 2, rec
 
 pub holding_group_is : (s : Schema) (at tree : ℕ) → Stands s (codes "rollout_group") at (group_table tree) → Means s HOLDING_GROUP.now (Select (record { lets = []; body = holding_group_query tree }) group_names)
 unfolding first combine named paging everything
-holding_group_is s at tree = asks s at (queries refl (refl, refl, refl, refl) (refl, refl, refl) (refl, refl, refl, refl, refl) (tt, (tt, (tt, (tt, (tt, (tt, (tt, tt))))))) ((refl, λ cx how x y. refl), ((refl, λ cx how x y. refl), ((refl, λ cx how x y. refl), tt, tt), ((refl, λ cx how x y. refl), tt, tt)), ((refl, λ cx how x y. refl), tt, tt)) (tt, tt) (λ s. refl) (refl, refl) (refl, refl, refl, refl))
+holding_group_is s at tree = asks (group_table tree) s at (queries refl (refl, refl, refl, refl) (refl, refl, refl) (refl, refl, refl, refl, refl) (tt, (tt, (tt, (tt, (tt, (tt, (tt, tt))))))) ((refl, λ cx how x y. refl), ((refl, λ cx how x y. refl), ((refl, λ cx how x y. refl), tt, tt), ((refl, λ cx how x y. refl), tt, tt)), ((refl, λ cx how x y. refl), tt, tt)) (tt, tt) (λ s. refl) (refl, refl) (refl, (refl, refl, refl)))
 
 abbrev pub reaching : List Term
 reaching = at_key 1 0 ∷ at_least 4 1 ∷ []
@@ -132,14 +132,14 @@ group_and_next_query tree = by (simple tree reaching group_columns) ((col 1 2, r
 
 pub group_and_next_is : (s : Schema) (at tree : ℕ) → Stands s (codes "rollout_group") at (group_table tree) → Means s GROUP_AND_NEXT.now (Select (record { lets = []; body = group_and_next_query tree }) group_names)
 unfolding first combine named paging everything
-group_and_next_is s at tree = asks s at (queries refl (refl, refl, refl, refl) (refl, refl, refl) (refl, refl, refl, refl, refl) (tt, (tt, (tt, (tt, (tt, (tt, (tt, tt))))))) ((refl, λ cx how x y. refl), ((refl, λ cx how x y. refl), tt, tt), ((refl, λ cx how x y. refl), tt, tt)) (tt, tt) (λ s. refl) (refl, refl) (refl, refl, refl, refl))
+group_and_next_is s at tree = asks (group_table tree) s at (queries refl (refl, refl, refl, refl) (refl, refl, refl) (refl, refl, refl, refl, refl) (tt, (tt, (tt, (tt, (tt, (tt, (tt, tt))))))) ((refl, λ cx how x y. refl), ((refl, λ cx how x y. refl), tt, tt), ((refl, λ cx how x y. refl), tt, tt)) (tt, tt) (λ s. refl) (refl, refl) (refl, (refl, refl, refl)))
 
 abbrev pub rollout_terms : List Term
 rollout_terms = col 0 0 ∷ lit Null ∷ col 0 1 ∷ col 0 2 ∷ col 0 3 ∷ col 0 4 ∷ col 0 5 ∷ col 0 6 ∷ col 0 7 ∷ lit (Int (pos 0)) ∷ lit (Int (pos 0)) ∷ []
 
 pub put_rollout_is : (s : Schema) (at tree : ℕ) → Stands s (codes "rollout") at (rollout_table tree) → Means s PUT_ROLLOUT.now (Insert at (Values rollout_terms 11))
 unfolding first new_rows everything
-put_rollout_is s at tree = puts s at (record { parsed = _; columns = _; rows = _; read = refl; statement = refl; formats = refl; fits = λ s. refl })
+put_rollout_is s at tree = puts (rollout_table tree) s at (record { parsed = _; columns = _; rows = _; read = refl; statement = refl; formats = refl; fits = λ s. refl })
 
 abbrev pub rollout_values : List Term
 rollout_values = lit Null ∷ col 1 2 ∷ col 1 3 ∷ col 1 4 ∷ col 1 5 ∷ col 1 6 ∷ col 1 7 ∷ col 0 1 ∷ col 0 2 ∷ col 0 3 ∷ []
@@ -149,21 +149,21 @@ set_rollout_query tree = simple tree (at_key 0 0 ∷ []) (col 1 0 ∷ col 1 0 �
 
 pub set_rollout_is : (s : Schema) (at tree : ℕ) → Stands s (codes "rollout") at (rollout_table tree) → Means s SET_ROLLOUT.now (Update at (record { lets = []; body = set_rollout_query tree }))
 unfolding first combine updated everything
-set_rollout_is s at tree = changes s at (updates refl (refl, refl) (tt, (tt, (tt, tt))) ((refl, λ cx how x y. refl), tt, tt) (refl, refl, refl, refl))
+set_rollout_is s at tree = changes (rollout_table tree) s at (updates refl (refl, refl) (tt, (tt, (tt, tt))) ((refl, λ cx how x y. refl), tt, tt) (refl, (refl, refl, refl)))
 
 abbrev pub member_terms : List Term
 member_terms = lit Null ∷ col 0 0 ∷ col 0 1 ∷ col 0 2 ∷ []
 
 pub put_member_is : (s : Schema) (at tree : ℕ) → Stands s (codes "member") at (member_table tree) → Means s PUT_MEMBER.now (Insert at (Values member_terms 4))
 unfolding first new_rows everything
-put_member_is s at tree = puts s at (record { parsed = _; columns = _; rows = _; read = refl; statement = refl; formats = refl; fits = λ s. refl })
+put_member_is s at tree = puts (member_table tree) s at (record { parsed = _; columns = _; rows = _; read = refl; statement = refl; formats = refl; fits = λ s. refl })
 
 abbrev pub group_terms : List Term
 group_terms = lit Null ∷ col 0 0 ∷ col 0 1 ∷ col 0 2 ∷ col 0 3 ∷ lit (Int (pos 0)) ∷ lit (Int (pos 0)) ∷ lit (Int (pos 0)) ∷ lit (Int (pos 0)) ∷ []
 
 pub put_group_is : (s : Schema) (at tree : ℕ) → Stands s (codes "rollout_group") at (group_table tree) → Means s PUT_GROUP.now (Insert at (Values group_terms 9))
 unfolding first new_rows everything
-put_group_is s at tree = puts s at (record { parsed = _; columns = _; rows = _; read = refl; statement = refl; formats = refl; fits = λ s. refl })
+put_group_is s at tree = puts (group_table tree) s at (record { parsed = _; columns = _; rows = _; read = refl; statement = refl; formats = refl; fits = λ s. refl })
 
 abbrev pub group_values : List Term
 group_values = col 1 1 ∷ col 1 2 ∷ col 1 3 ∷ col 1 4 ∷ col 0 2 ∷ col 0 3 ∷ col 0 4 ∷ col 0 5 ∷ []
@@ -173,7 +173,7 @@ set_group_query tree = simple tree of_group (col 1 0 ∷ col 1 0 ∷ group_value
 
 pub set_group_is : (s : Schema) (at tree : ℕ) → Stands s (codes "rollout_group") at (group_table tree) → Means s SET_GROUP.now (Update at (record { lets = []; body = set_group_query tree }))
 unfolding first combine updated everything
-set_group_is s at tree = changes s at (updates refl (refl, refl) (tt, (tt, (tt, (tt, tt)))) ((refl, λ cx how x y. refl), ((refl, λ cx how x y. refl), tt, tt), ((refl, λ cx how x y. refl), tt, tt)) (refl, refl, refl, refl))
+set_group_is s at tree = changes (group_table tree) s at (updates refl (refl, refl) (tt, (tt, (tt, (tt, tt)))) ((refl, λ cx how x y. refl), ((refl, λ cx how x y. refl), tt, tt), ((refl, λ cx how x y. refl), tt, tt)) (refl, (refl, refl, refl)))
 
 abbrev pub rule_names : List (List ℕ)
 rule_names = codes "percentage" ∷ codes "success" ∷ codes "error" ∷ []
@@ -183,18 +183,18 @@ rule_columns = col 1 3 ∷ col 1 4 ∷ col 1 5 ∷ []
 
 pub get_rule_is : (s : Schema) (at tree : ℕ) → Stands s (codes "group_rule") at (rule_table tree) → Means s GET_RULE.now (Select (record { lets = []; body = simple tree of_group rule_columns }) rule_names)
 unfolding first combine named paging everything
-get_rule_is s at tree = asks s at (queries refl (refl, refl, refl, refl) (refl, refl, refl) (refl, refl, refl, refl, refl) (tt, (tt, (tt, tt))) ((refl, λ cx how x y. refl), ((refl, λ cx how x y. refl), tt, tt), ((refl, λ cx how x y. refl), tt, tt)) tt (λ s. refl) (refl, refl) (refl, refl, refl, refl))
+get_rule_is s at tree = asks (rule_table tree) s at (queries refl (refl, refl, refl, refl) (refl, refl, refl) (refl, refl, refl, refl, refl) (tt, (tt, (tt, tt))) ((refl, λ cx how x y. refl), ((refl, λ cx how x y. refl), tt, tt), ((refl, λ cx how x y. refl), tt, tt)) tt (λ s. refl) (refl, refl) (refl, (refl, refl, refl)))
 
 abbrev pub list_rules_query : ℕ → Query
 list_rules_query tree = by (simple tree of_rollout rule_columns) ((col 1 2, record { descending = false; collation = Binary }) ∷ []) (lit (Int (negsuc 0))) (lit (Int (pos 0)))
 
 pub list_rules_is : (s : Schema) (at tree : ℕ) → Stands s (codes "group_rule") at (rule_table tree) → Means s LIST_RULES.now (Select (record { lets = []; body = list_rules_query tree }) rule_names)
 unfolding first combine named paging everything
-list_rules_is s at tree = asks s at (queries refl (refl, refl, refl, refl) (refl, refl, refl) (refl, refl, refl, refl, refl) (tt, (tt, (tt, tt))) ((refl, λ cx how x y. refl), tt, tt) (tt, tt) (λ s. refl) (refl, refl) (refl, refl, refl, refl))
+list_rules_is s at tree = asks (rule_table tree) s at (queries refl (refl, refl, refl, refl) (refl, refl, refl) (refl, refl, refl, refl, refl) (tt, (tt, (tt, tt))) ((refl, λ cx how x y. refl), tt, tt) (tt, tt) (λ s. refl) (refl, refl) (refl, (refl, refl, refl)))
 
 abbrev pub rule_terms : List Term
 rule_terms = lit Null ∷ col 0 0 ∷ col 0 1 ∷ col 0 2 ∷ col 0 3 ∷ col 0 4 ∷ []
 
 pub put_rule_is : (s : Schema) (at tree : ℕ) → Stands s (codes "group_rule") at (rule_table tree) → Means s PUT_RULE.now (Insert at (Values rule_terms 6))
 unfolding first new_rows everything
-put_rule_is s at tree = puts s at (record { parsed = _; columns = _; rows = _; read = refl; statement = refl; formats = refl; fits = λ s. refl })
+put_rule_is s at tree = puts (rule_table tree) s at (record { parsed = _; columns = _; rows = _; read = refl; statement = refl; formats = refl; fits = λ s. refl })

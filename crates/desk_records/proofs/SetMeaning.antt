@@ -25,46 +25,46 @@ same_names = at_key 2 0 ∷ at_key 3 1 ∷ []
 
 pub find_set_is : (s : Schema) (at tree : ℕ) → Stands s (codes "dset") at (set_table tree) → Means s FIND_SET.now (Select (record { lets = []; body = simple tree same_names (col 1 0 ∷ []) }) (codes "number" ∷ []))
 unfolding first combine named paging everything
-find_set_is s at tree = asks s at (queries refl (refl, refl, refl, refl) (refl, refl, refl) (refl, refl, refl, refl, refl) (tt, tt) ((refl, λ cx how x y. refl), ((refl, λ cx how x y. refl), tt, tt), ((refl, λ cx how x y. refl), tt, tt)) tt (λ s. refl) (refl, refl) (refl, refl, refl, refl))
+find_set_is s at tree = asks (set_table tree) s at (queries refl (refl, refl, refl, refl) (refl, refl, refl) (refl, refl, refl, refl, refl) (tt, tt) ((refl, λ cx how x y. refl), ((refl, λ cx how x y. refl), tt, tt), ((refl, λ cx how x y. refl), tt, tt)) tt (λ s. refl) (refl, refl) (refl, (refl, refl, refl)))
 
 abbrev pub last_set_query : ℕ → Query
 last_set_query tree = by (simple tree [] (col 1 0 ∷ [])) ((col 1 0, record { descending = true; collation = Binary }) ∷ []) (lit (Int (pos 1))) (lit (Int (pos 0)))
 
 pub last_set_is : (s : Schema) (at tree : ℕ) → Stands s (codes "dset") at (set_table tree) → Means s LAST_SET.now (Select (record { lets = []; body = last_set_query tree }) (codes "number" ∷ []))
 unfolding first combine named paging everything
-last_set_is s at tree = asks s at (queries refl (refl, refl, refl, refl) (refl, refl, refl) (refl, refl, refl, refl, refl) (tt, tt) tt (tt, tt) (λ s. refl) (refl, refl) (refl, refl, refl, refl))
+last_set_is s at tree = asks (set_table tree) s at (queries refl (refl, refl, refl, refl) (refl, refl, refl) (refl, refl, refl, refl, refl) (tt, tt) tt (tt, tt) (λ s. refl) (refl, refl) (refl, (refl, refl, refl)))
 
 abbrev pub name_columns : List Term
 name_columns = col 1 2 ∷ col 1 3 ∷ []
 
 pub get_set_is : (s : Schema) (at tree : ℕ) → Stands s (codes "dset") at (set_table tree) → Means s GET_SET.now (Select (record { lets = []; body = simple tree (at_key 0 0 ∷ []) name_columns }) (codes "name" ∷ codes "version" ∷ []))
 unfolding first combine named paging everything
-get_set_is s at tree = asks s at (queries refl (refl, refl, refl, refl) (refl, refl, refl) (refl, refl, refl, refl, refl) (tt, (tt, tt)) ((refl, λ cx how x y. refl), tt, tt) tt (λ s. refl) (refl, refl) (refl, refl, refl, refl))
+get_set_is s at tree = asks (set_table tree) s at (queries refl (refl, refl, refl, refl) (refl, refl, refl) (refl, refl, refl, refl, refl) (tt, (tt, tt)) ((refl, λ cx how x y. refl), tt, tt) tt (λ s. refl) (refl, refl) (refl, (refl, refl, refl)))
 
 abbrev pub set_modules_query : ℕ → Query
 set_modules_query tree = by (simple tree (at_key 1 0 ∷ []) (col 1 3 ∷ [])) ((col 1 2, record { descending = false; collation = Binary }) ∷ []) (lit (Int (negsuc 0))) (lit (Int (pos 0)))
 
 pub list_set_modules_is : (s : Schema) (at tree : ℕ) → Stands s (codes "set_module") at (set_module_table tree) → Means s LIST_SET_MODULES.now (Select (record { lets = []; body = set_modules_query tree }) (codes "module" ∷ []))
 unfolding first combine named paging everything
-list_set_modules_is s at tree = asks s at (queries refl (refl, refl, refl, refl) (refl, refl, refl) (refl, refl, refl, refl, refl) (tt, tt) ((refl, λ cx how x y. refl), tt, tt) (tt, tt) (λ s. refl) (refl, refl) (refl, refl, refl, refl))
+list_set_modules_is s at tree = asks (set_module_table tree) s at (queries refl (refl, refl, refl, refl) (refl, refl, refl) (refl, refl, refl, refl, refl) (tt, tt) ((refl, λ cx how x y. refl), tt, tt) (tt, tt) (λ s. refl) (refl, refl) (refl, (refl, refl, refl)))
 
 abbrev pub locked_query : ℕ → Query
 locked_query tree = by (simple tree (at_key 3 0 ∷ []) (col 1 1 ∷ [])) [] (lit (Int (pos 1))) (lit (Int (pos 0)))
 
 pub module_locked_is : (s : Schema) (at tree : ℕ) → Stands s (codes "set_module") at (set_module_table tree) → Means s MODULE_LOCKED.now (Select (record { lets = []; body = locked_query tree }) (codes "dset" ∷ []))
 unfolding first combine named paging everything
-module_locked_is s at tree = asks s at (queries refl (refl, refl, refl, refl) (refl, refl, refl) (refl, refl, refl, refl, refl) (tt, tt) ((refl, λ cx how x y. refl), tt, tt) tt (λ s. refl) (refl, refl) (refl, refl, refl, refl))
+module_locked_is s at tree = asks (set_module_table tree) s at (queries refl (refl, refl, refl, refl) (refl, refl, refl) (refl, refl, refl, refl, refl) (tt, tt) ((refl, λ cx how x y. refl), tt, tt) tt (λ s. refl) (refl, refl) (refl, (refl, refl, refl)))
 
 abbrev pub set_terms : List Term
 set_terms = col 0 0 ∷ lit Null ∷ col 0 1 ∷ col 0 2 ∷ []
 
 pub put_set_is : (s : Schema) (at tree : ℕ) → Stands s (codes "dset") at (set_table tree) → Means s PUT_SET.now (Insert at (Values set_terms 4))
 unfolding first new_rows everything
-put_set_is s at tree = puts s at (record { parsed = _; columns = _; rows = _; read = refl; statement = refl; formats = refl; fits = λ s. refl })
+put_set_is s at tree = puts (set_table tree) s at (record { parsed = _; columns = _; rows = _; read = refl; statement = refl; formats = refl; fits = λ s. refl })
 
 abbrev pub set_module_terms : List Term
 set_module_terms = lit Null ∷ col 0 0 ∷ col 0 1 ∷ col 0 2 ∷ []
 
 pub put_set_module_is : (s : Schema) (at tree : ℕ) → Stands s (codes "set_module") at (set_module_table tree) → Means s PUT_SET_MODULE.now (Insert at (Values set_module_terms 4))
 unfolding first new_rows everything
-put_set_module_is s at tree = puts s at (record { parsed = _; columns = _; rows = _; read = refl; statement = refl; formats = refl; fits = λ s. refl })
+put_set_module_is s at tree = puts (set_module_table tree) s at (record { parsed = _; columns = _; rows = _; read = refl; statement = refl; formats = refl; fits = λ s. refl })

@@ -31,32 +31,32 @@ target_columns = col 1 2 ∷ col 1 3 ∷ []
 
 pub get_target_is : (s : Schema) (at tree : ℕ) → Stands s (codes "target") at (target_table tree) → Means s GET_TARGET.now (Select (record { lets = []; body = simple tree of_target target_columns }) (codes "name" ∷ codes "digest" ∷ []))
 unfolding first combine named paging everything
-get_target_is s at tree = asks s at (queries refl (refl, refl, refl, refl) (refl, refl, refl) (refl, refl, refl, refl, refl) (tt, (tt, tt)) ((refl, λ cx how x y. refl), tt, tt) tt (λ s. refl) (refl, refl) (refl, refl, refl, refl))
+get_target_is s at tree = asks (target_table tree) s at (queries refl (refl, refl, refl, refl) (refl, refl, refl) (refl, refl, refl, refl, refl) (tt, (tt, tt)) ((refl, λ cx how x y. refl), tt, tt) tt (λ s. refl) (refl, refl) (refl, (refl, refl, refl)))
 
 pub count_targets_is : (s : Schema) (at tree : ℕ) → Stands s (codes "target") at (target_table tree) → Means s COUNT_TARGETS.now (Select (record { lets = []; body = count_query tree }) (codes "count(*)" ∷ []))
 unfolding first combine named paging everything
-count_targets_is s at tree = asks s at (queries refl (refl, refl, refl, refl) (refl, refl, refl) (refl, refl, refl, refl, refl) (tt, tt) tt tt (λ s. refl) (refl, refl) (refl, refl, refl, refl))
+count_targets_is s at tree = asks (target_table tree) s at (queries refl (refl, refl, refl, refl) (refl, refl, refl) (refl, refl, refl, refl, refl) (tt, tt) tt tt (λ s. refl) (refl, refl) (refl, (refl, refl, refl)))
 
 abbrev pub targets_query : ℕ → Query
 targets_query tree = by (simple tree [] (col 1 1 ∷ col 1 2 ∷ [])) ((col 1 1, record { descending = false; collation = Binary }) ∷ []) (col 0 0) (col 0 1)
 
 pub list_targets_is : (s : Schema) (at tree : ℕ) → Stands s (codes "target") at (target_table tree) → Means s LIST_TARGETS.now (Select (record { lets = []; body = targets_query tree }) (codes "controller" ∷ codes "name" ∷ []))
 unfolding first combine named paging everything
-list_targets_is s at tree = asks s at (queries refl (refl, refl, refl, refl) (refl, refl, refl) (refl, refl, refl, refl, refl) (tt, (tt, tt)) tt (tt, tt) (λ s. refl) (refl, refl) (refl, refl, refl, refl))
+list_targets_is s at tree = asks (target_table tree) s at (queries refl (refl, refl, refl, refl) (refl, refl, refl) (refl, refl, refl, refl, refl) (tt, (tt, tt)) tt (tt, tt) (λ s. refl) (refl, refl) (refl, (refl, refl, refl)))
 
 abbrev pub tags_query : ℕ → Query
 tags_query tree = by (simple tree of_target (col 1 2 ∷ [])) ((col 1 2, record { descending = false; collation = Binary }) ∷ []) (lit (Int (negsuc 0))) (lit (Int (pos 0)))
 
 pub list_target_tags_is : (s : Schema) (at tree : ℕ) → Stands s (codes "target_tag") at (target_tag_table tree) → Means s LIST_TARGET_TAGS.now (Select (record { lets = []; body = tags_query tree }) (codes "tag" ∷ []))
 unfolding first combine named paging everything
-list_target_tags_is s at tree = asks s at (queries refl (refl, refl, refl, refl) (refl, refl, refl) (refl, refl, refl, refl, refl) (tt, tt) ((refl, λ cx how x y. refl), tt, tt) (tt, tt) (λ s. refl) (refl, refl) (refl, refl, refl, refl))
+list_target_tags_is s at tree = asks (target_tag_table tree) s at (queries refl (refl, refl, refl, refl) (refl, refl, refl) (refl, refl, refl, refl, refl) (tt, tt) ((refl, λ cx how x y. refl), tt, tt) (tt, tt) (λ s. refl) (refl, refl) (refl, (refl, refl, refl)))
 
 abbrev pub target_terms : List Term
 target_terms = lit Null ∷ col 0 0 ∷ col 0 1 ∷ col 0 2 ∷ []
 
 pub put_target_is : (s : Schema) (at tree : ℕ) → Stands s (codes "target") at (target_table tree) → Means s PUT_TARGET.now (Insert at (Values target_terms 4))
 unfolding first new_rows everything
-put_target_is s at tree = puts s at (record { parsed = _; columns = _; rows = _; read = refl; statement = refl; formats = refl; fits = λ s. refl })
+put_target_is s at tree = puts (target_table tree) s at (record { parsed = _; columns = _; rows = _; read = refl; statement = refl; formats = refl; fits = λ s. refl })
 
 abbrev pub new_values : List Term
 new_values = col 1 1 ∷ col 0 1 ∷ col 0 2 ∷ []
@@ -66,14 +66,14 @@ set_target_query tree = simple tree of_target (col 1 0 ∷ col 1 0 ∷ new_value
 
 pub set_target_is : (s : Schema) (at tree : ℕ) → Stands s (codes "target") at (target_table tree) → Means s SET_TARGET.now (Update at (record { lets = []; body = set_target_query tree }))
 unfolding first combine updated everything
-set_target_is s at tree = changes s at (updates refl (refl, refl) (tt, (tt, tt)) ((refl, λ cx how x y. refl), tt, tt) (refl, refl, refl, refl))
+set_target_is s at tree = changes (target_table tree) s at (updates refl (refl, refl) (tt, (tt, tt)) ((refl, λ cx how x y. refl), tt, tt) (refl, (refl, refl, refl)))
 
 abbrev pub tag_terms : List Term
 tag_terms = lit Null ∷ col 0 0 ∷ col 0 1 ∷ []
 
 pub put_target_tag_is : (s : Schema) (at tree : ℕ) → Stands s (codes "target_tag") at (target_tag_table tree) → Means s PUT_TARGET_TAG.now (Insert at (Values tag_terms 3))
 unfolding first new_rows everything
-put_target_tag_is s at tree = puts s at (record { parsed = _; columns = _; rows = _; read = refl; statement = refl; formats = refl; fits = λ s. refl })
+put_target_tag_is s at tree = puts (target_tag_table tree) s at (record { parsed = _; columns = _; rows = _; read = refl; statement = refl; formats = refl; fits = λ s. refl })
 
 abbrev pub of_tag : List Term
 of_tag = at_key 1 0 ∷ at_key 2 1 ∷ []
@@ -83,21 +83,21 @@ drop_tag_query tree = simple tree of_tag (col 1 0 ∷ [])
 
 pub drop_target_tag_is : (s : Schema) (at tree : ℕ) → Stands s (codes "target_tag") at (target_tag_table tree) → Means s DROP_TARGET_TAG.now (Delete at (record { lets = []; body = drop_tag_query tree }))
 unfolding first combine deleted everything
-drop_target_tag_is s at tree = drops s at (removes refl (refl, refl) ((refl, λ cx how x y. refl), ((refl, λ cx how x y. refl), tt, tt), ((refl, λ cx how x y. refl), tt, tt)) (refl, refl, refl, refl))
+drop_target_tag_is s at tree = drops (target_tag_table tree) s at (removes refl (refl, refl) ((refl, λ cx how x y. refl), ((refl, λ cx how x y. refl), tt, tt), ((refl, λ cx how x y. refl), tt, tt)) (refl, (refl, refl, refl)))
 
 abbrev pub attributes_query : ℕ → Query
 attributes_query tree = by (simple tree of_target (col 1 2 ∷ col 1 3 ∷ [])) ((col 1 2, record { descending = false; collation = Binary }) ∷ []) (lit (Int (negsuc 0))) (lit (Int (pos 0)))
 
 pub list_target_attributes_is : (s : Schema) (at tree : ℕ) → Stands s (codes "target_attribute") at (target_attribute_table tree) → Means s LIST_TARGET_ATTRIBUTES.now (Select (record { lets = []; body = attributes_query tree }) (codes "key" ∷ codes "value" ∷ []))
 unfolding first combine named paging everything
-list_target_attributes_is s at tree = asks s at (queries refl (refl, refl, refl, refl) (refl, refl, refl) (refl, refl, refl, refl, refl) (tt, (tt, tt)) ((refl, λ cx how x y. refl), tt, tt) (tt, tt) (λ s. refl) (refl, refl) (refl, refl, refl, refl))
+list_target_attributes_is s at tree = asks (target_attribute_table tree) s at (queries refl (refl, refl, refl, refl) (refl, refl, refl) (refl, refl, refl, refl, refl) (tt, (tt, tt)) ((refl, λ cx how x y. refl), tt, tt) (tt, tt) (λ s. refl) (refl, refl) (refl, (refl, refl, refl)))
 
 abbrev pub attribute_terms : List Term
 attribute_terms = lit Null ∷ col 0 0 ∷ col 0 1 ∷ col 0 2 ∷ []
 
 pub put_target_attribute_is : (s : Schema) (at tree : ℕ) → Stands s (codes "target_attribute") at (target_attribute_table tree) → Means s PUT_TARGET_ATTRIBUTE.now (Insert at (Values attribute_terms 4))
 unfolding first new_rows everything
-put_target_attribute_is s at tree = puts s at (record { parsed = _; columns = _; rows = _; read = refl; statement = refl; formats = refl; fits = λ s. refl })
+put_target_attribute_is s at tree = puts (target_attribute_table tree) s at (record { parsed = _; columns = _; rows = _; read = refl; statement = refl; formats = refl; fits = λ s. refl })
 
 abbrev pub of_attribute : List Term
 of_attribute = at_key 1 0 ∷ at_key 2 1 ∷ []
@@ -110,4 +110,4 @@ set_attribute_query tree = simple tree of_attribute (col 1 0 ∷ col 1 0 ∷ new
 
 pub set_target_attribute_is : (s : Schema) (at tree : ℕ) → Stands s (codes "target_attribute") at (target_attribute_table tree) → Means s SET_TARGET_ATTRIBUTE.now (Update at (record { lets = []; body = set_attribute_query tree }))
 unfolding first combine updated everything
-set_target_attribute_is s at tree = changes s at (updates refl (refl, refl) (tt, tt) ((refl, λ cx how x y. refl), ((refl, λ cx how x y. refl), tt, tt), ((refl, λ cx how x y. refl), tt, tt)) (refl, refl, refl, refl))
+set_target_attribute_is s at tree = changes (target_attribute_table tree) s at (updates refl (refl, refl) (tt, tt) ((refl, λ cx how x y. refl), ((refl, λ cx how x y. refl), tt, tt), ((refl, λ cx how x y. refl), tt, tt)) (refl, (refl, refl, refl)))
