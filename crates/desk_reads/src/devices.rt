@@ -3,7 +3,7 @@
 ghost use Rattle.std.specs.Prelude.{◌≡◌, false};
 ghost use Rattle.rollout_machine.specs.Verdicts.{is_known};
 ghost use Rattle.desk_store.specs.Counting.{AddsIn};
-ghost use Rattle.desk_store.specs.Changing.{FindsIn, StaysIn};
+ghost use Rattle.desk_store.specs.Changing.{FindsIn, KeepsTables, StaysIn};
 
 use desk_store::{Fault, OpenChange};
 use rollout_model::Credential;
@@ -15,6 +15,7 @@ pub fn knows_device<S: Alter>(
     device: &Credential,
 ) -> Result<bool, Fault>
     ensures stays { StaysIn S.Store change.old change.new result }
+    ensures keeps { KeepsTables S.Store change.old change.new result }
     ensures reads { FindsIn S.Store change.old change.new result (λ now known. known ≡ is_known now device.now) }
     ensures work { AddsIn 1 1 change.old change.new }
 {
