@@ -1,4 +1,4 @@
-use Rattle.std.proofs.Common.{◌≡◌, true, false, inl, refl}
+use Rattle.std.proofs.Common.{true, false, inl, refl}
 use Rattle.sqlite_std_file.specs.File.{IsFresh}
 use Rattle.sqlite.specs.WalFiles.{image_at}
 use Rattle.desk_opening.proofs.SparingLemmas.{left_alone, path_spared}
