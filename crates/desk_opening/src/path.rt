@@ -15,11 +15,13 @@ use sqlite_disk::Disk;
 use std::marker::PhantomData;
 
 /// No file of the type `D` was opened. `open_at` alone makes one, and takes the one start of such files for it: who has opened them has none.
+#[derive(Drop)]
 pub struct NoFile<D> {
     files: PhantomData<D>,
 }
 
 /// What is left of the files at a path at which no desk is opened.
+#[derive(Drop)]
 pub enum PathLeftover<D: Disk> {
     NoFile(NoFile<D>),
     Opened(Leftover<D>),
