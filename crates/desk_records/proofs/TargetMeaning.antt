@@ -14,15 +14,14 @@ use Rattle.sqlite_resolve.specs.Expr.{combine}
 use Rattle.sqlite_resolve.specs.Select.{named, paging}
 use Rattle.sqlite_resolve.specs.Write.{updated, deleted}
 use Rattle.sql_front.specs.Stands.{Stands}
-use Rattle.sql_front.proofs.Texts.{Queries, queries_known}
-use Rattle.sql_front.proofs.Write.{Adds, adds_known}
-use Rattle.sql_front.proofs.Change.{Updates, Removes, updates_known, removes_known}
+use Rattle.sql_front.proofs.Texts.{queries}
+use Rattle.sql_front.proofs.Change.{updates, removes}
 use Rattle.sql_calls.specs.Means.{Means}
 use Rattle.sql_calls.proofs.Selects.{simple, by}
 use Rattle.sql_calls.proofs.Counts.{count_query}
 use Rattle.desk_records.specs.declared.target_texts.TheConstants.{GET_TARGET, COUNT_TARGETS, LIST_TARGETS, LIST_TARGET_TAGS, PUT_TARGET, SET_TARGET, PUT_TARGET_TAG, DROP_TARGET_TAG, LIST_TARGET_ATTRIBUTES, PUT_TARGET_ATTRIBUTE, SET_TARGET_ATTRIBUTE}
 use Rattle.desk_records.specs.Schema.{target_table, target_tag_table, target_attribute_table}
-use Rattle.desk_records.proofs.MeaningWords.{means_of, at_key}
+use Rattle.desk_records.proofs.MeaningWords.{asks, puts, changes, drops, at_key}
 
 abbrev pub of_target : List Term
 of_target = at_key 1 0 ∷ []
@@ -30,109 +29,34 @@ of_target = at_key 1 0 ∷ []
 abbrev pub target_columns : List Term
 target_columns = col 1 2 ∷ col 1 3 ∷ []
 
-get_target_queries : (tree : ℕ) → Queries GET_TARGET.now (codes "target") (target_table tree) (simple tree of_target target_columns) (codes "name" ∷ codes "digest" ∷ [])
-unfolding first combine named paging everything
-get_target_queries tree = record {
-  parsed = _;
-  select = _;
-  page = _;
-  shown = _;
-  read = refl;
-  selects = record { statement = refl; formats = refl; with = refl; others = refl };
-  one = record { source = _; from = refl; table = refl; alias = refl; on = refl; using = refl; is_inner = refl; group = refl; having = refl; shown = (tt, (tt, tt)); filter = ((refl, λ cx how x y. refl), tt, tt); sorts = tt };
-  paged = λ s. refl;
-  named_alone = refl;
-  known = refl;
-  is_body = refl;
-  are_columns = refl;
-  over = refl;
-  fits = refl;
-}
-
 pub get_target_is : (s : Schema) (at tree : ℕ) → Stands s (codes "target") at (target_table tree) → Means s GET_TARGET.now (Select (record { lets = []; body = simple tree of_target target_columns }) (codes "name" ∷ codes "digest" ∷ []))
-get_target_is s at tree stands = means_of s GET_TARGET.now _ (queries_known _ _ _ _ _ (get_target_queries tree) s at stands) refl refl
-
-count_targets_queries : (tree : ℕ) → Queries COUNT_TARGETS.now (codes "target") (target_table tree) (count_query tree) (codes "count(*)" ∷ [])
 unfolding first combine named paging everything
-count_targets_queries tree = record {
-  parsed = _;
-  select = _;
-  page = _;
-  shown = _;
-  read = refl;
-  selects = record { statement = refl; formats = refl; with = refl; others = refl };
-  one = record { source = _; from = refl; table = refl; alias = refl; on = refl; using = refl; is_inner = refl; group = refl; having = refl; shown = (tt, tt); filter = tt; sorts = tt };
-  paged = λ s. refl;
-  named_alone = refl;
-  known = refl;
-  is_body = refl;
-  are_columns = refl;
-  over = refl;
-  fits = refl;
-}
+get_target_is s at tree = asks (target_table tree) s at (queries refl (refl, refl, refl, refl) (refl, refl, refl) (refl, refl, refl, refl, refl) (tt, (tt, tt)) ((refl, λ cx how x y. refl), tt, tt) tt (λ s. refl) (refl, refl) (refl, (refl, refl, refl)))
 
 pub count_targets_is : (s : Schema) (at tree : ℕ) → Stands s (codes "target") at (target_table tree) → Means s COUNT_TARGETS.now (Select (record { lets = []; body = count_query tree }) (codes "count(*)" ∷ []))
-count_targets_is s at tree stands = means_of s COUNT_TARGETS.now _ (queries_known _ _ _ _ _ (count_targets_queries tree) s at stands) refl refl
+unfolding first combine named paging everything
+count_targets_is s at tree = asks (target_table tree) s at (queries refl (refl, refl, refl, refl) (refl, refl, refl) (refl, refl, refl, refl, refl) (tt, tt) tt tt (λ s. refl) (refl, refl) (refl, (refl, refl, refl)))
 
 abbrev pub targets_query : ℕ → Query
 targets_query tree = by (simple tree [] (col 1 1 ∷ col 1 2 ∷ [])) ((col 1 1, record { descending = false; collation = Binary }) ∷ []) (col 0 0) (col 0 1)
 
-list_targets_queries : (tree : ℕ) → Queries LIST_TARGETS.now (codes "target") (target_table tree) (targets_query tree) (codes "controller" ∷ codes "name" ∷ [])
-unfolding first combine named paging everything
-list_targets_queries tree = record {
-  parsed = _;
-  select = _;
-  page = _;
-  shown = _;
-  read = refl;
-  selects = record { statement = refl; formats = refl; with = refl; others = refl };
-  one = record { source = _; from = refl; table = refl; alias = refl; on = refl; using = refl; is_inner = refl; group = refl; having = refl; shown = (tt, (tt, tt)); filter = tt; sorts = (tt, tt) };
-  paged = λ s. refl;
-  named_alone = refl;
-  known = refl;
-  is_body = refl;
-  are_columns = refl;
-  over = refl;
-  fits = refl;
-}
-
 pub list_targets_is : (s : Schema) (at tree : ℕ) → Stands s (codes "target") at (target_table tree) → Means s LIST_TARGETS.now (Select (record { lets = []; body = targets_query tree }) (codes "controller" ∷ codes "name" ∷ []))
-list_targets_is s at tree stands = means_of s LIST_TARGETS.now _ (queries_known _ _ _ _ _ (list_targets_queries tree) s at stands) refl refl
+unfolding first combine named paging everything
+list_targets_is s at tree = asks (target_table tree) s at (queries refl (refl, refl, refl, refl) (refl, refl, refl) (refl, refl, refl, refl, refl) (tt, (tt, tt)) tt (tt, tt) (λ s. refl) (refl, refl) (refl, (refl, refl, refl)))
 
 abbrev pub tags_query : ℕ → Query
 tags_query tree = by (simple tree of_target (col 1 2 ∷ [])) ((col 1 2, record { descending = false; collation = Binary }) ∷ []) (lit (Int (negsuc 0))) (lit (Int (pos 0)))
 
-list_target_tags_queries : (tree : ℕ) → Queries LIST_TARGET_TAGS.now (codes "target_tag") (target_tag_table tree) (tags_query tree) (codes "tag" ∷ [])
-unfolding first combine named paging everything
-list_target_tags_queries tree = record {
-  parsed = _;
-  select = _;
-  page = _;
-  shown = _;
-  read = refl;
-  selects = record { statement = refl; formats = refl; with = refl; others = refl };
-  one = record { source = _; from = refl; table = refl; alias = refl; on = refl; using = refl; is_inner = refl; group = refl; having = refl; shown = (tt, tt); filter = ((refl, λ cx how x y. refl), tt, tt); sorts = (tt, tt) };
-  paged = λ s. refl;
-  named_alone = refl;
-  known = refl;
-  is_body = refl;
-  are_columns = refl;
-  over = refl;
-  fits = refl;
-}
-
 pub list_target_tags_is : (s : Schema) (at tree : ℕ) → Stands s (codes "target_tag") at (target_tag_table tree) → Means s LIST_TARGET_TAGS.now (Select (record { lets = []; body = tags_query tree }) (codes "tag" ∷ []))
-list_target_tags_is s at tree stands = means_of s LIST_TARGET_TAGS.now _ (queries_known _ _ _ _ _ (list_target_tags_queries tree) s at stands) refl refl
+unfolding first combine named paging everything
+list_target_tags_is s at tree = asks (target_tag_table tree) s at (queries refl (refl, refl, refl, refl) (refl, refl, refl) (refl, refl, refl, refl, refl) (tt, tt) ((refl, λ cx how x y. refl), tt, tt) (tt, tt) (λ s. refl) (refl, refl) (refl, (refl, refl, refl)))
 
 abbrev pub target_terms : List Term
 target_terms = lit Null ∷ col 0 0 ∷ col 0 1 ∷ col 0 2 ∷ []
 
-put_target_adds : (tree : ℕ) → Adds PUT_TARGET.now (codes "target") (target_table tree) (Values target_terms 4)
-unfolding first new_rows everything
-put_target_adds tree = record { parsed = _; columns = _; rows = _; read = refl; statement = refl; formats = refl; fits = λ s. refl }
-
 pub put_target_is : (s : Schema) (at tree : ℕ) → Stands s (codes "target") at (target_table tree) → Means s PUT_TARGET.now (Insert at (Values target_terms 4))
-put_target_is s at tree stands = means_of s PUT_TARGET.now _ (adds_known _ _ (target_table tree) _ (put_target_adds tree) s at stands) refl refl
+unfolding first new_rows everything
+put_target_is s at tree = puts (target_table tree) s at (record { parsed = _; columns = _; rows = _; read = refl; statement = refl; formats = refl; fits = λ s. refl })
 
 abbrev pub new_values : List Term
 new_values = col 1 1 ∷ col 0 1 ∷ col 0 2 ∷ []
@@ -140,36 +64,16 @@ new_values = col 1 1 ∷ col 0 1 ∷ col 0 2 ∷ []
 abbrev pub set_target_query : ℕ → Query
 set_target_query tree = simple tree of_target (col 1 0 ∷ col 1 0 ∷ new_values)
 
-set_target_updates : (tree : ℕ) → Updates SET_TARGET.now (codes "target") (target_table tree) (set_target_query tree)
-unfolding first combine updated everything
-set_target_updates tree = record {
-  parsed = _;
-  sets = _;
-  test = _;
-  draft = _;
-  read = refl;
-  statement = refl;
-  formats = refl;
-  values = (tt, (tt, tt));
-  filter = ((refl, λ cx how x y. refl), tt, tt);
-  known = refl;
-  is_body = refl;
-  over = refl;
-  fits = refl;
-}
-
 pub set_target_is : (s : Schema) (at tree : ℕ) → Stands s (codes "target") at (target_table tree) → Means s SET_TARGET.now (Update at (record { lets = []; body = set_target_query tree }))
-set_target_is s at tree stands = means_of s SET_TARGET.now _ (updates_known _ _ _ _ (set_target_updates tree) s at stands) refl refl
+unfolding first combine updated everything
+set_target_is s at tree = changes (target_table tree) s at (updates refl (refl, refl) (tt, (tt, tt)) ((refl, λ cx how x y. refl), tt, tt) (refl, (refl, refl, refl)))
 
 abbrev pub tag_terms : List Term
 tag_terms = lit Null ∷ col 0 0 ∷ col 0 1 ∷ []
 
-put_target_tag_adds : (tree : ℕ) → Adds PUT_TARGET_TAG.now (codes "target_tag") (target_tag_table tree) (Values tag_terms 3)
-unfolding first new_rows everything
-put_target_tag_adds tree = record { parsed = _; columns = _; rows = _; read = refl; statement = refl; formats = refl; fits = λ s. refl }
-
 pub put_target_tag_is : (s : Schema) (at tree : ℕ) → Stands s (codes "target_tag") at (target_tag_table tree) → Means s PUT_TARGET_TAG.now (Insert at (Values tag_terms 3))
-put_target_tag_is s at tree stands = means_of s PUT_TARGET_TAG.now _ (adds_known _ _ (target_tag_table tree) _ (put_target_tag_adds tree) s at stands) refl refl
+unfolding first new_rows everything
+put_target_tag_is s at tree = puts (target_tag_table tree) s at (record { parsed = _; columns = _; rows = _; read = refl; statement = refl; formats = refl; fits = λ s. refl })
 
 abbrev pub of_tag : List Term
 of_tag = at_key 1 0 ∷ at_key 2 1 ∷ []
@@ -177,59 +81,23 @@ of_tag = at_key 1 0 ∷ at_key 2 1 ∷ []
 abbrev pub drop_tag_query : ℕ → Query
 drop_tag_query tree = simple tree of_tag (col 1 0 ∷ [])
 
-drop_target_tag_removes : (tree : ℕ) → Removes DROP_TARGET_TAG.now (codes "target_tag") (target_tag_table tree) (drop_tag_query tree)
-unfolding first combine deleted everything
-drop_target_tag_removes tree = record {
-  parsed = _;
-  test = _;
-  draft = _;
-  read = refl;
-  statement = refl;
-  formats = refl;
-  filter = ((refl, λ cx how x y. refl), ((refl, λ cx how x y. refl), tt, tt), ((refl, λ cx how x y. refl), tt, tt));
-  known = refl;
-  is_body = refl;
-  over = refl;
-  fits = refl;
-}
-
 pub drop_target_tag_is : (s : Schema) (at tree : ℕ) → Stands s (codes "target_tag") at (target_tag_table tree) → Means s DROP_TARGET_TAG.now (Delete at (record { lets = []; body = drop_tag_query tree }))
-drop_target_tag_is s at tree stands = means_of s DROP_TARGET_TAG.now _ (removes_known _ _ _ _ (drop_target_tag_removes tree) s at stands) refl refl
+unfolding first combine deleted everything
+drop_target_tag_is s at tree = drops (target_tag_table tree) s at (removes refl (refl, refl) ((refl, λ cx how x y. refl), ((refl, λ cx how x y. refl), tt, tt), ((refl, λ cx how x y. refl), tt, tt)) (refl, (refl, refl, refl)))
 
 abbrev pub attributes_query : ℕ → Query
 attributes_query tree = by (simple tree of_target (col 1 2 ∷ col 1 3 ∷ [])) ((col 1 2, record { descending = false; collation = Binary }) ∷ []) (lit (Int (negsuc 0))) (lit (Int (pos 0)))
 
-list_target_attributes_queries : (tree : ℕ) → Queries LIST_TARGET_ATTRIBUTES.now (codes "target_attribute") (target_attribute_table tree) (attributes_query tree) (codes "key" ∷ codes "value" ∷ [])
-unfolding first combine named paging everything
-list_target_attributes_queries tree = record {
-  parsed = _;
-  select = _;
-  page = _;
-  shown = _;
-  read = refl;
-  selects = record { statement = refl; formats = refl; with = refl; others = refl };
-  one = record { source = _; from = refl; table = refl; alias = refl; on = refl; using = refl; is_inner = refl; group = refl; having = refl; shown = (tt, (tt, tt)); filter = ((refl, λ cx how x y. refl), tt, tt); sorts = (tt, tt) };
-  paged = λ s. refl;
-  named_alone = refl;
-  known = refl;
-  is_body = refl;
-  are_columns = refl;
-  over = refl;
-  fits = refl;
-}
-
 pub list_target_attributes_is : (s : Schema) (at tree : ℕ) → Stands s (codes "target_attribute") at (target_attribute_table tree) → Means s LIST_TARGET_ATTRIBUTES.now (Select (record { lets = []; body = attributes_query tree }) (codes "key" ∷ codes "value" ∷ []))
-list_target_attributes_is s at tree stands = means_of s LIST_TARGET_ATTRIBUTES.now _ (queries_known _ _ _ _ _ (list_target_attributes_queries tree) s at stands) refl refl
+unfolding first combine named paging everything
+list_target_attributes_is s at tree = asks (target_attribute_table tree) s at (queries refl (refl, refl, refl, refl) (refl, refl, refl) (refl, refl, refl, refl, refl) (tt, (tt, tt)) ((refl, λ cx how x y. refl), tt, tt) (tt, tt) (λ s. refl) (refl, refl) (refl, (refl, refl, refl)))
 
 abbrev pub attribute_terms : List Term
 attribute_terms = lit Null ∷ col 0 0 ∷ col 0 1 ∷ col 0 2 ∷ []
 
-put_target_attribute_adds : (tree : ℕ) → Adds PUT_TARGET_ATTRIBUTE.now (codes "target_attribute") (target_attribute_table tree) (Values attribute_terms 4)
-unfolding first new_rows everything
-put_target_attribute_adds tree = record { parsed = _; columns = _; rows = _; read = refl; statement = refl; formats = refl; fits = λ s. refl }
-
 pub put_target_attribute_is : (s : Schema) (at tree : ℕ) → Stands s (codes "target_attribute") at (target_attribute_table tree) → Means s PUT_TARGET_ATTRIBUTE.now (Insert at (Values attribute_terms 4))
-put_target_attribute_is s at tree stands = means_of s PUT_TARGET_ATTRIBUTE.now _ (adds_known _ _ (target_attribute_table tree) _ (put_target_attribute_adds tree) s at stands) refl refl
+unfolding first new_rows everything
+put_target_attribute_is s at tree = puts (target_attribute_table tree) s at (record { parsed = _; columns = _; rows = _; read = refl; statement = refl; formats = refl; fits = λ s. refl })
 
 abbrev pub of_attribute : List Term
 of_attribute = at_key 1 0 ∷ at_key 2 1 ∷ []
@@ -240,23 +108,6 @@ new_value = col 1 1 ∷ col 1 2 ∷ col 0 2 ∷ []
 abbrev pub set_attribute_query : ℕ → Query
 set_attribute_query tree = simple tree of_attribute (col 1 0 ∷ col 1 0 ∷ new_value)
 
-set_target_attribute_updates : (tree : ℕ) → Updates SET_TARGET_ATTRIBUTE.now (codes "target_attribute") (target_attribute_table tree) (set_attribute_query tree)
-unfolding first combine updated everything
-set_target_attribute_updates tree = record {
-  parsed = _;
-  sets = _;
-  test = _;
-  draft = _;
-  read = refl;
-  statement = refl;
-  formats = refl;
-  values = (tt, tt);
-  filter = ((refl, λ cx how x y. refl), ((refl, λ cx how x y. refl), tt, tt), ((refl, λ cx how x y. refl), tt, tt));
-  known = refl;
-  is_body = refl;
-  over = refl;
-  fits = refl;
-}
-
 pub set_target_attribute_is : (s : Schema) (at tree : ℕ) → Stands s (codes "target_attribute") at (target_attribute_table tree) → Means s SET_TARGET_ATTRIBUTE.now (Update at (record { lets = []; body = set_attribute_query tree }))
-set_target_attribute_is s at tree stands = means_of s SET_TARGET_ATTRIBUTE.now _ (updates_known _ _ _ _ (set_target_attribute_updates tree) s at stands) refl refl
+unfolding first combine updated everything
+set_target_attribute_is s at tree = changes (target_attribute_table tree) s at (updates refl (refl, refl) (tt, tt) ((refl, λ cx how x y. refl), ((refl, λ cx how x y. refl), tt, tt), ((refl, λ cx how x y. refl), tt, tt)) (refl, (refl, refl, refl)))

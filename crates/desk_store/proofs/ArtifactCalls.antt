@@ -29,30 +29,31 @@ use Rattle.desk_records.specs.Holds.{HoldsLedger, HoldsRecords, ledger_of}
 use Rattle.desk_records.specs.Modules.{IsLastRow}
 use Rattle.desk_records.specs.Artifacts.{told_of, piece_row, is_same_artifact, file_of, piece_numbered, artifact_filed, with_artifact, AddsPiece}
 use Rattle.desk_records.specs.ArtifactRow.{IsStoredRow, IsArtifactRow, StoredBytes, stored}
+use Rattle.desk_records.specs.Tables.{HoldsTables}
 use Rattle.desk_records.proofs.MeaningWords.{at_key}
 use Rattle.desk_records.proofs.ArtifactMeaning.{same_file, last_artifact_query, told_columns, told_names, artifacts_query, shown_names, artifact_terms, at_piece, piece_terms, find_artifact_is, last_artifact_is, get_artifact_is, list_artifacts_is, get_piece_is, put_artifact_is, put_piece_is}
 use Rattle.desk_records.proofs.ArtifactRecords.{finds_artifact, lasts_artifact, gets_artifact, lists_artifacts, gets_piece, adds_artifact, adds_piece}
 use Rattle.desk_store.specs.Rows.{AreReadAs, IsReadAs}
 use Rattle.desk_store.proofs.ReadLemmas.{asks_all, takes_one}
 use Rattle.desk_store.proofs.ModuleCalls.{one_last}
-use Rattle.desk_store.proofs.Known.{ledger_knows, ledger_writes}
+use Rattle.desk_store.proofs.Known.{in_ledgers, ledger_writes, tables_know}
 
 -- ---- what the texts mean where the records are held
 
-abbrev pub finding : Knows HoldsLedger FIND_ARTIFACT.now
-finding = ledger_knows Artifacts FIND_ARTIFACT.now (λ at tree. Select (record { lets = []; body = simple tree same_file (col 1 0 ∷ []) }) (codes "number" ∷ [])) find_artifact_is
+abbrev pub finding : Knows HoldsTables FIND_ARTIFACT.now
+finding = tables_know Artifacts FIND_ARTIFACT.now (λ at tree. Select (record { lets = []; body = simple tree same_file (col 1 0 ∷ []) }) (codes "number" ∷ [])) find_artifact_is
 
-abbrev pub ending : Knows HoldsLedger LAST_ARTIFACT.now
-ending = ledger_knows Artifacts LAST_ARTIFACT.now (λ at tree. Select (record { lets = []; body = last_artifact_query tree }) (codes "number" ∷ [])) last_artifact_is
+abbrev pub ending : Knows HoldsTables LAST_ARTIFACT.now
+ending = tables_know Artifacts LAST_ARTIFACT.now (λ at tree. Select (record { lets = []; body = last_artifact_query tree }) (codes "number" ∷ [])) last_artifact_is
 
-abbrev pub getting : Knows HoldsLedger GET_ARTIFACT.now
-getting = ledger_knows Artifacts GET_ARTIFACT.now (λ at tree. Select (record { lets = []; body = simple tree (at_key 0 0 ∷ []) told_columns }) told_names) get_artifact_is
+abbrev pub getting : Knows HoldsTables GET_ARTIFACT.now
+getting = tables_know Artifacts GET_ARTIFACT.now (λ at tree. Select (record { lets = []; body = simple tree (at_key 0 0 ∷ []) told_columns }) told_names) get_artifact_is
 
-abbrev pub listing : Knows HoldsLedger LIST_ARTIFACTS.now
-listing = ledger_knows Artifacts LIST_ARTIFACTS.now (λ at tree. Select (record { lets = []; body = artifacts_query tree }) shown_names) list_artifacts_is
+abbrev pub listing : Knows HoldsTables LIST_ARTIFACTS.now
+listing = tables_know Artifacts LIST_ARTIFACTS.now (λ at tree. Select (record { lets = []; body = artifacts_query tree }) shown_names) list_artifacts_is
 
-abbrev pub taking : Knows HoldsLedger GET_PIECE.now
-taking = ledger_knows Pieces GET_PIECE.now (λ at tree. Select (record { lets = []; body = simple tree at_piece (col 1 3 ∷ []) }) (codes "bytes" ∷ [])) get_piece_is
+abbrev pub taking : Knows HoldsTables GET_PIECE.now
+taking = tables_know Pieces GET_PIECE.now (λ at tree. Select (record { lets = []; body = simple tree at_piece (col 1 3 ∷ []) }) (codes "bytes" ∷ [])) get_piece_is
 
 abbrev pub putting : KnowsWrite HoldsLedger PUT_ARTIFACT.now
 putting = ledger_writes Artifacts PUT_ARTIFACT.now (λ at tree. Insert at (Values artifact_terms 6)) put_artifact_is (λ at tree. refl)
@@ -67,7 +68,7 @@ FindsSame m filename r found = found ≡ list_any (is_same_artifact m filename) 
 
 pub found : {E : Type 0} (m : ℕ) (filename : Bytes) (old new : State) (row : Option Row) → TakesFirst old new FIND_ARTIFACT.now (file_of m filename) (Ok row) → Finds HoldsLedger ledger_of {E = E} old new (Ok (is_some row)) (FindsSame m filename)
 found m filename old new row h =
-    first_finds HoldsLedger ledger_of FIND_ARTIFACT.now (file_of m filename) old new (FindsSame m filename) finding (λ db r holds at given. tt) row h (Ok (is_some row)) (λ db now holds shown. finds_artifact db now holds (codes "number" ∷ []) m filename row shown)
+    first_finds HoldsLedger ledger_of FIND_ARTIFACT.now (file_of m filename) old new (FindsSame m filename) (in_ledgers finding) (λ db r holds at given. tt) row h (Ok (is_some row)) (λ db now holds shown. finds_artifact db now holds (codes "number" ∷ []) m filename row shown)
 
 -- ---- the last number
 
@@ -75,12 +76,12 @@ abbrev pub IsLast : Records → ℕ → Type 0
 IsLast r last = last ≡ length r.artifacts
 
 lasts : (row : Option Row) (out : Result ℕ Fault) → IfOk out (λ n. IsLastRow n row)
-    → IfOk out (λ n. (db : Database) (now : Records) (holds : HoldsRecords db now) → ShowsFirst (ending db (ledger_of now) holds).command db [] row → n ≡ length now.artifacts)
+    → IfOk out (λ n. (db : Database) (now : Records) (holds : HoldsRecords db now) → ShowsFirst (in_ledgers ending db (ledger_of now) holds).command db [] row → n ≡ length now.artifacts)
 lasts row (Ok n) h = λ db now holds shown. one_last row n (length now.artifacts) h (lasts_artifact db now holds (codes "number" ∷ []) row shown)
 lasts row (Err e) h = tt
 
 pub last_read : (old new : State) (row : Option Row) → TakesFirst old new LAST_ARTIFACT.now [] (Ok row) → (out : Result ℕ Fault) → IfOk out (λ n. IsLastRow n row) → Finds HoldsLedger ledger_of old new out IsLast
-last_read old new row h out is = first_finds HoldsLedger ledger_of LAST_ARTIFACT.now [] old new IsLast ending (λ db r holds at given. tt) row h out (lasts row out is)
+last_read old new row h out is = first_finds HoldsLedger ledger_of LAST_ARTIFACT.now [] old new IsLast (in_ledgers ending) (λ db r holds at given. tt) row h out (lasts row out is)
 
 -- ---- an artifact by its number
 

@@ -19,17 +19,18 @@ use Rattle.desk_records.specs.Schema.{TargetAttributes}
 use Rattle.desk_records.specs.Holds.{HoldsLedger, ledger_of}
 use Rattle.desk_records.specs.TargetRow.{IsAttributeRow}
 use Rattle.desk_records.specs.Targets.{attributes_of, AddsAttribute, SetsAttribute}
+use Rattle.desk_records.specs.Tables.{HoldsTables}
 use Rattle.desk_records.proofs.Attributes.{attribute_row}
 use Rattle.desk_records.proofs.TargetMeaning.{attributes_query, attribute_terms, set_attribute_query, list_target_attributes_is, put_target_attribute_is, set_target_attribute_is}
 use Rattle.desk_records.proofs.AttributeRecords.{lists_target_attributes, adds_attribute, sets_attribute}
 use Rattle.desk_store.specs.Rows.{AreReadAs}
 use Rattle.desk_store.proofs.ReadLemmas.{asks_all}
-use Rattle.desk_store.proofs.Known.{ledger_knows, ledger_writes}
+use Rattle.desk_store.proofs.Known.{ledger_writes, tables_know}
 
 -- ---- what the texts mean where the records are held
 
-abbrev pub listing : Knows HoldsLedger LIST_TARGET_ATTRIBUTES.now
-listing = ledger_knows TargetAttributes LIST_TARGET_ATTRIBUTES.now (λ at tree. Select (record { lets = []; body = attributes_query tree }) (codes "key" ∷ codes "value" ∷ [])) list_target_attributes_is
+abbrev pub listing : Knows HoldsTables LIST_TARGET_ATTRIBUTES.now
+listing = tables_know TargetAttributes LIST_TARGET_ATTRIBUTES.now (λ at tree. Select (record { lets = []; body = attributes_query tree }) (codes "key" ∷ codes "value" ∷ [])) list_target_attributes_is
 
 abbrev pub putting : KnowsWrite HoldsLedger PUT_TARGET_ATTRIBUTE.now
 putting = ledger_writes TargetAttributes PUT_TARGET_ATTRIBUTE.now (λ at tree. Insert at (Values attribute_terms 4)) put_target_attribute_is (λ at tree. refl)

@@ -1,5 +1,5 @@
--- What a text on one table means where a ledger is held, and where tables are held.
-use Rattle.std.proofs.Common.{◌≡◌, ℕ, true, List}
+-- What a text on one table means where tables are held, whatever rows they have, and so where a ledger is.
+use Rattle.std.proofs.Common.{◌≡◌, ℕ, true, List, refl}
 use Rattle.sqlite.specs.Command.{Command}
 use Rattle.sqlite.specs.Schema.{Schema}
 use Rattle.sql_calls.specs.Means.{Knows, KnowsWrite, Means, writes_rows}
@@ -7,16 +7,17 @@ use Rattle.sql_front.specs.Stands.{Stands}
 use Rattle.desk_records.specs.Schema.{Place, name_of, table_at}
 use Rattle.desk_records.specs.Holds.{HoldsLedger}
 use Rattle.desk_records.specs.Tables.{HoldsTables}
+use Rattle.desk_records.proofs.HeldTables.{rows_of}
+
+-- where a ledger is held, tables are
+abbrev pub in_ledgers : {sql : List ℕ} → Knows HoldsTables sql → Knows HoldsLedger sql
+in_ledgers knows db l holds = knows db (rows_of db l holds) (record { sound = holds.sound; spot = holds.spot; stands = holds.stands; rows = λ p. refl })
 
 module _ (t : Place) (sql : List ℕ) (command : ℕ → ℕ → Command) (means : (s : Schema) (at tree : ℕ) → Stands s (name_of t) at (table_at t tree) → Means s sql (command at tree)) where
   -- wherever the table stands
-  abbrev pub ledger_knows : Knows HoldsLedger sql
-  ledger_knows db l holds = record { command = command (holds.spot t).at (holds.spot t).tree; means = means db.schema (holds.spot t).at (holds.spot t).tree (holds.stands t) }
+  abbrev pub tables_know : Knows HoldsTables sql
+  tables_know db tables holds = record { command = command (holds.spot t).at (holds.spot t).tree; means = means db.schema (holds.spot t).at (holds.spot t).tree (holds.stands t) }
 
   -- .. as a text that writes rows
   abbrev pub ledger_writes : ((at tree : ℕ) → writes_rows (command at tree) ≡ true) → KnowsWrite HoldsLedger sql
-  ledger_writes rows = record { knows = ledger_knows; rows = λ db l holds. rows (holds.spot t).at (holds.spot t).tree }
-
-  -- wherever the table stands, whatever rows it has
-  abbrev pub tables_know : Knows HoldsTables sql
-  tables_know db tables holds = record { command = command (holds.spot t).at (holds.spot t).tree; means = means db.schema (holds.spot t).at (holds.spot t).tree (holds.stands t) }
+  ledger_writes rows = record { knows = in_ledgers tables_know; rows = λ db l holds. rows (holds.spot t).at (holds.spot t).tree }

@@ -19,19 +19,20 @@ use Rattle.desk_records.specs.Holds.{HoldsLedger, Ledger}
 use Rattle.desk_records.specs.LedgerSteps.{AddsNumber}
 use Rattle.desk_records.specs.NumberRow.{IsLastNumberRow, IsNumberRow}
 use Rattle.desk_records.specs.Schema.{Numbers}
+use Rattle.desk_records.specs.Tables.{HoldsTables}
 use Rattle.desk_records.proofs.ActionMeaning.{last_number_is, last_number_names, last_number_query, list_numbers_is, list_numbers_query, number_names, number_terms, put_number_is}
 use Rattle.desk_records.proofs.NumberRecords.{lasts_number, lists_numbers, told_last}
 use Rattle.desk_records.proofs.PartWrites.{adds_number}
 use Rattle.desk_store.specs.Rows.{AreReadAs, IsReadAs}
-use Rattle.desk_store.proofs.Known.{ledger_knows, ledger_writes}
+use Rattle.desk_store.proofs.Known.{ledger_writes, tables_know}
 use Rattle.desk_store.proofs.LedgerReads.{one_last_placed, one_placed}
 use Rattle.desk_store.proofs.ReadLemmas.{asks_all, takes_one}
 
-abbrev pub ending_numbers : Knows HoldsLedger LAST_NUMBER.now
-ending_numbers = ledger_knows Numbers LAST_NUMBER.now (λ at tree. Select (record { lets = []; body = last_number_query tree }) last_number_names) last_number_is
+abbrev pub ending_numbers : Knows HoldsTables LAST_NUMBER.now
+ending_numbers = tables_know Numbers LAST_NUMBER.now (λ at tree. Select (record { lets = []; body = last_number_query tree }) last_number_names) last_number_is
 
-abbrev pub listing_numbers : Knows HoldsLedger LIST_NUMBERS.now
-listing_numbers = ledger_knows Numbers LIST_NUMBERS.now (λ at tree. Select (record { lets = []; body = list_numbers_query tree }) number_names) list_numbers_is
+abbrev pub listing_numbers : Knows HoldsTables LIST_NUMBERS.now
+listing_numbers = tables_know Numbers LIST_NUMBERS.now (λ at tree. Select (record { lets = []; body = list_numbers_query tree }) number_names) list_numbers_is
 
 abbrev pub knows_put_number : KnowsWrite HoldsLedger PUT_NUMBER.now
 knows_put_number = ledger_writes Numbers PUT_NUMBER.now (λ at tree. Insert at (Values number_terms 5)) put_number_is (λ at tree. refl)

@@ -1,13 +1,11 @@
 -- The calls on the table of actions with whatever rows it has.
-use Rattle.std.proofs.Common.{◌≡◌, ℕ, [], filter_map, Ok, Err, Result, IfOk, Vec}
+use Rattle.std.proofs.Common.{◌≡◌, ℕ, filter_map, Ok, Err, Result, IfOk, Vec}
 use Rattle.std.specs.declared.alloc.Global.{Global}
 use Rattle.sqlite_value.specs.Order.{Row}
-use Rattle.sqlite.specs.Command.TheVariants.{Select}
 use Rattle.sqlite.specs.Effect.{Database, Reads as Shows}
 use Rattle.sqlite.specs.State.{State}
 use Rattle.sql_calls.specs.declared.fault.Fault.{Fault}
 use Rattle.sql_calls.specs.Calls.{AsksText}
-use Rattle.sql_calls.specs.Means.{Knows}
 use Rattle.sql_calls.proofs.Finding.{ask_finds}
 use Rattle.desk_records.specs.CheckedRows.{counted_of}
 use Rattle.desk_records.specs.CountedActions.{AreCounted}
@@ -15,23 +13,20 @@ use Rattle.desk_records.specs.Schema.{Actions}
 use Rattle.desk_records.specs.Tables.{HoldsTables, Tables}
 use Rattle.desk_records.specs.declared.action_texts.TheConstants.{LIST_ACTIONS}
 use Rattle.desk_records.specs.declared.checked_rows.CountedAction.{CountedAction}
-use Rattle.desk_records.proofs.ActionMeaning.{list_actions_is, list_actions_query, listed_names}
+use Rattle.desk_records.proofs.ActionMeaning.{listed_names}
 use Rattle.desk_records.proofs.ActionRows.{counts_actions}
-use Rattle.desk_store.proofs.Known.{tables_know}
+use Rattle.desk_store.proofs.ActionCalls.{listing}
 use Rattle.desk_store.proofs.RawCalls.{FindsOf}
 use Rattle.desk_store.proofs.RawLists.{all_of}
-
-abbrev acting_any : Knows HoldsTables LIST_ACTIONS.now
-acting_any = tables_know Actions LIST_ACTIONS.now (λ at tree. Select (record { lets = []; body = list_actions_query tree }) listed_names) list_actions_is
 
 abbrev pub CountsOf : ℕ → Tables → Vec CountedAction Global → Type 0
 CountsOf r t found = AreCounted (t Actions) r found.items
 
 pub counted_read : (r : ℕ) (old new : State) (rows : Vec Row Global) → AsksText old new LIST_ACTIONS.now (all_of r) (Ok rows) → (out : Result (Vec CountedAction Global) Fault)
     → IfOk out (λ found. found.items ≡ filter_map counted_of rows.items) → FindsOf old new out (CountsOf r)
-counted_read r old new rows h out read = ask_finds HoldsTables (λ (t : Tables). t) LIST_ACTIONS.now (all_of r) old new (CountsOf r) acting_any rows h out (answers out read)
+counted_read r old new rows h out read = ask_finds HoldsTables (λ (t : Tables). t) LIST_ACTIONS.now (all_of r) old new (CountsOf r) listing rows h out (answers out read)
   where
     answers : (out : Result (Vec CountedAction Global) Fault) → IfOk out (λ found. found.items ≡ filter_map counted_of rows.items)
-        → IfOk out (λ found. (db : Database) (t : Tables) (holds : HoldsTables db t) → Shows (acting_any db t holds).command db (all_of r) rows.items → CountsOf r t found)
+        → IfOk out (λ found. (db : Database) (t : Tables) (holds : HoldsTables db t) → Shows (listing db t holds).command db (all_of r) rows.items → CountsOf r t found)
     answers (Ok found) read = λ db t holds shows. counts_actions db t holds listed_names r rows.items shows found.items read
     answers (Err e) read = tt

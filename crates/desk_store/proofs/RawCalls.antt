@@ -15,7 +15,6 @@ use Rattle.sql_calls.proofs.Counts.{count_query, count_rows}
 use Rattle.sql_calls.proofs.Finding.{ShowsFirst, ask_finds, few_finds, first_finds}
 use Rattle.sql_front.specs.Stands.{Stands}
 use Rattle.rollout_model.specs.Rules.{is_number}
-use Rattle.desk_records.specs.Holds.{HoldsLedger}
 use Rattle.desk_records.specs.Listings.{AreRead, IsLast}
 use Rattle.desk_records.specs.MemberRow.{IsPlacedRow, keeps_member_rules}
 use Rattle.desk_records.specs.Modules.{IsLastRow}
@@ -28,7 +27,7 @@ use Rattle.desk_records.proofs.PlaceRows.{counts_places, lists_places}
 use Rattle.desk_records.proofs.RolloutMeaning.{count_members_is, last_rollout_is, last_rollout_query, list_places_is, placed_names, places_query}
 use Rattle.desk_records.proofs.RolloutRows.{lasts_any}
 use Rattle.desk_store.specs.Rows.{IsCount}
-use Rattle.desk_store.proofs.Known.{ledger_knows, tables_know}
+use Rattle.desk_store.proofs.Known.{tables_know}
 use Rattle.desk_store.proofs.TargetCalls.{same_count}
 
 -- what is found of tables
@@ -51,9 +50,6 @@ module _ {A : Type 0} (sql : List ℕ) (params : Row) (old new : State) (knows :
 -- ---- counts
 
 module _ (p : Place) (sql : List ℕ) (means : (s : Schema) (at tree : ℕ) → Stands s (name_of p) at (table_at p tree) → Means s sql (Select (record { lets = []; body = count_query tree }) (codes "count(*)" ∷ []))) where
-  abbrev pub counted_ledger : Knows HoldsLedger sql
-  counted_ledger = ledger_knows p sql (λ at tree. Select (record { lets = []; body = count_query tree }) (codes "count(*)" ∷ [])) means
-
   abbrev pub counted : Knows HoldsTables sql
   counted = tables_know p sql (λ at tree. Select (record { lets = []; body = count_query tree }) (codes "count(*)" ∷ [])) means
 
@@ -77,29 +73,26 @@ module _ (p : Place) (sql : List ℕ) (means : (s : Schema) (at tree : ℕ) → 
 
 -- ---- members
 
-abbrev pub listing : Knows HoldsLedger LIST_PLACES.now
-listing = ledger_knows Members LIST_PLACES.now (λ at tree. Select (record { lets = []; body = places_query tree }) placed_names) list_places_is
+abbrev pub listing : Knows HoldsTables LIST_PLACES.now
+listing = tables_know Members LIST_PLACES.now (λ at tree. Select (record { lets = []; body = places_query tree }) placed_names) list_places_is
 
-abbrev listing_any : Knows HoldsTables LIST_PLACES.now
-listing_any = tables_know Members LIST_PLACES.now (λ at tree. Select (record { lets = []; body = places_query tree }) placed_names) list_places_is
-
-abbrev pub counting : Knows HoldsLedger COUNT_MEMBERS.now
-counting = counted_ledger Members COUNT_MEMBERS.now count_members_is
+abbrev pub counting : Knows HoldsTables COUNT_MEMBERS.now
+counting = counted Members COUNT_MEMBERS.now count_members_is
 
 abbrev pub Places : ℕ → Tables → Option (Vec PlacedMember Global) → Type 0
 Places r t found = ListsPlaces (t Members) r (option_map vec_items found)
 
 pub places_read : (r : ℕ) → is_number r ≡ true → (old new : State) (rows : Vec Row Global) → AsksText old new LIST_PLACES.now (Int (pos r) ∷ []) (Ok rows) → (out : Result (Option (Vec PlacedMember Global)) Fault)
     → IfOk out (λ found. AreRead IsPlacedRow keeps_member_rules rows.items (option_map vec_items found)) → FindsOf old new out (Places r)
-places_read r good old new rows = all_read LIST_PLACES.now (Int (pos r) ∷ []) old new listing_any (Places r) (λ found. AreRead IsPlacedRow keeps_member_rules rows.items (option_map vec_items found)) rows
+places_read r good old new rows = all_read LIST_PLACES.now (Int (pos r) ∷ []) old new listing (Places r) (λ found. AreRead IsPlacedRow keeps_member_rules rows.items (option_map vec_items found)) rows
     (λ db t holds found shows read. lists_places db t holds placed_names r good rows.items shows (option_map vec_items found) read)
 
 -- as many rows as are listed
 pub place_count_read : (r : ℕ) → is_number r ≡ true → (old new : State) (rows : Vec Row Global) → AsksText old new LIST_PLACES.now (Int (pos r) ∷ []) (Ok rows) → (out : Result ℕ Fault) → IfOk out (λ n. n ≡ length rows.items)
     → FindsOf old new out (λ t count. count ≡ length (filter (is_of r) (t Members)))
-place_count_read r good old new rows h out is = ask_finds HoldsTables (λ (t : Tables). t) LIST_PLACES.now (Int (pos r) ∷ []) old new (λ t count. count ≡ length (filter (is_of r) (t Members))) listing_any rows h out (answers out is)
+place_count_read r good old new rows h out is = ask_finds HoldsTables (λ (t : Tables). t) LIST_PLACES.now (Int (pos r) ∷ []) old new (λ t count. count ≡ length (filter (is_of r) (t Members))) listing rows h out (answers out is)
   where
-    answers : (out : Result ℕ Fault) → IfOk out (λ n. n ≡ length rows.items) → IfOk out (λ n. (db : Database) (t : Tables) (holds : HoldsTables db t) → Shows (listing_any db t holds).command db (Int (pos r) ∷ []) rows.items → n ≡ length (filter (is_of r) (t Members)))
+    answers : (out : Result ℕ Fault) → IfOk out (λ n. n ≡ length rows.items) → IfOk out (λ n. (db : Database) (t : Tables) (holds : HoldsTables db t) → Shows (listing db t holds).command db (Int (pos r) ∷ []) rows.items → n ≡ length (filter (is_of r) (t Members)))
     answers (Ok n) is = λ db t holds shows. is ∙ counts_places db t holds placed_names r good rows.items shows
     answers (Err e) is = tt
 

@@ -1,5 +1,5 @@
 -- The reads of one row of a table, whatever rows the table has.
-use Rattle.std.proofs.Common.{◌≡◌, ◌≤◌, ℕ, pos, negsuc, Bool, true, List, [], ◌∷◌, length, slice_get, nat_le, cond, false, Option, Ok, Err, Result, IfOk, Vec, refl, sym, subst, arith, codes}
+use Rattle.std.proofs.Common.{◌≡◌, inl, ◌≤◌, ℕ, pos, negsuc, Bool, true, List, [], ◌∷◌, length, slice_get, nat_le, cond, false, Option, Some, None, IfSome, Ok, Err, Result, IfOk, Vec, refl, sym, subst, arith, codes}
 use Rattle.std.specs.declared.alloc.Global.{Global}
 use Rattle.std.proofs.lemmas.Bool.Decides.{nat_tests}
 use Rattle.sqlite_value.specs.declared.value.Value.TheVariants.{Null, Int, Text}
@@ -13,33 +13,38 @@ use Rattle.sqlite.specs.Term.{Term, lit}
 use Rattle.sqlite_rules.specs.Lists.{Has}
 use Rattle.sql_calls.specs.declared.fault.Fault.{Fault}
 use Rattle.sql_calls.specs.declared.fault.Fault.TheVariants.{Store}
-use Rattle.sql_calls.specs.Calls.{AsksFew, few_of}
+use Rattle.sql_calls.specs.Calls.{AsksFew, TakesFirst, few_of}
 use Rattle.sql_calls.specs.Means.{Knows, Means}
+use Rattle.sql_calls.proofs.Finding.{ShowsFirst, first_finds}
 use Rattle.sql_calls.proofs.Selects.{passes, shown_of, simple}
 use Rattle.sql_front.specs.Stands.{Stands}
 use Rattle.rollout_machine.specs.Commands.{Bytes}
 use Rattle.rollout_model.specs.Rules.{is_word}
 use Rattle.rollout_model.specs.declared.group_rule.GroupRule.{GroupRule}
 use Rattle.rollout_model.specs.declared.rollout.Offer.{Offer}
+use Rattle.desk_records.specs.ArtifactRow.{IsStoredRow}
 use Rattle.desk_records.specs.FoundPieces.{lies_at}
-use Rattle.desk_records.specs.Listings.{FindsOne, has_text_at}
+use Rattle.desk_records.specs.Listings.{FindsOne, IsSaid, has_text_at}
 use Rattle.desk_records.specs.RolloutRow.{IsActionRow, IsOfferRow, IsRolloutRow}
 use Rattle.desk_records.specs.RuleRow.{IsRuleRow}
-use Rattle.desk_records.specs.Schema.{Actions, Offers, Place, Rollouts, Rules, name_of, table_at}
+use Rattle.desk_records.specs.Schema.{Actions, Artifacts, Offers, Place, Rollouts, Rules, name_of, table_at}
 use Rattle.desk_records.specs.TableRows.{IsRollout}
 use Rattle.desk_records.specs.Tables.{HoldsTables, Tables}
 use Rattle.desk_records.specs.declared.action_texts.TheConstants.{GET_ACTION, GET_OFFER}
+use Rattle.desk_records.specs.declared.artifact_row.StoredArtifact.{StoredArtifact}
+use Rattle.desk_records.specs.declared.artifact_texts.TheConstants.{GET_ARTIFACT}
 use Rattle.desk_records.specs.declared.rollout_row.StoredAction.{StoredAction}
 use Rattle.desk_records.specs.declared.rollout_row.StoredRollout.{StoredRollout}
 use Rattle.desk_records.specs.declared.rollout_texts.TheConstants.{GET_ROLLOUT, GET_RULE}
 use Rattle.desk_records.proofs.ActionMeaning.{action_columns, action_names, get_action_is, get_offer_is, of_controller, offer_columns}
-use Rattle.desk_records.proofs.AnyRows.{is_only, none_passes}
+use Rattle.desk_records.proofs.AnyRows.{from_shown, is_only, none_passes}
+use Rattle.desk_records.proofs.ArtifactMeaning.{get_artifact_is, told_columns, told_names}
 use Rattle.desk_records.proofs.MeaningWords.{at_key}
 use Rattle.desk_records.proofs.NumberColumns.{passes_rowid}
 use Rattle.desk_records.proofs.RolloutMeaning.{get_rollout_is, get_rule_is, of_group, rollout_columns, rollout_names, rule_columns, rule_names}
 use Rattle.desk_records.proofs.RuleRows.{judges_rule}
 use Rattle.desk_records.proofs.TextColumns.{passes_text, text_is}
-use Rattle.desk_store.specs.RawLists.{SaysNumbered, SaysOfferOf, SaysRule}
+use Rattle.desk_store.specs.RawLists.{HasNumbered, SaysNumbered, SaysOfferOf, SaysRule, SaysStored}
 use Rattle.desk_store.specs.Rows.{IsReadAs}
 use Rattle.desk_store.proofs.Known.{tables_know}
 use Rattle.desk_store.proofs.RawCalls.{FindsOf, few_read}
@@ -75,7 +80,25 @@ module _ (p : Place) (sql : List ℕ) (test columns : List Term) (names : List (
     pub one_read : (old new : State) (rows : Vec Row Global) → AsksFew old new sql params 1 (Ok rows) → (out : Result (Option A) Fault) → IfOk out (λ found. IsReadAs is found (slice_get rows.items 0)) → FindsOf old new out FindsIt
     one_read old new rows h = few_read sql params old new found_by FindsIt (λ found. IsReadAs is found (slice_get rows.items 0)) rows (λ db t holds found shows read. finds db t holds rows.items (one_at_most rows h.answer h.few) shows found read) 1 h
 
+    -- what is read of the first row, one says that passes
+    pub first_said : (old new : State) (row : Option Row) → TakesFirst old new sql params (Ok row) → (out : Result (Option A) Fault) → IfOk out (λ found. IsReadAs is found row) → FindsOf old new out (λ t found. IfSome found (IsSaid (t p) passing says))
+    first_said old new row h out read = first_finds HoldsTables (λ (t : Tables). t) sql params old new (λ t found. IfSome found (IsSaid (t p) passing says)) found_by (λ db t holds at given. tt) row h out (answers out read)
+      where
+        said : (db : Database) (t : Tables) (holds : HoldsTables db t) (row : Option Row) → ShowsFirst (found_by db t holds).command db params row → (found : Option A) → IsReadAs is found row → IfSome found (IsSaid (t p) passing says)
+        said db t holds None shows found read = subst (λ (o : Option A). IfSome o (IsSaid (t p) passing says)) (sym read) tt
+        said db t holds (Some x) shows found read =
+            let from = from_shown (holds.spot p).tree test columns [] (lit (Int (negsuc 0))) (lit (Int (pos 0))) params db.trees (t p) (holds.rows p) (λ xs. refl) passing (judged db t holds) (x ∷ shows.0) (shows.1.answer Null) x (inl refl) in
+            subst (λ (o : Option A). IfSome o (IsSaid (t p) passing says)) (sym read.1) (record { row = from.0; among = from.1; passes = from.2; is = means_so from.0 from.2 read.0 (subst (λ y. is y read.0) from.3 read.2) })
+
+        answers : (out : Result (Option A) Fault) → IfOk out (λ found. IsReadAs is found row) → IfOk out (λ found. (db : Database) (t : Tables) (holds : HoldsTables db t) → ShowsFirst (found_by db t holds).command db params row → IfSome found (IsSaid (t p) passing says))
+        answers (Ok found) read = λ db t holds shows. said db t holds row shows found read
+        answers (Err e) read = tt
+
 -- ---- by a number
+
+pub artifact_told : (k : ℕ) (old new : State) (row : Option Row) → TakesFirst old new GET_ARTIFACT.now (Int (pos k) ∷ []) (Ok row) → (out : Result (Option StoredArtifact) Fault) → IfOk out (λ found. IsReadAs IsStoredRow found row)
+    → FindsOf old new out (λ t found. IfSome found (HasNumbered t k))
+artifact_told k = first_said Artifacts GET_ARTIFACT.now (at_key 0 0 ∷ []) told_columns told_names get_artifact_is (Int (pos k) ∷ []) (has_rowid (pos k)) (λ db t holds row among. passes_rowid row k) IsStoredRow SaysStored (λ row numbered a is. record { module_number = is.module_number; filename = is.filename; size = is.size; digest = is.digest })
 
 pub rollout_read : (r : ℕ) (old new : State) (rows : Vec Row Global) → AsksFew old new GET_ROLLOUT.now (Int (pos r) ∷ []) 1 (Ok rows) → (out : Result (Option StoredRollout) Fault) → IfOk out (λ found. IsReadAs IsRolloutRow found (slice_get rows.items 0))
     → FindsOf old new out (λ t found. FindsOne (t Rollouts) (has_rowid (pos r)) IsRollout found)

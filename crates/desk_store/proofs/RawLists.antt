@@ -22,10 +22,10 @@ use Rattle.sql_calls.proofs.Selects.{by, passes, shown_in, shown_of, simple}
 use Rattle.sql_front.specs.Stands.{Stands}
 use Rattle.rollout_machine.specs.declared.records.GroupRecord.{GroupRecord}
 use Rattle.rollout_model.specs.Rules.{is_number}
-use Rattle.desk_records.specs.ArtifactRow.{has_size, small_number}
+use Rattle.rollout_model.specs.declared.artifact.Artifact.{Artifact}
+use Rattle.desk_records.specs.ArtifactRow.{IsArtifactRow, has_size, small_number}
 use Rattle.desk_records.specs.CheckedRows.{IsCheckedArtifactRow, IsOwnedOfferRow, is_wide, keeps_action_rules, keeps_artifact_rules, keeps_offer_rules}
 use Rattle.desk_records.specs.Codes.{first_broken, flag_in, number_in, outcome_in}
-use Rattle.desk_records.specs.Holds.{HoldsLedger}
 use Rattle.desk_records.specs.Listings.{AreRead, AreSaid, has_at}
 use Rattle.desk_records.specs.EntryRow.{IsSequencedRow}
 use Rattle.desk_records.specs.NumberRow.{IsNumberRow}
@@ -37,7 +37,7 @@ use Rattle.desk_records.specs.TargetRow.{has_word}
 use Rattle.desk_records.specs.declared.module_row.Column.{Column}
 use Rattle.desk_records.specs.declared.module_row.Column.TheVariants as rule
 use Rattle.desk_records.specs.declared.action_texts.TheConstants.{LIST_ACTIONS, LIST_ENTRIES, LIST_NUMBERS, LIST_OFFERS}
-use Rattle.desk_records.specs.declared.artifact_texts.TheConstants.{LIST_ALL_ARTIFACTS}
+use Rattle.desk_records.specs.declared.artifact_texts.TheConstants.{LIST_ALL_ARTIFACTS, LIST_ARTIFACTS}
 use Rattle.desk_records.specs.declared.checked_rows.CheckedArtifact.{CheckedArtifact}
 use Rattle.desk_records.specs.declared.checked_rows.OwnedOffer.{OwnedOffer}
 use Rattle.desk_records.specs.declared.entry_row.SequencedEntry.{SequencedEntry}
@@ -46,23 +46,21 @@ use Rattle.desk_records.specs.declared.rollout_row.ListedAction.{ListedAction}
 use Rattle.desk_records.specs.declared.rollout_texts.TheConstants.{LIST_GROUPS}
 use Rattle.desk_records.proofs.ActionMeaning.{entry_columns, entry_names, list_actions_is, list_actions_query, list_entries_is, list_entries_query, list_numbers_is, list_numbers_query, list_offers_is, listed_columns, listed_names, number_columns, number_names, of_action, of_rollout as of_its_rollout, owned_columns, owned_names}
 use Rattle.desk_records.proofs.AnyRows.{are_said, broken, number_order, rise}
-use Rattle.desk_records.proofs.ArtifactMeaning.{all_artifacts_query, all_columns, all_names, list_all_artifacts_is}
+use Rattle.desk_records.proofs.ArtifactMeaning.{all_artifacts_query, all_columns, all_names, artifacts_query, list_all_artifacts_is, list_artifacts_is, shown_columns, shown_names}
+use Rattle.desk_records.proofs.MeaningWords.{at_key}
 use Rattle.desk_records.proofs.NumberColumns.{is_number_in, number_in_good, number_in_is, number_is}
 use Rattle.desk_records.proofs.RolloutMeaning.{group_columns, group_names, list_groups_is, list_groups_query, of_rollout}
 use Rattle.desk_records.proofs.TableColumns.{passes_integer}
-use Rattle.desk_store.specs.RawLists.{AreInOrder, IsKeptActionRow, IsKeptGroupRow, ListsRows, SaysAction, SaysArtifact, SaysEntry, SaysGroup, SaysNumber, SaysOffer, any_row}
+use Rattle.desk_store.specs.RawLists.{AreInOrder, AreListed, IsKeptActionRow, IsKeptGroupRow, ListsRows, SaysAction, SaysArtifact, SaysEntry, SaysGroup, SaysListed, SaysNumber, SaysOffer, any_row}
 use Rattle.desk_store.specs.Rows.{AreReadAs}
-use Rattle.desk_store.proofs.Known.{ledger_knows, tables_know}
+use Rattle.desk_store.proofs.Known.{tables_know}
 use Rattle.desk_store.proofs.RawCalls.{FindsOf, all_read}
 
 -- ---- any list of one table
 
 module _ (p : Place) (sql : List ℕ) (test columns : List Term) (order : List (Term × Key)) (limit offset : Term) (names : List (List ℕ))
     (means : (s : Schema) (at tree : ℕ) → Stands s (name_of p) at (table_at p tree) → Means s sql (Select (record { lets = []; body = by (simple tree test columns) order limit offset }) names)) where
-  abbrev pub listed_ledger : Knows HoldsLedger sql
-  listed_ledger = ledger_knows p sql (λ at tree. Select (record { lets = []; body = by (simple tree test columns) order limit offset }) names) means
-
-  abbrev listed : Knows HoldsTables sql
+  abbrev pub listed : Knows HoldsTables sql
   listed = tables_know p sql (λ at tree. Select (record { lets = []; body = by (simple tree test columns) order limit offset }) names) means
 
   module _ (params : Row) (whole : (tree : ℕ) (xs : List Row) → page (by (simple tree test columns) order limit offset) params xs ≡ xs)
@@ -118,12 +116,20 @@ says_artifact row any a is = record { number_is = rw is.number (is_number_in a.n
 kept_artifact : (row : Row) (a : CheckedArtifact) → SaysArtifact row a → keeps_artifact_rules (shown_of all_columns [] row) ≡ true
 kept_artifact row a says = rw (says.kept, good_in (column row 0) a.number says.number_is) refl
 
-abbrev pub artifacts_known : Knows HoldsLedger LIST_ALL_ARTIFACTS.now
-artifacts_known = listed_ledger Artifacts LIST_ALL_ARTIFACTS.now [] all_columns (all_artifacts_query 0).order (lit (Int (negsuc 0))) (lit (Int (pos 0))) all_names list_all_artifacts_is
+abbrev pub artifacts_known : Knows HoldsTables LIST_ALL_ARTIFACTS.now
+artifacts_known = listed Artifacts LIST_ALL_ARTIFACTS.now [] all_columns (all_artifacts_query 0).order (lit (Int (negsuc 0))) (lit (Int (pos 0))) all_names list_all_artifacts_is
 
 pub artifacts_read : (old new : State) (rows : Vec Row Global) → AsksText old new LIST_ALL_ARTIFACTS.now [] (Ok rows) → (out : Result (Option (Vec CheckedArtifact Global)) Fault) → IfOk out (λ found. AreRead IsCheckedArtifactRow keeps_artifact_rules rows.items (option_map vec_items found))
     → FindsOf old new out (λ t found. ListsRows (t Artifacts) any_row SaysArtifact (option_map vec_items found))
 artifacts_read = rows_read Artifacts LIST_ALL_ARTIFACTS.now [] all_columns (all_artifacts_query 0).order (lit (Int (negsuc 0))) (lit (Int (pos 0))) all_names list_all_artifacts_is [] (λ tree xs. refl) any_row (λ db t holds row among. refl) IsCheckedArtifactRow SaysArtifact says_artifact keeps_artifact_rules kept_artifact
+
+-- ---- the artifacts of a module
+
+pub module_artifacts_read : (m : ℕ) (old new : State) (rows : Vec Row Global) → AsksText old new LIST_ARTIFACTS.now (Int (pos m) ∷ []) (Ok rows) → (out : Result (Vec Artifact Global) Fault) → IfOk out (λ found. AreReadAs IsArtifactRow rows.items found.items)
+    → FindsOf old new out (λ t found. AreListed t m found.items)
+module_artifacts_read m = each_read Artifacts LIST_ARTIFACTS.now (at_key 2 0 ∷ []) shown_columns (artifacts_query 0).order (lit (Int (negsuc 0))) (lit (Int (pos 0))) shown_names list_artifacts_is (Int (pos m) ∷ []) (λ tree xs. refl) (has_at 2 m)
+    (λ db t holds row among. passes_integer db t holds Artifacts row among 1 (record { c = _; there = refl; kind_is = refl; strict = refl; filled = refl; apart = refl }) m []) IsArtifactRow SaysListed
+    (λ row of a is. record { number = is.number; filename = is.filename; size = is.size; digest = is.digest })
 
 -- ---- offers
 
@@ -133,8 +139,8 @@ says_offer row any o is = record { id_is = is.id; word = is.word; shows = is.off
 kept_offer : (row : Row) (o : OwnedOffer) → SaysOffer row o → keeps_offer_rules (shown_of owned_columns [] row) ≡ true
 kept_offer row o says = rw (says.shows.action, says.shows.canceling, says.word) refl
 
-abbrev pub offers_known : Knows HoldsLedger LIST_OFFERS.now
-offers_known = listed_ledger Offers LIST_OFFERS.now [] owned_columns [] (lit (Int (negsuc 0))) (lit (Int (pos 0))) owned_names list_offers_is
+abbrev pub offers_known : Knows HoldsTables LIST_OFFERS.now
+offers_known = listed Offers LIST_OFFERS.now [] owned_columns [] (lit (Int (negsuc 0))) (lit (Int (pos 0))) owned_names list_offers_is
 
 pub offers_read : (old new : State) (rows : Vec Row Global) → AsksText old new LIST_OFFERS.now [] (Ok rows) → (out : Result (Option (Vec OwnedOffer Global)) Fault) → IfOk out (λ found. AreRead IsOwnedOfferRow keeps_offer_rules rows.items (option_map vec_items found))
     → FindsOf old new out (λ t found. ListsRows (t Offers) any_row SaysOffer (option_map vec_items found))

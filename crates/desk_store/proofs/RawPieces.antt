@@ -3,33 +3,24 @@ use Rattle.std.proofs.Common.{◌≡◌, ℕ, pos, [], ◌∷◌, map, Ok, Resul
 use Rattle.std.specs.declared.alloc.Global.{Global}
 use Rattle.sqlite_value.specs.declared.value.Value.TheVariants.{Int}
 use Rattle.sqlite_value.specs.Order.{Row, column}
-use Rattle.sqlite.specs.Command.TheVariants.{Select}
 use Rattle.sqlite.specs.State.{State}
-use Rattle.sqlite.specs.Term.{col}
 use Rattle.sql_calls.specs.declared.fault.Fault.{Fault}
 use Rattle.sql_calls.specs.Calls.{AsksText}
-use Rattle.sql_calls.specs.Means.{Knows}
-use Rattle.sql_calls.proofs.Selects.{simple}
 use Rattle.desk_records.specs.ArtifactRow.{StoredBytes}
 use Rattle.desk_records.specs.FoundPieces.{ArePieces}
 use Rattle.desk_records.specs.Schema.{Pieces}
-use Rattle.desk_records.specs.Tables.{HoldsTables, Tables}
+use Rattle.desk_records.specs.Tables.{Tables}
 use Rattle.desk_records.specs.declared.artifact_texts.TheConstants.{GET_PIECE}
-use Rattle.desk_records.proofs.ArtifactMeaning.{at_piece, get_piece_is}
 use Rattle.desk_records.proofs.PieceRows.{lists_pieces}
 use Rattle.desk_store.specs.Rows.{AreReadAs}
-use Rattle.desk_store.proofs.ArtifactCalls.{IsPieceRow}
-use Rattle.desk_store.proofs.Known.{tables_know}
+use Rattle.desk_store.proofs.ArtifactCalls.{IsPieceRow, taking}
 use Rattle.desk_store.proofs.RawCalls.{FindsOf, all_read}
 use Rattle.desk_store.proofs.ReadLemmas.{read_mapped}
-
-abbrev taking_any : Knows HoldsTables GET_PIECE.now
-taking_any = tables_know Pieces GET_PIECE.now (λ at tree. Select (record { lets = []; body = simple tree at_piece (col 1 3 ∷ []) }) (codes "bytes" ∷ [])) get_piece_is
 
 abbrev pub Found : ℕ → ℕ → Tables → Vec (Vec ℕ Global) Global → Type 0
 Found number place t pieces = ArePieces (t Pieces) number place (map vec_items pieces.items)
 
 pub pieces_read : (number place : ℕ) (old new : State) (rows : Vec Row Global) → AsksText old new GET_PIECE.now (Int (pos number) ∷ Int (pos place) ∷ []) (Ok rows) → (out : Result (Vec (Vec ℕ Global) Global) Fault)
     → IfOk out (λ pieces. AreReadAs IsPieceRow rows.items pieces.items) → FindsOf old new out (Found number place)
-pieces_read number place old new rows = all_read GET_PIECE.now (Int (pos number) ∷ Int (pos place) ∷ []) old new taking_any (Found number place) (λ pieces. AreReadAs IsPieceRow rows.items pieces.items) rows
+pieces_read number place old new rows = all_read GET_PIECE.now (Int (pos number) ∷ Int (pos place) ∷ []) old new taking (Found number place) (λ pieces. AreReadAs IsPieceRow rows.items pieces.items) rows
     (λ db t holds pieces shows read. lists_pieces db t holds (codes "bytes" ∷ []) number place rows.items shows (map vec_items pieces.items) (read_mapped vec_items (λ row bytes. column row 0 ≡ StoredBytes bytes) rows.items pieces.items read))

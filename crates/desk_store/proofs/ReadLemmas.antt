@@ -1,22 +1,27 @@
 -- Rows that are read, whatever they are read as.
-use Rattle.std.proofs.Common.{◌≡◌, ◌<◌, ◌++◌, ◌+◌, ℕ, get_or, take, List, [], ◌∷◌, length, map, Option, Some, None, option_map, Ok, Err, Result, IfErr, IfOk, Vec, refl, sym, ap₂, subst, filter_map, ap, ◌∙◌}
+use Rattle.std.proofs.Common.{◌≡◌, ◌<◌, ◌++◌, ◌+◌, ℕ, get_or, take, List, [], ◌∷◌, length, map, Option, Some, None, option_map, Ok, Err, Result, IfErr, IfOk, Vec, refl, sym, ap₂, subst, filter_map, ap, ◌∙◌, arith}
 use Rattle.std.proofs.lemmas.List.{take_more}
 use Rattle.std.proofs.lemmas.Slice.Zip.{all_zipped_more}
 use Rattle.std.specs.List.{cons_option}
 use Rattle.std.specs.declared.alloc.Global.{Global}
 use Rattle.sqlite_value.specs.Order.{Row}
 use Rattle.sqlite.specs.Effect.{Database, Reads as Shows}
-use Rattle.sqlite.specs.State.{State}
+use Rattle.sqlite.specs.State.{HasCleanDisk, IsUnchanged, State}
 use Rattle.sqlite.proofs.Callers.{EndsIn}
 use Rattle.sql_calls.specs.declared.fault.Fault.{Fault}
 use Rattle.sql_calls.specs.Calls.{AsksText, TakesFirst}
-use Rattle.sql_calls.specs.Standing.{Finds}
-use Rattle.sql_calls.specs.Means.{Knows}
+use Rattle.sql_calls.specs.Standing.{Finds, Sees, Wears}
+use Rattle.sql_calls.specs.Means.{Known, Knows}
 use Rattle.sql_calls.proofs.Finding.{ShowsFirst, ask_finds, first_finds}
+use Rattle.sql_calls.proofs.Framing.{took}
+use Rattle.sql_calls.proofs.Leavings.{unchanged_by}
 use Rattle.desk_records.specs.Holds.{HoldsLedger, Ledger}
+use Rattle.desk_records.specs.Tables.{HoldsTables, Tables}
 use Rattle.sqlite_rules.specs.Lists.{Has}
 use Rattle.sql_calls.specs.declared.fault.Fault.TheVariants.{Memory, Store}
+use Rattle.desk_store.specs.Changing.{KeepsTo}
 use Rattle.desk_store.specs.Rows.{AreReadAs, HasBroken, IfStore, IsReadAs}
+use Rattle.desk_store.proofs.Known.{in_ledgers}
 
 -- a further row, and what it is read as
 pub read_more : {A : Type 0} (is : Row → A → Type 0) (rows : List Row) (found : List A) (at : ℕ) (row : Row) (one : A) → at < length rows → row ≡ get_or rows at row → AreReadAs is (take at rows) found → is row one
@@ -67,15 +72,15 @@ module _ {A B : Type 0} (is : Row → A → Type 0) (row_of : B → Row) where
 
 module _ {Q : Type 0} (of : Q → Ledger) {A B : Type 0} (is : Row → A → Type 0) (row_of : B → Row) where
   -- a query whose first row, if there is one, was made of one thing
-  pub takes_one : (sql : List ℕ) (params : Row) (old new : State) (knows : Knows HoldsLedger sql) (wanted : Q → Option B) (Tells : Option A → Option B → Type 0)
+  pub takes_one : (sql : List ℕ) (params : Row) (old new : State) (knows : Knows HoldsTables sql) (wanted : Q → Option B) (Tells : Option A → Option B → Type 0)
       → Tells None None → ((a : A) (b : B) → is (row_of b) a → Tells (Some a) (Some b))
-      → ((db : Database) (l : Ledger) (holds : HoldsLedger db l) (at : Database) (given : Row) → EndsIn (knows db l holds).command at given)
-      → (row : Option Row) → ((db : Database) (now : Q) (holds : HoldsLedger db (of now)) → ShowsFirst (knows db (of now) holds).command db params row → row ≡ option_map row_of (wanted now))
+      → ((db : Database) (l : Ledger) (holds : HoldsLedger db l) (at : Database) (given : Row) → EndsIn (in_ledgers knows db l holds).command at given)
+      → (row : Option Row) → ((db : Database) (now : Q) (holds : HoldsLedger db (of now)) → ShowsFirst (in_ledgers knows db (of now) holds).command db params row → row ≡ option_map row_of (wanted now))
       → TakesFirst old new sql params (Ok row) → (out : Result (Option A) Fault) → IfOk out (λ found. IsReadAs is found row) → Finds HoldsLedger of old new out (λ r found. Tells found (wanted r))
-  takes_one sql params old new knows wanted Tells none some ends row shows h out is_read = first_finds HoldsLedger of sql params old new (λ r found. Tells found (wanted r)) knows ends row h out (answers out is_read)
+  takes_one sql params old new knows wanted Tells none some ends row shows h out is_read = first_finds HoldsLedger of sql params old new (λ r found. Tells found (wanted r)) (in_ledgers knows) ends row h out (answers out is_read)
     where
       answers : (out : Result (Option A) Fault) → IfOk out (λ found. IsReadAs is found row)
-          → IfOk out (λ found. (db : Database) (now : Q) (holds : HoldsLedger db (of now)) → ShowsFirst (knows db (of now) holds).command db params row → Tells found (wanted now))
+          → IfOk out (λ found. (db : Database) (now : Q) (holds : HoldsLedger db (of now)) → ShowsFirst (in_ledgers knows db (of now) holds).command db params row → Tells found (wanted now))
       answers (Ok found) is_read = λ db now holds shown. one_read is row_of Tells none some found (wanted now) row is_read (shows db now holds shown)
       answers (Err e) is_read = tt
 
@@ -88,13 +93,13 @@ module _ {A : Type 0} (is : Row → A → Type 0) (row_of : A → Row) (one : (a
 
 module _ {Q : Type 0} (of : Q → Ledger) {A V : Type 0} (items : V → List A) (is : Row → A → Type 0) (row_of : A → Row) (one : (a b : A) → is (row_of b) a → a ≡ b) where
   -- a query whose rows were made of a list
-  pub asks_all : (sql : List ℕ) (params : Row) (old new : State) (knows : Knows HoldsLedger sql) (wanted : Q → List A) (rows : Vec Row Global)
-      → ((db : Database) (now : Q) (holds : HoldsLedger db (of now)) → Shows (knows db (of now) holds).command db params rows.items → rows.items ≡ map row_of (wanted now))
+  pub asks_all : (sql : List ℕ) (params : Row) (old new : State) (knows : Knows HoldsTables sql) (wanted : Q → List A) (rows : Vec Row Global)
+      → ((db : Database) (now : Q) (holds : HoldsLedger db (of now)) → Shows (in_ledgers knows db (of now) holds).command db params rows.items → rows.items ≡ map row_of (wanted now))
       → AsksText old new sql params (Ok rows) → (out : Result V Fault) → IfOk out (λ found. AreReadAs is rows.items (items found)) → Finds HoldsLedger of old new out (λ r found. items found ≡ wanted r)
-  asks_all sql params old new knows wanted rows shows h out are_read = ask_finds HoldsLedger of sql params old new (λ r found. items found ≡ wanted r) knows rows h out (answers out are_read)
+  asks_all sql params old new knows wanted rows shows h out are_read = ask_finds HoldsLedger of sql params old new (λ r found. items found ≡ wanted r) (in_ledgers knows) rows h out (answers out are_read)
     where
       answers : (out : Result V Fault) → IfOk out (λ found. AreReadAs is rows.items (items found))
-          → IfOk out (λ found. (db : Database) (now : Q) (holds : HoldsLedger db (of now)) → Shows (knows db (of now) holds).command db params rows.items → items found ≡ wanted now)
+          → IfOk out (λ found. (db : Database) (now : Q) (holds : HoldsLedger db (of now)) → Shows (in_ledgers knows db (of now) holds).command db params rows.items → items found ≡ wanted now)
       answers (Ok found) are_read = λ db now holds shown. all_read is row_of one (items found) (wanted now) (subst (λ l. AreReadAs is l (items found)) (shows db now holds shown) are_read)
       answers (Err e) are_read = tt
 
@@ -106,3 +111,22 @@ told_broken {A = A} broken rows row among fault told out is = subst (λ (o : Res
     go : (fault : Fault) → IfStore fault (broken row) → IfStore fault (HasBroken broken rows)
     go Memory _ = tt
     go Store is = record { row = row; among = among; broken = is }
+
+-- ---- what a read leaves
+
+module _ {sql : List ℕ} (params : Row) (old new : State) (knows : Knows HoldsTables sql) where
+  still_seen : Wears old new → ((k : Known old.now.schema sql) → HasCleanDisk new → IsUnchanged old new) → (t : Tables) → Sees HoldsTables old t → Sees HoldsTables new t
+  still_seen wears same t was = record {
+    sees = λ clean.
+        let first = was.sees (omega (arith, clean, wears)) in
+        let it = same (knows old.now t first.now_holds) clean in
+        record { mode = it.0.mode ∙ first.mode; is_open = it.0.is_open; now_holds = subst (λ db. HoldsTables db t) (sym it.0.now_is) first.now_holds };
+  }
+
+  pub first_keeps : (out : Result (Option Row) Fault) → TakesFirst old new sql params out → KeepsTo old new out
+  first_keeps (Ok row) h = still_seen h.survives.clean (λ k clean. took HoldsTables sql params old new knows row k (h.answers clean))
+  first_keeps (Err fault) h = tt
+
+  pub ask_keeps : (out : Result (Vec Row Global) Fault) → AsksText old new sql params out → KeepsTo old new out
+  ask_keeps (Ok rows) h = still_seen h.survives.clean (λ k clean. unchanged_by sql k.command params old new k.means rows.items (h.answers clean))
+  ask_keeps (Err fault) h = tt

@@ -36,6 +36,7 @@ use Rattle.desk_records.specs.RuleRow.{IsRuleRow}
 use Rattle.desk_records.specs.Schema.{Desk, Rollouts, Groups, Members, Rules}
 use Rattle.rollout_model.specs.declared.group_rule.GroupRule.{GroupRule}
 use Rattle.desk_records.specs.Codes.{flag_in}
+use Rattle.desk_records.specs.Tables.{HoldsTables}
 use Rattle.desk_records.proofs.DeskRecords.{gets_desk, told_desk}
 use Rattle.desk_records.proofs.Meaning.{desk_query, get_desk_is}
 use Rattle.desk_records.proofs.MeaningWords.{at_key}
@@ -44,42 +45,42 @@ use Rattle.desk_records.proofs.RolloutRecords.{finds_rollout, lasts_rollout, get
 use Rattle.desk_store.specs.GroupPairs.{group_and_next}
 use Rattle.desk_store.specs.declared.rollouts.GroupAndNext.{GroupAndNext}
 use Rattle.desk_store.specs.Rows.{AreReadAs, IsApproval, IsReadAs}
-use Rattle.desk_store.proofs.Known.{ledger_knows}
+use Rattle.desk_store.proofs.Known.{in_ledgers, tables_know}
 use Rattle.desk_store.proofs.LedgerReads.{both_mapped, kept_flag, shown_rollout, one_rollout, one_group, one_rule}
 use Rattle.desk_store.proofs.ModuleCalls.{one_last}
 use Rattle.desk_store.proofs.ReadLemmas.{asks_all, one_read, takes_one}
 
 -- ---- what the texts mean where a ledger is held
 
-abbrev pub finding : Knows HoldsLedger FIND_ROLLOUT.now
-finding = ledger_knows Rollouts FIND_ROLLOUT.now (λ at tree. Select (record { lets = []; body = simple tree same_name (col 1 0 ∷ []) }) (codes "number" ∷ [])) find_rollout_is
+abbrev pub finding : Knows HoldsTables FIND_ROLLOUT.now
+finding = tables_know Rollouts FIND_ROLLOUT.now (λ at tree. Select (record { lets = []; body = simple tree same_name (col 1 0 ∷ []) }) (codes "number" ∷ [])) find_rollout_is
 
-abbrev pub ending : Knows HoldsLedger LAST_ROLLOUT.now
-ending = ledger_knows Rollouts LAST_ROLLOUT.now (λ at tree. Select (record { lets = []; body = last_rollout_query tree }) (codes "number" ∷ [])) last_rollout_is
+abbrev pub ending : Knows HoldsTables LAST_ROLLOUT.now
+ending = tables_know Rollouts LAST_ROLLOUT.now (λ at tree. Select (record { lets = []; body = last_rollout_query tree }) (codes "number" ∷ [])) last_rollout_is
 
-abbrev pub getting : Knows HoldsLedger GET_ROLLOUT.now
-getting = ledger_knows Rollouts GET_ROLLOUT.now (λ at tree. Select (record { lets = []; body = simple tree (at_key 0 0 ∷ []) rollout_columns }) rollout_names) get_rollout_is
+abbrev pub getting : Knows HoldsTables GET_ROLLOUT.now
+getting = tables_know Rollouts GET_ROLLOUT.now (λ at tree. Select (record { lets = []; body = simple tree (at_key 0 0 ∷ []) rollout_columns }) rollout_names) get_rollout_is
 
-abbrev pub paging : Knows HoldsLedger LIST_ROLLOUTS.now
-paging = ledger_knows Rollouts LIST_ROLLOUTS.now (λ at tree. Select (record { lets = []; body = list_rollouts_query tree }) rollout_names) list_rollouts_is
+abbrev pub paging : Knows HoldsTables LIST_ROLLOUTS.now
+paging = tables_know Rollouts LIST_ROLLOUTS.now (λ at tree. Select (record { lets = []; body = list_rollouts_query tree }) rollout_names) list_rollouts_is
 
-abbrev pub listing : Knows HoldsLedger LIST_GROUPS.now
-listing = ledger_knows Groups LIST_GROUPS.now (λ at tree. Select (record { lets = []; body = list_groups_query tree }) group_names) list_groups_is
+abbrev pub listing : Knows HoldsTables LIST_GROUPS.now
+listing = tables_know Groups LIST_GROUPS.now (λ at tree. Select (record { lets = []; body = list_groups_query tree }) group_names) list_groups_is
 
-abbrev pub getting_group : Knows HoldsLedger GET_GROUP.now
-getting_group = ledger_knows Groups GET_GROUP.now (λ at tree. Select (record { lets = []; body = get_group_query tree }) group_names) get_group_is
+abbrev pub getting_group : Knows HoldsTables GET_GROUP.now
+getting_group = tables_know Groups GET_GROUP.now (λ at tree. Select (record { lets = []; body = get_group_query tree }) group_names) get_group_is
 
-abbrev pub holding_group : Knows HoldsLedger HOLDING_GROUP.now
-holding_group = ledger_knows Groups HOLDING_GROUP.now (λ at tree. Select (record { lets = []; body = holding_group_query tree }) group_names) holding_group_is
+abbrev pub holding_group : Knows HoldsTables HOLDING_GROUP.now
+holding_group = tables_know Groups HOLDING_GROUP.now (λ at tree. Select (record { lets = []; body = holding_group_query tree }) group_names) holding_group_is
 
-abbrev pub group_and_next_known : Knows HoldsLedger GROUP_AND_NEXT.now
-group_and_next_known = ledger_knows Groups GROUP_AND_NEXT.now (λ at tree. Select (record { lets = []; body = group_and_next_query tree }) group_names) group_and_next_is
+abbrev pub group_and_next_known : Knows HoldsTables GROUP_AND_NEXT.now
+group_and_next_known = tables_know Groups GROUP_AND_NEXT.now (λ at tree. Select (record { lets = []; body = group_and_next_query tree }) group_names) group_and_next_is
 
-abbrev pub listing_members : Knows HoldsLedger LIST_MEMBERS.now
-listing_members = ledger_knows Members LIST_MEMBERS.now (λ at tree. Select (record { lets = []; body = list_members_query tree }) (codes "controller" ∷ [])) list_members_is
+abbrev pub listing_members : Knows HoldsTables LIST_MEMBERS.now
+listing_members = tables_know Members LIST_MEMBERS.now (λ at tree. Select (record { lets = []; body = list_members_query tree }) (codes "controller" ∷ [])) list_members_is
 
-abbrev pub getting_desk : Knows HoldsLedger GET_DESK.now
-getting_desk = ledger_knows Desk GET_DESK.now (λ at tree. Select (record { lets = []; body = desk_query tree }) (codes "format" ∷ codes "version" ∷ codes "approval" ∷ [])) get_desk_is
+abbrev pub getting_desk : Knows HoldsTables GET_DESK.now
+getting_desk = tables_know Desk GET_DESK.now (λ at tree. Select (record { lets = []; body = desk_query tree }) (codes "format" ∷ codes "version" ∷ codes "approval" ∷ [])) get_desk_is
 
 -- ---- the desk
 
@@ -88,27 +89,27 @@ one_approval a b None h is = absurd h
 one_approval a b (Some row) h is = let it : row ≡ told_desk b = cc in kept_flag b a (subst (λ r. flag_in (column r 2) ≡ Some a) it h)
 
 approves : (row : Option Row) (out : Result Bool Fault) → IfOk out (λ a. IsApproval a row)
-    → IfOk out (λ a. (db : Database) (l : Ledger) (holds : HoldsLedger db l) → ShowsFirst (getting_desk db l holds).command db [] row → a ≡ l.records.approval)
+    → IfOk out (λ a. (db : Database) (l : Ledger) (holds : HoldsLedger db l) → ShowsFirst (in_ledgers getting_desk db l holds).command db [] row → a ≡ l.records.approval)
 approves row (Ok a) h = λ db l holds shown. one_approval a l.records.approval row h (gets_desk db l holds (codes "format" ∷ codes "version" ∷ codes "approval" ∷ []) row shown)
 approves row (Err e) h = tt
 
 pub approval_read : (old new : State) (row : Option Row) → TakesFirst old new GET_DESK.now [] (Ok row) → (out : Result Bool Fault) → IfOk out (λ a. IsApproval a row) → Finds HoldsLedger (λ (l : Ledger). l) old new out (λ l a. a ≡ l.records.approval)
-approval_read old new row h out is = first_finds HoldsLedger (λ (l : Ledger). l) GET_DESK.now [] old new (λ l a. a ≡ l.records.approval) getting_desk (λ db l holds at given. tt) row h out (approves row out is)
+approval_read old new row h out is = first_finds HoldsLedger (λ (l : Ledger). l) GET_DESK.now [] old new (λ l a. a ≡ l.records.approval) (in_ledgers getting_desk) (λ db l holds at given. tt) row h out (approves row out is)
 
 -- ---- rollouts
 
 pub found : {E : Type 0} (name : Bytes) (old new : State) (row : Option Row) → TakesFirst old new FIND_ROLLOUT.now (Text name ∷ []) (Ok row) → Finds HoldsLedger (λ (l : Ledger). l) {E = E} old new (Ok (is_some row)) (λ l there. there ≡ list_any (is_called name) l.records.rollouts)
 found name old new row h =
-    first_finds HoldsLedger (λ (l : Ledger). l) FIND_ROLLOUT.now (Text name ∷ []) old new (λ l there. there ≡ list_any (is_called name) l.records.rollouts) finding (λ db l holds at given. tt) row h (Ok (is_some row))
+    first_finds HoldsLedger (λ (l : Ledger). l) FIND_ROLLOUT.now (Text name ∷ []) old new (λ l there. there ≡ list_any (is_called name) l.records.rollouts) (in_ledgers finding) (λ db l holds at given. tt) row h (Ok (is_some row))
     (λ db l holds shown. finds_rollout db l holds (codes "number" ∷ []) name row shown)
 
 lasts : (row : Option Row) (out : Result ℕ Fault) → IfOk out (λ n. IsLastRow n row)
-    → IfOk out (λ n. (db : Database) (l : Ledger) (holds : HoldsLedger db l) → ShowsFirst (ending db l holds).command db [] row → n ≡ length l.records.rollouts)
+    → IfOk out (λ n. (db : Database) (l : Ledger) (holds : HoldsLedger db l) → ShowsFirst (in_ledgers ending db l holds).command db [] row → n ≡ length l.records.rollouts)
 lasts row (Ok n) h = λ db l holds shown. one_last row n (length l.records.rollouts) h (lasts_rollout db l holds (codes "number" ∷ []) row shown)
 lasts row (Err e) h = tt
 
 pub last_read : (old new : State) (row : Option Row) → TakesFirst old new LAST_ROLLOUT.now [] (Ok row) → (out : Result ℕ Fault) → IfOk out (λ n. IsLastRow n row) → Finds HoldsLedger (λ (l : Ledger). l) old new out (λ l last. last ≡ length l.records.rollouts)
-last_read old new row h out is = first_finds HoldsLedger (λ (l : Ledger). l) LAST_ROLLOUT.now [] old new (λ l last. last ≡ length l.records.rollouts) ending (λ db l holds at given. tt) row h out (lasts row out is)
+last_read old new row h out is = first_finds HoldsLedger (λ (l : Ledger). l) LAST_ROLLOUT.now [] old new (λ l last. last ≡ length l.records.rollouts) (in_ledgers ending) (λ db l holds at given. tt) row h out (lasts row out is)
 
 pub rollout_read : (number : ℕ) → 1 ≤ number → (old new : State) (row : Option Row) → TakesFirst old new GET_ROLLOUT.now (Int (pos number) ∷ []) (Ok row) → (out : Result (Option StoredRollout) Fault) → IfOk out (λ found. IsReadAs IsRolloutRow found row)
     → Finds HoldsLedger (λ (l : Ledger). l) old new out (λ l found. found ≡ option_map stored_rollout (item_numbered l.records.rollouts number))
@@ -157,7 +158,7 @@ holding_read number place least old new row =
 pub group_and_next_read : (number place : ℕ) → 1 ≤ number → (old new : State) (rows : Vec Row Global) → AsksFew old new GROUP_AND_NEXT.now (Int (pos number) ∷ Int (pos place) ∷ []) 2 (Ok rows) → (out : Result GroupAndNext Fault)
     → IfOk out (λ both. IsReadAs IsGroupRow both.group (slice_get rows.items 0) × IsReadAs IsGroupRow both.next (slice_get rows.items 1)) → Finds HoldsLedger (λ (l : Ledger). l) old new out (λ l found. found ≡ group_and_next place (groups_of (item_numbered l.records.rollouts number)))
 group_and_next_read number place least old new rows h out are =
-    few_finds HoldsLedger (λ (l : Ledger). l) GROUP_AND_NEXT.now (Int (pos number) ∷ Int (pos place) ∷ []) old new (λ l found. found ≡ group_and_next place (groups_of (item_numbered l.records.rollouts number))) group_and_next_known 2 rows h out (answers out are)
+    few_finds HoldsLedger (λ (l : Ledger). l) GROUP_AND_NEXT.now (Int (pos number) ∷ Int (pos place) ∷ []) old new (λ l found. found ≡ group_and_next place (groups_of (item_numbered l.records.rollouts number))) (in_ledgers group_and_next_known) 2 rows h out (answers out are)
   where
     at : (l : Ledger) (i : ℕ) (found : Option GroupRecord) → i < 2 → rows.items ≡ map shown_group (take 2 (that_reach place (groups_of (item_numbered l.records.rollouts number)))) → IsReadAs IsGroupRow found (slice_get rows.items i)
         → found ≡ slice_get (that_reach place (groups_of (item_numbered l.records.rollouts number))) i
@@ -167,7 +168,7 @@ group_and_next_read number place least old new rows h out are =
         ∙ slice_get-take 2 its i within
 
     answers : (out : Result GroupAndNext Fault) → IfOk out (λ both. IsReadAs IsGroupRow both.group (slice_get rows.items 0) × IsReadAs IsGroupRow both.next (slice_get rows.items 1))
-        → IfOk out (λ both. (db : Database) (l : Ledger) (holds : HoldsLedger db l) → Shows (group_and_next_known db l holds).command db (Int (pos number) ∷ Int (pos place) ∷ []) rows.items → both ≡ group_and_next place (groups_of (item_numbered l.records.rollouts number)))
+        → IfOk out (λ both. (db : Database) (l : Ledger) (holds : HoldsLedger db l) → Shows (in_ledgers group_and_next_known db l holds).command db (Int (pos number) ∷ Int (pos place) ∷ []) rows.items → both ≡ group_and_next place (groups_of (item_numbered l.records.rollouts number)))
     answers (Err e) are = tt
     answers (Ok both) are = λ db l holds shown.
         let all = gets_group_and_next db l holds group_names number place least rows.items shown in
@@ -175,11 +176,11 @@ group_and_next_read number place least old new rows h out are =
 
 -- ---- what is said of groups
 
-abbrev pub getting_rule : Knows HoldsLedger GET_RULE.now
-getting_rule = ledger_knows Rules GET_RULE.now (λ at tree. Select (record { lets = []; body = simple tree of_group rule_columns }) rule_names) get_rule_is
+abbrev pub getting_rule : Knows HoldsTables GET_RULE.now
+getting_rule = tables_know Rules GET_RULE.now (λ at tree. Select (record { lets = []; body = simple tree of_group rule_columns }) rule_names) get_rule_is
 
-abbrev pub listing_rules : Knows HoldsLedger LIST_RULES.now
-listing_rules = ledger_knows Rules LIST_RULES.now (λ at tree. Select (record { lets = []; body = list_rules_query tree }) rule_names) list_rules_is
+abbrev pub listing_rules : Knows HoldsTables LIST_RULES.now
+listing_rules = tables_know Rules LIST_RULES.now (λ at tree. Select (record { lets = []; body = list_rules_query tree }) rule_names) list_rules_is
 
 pub rule_read : (number group : ℕ) → 1 ≤ number → (old new : State) (row : Option Row) → TakesFirst old new GET_RULE.now (Int (pos number) ∷ Int (pos group) ∷ []) (Ok row) → (out : Result (Option GroupRule) Fault) → IfOk out (λ found. IsReadAs IsRuleRow found row)
     → Finds HoldsLedger (λ (l : Ledger). l) old new out (λ l found. found ≡ rule_numbered l.rules number group)

@@ -31,30 +31,31 @@ use Rattle.desk_records.specs.Holds.{HoldsLedger, HoldsRecords, ledger_of}
 use Rattle.desk_records.specs.Modules.{IsLastRow}
 use Rattle.desk_records.specs.Sets.{place_row, is_same_set, names_of, with_set, AddsSetModule}
 use Rattle.desk_records.specs.SetRow.{IsSetNameRow, StoredNumber, called}
+use Rattle.desk_records.specs.Tables.{HoldsTables}
 use Rattle.desk_records.proofs.MeaningWords.{at_key}
 use Rattle.desk_records.proofs.SetMeaning.{same_names, last_set_query, name_columns, set_terms, set_modules_query, locked_query, set_module_terms, find_set_is, last_set_is, get_set_is, list_set_modules_is, module_locked_is, put_set_is, put_set_module_is}
 use Rattle.desk_records.proofs.SetRecords.{finds_set, lasts_set, gets_set, lists_set_modules, finds_lock, adds_set, adds_set_module}
 use Rattle.desk_store.specs.Rows.{AreReadAs, IsReadAs}
 use Rattle.desk_store.proofs.ReadLemmas.{asks_all, takes_one}
 use Rattle.desk_store.proofs.ModuleCalls.{one_last}
-use Rattle.desk_store.proofs.Known.{ledger_knows, ledger_writes}
+use Rattle.desk_store.proofs.Known.{in_ledgers, ledger_writes, tables_know}
 
 -- ---- what the texts mean where the records are held
 
-abbrev pub finding : Knows HoldsLedger FIND_SET.now
-finding = ledger_knows Sets FIND_SET.now (λ at tree. Select (record { lets = []; body = simple tree same_names (col 1 0 ∷ []) }) (codes "number" ∷ [])) find_set_is
+abbrev pub finding : Knows HoldsTables FIND_SET.now
+finding = tables_know Sets FIND_SET.now (λ at tree. Select (record { lets = []; body = simple tree same_names (col 1 0 ∷ []) }) (codes "number" ∷ [])) find_set_is
 
-abbrev pub ending : Knows HoldsLedger LAST_SET.now
-ending = ledger_knows Sets LAST_SET.now (λ at tree. Select (record { lets = []; body = last_set_query tree }) (codes "number" ∷ [])) last_set_is
+abbrev pub ending : Knows HoldsTables LAST_SET.now
+ending = tables_know Sets LAST_SET.now (λ at tree. Select (record { lets = []; body = last_set_query tree }) (codes "number" ∷ [])) last_set_is
 
-abbrev pub getting : Knows HoldsLedger GET_SET.now
-getting = ledger_knows Sets GET_SET.now (λ at tree. Select (record { lets = []; body = simple tree (at_key 0 0 ∷ []) name_columns }) (codes "name" ∷ codes "version" ∷ [])) get_set_is
+abbrev pub getting : Knows HoldsTables GET_SET.now
+getting = tables_know Sets GET_SET.now (λ at tree. Select (record { lets = []; body = simple tree (at_key 0 0 ∷ []) name_columns }) (codes "name" ∷ codes "version" ∷ [])) get_set_is
 
-abbrev pub listing : Knows HoldsLedger LIST_SET_MODULES.now
-listing = ledger_knows SetModules LIST_SET_MODULES.now (λ at tree. Select (record { lets = []; body = set_modules_query tree }) (codes "module" ∷ [])) list_set_modules_is
+abbrev pub listing : Knows HoldsTables LIST_SET_MODULES.now
+listing = tables_know SetModules LIST_SET_MODULES.now (λ at tree. Select (record { lets = []; body = set_modules_query tree }) (codes "module" ∷ [])) list_set_modules_is
 
-abbrev pub locking : Knows HoldsLedger MODULE_LOCKED.now
-locking = ledger_knows SetModules MODULE_LOCKED.now (λ at tree. Select (record { lets = []; body = locked_query tree }) (codes "dset" ∷ [])) module_locked_is
+abbrev pub locking : Knows HoldsTables MODULE_LOCKED.now
+locking = tables_know SetModules MODULE_LOCKED.now (λ at tree. Select (record { lets = []; body = locked_query tree }) (codes "dset" ∷ [])) module_locked_is
 
 abbrev pub putting : KnowsWrite HoldsLedger PUT_SET.now
 putting = ledger_writes Sets PUT_SET.now (λ at tree. Insert at (Values set_terms 4)) put_set_is (λ at tree. refl)
@@ -69,7 +70,7 @@ FindsSame name version r found = found ≡ list_any (is_same_set name version) r
 
 pub found : {E : Type 0} (name version : Bytes) (old new : State) (row : Option Row) → TakesFirst old new FIND_SET.now (names_of name version) (Ok row) → Finds HoldsLedger ledger_of {E = E} old new (Ok (is_some row)) (FindsSame name version)
 found name version old new row h =
-    first_finds HoldsLedger ledger_of FIND_SET.now (names_of name version) old new (FindsSame name version) finding (λ db r holds at given. tt) row h (Ok (is_some row)) (λ db now holds shown. finds_set db now holds (codes "number" ∷ []) name version row shown)
+    first_finds HoldsLedger ledger_of FIND_SET.now (names_of name version) old new (FindsSame name version) (in_ledgers finding) (λ db r holds at given. tt) row h (Ok (is_some row)) (λ db now holds shown. finds_set db now holds (codes "number" ∷ []) name version row shown)
 
 -- ---- the last number
 
@@ -77,12 +78,12 @@ abbrev pub IsLast : Records → ℕ → Type 0
 IsLast r last = last ≡ length r.sets
 
 lasts : (row : Option Row) (out : Result ℕ Fault) → IfOk out (λ n. IsLastRow n row)
-    → IfOk out (λ n. (db : Database) (now : Records) (holds : HoldsRecords db now) → ShowsFirst (ending db (ledger_of now) holds).command db [] row → n ≡ length now.sets)
+    → IfOk out (λ n. (db : Database) (now : Records) (holds : HoldsRecords db now) → ShowsFirst (in_ledgers ending db (ledger_of now) holds).command db [] row → n ≡ length now.sets)
 lasts row (Ok n) h = λ db now holds shown. one_last row n (length now.sets) h (lasts_set db now holds (codes "number" ∷ []) row shown)
 lasts row (Err e) h = tt
 
 pub last_read : (old new : State) (row : Option Row) → TakesFirst old new LAST_SET.now [] (Ok row) → (out : Result ℕ Fault) → IfOk out (λ n. IsLastRow n row) → Finds HoldsLedger ledger_of old new out IsLast
-last_read old new row h out is = first_finds HoldsLedger ledger_of LAST_SET.now [] old new IsLast ending (λ db r holds at given. tt) row h out (lasts row out is)
+last_read old new row h out is = first_finds HoldsLedger ledger_of LAST_SET.now [] old new IsLast (in_ledgers ending) (λ db r holds at given. tt) row h out (lasts row out is)
 
 -- ---- a set's name by its number
 
@@ -128,7 +129,7 @@ Locks number r locked = locked ≡ is_named_by_set r.sets number
 
 pub locked : {E : Type 0} (number : ℕ) (old new : State) (row : Option Row) → TakesFirst old new MODULE_LOCKED.now (Int (pos number) ∷ []) (Ok row) → Finds HoldsLedger ledger_of {E = E} old new (Ok (is_some row)) (Locks number)
 locked number old new row h =
-    first_finds HoldsLedger ledger_of MODULE_LOCKED.now (Int (pos number) ∷ []) old new (Locks number) locking (λ db r holds at given. tt) row h (Ok (is_some row)) (λ db now holds shown. finds_lock db now holds (codes "dset" ∷ []) number row shown)
+    first_finds HoldsLedger ledger_of MODULE_LOCKED.now (Int (pos number) ∷ []) old new (Locks number) (in_ledgers locking) (λ db r holds at given. tt) row h (Ok (is_some row)) (λ db now holds shown. finds_lock db now holds (codes "dset" ∷ []) number row shown)
 
 -- ---- a new set, and a further module of it
 

@@ -29,26 +29,27 @@ use Rattle.desk_records.specs.Holds.{HoldsLedger, HoldsRecords, ledger_of}
 use Rattle.desk_records.specs.ModuleRow.{StoredText}
 use Rattle.desk_records.specs.TargetRow.{IsTargetRow, IsListedTargetRow, listed_target, stored_target}
 use Rattle.desk_records.specs.Targets.{AddsTag, AddsTarget, renamed, untagged, with_changed}
+use Rattle.desk_records.specs.Tables.{HoldsTables}
 use Rattle.desk_records.proofs.Targets.{tag_row}
 use Rattle.desk_records.proofs.TargetMeaning.{of_target, target_columns, target_terms, set_target_query, targets_query, tags_query, tag_terms, drop_tag_query, get_target_is, count_targets_is, list_targets_is, list_target_tags_is, put_target_is, set_target_is, put_target_tag_is, drop_target_tag_is}
 use Rattle.desk_records.proofs.TargetRecords.{told_target, listed_row, gets_target, counts_targets, lists_targets, lists_target_tags, adds_target, sets_target, adds_tag, drops_tag}
 use Rattle.desk_store.specs.Rows.{AreReadAs, IsCount, IsReadAs}
 use Rattle.desk_store.proofs.ReadLemmas.{asks_all, takes_one}
-use Rattle.desk_store.proofs.Known.{ledger_knows, ledger_writes}
+use Rattle.desk_store.proofs.Known.{in_ledgers, ledger_writes, tables_know}
 
 -- ---- what the texts mean where the records are held
 
-abbrev pub getting : Knows HoldsLedger GET_TARGET.now
-getting = ledger_knows Targets GET_TARGET.now (λ at tree. Select (record { lets = []; body = simple tree of_target target_columns }) (codes "name" ∷ codes "digest" ∷ [])) get_target_is
+abbrev pub getting : Knows HoldsTables GET_TARGET.now
+getting = tables_know Targets GET_TARGET.now (λ at tree. Select (record { lets = []; body = simple tree of_target target_columns }) (codes "name" ∷ codes "digest" ∷ [])) get_target_is
 
-abbrev pub counting : Knows HoldsLedger COUNT_TARGETS.now
-counting = ledger_knows Targets COUNT_TARGETS.now (λ at tree. Select (record { lets = []; body = count_query tree }) (codes "count(*)" ∷ [])) count_targets_is
+abbrev pub counting : Knows HoldsTables COUNT_TARGETS.now
+counting = tables_know Targets COUNT_TARGETS.now (λ at tree. Select (record { lets = []; body = count_query tree }) (codes "count(*)" ∷ [])) count_targets_is
 
-abbrev pub paging : Knows HoldsLedger LIST_TARGETS.now
-paging = ledger_knows Targets LIST_TARGETS.now (λ at tree. Select (record { lets = []; body = targets_query tree }) (codes "controller" ∷ codes "name" ∷ [])) list_targets_is
+abbrev pub paging : Knows HoldsTables LIST_TARGETS.now
+paging = tables_know Targets LIST_TARGETS.now (λ at tree. Select (record { lets = []; body = targets_query tree }) (codes "controller" ∷ codes "name" ∷ [])) list_targets_is
 
-abbrev pub listing : Knows HoldsLedger LIST_TARGET_TAGS.now
-listing = ledger_knows TargetTags LIST_TARGET_TAGS.now (λ at tree. Select (record { lets = []; body = tags_query tree }) (codes "tag" ∷ [])) list_target_tags_is
+abbrev pub listing : Knows HoldsTables LIST_TARGET_TAGS.now
+listing = tables_know TargetTags LIST_TARGET_TAGS.now (λ at tree. Select (record { lets = []; body = tags_query tree }) (codes "tag" ∷ [])) list_target_tags_is
 
 abbrev pub putting : KnowsWrite HoldsLedger PUT_TARGET.now
 putting = ledger_writes Targets PUT_TARGET.now (λ at tree. Insert at (Values target_terms 4)) put_target_is (λ at tree. refl)
@@ -97,12 +98,12 @@ same_count count size (Some row) h small is =
     omega (arith, number, small)
 
 counts : (row : Option Row) (out : Result ℕ Fault) → IfOk out (λ n. IsCount n row) → IfOk out (λ n. n < 2 ^ 32)
-    → IfOk out (λ n. (db : Database) (now : Records) (holds : HoldsRecords db now) → ShowsFirst (counting db (ledger_of now) holds).command db [] row → Counts now n)
+    → IfOk out (λ n. (db : Database) (now : Records) (holds : HoldsRecords db now) → ShowsFirst (in_ledgers counting db (ledger_of now) holds).command db [] row → Counts now n)
 counts row (Ok n) h small = λ db now holds shown. same_count n (length now.targets) row h small (counts_targets db now holds (codes "count(*)" ∷ []) row shown)
 counts row (Err e) h small = tt
 
 pub count_read : (old new : State) (row : Option Row) → TakesFirst old new COUNT_TARGETS.now [] (Ok row) → (out : Result ℕ Fault) → IfOk out (λ n. IsCount n row) → IfOk out (λ n. n < 2 ^ 32) → Finds HoldsLedger ledger_of old new out Counts
-count_read old new row h out is small = first_finds HoldsLedger ledger_of COUNT_TARGETS.now [] old new Counts counting (λ db r holds at given. tt) row h out (counts row out is small)
+count_read old new row h out is small = first_finds HoldsLedger ledger_of COUNT_TARGETS.now [] old new Counts (in_ledgers counting) (λ db r holds at given. tt) row h out (counts row out is small)
 
 -- ---- the targets of a page
 

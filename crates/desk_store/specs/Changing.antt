@@ -1,15 +1,20 @@
 -- What a call comes to inside a change that is under way, by the change before the call and after it.
-use Rattle.std.specs.Prelude.{◌≡◌, Result}
+use Rattle.std.specs.Prelude.{◌≡◌, Result, Ok, Err}
 use Rattle.sqlite.specs.Store.{Ghosts}
 use Rattle.sqlite.specs.Held.{state}
 use Rattle.sqlite.specs.State.{State}
 use Rattle.sql_calls.specs.Calls.{Grows, failures_in}
-use Rattle.sql_calls.specs.Standing.{Finds, FrameTo, Makes}
+use Rattle.sql_calls.specs.Standing.{Finds, FrameTo, Makes, Sees}
 use Rattle.sql_calls.specs.declared.fault.Fault.{Fault}
 use Rattle.rollout_machine.specs.Records.{Records}
 use Rattle.desk_records.specs.Holds.{HoldsLedger, Ledger, ledger_of}
 use Rattle.desk_records.specs.Tables.{HoldsTables, Tables}
 use Rattle.desk_store.specs.declared.change.OpenChange.{OpenChange}
+
+-- after Ok the tables that were seen are seen, whatever rows they have
+abbrev pub KeepsTo : {A : Type 0} → State → State → Result A Fault → Type 0
+KeepsTo old new (Ok a) = (t : Tables) → Sees HoldsTables old t → Sees HoldsTables new t
+KeepsTo old new (Err fault) = Unit {0}
 
 module _ {S : Type 0} (g : Ghosts S) where
   -- the connection of the change
@@ -42,3 +47,7 @@ module _ {S : Type 0} (g : Ghosts S) where
   -- the tables answer, whatever rows they have, and stay as they are
   abbrev pub FindsTables : {A E : Type 0} → OpenChange S → OpenChange S → Result A E → (Tables → A → Type 0) → Type 0
   FindsTables old new result Answer = Finds HoldsTables (λ (t : Tables). t) (seen_in old) (seen_in new) result Answer
+
+  -- what only reads leaves the tables as they are
+  pub record KeepsTables {A : Type 0} (old new : OpenChange S) (result : Result A Fault) : Type 0 where
+    pub to : KeepsTo (seen_in old) (seen_in new) result

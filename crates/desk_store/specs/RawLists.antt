@@ -1,19 +1,23 @@
 -- What is listed or found of a table, whatever rows it has.
-use Rattle.std.specs.Prelude.{◌≡◌, ℕ, Bool, true, List, Option, Some, None}
+use Rattle.std.specs.Prelude.{◌≡◌, ℕ, Bool, true, List, [], ◌∷◌, Option, Some, None, pos}
 use Rattle.std.specs.List.Sorted.{IsNonDecreasingBy}
-use Rattle.sqlite_value.specs.Order.{Row}
+use Rattle.sqlite_value.specs.Order.{Row, column}
 use Rattle.sqlite_rules.specs.Lists.{Has}
 use Rattle.rollout_machine.specs.Commands.{Bytes}
+use Rattle.sqlite_trees.specs.Tree.{has_rowid}
 use Rattle.rollout_machine.specs.declared.records.GroupRecord.{GroupRecord}
+use Rattle.rollout_model.specs.declared.artifact.Artifact.{Artifact}
 use Rattle.rollout_model.specs.declared.group_rule.GroupRule.{GroupRule}
 use Rattle.rollout_model.specs.declared.rollout.Offer.{Offer}
-use Rattle.desk_records.specs.Listings.{AreBroken, AreSaid}
+use Rattle.desk_records.specs.ArtifactRow.{IsArtifactRow, IsStoredRow}
+use Rattle.desk_records.specs.Listings.{AreBroken, AreSaid, IsSaid, has_at}
 use Rattle.desk_records.specs.NumberRow.{IsNumberRow}
 use Rattle.desk_records.specs.RolloutRow.{IsActionRow, IsGroupRow, IsListedActionRow, broken_group_column, broken_listed_action_column}
 use Rattle.desk_records.specs.RuleRow.{IsRuleRow}
-use Rattle.desk_records.specs.Schema.{Actions, Offers}
+use Rattle.desk_records.specs.Schema.{Actions, Artifacts, Offers}
 use Rattle.desk_records.specs.Tables.{Tables}
-use Rattle.desk_records.specs.TableRows.{IsAction, IsArtifact, IsEntry, IsGroup, IsOffer, action_shown, number_shown, rule_shown}
+use Rattle.desk_records.specs.TableRows.{IsAction, IsArtifact, IsEntry, IsGroup, IsOffer, action_shown, artifact_shown, number_shown, rule_shown}
+use Rattle.desk_records.specs.declared.artifact_row.StoredArtifact.{StoredArtifact}
 use Rattle.desk_records.specs.declared.checked_rows.CheckedArtifact.{CheckedArtifact}
 use Rattle.desk_records.specs.declared.checked_rows.OwnedOffer.{OwnedOffer}
 use Rattle.desk_records.specs.declared.entry_row.SequencedEntry.{SequencedEntry}
@@ -25,6 +29,10 @@ use Rattle.desk_records.specs.declared.rollout_row.StoredAction.{StoredAction}
 abbrev pub ListsRows : {A : Type 0} → List Row → (Row → Bool) → (Row → A → Type 0) → Option (List A) → Type 0
 ListsRows rows test says (Some found) = AreSaid rows test says found
 ListsRows rows test says None = AreBroken rows test says
+
+-- what is shown of an artifact in a listing
+abbrev pub listed_shown : Row → Row
+listed_shown row = column row 0 ∷ column row 3 ∷ column row 4 ∷ column row 5 ∷ []
 
 -- each row
 abbrev pub any_row : Row → Bool
@@ -57,6 +65,14 @@ SaysNumber row it = IsNumberRow (number_shown row) it
 abbrev pub SaysNumbered : Row → StoredAction → Type 0
 SaysNumbered row a = IsActionRow (action_shown row) a
 
+-- the artifact of a number that is known
+abbrev pub SaysStored : Row → StoredArtifact → Type 0
+SaysStored row a = IsStoredRow (artifact_shown row) a
+
+-- an artifact of a module that is known
+abbrev pub SaysListed : Row → Artifact → Type 0
+SaysListed row a = IsArtifactRow (listed_shown row) a
+
 -- what the target of an id is offered
 abbrev pub SaysOfferOf : Bytes → Row → Offer → Type 0
 SaysOfferOf id row o = IsOffer row id o
@@ -75,6 +91,20 @@ pub record IsKeptGroupRow (row : Row) (g : GroupRecord) : Type 0 where
 pub record IsKeptActionRow (row : Row) (a : ListedAction) : Type 0 where
   pub action : IsListedActionRow row a
   pub kept : broken_listed_action_column row ≡ None
+
+-- ---- artifacts
+
+-- a row of this number says this
+abbrev pub HasNumbered : Tables → ℕ → StoredArtifact → Type 0
+HasNumbered t number a = IsSaid (t Artifacts) (has_rowid (pos number)) SaysStored a
+
+-- a row of this module says this
+abbrev pub HasListed : Tables → ℕ → Artifact → Type 0
+HasListed t module_number a = IsSaid (t Artifacts) (has_at 2 module_number) SaysListed a
+
+-- the rows of this module say these
+abbrev pub AreListed : Tables → ℕ → List Artifact → Type 0
+AreListed t module_number found = AreSaid (t Artifacts) (has_at 2 module_number) SaysListed found
 
 -- ---- tables that were judged
 

@@ -1,6 +1,6 @@
 //! Artifacts and the pieces of their contents, in a change that is under way.
 
-ghost use Rattle.std.specs.Prelude.{◌≡◌, ◌≤◌, ◌+◌, length, vec_items};
+ghost use Rattle.std.specs.Prelude.{◌≡◌, ◌≤◌, ◌+◌, IfSome, length, vec_items};
 ghost use Rattle.std.specs.List.{list_any};
 ghost use Rattle.std.specs.Option.{option_map};
 ghost use Rattle.rollout_machine.specs.ByteStrings.{item_numbered};
@@ -8,7 +8,8 @@ ghost use Rattle.rollout_machine.specs.Objects.{artifacts_shown};
 ghost use Rattle.desk_records.specs.ArtifactRow.{stored};
 ghost use Rattle.desk_records.specs.Artifacts.{is_same_artifact, piece_numbered, with_artifact, AddsPiece};
 ghost use Rattle.desk_store.specs.Counting.{AddsIn};
-ghost use Rattle.desk_store.specs.Changing.{FindsIn, MakesIn, StaysIn};
+ghost use Rattle.desk_store.specs.Changing.{FindsIn, FindsTables, MakesIn, StaysIn};
+ghost use Rattle.desk_store.specs.RawLists.{AreListed, HasNumbered};
 
 use crate::change::OpenChange;
 use crate::reading::{last_number, read_all, read_optional};
@@ -53,6 +54,7 @@ impl<'a, S: Alter> OpenChange<'a, S> {
     pub fn read_artifact(&mut self, number: ArtifactNo) -> Result<Option<StoredArtifact>, Fault>
         ensures stays { StaysIn S.Store self.old self.new result }
         ensures reads { FindsIn S.Store self.old self.new result (λ r found. found ≡ option_map stored (item_numbered r.artifacts number)) }
+        ensures tells { FindsTables S.Store self.old self.new result (λ t found. IfSome found (HasNumbered t number)) }
         ensures work { AddsIn 1 1 self.old self.new }
     {
         let alloc = self.store.alloc;
@@ -64,6 +66,7 @@ impl<'a, S: Alter> OpenChange<'a, S> {
     pub fn read_module_artifacts(&mut self, module_number: ModuleNo) -> Result<Vec<Artifact>, Fault>
         ensures stays { StaysIn S.Store self.old self.new result }
         ensures reads { FindsIn S.Store self.old self.new result (λ r artifacts. artifacts.items ≡ artifacts_shown module_number 1 r.artifacts) }
+        ensures tells { FindsTables S.Store self.old self.new result (λ t artifacts. AreListed t module_number artifacts.items) }
         ensures work { self.new.store.now.calls.work.statements ≤ self.old.store.now.calls.work.statements + 1 }
     {
         let alloc = self.store.alloc;

@@ -9,7 +9,7 @@ ghost use Rattle.rollout_machine.specs.Verdicts.{is_named_by_set};
 ghost use Rattle.desk_records.specs.Sets.{is_same_set, with_set, AddsSetModule};
 ghost use Rattle.desk_records.specs.SetRow.{called};
 ghost use Rattle.desk_store.specs.Counting.{AddsIn};
-ghost use Rattle.desk_store.specs.Changing.{FindsIn, MakesIn, StaysIn};
+ghost use Rattle.desk_store.specs.Changing.{FindsIn, KeepsTables, MakesIn, StaysIn};
 
 use crate::change::OpenChange;
 use crate::reading::{last_number, read_all, read_optional};
@@ -55,6 +55,7 @@ impl<'a, S: Alter> OpenChange<'a, S> {
     /// The modules of the set of a number, in its order; of a set that isn't there none.
     pub fn read_set_modules(&mut self, number: SetNo) -> Result<Vec<ModuleNo>, Fault>
         ensures stays { StaysIn S.Store self.old self.new result }
+        ensures keeps { KeepsTables S.Store self.old self.new result }
         ensures reads { FindsIn S.Store self.old self.new result (λ r modules. modules.items ≡ modules_of_set (item_numbered r.sets number)) }
         ensures work { self.new.store.now.calls.work.statements ≤ self.old.store.now.calls.work.statements + 1 }
     {

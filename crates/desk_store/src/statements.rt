@@ -5,8 +5,9 @@ ghost use Rattle.sqlite.specs.Values.{bound};
 ghost use Rattle.sql_calls.specs.Calls.{AsksFew, AsksText, RunsText, TakesFirst, counts, row_in, rows_in};
 ghost use Rattle.sql_calls.specs.Means.{Knows, KnowsWrite};
 ghost use Rattle.desk_records.specs.Holds.{HoldsLedger};
+ghost use Rattle.desk_records.specs.Tables.{HoldsTables};
 ghost use Rattle.desk_store.specs.Blaming.{HasCause, Watches};
-ghost use Rattle.desk_store.specs.Changing.{StaysIn, seen_in};
+ghost use Rattle.desk_store.specs.Changing.{KeepsTables, StaysIn, seen_in};
 ghost use Rattle.desk_store.specs.Counting.{AddsIn};
 
 use crate::change::OpenChange;
@@ -17,8 +18,9 @@ use sqlite::{Alter, Row};
 impl<'a, S: Alter> OpenChange<'a, S> {
     /// Runs one query, and takes its first row, if there is one.
     pub(crate) fn first(&mut self, sql: &str, params: &[ValueRef<'_>]) -> Result<Option<Row>, Fault>
-        requires { Knows HoldsLedger sql.now }
+        requires { Knows HoldsTables sql.now }
         ensures stays { StaysIn S.Store self.old self.new result }
+        ensures keeps { KeepsTables S.Store self.old self.new result }
         ensures blames { IfErr result (λ fault. (watch : _) → Watches S.Store self.old watch → HasCause S.Store self.new watch fault) }
         ensures takes { TakesFirst (seen_in S.Store self.old) (seen_in S.Store self.new) sql.now (bound params.now) result }
         ensures work { self.new.store.now.calls.work ≡ counts self.old.store.now.calls.work (row_in result) }
@@ -28,8 +30,9 @@ impl<'a, S: Alter> OpenChange<'a, S> {
 
     /// Runs one query, and takes all its rows.
     pub(crate) fn ask(&mut self, sql: &str, params: &[ValueRef<'_>]) -> Result<Vec<Row>, Fault>
-        requires { Knows HoldsLedger sql.now }
+        requires { Knows HoldsTables sql.now }
         ensures stays { StaysIn S.Store self.old self.new result }
+        ensures keeps { KeepsTables S.Store self.old self.new result }
         ensures blames { IfErr result (λ fault. (watch : _) → Watches S.Store self.old watch → HasCause S.Store self.new watch fault) }
         ensures asks { AsksText (seen_in S.Store self.old) (seen_in S.Store self.new) sql.now (bound params.now) result }
         ensures work { self.new.store.now.calls.work ≡ counts self.old.store.now.calls.work (rows_in result) }
@@ -44,7 +47,7 @@ impl<'a, S: Alter> OpenChange<'a, S> {
         params: &[ValueRef<'_>],
         most: usize,
     ) -> Result<Vec<Row>, Fault>
-        requires { Knows HoldsLedger sql.now }
+        requires { Knows HoldsTables sql.now }
         ensures stays { StaysIn S.Store self.old self.new result }
         ensures asks { AsksFew (seen_in S.Store self.old) (seen_in S.Store self.new) sql.now (bound params.now) most result }
         ensures blames { IfErr result (λ fault. (watch : _) → Watches S.Store self.old watch → HasCause S.Store self.new watch fault) }

@@ -6,7 +6,7 @@ ghost use Rattle.rollout_machine.specs.Verdicts.{tags_of, target_of};
 ghost use Rattle.desk_records.specs.TargetRow.{listed_target, stored_target};
 ghost use Rattle.desk_records.specs.Targets.{AddsTag, AddsTarget, renamed, untagged, with_changed};
 ghost use Rattle.desk_store.specs.Counting.{AddsIn};
-ghost use Rattle.desk_store.specs.Changing.{FindsIn, MakesIn, StaysIn};
+ghost use Rattle.desk_store.specs.Changing.{FindsIn, KeepsTables, MakesIn, StaysIn};
 
 use crate::change::OpenChange;
 use crate::reading::{counted_in, read_all, read_optional};
@@ -22,6 +22,7 @@ impl<'a, S: Alter> OpenChange<'a, S> {
     /// What is kept of the target of an id, without its tags and attributes. A row that breaks a column's rule is a failed store.
     pub fn read_target(&mut self, id: &ControllerId) -> Result<Option<StoredTarget>, Fault>
         ensures stays { StaysIn S.Store self.old self.new result }
+        ensures keeps { KeepsTables S.Store self.old self.new result }
         ensures reads { FindsIn S.Store self.old self.new result (λ r found. found ≡ option_map stored_target (target_of r id.now)) }
         ensures work { AddsIn 1 1 self.old self.new }
     {

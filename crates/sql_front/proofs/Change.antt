@@ -27,7 +27,7 @@ use Rattle.sql_front.proofs.Lower.{Same, IsPlain, lower_same}
 use Rattle.sql_front.proofs.OneTable.{same_columns}
 use Rattle.sql_front.proofs.Select.{IsPlainTest, tests_same}
 use Rattle.sql_front.proofs.Query.{accepted}
-use Rattle.sql_front.proofs.Texts.{alone}
+use Rattle.sql_front.proofs.Texts.{Becomes, alone}
 
 abbrev pub ArePlainSets : List (Name × Expr) → Type 0
 ArePlainSets [] = ⊤
@@ -84,6 +84,30 @@ pub record Updates (text : List ℕ) (name : Name) (table : Table) (body : Query
   pub over : body.from ≡ inner table.tree end
   pub fits : (accepts_after [] body (Some (row_classes table ∷ [])) && (is_count [] body.limit && is_count [] body.offset)) ≡ true
 
+-- all of it, of a text of which each part computes
+pub updates : {text : List ℕ} {name : Name} {table : Table} {body : Query} {parsed : Parsed} {sets : List (Name × Expr)} {test : Option Expr} {draft : Draft}
+    → first text ≡ Ok parsed
+    → (parsed.statement ≡ written.Update name sets test []) × (parsed.formats ≡ [])
+    → ArePlainSets sets
+    → IsPlainTest test
+    → (updated (alone table) 0 table sets test ≡ Ok draft) × Becomes table draft body
+    → Updates text name table body
+updates read is values filter known = record {
+  parsed = _;
+  sets = _;
+  test = _;
+  draft = _;
+  read = read;
+  statement = is.0;
+  formats = is.1;
+  values = values;
+  filter = filter;
+  known = known.0;
+  is_body = known.1.0;
+  over = known.1.1;
+  fits = known.1.2;
+}
+
 abbrev pub with_update : Parsed → ℕ → Query → Compiled
 with_update p at body = record { command = Update at (record { lets = []; body = body }); returning = None; names = p.names; formats = []; start = p.start; end = p.end; tail = p.tail }
 
@@ -111,6 +135,27 @@ pub record Removes (text : List ℕ) (name : Name) (table : Table) (body : Query
   pub is_body : query_of draft ≡ body
   pub over : body.from ≡ inner table.tree end
   pub fits : (accepts_after [] body (Some (row_classes table ∷ [])) && (is_count [] body.limit && is_count [] body.offset)) ≡ true
+
+-- all of it, of a text of which each part computes
+pub removes : {text : List ℕ} {name : Name} {table : Table} {body : Query} {parsed : Parsed} {test : Option Expr} {draft : Draft}
+    → first text ≡ Ok parsed
+    → (parsed.statement ≡ written.Delete name test []) × (parsed.formats ≡ [])
+    → IsPlainTest test
+    → (deleted (alone table) 0 table test ≡ Ok draft) × Becomes table draft body
+    → Removes text name table body
+removes read is filter known = record {
+  parsed = _;
+  test = _;
+  draft = _;
+  read = read;
+  statement = is.0;
+  formats = is.1;
+  filter = filter;
+  known = known.0;
+  is_body = known.1.0;
+  over = known.1.1;
+  fits = known.1.2;
+}
 
 abbrev pub with_delete : Parsed → ℕ → Query → Compiled
 with_delete p at body = record { command = Delete at (record { lets = []; body = body }); returning = None; names = p.names; formats = []; start = p.start; end = p.end; tail = p.tail }

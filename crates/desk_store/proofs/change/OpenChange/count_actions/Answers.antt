@@ -1,7 +1,7 @@
 use Rattle.desk_records.specs.Schema.{Actions}
 use Rattle.desk_records.specs.declared.action_texts.TheConstants.{COUNT_ACTIONS}
 use Rattle.desk_records.proofs.ActionMeaning.{count_actions_is}
-use Rattle.desk_store.proofs.RawCalls.{count_read, counted_ledger}
+use Rattle.desk_store.proofs.RawCalls.{count_read, counted}
 use Rattle.desk_store.proofs.RawBlames.{count_blamed}
 use Rattle.desk_store.proofs.change.OpenChange.count_actions.Goals as goal
 
@@ -13,4 +13,4 @@ returns-clause-blames g c =
     count_blamed g.S.Store _ _ c.in_ok-row.ensures.stays.grows.failures c.counted_in.result Actions COUNT_ACTIONS.now count_actions_is c.in_ok-row.row c.counted_in.ensures.err c.in_ok-row.ensures.takes
 
 pub first-requires : goal.first-requires
-first-requires g c = counted_ledger Actions COUNT_ACTIONS.now count_actions_is
+first-requires g c = counted Actions COUNT_ACTIONS.now count_actions_is

@@ -1,7 +1,7 @@
 use Rattle.desk_records.specs.Schema.{Groups}
 use Rattle.desk_records.specs.declared.rollout_texts.TheConstants.{COUNT_GROUPS}
 use Rattle.desk_records.proofs.RolloutMeaning.{count_groups_is}
-use Rattle.desk_store.proofs.RawCalls.{count_read, counted_ledger}
+use Rattle.desk_store.proofs.RawCalls.{count_read, counted}
 use Rattle.desk_store.proofs.RawBlames.{count_blamed}
 use Rattle.desk_store.proofs.change.OpenChange.count_groups.Goals as goal
 
@@ -13,4 +13,4 @@ returns-clause-blames g c =
     count_blamed g.S.Store _ _ c.in_ok-row.ensures.stays.grows.failures c.counted_in.result Groups COUNT_GROUPS.now count_groups_is c.in_ok-row.row c.counted_in.ensures.err c.in_ok-row.ensures.takes
 
 pub first-requires : goal.first-requires
-first-requires g c = counted_ledger Groups COUNT_GROUPS.now count_groups_is
+first-requires g c = counted Groups COUNT_GROUPS.now count_groups_is

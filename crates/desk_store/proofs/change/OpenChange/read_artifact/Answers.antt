@@ -4,13 +4,20 @@ use Rattle.sqlite.specs.Held.{state}
 use Rattle.sql_calls.specs.Calls.{TakesFirst}
 use Rattle.desk_records.specs.declared.artifact_texts.TheConstants.{GET_ARTIFACT}
 use Rattle.desk_store.proofs.ArtifactCalls.{artifact_read, getting}
+use Rattle.desk_store.proofs.RawFinds.{artifact_told}
 use Rattle.desk_store.proofs.change.OpenChange.read_artifact.Goals as goal
 
 pub returns-clause-reads : goal.returns-clause-reads
 returns-clause-reads g c =
     let taken : TakesFirst (state g.S.Store c.args.self.now.store.now.calls.conn) (state g.S.Store c.first.new.self.store.now.calls.conn) GET_ARTIFACT.now (Int (pos c.args.number) ∷ []) (Ok c.in_ok-row.row) =
     rw (c.params-to_sql.ensures, c.get.ensures.value) at c.in_ok-row.ensures.takes in
-    artifact_read c.args.number (subst (λ n. 1 ≤ n) c.get.ensures.value c.get.ensures.least) _ _ c.in_ok-row.row taken c.read_optional.result c.read_optional.ensures
+    artifact_read c.args.number (subst (λ n. 1 ≤ n) c.get.ensures.value c.get.ensures.least) _ _ c.in_ok-row.row taken c.read_optional.result c.read_optional.ensures.ok
+
+pub returns-clause-tells : goal.returns-clause-tells
+returns-clause-tells g c =
+    let taken : TakesFirst (state g.S.Store c.args.self.now.store.now.calls.conn) (state g.S.Store c.first.new.self.store.now.calls.conn) GET_ARTIFACT.now (Int (pos c.args.number) ∷ []) (Ok c.in_ok-row.row) =
+    rw (c.params-to_sql.ensures, c.get.ensures.value) at c.in_ok-row.ensures.takes in
+    artifact_told c.args.number _ _ c.in_ok-row.row taken c.read_optional.result c.read_optional.ensures
 
 pub first-requires : goal.first-requires
 first-requires g c = getting

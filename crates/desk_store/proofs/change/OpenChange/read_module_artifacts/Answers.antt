@@ -4,6 +4,7 @@ use Rattle.sqlite.specs.Held.{state}
 use Rattle.sql_calls.specs.Calls.{AsksText}
 use Rattle.desk_records.specs.declared.artifact_texts.TheConstants.{LIST_ARTIFACTS}
 use Rattle.desk_store.proofs.ArtifactCalls.{artifacts_read, listing}
+use Rattle.desk_store.proofs.RawLists.{module_artifacts_read}
 use Rattle.desk_store.proofs.change.OpenChange.read_module_artifacts.Goals as goal
 
 pub returns-clause-reads : goal.returns-clause-reads
@@ -11,6 +12,12 @@ returns-clause-reads g c =
     let asked : AsksText (state g.S.Store c.args.self.now.store.now.calls.conn) (state g.S.Store c.ask.new.self.store.now.calls.conn) LIST_ARTIFACTS.now (Int (pos c.args.module_number) ∷ []) (Ok c.in_ok-rows.rows) =
     rw (c.params-to_sql.ensures, c.get.ensures.value) at c.in_ok-rows.ensures.asks in
     artifacts_read c.args.module_number _ _ c.in_ok-rows.rows asked c.read_all.result (rw c.deref.ensures.value at c.read_all.ensures.ok)
+
+pub returns-clause-tells : goal.returns-clause-tells
+returns-clause-tells g c =
+    let asked : AsksText (state g.S.Store c.args.self.now.store.now.calls.conn) (state g.S.Store c.ask.new.self.store.now.calls.conn) LIST_ARTIFACTS.now (Int (pos c.args.module_number) ∷ []) (Ok c.in_ok-rows.rows) =
+    rw (c.params-to_sql.ensures, c.get.ensures.value) at c.in_ok-rows.ensures.asks in
+    module_artifacts_read c.args.module_number _ _ c.in_ok-rows.rows asked c.read_all.result (rw c.deref.ensures.value at c.read_all.ensures.ok)
 
 pub ask-requires : goal.ask-requires
 ask-requires g c = listing
