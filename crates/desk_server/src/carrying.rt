@@ -80,7 +80,7 @@ fn carry_out_over<H: Host, R: Read, W: Write, E: Write, S: Alter>(
         } => serve_port(alloc, host, setup, *port, *connections, desk, errors),
         Order::Import { file, .. } => import_file(alloc, host, file, desk, output, errors),
         Order::Report { rollout, .. } => report(alloc, desk, *rollout, output, errors),
-        Order::Verify { .. } => verify(alloc, desk, output, errors),
+        Order::Verify { .. } => verify(desk, output, errors),
     }
 }
 
