@@ -1,5 +1,5 @@
 -- What feedback comes to, by their views, over sound records.
-use Rattle.std.proofs.Common.{◌≡◌, ℕ, Bool, true, false, cond, ◌&&◌, List, [], ◌∷◌, refl, sym, ◌∙◌, ap, subst, Option, Some, None, Ok}
+use Rattle.std.proofs.Common.{◌≡◌, ℕ, Bool, true, false, cond, ◌&&◌, List, [], ◌∷◌, refl, sym, ◌∙◌, ap, subst, Option, Some, None}
 use Rattle.std.specs.Prelude.{is_none, is_some, nat_le, not}
 use Rattle.std.specs.Option.{option_or, unwrap_or}
 use Rattle.rollout_machine.specs.Actions.{cancel_standing_said, outcome_given, outcome_of_cancel, outcome_of_deployment}
@@ -7,7 +7,7 @@ use Rattle.rollout_machine.specs.ByteStrings.{item_numbered}
 use Rattle.rollout_machine.specs.Commands.{CancelFeedback, CancelWord, CanceledCancel, ClosedCancel, Command, Credential, DeploymentWord, Feedback, DeviceFeedback, NotedCancel, RejectedCancel}
 use Rattle.rollout_machine.specs.RecordSteps.{act_on, step_action}
 use Rattle.rollout_machine.specs.Records.{Records}
-use Rattle.rollout_machine.specs.Reports.{OfCancel, OfDeployment, Reported, is_again, reported, reported_by, says_again, says_old, standing_of}
+use Rattle.rollout_machine.specs.Reports.{OfCancel, OfDeployment, Reported, Said, is_again, reported, reported_by, says_again, says_old, standing_of}
 use Rattle.rollout_machine.specs.declared.standing.Standing.{Standing}
 use Rattle.rollout_machine.specs.declared.standing.Standing.TheVariants.{Again, Fresh, Old}
 use Rattle.rollout_machine.specs.declared.records.ActionRecord.{ActionRecord}
@@ -17,9 +17,7 @@ use Rattle.rollout_machine.specs.declared.outcome.Outcome.{Outcome}
 use Rattle.rollout_model.specs.Limits.{note_limit}
 use Rattle.rollout_model.specs.declared.refusal.Refusal.{Refusal}
 use Rattle.rollout_model.specs.declared.refusal.Refusal.TheVariants.{ClosedAction, NotFound, OldNumber, Quota, Unauthorized, WrongState}
-use Rattle.campaign_core.specs.RolloutChecks.{AreSound, Decides, IsFeedbackView, IsDeviceAction, MayChangeAction, cancel_feedback_refusal, canceling_after, change_by, change_if_fresh, device_action, feedback_refusal, gives_other, is_old, only_if, report_refusal, says_fresh}
-use Rattle.campaign_core.specs.declared.rollout_checks.RolloutChange.TheVariants as change
-use Rattle.campaign_core.specs.declared.rollout_checks.RolloutCommandView.TheVariants as seen
+use Rattle.campaign_core.specs.RolloutChecks.{AreSound, IsFeedbackView, IsDeviceAction, MayChangeAction, canceling_after, change_by, change_if_fresh, device_action, gives_other, is_fresh, is_old, only_if, report_refusal, says_fresh}
 use Rattle.campaign_core.specs.declared.rollout_checks.actions.ActionChange.{ActionChange}
 use Rattle.campaign_core.specs.declared.rollout_checks.of_devices.FeedbackView.{FeedbackView}
 use Rattle.campaign_core.specs.declared.rollout_checks.of_devices.DeviceAction.{DeviceAction}
@@ -28,7 +26,7 @@ use Rattle.campaign_core.proofs.ItemLemmas.{IsFound, found, only_found}
 
 -- ---- the action that it is on
 
-pub record IsOfDevice (w : DeviceAction) (device : Credential) (k : ℕ) (new : Reported) (rs : Records) : Type 0 where
+record IsOfDevice (w : DeviceAction) (device : Credential) (k : ℕ) (new : Reported) (rs : Records) : Type 0 where
   pub action : ActionRecord
   pub numbered : item_numbered rs.actions k ≡ Some action
   pub is : IsDeviceAction w action new rs
@@ -39,7 +37,7 @@ only_test : {X : Type 0} (b : Bool) (o : Option X) (x : X) → only_if b o ≡ S
 only_test true o x e = refl
 only_test false o x e = cc
 
-pub own_action : (v : FeedbackView) (w : DeviceAction) (device : Credential) (k : ℕ) (new : Reported) (rs : Records) → v.misses_device ≡ false → v.own_action ≡ Some w → IsFeedbackView v device k new rs → IsOfDevice w device k new rs
+own_action : (v : FeedbackView) (w : DeviceAction) (device : Credential) (k : ℕ) (new : Reported) (rs : Records) → v.misses_device ≡ false → v.own_action ≡ Some w → IsFeedbackView v device k new rs → IsOfDevice w device k new rs
 own_action v w device k new rs misses e is =
     let it : IsFound (λ w a. IsDeviceAction w a new rs) w (device_action rs device.id k) = found (λ w a. IsDeviceAction w a new rs) v.own_action w (device_action rs device.id k) e is.own_action in
     record {
@@ -53,7 +51,7 @@ own_action v w device k new rs misses e is =
 past_device : (b d : Bool) (rest : Option Refusal) → b ≡ false → d ≡ true → cond b (Some Unauthorized) (cond (not d) (Some NotFound) rest) ≡ rest
 past_device b d rest e f = rw (e, f) refl
 
--- ---- the rows of both kinds
+-- ---- feedback of both kinds
 
 -- a row that goes on so, where the action is open and the report isn't sent again
 abbrev machine_row : Option Outcome → Option Outcome → Standing → (Bool → List (Bool × Refusal)) → Option Refusal
@@ -78,35 +76,49 @@ same_row gives (Some o) s t more is = of (same_outcome gives (Some o))
     of true = refl
     of false = refl
 
--- the tests that only feedback on deployments has, and those of feedback on cancels
-abbrev note_tests : Bool → ℕ → Bool → List (Bool × Refusal)
-note_tests note notes asked = (asked && (note && nat_le note_limit notes), Quota) ∷ []
+-- What feedback on action k says of it, and the tests that its kind alone has: by the action's notes, whether it is canceling, and whether
+-- it is open and the report isn't sent again.
+pub record IsReport (c : Command) (device : Credential) (k : ℕ) (new : Reported) (gives : Option Outcome) (canceling : Bool → Bool) (tests : ℕ → Bool → Bool → List (Bool × Refusal)) : Type 0 where
+  pub row : Option ActionRecord → Option Refusal
+  pub check_is : (rs : Records) → check rs c
+      ≡ cond (not (is_known rs device)) (Some Unauthorized) (cond (not (is_device_action rs device.id (item_numbered rs.actions k))) (Some NotFound) (row (item_numbered rs.actions k)))
+  pub row_is : (a : ActionRecord) → row (Some a) ≡ machine_row gives a.outcome (standing_of a.history new) (tests (notes_of a) a.canceling)
+  pub again : (reports : List Reported) → is_again reports c ≡ says_again (standing_of reports new)
+  pub given : (b : Bool) → outcome_given c b ≡ gives
+  pub said : (b : Bool) → unwrap_or (cancel_standing_said c) b ≡ canceling b
 
-abbrev cancel_tests : Bool → ℕ → Bool → Bool → List (Bool × Refusal)
-cancel_tests note notes canceling asked = (asked && not canceling, WrongState) ∷ note_tests note notes asked
+abbrev note_test : Said → ℕ → Bool → Bool × Refusal
+note_test said notes asked = (asked && (says_note said && nat_le note_limit notes), Quota)
 
--- ---- what becomes of the action
+pub on_deployment : (feedback : DeviceFeedback DeploymentWord) → IsReport (Feedback feedback) feedback.credential feedback.action (reported OfDeployment feedback) (outcome_of_deployment feedback.word)
+    (λ b. b) (λ notes canceling asked. note_test (OfDeployment feedback.word) notes asked ∷ [])
+on_deployment feedback = let new : Reported = reported OfDeployment feedback in record {
+  row = λ o. first_refusal ((on_action (λ a. is_some a.outcome && not (same_outcome (outcome_of_deployment feedback.word) a.outcome)) o, ClosedAction) ∷ (on_action (row.is_old new) o, OldNumber)
+      ∷ (on_action (λ a. row.is_new new a && row.is_beyond new a) o, Quota) ∷ []);
+  check_is = λ rs. refl;
+  row_is = λ a. refl;
+  again = λ reports. refl;
+  given = λ b. refl;
+  said = λ b. refl;
+}
 
--- what an open action heard, or an action that is closed, leaves all as it is
-pub may_act : (rs : Records) → AreSound rs → (c : Command) (new : Reported) (k : ℕ) (a : ActionRecord) (w : DeviceAction) (gives : Option Outcome) (canceling : Bool) → item_numbered rs.actions k ≡ Some a → IsDeviceAction w a new rs
-    → is_again a.history c ≡ says_again (standing_of a.history new) → is_old w ≡ false
-    → outcome_given c a.canceling ≡ gives → unwrap_or (cancel_standing_said c) a.canceling ≡ canceling → MayChangeAction (change_if_fresh w gives canceling) (reported_by c) k rs (step_action rs c (item_numbered rs.actions k))
-may_act rs sound c new k a w gives canceling at is again still given said = go w.action.outcome w.standing refl refl still
+pub on_cancel : (feedback : DeviceFeedback CancelWord) → IsReport (CancelFeedback feedback) feedback.credential feedback.action (reported OfCancel feedback) (outcome_of_cancel feedback.word)
+    (canceling_after feedback.word) (λ notes canceling asked. (asked && not canceling, WrongState) ∷ note_test (OfCancel feedback.word) notes asked ∷ [])
+on_cancel feedback = let new : Reported = reported OfCancel feedback in record {
+  row = λ o. first_refusal ((on_action (λ a. is_some a.outcome && not (same_outcome (outcome_of_cancel feedback.word) a.outcome)) o, ClosedAction) ∷ (on_action (row.is_old new) o, OldNumber)
+      ∷ (on_action (λ a. row.is_new new a && not a.canceling) o, WrongState) ∷ (on_action (λ a. row.is_new new a && row.is_beyond new a) o, Quota) ∷ []);
+  check_is = λ rs. refl;
+  row_is = λ a. refl;
+  again = λ reports. refl;
+  given = λ b. refl;
+  said = said_is feedback.word;
+}
   where
-    makes : Option ActionChange → Type 0
-    makes d = MayChangeAction d (reported_by c) k rs (step_action rs c (item_numbered rs.actions k))
-
-    is_open : w.action.outcome ≡ None → a.outcome ≡ None
-    is_open e = sym is.action.outcome ∙ e
-
-    sent : (s : Standing) → w.action.outcome ≡ None → w.standing ≡ s → is_again a.history c ≡ says_again s
-    sent s e d = again ∙ ap says_again (sym (is.standing (is_open e)) ∙ d)
-
-    go : (o : Option Outcome) (s : Standing) → w.action.outcome ≡ o → w.standing ≡ s → (is_none o && says_old s) ≡ false → makes (cond (is_none o && says_fresh s) (Some (change_by w.action gives canceling)) None)
-    go None Fresh e d f = acts rs sound c k a w.action gives canceling at (sent Fresh e d) e is.action given said
-    go None Again e d f = ap (step_action rs c) at ∙ ap (λ b. cond b rs (act_on rs c a)) (sent Again e d)
-    go None Old e d f = cc
-    go (Some o) s e d f = stays rs sound c k a o at (sym is.action.outcome ∙ e)
+    said_is : (word : CancelWord) (b : Bool) → unwrap_or (elim word [ RejectedCancel ↦ Some false | _ ↦ None ]) b ≡ canceling_after word b
+    said_is ClosedCancel b = refl
+    said_is CanceledCancel b = refl
+    said_is RejectedCancel b = refl
+    said_is (NotedCancel p) b = refl
 
 -- what isn't refused wasn't overtaken
 not_old : (gives : Option Outcome) (w : DeviceAction) (more : Option Refusal) → option_or (report_refusal gives w) more ≡ None → is_old w ≡ false
@@ -117,78 +129,46 @@ not_old gives w more accepted = go (gives_other gives w.action) (is_old w) accep
     go false true e = cc
     go false false e = refl
 
--- ---- on deployments
+module _ {c : Command} {device : Credential} {k : ℕ} {new : Reported} {gives : Option Outcome} {canceling : Bool → Bool} {tests : ℕ → Bool → Bool → List (Bool × Refusal)}
+    (report : IsReport c device k new gives canceling tests) (v : FeedbackView) (w : DeviceAction) (misses : v.misses_device ≡ false) (there : v.own_action ≡ Some w)
+    (rs : Records) (is : IsFeedbackView v device k new rs) where
+  it : IsOfDevice w device k new rs
+  it = own_action v w device k new rs misses there is
 
-pub feedback_row : (w : DeviceAction) (feedback : DeviceFeedback DeploymentWord) (rs : Records) → IsOfDevice w feedback.credential feedback.action (reported OfDeployment feedback) rs → check rs (Feedback feedback) ≡ feedback_refusal feedback.word w
-feedback_row w feedback rs it =
-    past_device (not (is_known rs feedback.credential)) (is_device_action rs feedback.credential.id (item_numbered rs.actions feedback.action)) (tests (item_numbered rs.actions feedback.action)) it.known it.own
-    ∙ ap tests it.numbered
-    ∙ same_row gives it.action.outcome (standing_of it.action.history new) w.standing (note_tests note (notes_of it.action)) it.is.standing
-    ∙ ap (λ o. view_row gives o w.standing (note_tests note (notes_of it.action))) (sym it.is.action.outcome)
-    ∙ ap (λ n. view_row gives w.action.outcome w.standing (note_tests note n)) (sym it.is.notes)
-  where
-    new : Reported
-    new = reported OfDeployment feedback
+  pub report_row : check rs c ≡ option_or (report_refusal gives w) (first_refusal (tests w.notes w.action.canceling (is_fresh w)))
+  report_row =
+      report.check_is rs
+      ∙ past_device (not (is_known rs device)) (is_device_action rs device.id (item_numbered rs.actions k)) (report.row (item_numbered rs.actions k)) it.known it.own
+      ∙ ap report.row it.numbered
+      ∙ report.row_is it.action
+      ∙ same_row gives it.action.outcome (standing_of it.action.history new) w.standing (tests (notes_of it.action) it.action.canceling) it.is.standing
+      ∙ ap (λ o. view_row gives o w.standing (tests (notes_of it.action) it.action.canceling)) (sym it.is.action.outcome)
+      ∙ ap (λ b. view_row gives w.action.outcome w.standing (tests (notes_of it.action) b)) (sym it.is.action.canceling)
+      ∙ ap (λ n. view_row gives w.action.outcome w.standing (tests n w.action.canceling)) (sym it.is.notes)
 
-    gives : Option Outcome
-    gives = outcome_of_deployment feedback.word
+  abbrev Makes : Option ActionChange → Type 0
+  Makes d = MayChangeAction d (reported_by c) k rs (step_action rs c (item_numbered rs.actions k))
 
-    note : Bool
-    note = says_note (OfDeployment feedback.word)
+  -- what an open action heard, or an action that is closed, leaves all as it is
+  may_act : AreSound rs → is_old w ≡ false → Makes (change_if_fresh w gives (canceling w.action.canceling))
+  may_act sound still = go w.action.outcome w.standing refl refl still
+    where
+      is_open : w.action.outcome ≡ None → it.action.outcome ≡ None
+      is_open e = sym it.is.action.outcome ∙ e
 
-    tests : Option ActionRecord → Option Refusal
-    tests o =
-        first_refusal ((on_action (λ a. is_some a.outcome && not (same_outcome gives a.outcome)) o, ClosedAction) ∷ (on_action (row.is_old new) o, OldNumber)
-        ∷ (on_action (λ a. row.is_new new a && row.is_beyond new a) o, Quota) ∷ [])
+      sent : (s : Standing) → w.action.outcome ≡ None → w.standing ≡ s → is_again it.action.history c ≡ says_again s
+      sent s e d = report.again it.action.history ∙ ap says_again (sym (it.is.standing (is_open e)) ∙ d)
 
-pub feedback_changes : (v : FeedbackView) (w : DeviceAction) (feedback : DeviceFeedback DeploymentWord) (c : Option ActionChange) → v.misses_device ≡ false → v.own_action ≡ Some w → feedback_refusal feedback.word w ≡ None
-    → c ≡ change_if_fresh w (outcome_of_deployment feedback.word) w.action.canceling → Decides (seen.Feedback v) (Feedback feedback) (Ok (change.Feedback c))
-feedback_changes v w feedback c misses there accepted by rs sound is =
-    let new : Reported = reported OfDeployment feedback in
-    let it : IsOfDevice w feedback.credential feedback.action new rs = own_action v w feedback.credential feedback.action new rs misses there is in (
-      feedback_row w feedback rs it ∙ accepted,
-      subst (λ d. MayChangeAction d (new ∷ []) feedback.action rs (step_action rs (Feedback feedback) (item_numbered rs.actions feedback.action))) (sym by)
-          (may_act rs sound (Feedback feedback) new feedback.action it.action w (outcome_of_deployment feedback.word) w.action.canceling it.numbered it.is refl (not_old _ w _ accepted) refl (sym it.is.action.canceling)),
-    )
+      go : (o : Option Outcome) (s : Standing) → w.action.outcome ≡ o → w.standing ≡ s → (is_none o && says_old s) ≡ false
+          → Makes (cond (is_none o && says_fresh s) (Some (change_by w.action gives (canceling w.action.canceling))) None)
+      go None Fresh e d f =
+          acts rs sound c k it.action w.action gives (canceling w.action.canceling) it.numbered (sent Fresh e d) e it.is.action (report.given it.action.canceling)
+          (report.said it.action.canceling ∙ ap canceling (sym it.is.action.canceling))
+      go None Again e d f = ap (step_action rs c) it.numbered ∙ ap (λ b. cond b rs (act_on rs c it.action)) (sent Again e d)
+      go None Old e d f = cc
+      go (Some o) s e d f = stays rs sound c k it.action o it.numbered (sym it.is.action.outcome ∙ e)
 
--- ---- on cancels
-
-pub cancel_feedback_row : (w : DeviceAction) (feedback : DeviceFeedback CancelWord) (rs : Records) → IsOfDevice w feedback.credential feedback.action (reported OfCancel feedback) rs → check rs (CancelFeedback feedback) ≡ cancel_feedback_refusal feedback.word w
-cancel_feedback_row w feedback rs it =
-    past_device (not (is_known rs feedback.credential)) (is_device_action rs feedback.credential.id (item_numbered rs.actions feedback.action)) (tests (item_numbered rs.actions feedback.action)) it.known it.own
-    ∙ ap tests it.numbered
-    ∙ same_row gives it.action.outcome (standing_of it.action.history new) w.standing (cancel_tests note (notes_of it.action) it.action.canceling) it.is.standing
-    ∙ ap (λ o. view_row gives o w.standing (cancel_tests note (notes_of it.action) it.action.canceling)) (sym it.is.action.outcome)
-    ∙ ap (λ b. view_row gives w.action.outcome w.standing (cancel_tests note (notes_of it.action) b)) (sym it.is.action.canceling)
-    ∙ ap (λ n. view_row gives w.action.outcome w.standing (cancel_tests note n w.action.canceling)) (sym it.is.notes)
-  where
-    new : Reported
-    new = reported OfCancel feedback
-
-    gives : Option Outcome
-    gives = outcome_of_cancel feedback.word
-
-    note : Bool
-    note = says_note (OfCancel feedback.word)
-
-    tests : Option ActionRecord → Option Refusal
-    tests o =
-        first_refusal ((on_action (λ a. is_some a.outcome && not (same_outcome gives a.outcome)) o, ClosedAction) ∷ (on_action (row.is_old new) o, OldNumber)
-        ∷ (on_action (λ a. row.is_new new a && not a.canceling) o, WrongState) ∷ (on_action (λ a. row.is_new new a && row.is_beyond new a) o, Quota) ∷ [])
-
-said_is : (word : CancelWord) (b : Bool) → unwrap_or (elim word [ RejectedCancel ↦ Some false | _ ↦ None ]) b ≡ canceling_after word b
-said_is ClosedCancel b = refl
-said_is CanceledCancel b = refl
-said_is RejectedCancel b = refl
-said_is (NotedCancel p) b = refl
-
-pub cancel_feedback_changes : (v : FeedbackView) (w : DeviceAction) (feedback : DeviceFeedback CancelWord) (c : Option ActionChange) → v.misses_device ≡ false → v.own_action ≡ Some w → cancel_feedback_refusal feedback.word w ≡ None
-    → c ≡ change_if_fresh w (outcome_of_cancel feedback.word) (canceling_after feedback.word w.action.canceling) → Decides (seen.CancelFeedback v) (CancelFeedback feedback) (Ok (change.CancelFeedback c))
-cancel_feedback_changes v w feedback c misses there accepted by rs sound is =
-    let new : Reported = reported OfCancel feedback in
-    let it : IsOfDevice w feedback.credential feedback.action new rs = own_action v w feedback.credential feedback.action new rs misses there is in (
-      cancel_feedback_row w feedback rs it ∙ accepted,
-      subst (λ d. MayChangeAction d (new ∷ []) feedback.action rs (step_action rs (CancelFeedback feedback) (item_numbered rs.actions feedback.action))) (sym by)
-          (may_act rs sound (CancelFeedback feedback) new feedback.action it.action w (outcome_of_cancel feedback.word) (canceling_after feedback.word w.action.canceling) it.numbered it.is refl (not_old _ w _ accepted) refl
-          (said_is feedback.word it.action.canceling ∙ ap (canceling_after feedback.word) (sym it.is.action.canceling))),
-    )
+  pub report_changes : (d : Option ActionChange) → option_or (report_refusal gives w) (first_refusal (tests w.notes w.action.canceling (is_fresh w))) ≡ None
+      → d ≡ change_if_fresh w gives (canceling w.action.canceling)
+      → AreSound rs → (check rs c ≡ None) × Makes d
+  report_changes d accepted by sound = (report_row ∙ accepted, subst Makes (sym by) (may_act sound (not_old gives w _ accepted)))

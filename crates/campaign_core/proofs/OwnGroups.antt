@@ -1,5 +1,6 @@
 -- The own group decides: the last started group, where it is another one, has no success that is still to be followed.
 use Rattle.std.proofs.Common.{◌≡◌, ◌<◌, ◌≤◌, ℕ, zero, suc, ◌+◌, Bool, true, false, ◌&&◌, ◌||◌, not, cond, List, Option, None, refl, sym, ap, subst, ◌∙◌, arith, inl, inr}
+use Rattle.std.proofs.Math.Bool.{and-false}
 use Rattle.std.specs.Prelude.{nat_eq, nat_lt}
 use Rattle.std.proofs.lemmas.Bool.{cases_lt, cases_order, eq-eqb, eqb-true, le-ltb, lt-ltb, ltb-true, ne_eqb}
 use Rattle.rollout_machine.proofs.EffectLaws.{feedback_follows, settled}
@@ -54,10 +55,6 @@ no_error bad size percent = let e : bad + 0 ≡ bad = omega arith in rw e (never
     never true = refl
     never false = refl
 
-and_false : (b : Bool) → (b && false) ≡ false
-and_false true = refl
-and_false false = refl
-
 -- no start where there was none to come
 none_comes : (lt paused pauses reached : Bool) → (lt ≡ true → (not paused && reached) ≡ false) → (lt && (not (paused || pauses) && reached)) ≡ false
 none_comes false paused pauses reached h = refl
@@ -106,8 +103,8 @@ module _ (v : RolloutView) (x : Rollout) (r g l : ℕ) (h : CommandList) (least 
 
   by_view : (o : Outcome) → effects_of v o ≡ own_effects (own_of v) o
   by_view Good = same_effects _ false _ _ (no_error v.own.bad v.own.size v.own.error) (good _ refl) ∙ starts_so _ v.own.number
-  by_view Bad = same_effects _ _ _ None refl (other Bad false (and_false _)) ∙ pauses_so _ v.own.number
-  by_view Gone = same_effects _ false _ None (no_error v.own.bad v.own.size v.own.error) (other Gone false (and_false _))
+  by_view Bad = same_effects _ _ _ None refl (other Bad false (and-false _)) ∙ pauses_so _ v.own.number
+  by_view Gone = same_effects _ false _ None (no_error v.own.bad v.own.size v.own.error) (other Gone false (and-false _))
 
 -- ---- by the records
 
@@ -127,7 +124,7 @@ module _ (x : Rollout) (r g l : ℕ) (h : CommandList) (f : IsFollowed x r h l) 
       | inr (inl less) ↦ rw (ne_eqb g l (λ e. absurd (omega (arith, less, e))), f.is_last.up_to g low (omega (arith, less)), f.is_last.up_to (g + 1) (omega arith) (omega (arith, less))) refl
       | inr (inr more) ↦ rw (ne_eqb g l (λ e. absurd (omega (arith, more, e))), f.is_last.beyond g more) refl
     ])
-    | inr all ↦ rw (not_numbered x r h 1 x.plan.groups.count (g + 1) (omega (arith, all)), le-ltb _ _ all) (and_false (nat_eq g l) ∙ sym (and_false (is_group_started x r g h)))
+    | inr all ↦ rw (not_numbered x r h 1 x.plan.groups.count (g + 1) (omega (arith, all)), le-ltb _ _ all) (and-false (nat_eq g l) ∙ sym (and-false (is_group_started x r g h)))
   ])
 
   same_own : own_of (view_of (rollout_in h r x) g) ≡ own_view_of (rollout_in h r x) g

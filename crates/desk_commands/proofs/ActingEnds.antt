@@ -50,6 +50,7 @@ use Rattle.desk_commands.proofs.GroupNumbers.{Numbered, map_at, numbered_groups,
 use Rattle.desk_commands.proofs.ItemSteps.{append_none, map_set, set_elsewhere, set_is_change, set_twice, zip_map}
 use Rattle.desk_commands.proofs.KnownActions.{IsPlaced, seen_at, started_is}
 use Rattle.desk_commands.proofs.OfferingLemmas.{next_is_offer, offer_stays, offer_there}
+use Rattle.desk_commands.proofs.ProgressLemmas.{starts_none}
 use Rattle.desk_commands.proofs.LedgerEnds.{FollowsRecords, ends_with_group, ends_with_none, said_in, said_stays, same_but_for, set_is_there}
 
 -- ---- the action and its tally
@@ -97,16 +98,6 @@ numbers_grow (it ∷ other ∷ more) None hs tells = absurd tells
 numbers_grow (it ∷ other ∷ more) (Some told) hs tells = absurd tells
 
 -- ---- groups
-
-starts_none : (g : GroupRecord) → start_group None g ≡ g
-starts_none g = go g.started where
-  go : (b : Bool) → record g { started = b || false } ≡ record g { started = b }
-  go true = refl
-  go false = refl
-
-all_same : (gs : List GroupRecord) → map (start_group None) gs ≡ gs
-all_same [] = refl
-all_same (g ∷ gs) = λ i. starts_none g i ∷ all_same gs i
 
 starts_some : (n : ℕ) (g : GroupRecord) → start_group (Some n) g ≡ cond (nat_eq g.number n) (started g) g
 starts_some n g = go g.started (nat_eq n g.number) (nat_eq g.number n) (same_either n g.number) where
@@ -338,7 +329,7 @@ module _ (h : CommandList) (c : Command) (valid : IsValid h) (formed : IsWellFor
         cc
 
     pausing : (b : Bool) → record x2 { paused = b; groups = map (start_group None) x2.groups } ≡ record x2 { paused = b }
-    pausing b = ap (λ gs. record x2 { paused = b; groups = gs }) (all_same x2.groups)
+    pausing b = ap (λ gs. record x2 { paused = b; groups = gs }) (starts_none x2.groups)
 
     ends_by : (f : Following) → following s.rollout o ≡ f → FollowsSo s f counted_in (ledger_of (step_records rs c))
     ends_by so.Nothing is =

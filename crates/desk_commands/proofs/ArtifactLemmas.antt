@@ -1,5 +1,6 @@
 -- What the reads of an artifact's addition say, and what its writes come to.
-use Rattle.std.proofs.Common.{◌≡◌, ◌≤◌, ◌<◌, ℕ, suc, ◌+◌, ◌-◌, ◌*◌, min, nat_eq, nat_le, nat_lt, Bool, true, false, not, cond, ◌||◌, ◌&&◌, List, [], ◌∷◌, ◌++◌, length, filter, take, drop, Option, Some, None, refl, sym, ap, ◌∙◌, arith, subst, append_assoc, append-nil}
+use Rattle.std.proofs.Common.{◌≡◌, ◌≤◌, ◌<◌, ℕ, suc, ◌+◌, ◌-◌, ◌*◌, min, nat_eq, nat_le, nat_lt, Bool, true, false, not, cond, ◌||◌, List, [], ◌∷◌, ◌++◌, length, filter, take, drop, Option, Some, None, refl, sym, ap, ◌∙◌, arith, subst, append_assoc, append-nil}
+use Rattle.std.proofs.Math.Bool.{or-true}
 use Rattle.std.specs.Prelude.{slice_get}
 use Rattle.std.specs.List.{list_any}
 use Rattle.std.specs.Cmp.Lexicographic.{pointwise}
@@ -23,6 +24,7 @@ use Rattle.rollout_model.specs.declared.refusal.Refusal.{Refusal}
 use Rattle.rollout_model.specs.declared.refusal.Refusal.TheVariants.{NotFound, Locked, Exists, Quota, WrongDigest}
 use Rattle.rollout_model.specs.declared.request.Reply.TheVariants as reply
 use Rattle.desk_commands.specs.Additions.{AddsArtifact, AddsContents, is_full}
+use Rattle.rollout_machine.proofs.TargetTies.{same_pointwise}
 use Rattle.desk_commands.proofs.AdditionLemmas.{past_is_missing}
 
 -- ---- the first tests of a row, and the others
@@ -92,10 +94,6 @@ at_limit limit n many = grind (arith, nat_tests)
 below_limit : (limit n : ℕ) → n < limit → nat_le limit n ≡ false
 below_limit limit n few = grind (arith, nat_tests)
 
-or_true : (b : Bool) → (b || true) ≡ true
-or_true true = refl
-or_true false = refl
-
 module _ (r : Records) (m : ℕ) (shown : List Artifact) (are : shown ≡ artifacts_shown m 1 r.artifacts) where
   of_module : length shown ≡ length (filter (λ (a : ArtifactRecord). nat_eq a.module_number m) r.artifacts)
   of_module = ap length are ∙ shown_count m 1 r.artifacts
@@ -108,7 +106,7 @@ module _ (r : Records) (m : ℕ) (shown : List Artifact) (are : shown ≡ artifa
   pub desk_full : (last : ℕ) → last ≡ length r.artifacts → 256 ≤ last → GetsNextNumber m r None
   desk_full last size many =
       let full : nat_le 256 (length r.artifacts) ≡ true = ap (nat_le 256) (sym size) ∙ at_limit 256 last many in
-      let either : is_full m r ≡ true = ap (λ b. nat_le 8 (length (filter (λ (a : ArtifactRecord). nat_eq a.module_number m) r.artifacts)) || b) full ∙ or_true _ in
+      let either : is_full m r ≡ true = ap (λ b. nat_le 8 (length (filter (λ (a : ArtifactRecord). nat_eq a.module_number m) r.artifacts)) || b) full ∙ or-true _ in
       sym (ap (λ b. cond b None (Some (length r.artifacts + 1))) either)
 
   pub has_room : (last number : ℕ) → last ≡ length r.artifacts → length shown < 8 → last < 256 → number ≡ last + 1 → GetsNextNumber m r (Some number)
@@ -127,12 +125,6 @@ is_room true n number h = absurd (cc)
 is_room false n number h = (refl, (let e : number ≡ n = cc in e))
 
 -- ---- the digest
-
-same_pointwise : (xs ys : List ℕ) → pointwise nat_eq xs ys ≡ same_bytes xs ys
-same_pointwise [] [] = refl
-same_pointwise [] (y ∷ ys) = refl
-same_pointwise (x ∷ xs) [] = refl
-same_pointwise (x ∷ xs) (y ∷ ys) = ap (λ b. nat_eq x y && b) (same_pointwise xs ys)
 
 pub is_another : (u : Upload) (named digest : Bytes) → u.expected ≡ Some named → digest ≡ digest_of u.contents → not (pointwise nat_eq named digest) ≡ wrong_digest u
 is_another u named digest is same = rw is (ap not (same_pointwise named digest) ∙ ap (λ d. not (same_bytes named d)) same)
@@ -217,9 +209,9 @@ adds_parts m artifact contents r next h = (
 pub artifact_is_step : (u : Upload) (artifact : Artifact) (r : Records) → artifact ≡ artifact_shown (length r.artifacts + 1) (artifact_from u) → AddsArtifact u.module_number artifact u.contents r (step_records r (AddArtifact u))
 artifact_is_step u artifact r is = subst (λ (a : Artifact). AddsArtifact u.module_number a u.contents r (step_records r (AddArtifact u))) (sym is) (refl, refl)
 
-last_item : {X : Type 0} (xs : List X) (x : X) → slice_get (xs ++ x ∷ []) (length xs) ≡ Some x
-last_item [] x = refl
-last_item (y ∷ xs) x = last_item xs x
+pub last_there : {X : Type 0} (xs : List X) (x : X) → slice_get (xs ++ x ∷ []) (length xs) ≡ Some x
+last_there [] x = refl
+last_there (y ∷ xs) x = last_there xs x
 
 -- the artifact that a command adds is shown with the next number
 pub artifact_added : (r : Records) (u : Upload) (artifact : Artifact) → artifact ≡ artifact_shown (length r.artifacts + 1) (artifact_from u) → reply_of (reply.ArtifactAdded artifact) ≡ command_reply (AddArtifact u) (step_records r (AddArtifact u))
@@ -229,5 +221,5 @@ artifact_added r u artifact is =
     let count : length xs ≡ suc (length r.artifacts) = omega (arith, long) in
     let next : length r.artifacts + 1 ≡ suc (length r.artifacts) = omega arith in
     let shown : added_artifact (length xs) (item_numbered xs (length xs)) ≡ ArtifactAdded (artifact_shown (suc (length r.artifacts)) (artifact_from u)) =
-    ap (λ n. added_artifact n (item_numbered xs n)) count ∙ ap (added_artifact (suc (length r.artifacts))) (last_item r.artifacts (artifact_from u)) in
+    ap (λ n. added_artifact n (item_numbered xs n)) count ∙ ap (added_artifact (suc (length r.artifacts))) (last_there r.artifacts (artifact_from u)) in
     ap ArtifactAdded (is ∙ ap (λ n. artifact_shown n (artifact_from u)) next) ∙ sym shown

@@ -13,14 +13,16 @@ use Rattle.rollout_machine.specs.Records.{Records}
 use Rattle.rollout_machine.specs.RecordSteps.{change_target, step_records}
 use Rattle.rollout_machine.specs.Targets.{Target, with_attribute, with_attributes}
 use Rattle.rollout_machine.specs.Verdicts.{check, is_known, target_of, keys_of as keys_there}
-use Rattle.rollout_machine.proofs.Imports.{AllAbove, IsSorted, above_more, not_above, sorted_with_all}
-use Rattle.rollout_machine.proofs.TargetTies.{same_refl, same_true}
+use Rattle.rollout_machine.proofs.Imports.{AllAbove, IsSorted, above_more, not_above, sorted_with_all, with_there}
+use Rattle.rollout_machine.proofs.TargetTies.{same_pointwise, same_refl, same_sym, same_true}
 use Rattle.rollout_model.specs.Pairs.{is_same_attribute}
 use Rattle.rollout_model.specs.declared.refusal.Refusal.TheVariants.{Unauthorized, Quota}
 use Rattle.desk_commands.specs.Attributes.{GivesAttribute, GivesAttributes, attributed_with, has_attribute, keys_after}
-use Rattle.desk_commands.proofs.ByteOrderLemmas.{count_with, same_sym, sorted_from, with_there}
+use Rattle.desk_records.proofs.Attributes.{keys_with}
+use Rattle.desk_records.proofs.ByteOrder.{sorted_from}
+use Rattle.desk_commands.proofs.ByteOrderLemmas.{count_with}
 use Rattle.desk_commands.proofs.PutLemmas.{one_more, words_then}
-use Rattle.desk_commands.proofs.TagLemmas.{has_all, pointwise_is, same_pointwise}
+use Rattle.desk_commands.proofs.TagLemmas.{has_all, pointwise_is}
 use Rattle.desk_commands.proofs.TargetLemmas.{change_twice, find_changed, found, ids_sorted, no_change, unchanged}
 
 -- ---- keys
@@ -47,15 +49,6 @@ kept_since a had since is kept among apart there = there ∙ sym (ap (λ b. b &&
 
 pub changed_since : (a : Attribute) (had since : List Attribute) (is : Bool) → is ≡ is_key_of a.key since → is ≡ true → not is ≡ (not (contains_word a.key (keys_of since)) && has_attribute a had)
 changed_since a had since is among here = ap not here ∙ sym (ap (λ b. b && has_attribute a had) (ap not (sym (any_key a.key since) ∙ sym among ∙ here)))
-
-keys_with : (a : Attribute) (bs : List Attribute) → keys_of (with_attribute a bs) ≡ with_word a.key (keys_of bs)
-keys_with a [] = refl
-keys_with a (b ∷ bs) = go (same_bytes a.key b.key) (bytes_below a.key b.key) refl (keys_with a bs) where
-  go : (s l : Bool) → same_bytes a.key b.key ≡ s → keys_of (with_attribute a bs) ≡ with_word a.key (keys_of bs)
-      → keys_of (cond s (a ∷ bs) (cond l (a ∷ b ∷ bs) (b ∷ with_attribute a bs))) ≡ cond s (b.key ∷ keys_of bs) (cond l (a.key ∷ b.key ∷ keys_of bs) (b.key ∷ with_word a.key (keys_of bs)))
-  go true l same rest = ap (λ k. k ∷ keys_of bs) (same_true a.key b.key same)
-  go false true apart rest = refl
-  go false false apart rest = ap (λ ks. b.key ∷ ks) rest
 
 pub keys_given : (given had : List Attribute) → keys_of (with_attributes given had) ≡ keys_after given had
 keys_given [] had = refl

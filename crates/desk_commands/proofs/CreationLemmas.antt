@@ -50,6 +50,7 @@ use Rattle.desk_reads.proofs.ListedTargets.{part_seen}
 use Rattle.desk_commands.specs.Creations.{CreatesRollout, IsChosen, IsWordOf, and_rollout, first_rules, ids_matching, in_part, shown_new}
 use Rattle.desk_commands.specs.declared.creation.Chosen.{Chosen}
 use Rattle.desk_commands.proofs.AdditionLemmas.{past_is_missing}
+use Rattle.desk_commands.proofs.ArtifactLemmas.{last_there}
 use Rattle.desk_commands.proofs.PutLemmas.{one_more}
 
 -- ---- the members
@@ -116,10 +117,6 @@ pub judged : (r : Records) (plan : RolloutPlan) (view : PlanView) → IsPlanView
 judged r plan view is = rw (is.bad_filter, is.misses_set, is.same_name, is.members, is.count) refl
 
 -- ---- the rollout that is the last one
-
-last_there : {X : Type 0} (xs : List X) (x : X) → slice_get (xs ++ x ∷ []) (length xs) ≡ Some x
-last_there [] x = refl
-last_there (y ∷ xs) x = last_there xs x
 
 last_set : {X : Type 0} (xs : List X) (x y : X) → set (xs ++ x ∷ []) (length xs) y ≡ xs ++ y ∷ []
 last_set [] x y = refl

@@ -1,5 +1,6 @@
 -- How a rollout goes on.
 use Rattle.std.proofs.Common.{◌≡◌, ◌≤◌, ◌<◌, ◌⊎◌, inl, inr, ℕ, zero, suc, ◌+◌, Bool, true, false, cond, ◌&&◌, ◌||◌, List, [], ◌∷◌, ◌++◌, map, length, get_or, set, Option, Some, None, refl, sym, ap, ◌∙◌, subst, arith}
+use Rattle.std.proofs.Math.Bool.{or-false, or-true}
 use Rattle.std.specs.Prelude.{nat_eq, nat_lt, not, slice_get, take}
 use Rattle.std.specs.List.{list_any}
 use Rattle.std.proofs.lemmas.Bool.{eq-eqb, eqb-true, false≢true, ltb-true}
@@ -41,6 +42,7 @@ use Rattle.desk_commands.specs.GroupViews.{view_by}
 use Rattle.desk_commands.specs.Standings.{GoesOn, IsSeenAt, StartsIf, gone_by, pause_left, starts_by}
 use Rattle.desk_commands.specs.declared.progress.Going.{Going}
 use Rattle.desk_commands.specs.declared.progress.Going.TheVariants.{Resumed, Triggered}
+use Rattle.desk_records.proofs.HeldCounts.{at_place}
 use Rattle.desk_commands.proofs.LedgerEnds.{changed_at, groups_stand, rollout_of, sets_alone, starts_last, then_started}
 use Rattle.desk_commands.proofs.StandingLemmas.{Found}
 
@@ -115,24 +117,16 @@ waits_after a (suc j) (g0 ∷ gs) g one so at past = waits_after (suc a) j gs g 
 
 -- ---- a start among them
 
-or_true : (b : Bool) → (b || true) ≡ true
-or_true true = refl
-or_true false = refl
-
-or_false : (b : Bool) → (b || false) ≡ b
-or_false true = refl
-or_false false = refl
-
 pub starts_none : (gs : List GroupRecord) → map (start_group None) gs ≡ gs
 starts_none [] = refl
-starts_none (g ∷ gs) = λ i. record g { started = or_false g.started i } ∷ starts_none gs i
+starts_none (g ∷ gs) = λ i. record g { started = or-false g.started i } ∷ starts_none gs i
 
 none_before : (a i : ℕ) (gs : List GroupRecord) → NumberedFrom a gs → i < a → map (start_group (Some i)) gs ≡ gs
 unfolding NumberedFrom
 none_before a i [] so less = refl
 none_before a i (g ∷ gs) so less =
     let other : nat_eq i g.number ≡ false = grind (arith, nat_tests, so.0) in
-    let same : (g.started || nat_eq i g.number) ≡ g.started = rw other (or_false g.started) in
+    let same : (g.started || nat_eq i g.number) ≡ g.started = rw other (or-false g.started) in
     λ k. record g { started = same k } ∷ none_before (suc a) i gs so.2 (omega arith) k
 
 starts_one : (a i j : ℕ) (gs : List GroupRecord) (g : GroupRecord) → NumberedFrom a gs → slice_get gs j ≡ Some g → i ≡ a + j → map (start_group (Some i)) gs ≡ set gs j (started g)
@@ -141,11 +135,11 @@ starts_one a i j [] g so at is = cc
 starts_one a i zero (g0 ∷ gs) g so at is =
     let same : g0 ≡ g = cc in
     let its : nat_eq i g0.number ≡ true = grind (arith, nat_tests, so.0) in
-    let starts : (g0.started || nat_eq i g0.number) ≡ true = rw its (or_true g0.started) in
+    let starts : (g0.started || nat_eq i g0.number) ≡ true = rw its (or-true g0.started) in
     (λ k. record g0 { started = starts k } ∷ none_before (suc a) i gs so.2 (omega arith) k) ∙ ap (λ (z : GroupRecord). started z ∷ gs) same
 starts_one a i (suc j) (g0 ∷ gs) g so at is =
     let other : nat_eq i g0.number ≡ false = grind (arith, nat_tests, so.0) in
-    let same : (g0.started || nat_eq i g0.number) ≡ g0.started = rw other (or_false g0.started) in
+    let same : (g0.started || nat_eq i g0.number) ≡ g0.started = rw other (or-false g0.started) in
     λ k. record g0 { started = same k } ∷ starts_one (suc a) i j gs g so.2 at (omega arith) k
 
 -- ---- what is seen from the last one
@@ -165,11 +159,6 @@ first_part false b is = absurd (false≢true is)
 next_group : (going : Going) (v : RolloutView) (i : ℕ) → starts_by going v ≡ Some i → (i ≡ v.last.number + 1) × (v.last.number < v.groups)
 next_group Resumed v i is = let it = next_is _ v.last.number i is in (it.1, ltb-true _ _ (first_part (nat_lt v.last.number v.groups) _ it.0))
 next_group Triggered v i is = let it = next_is _ v.last.number i is in (it.1, ltb-true _ _ it.0)
-
-some_at : {X : Type 0} (xs : List X) (k : ℕ) → k < length xs → (x : X) × (slice_get xs k ≡ Some x)
-some_at [] k less = absurd (omega (arith, less))
-some_at (x ∷ xs) zero less = (x, refl)
-some_at (x ∷ xs) (suc k) less = some_at xs k (omega arith)
 
 -- ---- the step
 
@@ -225,7 +214,7 @@ module _ (going : Going) (h : CommandList) (r : ℕ) (seen : SeenRollout) (numbe
   ends (Some i) is =
       let next : (i ≡ (view_of x (last_started x.groups)).last.number + 1) × ((view_of x (last_started x.groups)).last.number < x.plan.groups.count) = next_group going (view_of x (last_started x.groups)) i is in
       let last : (view_of x (last_started x.groups)).last.number ≡ last_started x.groups = number_is x (last_started x.groups) in
-      let it = some_at x.groups (last_started x.groups) (omega (arith, next.1, last, groups_count h r x found.at.is_there)) in
+      let it = at_place x.groups (last_started x.groups) (omega (arith, next.1, last, groups_count h r x found.at.is_there)) in
       let so = numbered h r x found.at.is_there in
       let has = group_has 1 (last_started x.groups) x.groups it.0 so it.1 in
       let at : i ≡ suc (last_started x.groups) = omega (arith, next.0, last) in

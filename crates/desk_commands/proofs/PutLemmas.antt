@@ -17,11 +17,12 @@ use Rattle.rollout_machine.specs.RecordSteps.{new_target, put_target, put_target
 use Rattle.rollout_machine.specs.Targets.{Target}
 use Rattle.rollout_machine.specs.Validity.{IsValid}
 use Rattle.rollout_machine.specs.Verdicts.{check, target_of}
-use Rattle.rollout_machine.proofs.TargetTies.{same_true}
+use Rattle.rollout_machine.proofs.TargetTies.{same_sym, same_true}
 use Rattle.rollout_model.specs.declared.refusal.Refusal.{Refusal}
 use Rattle.rollout_model.specs.declared.refusal.Refusal.TheVariants.{Quota}
 use Rattle.desk_commands.specs.Imports.{HasRoom, IsTooMany, LeavesRoom, PutsAll, PutsRow, ids_after, row_ids, with_row}
-use Rattle.desk_commands.proofs.ByteOrderLemmas.{count_with, same_sym, with_there}
+use Rattle.desk_commands.proofs.ByteOrderLemmas.{count_with}
+use Rattle.rollout_machine.proofs.Imports.{with_there}
 use Rattle.rollout_machine.proofs.WithinLimits.{limits_hold}
 use Rattle.desk_commands.proofs.TargetLemmas.{found, ids_sorted}
 

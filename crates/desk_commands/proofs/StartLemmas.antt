@@ -1,5 +1,6 @@
 -- The start of a rollout, from what is read to what is written.
 use Rattle.std.proofs.Common.{◌≡◌, ◌≤◌, ◌<◌, ◌||◌, ℕ, zero, suc, ◌+◌, Bool, true, false, not, cond, nat_eq, List, [], ◌∷◌, ◌++◌, map, get_or, take, drop, length, slice_get, Option, Some, None, refl, sym, ap, subst, ◌∙◌, arith, append-nil, append_assoc}
+use Rattle.std.proofs.Math.Bool.{or-false, or-true}
 use Rattle.std.specs.List.{zip}
 use Rattle.std.specs.Option.{unwrap_or}
 use Rattle.std.proofs.lemmas.Bool.Decides.{nat_tests}
@@ -20,7 +21,7 @@ use Rattle.rollout_machine.specs.declared.records.ActionRecord.{ActionRecord}
 use Rattle.rollout_machine.specs.declared.records.GroupRecord.{GroupRecord}
 use Rattle.rollout_machine.specs.declared.records.RolloutRecord.{RolloutRecord}
 use Rattle.rollout_machine.proofs.Induction.{never_started}
-use Rattle.rollout_machine.proofs.Lists.{each_from_more}
+use Rattle.rollout_machine.proofs.Lists.{each_from_more, length_each}
 use Rattle.rollout_model.specs.Rules.{is_number}
 use Rattle.rollout_model.specs.declared.refusal.Refusal.TheVariants.{NotFound, WrongState}
 use Rattle.campaign_core.proofs.SoundLemmas.{records_are_sound}
@@ -46,10 +47,6 @@ all_members r count l members is size = is ∙ take_all count (members_of (item_
 pub no_action : (r last : ℕ) (members : List Bytes) (l next : Ledger) → AddsActions r last members 0 l next → next ≡ l
 no_action r last members l next h = h.next_is ∙ (λ i. with_numbers (with_actions l (append-nil l.records.actions i) (append-nil l.tallies i)) (append-nil l.numbers i))
 
-as_many : {X : Type 0} (f : ℕ → X) (a n : ℕ) → length (each_from f a n) ≡ n
-as_many f a zero = refl
-as_many f a (suc n) = ap suc (as_many f (suc a) n)
-
 one_behind : {X : Type 0} (f : ActionRecord → X) (xs : List X) (as' : List ActionRecord) (a : ActionRecord) → xs ++ map f (as' ++ a ∷ []) ≡ (xs ++ map f as') ++ f a ∷ []
 one_behind f xs as' a = ap (λ ys. xs ++ ys) (map-append f as' (a ∷ [])) ∙ sym (append_assoc xs (map f as') (f a ∷ []))
 
@@ -69,7 +66,7 @@ one_action r last members id i number within is numbered l next h =
         tallied = length-append l.tallies (map tally_of new) ∙ ap (λ k. length l.tallies + k) (length-map new tally_of) ∙ ap (λ k. k + length new) h.tallied ∙ sym (length-append as' new);
         number_is =
             let size = length-append as' new in
-            let count = as_many (scheduled r) 1 i in
+            let count = length_each (scheduled r) 1 i in
             let before = h.last_is in
             omega (arith, numbered, size, count, before);
         id_is = sym actor;
@@ -106,14 +103,6 @@ record IsFirst (x : RolloutRecord) (g : GroupRecord) : Type 0 where
   waits : x.started ≡ false → g.started ≡ false
   begins : map (start_group (Some 1)) x.groups ≡ set_numbered x.groups 1 (started g)
 
-or_true : (b : Bool) → (b || true) ≡ true
-or_true true = refl
-or_true false = refl
-
-or_false : (b : Bool) → (b || false) ≡ b
-or_false true = refl
-or_false false = refl
-
 first_is : (h : CommandList) (r : ℕ) (x : RolloutRecord) → item_numbered (records h).rollouts r ≡ Some x → (g : GroupRecord) → slice_get x.groups 0 ≡ Some g → IsFirst x g
 first_is h r x there g at = let it = rollout_of h r x there in subst (λ (z : RolloutRecord). slice_get z.groups 0 ≡ Some g → IsFirst z g) it.same (go it.rollout it.rollout.plan.groups.count refl) at
   where
@@ -121,7 +110,7 @@ first_is h r x there g at = let it = rollout_of h r x there in subst (λ (z : Ro
     others y a zero low = refl
     others y a (suc n) low =
         let apart : nat_eq 1 a ≡ false = grind (arith, nat_tests, low) in
-        let still = ap (λ b. (group_in y r h a).started || b) apart ∙ or_false (group_in y r h a).started in
+        let still = ap (λ b. (group_in y r h a).started || b) apart ∙ or-false (group_in y r h a).started in
         λ i. record (group_in y r h a) { started = still i } ∷ others y (suc a) n (omega (arith, low)) i
 
     go : (y : Rollout) (n : ℕ) → y.plan.groups.count ≡ n → slice_get (rollout_in h r y).groups 0 ≡ Some g → IsFirst (rollout_in h r y) g
@@ -134,7 +123,7 @@ first_is h r x there g at = let it = rollout_of h r x there in subst (λ (z : Ro
           its = ap (λ k. item_numbered (each_from (group_in y r h) 1 k) 1) some;
           waits = λ off. never_started y r 1 h off;
           begins =
-              ap (λ k. map (start_group (Some 1)) (each_from (group_in y r h) 1 k)) some ∙ (λ i. record (group_in y r h 1) { started = or_true (group_in y r h 1).started i } ∷ others y 2 n (omega arith) i)
+              ap (λ k. map (start_group (Some 1)) (each_from (group_in y r h) 1 k)) some ∙ (λ i. record (group_in y r h 1) { started = or-true (group_in y r h 1).started i } ∷ others y 2 n (omega arith) i)
               ∙ ap (λ k. set_numbered (each_from (group_in y r h) 1 k) 1 (started (group_in y r h 1))) (sym some);
         })
 

@@ -12,10 +12,11 @@ use Rattle.rollout_machine.specs.Records.{Records}
 use Rattle.rollout_machine.specs.Targets.{Target}
 use Rattle.rollout_machine.specs.Verdicts.{target_of, tags_of}
 use Rattle.rollout_machine.proofs.Imports.{IsSorted, sorted_with_all}
-use Rattle.rollout_machine.proofs.TargetTies.{same_refl, same_true, has_with}
+use Rattle.rollout_machine.proofs.TargetTies.{has_sorted, has_with, has_without, same_pointwise, same_refl, same_sym, same_true}
 use Rattle.rollout_model.specs.Rules.{are_distinct_words, is_tag_list}
 use Rattle.desk_commands.specs.Imports.{AddsTags, DropsTags, Retags, lacking, retagged, tagged_with, untagged_from, without_words}
-use Rattle.desk_commands.proofs.ByteOrderLemmas.{has_sorted, has_without, same_sym, same_words, sorted_all, sorted_without}
+use Rattle.rollout_machine.proofs.Orders.{sorted_all, sorted_without}
+use Rattle.desk_commands.proofs.ByteOrderLemmas.{same_words}
 use Rattle.desk_commands.proofs.TargetLemmas.{changed_as, change_twice, find_changed, ids_sorted, no_change, tags_sorted}
 
 -- ---- several words
@@ -82,12 +83,6 @@ pub all_new : (ws : List Bytes) → with_words (lacking ws []) [] ≡ sorted_wor
 all_new ws = retag_words ws [] tt
 
 -- ---- words as the code compares them
-
-pub same_pointwise : (xs ys : Bytes) → pointwise nat_eq xs ys ≡ same_bytes xs ys
-same_pointwise [] [] = refl
-same_pointwise [] (y ∷ ys) = refl
-same_pointwise (x ∷ xs) [] = refl
-same_pointwise (x ∷ xs) (y ∷ ys) = ap (λ b. nat_eq x y && b) (same_pointwise xs ys)
 
 pub pointwise_is : (xs ys : Bytes) → pointwise nat_eq xs ys ≡ true → xs ≡ ys
 pointwise_is xs ys is = same_true xs ys (sym (same_pointwise xs ys) ∙ is)

@@ -12,7 +12,7 @@ use Rattle.rollout_machine.specs.RecordSteps.{step_records}
 use Rattle.rollout_machine.specs.Targets.{Target}
 use Rattle.rollout_machine.specs.Verdicts.{check, tags_of, target_of}
 use Rattle.rollout_model.specs.declared.refusal.Refusal.TheVariants.{NotFound, Quota}
-use Rattle.desk_commands.proofs.ByteOrderLemmas.{with_there}
+use Rattle.rollout_machine.proofs.Imports.{with_there}
 use Rattle.desk_commands.proofs.TargetLemmas.{ids_sorted, tags_sorted, unchanged}
 
 -- a target isn't there where nothing is kept of it

@@ -7,9 +7,9 @@ use Rattle.rollout_machine.specs.ByteStrings.{same_bytes, bytes_below}
 use Rattle.rollout_machine.specs.Commands.{Bytes, TargetRow}
 use Rattle.rollout_machine.specs.RecordSteps.{change_target, new_target, put_target}
 use Rattle.rollout_machine.specs.Targets.{Target}
-use Rattle.rollout_machine.proofs.Imports.{AllAbove, IsSorted, above_more}
-use Rattle.rollout_machine.proofs.TargetTies.{same_refl, same_true}
-use Rattle.desk_commands.proofs.ByteOrderLemmas.{below_apart, same_sym, sorted_from}
+use Rattle.rollout_machine.proofs.Imports.{AllAbove, IsSorted, above_more, below_apart}
+use Rattle.rollout_machine.proofs.TargetTies.{same_refl, same_sym, same_true}
+use Rattle.desk_records.proofs.ByteOrder.{sorted_from}
 
 -- the target of an id
 abbrev pub found : Bytes → List Target → Option Target

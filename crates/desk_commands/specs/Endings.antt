@@ -3,6 +3,7 @@ use Rattle.std.specs.Prelude.{◌≡◌, ℕ, true, Option, Some, None}
 use Rattle.rollout_machine.specs.ByteStrings.{item_numbered}
 use Rattle.rollout_machine.specs.RecordSteps.{counted}
 use Rattle.rollout_machine.specs.declared.outcome.Outcome.{Outcome}
+use Rattle.rollout_machine.specs.declared.outcome.Outcome.TheVariants.{Good, Bad, Gone}
 use Rattle.rollout_machine.specs.declared.records.GroupRecord.{GroupRecord}
 use Rattle.rollout_machine.specs.declared.records.RolloutRecord.{RolloutRecord}
 use Rattle.campaign_core.specs.declared.own_group.Following.{Following}
@@ -12,6 +13,12 @@ use Rattle.desk_records.specs.Holds.{Ledger}
 use Rattle.desk_records.specs.LedgerSteps.{set_numbered, with_groups, with_rollouts}
 use Rattle.desk_commands.specs.GroupStarts.{StartsGroup}
 use Rattle.desk_commands.specs.declared.seen_actions.SeenAction.{SeenAction}
+
+-- how many of this outcome the group counts
+abbrev pub outcomes_in : Outcome → GroupRecord → ℕ
+outcomes_in Good g = g.ok
+outcomes_in Bad g = g.bad
+outcomes_in Gone g = g.gone
 
 -- rollout r is another
 abbrev pub with_rollout : Ledger → ℕ → RolloutRecord → Ledger

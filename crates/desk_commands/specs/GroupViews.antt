@@ -1,5 +1,5 @@
 -- A group as the rules of rollouts rest on it.
-use Rattle.std.specs.Prelude.{ℕ, Option, Some, None}
+use Rattle.std.specs.Prelude.{ℕ, ◌+◌, ◌≤◌, ◌^◌, Option, Some, None}
 use Rattle.rollout_machine.specs.GroupRules.{GroupRule}
 use Rattle.rollout_machine.specs.StateWords.{size_of_group}
 use Rattle.rollout_machine.specs.declared.records.GroupRecord.{GroupRecord}
@@ -9,3 +9,8 @@ use Rattle.rollout_machine.specs.declared.view.GroupView.{GroupView}
 abbrev pub view_by : GroupRule → ℕ → Option GroupRecord → GroupView
 view_by rule i None = record { number = i; size = 0; ok = 0; bad = 0; success = rule.success; error = rule.error }
 view_by rule i (Some g) = record { number = i; size = size_of_group g; ok = g.ok; bad = g.bad; success = rule.success; error = rule.error }
+
+-- the place behind its last one is no number of 32 bits
+abbrev pub EndsBeyond : Option GroupRecord → Type 0
+EndsBeyond None = ⊥
+EndsBeyond (Some g) = 2 ^ 32 ≤ g.bounds.last + 1

@@ -4,6 +4,7 @@ pub mod Changing
 pub mod Imports
 pub mod Attributes
 pub mod GroupStarts
+pub mod Counts
 pub mod Telling
 pub mod GroupViews
 pub mod SeenReports

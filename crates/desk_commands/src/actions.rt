@@ -1,9 +1,8 @@
 //! Feedback on actions, and the cancels of actions.
 
-ghost use Rattle.std.specs.Prelude.{◌≡◌, ◌+◌, ◌&&◌, cond, IfOk, Some, is_some, true};
-ghost use Rattle.rollout_machine.specs.CommandRules.{is_device_feedback};
+ghost use Rattle.std.specs.Prelude.{◌≡◌, ◌+◌, cond, MatchResult, None, Some, is_some};
+ghost use Rattle.sql_calls.specs.declared.fault.Fault.TheVariants.{Store};
 ghost use Rattle.rollout_machine.specs.Reports.{reported};
-ghost use Rattle.rollout_model.specs.Rules.{is_number, is_word};
 ghost use Rattle.rollout_machine.specs.Commands.{Cancel as CancelCommand, CancelFeedback, Feedback};
 ghost use Rattle.desk_commands.specs.ActionSteps.{Acts, ActsBy, Follows, MayAct, TellsAction, WritesFeedback};
 ghost use Rattle.desk_commands.specs.ActionSteps.{action_change_of, canceling_by, does_act, outcome_by, stays_offered};
@@ -22,7 +21,7 @@ use crate::step::Step;
 use crate::telling::{Told, entries_with, notes_with, write_told};
 use campaign_core::{ActionChange, RolloutChange, cancel, cancel_feedback, feedback};
 use desk_store::{Fault, OpenChange, tell_entry};
-use rollout_machine::Outcome;
+use rollout_machine::{Outcome, cancel_is_well_formed, feedback_is_well_formed};
 use rollout_model::{Cancel, CancelWord, DeploymentWord, DeviceFeedback, Reply, Said};
 use sqlite::Alter;
 use std::alloc::Global;
@@ -144,15 +143,13 @@ fn may_act<S: Alter>(
     let Some(after) = after else {
         return Ok(());
     };
-    match seen {
-        Some(seen) => act(change, seen, after, told),
-        None => Err(Fault::Store),
-    }
+    let seen = seen.ok_or(Fault::Store)?;
+    act(change, &seen, after, told)
 }
 
 /// What an accepted command makes of its action: nothing where it repeats an outcome.
 fn action_change(accepted: &RolloutChange) -> Result<Option<ActionChange>, Fault>
-    ensures { IfOk result (λ after. action_change_of accepted.now ≡ Some after) }
+    ensures { MatchResult result (λ after. action_change_of accepted.now ≡ Some after) (λ e. (e ≡ Store) × (action_change_of accepted.now ≡ None)) }
 {
     match accepted {
         RolloutChange::Cancel(after) => Ok(Some(*after)),
@@ -175,27 +172,6 @@ fn act_by<S: Alter>(
 {
     let after = action_change(accepted)?;
     may_act(change, seen, &after, told)
-}
-
-/// Feedback keeps the rules of its parts' types.
-fn feedback_is_well_formed<W: Copy>(given: &DeviceFeedback<W>)
-    ensures { is_device_feedback given.now ≡ true }
-{
-    let _id = given.credential.id.as_str();
-    let _digest = given.credential.digest.as_bytes();
-    let _action = given.action.get();
-    let _details = given.details.as_slice();
-    if let Some(number) = &given.number {
-        let _number = number.get();
-    }
-}
-
-/// So does a cancel.
-fn cancel_is_well_formed(asked: &Cancel)
-    ensures { (is_word asked.now.target && is_number asked.now.action) ≡ true }
-{
-    let _target = asked.target.as_str();
-    let _action = asked.action.get();
 }
 
 /// Writes accepted feedback. The memory for it is taken before anything is written.

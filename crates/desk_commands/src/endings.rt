@@ -1,9 +1,9 @@
 //! What follows from the outcome of an action: it is counted in its group, its rollout may pause, and the next group may start.
 
-ghost use Rattle.std.specs.Prelude.{◌≡◌, MatchResult};
+ghost use Rattle.std.specs.Prelude.{◌≡◌, ◌≤◌, ◌+◌, ◌^◌, MatchResult};
 ghost use Rattle.sql_calls.specs.declared.fault.Fault.TheVariants.{Store};
 ghost use Rattle.rollout_machine.specs.RecordSteps.{counted};
-ghost use Rattle.desk_commands.specs.Endings.{CountsOutcome, FollowsOutcome, FollowsSo, StartsGroupOf};
+ghost use Rattle.desk_commands.specs.Endings.{CountsOutcome, FollowsOutcome, FollowsSo, StartsGroupOf, outcomes_in};
 ghost use Rattle.desk_store.specs.Counting.{AddsIn};
 ghost use Rattle.desk_store.specs.Changing.{MakesLedger, StaysIn};
 
@@ -17,7 +17,9 @@ use sqlite::Alter;
 
 /// The group with one more outcome. A count beyond all numbers is a failed store.
 fn counted(group: GroupRecord, outcome: Outcome) -> Result<GroupRecord, Fault>
-    ensures { MatchResult result (λ after. after ≡ counted outcome group.number group) (λ e. e ≡ Store) }
+    ensures { MatchResult result
+        (λ after. after ≡ counted outcome group.number group)
+        (λ e. (e ≡ Store) × (2 ^ 32 ≤ outcomes_in outcome group + 1)) }
 {
     match outcome {
         Outcome::Good => {
@@ -62,10 +64,8 @@ fn start_next<S: Alter>(change: &mut OpenChange<'_, S>, seen: &SeenAction) -> Re
     ensures writes { MakesLedger S.Store change.old change.new result (StartsGroupOf seen.now.action.rollout seen.now.next) }
     ensures work { AddsIn 2 0 change.old change.new }
 {
-    match &seen.next {
-        Some(group) => start_group(change, seen.action.rollout, group),
-        None => Err(Fault::Store),
-    }
+    let group = seen.next.ok_or(Fault::Store)?;
+    start_group(change, seen.action.rollout, &group)
 }
 
 /// Writes what follows an outcome beside its count: a pause of the rollout, or the start of its next group.

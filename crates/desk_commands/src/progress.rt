@@ -15,12 +15,12 @@ ghost use Rattle.desk_commands.specs.Changing.{StepsIn};
 
 use crate::group_views::group_view;
 use crate::groups::start_group;
-use crate::standing::{number_is_well_formed, refusal_in};
+use crate::standing::refusal_in;
 use crate::step::Step;
 use campaign_core::{ResumeView, TriggerView, after_resume, after_trigger, resume, trigger};
 use desk_reads::{SeenRollout, read_seen_rollout};
 use desk_store::{Fault, OpenChange, ToldPlan};
-use rollout_machine::{GroupRecord, RolloutView};
+use rollout_machine::{GroupRecord, RolloutView, number_is_well_formed};
 use rollout_model::{GroupRule, Refusal, Reply, RolloutNo};
 use sqlite::Alter;
 
@@ -171,10 +171,8 @@ fn start_next<S: Alter>(
     let Some(next) = starts else {
         return Ok(());
     };
-    match group_at(groups, next) {
-        Some(group) => start_group(change, number, &group),
-        None => Err(Fault::Store),
-    }
+    let group = group_at(groups, next).ok_or(Fault::Store)?;
+    start_group(change, number, &group)
 }
 
 /// Writes whether a rollout is paused, and starts a group of it.

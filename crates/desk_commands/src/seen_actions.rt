@@ -1,10 +1,11 @@
 //! An action as commands on it find it: with its group and its rollout.
 
-ghost use Rattle.std.specs.Prelude.{◌≡◌, ◌+◌, option_map, MatchResult};
+ghost use Rattle.std.specs.Prelude.{◌≡◌, ◌+◌, option_map, MatchResult, Some};
 ghost use Rattle.sql_calls.specs.declared.fault.Fault.TheVariants.{Store};
 ghost use Rattle.campaign_core.specs.OwnGroups.{waits};
 ghost use Rattle.desk_store.specs.Counting.{AddsIn};
 ghost use Rattle.rollout_machine.specs.Reports.{reported};
+ghost use Rattle.desk_commands.specs.GroupViews.{EndsBeyond};
 ghost use Rattle.desk_commands.specs.SeenReports.{reads_for, standing_in};
 ghost use Rattle.desk_commands.specs.SeenActions.{MaySee, SeesIn, SeesFeedback, SeesTarget, action_view_seen};
 ghost use Rattle.desk_commands.specs.SeenActions.{cancel_view_seen, only_of, only_started, own_seen, feedback_view_seen};
@@ -65,7 +66,9 @@ fn own_view(
     own: &GroupRecord,
     next: &Option<GroupRecord>,
 ) -> Result<OwnView, Fault>
-    ensures { MatchResult result (λ view. view ≡ own_seen rollout.now rule.now own.now next.now) (λ e. e ≡ Store) }
+    ensures { MatchResult result
+        (λ view. view ≡ own_seen rollout.now rule.now own.now next.now)
+        (λ e. (e ≡ Store) × EndsBeyond (Some own.now)) }
 {
     let view = group_view(rule, own.number, Some(*own))?;
     Ok(OwnView {

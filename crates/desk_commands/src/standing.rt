@@ -1,7 +1,6 @@
 //! What is said of a rollout as a whole: it is approved, denied or paused.
 
-ghost use Rattle.std.specs.Prelude.{◌≡◌, MatchResult, None, Some, true};
-ghost use Rattle.rollout_model.specs.Rules.{is_number};
+ghost use Rattle.std.specs.Prelude.{◌≡◌, MatchResult, None, Some};
 ghost use Rattle.rollout_machine.specs.Commands.{Approve, Deny, Pause};
 ghost use Rattle.desk_commands.specs.Standings.{Judges, WritesSaid, said_by};
 ghost use Rattle.desk_store.specs.Changing.{MakesLedger, StaysIn};
@@ -11,6 +10,7 @@ use crate::step::Step;
 use campaign_core::{RolloutChange, StandingView, approve, deny, pause};
 use desk_reads::{SeenRollout, read_seen_rollout};
 use desk_store::{Fault, OpenChange};
+use rollout_machine::number_is_well_formed;
 use rollout_model::{Approval, Refusal, Reply, RolloutNo};
 use sqlite::Alter;
 
@@ -20,13 +20,6 @@ enum Said {
     Approved,
     Denied,
     Paused,
-}
-
-/// The number of a rollout keeps the rule of commands on it.
-pub(crate) fn number_is_well_formed(number: RolloutNo)
-    ensures { is_number number ≡ true }
-{
-    let _number = number.get();
 }
 
 /// What a verdict refuses with, if it does.

@@ -1,6 +1,8 @@
 //! Rollouts: starting one.
 
-ghost use Rattle.std.specs.Prelude.{◌≡◌, ◌≤◌, ◌+◌, length, slice_get, IsTrue};
+ghost use Rattle.std.specs.Prelude.{◌≡◌, ◌≤◌, ◌<◌, ◌+◌, MatchResult, length, slice_get};
+ghost use Rattle.std.specs.Option.{ok_or};
+ghost use Rattle.sql_calls.specs.declared.fault.Fault.TheVariants.{Store};
 ghost use Rattle.rollout_machine.specs.Commands.{Start};
 ghost use Rattle.desk_commands.specs.Standings.{Judges};
 ghost use Rattle.desk_commands.specs.Starts.{AddsActions, ReadsMembers, StartsWhole};
@@ -8,12 +10,12 @@ ghost use Rattle.desk_store.specs.Changing.{FindsLedger, MakesLedger, StaysIn};
 ghost use Rattle.desk_commands.specs.Changing.{StepsIn};
 
 use crate::groups::start_group;
-use crate::standing::{number_is_well_formed, refusal_in};
+use crate::standing::refusal_in;
 use crate::step::Step;
 use campaign_core::{StandingView, start};
 use desk_reads::{SeenRollout, read_seen_rollout};
 use desk_store::{Fault, OpenChange};
-use rollout_machine::GroupRecord;
+use rollout_machine::{GroupRecord, number_is_well_formed};
 use rollout_model::limits::NUMBER_LIMIT;
 use rollout_model::{ActionNo, ControllerId, Page, Refusal, Reply, RolloutNo};
 use sqlite::Alter;
@@ -82,18 +84,24 @@ fn write_start<S: Alter>(
     start_group(change, number, first)
 }
 
-/// Whether there are numbers for so many further actions.
-fn has_numbers(last: u32, members: &[ControllerId]) -> bool
-    ensures { IsTrue result → last + length members.now ≤ 2147483647 }
+/// Where there are no numbers for so many further actions the store failed. `last` is the number of the last one that is there.
+fn check_numbers(last: u32, members: &[ControllerId]) -> Result<(), Fault>
+    ensures { MatchResult result
+        (λ _. last + length members.now ≤ 2147483647)
+        (λ e. (e ≡ Store) × (2147483647 < last + length members.now)) }
 {
-    members.len() <= NUMBER_LIMIT.saturating_sub(last) as usize && last <= NUMBER_LIMIT
+    let left = NUMBER_LIMIT.checked_sub(last).ok_or(Fault::Store)?;
+    if members.len() > left as usize {
+        return Err(Fault::Store);
+    }
+    Ok(())
 }
 
-/// The first group of a rollout.
-fn first_group(seen: &SeenRollout) -> Option<GroupRecord>
-    ensures { result ≡ slice_get seen.now.groups.items 0 }
+/// The first group of a rollout. Where it isn't there the store failed.
+fn first_group(seen: &SeenRollout) -> Result<GroupRecord, Fault>
+    ensures { result ≡ ok_or (slice_get seen.now.groups.items 0) Store }
 {
-    seen.groups.first().copied()
+    seen.groups.first().copied().ok_or(Fault::Store)
 }
 
 /// Starts a rollout that is ready: each member has an action from then on, and those of the first group are offered.
@@ -113,12 +121,8 @@ pub(crate) fn start_rollout<S: Alter>(
     }
     let last = change.read_last_action()?;
     let members = read_all_members(change, number, seen.members())?;
-    let Some(first) = first_group(&seen) else {
-        return Err(Fault::Store);
-    };
-    if !has_numbers(last, &members) {
-        return Err(Fault::Store);
-    }
+    let first = first_group(&seen)?;
+    check_numbers(last, &members)?;
     number_is_well_formed(number);
     write_start(change, number, &seen, &first, last, &members)?;
     Ok(Step::Accepted(Reply::Done))

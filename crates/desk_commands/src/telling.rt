@@ -1,6 +1,7 @@
 //! What is told of an action: its history's new entry, and the number that the entry bears.
 
-ghost use Rattle.std.specs.Prelude.{◌≡◌, ◌+◌, IfOk};
+ghost use Rattle.std.specs.Prelude.{◌+◌};
+ghost use Rattle.desk_commands.specs.Counts.{CountsTo};
 ghost use Rattle.desk_commands.specs.Telling.{WritesNumber, WritesTold, entries_by, if_numbered, notes_by, number_in};
 ghost use Rattle.desk_store.specs.Counting.{AddsIn};
 ghost use Rattle.desk_store.specs.Changing.{MakesLedger, StaysIn};
@@ -20,7 +21,7 @@ pub(crate) struct Told {
 
 /// How many notes there are with what was told.
 pub(crate) fn notes_with(notes: u32, told: &Option<Told>) -> Result<u32, Fault>
-    ensures { IfOk result (λ more. more ≡ notes_by told.now notes) }
+    ensures { CountsTo (notes_by told.now notes) result }
 {
     match told {
         Some(told) => more_if(told.entry.is_note, notes),
@@ -30,7 +31,7 @@ pub(crate) fn notes_with(notes: u32, told: &Option<Told>) -> Result<u32, Fault>
 
 /// How many entries there are with what was told.
 pub(crate) fn entries_with(entries: u32, told: &Option<Told>) -> Result<u32, Fault>
-    ensures { IfOk result (λ more. more ≡ entries_by told.now entries) }
+    ensures { CountsTo (entries_by told.now entries) result }
 {
     match told {
         Some(_) => one_more(entries),

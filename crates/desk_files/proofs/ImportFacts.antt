@@ -21,8 +21,8 @@ pub record Imported (records : List Record) (rows : ImportedRows) (line : ℕ) (
   pub whole : records ≡ first ∷ (done ++ more)
   pub header : is_header first ≡ true
   pub gives : Gives reader more
-  pub taken : each_row done ≡ Some rows.rows.items
-  pub distinct : are_distinct_words (ids_of rows.rows.items) ≡ true
+  pub taken : each_row done ≡ Some rows.rows
+  pub distinct : are_distinct_words (ids_of rows.rows) ≡ true
   pub ids : HasIds rows
   pub count : line ≡ length done + 2
   -- no beginning so far is faulty
@@ -45,7 +45,7 @@ no_header (first ∷ rest) new r h other = rw (rw h.1 at other) refl
 only_one : (n : ℕ) → n < 2 → 1 ≤ n → n ≡ 1
 only_one n below least = omega arith
 
-pub begins : (records : List Record) (new : Reader (Bor (List ℕ))) (r : Record) (rows : ImportedRows) → GivesNext records new true r → is_header r ≡ true → rows.rows.items ≡ [] → HasIds rows → Imported records rows 2 new
+pub begins : (records : List Record) (new : Reader (Bor (List ℕ))) (r : Record) (rows : ImportedRows) → GivesNext records new true r → is_header r ≡ true → rows.rows ≡ [] → HasIds rows → Imported records rows 2 new
 begins [] new r rows h is none ids = absurd (true≢false h)
 begins (first ∷ rest) new r rows h is none ids =
     let header : is_header first ≡ true = rw h.1 at is in
@@ -72,10 +72,10 @@ nothing_more : (more : List Record) (new : Reader (Bor (List ℕ))) (r : Record)
 nothing_more [] new r h = refl
 nothing_more (x ∷ more) new r h = absurd (false≢true h.0)
 
-pub ends : (records : List Record) (rows : ImportedRows) (line : ℕ) (old new : Reader (Bor (List ℕ))) (r : Record) (i : Imported records rows line old) → GivesNext i.more new false r → import_of records ≡ Ok rows.rows.items
+pub ends : (records : List Record) (rows : ImportedRows) (line : ℕ) (old new : Reader (Bor (List ℕ))) (r : Record) (i : Imported records rows line old) → GivesNext i.more new false r → import_of records ≡ Ok rows.rows
 ends records rows line old new r i h =
     let whole : records ≡ i.first ∷ i.done = i.whole ∙ ap (λ more. i.first ∷ (i.done ++ more)) (nothing_more i.more new r h) ∙ ap (λ done. i.first ∷ done) (append-nil i.done) in
-    rw (whole, rows_are i.first i.done rows.rows.items i.header i.taken i.distinct) refl
+    rw (whole, rows_are i.first i.done rows.rows i.header i.taken i.distinct) refl
 
 -- ---- the beginnings
 
@@ -108,16 +108,16 @@ found_line p n (suc k) least within below here =
 
 -- ---- a fault
 
-pub faults : (records : List Record) (rows : ImportedRows) (line : ℕ) (old new : Reader (Bor (List ℕ))) (r : Record) (i : Imported records rows line old) → GivesNext i.more new true r → row_behind rows.rows.items r ≡ None → import_of records ≡ Err line
+pub faults : (records : List Record) (rows : ImportedRows) (line : ℕ) (old new : Reader (Bor (List ℕ))) (r : Record) (i : Imported records rows line old) → GivesNext i.more new true r → row_behind rows.rows r ≡ None → import_of records ≡ Err line
 faults records rows line old new r i h none = by i.more refl h
   where
     by : (more : List Record) → i.more ≡ more → GivesNext more new true r → import_of records ≡ Err line
     by [] e g = absurd (true≢false g)
     by (x ∷ rest) e g =
-        let faulty : row_behind rows.rows.items x ≡ None = rw g.1 at none in
+        let faulty : row_behind rows.rows x ≡ None = rw g.1 at none in
         let whole : records ≡ i.first ∷ (i.done ++ x ∷ rest) = i.whole ∙ ap (λ more. i.first ∷ (i.done ++ more)) e in
-        let no_rows : rows_of (i.first ∷ (i.done ++ x ∷ rest)) ≡ None = rw (i.header, rows_fault i.done x rest rows.rows.items i.taken faulty) refl in
-        let none_so_far : rows_of (i.first ∷ (i.done ++ x ∷ [])) ≡ None = rw (i.header, rows_fault i.done x [] rows.rows.items i.taken faulty) refl in
+        let no_rows : rows_of (i.first ∷ (i.done ++ x ∷ rest)) ≡ None = rw (i.header, rows_fault i.done x rest rows.rows i.taken faulty) refl in
+        let none_so_far : rows_of (i.first ∷ (i.done ++ x ∷ [])) ≡ None = rw (i.header, rows_fault i.done x [] rows.rows i.taken faulty) refl in
         let here : is_none (rows_of (take line records)) ≡ true = rw (whole, take_here i.first i.done x rest line i.count, none_so_far) refl in
         let size : length records ≡ suc (length i.done + suc (length rest)) = ap length whole ∙ ap suc (length-append i.done (x ∷ rest)) in
         let told : faulty_line records ≡ line = found_line (λ n. is_none (rows_of (take n records))) (length records) line (omega (arith, i.count)) (omega (arith, i.count, size)) i.clean here in
@@ -126,19 +126,19 @@ faults records rows line old new r i h none = by i.more refl h
 
 -- ---- one record more
 
-pub goes_on : (records : List Record) (old_rows rows : ImportedRows) (line : ℕ) (old new : Reader (Bor (List ℕ))) (r : Record) (i : Imported records old_rows line old) (row : TargetRow) → GivesNext i.more new true r → row_behind old_rows.rows.items r ≡ Some row
+pub goes_on : (records : List Record) (old_rows rows : ImportedRows) (line : ℕ) (old new : Reader (Bor (List ℕ))) (r : Record) (i : Imported records old_rows line old) (row : TargetRow) → GivesNext i.more new true r → row_behind old_rows.rows r ≡ Some row
     → Pushes old_rows rows row → Imported records rows (line + 1) new
 goes_on records old_rows rows line old new r i row h next pushes = by i.more refl h
   where
     by : (more : List Record) → i.more ≡ more → GivesNext more new true r → Imported records rows (line + 1) new
     by [] e g = absurd (true≢false g)
     by (x ∷ rest) e g =
-        let good : row_behind old_rows.rows.items x ≡ Some row = rw g.1 at next in
-        let both = rows_more i.done x old_rows.rows.items row i.taken i.distinct good in
-        let taken : each_row (i.done ++ x ∷ []) ≡ Some rows.rows.items = rw pushes.pushed both.0 in
-        let distinct : are_distinct_words (ids_of rows.rows.items) ≡ true = rw pushes.pushed both.1 in
+        let good : row_behind old_rows.rows x ≡ Some row = rw g.1 at next in
+        let both = rows_more i.done x old_rows.rows row i.taken i.distinct good in
+        let taken : each_row (i.done ++ x ∷ []) ≡ Some rows.rows = rw pushes.pushed both.0 in
+        let distinct : are_distinct_words (ids_of rows.rows) ≡ true = rw pushes.pushed both.1 in
         let whole : records ≡ i.first ∷ (i.done ++ x ∷ rest) = i.whole ∙ ap (λ more. i.first ∷ (i.done ++ more)) e in
-        let so_far : rows_of (i.first ∷ (i.done ++ x ∷ [])) ≡ Some rows.rows.items = rows_are i.first (i.done ++ x ∷ []) rows.rows.items i.header taken distinct in
+        let so_far : rows_of (i.first ∷ (i.done ++ x ∷ [])) ≡ Some rows.rows = rows_are i.first (i.done ++ x ∷ []) rows.rows i.header taken distinct in
         let here : is_none (rows_of (take line records)) ≡ false = rw (whole, take_here i.first i.done x rest line i.count, so_far) refl in
         record {
           first = i.first;

@@ -42,20 +42,20 @@ pub was_absent : (added had : Bool) → added ≡ true → added ≡ not had →
 was_absent added true so e = cc (sym so ∙ e)
 was_absent added false so e = refl
 
-pub takes_new : (old new : ImportedRows) (r : Record) (row : TargetRow) → row_of r ≡ Some row → has_id row.id old.rows.items ≡ false → new.rows.items ≡ old.rows.items ++ row ∷ [] → HasIds new → TakesRow old new r true
+pub takes_new : (old new : ImportedRows) (r : Record) (row : TargetRow) → row_of r ≡ Some row → has_id row.id old.rows ≡ false → new.rows ≡ old.rows ++ row ∷ [] → HasIds new → TakesRow old new r true
 takes_new old new r row read fresh pushed ids = rw (read, fresh) (refl, record { pushed = pushed; ids = ids })
 
 -- ---- what a taken record says
 
-pub not_taken : (old new : ImportedRows) (r : Record) → TakesRow old new r false → row_behind old.rows.items r ≡ None
-not_taken old new r h = by (row_behind old.rows.items r) h
+pub not_taken : (old new : ImportedRows) (r : Record) → TakesRow old new r false → row_behind old.rows r ≡ None
+not_taken old new r h = by (row_behind old.rows r) h
   where
     by : (o : Option TargetRow) → MatchOption o (false ≡ false) (λ row. (false ≡ true) × Pushes old new row) → o ≡ None
     by None t = refl
     by (Some row) t = absurd (false≢true t.0)
 
-pub taken : (old new : ImportedRows) (r : Record) → TakesRow old new r true → (row : TargetRow) × (row_behind old.rows.items r ≡ Some row) × Pushes old new row
-taken old new r h = by (row_behind old.rows.items r) h
+pub taken : (old new : ImportedRows) (r : Record) → TakesRow old new r true → (row : TargetRow) × (row_behind old.rows r ≡ Some row) × Pushes old new row
+taken old new r h = by (row_behind old.rows r) h
   where
     by : (o : Option TargetRow) → MatchOption o (true ≡ false) (λ row. (true ≡ true) × Pushes old new row) → (row : TargetRow) × (o ≡ Some row) × Pushes old new row
     by None t = absurd (true≢false t)

@@ -23,12 +23,12 @@ row_behind rows r = option_and_then (if_new rows) (row_of r)
 
 -- the set has the ids of the rows
 abbrev pub HasIds : ImportedRows → Type 0
-HasIds s = (id : List ℕ) → contains (slice_cmp nat_cmp) s.ids id ≡ has_id id s.rows.items
+HasIds s = (id : List ℕ) → contains (slice_cmp nat_cmp) s.ids id ≡ has_id id s.rows
 
 pub record Pushes (old new : ImportedRows) (row : TargetRow) : Type 0 where
-  pub pushed : new.rows.items ≡ old.rows.items ++ row ∷ []
+  pub pushed : new.rows ≡ old.rows ++ row ∷ []
   pub ids : HasIds new
 
 -- the record's row is added, or there is none
 abbrev pub TakesRow : ImportedRows → ImportedRows → Record → Bool → Type 0
-TakesRow old new r taken = MatchOption (row_behind old.rows.items r) (taken ≡ false) (λ row. (taken ≡ true) × Pushes old new row)
+TakesRow old new r taken = MatchOption (row_behind old.rows r) (taken ≡ false) (λ row. (taken ≡ true) × Pushes old new row)

@@ -1,6 +1,6 @@
 -- What a file of targets says: its rows, or the number of its first faulty record.
 use Rattle.std.specs.Prelude.{◌≡◌, ℕ, Bool, List, [], ◌∷◌, length, take, map, codes, nat_eq, Option, Some, None, is_none, unwrap_or, option_map}
-use Rattle.std.specs.Prelude.{option_and_then, Result, Ok, Err, MatchResult, Vec, if◌then◌else◌, ⊤}
+use Rattle.std.specs.Prelude.{option_and_then, Result, Ok, Err, MatchResult, if◌then◌else◌, ⊤}
 use Rattle.std.specs.List.{ends_with, find, range_with_len}
 use Rattle.std.specs.Option.{ok_or}
 use Rattle.std.specs.Cmp.Lexicographic.{pointwise}
@@ -59,8 +59,8 @@ Tells said Memory = ⊤
 Tells said (Line line) = said ≡ Err line
 
 -- the rows exactly where the file says rows, and the line exactly where it says that; in place of either, want of memory
-abbrev pub ImportsAs : {Z : Type 0} → Result (List TargetRow) ℕ → Result (Vec TargetRow Z) ImportFault → Type 0
-ImportsAs said result = MatchResult result (λ rows. said ≡ Ok rows.items) (Tells said)
+abbrev pub ImportsAs : Result (List TargetRow) ℕ → Result (List TargetRow) ImportFault → Type 0
+ImportsAs said result = MatchResult result (λ rows. said ≡ Ok rows) (Tells said)
 
 abbrev pub refusal_of : ImportFault → Refusal
 refusal_of (Line line) = BadImportLine line

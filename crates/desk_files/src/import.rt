@@ -9,7 +9,7 @@ use crate::import_fault::ImportFault;
 use crate::imported_rows::ImportedRows;
 use crate::record_reader::{next_record, records};
 use csv::ByteRecord;
-use rollout_model::TargetRow;
+use rollout_model::TargetRows;
 use std::alloc::Global;
 
 fn is_header(record: &ByteRecord) -> bool
@@ -34,7 +34,7 @@ fn is_header(record: &ByteRecord) -> bool
 /// `Line(0)` where the file is empty or its last byte is no line feed; else `Line` of the first record that breaks a rule,
 /// the header being 1: another header, or none; a record of another length; an id, a name, a token or a tag that breaks
 /// its rule; more than 16 tags, or one of them twice; an id that came before. `Memory` where memory is refused.
-pub fn read_targets(alloc: Global, bytes: &[u8]) -> Result<Vec<TargetRow>, ImportFault>
+pub fn read_targets(alloc: Global, bytes: &[u8]) -> Result<TargetRows, ImportFault>
     ensures { ImportsAs (targets_of bytes.now) result }
 {
     if !bytes.ends_with(b"\n") {

@@ -6,31 +6,31 @@ ghost use Rattle.desk_files.specs.ImportSteps.{HasIds, TakesRow};
 
 use crate::target_record::read_row;
 use csv::ByteRecord;
-use rollout_model::{ControllerId, TargetRow};
+use rollout_model::{ControllerId, TargetRows};
 use std::alloc::{AllocError, Global};
 use std::collections::BTreeSet;
 
 /// Rows of targets, no two of one id. The ids stand in a set, so that a long file is read in a short time.
 #[derive(Drop)]
 pub(crate) struct ImportedRows {
-    rows: Vec<TargetRow>,
+    rows: TargetRows,
     ids: BTreeSet<ControllerId>,
 }
 
 impl ImportedRows {
     /// No rows.
     pub(crate) fn new(alloc: Global) -> ImportedRows
-        ensures rows { result.rows.items ≡ [] }
+        ensures rows { result.rows ≡ [] }
         ensures ids { HasIds result }
     {
         ImportedRows {
-            rows: Vec::new(alloc),
+            rows: TargetRows::new(alloc),
             ids: BTreeSet::new(alloc),
         }
     }
 
-    pub(crate) fn into_rows(self) -> Vec<TargetRow>
-        ensures { result.items ≡ self.rows.items }
+    pub(crate) fn into_rows(self) -> TargetRows
+        ensures { result ≡ self.rows }
     {
         self.rows
     }

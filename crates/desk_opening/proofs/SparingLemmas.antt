@@ -1,5 +1,5 @@
 -- What files keep that were not opened.
-use Rattle.std.proofs.Common.{◌≡◌, ◌≢◌, ◌⊎◌, ◌==◌, ◌%◌, ◌≤◌, inl, inr, ℕ, Bool, true, false, List, [], ◌∷◌, if◌then◌else◌, cond, Option, Some, None, IfSome, MatchOption, refl, sym, ap, ap₂, subst, ◌∙◌, IsTrue, arith}
+use Rattle.std.proofs.Common.{◌≡◌, ◌≢◌, ◌==◌, ◌%◌, ◌≤◌, inl, inr, ℕ, Bool, true, false, List, [], ◌∷◌, if◌then◌else◌, cond, refl, sym, ap, ap₂, subst, ◌∙◌, IsTrue, arith}
 use Rattle.std.proofs.lemmas.Bool.{cases_eq, cases_Bool}
 use Rattle.std.proofs.Math.Logic.{∥∥₁_map, ∥∥₁_elim}
 use Rattle.sqlite_disk.specs.declared.Disk as disk
@@ -169,20 +169,12 @@ module _ {C S : Type 0} {g : calls.Ghosts C} {start : start_ghosts.Ghosts S} (it
       let named : start_of start it ≡ (if is_log then start.log else start.db) = ap (λ b. if b then start.log else start.db) is in
       elim now [ inl seen ↦ seen ∙ named | inr synced ↦ synced ∙ named ]
 
-is_failure : (error : Error) (e : OpenFault) → (error ≢ SqliteFailure code.NotADatabase → IsFailure e)
-    → (error ≡ SqliteFailure code.CannotOpen) ⊎ ((error ≡ SqliteFailure code.OutOfMemory) ⊎ (error ≡ SqliteFailure code.DatabaseBusy)) → IsFailure e
-is_failure error e opened (inl is) = opened (λ no. let x = sym is ∙ no in cc)
-is_failure error e opened (inr (inl is)) = opened (λ no. let x = sym is ∙ no in cc)
-is_failure error e opened (inr (inr is)) = opened (λ no. let x = sym is ∙ no in cc)
-
 module _ {D : Type 0} (g : disk.Ghosts D) (stays : (file : D) → g.may_leave file (g.seen file)) (at : Image) (IsFreshLog IsFreshDb : D → Type 0)
     (logs : (f : D) → IsFreshLog f → (c : List ℕ) → g.may_leave f c → c ≡ at.log) (dbs : (f : D) → IsFreshDb f → (c : List ℕ) → g.may_leave f c → c ≡ at.db) where
-  pub path_refused : (error : Error) (rest : Option (Leftover D g)) (e : OpenFault) (approval : Bool) → (error ≢ SqliteFailure code.NotADatabase → IsFailure e) → e ≢ NewerVersion
-      → (rest ≡ None → (error ≡ SqliteFailure code.CannotOpen) ⊎ ((error ≡ SqliteFailure code.OutOfMemory) ⊎ (error ≡ SqliteFailure code.DatabaseBusy)))
-      → IfSome rest (λ left. (files : Files D) × IsFreshLog files.log × IsFreshDb files.db × (IsCleanLeft left → FailsToOpenFiles files left error × LeavesFiles files left))
-      → MatchOption rest (IsFailure e) (LeavesUnharmed (λ left. left ≡ at) at approval e)
-  path_refused error None e approval opened named unopened cause = is_failure error e opened (unopened refl)
-  path_refused error (Some rest) e approval opened named unopened cause =
+  pub path_spared : (error : Error) (rest : Leftover D g) (e : OpenFault) → (error ≢ SqliteFailure code.NotADatabase → IsFailure e) → e ≢ NewerVersion
+      → (files : Files D) × IsFreshLog files.log × IsFreshDb files.db × (IsCleanLeft rest → FailsToOpenFiles files rest error × LeavesFiles files rest)
+      → (approval : Bool) → LeavesUnharmed (λ left. left ≡ at) at approval e rest
+  path_spared error rest e opened named cause approval =
       let files = cause.0 in
       let all = λ (image : Image) (out : outcomes g files.log files.db image). ap₂ (λ (a b : List ℕ). let i : Image = record { log = a; db = b } in i) (logs files.log cause.1 image.log out.0) (dbs files.db cause.2 image.db out.1) in
       inl (λ clean. spares_at g stays files (λ left. left ≡ at) all rest e (spares g stays files error rest e opened named (cause.3 clean)))

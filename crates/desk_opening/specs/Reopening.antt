@@ -27,6 +27,8 @@ use Rattle.desk_records.specs.Holds.{HoldsRecords}
 use Rattle.desk_records.specs.Readable.{HoldsReadable}
 use Rattle.desk_opening.specs.declared.opening.OpenFault.{OpenFault}
 use Rattle.desk_opening.specs.declared.opening.OpenFault.TheVariants.{NotDesk, NewerVersion}
+use Rattle.desk_opening.specs.declared.path.PathLeftover.{PathLeftover}
+use Rattle.desk_opening.specs.declared.path.PathLeftover.TheVariants as at_path
 use Rattle.desk_opening.specs.Making.{LeavesNoDesk, LeavesDesk, first_records}
 use Rattle.desk_opening.specs.Opening.{HasDesk, HasNoDesk, HasRow, IsFailure, IsNewerRow, OpensDesk}
 
@@ -114,6 +116,11 @@ module _ {D : Type 0} {g : disk.Ghosts D} where
   -- What a refused opening leaves of files, by what a crash might have left of them before and by what they read as.
   abbrev pub LeavesUnharmed : (Image → Type 0) → Image → Bool → OpenFault → Leftover D g → Type 0
   LeavesUnharmed before image approval e rest = (IsCleanLeft rest → Spares g before rest e) ⊎ (IsCleanLeft rest → RefusesStore image approval e rest)
+
+  -- The same of files at a path, which held this. Where none was opened, memory was wanting or the store failed.
+  abbrev pub LeavesPath : Image → Bool → OpenFault → PathLeftover D g → Type 0
+  LeavesPath image approval e (at_path.NoFile none) = IsFailure e
+  LeavesPath image approval e (at_path.Opened rest) = LeavesUnharmed (λ left. left ≡ image) image approval e rest
 
   -- the store of a connection, which was rolled back
   abbrev pub IsLeftOf : Held (FileStore D g) → Leftover D g → Type 0

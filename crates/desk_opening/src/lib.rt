@@ -6,10 +6,12 @@ mod filling;
 mod making;
 mod migrating;
 mod opening;
+mod path;
 mod reopening;
 mod running;
 mod version_tables;
 
 pub use crate::making::{fill, make};
 pub use crate::opening::{OpenFault, adopt, open_desk};
-pub use crate::reopening::{reopen_files, reopen_path};
+pub use crate::path::{NoFile, PathLeftover, open_at};
+pub use crate::reopening::{open_desk_in, reopen_files, reopen_path};

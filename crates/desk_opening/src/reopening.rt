@@ -1,14 +1,15 @@
 //! A desk over files.
 
-ghost use Rattle.std.specs.Prelude.{◌≡◌, ◌≢◌, IsTrue, IfOk, IfErr, MatchOption};
+ghost use Rattle.std.specs.Prelude.{◌≡◌, ◌≢◌, IsTrue, IfOk, IfErr};
 ghost use Rattle.sqlite.specs.Files.{file_state, image_of};
 ghost use Rattle.sqlite_wal.specs.Files.{outcomes};
 ghost use Rattle.sqlite.specs.WalFiles.{image_at};
 ghost use Rattle.desk_opening.specs.Making.{told};
 ghost use Rattle.desk_opening.specs.Opening.{IsFailure, IsSettled, OpensDesk};
-ghost use Rattle.desk_opening.specs.Reopening.{BeginsPlain, IsLeftOf, LeavesUnharmed, Reopens};
+ghost use Rattle.desk_opening.specs.Reopening.{BeginsPlain, IsLeftOf, LeavesPath, LeavesUnharmed, Reopens};
 
 use crate::opening::{OpenFault, open_desk, open_fault};
+use crate::path::{PathLeftover, open_at};
 use sql_calls::fault_of;
 use sqlite::{Connection, Error, ErrorCode, FileFrom, FileStore, Files, Leftover, Options, Start};
 use sqlite_disk::Disk;
@@ -34,29 +35,28 @@ pub fn reopen_files<D: Disk + Drop>(
     }
 }
 
-/// The same for the file at a path, with its log beside it. A file that another process holds is refused as `Store`. Nothing is left where no file was opened.
+/// The same for the file at a path, with its log beside it. A file that another process holds is refused as `Store`.
 pub fn reopen_path<S: Start>(
     rt: &HostRuntime,
     path: &str,
     start: S,
     approval_if_new: bool,
-) -> Result<Connection<FileStore<FileFrom<S>>>, (OpenFault, Option<Leftover<FileFrom<S>>>)>
+) -> Result<Connection<FileStore<FileFrom<S>>>, (OpenFault, PathLeftover<FileFrom<S>>)>
     ensures reopened { IfOk result (λ conn. Reopens (image_at S.Start) (file_state conn) approval_if_new) }
     ensures plain { IfOk result (λ conn. BeginsPlain (image_at S.Start) approval_if_new conn) }
-    ensures refused { IfErr result (λ e. MatchOption e.1 (IsFailure e.0)
-        (LeavesUnharmed (λ left. left ≡ image_at S.Start) (image_at S.Start) approval_if_new e.0)) }
+    ensures refused { IfErr result (λ e. LeavesPath (image_at S.Start) approval_if_new e.0 e.1) }
 {
-    match Connection::open_from(rt, path, false, start) {
+    match open_at(rt, path, start) {
         Ok(conn) => match open_desk_in(rt.alloc(), conn, approval_if_new) {
             Ok(opened) => Ok(opened),
-            Err((fault, left)) => Err((fault, Some(left))),
+            Err((fault, left)) => Err((fault, PathLeftover::Opened(left))),
         },
-        Err((error, left)) => Err((refused_open(error), left)),
+        Err(refused) => Err(refused),
     }
 }
 
-/// As `open_desk`. Of a connection that is refused the store is left.
-fn open_desk_in<D: Disk + Drop>(
+/// As `open_desk`, over files. Of a connection that is refused the store is left.
+pub fn open_desk_in<D: Disk + Drop>(
     alloc: Global,
     conn: Connection<FileStore<D>>,
     approval_if_new: bool,

@@ -4,15 +4,15 @@ use Rattle.std.proofs.lemmas.Bool.{or_parts, and_parts}
 use Rattle.std.specs.Cmp.Lexicographic.{pointwise}
 use Rattle.std.specs.List.{list_any}
 use Rattle.std.specs.Option.{option_map}
-use Rattle.desk_records.proofs.ByteOrder.{same_sym, sorted_from}
+use Rattle.desk_records.proofs.ByteOrder.{sorted_from}
 use Rattle.desk_records.proofs.Targets.{has_id}
 use Rattle.desk_records.specs.TargetRow.{stored_target}
 use Rattle.desk_records.specs.Targets.{are_sorted, ids_of, in_byte_order}
 use Rattle.desk_records.specs.declared.target_row.StoredTarget.{StoredTarget}
 use Rattle.rollout_machine.proofs.Imports.{IsSorted, not_above}
-use Rattle.rollout_machine.proofs.TargetTies.{same_true}
+use Rattle.rollout_machine.proofs.TargetTies.{same_pointwise, same_sym, same_true}
 use Rattle.rollout_machine.specs.ByteStrings.{contains_word, same_bytes}
-use Rattle.rollout_machine.specs.Commands.{Bytes, Credential}
+use Rattle.rollout_machine.specs.Commands.{Credential}
 use Rattle.rollout_machine.specs.Records.{Records}
 use Rattle.rollout_machine.specs.Targets.{Target}
 use Rattle.rollout_machine.specs.Verdicts.{is_known, target_of}
@@ -22,12 +22,6 @@ use Rattle.rollout_machine.specs.Verdicts.{is_known, target_of}
 -- its id and its token's digest are those of the target
 abbrev is_of : Credential → Target → Bool
 is_of device x = same_bytes x.id device.id && same_bytes x.digest device.digest
-
-pub same_pointwise : (xs ys : Bytes) → pointwise nat_eq xs ys ≡ same_bytes xs ys
-same_pointwise [] [] = refl
-same_pointwise [] (y ∷ ys) = refl
-same_pointwise (x ∷ xs) [] = refl
-same_pointwise (x ∷ xs) (y ∷ ys) = ap (λ b. nat_eq x y && b) (same_pointwise xs ys)
 
 module _ (device : Credential) where
   none_known : (ts : List Target) → contains_word device.id (ids_of ts) ≡ false → list_any (is_of device) ts ≡ false

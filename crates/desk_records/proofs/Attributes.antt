@@ -15,9 +15,9 @@ use Rattle.rollout_machine.specs.Commands.{Bytes, Attribute}
 use Rattle.rollout_machine.specs.RecordSteps.{change_target}
 use Rattle.rollout_machine.specs.Targets.{Target, with_attribute}
 use Rattle.rollout_machine.proofs.Imports.{IsSorted, above_more, not_above}
-use Rattle.rollout_machine.proofs.TargetTies.{same_true}
+use Rattle.rollout_machine.proofs.TargetTies.{same_sym, same_true}
 use Rattle.desk_records.specs.Targets.{attribute_rows, in_byte_order, keys_of, ids_of, is_sorted, attributes_of, attributed}
-use Rattle.desk_records.proofs.ByteOrder.{same_sym, below_rises, sorted_from, in_order_with}
+use Rattle.desk_records.proofs.ByteOrder.{below_rises, sorted_from, in_order_with}
 use Rattle.desk_records.proofs.Targets.{has_id, id_found, none_after, unchanged, one_more}
 
 -- ---- the attributes of one target

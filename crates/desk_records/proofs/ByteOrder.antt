@@ -11,22 +11,10 @@ use Rattle.sqlite_value.proofs.OrderLemmas.{value_cmp-Text}
 use Rattle.rollout_machine.specs.ByteStrings.{same_bytes, bytes_below, contains_word, with_word, without_word}
 use Rattle.rollout_machine.specs.Commands.{Bytes}
 use Rattle.rollout_machine.proofs.Imports.{AllAbove, IsSorted, sorted_with}
-use Rattle.rollout_machine.proofs.TargetTies.{same_refl, same_true}
+use Rattle.rollout_machine.proofs.Orders.{sorted_without}
 use Rattle.desk_records.specs.Targets.{in_byte_order}
 
 -- ---- two words
-
-pub same_by : (a b : Bytes) → a ≡ b → same_bytes a b ≡ true
-same_by a b is = subst (λ (c : Bytes). same_bytes a c ≡ true) is (same_refl a)
-
-pub same_sym : (a b : Bytes) → same_bytes a b ≡ same_bytes b a
-same_sym a b = go (same_bytes a b) (same_bytes b a) refl refl
-  where
-    go : (s t : Bool) → same_bytes a b ≡ s → same_bytes b a ≡ t → s ≡ t
-    go true true one two = refl
-    go false false one two = refl
-    go true false one two = absurd (false≢true (sym two ∙ same_by b a (sym (same_true a b one))))
-    go false true one two = absurd (false≢true (sym one ∙ same_by a b (sym (same_true b a two))))
 
 -- a word that is below another doesn't come after it in a column
 pub below_rises : (a b : Bytes) → bytes_below a b ≡ true → is_gt (value_cmp (Text a) (Text b)) ≡ false
@@ -65,22 +53,6 @@ in_order_from (w ∷ ws) sorted = rw (above_all w ws sorted.0) (in_order_from ws
 
 pub in_order_with : (w : Bytes) (ws : List Bytes) → in_byte_order ws ≡ true → in_byte_order (with_word w ws) ≡ true
 in_order_with w ws ordered = in_order_from (with_word w ws) (sorted_with w ws (sorted_from ws ordered))
-
-above_without : (v w : Bytes) (ws : List Bytes) → AllAbove v ws → AllAbove v (without_word w ws)
-above_without v w [] above = tt
-above_without v w (u ∷ ws) above = go (same_bytes w u) (above_without v w ws above.1)
-  where
-    go : (s : Bool) → AllAbove v (without_word w ws) → AllAbove v (cond s (without_word w ws) (u ∷ without_word w ws))
-    go true rest = rest
-    go false rest = (above.0, rest)
-
-sorted_without : (w : Bytes) (ws : List Bytes) → IsSorted ws → IsSorted (without_word w ws)
-sorted_without w [] sorted = tt
-sorted_without w (u ∷ ws) sorted = go (same_bytes w u) (sorted_without w ws sorted.1)
-  where
-    go : (s : Bool) → IsSorted (without_word w ws) → IsSorted (cond s (without_word w ws) (u ∷ without_word w ws))
-    go true rest = rest
-    go false rest = (above_without u w ws sorted.0, rest)
 
 pub in_order_without : (w : Bytes) (ws : List Bytes) → in_byte_order ws ≡ true → in_byte_order (without_word w ws) ≡ true
 in_order_without w ws ordered = in_order_from (without_word w ws) (sorted_without w ws (sorted_from ws ordered))

@@ -1,5 +1,5 @@
 -- The words in which the meanings of texts are written.
-use Rattle.std.proofs.Common.{◌≡◌, List, [], ℕ, Ok, None}
+use Rattle.std.proofs.Common.{◌≡◌, refl, List, [], ℕ, Ok, None}
 use Rattle.sqlite.specs.Collation.TheVariants.{Binary}
 use Rattle.sqlite.specs.Schema.{Schema}
 use Rattle.sqlite.specs.Term.{Term, col, op2}
@@ -8,11 +8,37 @@ use Rattle.sqlite_sql.specs.declared.ops.BinaryOp.TheVariants.{Compare}
 use Rattle.sqlite_sql.specs.declared.ops.CompareOp.TheVariants.{Eq, Le, Ge, Gt}
 use Rattle.sqlite_resolve.specs.declared.compiled.Compiled.{Compiled}
 use Rattle.sqlite_resolve.specs.Compile.{compiled}
+use Rattle.sqlite_resolve.specs.Scope.{Name}
+use Rattle.sqlite_schema.specs.declared.command.Command.TheVariants.{Select, Insert, Update, Delete}
+use Rattle.sqlite.specs.Source.{Source}
+use Rattle.sqlite.specs.Query.{Query}
+use Rattle.sqlite.specs.Table.{Table}
+use Rattle.sql_front.specs.Stands.{Stands}
+use Rattle.sql_front.proofs.Texts.{Queries, queries_known}
+use Rattle.sql_front.proofs.Write.{Adds, adds_known, unstamped}
+use Rattle.sql_front.proofs.Change.{Updates, Removes, updates_known, removes_known}
 use Rattle.sql_calls.specs.Means.{Means}
 
 pub means_of : (s : Schema) (sql : List ℕ) (c : Compiled) → compiled s sql ≡ Ok c → c.returning ≡ None → c.formats ≡ [] → Means s sql c.command
 unfolding understood
 means_of s sql c is none timeless = record { is = rw is; plain = rw is (none, timeless); unlisted = rw is }
+
+-- ---- what a text means wherever its table stands, from what computes of it
+
+module _ {text : List ℕ} {name : Name} (table : Table) (s : Schema) (at : ℕ) where
+  pub asks : {body : Query} {columns : List Name} → Queries text name table body columns → Stands s name at table → Means s text (Select (record { lets = []; body = body }) columns)
+  asks reads stands = means_of s text _ (queries_known _ _ _ _ _ reads s at stands) refl refl
+
+  pub puts : {source : Source} → Adds text name table source → Stands s name at (unstamped table) → Means s text (Insert at source)
+  puts adds stands = means_of s text _ (adds_known _ _ _ _ adds s at stands) refl refl
+
+  pub changes : {body : Query} → Updates text name table body → Stands s name at table → Means s text (Update at (record { lets = []; body = body }))
+  changes sets stands = means_of s text _ (updates_known _ _ _ _ sets s at stands) refl refl
+
+  pub drops : {body : Query} → Removes text name table body → Stands s name at table → Means s text (Delete at (record { lets = []; body = body }))
+  drops removes stands = means_of s text _ (removes_known _ _ _ _ removes s at stands) refl refl
+
+-- ---- terms
 
 abbrev pub is_equal : Term → Term → Term
 is_equal = op2 (Compare Eq Binary)

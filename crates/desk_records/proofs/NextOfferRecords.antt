@@ -1,5 +1,6 @@
 -- What is read of the next offer, where a ledger is held.
 use Rattle.std.proofs.Common.{◌≡◌, ◌<◌, ℕ, zero, suc, ◌+◌, pos, List, [], ◌∷◌, map, filter, take, length, slice_get, Bool, true, false, cond, ◌&&◌, ◌||◌, Option, Some, None, option_map, refl, ap, ap₂, ◌∙◌, arith, nat_eq, nat_le}
+use Rattle.std.proofs.Math.Bool.{or-false}
 use Rattle.std.specs.List.{list_any, zip}
 use Rattle.std.specs.Option.{is_none}
 use Rattle.std.proofs.lemmas.Bool.Decides.{nat_tests}
@@ -33,10 +34,6 @@ use Rattle.desk_records.proofs.TargetRecords.{first_row}
 
 -- ---- whether any part of one numbered record passes
 
-or_false : (b : Bool) → (b || false) ≡ b
-or_false true = refl
-or_false false = refl
-
 module _ {X Y : Type 0} (f : ℕ → ℕ → Y → Row) (parts : X → List Y) (p : Row → Bool) (number : ℕ) (q : Y → Bool) (is : (n place : ℕ) (y : Y) → p (f n place y) ≡ (nat_eq n number && q y)) where
   any_here : (n place : ℕ) (ys : List Y) (b : Bool) → nat_eq n number ≡ b → list_any p (rows_from (f n) place ys) ≡ (b && list_any q ys)
   any_here n place [] true at = refl
@@ -54,7 +51,7 @@ module _ {X Y : Type 0} (f : ℕ → ℕ → Y → Row) (parts : X → List Y) (
   any_at n k [] h = refl
   any_at n zero (x ∷ xs) h =
       let at : nat_eq n number ≡ true = grind (arith, nat_tests, h) in
-      list_any-append p (rows_from (f n) 1 (parts x)) (parts_from f parts (n + 1) xs) ∙ ap₂ ◌||◌ (any_here n 1 (parts x) true at) (none_past (n + 1) xs (omega (arith, h))) ∙ or_false _
+      list_any-append p (rows_from (f n) 1 (parts x)) (parts_from f parts (n + 1) xs) ∙ ap₂ ◌||◌ (any_here n 1 (parts x) true at) (none_past (n + 1) xs (omega (arith, h))) ∙ or-false _
   any_at n (suc k) (x ∷ xs) h =
       let apart : nat_eq n number ≡ false = grind (arith, nat_tests, h) in
       list_any-append p (rows_from (f n) 1 (parts x)) (parts_from f parts (n + 1) xs) ∙ ap₂ ◌||◌ (any_here n 1 (parts x) false apart) (any_at (n + 1) k xs (omega (arith, h)))

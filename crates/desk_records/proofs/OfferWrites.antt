@@ -1,6 +1,5 @@
 -- The statements on offers that write, in ledgers.
-use Rattle.std.proofs.Common.{◌≡◌, ◌&&◌, ℕ, pos, List, [], ◌∷◌, Bool, true, false, not, cond, map, filter, Option, Some, None, refl, sym, ap, ap₂, subst, ◌∙◌, arith, nat_eq}
-use Rattle.std.proofs.lemmas.Bool.Decides.{nat_tests}
+use Rattle.std.proofs.Common.{◌≡◌, ℕ, pos, List, [], ◌∷◌, Bool, true, false, not, cond, map, filter, Option, Some, None, refl, sym, ap, ap₂, subst, ◌∙◌}
 use Rattle.sqlite_value.specs.declared.value.Value.TheVariants.{Null, Int, Text}
 use Rattle.sqlite_value.specs.Order.{Row}
 use Rattle.sqlite.specs.Command.TheVariants.{Update, Delete}
@@ -16,7 +15,7 @@ use Rattle.sql_calls.proofs.Updates.{deletes, updates}
 use Rattle.rollout_machine.specs.ByteStrings.{same_bytes}
 use Rattle.rollout_machine.specs.Commands.{Bytes}
 use Rattle.rollout_machine.specs.Kinds.{TargetOffer, offer_to}
-use Rattle.rollout_machine.proofs.TargetTies.{same_true}
+use Rattle.rollout_machine.proofs.TargetTies.{same_sym, same_true}
 use Rattle.rollout_model.specs.declared.rollout.Offer.{Offer}
 use Rattle.desk_records.specs.Holds.{HoldsLedger, Ledger}
 use Rattle.desk_records.specs.LedgerSteps.{SetsOffer, with_offer}
@@ -28,15 +27,6 @@ use Rattle.desk_records.proofs.ActionRecords.{names_offer, offer_keyed}
 use Rattle.desk_records.proofs.HoldsAfter.{Leaves, contents_differ, ledger_after}
 
 -- ---- the offers of one id, in lists
-
-same_turned : (a b : Bytes) → same_bytes a b ≡ same_bytes b a
-same_turned [] [] = refl
-same_turned [] (y ∷ ys) = refl
-same_turned (x ∷ xs) [] = refl
-same_turned (x ∷ xs) (y ∷ ys) = ap₂ ◌&&◌ (turned x y) (same_turned xs ys)
-  where
-    turned : (x y : ℕ) → nat_eq x y ≡ nat_eq y x
-    turned x y = grind (arith, nat_tests)
 
 abbrev pub new_offer : Bytes → Offer → TargetOffer
 new_offer id o = record { target = id; offer = o }
@@ -78,8 +68,8 @@ offers_set id t o was offers there = go (same_bytes id t) refl
     go : (b : Bool) → same_bytes id t ≡ b → map (other_offer id o) (offer_to t (offers t)) ≡ offer_to t (cond b (Some o) (offers t))
     go true e =
         let is : id ≡ t = same_true id t e in
-        each true (same_turned t id ∙ e) (offers t) ∙ ap (λ i. map (λ (it : TargetOffer). record it { offer = o }) (offer_to t (offers i))) (sym is) ∙ ap (λ found. map (λ (it : TargetOffer). record it { offer = o }) (offer_to t found)) there
-    go false e = each false (same_turned t id ∙ e) (offers t)
+        each true (same_sym t id ∙ e) (offers t) ∙ ap (λ i. map (λ (it : TargetOffer). record it { offer = o }) (offer_to t (offers i))) (sym is) ∙ ap (λ found. map (λ (it : TargetOffer). record it { offer = o }) (offer_to t found)) there
+    go false e = each false (same_sym t id ∙ e) (offers t)
 
 abbrev not_to : Bytes → TargetOffer → Bool
 not_to id it = not (is_to id it)

@@ -14,65 +14,35 @@ use Rattle.sqlite_resolve.specs.Expr.{combine}
 use Rattle.sqlite_resolve.specs.Select.{named, paging}
 use Rattle.sqlite_resolve.specs.Write.{updated}
 use Rattle.sql_front.specs.Stands.{Stands}
-use Rattle.sql_front.proofs.Texts.{Queries, queries_known}
-use Rattle.sql_front.proofs.Write.{Adds, adds_known}
-use Rattle.sql_front.proofs.Change.{Updates, updates_known}
+use Rattle.sql_front.proofs.Texts.{Queries}
+use Rattle.sql_front.proofs.Write.{Adds}
+use Rattle.sql_front.proofs.Change.{Updates}
 use Rattle.sql_calls.specs.Means.{Means}
 use Rattle.sql_calls.proofs.Selects.{simple, by}
 use Rattle.sql_calls.proofs.Counts.{count_query}
 use Rattle.desk_records.specs.declared.rollout_texts.TheConstants.{FIND_ROLLOUT, LAST_ROLLOUT, GET_ROLLOUT, LIST_ROLLOUTS, LIST_MEMBERS, LIST_PLACES, COUNT_MEMBERS, LIST_GROUPS, COUNT_GROUPS, GET_GROUP, HOLDING_GROUP, GROUP_AND_NEXT, PUT_ROLLOUT, SET_ROLLOUT, PUT_MEMBER, PUT_GROUP, SET_GROUP, GET_RULE, LIST_RULES, PUT_RULE}
 use Rattle.desk_records.specs.Schema.{rollout_table, member_table, group_table, rule_table}
-use Rattle.desk_records.proofs.MeaningWords.{means_of, at_key, past, at_least, at_most}
+use Rattle.desk_records.proofs.MeaningWords.{asks, puts, changes, at_key, past, at_least, at_most}
 
 abbrev pub same_name : List Term
 same_name = at_key 2 0 ∷ []
 
 find_rollout_queries : (tree : ℕ) → Queries FIND_ROLLOUT.now (codes "rollout") (rollout_table tree) (simple tree same_name (col 1 0 ∷ [])) (codes "number" ∷ [])
 unfolding first combine named paging everything
-find_rollout_queries tree = record {
-  parsed = _;
-  select = _;
-  page = _;
-  shown = _;
-  read = refl;
-  selects = record { statement = refl; formats = refl; with = refl; others = refl };
-  one = record { source = _; from = refl; table = refl; alias = refl; on = refl; using = refl; is_inner = refl; group = refl; having = refl; shown = (tt, tt); filter = ((refl, λ cx how x y. refl), tt, tt); sorts = tt };
-  paged = λ s. refl;
-  named_alone = refl;
-  known = refl;
-  is_body = refl;
-  are_columns = refl;
-  over = refl;
-  fits = refl;
-}
+find_rollout_queries tree = record { parsed = _; select = _; source = _; page = _; shown = _; read = refl; is = (refl, refl, refl, refl); core = (refl, refl, refl); from = (refl, refl, refl, refl, refl); shows = (tt, tt); filter = ((refl, λ cx how x y. refl), tt, tt); sorts = tt; paged = λ s. refl; named = (refl, refl); becomes = (refl, (refl, refl, refl)) }
 
 pub find_rollout_is : (s : Schema) (at tree : ℕ) → Stands s (codes "rollout") at (rollout_table tree) → Means s FIND_ROLLOUT.now (Select (record { lets = []; body = simple tree same_name (col 1 0 ∷ []) }) (codes "number" ∷ []))
-find_rollout_is s at tree stands = means_of s FIND_ROLLOUT.now _ (queries_known _ _ _ _ _ (find_rollout_queries tree) s at stands) refl refl
+find_rollout_is s at tree = asks (rollout_table tree) s at (find_rollout_queries tree)
 
 abbrev pub last_rollout_query : ℕ → Query
 last_rollout_query tree = by (simple tree [] (col 1 0 ∷ [])) ((col 1 0, record { descending = true; collation = Binary }) ∷ []) (lit (Int (pos 1))) (lit (Int (pos 0)))
 
 last_rollout_queries : (tree : ℕ) → Queries LAST_ROLLOUT.now (codes "rollout") (rollout_table tree) (last_rollout_query tree) (codes "number" ∷ [])
 unfolding first combine named paging everything
-last_rollout_queries tree = record {
-  parsed = _;
-  select = _;
-  page = _;
-  shown = _;
-  read = refl;
-  selects = record { statement = refl; formats = refl; with = refl; others = refl };
-  one = record { source = _; from = refl; table = refl; alias = refl; on = refl; using = refl; is_inner = refl; group = refl; having = refl; shown = (tt, tt); filter = tt; sorts = (tt, tt) };
-  paged = λ s. refl;
-  named_alone = refl;
-  known = refl;
-  is_body = refl;
-  are_columns = refl;
-  over = refl;
-  fits = refl;
-}
+last_rollout_queries tree = record { parsed = _; select = _; source = _; page = _; shown = _; read = refl; is = (refl, refl, refl, refl); core = (refl, refl, refl); from = (refl, refl, refl, refl, refl); shows = (tt, tt); filter = tt; sorts = (tt, tt); paged = λ s. refl; named = (refl, refl); becomes = (refl, (refl, refl, refl)) }
 
 pub last_rollout_is : (s : Schema) (at tree : ℕ) → Stands s (codes "rollout") at (rollout_table tree) → Means s LAST_ROLLOUT.now (Select (record { lets = []; body = last_rollout_query tree }) (codes "number" ∷ []))
-last_rollout_is s at tree stands = means_of s LAST_ROLLOUT.now _ (queries_known _ _ _ _ _ (last_rollout_queries tree) s at stands) refl refl
+last_rollout_is s at tree = asks (rollout_table tree) s at (last_rollout_queries tree)
 
 abbrev pub rollout_names : List (List ℕ)
 rollout_names = codes "name" ∷ codes "dset" ∷ codes "filter_text" ∷ codes "groups" ∷ codes "success" ∷ codes "error" ∷ codes "approval" ∷ codes "started" ∷ codes "paused" ∷ []
@@ -82,50 +52,20 @@ rollout_columns = col 1 2 ∷ col 1 3 ∷ col 1 4 ∷ col 1 5 ∷ col 1 6 ∷ co
 
 get_rollout_queries : (tree : ℕ) → Queries GET_ROLLOUT.now (codes "rollout") (rollout_table tree) (simple tree (at_key 0 0 ∷ []) rollout_columns) rollout_names
 unfolding first combine named paging everything
-get_rollout_queries tree = record {
-  parsed = _;
-  select = _;
-  page = _;
-  shown = _;
-  read = refl;
-  selects = record { statement = refl; formats = refl; with = refl; others = refl };
-  one = record { source = _; from = refl; table = refl; alias = refl; on = refl; using = refl; is_inner = refl; group = refl; having = refl; shown = (tt, (tt, (tt, (tt, (tt, (tt, (tt, (tt, (tt, tt))))))))); filter = ((refl, λ cx how x y. refl), tt, tt); sorts = tt };
-  paged = λ s. refl;
-  named_alone = refl;
-  known = refl;
-  is_body = refl;
-  are_columns = refl;
-  over = refl;
-  fits = refl;
-}
+get_rollout_queries tree = record { parsed = _; select = _; source = _; page = _; shown = _; read = refl; is = (refl, refl, refl, refl); core = (refl, refl, refl); from = (refl, refl, refl, refl, refl); shows = (tt, (tt, (tt, (tt, (tt, (tt, (tt, (tt, (tt, tt))))))))); filter = ((refl, λ cx how x y. refl), tt, tt); sorts = tt; paged = λ s. refl; named = (refl, refl); becomes = (refl, (refl, refl, refl)) }
 
 pub get_rollout_is : (s : Schema) (at tree : ℕ) → Stands s (codes "rollout") at (rollout_table tree) → Means s GET_ROLLOUT.now (Select (record { lets = []; body = simple tree (at_key 0 0 ∷ []) rollout_columns }) rollout_names)
-get_rollout_is s at tree stands = means_of s GET_ROLLOUT.now _ (queries_known _ _ _ _ _ (get_rollout_queries tree) s at stands) refl refl
+get_rollout_is s at tree = asks (rollout_table tree) s at (get_rollout_queries tree)
 
 abbrev pub list_rollouts_query : ℕ → Query
 list_rollouts_query tree = by (simple tree [] rollout_columns) ((col 1 0, record { descending = false; collation = Binary }) ∷ []) (col 0 0) (col 0 1)
 
 list_rollouts_queries : (tree : ℕ) → Queries LIST_ROLLOUTS.now (codes "rollout") (rollout_table tree) (list_rollouts_query tree) rollout_names
 unfolding first combine named paging everything
-list_rollouts_queries tree = record {
-  parsed = _;
-  select = _;
-  page = _;
-  shown = _;
-  read = refl;
-  selects = record { statement = refl; formats = refl; with = refl; others = refl };
-  one = record { source = _; from = refl; table = refl; alias = refl; on = refl; using = refl; is_inner = refl; group = refl; having = refl; shown = (tt, (tt, (tt, (tt, (tt, (tt, (tt, (tt, (tt, tt))))))))); filter = tt; sorts = (tt, tt) };
-  paged = λ s. refl;
-  named_alone = refl;
-  known = refl;
-  is_body = refl;
-  are_columns = refl;
-  over = refl;
-  fits = refl;
-}
+list_rollouts_queries tree = record { parsed = _; select = _; source = _; page = _; shown = _; read = refl; is = (refl, refl, refl, refl); core = (refl, refl, refl); from = (refl, refl, refl, refl, refl); shows = (tt, (tt, (tt, (tt, (tt, (tt, (tt, (tt, (tt, tt))))))))); filter = tt; sorts = (tt, tt); paged = λ s. refl; named = (refl, refl); becomes = (refl, (refl, refl, refl)) }
 
 pub list_rollouts_is : (s : Schema) (at tree : ℕ) → Stands s (codes "rollout") at (rollout_table tree) → Means s LIST_ROLLOUTS.now (Select (record { lets = []; body = list_rollouts_query tree }) rollout_names)
-list_rollouts_is s at tree stands = means_of s LIST_ROLLOUTS.now _ (queries_known _ _ _ _ _ (list_rollouts_queries tree) s at stands) refl refl
+list_rollouts_is s at tree = asks (rollout_table tree) s at (list_rollouts_queries tree)
 
 abbrev pub after_place : List Term
 after_place = at_key 1 0 ∷ past 2 1 ∷ []
@@ -138,25 +78,10 @@ list_members_query tree = by (simple tree after_place member_columns) ((col 1 2,
 
 list_members_queries : (tree : ℕ) → Queries LIST_MEMBERS.now (codes "member") (member_table tree) (list_members_query tree) (codes "controller" ∷ [])
 unfolding first combine named paging everything
-list_members_queries tree = record {
-  parsed = _;
-  select = _;
-  page = _;
-  shown = _;
-  read = refl;
-  selects = record { statement = refl; formats = refl; with = refl; others = refl };
-  one = record { source = _; from = refl; table = refl; alias = refl; on = refl; using = refl; is_inner = refl; group = refl; having = refl; shown = (tt, tt); filter = ((refl, λ cx how x y. refl), ((refl, λ cx how x y. refl), tt, tt), ((refl, λ cx how x y. refl), tt, tt)); sorts = (tt, tt) };
-  paged = λ s. refl;
-  named_alone = refl;
-  known = refl;
-  is_body = refl;
-  are_columns = refl;
-  over = refl;
-  fits = refl;
-}
+list_members_queries tree = record { parsed = _; select = _; source = _; page = _; shown = _; read = refl; is = (refl, refl, refl, refl); core = (refl, refl, refl); from = (refl, refl, refl, refl, refl); shows = (tt, tt); filter = ((refl, λ cx how x y. refl), ((refl, λ cx how x y. refl), tt, tt), ((refl, λ cx how x y. refl), tt, tt)); sorts = (tt, tt); paged = λ s. refl; named = (refl, refl); becomes = (refl, (refl, refl, refl)) }
 
 pub list_members_is : (s : Schema) (at tree : ℕ) → Stands s (codes "member") at (member_table tree) → Means s LIST_MEMBERS.now (Select (record { lets = []; body = list_members_query tree }) (codes "controller" ∷ []))
-list_members_is s at tree stands = means_of s LIST_MEMBERS.now _ (queries_known _ _ _ _ _ (list_members_queries tree) s at stands) refl refl
+list_members_is s at tree = asks (member_table tree) s at (list_members_queries tree)
 
 abbrev pub placed_names : List (List ℕ)
 placed_names = codes "controller" ∷ codes "place" ∷ []
@@ -172,47 +97,17 @@ places_query tree = by (simple tree of_rollout placed_columns) ((col 1 2, record
 
 list_places_queries : (tree : ℕ) → Queries LIST_PLACES.now (codes "member") (member_table tree) (places_query tree) placed_names
 unfolding first combine named paging everything
-list_places_queries tree = record {
-  parsed = _;
-  select = _;
-  page = _;
-  shown = _;
-  read = refl;
-  selects = record { statement = refl; formats = refl; with = refl; others = refl };
-  one = record { source = _; from = refl; table = refl; alias = refl; on = refl; using = refl; is_inner = refl; group = refl; having = refl; shown = (tt, (tt, tt)); filter = ((refl, λ cx how x y. refl), tt, tt); sorts = (tt, tt) };
-  paged = λ s. refl;
-  named_alone = refl;
-  known = refl;
-  is_body = refl;
-  are_columns = refl;
-  over = refl;
-  fits = refl;
-}
+list_places_queries tree = record { parsed = _; select = _; source = _; page = _; shown = _; read = refl; is = (refl, refl, refl, refl); core = (refl, refl, refl); from = (refl, refl, refl, refl, refl); shows = (tt, (tt, tt)); filter = ((refl, λ cx how x y. refl), tt, tt); sorts = (tt, tt); paged = λ s. refl; named = (refl, refl); becomes = (refl, (refl, refl, refl)) }
 
 pub list_places_is : (s : Schema) (at tree : ℕ) → Stands s (codes "member") at (member_table tree) → Means s LIST_PLACES.now (Select (record { lets = []; body = places_query tree }) placed_names)
-list_places_is s at tree stands = means_of s LIST_PLACES.now _ (queries_known _ _ _ _ _ (list_places_queries tree) s at stands) refl refl
+list_places_is s at tree = asks (member_table tree) s at (list_places_queries tree)
 
 count_members_queries : (tree : ℕ) → Queries COUNT_MEMBERS.now (codes "member") (member_table tree) (count_query tree) (codes "count(*)" ∷ [])
 unfolding first combine named paging everything
-count_members_queries tree = record {
-  parsed = _;
-  select = _;
-  page = _;
-  shown = _;
-  read = refl;
-  selects = record { statement = refl; formats = refl; with = refl; others = refl };
-  one = record { source = _; from = refl; table = refl; alias = refl; on = refl; using = refl; is_inner = refl; group = refl; having = refl; shown = (tt, tt); filter = tt; sorts = tt };
-  paged = λ s. refl;
-  named_alone = refl;
-  known = refl;
-  is_body = refl;
-  are_columns = refl;
-  over = refl;
-  fits = refl;
-}
+count_members_queries tree = record { parsed = _; select = _; source = _; page = _; shown = _; read = refl; is = (refl, refl, refl, refl); core = (refl, refl, refl); from = (refl, refl, refl, refl, refl); shows = (tt, tt); filter = tt; sorts = tt; paged = λ s. refl; named = (refl, refl); becomes = (refl, (refl, refl, refl)) }
 
 pub count_members_is : (s : Schema) (at tree : ℕ) → Stands s (codes "member") at (member_table tree) → Means s COUNT_MEMBERS.now (Select (record { lets = []; body = count_query tree }) (codes "count(*)" ∷ []))
-count_members_is s at tree stands = means_of s COUNT_MEMBERS.now _ (queries_known _ _ _ _ _ (count_members_queries tree) s at stands) refl refl
+count_members_is s at tree = asks (member_table tree) s at (count_members_queries tree)
 
 abbrev pub group_names : List (List ℕ)
 group_names = codes "number" ∷ codes "first_place" ∷ codes "last_place" ∷ codes "started" ∷ codes "ok" ∷ codes "bad" ∷ codes "gone" ∷ []
@@ -225,47 +120,17 @@ list_groups_query tree = by (simple tree of_rollout group_columns) ((col 1 2, re
 
 list_groups_queries : (tree : ℕ) → Queries LIST_GROUPS.now (codes "rollout_group") (group_table tree) (list_groups_query tree) group_names
 unfolding first combine named paging everything
-list_groups_queries tree = record {
-  parsed = _;
-  select = _;
-  page = _;
-  shown = _;
-  read = refl;
-  selects = record { statement = refl; formats = refl; with = refl; others = refl };
-  one = record { source = _; from = refl; table = refl; alias = refl; on = refl; using = refl; is_inner = refl; group = refl; having = refl; shown = (tt, (tt, (tt, (tt, (tt, (tt, (tt, tt))))))); filter = ((refl, λ cx how x y. refl), tt, tt); sorts = (tt, tt) };
-  paged = λ s. refl;
-  named_alone = refl;
-  known = refl;
-  is_body = refl;
-  are_columns = refl;
-  over = refl;
-  fits = refl;
-}
+list_groups_queries tree = record { parsed = _; select = _; source = _; page = _; shown = _; read = refl; is = (refl, refl, refl, refl); core = (refl, refl, refl); from = (refl, refl, refl, refl, refl); shows = (tt, (tt, (tt, (tt, (tt, (tt, (tt, tt))))))); filter = ((refl, λ cx how x y. refl), tt, tt); sorts = (tt, tt); paged = λ s. refl; named = (refl, refl); becomes = (refl, (refl, refl, refl)) }
 
 pub list_groups_is : (s : Schema) (at tree : ℕ) → Stands s (codes "rollout_group") at (group_table tree) → Means s LIST_GROUPS.now (Select (record { lets = []; body = list_groups_query tree }) group_names)
-list_groups_is s at tree stands = means_of s LIST_GROUPS.now _ (queries_known _ _ _ _ _ (list_groups_queries tree) s at stands) refl refl
+list_groups_is s at tree = asks (group_table tree) s at (list_groups_queries tree)
 
 count_groups_queries : (tree : ℕ) → Queries COUNT_GROUPS.now (codes "rollout_group") (group_table tree) (count_query tree) (codes "count(*)" ∷ [])
 unfolding first combine named paging everything
-count_groups_queries tree = record {
-  parsed = _;
-  select = _;
-  page = _;
-  shown = _;
-  read = refl;
-  selects = record { statement = refl; formats = refl; with = refl; others = refl };
-  one = record { source = _; from = refl; table = refl; alias = refl; on = refl; using = refl; is_inner = refl; group = refl; having = refl; shown = (tt, tt); filter = tt; sorts = tt };
-  paged = λ s. refl;
-  named_alone = refl;
-  known = refl;
-  is_body = refl;
-  are_columns = refl;
-  over = refl;
-  fits = refl;
-}
+count_groups_queries tree = record { parsed = _; select = _; source = _; page = _; shown = _; read = refl; is = (refl, refl, refl, refl); core = (refl, refl, refl); from = (refl, refl, refl, refl, refl); shows = (tt, tt); filter = tt; sorts = tt; paged = λ s. refl; named = (refl, refl); becomes = (refl, (refl, refl, refl)) }
 
 pub count_groups_is : (s : Schema) (at tree : ℕ) → Stands s (codes "rollout_group") at (group_table tree) → Means s COUNT_GROUPS.now (Select (record { lets = []; body = count_query tree }) (codes "count(*)" ∷ []))
-count_groups_is s at tree stands = means_of s COUNT_GROUPS.now _ (queries_known _ _ _ _ _ (count_groups_queries tree) s at stands) refl refl
+count_groups_is s at tree = asks (group_table tree) s at (count_groups_queries tree)
 
 abbrev pub of_group : List Term
 of_group = at_key 1 0 ∷ at_key 2 1 ∷ []
@@ -275,25 +140,10 @@ get_group_query tree = by (simple tree of_group group_columns) ((col 1 2, record
 
 get_group_queries : (tree : ℕ) → Queries GET_GROUP.now (codes "rollout_group") (group_table tree) (get_group_query tree) group_names
 unfolding first combine named paging everything
-get_group_queries tree = record {
-  parsed = _;
-  select = _;
-  page = _;
-  shown = _;
-  read = refl;
-  selects = record { statement = refl; formats = refl; with = refl; others = refl };
-  one = record { source = _; from = refl; table = refl; alias = refl; on = refl; using = refl; is_inner = refl; group = refl; having = refl; shown = (tt, (tt, (tt, (tt, (tt, (tt, (tt, tt))))))); filter = ((refl, λ cx how x y. refl), ((refl, λ cx how x y. refl), tt, tt), ((refl, λ cx how x y. refl), tt, tt)); sorts = (tt, tt) };
-  paged = λ s. refl;
-  named_alone = refl;
-  known = refl;
-  is_body = refl;
-  are_columns = refl;
-  over = refl;
-  fits = refl;
-}
+get_group_queries tree = record { parsed = _; select = _; source = _; page = _; shown = _; read = refl; is = (refl, refl, refl, refl); core = (refl, refl, refl); from = (refl, refl, refl, refl, refl); shows = (tt, (tt, (tt, (tt, (tt, (tt, (tt, tt))))))); filter = ((refl, λ cx how x y. refl), ((refl, λ cx how x y. refl), tt, tt), ((refl, λ cx how x y. refl), tt, tt)); sorts = (tt, tt); paged = λ s. refl; named = (refl, refl); becomes = (refl, (refl, refl, refl)) }
 
 pub get_group_is : (s : Schema) (at tree : ℕ) → Stands s (codes "rollout_group") at (group_table tree) → Means s GET_GROUP.now (Select (record { lets = []; body = get_group_query tree }) group_names)
-get_group_is s at tree stands = means_of s GET_GROUP.now _ (queries_known _ _ _ _ _ (get_group_queries tree) s at stands) refl refl
+get_group_is s at tree = asks (group_table tree) s at (get_group_queries tree)
 
 abbrev pub holding : List Term
 holding = at_key 1 0 ∷ at_most 3 1 ∷ at_least 4 1 ∷ []
@@ -303,25 +153,10 @@ holding_group_query tree = by (simple tree holding group_columns) ((col 1 2, rec
 
 holding_group_queries : (tree : ℕ) → Queries HOLDING_GROUP.now (codes "rollout_group") (group_table tree) (holding_group_query tree) group_names
 unfolding first combine named paging everything
-holding_group_queries tree = record {
-  parsed = _;
-  select = _;
-  page = _;
-  shown = _;
-  read = refl;
-  selects = record { statement = refl; formats = refl; with = refl; others = refl };
-  one = record { source = _; from = refl; table = refl; alias = refl; on = refl; using = refl; is_inner = refl; group = refl; having = refl; shown = (tt, (tt, (tt, (tt, (tt, (tt, (tt, tt))))))); filter = ((refl, λ cx how x y. refl), ((refl, λ cx how x y. refl), ((refl, λ cx how x y. refl), tt, tt), ((refl, λ cx how x y. refl), tt, tt)), ((refl, λ cx how x y. refl), tt, tt)); sorts = (tt, tt) };
-  paged = λ s. refl;
-  named_alone = refl;
-  known = refl;
-  is_body = refl;
-  are_columns = refl;
-  over = refl;
-  fits = refl;
-}
+holding_group_queries tree = record { parsed = _; select = _; source = _; page = _; shown = _; read = refl; is = (refl, refl, refl, refl); core = (refl, refl, refl); from = (refl, refl, refl, refl, refl); shows = (tt, (tt, (tt, (tt, (tt, (tt, (tt, tt))))))); filter = ((refl, λ cx how x y. refl), ((refl, λ cx how x y. refl), ((refl, λ cx how x y. refl), tt, tt), ((refl, λ cx how x y. refl), tt, tt)), ((refl, λ cx how x y. refl), tt, tt)); sorts = (tt, tt); paged = λ s. refl; named = (refl, refl); becomes = (refl, (refl, refl, refl)) }
 
 pub holding_group_is : (s : Schema) (at tree : ℕ) → Stands s (codes "rollout_group") at (group_table tree) → Means s HOLDING_GROUP.now (Select (record { lets = []; body = holding_group_query tree }) group_names)
-holding_group_is s at tree stands = means_of s HOLDING_GROUP.now _ (queries_known _ _ _ _ _ (holding_group_queries tree) s at stands) refl refl
+holding_group_is s at tree = asks (group_table tree) s at (holding_group_queries tree)
 
 abbrev pub reaching : List Term
 reaching = at_key 1 0 ∷ at_least 4 1 ∷ []
@@ -331,25 +166,10 @@ group_and_next_query tree = by (simple tree reaching group_columns) ((col 1 2, r
 
 group_and_next_queries : (tree : ℕ) → Queries GROUP_AND_NEXT.now (codes "rollout_group") (group_table tree) (group_and_next_query tree) group_names
 unfolding first combine named paging everything
-group_and_next_queries tree = record {
-  parsed = _;
-  select = _;
-  page = _;
-  shown = _;
-  read = refl;
-  selects = record { statement = refl; formats = refl; with = refl; others = refl };
-  one = record { source = _; from = refl; table = refl; alias = refl; on = refl; using = refl; is_inner = refl; group = refl; having = refl; shown = (tt, (tt, (tt, (tt, (tt, (tt, (tt, tt))))))); filter = ((refl, λ cx how x y. refl), ((refl, λ cx how x y. refl), tt, tt), ((refl, λ cx how x y. refl), tt, tt)); sorts = (tt, tt) };
-  paged = λ s. refl;
-  named_alone = refl;
-  known = refl;
-  is_body = refl;
-  are_columns = refl;
-  over = refl;
-  fits = refl;
-}
+group_and_next_queries tree = record { parsed = _; select = _; source = _; page = _; shown = _; read = refl; is = (refl, refl, refl, refl); core = (refl, refl, refl); from = (refl, refl, refl, refl, refl); shows = (tt, (tt, (tt, (tt, (tt, (tt, (tt, tt))))))); filter = ((refl, λ cx how x y. refl), ((refl, λ cx how x y. refl), tt, tt), ((refl, λ cx how x y. refl), tt, tt)); sorts = (tt, tt); paged = λ s. refl; named = (refl, refl); becomes = (refl, (refl, refl, refl)) }
 
 pub group_and_next_is : (s : Schema) (at tree : ℕ) → Stands s (codes "rollout_group") at (group_table tree) → Means s GROUP_AND_NEXT.now (Select (record { lets = []; body = group_and_next_query tree }) group_names)
-group_and_next_is s at tree stands = means_of s GROUP_AND_NEXT.now _ (queries_known _ _ _ _ _ (group_and_next_queries tree) s at stands) refl refl
+group_and_next_is s at tree = asks (group_table tree) s at (group_and_next_queries tree)
 
 abbrev pub rollout_terms : List Term
 rollout_terms = col 0 0 ∷ lit Null ∷ col 0 1 ∷ col 0 2 ∷ col 0 3 ∷ col 0 4 ∷ col 0 5 ∷ col 0 6 ∷ col 0 7 ∷ lit (Int (pos 0)) ∷ lit (Int (pos 0)) ∷ []
@@ -359,7 +179,7 @@ unfolding first new_rows everything
 put_rollout_adds tree = record { parsed = _; columns = _; rows = _; read = refl; statement = refl; formats = refl; fits = λ s. refl }
 
 pub put_rollout_is : (s : Schema) (at tree : ℕ) → Stands s (codes "rollout") at (rollout_table tree) → Means s PUT_ROLLOUT.now (Insert at (Values rollout_terms 11))
-put_rollout_is s at tree stands = means_of s PUT_ROLLOUT.now _ (adds_known _ _ (rollout_table tree) _ (put_rollout_adds tree) s at stands) refl refl
+put_rollout_is s at tree = puts (rollout_table tree) s at (put_rollout_adds tree)
 
 abbrev pub rollout_values : List Term
 rollout_values = lit Null ∷ col 1 2 ∷ col 1 3 ∷ col 1 4 ∷ col 1 5 ∷ col 1 6 ∷ col 1 7 ∷ col 0 1 ∷ col 0 2 ∷ col 0 3 ∷ []
@@ -369,24 +189,10 @@ set_rollout_query tree = simple tree (at_key 0 0 ∷ []) (col 1 0 ∷ col 1 0 �
 
 set_rollout_updates : (tree : ℕ) → Updates SET_ROLLOUT.now (codes "rollout") (rollout_table tree) (set_rollout_query tree)
 unfolding first combine updated everything
-set_rollout_updates tree = record {
-  parsed = _;
-  sets = _;
-  test = _;
-  draft = _;
-  read = refl;
-  statement = refl;
-  formats = refl;
-  values = (tt, (tt, (tt, tt)));
-  filter = ((refl, λ cx how x y. refl), tt, tt);
-  known = refl;
-  is_body = refl;
-  over = refl;
-  fits = refl;
-}
+set_rollout_updates tree = record { parsed = _; sets = _; test = _; draft = _; read = refl; is = (refl, refl); values = (tt, (tt, (tt, tt))); filter = ((refl, λ cx how x y. refl), tt, tt); known = refl; becomes = (refl, refl, refl) }
 
 pub set_rollout_is : (s : Schema) (at tree : ℕ) → Stands s (codes "rollout") at (rollout_table tree) → Means s SET_ROLLOUT.now (Update at (record { lets = []; body = set_rollout_query tree }))
-set_rollout_is s at tree stands = means_of s SET_ROLLOUT.now _ (updates_known _ _ _ _ (set_rollout_updates tree) s at stands) refl refl
+set_rollout_is s at tree = changes (rollout_table tree) s at (set_rollout_updates tree)
 
 abbrev pub member_terms : List Term
 member_terms = lit Null ∷ col 0 0 ∷ col 0 1 ∷ col 0 2 ∷ []
@@ -396,7 +202,7 @@ unfolding first new_rows everything
 put_member_adds tree = record { parsed = _; columns = _; rows = _; read = refl; statement = refl; formats = refl; fits = λ s. refl }
 
 pub put_member_is : (s : Schema) (at tree : ℕ) → Stands s (codes "member") at (member_table tree) → Means s PUT_MEMBER.now (Insert at (Values member_terms 4))
-put_member_is s at tree stands = means_of s PUT_MEMBER.now _ (adds_known _ _ (member_table tree) _ (put_member_adds tree) s at stands) refl refl
+put_member_is s at tree = puts (member_table tree) s at (put_member_adds tree)
 
 abbrev pub group_terms : List Term
 group_terms = lit Null ∷ col 0 0 ∷ col 0 1 ∷ col 0 2 ∷ col 0 3 ∷ lit (Int (pos 0)) ∷ lit (Int (pos 0)) ∷ lit (Int (pos 0)) ∷ lit (Int (pos 0)) ∷ []
@@ -406,7 +212,7 @@ unfolding first new_rows everything
 put_group_adds tree = record { parsed = _; columns = _; rows = _; read = refl; statement = refl; formats = refl; fits = λ s. refl }
 
 pub put_group_is : (s : Schema) (at tree : ℕ) → Stands s (codes "rollout_group") at (group_table tree) → Means s PUT_GROUP.now (Insert at (Values group_terms 9))
-put_group_is s at tree stands = means_of s PUT_GROUP.now _ (adds_known _ _ (group_table tree) _ (put_group_adds tree) s at stands) refl refl
+put_group_is s at tree = puts (group_table tree) s at (put_group_adds tree)
 
 abbrev pub group_values : List Term
 group_values = col 1 1 ∷ col 1 2 ∷ col 1 3 ∷ col 1 4 ∷ col 0 2 ∷ col 0 3 ∷ col 0 4 ∷ col 0 5 ∷ []
@@ -416,24 +222,10 @@ set_group_query tree = simple tree of_group (col 1 0 ∷ col 1 0 ∷ group_value
 
 set_group_updates : (tree : ℕ) → Updates SET_GROUP.now (codes "rollout_group") (group_table tree) (set_group_query tree)
 unfolding first combine updated everything
-set_group_updates tree = record {
-  parsed = _;
-  sets = _;
-  test = _;
-  draft = _;
-  read = refl;
-  statement = refl;
-  formats = refl;
-  values = (tt, (tt, (tt, (tt, tt))));
-  filter = ((refl, λ cx how x y. refl), ((refl, λ cx how x y. refl), tt, tt), ((refl, λ cx how x y. refl), tt, tt));
-  known = refl;
-  is_body = refl;
-  over = refl;
-  fits = refl;
-}
+set_group_updates tree = record { parsed = _; sets = _; test = _; draft = _; read = refl; is = (refl, refl); values = (tt, (tt, (tt, (tt, tt)))); filter = ((refl, λ cx how x y. refl), ((refl, λ cx how x y. refl), tt, tt), ((refl, λ cx how x y. refl), tt, tt)); known = refl; becomes = (refl, refl, refl) }
 
 pub set_group_is : (s : Schema) (at tree : ℕ) → Stands s (codes "rollout_group") at (group_table tree) → Means s SET_GROUP.now (Update at (record { lets = []; body = set_group_query tree }))
-set_group_is s at tree stands = means_of s SET_GROUP.now _ (updates_known _ _ _ _ (set_group_updates tree) s at stands) refl refl
+set_group_is s at tree = changes (group_table tree) s at (set_group_updates tree)
 
 abbrev pub rule_names : List (List ℕ)
 rule_names = codes "percentage" ∷ codes "success" ∷ codes "error" ∷ []
@@ -443,50 +235,20 @@ rule_columns = col 1 3 ∷ col 1 4 ∷ col 1 5 ∷ []
 
 get_rule_queries : (tree : ℕ) → Queries GET_RULE.now (codes "group_rule") (rule_table tree) (simple tree of_group rule_columns) rule_names
 unfolding first combine named paging everything
-get_rule_queries tree = record {
-  parsed = _;
-  select = _;
-  page = _;
-  shown = _;
-  read = refl;
-  selects = record { statement = refl; formats = refl; with = refl; others = refl };
-  one = record { source = _; from = refl; table = refl; alias = refl; on = refl; using = refl; is_inner = refl; group = refl; having = refl; shown = (tt, (tt, (tt, tt))); filter = ((refl, λ cx how x y. refl), ((refl, λ cx how x y. refl), tt, tt), ((refl, λ cx how x y. refl), tt, tt)); sorts = tt };
-  paged = λ s. refl;
-  named_alone = refl;
-  known = refl;
-  is_body = refl;
-  are_columns = refl;
-  over = refl;
-  fits = refl;
-}
+get_rule_queries tree = record { parsed = _; select = _; source = _; page = _; shown = _; read = refl; is = (refl, refl, refl, refl); core = (refl, refl, refl); from = (refl, refl, refl, refl, refl); shows = (tt, (tt, (tt, tt))); filter = ((refl, λ cx how x y. refl), ((refl, λ cx how x y. refl), tt, tt), ((refl, λ cx how x y. refl), tt, tt)); sorts = tt; paged = λ s. refl; named = (refl, refl); becomes = (refl, (refl, refl, refl)) }
 
 pub get_rule_is : (s : Schema) (at tree : ℕ) → Stands s (codes "group_rule") at (rule_table tree) → Means s GET_RULE.now (Select (record { lets = []; body = simple tree of_group rule_columns }) rule_names)
-get_rule_is s at tree stands = means_of s GET_RULE.now _ (queries_known _ _ _ _ _ (get_rule_queries tree) s at stands) refl refl
+get_rule_is s at tree = asks (rule_table tree) s at (get_rule_queries tree)
 
 abbrev pub list_rules_query : ℕ → Query
 list_rules_query tree = by (simple tree of_rollout rule_columns) ((col 1 2, record { descending = false; collation = Binary }) ∷ []) (lit (Int (negsuc 0))) (lit (Int (pos 0)))
 
 list_rules_queries : (tree : ℕ) → Queries LIST_RULES.now (codes "group_rule") (rule_table tree) (list_rules_query tree) rule_names
 unfolding first combine named paging everything
-list_rules_queries tree = record {
-  parsed = _;
-  select = _;
-  page = _;
-  shown = _;
-  read = refl;
-  selects = record { statement = refl; formats = refl; with = refl; others = refl };
-  one = record { source = _; from = refl; table = refl; alias = refl; on = refl; using = refl; is_inner = refl; group = refl; having = refl; shown = (tt, (tt, (tt, tt))); filter = ((refl, λ cx how x y. refl), tt, tt); sorts = (tt, tt) };
-  paged = λ s. refl;
-  named_alone = refl;
-  known = refl;
-  is_body = refl;
-  are_columns = refl;
-  over = refl;
-  fits = refl;
-}
+list_rules_queries tree = record { parsed = _; select = _; source = _; page = _; shown = _; read = refl; is = (refl, refl, refl, refl); core = (refl, refl, refl); from = (refl, refl, refl, refl, refl); shows = (tt, (tt, (tt, tt))); filter = ((refl, λ cx how x y. refl), tt, tt); sorts = (tt, tt); paged = λ s. refl; named = (refl, refl); becomes = (refl, (refl, refl, refl)) }
 
 pub list_rules_is : (s : Schema) (at tree : ℕ) → Stands s (codes "group_rule") at (rule_table tree) → Means s LIST_RULES.now (Select (record { lets = []; body = list_rules_query tree }) rule_names)
-list_rules_is s at tree stands = means_of s LIST_RULES.now _ (queries_known _ _ _ _ _ (list_rules_queries tree) s at stands) refl refl
+list_rules_is s at tree = asks (rule_table tree) s at (list_rules_queries tree)
 
 abbrev pub rule_terms : List Term
 rule_terms = lit Null ∷ col 0 0 ∷ col 0 1 ∷ col 0 2 ∷ col 0 3 ∷ col 0 4 ∷ []
@@ -496,4 +258,4 @@ unfolding first new_rows everything
 put_rule_adds tree = record { parsed = _; columns = _; rows = _; read = refl; statement = refl; formats = refl; fits = λ s. refl }
 
 pub put_rule_is : (s : Schema) (at tree : ℕ) → Stands s (codes "group_rule") at (rule_table tree) → Means s PUT_RULE.now (Insert at (Values rule_terms 6))
-put_rule_is s at tree stands = means_of s PUT_RULE.now _ (adds_known _ _ (rule_table tree) _ (put_rule_adds tree) s at stands) refl refl
+put_rule_is s at tree = puts (rule_table tree) s at (put_rule_adds tree)

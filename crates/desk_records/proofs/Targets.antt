@@ -15,9 +15,9 @@ use Rattle.rollout_machine.specs.RecordSteps.{new_target, put_target, change_tar
 use Rattle.rollout_machine.specs.Targets.{Target}
 use Rattle.rollout_machine.specs.Verdicts.{tags_of}
 use Rattle.rollout_machine.proofs.Imports.{AllAbove, IsSorted, not_above}
-use Rattle.rollout_machine.proofs.TargetTies.{same_true}
+use Rattle.rollout_machine.proofs.TargetTies.{same_sym, same_true}
 use Rattle.desk_records.specs.Targets.{target_row, tag_rows, in_byte_order, ids_of, is_sorted, are_sorted, tagged, untagged}
-use Rattle.desk_records.proofs.ByteOrder.{same_sym, below_rises, in_order_with, with_is_more}
+use Rattle.desk_records.proofs.ByteOrder.{below_rises, in_order_with, with_is_more}
 
 -- ---- the target of an id
 

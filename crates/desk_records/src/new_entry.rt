@@ -1,6 +1,6 @@
 //! What is written of feedback: the row of a history's new entry.
 
-ghost use Rattle.std.specs.Prelude.{◌≡◌, IfOk, string_bytes};
+ghost use Rattle.std.specs.Prelude.{◌≡◌, IfErr, IfOk, string_bytes};
 ghost use Rattle.desk_records.specs.Actions.{cancel_code, deployment_code, kind_code, lines_of, note_code, word_code};
 ghost use Rattle.desk_records.specs.NewEntries.{TellsEntry};
 
@@ -89,7 +89,8 @@ pub fn tell_entry(
     details: &Details,
     number: Option<FeedbackNumber>,
 ) -> Result<NewEntry, Fault>
-    ensures { IfOk result (TellsEntry (record { entry = record { said = said; details = details.now }; number = number })) }
+    ensures ok { IfOk result (TellsEntry (record { entry = record { said = said; details = details.now }; number = number })) }
+    ensures err { IfErr result (λ fault. fault ≡ Fault.Memory) }
 {
     let Ok(details) = join_lines(alloc, details) else {
         return Err(Fault::Memory);

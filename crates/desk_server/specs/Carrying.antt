@@ -1,5 +1,5 @@
 -- What an order comes to on a machine, from the opening of its desk to the exit status.
-use Rattle.std.specs.Prelude.{◌≡◌, ◌⊎◌, ℕ, Bool, List, [], ◌∷◌, Option, Result, IfOk, IfErr}
+use Rattle.std.specs.Prelude.{◌≡◌, ℕ, Bool, List, [], ◌∷◌, Option, Result, IfOk, IfErr}
 use Rattle.sqlite.specs.Held.{state}
 use Rattle.sqlite.specs.Files.{over_files}
 use Rattle.sqlite.specs.Recovery.{Image}
@@ -8,11 +8,10 @@ use Rattle.sqlite_store.specs.declared.store.FileStore.{FileStore}
 use Rattle.sqlite_trees.specs.declared.store.Store.{Ghosts}
 use Rattle.http_wire.specs.Watched.{inner_of, has_failed}
 use Rattle.http_wire.specs.declared.watched.Watched.{Watched}
-use Rattle.desk_opening.specs.Opening.{IsFailure}
 use Rattle.desk_opening.specs.declared.opening.OpenFault.{OpenFault}
 use Rattle.rollout_machine.specs.Standing.{DeskState}
 use Rattle.rollout_desk.specs.DeskStates.{desk_state}
-use Rattle.rollout_desk.specs.Openings.{ReopensDesk, LeftUnharmed}
+use Rattle.rollout_desk.specs.Openings.{ReopensDesk, LeftPath, PathRefusal}
 use Rattle.rollout_desk.specs.declared.desk.Desk.{Desk}
 use Rattle.stream_server.specs.declared.interface.Interface.{Interface}
 use Rattle.desk_server.specs.declared.order.Order.{Order}
@@ -74,13 +73,13 @@ Does g reads listens (Verify db) before after input input_new output output_new 
     output.bytes output_new.bytes errors.bytes errors_new.bytes errors_new.failed output.failed output_new.failed status
 
 -- The desk at the order's path was opened, with the order's approval where it is new, and the order was carried out over it; or that is told.
-pub record CarriesOutOrder {D : Type 0} (g : disk.Ghosts D) (image : List ℕ → Image) (reads : List ℕ → Option (List ℕ) → Type 0)
-    (listens : List ℕ → ℕ → Bool → Type 0) (order : Order)
+pub record CarriesOutOrder {D : Type 0} (g : disk.Ghosts D) (image : List ℕ → Image) (refuses : List ℕ → Bool → PathRefusal D → Type 0)
+    (reads : List ℕ → Option (List ℕ) → Type 0) (listens : List ℕ → ℕ → Bool → Type 0) (order : Order)
     (input input_new output output_new errors errors_new : Stream) (status : ℕ) : Type 0 where
-  pub opening : Result (Desk (FileStore D g)) OpenFault
+  pub opening : Result (Desk (FileStore D g)) (PathRefusal D)
   pub opened : IfOk opening (λ desk. ReopensDesk (image (database_of order)) (desk_state over_files desk) (asks_approval order))
-  pub refused : IfErr opening (λ fault. IsFailure fault
-      ⊎ LeftUnharmed g (λ left. left ≡ image (database_of order)) (image (database_of order)) (asks_approval order) fault)
-  pub unopened : IfErr opening (λ fault. LacksDesk fault input input_new output output_new errors errors_new status)
+  pub refused : IfErr opening (LeftPath g (image (database_of order)) (asks_approval order))
+  pub told : IfErr opening (refuses (database_of order) (asks_approval order))
+  pub unopened : IfErr opening (λ e. LacksDesk e.0 input input_new output output_new errors errors_new status)
   pub does : IfOk opening (λ before. (after : Desk (FileStore D g))
       × Does over_files reads listens order before after input input_new output output_new errors errors_new status)

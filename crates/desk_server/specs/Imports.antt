@@ -4,13 +4,12 @@ use Rattle.std.specs.Io.KnownBytes.{Appends}
 use Rattle.rollout_model.specs.Limits.{file_length_limit}
 use Rattle.rollout_model.specs.declared.refusal.Refusal.TheVariants.{TooLarge}
 use Rattle.rollout_machine.specs.CommandList.{CommandList}
-use Rattle.rollout_machine.specs.Replies.{Reply}
 use Rattle.rollout_machine.specs.Requests.{Asked, Rejected}
-use Rattle.rollout_machine.specs.Standing.{DeskState, Applies, StandsFor, StaysStopped}
+use Rattle.rollout_machine.specs.Standing.{DeskState, StandsFor, StaysStopped}
 use Rattle.desk_files.specs.Imports.{targets_of}
 use Rattle.mgmt_api.specs.Reading.{imported}
 use Rattle.desk_server.specs.Program.{Tells}
-use Rattle.desk_server.specs.Telling.{TellsOutcome, outcome_of}
+use Rattle.desk_server.specs.Telling.{TellsReply}
 
 -- a file asks that its targets are put; one over the limit is too large, whatever it says
 abbrev pub asked_by_file : List ℕ → Asked
@@ -22,14 +21,10 @@ file_line = codes "fault 6 file\n"
 
 -- ---- the order
 
--- The desk answered what the file asks, and its answer is told.
-pub record Imports {File : Type 0} (file : List ℕ) (old new : DeskState File) (out out_new told told_new : Option (List ℕ))
-    (telling_fails failed_write writing_fails : Bool) (status : ℕ) : Type 0 where
-  pub clean : new.is_clean → old.is_clean
-  pub reply : Reply
-  pub applies : Applies old new (asked_by_file file) reply
-  pub stays : old.is_stopped ≡ true → StaysStopped old new
-  pub tells : TellsOutcome (outcome_of reply) out out_new told told_new telling_fails failed_write writing_fails status
+-- the desk gave its reply to what the file asks, and that reply is told
+abbrev pub Imports : {File : Type 0} → List ℕ → DeskState File → DeskState File → Option (List ℕ) → Option (List ℕ)
+    → Option (List ℕ) → Option (List ℕ) → Bool → Bool → Bool → ℕ → Type 0
+Imports file = TellsReply (asked_by_file file)
 
 -- The file couldn't be read: the desk stays as it was, and that is told.
 pub record LacksFile {File : Type 0} (old new : DeskState File) (out out_new told told_new : Option (List ℕ))

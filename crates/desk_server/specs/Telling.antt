@@ -1,16 +1,18 @@
 -- What is told of an order's outcome, and how it is written.
-use Rattle.std.specs.Prelude.{◌≡◌, ◌⊎◌, ℕ, Bool, List, [], ◌++◌, Option, Result, Ok, Err, OnOk, IfErr, codes}
+use Rattle.std.specs.Prelude.{◌≡◌, ℕ, Bool, true, List, [], ◌++◌, Option, Result, Ok, Err, OnOk, IfErr, codes}
 use Rattle.std.specs.Fmt.{decimal}
 use Rattle.std.specs.Io.KnownBytes.{Appends}
 use Rattle.rollout_model.specs.Refusals.{refusal_row}
 use Rattle.rollout_model.specs.declared.refusal.Refusal.{Refusal}
-use Rattle.rollout_model.specs.declared.refusal.Refusal.TheVariants.{BadImportLine, StoreFailed}
+use Rattle.rollout_model.specs.declared.refusal.Refusal.TheVariants.{BadImportLine, Stopped, StoreFailed}
 use Rattle.rollout_machine.specs.Replies.{Reply, Refused, ReportShown, TargetsPut}
+use Rattle.rollout_machine.specs.Requests.{Asked}
+use Rattle.rollout_machine.specs.Standing.{DeskState, Applies, StaysStopped}
 use Rattle.desk_files.specs.Reports.{report_lines}
 use Rattle.stream_server.specs.declared.served.ServeFault.{ServeFault}
-use Rattle.stream_server.specs.declared.served.ServeFault.TheVariants.{Write, Memory}
+use Rattle.stream_server.specs.declared.served.ServeFault.TheVariants.{Write}
 use Rattle.stream_server.specs.Headline.{FailsBy}
-use Rattle.desk_server.specs.Program.{Reports, Tells, WritesPart, fault_line, status_of}
+use Rattle.desk_server.specs.Program.{Reports, Tells, WritesPart, status_of}
 
 -- the faulty line of a file
 abbrev pub line_part : Refusal → List ℕ
@@ -40,15 +42,32 @@ pub record Prints (text : List ℕ) (out out_new told told_new : Option (List �
   pub reports : Reports told told_new telling_fails outcome
   pub write_failed : FailsBy outcome Write failed_write writing_fails
 
--- It was refused: that is told, or want of memory where its line can't be made.
+-- It was refused, and that is told.
 pub record Refuses (refusal : Refusal) (out out_new told told_new : Option (List ℕ)) (telling_fails failed_write writing_fails : Bool)
     (status : ℕ) : Type 0 where
   pub status_is : status ≡ 1
   pub unwritten : Appends out out_new []
-  pub tells : Tells told told_new telling_fails (refusal_line refusal) ⊎ Tells told told_new telling_fails (fault_line Memory)
+  pub tells : Tells told told_new telling_fails (refusal_line refusal)
   pub unfailed : writing_fails ≡ failed_write
 
 -- the text of what was done, or why it was refused
 abbrev pub TellsOutcome : Result (List ℕ) Refusal → Option (List ℕ) → Option (List ℕ) → Option (List ℕ) → Option (List ℕ) → Bool → Bool → Bool → ℕ → Type 0
 TellsOutcome (Ok text) = Prints text
 TellsOutcome (Err refusal) = Refuses refusal
+
+-- ---- an order that asks the desk
+
+-- The desk gave this reply: the machine's answer at whatever list it stands for. After a failed store it is stopped, whatever it stood for. A
+-- stopped one refuses whatever is asked as stopped, and stays as it is.
+pub record RepliesTo {File : Type 0} (asked : Asked) (old new : DeskState File) (reply : Reply) : Type 0 where
+  pub clean : new.is_clean → old.is_clean
+  pub applies : Applies old new asked reply
+  pub fails : reply ≡ Refused StoreFailed → new.is_stopped ≡ true
+  pub stopped : old.is_stopped ≡ true → (reply ≡ Refused Stopped) × StaysStopped old new
+
+-- The desk gave its reply to what the order asks, and that reply is told.
+pub record TellsReply {File : Type 0} (asked : Asked) (old new : DeskState File) (out out_new told told_new : Option (List ℕ))
+    (telling_fails failed_write writing_fails : Bool) (status : ℕ) : Type 0 where
+  pub reply : Reply
+  pub replies : RepliesTo asked old new reply
+  pub tells : TellsOutcome (outcome_of reply) out out_new told told_new telling_fails failed_write writing_fails status

@@ -1,6 +1,7 @@
 -- What the order `verify` comes to, and what is told of it.
 use Rattle.std.specs.Prelude.{◌≡◌, ℕ, Bool, true, List, ◌++◌, Option, Result, Ok, Err, codes}
 use Rattle.sqlite.specs.State.{State}
+use Rattle.rollout_model.specs.declared.refusal.Refusal.TheVariants.{Stopped, StoreFailed}
 use Rattle.rollout_machine.specs.Standing.{DeskState, StaysStopped}
 use Rattle.desk_verify.specs.Names.{table_name}
 use Rattle.desk_verify.specs.declared.damage.CheckedTable.{CheckedTable}
@@ -27,12 +28,14 @@ TellsFound (Ok done) out out_new told told_new telling_fails failed_write writin
 TellsFound (Err damage) out out_new told told_new telling_fails failed_write writing_fails status =
     TellsDamage damage out out_new told told_new telling_fails failed_write writing_fails status
 
--- The desk, over a connection of one state and then of another, looked whether its tables agree, and that is told.
+-- The desk, over a connection of one state and then of another, looked whether its tables agree, and that is told. After a failed store it is
+-- stopped, whatever it stood for. A stopped one refuses to look as stopped, and stays as it is.
 pub record Verifies {File : Type 0} (was now : State) (old new : DeskState File) (out out_new told told_new : Option (List ℕ))
     (telling_fails failed_write writing_fails : Bool) (status : ℕ) : Type 0 where
   pub clean : new.is_clean → old.is_clean
   pub found : Result (Unit {0}) Damage
   pub judges : Judges was now found
   pub keeps : KeepsDesk old new found
-  pub stays : old.is_stopped ≡ true → StaysStopped old new
+  pub fails : found ≡ Err (Refused StoreFailed) → new.is_stopped ≡ true
+  pub stopped : old.is_stopped ≡ true → (found ≡ Err (Refused Stopped)) × StaysStopped old new
   pub tells : TellsFound found out out_new told told_new telling_fails failed_write writing_fails status

@@ -80,28 +80,28 @@ fn carry_out_over<H: Host, R: Read, W: Write, E: Write, S: Alter>(
         } => serve_port(alloc, host, setup, *port, *connections, desk, errors),
         Order::Import { file, .. } => import_file(alloc, host, file, desk, output, errors),
         Order::Report { rollout, .. } => report(alloc, desk, *rollout, output, errors),
-        Order::Verify { .. } => verify(alloc, desk, output, errors),
+        Order::Verify { .. } => verify(desk, output, errors),
     }
 }
 
 /// Carries an order out over what the opening of its desk came to.
-fn carry_out_opened<H: Host, R: Read, W: Write, E: Write, S: Alter>(
+fn carry_out_opened<H: Host, R: Read, W: Write, E: Write, S: Alter, Rest>(
     alloc: Global,
     order: &Order<'_>,
     host: &mut H,
-    desk: &mut Result<Desk<S>, OpenFault>,
+    desk: &mut Result<Desk<S>, (OpenFault, Rest)>,
     input: &mut Watched<R>,
     output: &mut Watched<W>,
     errors: &mut Watched<E>,
 ) -> u8
-    ensures unopened { IfErr desk.old (λ fault. LacksDesk fault (seen R.remaining input.old) (seen R.remaining input.new)
+    ensures unopened { IfErr desk.old (λ e. LacksDesk e.0 (seen R.remaining input.old) (seen R.remaining input.new)
         (seen W.contents output.old) (seen W.contents output.new) (seen E.contents errors.old) (seen E.contents errors.new) result) }
     ensures does { IfOk desk.old (λ before. IsOkAnd desk.new (λ after. Does S.Store H.reads H.listens order.now before after
         (seen R.remaining input.old) (seen R.remaining input.new) (seen W.contents output.old) (seen W.contents output.new)
         (seen E.contents errors.old) (seen E.contents errors.new) result)) }
 {
     match desk {
-        Err(fault) => {
+        Err((fault, _)) => {
             tell(errors, open_line(*fault));
             FAILED
         }
@@ -114,13 +114,14 @@ pub fn carry_out<H: Host, R: Read, W: Write, E: Write>(
     alloc: Global,
     order: &Order<'_>,
     host: &mut H,
+    start: H::Start,
     input: &mut Watched<R>,
     output: &mut Watched<W>,
     errors: &mut Watched<E>,
 ) -> u8
-    ensures { CarriesOutOrder H.Disk.Disk H.image H.reads H.listens order.now (seen R.remaining input.old) (seen R.remaining input.new)
+    ensures { CarriesOutOrder H.Disk.Disk H.image H.refuses H.reads H.listens order.now (seen R.remaining input.old) (seen R.remaining input.new)
         (seen W.contents output.old) (seen W.contents output.new) (seen E.contents errors.old) (seen E.contents errors.new) result }
 {
-    let mut desk = host.open(order.db(), order.approval());
+    let mut desk = host.open(order.db(), start, order.approval());
     carry_out_opened(alloc, order, host, &mut desk, input, output, errors)
 }

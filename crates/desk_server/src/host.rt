@@ -1,14 +1,13 @@
 //! The machine that an order is carried out on.
 
-ghost use Rattle.std.specs.Prelude.{◌≡◌, ◌⊎◌, ℕ, Bool, List, Option, IfOk, IfErr, is_some, option_map, vec_items};
+ghost use Rattle.std.specs.Prelude.{ℕ, Bool, List, Option, IfOk, IfErr, is_some, option_map, vec_items};
 ghost use Rattle.std.specs.Net.Addr.{ipv4_octets};
 ghost use Rattle.sqlite.specs.Files.{over_files};
 ghost use Rattle.sqlite.specs.Recovery.{Image};
-ghost use Rattle.desk_opening.specs.Opening.{IsFailure};
 ghost use Rattle.rollout_desk.specs.DeskStates.{desk_state};
-ghost use Rattle.rollout_desk.specs.Openings.{ReopensDesk, LeftUnharmed};
+ghost use Rattle.rollout_desk.specs.Openings.{ReopensDesk, LeftPath, PathRefusal};
 
-use desk_opening::OpenFault;
+use desk_opening::{NoFile, OpenFault};
 use rollout_desk::Desk;
 use sqlite::FileStore;
 use sqlite_disk::Disk;
@@ -17,11 +16,17 @@ use std::net::{Ipv4Addr, TcpListener};
 
 /// The files and the network of a machine, as the program sees them.
 pub trait Host {
+    /// What is supposed of the files of the one desk that is opened.
+    type Start;
+
     /// A file that a database or its log is kept in.
     type Disk: Disk + Drop;
 
     /// What the database at a path and its log held as they were opened.
     ghost image: { List ℕ → Image };
+
+    /// Why the desk at a path, with approval where it is new, couldn't be opened.
+    ghost refuses: { List ℕ → Bool → PathRefusal Self.Disk → Type 0 };
 
     /// The file at a path has these first bytes, or it can't be read.
     ghost reads: { List ℕ → Option (List ℕ) → Type 0 };
@@ -33,11 +38,12 @@ pub trait Host {
     fn open(
         &mut self,
         path: &str,
+        start: Self::Start,
         approval_if_new: bool,
-    ) -> Result<Desk<FileStore<Self::Disk>>, OpenFault>
+    ) -> Result<Desk<FileStore<Self::Disk>>, (OpenFault, Option<NoFile<Self::Disk>>)>
         ensures opened { IfOk result (λ desk. ReopensDesk (image path.now) (desk_state over_files desk) approval_if_new) }
-        ensures refused { IfErr result (λ e. IsFailure e ⊎ LeftUnharmed Self.Disk.Disk (λ left. left ≡ image path.now) (image path.now)
-            approval_if_new e) };
+        ensures refused { IfErr result (LeftPath Self.Disk.Disk (image path.now) approval_if_new) }
+        ensures told { IfErr result (refuses path.now approval_if_new) };
 
     /// The first bytes of the file at a path, by which one that is too large is known as such. None where it can't be read.
     fn read(&mut self, alloc: Global, path: &str) -> Option<Vec<u8>>

@@ -1,13 +1,13 @@
 //! The order `import`.
 
-ghost use Rattle.std.specs.Prelude.{◌≡◌, ◌≢◌, ◌⊎◌, IfErr, IfOk, true};
+ghost use Rattle.std.specs.Prelude.{◌≡◌, ◌≢◌, ◌⊎◌, IfErr, IfOk};
 ghost use Rattle.std.specs.Option.{option_map};
 ghost use Rattle.rollout_model.specs.declared.refusal.Refusal.TheVariants.{NoMemory, StoreFailed};
 ghost use Rattle.rollout_machine.specs.Requests.{Asks, Rejected};
-ghost use Rattle.rollout_machine.specs.Standing.{Applies, StaysStopped};
 ghost use Rattle.rollout_machine.specs.Views.{request_of, reply_of};
 ghost use Rattle.http_wire.specs.Watched.{inner_of, has_failed};
 ghost use Rattle.desk_server.specs.Imports.{CarriesOutImport, Imports, asked_by_file};
+ghost use Rattle.desk_server.specs.Telling.{RepliesTo};
 
 use crate::program::{FAILED, tell};
 use crate::telling::tell_reply;
@@ -31,13 +31,14 @@ fn request_in(alloc: Global, file: &[u8]) -> Result<Request, Refusal>
     read_file(alloc, file)
 }
 
-/// What the desk answers to a file.
+/// What the desk answers to a file. A stopped one refuses it, whatever it says.
 #[tactic(auto, using(stream_server::proofs::AskLemmas::refuses, stream_server::proofs::PartLemmas::stays))]
 fn ask<D: Handler>(alloc: Global, desk: &mut D, file: &[u8]) -> Reply
-    ensures clean { (D.state desk.new).is_clean → (D.state desk.old).is_clean }
-    ensures applies { Applies (D.state desk.old) (D.state desk.new) (asked_by_file file.now) (reply_of result) }
-    ensures stays { (D.state desk.old).is_stopped ≡ true → StaysStopped (D.state desk.old) (D.state desk.new) }
+    ensures { RepliesTo (asked_by_file file.now) (D.state desk.old) (D.state desk.new) (reply_of result) }
 {
+    if desk.is_stopped() {
+        return Reply::Refused(Refusal::Stopped);
+    }
     match request_in(alloc, file) {
         Ok(request) => desk.handle(&request),
         Err(refusal) => Reply::Refused(refusal),

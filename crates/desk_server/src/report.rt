@@ -1,11 +1,10 @@
 //! The order `report`.
 
-ghost use Rattle.std.specs.Prelude.{◌≡◌, true};
 ghost use Rattle.rollout_machine.specs.Requests.{Asks, Ask, ShowReport};
-ghost use Rattle.rollout_machine.specs.Standing.{Applies, StaysStopped};
 ghost use Rattle.rollout_machine.specs.Views.{reply_of};
 ghost use Rattle.http_wire.specs.Watched.{inner_of, has_failed};
 ghost use Rattle.desk_server.specs.ReportOrders.{ReportsRollout};
+ghost use Rattle.desk_server.specs.Telling.{RepliesTo};
 
 use crate::telling::tell_reply;
 use http_wire::Watched;
@@ -16,9 +15,7 @@ use stream_server::Handler;
 
 /// What the desk answers to the query of a report.
 fn ask<D: Handler>(desk: &mut D, number: RolloutNo) -> Reply
-    ensures clean { (D.state desk.new).is_clean → (D.state desk.old).is_clean }
-    ensures applies { Applies (D.state desk.old) (D.state desk.new) (Asks (Ask (ShowReport number))) (reply_of result) }
-    ensures stays { (D.state desk.old).is_stopped ≡ true → StaysStopped (D.state desk.old) (D.state desk.new) }
+    ensures { RepliesTo (Asks (Ask (ShowReport number))) (D.state desk.old) (D.state desk.new) (reply_of result) }
 {
     desk.handle(&Request::Ask(Query::Report(number)))
 }

@@ -11,7 +11,6 @@ use crate::telling::{print_or_tell, refuse};
 use http_wire::Watched;
 use rollout_desk::{CheckedTable, Damage, Desk};
 use sqlite::Alter;
-use std::alloc::Global;
 use std::io::Write;
 
 fn damage_line(table: CheckedTable) -> &'static str
@@ -28,7 +27,6 @@ fn damage_line(table: CheckedTable) -> &'static str
 
 /// Tells of a table that doesn't agree, or why none was found out.
 fn tell_damage<W: Write, E: Write>(
-    alloc: Global,
     damage: Damage,
     output: &mut Watched<W>,
     errors: &mut Watched<E>,
@@ -38,16 +36,15 @@ fn tell_damage<W: Write, E: Write>(
 {
     match damage {
         Damage::Table(table) => {
-            let _printed = print_or_tell(damage_line(table), output, errors);
+            let _printed = print_or_tell(damage_line(table).as_bytes(), output, errors);
             FAILED
         }
-        Damage::Refused(refusal) => refuse(alloc, refusal, errors),
+        Damage::Refused(refusal) => refuse(refusal, errors),
     }
 }
 
 /// Tells what was found, and answers the exit status: 0 where all agree, and else 1.
 fn tell_found<W: Write, E: Write>(
-    alloc: Global,
     found: Result<(), Damage>,
     output: &mut Watched<W>,
     errors: &mut Watched<E>,
@@ -56,14 +53,13 @@ fn tell_found<W: Write, E: Write>(
         (E.contents (inner_of errors.old)) (E.contents (inner_of errors.new)) (has_failed errors.new) (has_failed output.old) (has_failed output.new) result }
 {
     match found {
-        Ok(()) => print_or_tell("ok\n", output, errors),
-        Err(damage) => tell_damage(alloc, damage, output, errors),
+        Ok(()) => print_or_tell(b"ok\n", output, errors),
+        Err(damage) => tell_damage(damage, output, errors),
     }
 }
 
 /// Looks whether the tables of the desk agree, and tells what was found.
 pub(crate) fn verify<W: Write, E: Write, S: Alter>(
-    alloc: Global,
     desk: &mut Desk<S>,
     output: &mut Watched<W>,
     errors: &mut Watched<E>,
@@ -73,5 +69,5 @@ pub(crate) fn verify<W: Write, E: Write, S: Alter>(
         (E.contents (inner_of errors.old)) (E.contents (inner_of errors.new)) (has_failed errors.new) (has_failed output.old) (has_failed output.new) result }
 {
     let found = desk.verify();
-    tell_found(alloc, found, output, errors)
+    tell_found(found, output, errors)
 }

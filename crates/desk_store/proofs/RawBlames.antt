@@ -248,7 +248,7 @@ first_shown db t holds shown tail shows = go it.ordered refl it.is
         (source.0, subst (λ l. Has l source.0) (sym (holds.rows Rollouts)) row.0, first ∙ ap (λ (p : Output). p.1) source.2)
 
 module _ {S : Type 0} (g : Ghosts S) (old new : OpenChange S) (grows : old.store.now.calls.failures ≤ new.store.now.calls.failures) (out : Result ℕ Fault) where
-  pub place_count_blamed : (r : ℕ) (rows : Vec Row Global) → IfErr out (λ fault. 2 ^ 32 ≤ length rows.items) → AsksText (seen_in g old) (seen_in g new) LIST_PLACES.now (Int (pos r) ∷ []) (Ok rows) → Blames g old new out
+  pub place_count_blamed : (r : ℕ) (rows : Vec Row Global) → IfErr out (λ fault. (fault ≡ Store) × (2 ^ 32 ≤ length rows.items)) → AsksText (seen_in g old) (seen_in g new) LIST_PLACES.now (Int (pos r) ∷ []) (Ok rows) → Blames g old new out
   place_count_blamed r rows large h = blamed (all_read LIST_PLACES.now (Int (pos r) ∷ []) (seen_in g old) (seen_in g new) listing_any AreFewer (λ found. found ≡ rows) rows counts h (Ok rows) refl) grows out (go out large)
     where
       listing_any : Knows HoldsTables LIST_PLACES.now
@@ -262,10 +262,10 @@ module _ {S : Type 0} (g : Ghosts S) (old new : OpenChange S) (grows : old.store
           (let of = count_shown (holds.spot Members).tree of_rollout placed_columns (places_query 0).order (lit (Int (negsuc 0))) (lit (Int (pos 0))) (Int (pos r) ∷ []) db.trees (t Members) (holds.rows Members) (λ xs. refl) (passes of_rollout (Int (pos r) ∷ [])) (λ row among. refl) rows.items (shows.answer Null) in
           omega (arith, of, length-filter_both (passes of_rollout (Int (pos r) ∷ [])) (λ row. not (passes of_rollout (Int (pos r) ∷ []) row)) (λ row. refl) (t Members)))
 
-      go : (out : Result ℕ Fault) → IfErr out (λ fault. 2 ^ 32 ≤ length rows.items) → IfErr out (λ fault. IfStore fault ((t : Tables) → AreFewer t rows → Unit {0} → IsUnreadable t))
+      go : (out : Result ℕ Fault) → IfErr out (λ fault. (fault ≡ Store) × (2 ^ 32 ≤ length rows.items)) → IfErr out (λ fault. IfStore fault ((t : Tables) → AreFewer t rows → Unit {0} → IsUnreadable t))
       go (Ok found) is = tt
       go (Err Memory) is = tt
-      go (Err Store) is = λ t fewer given. many_rows Members (omega (arith, is, fewer))
+      go (Err Store) is = λ t fewer given. many_rows Members (omega (arith, is.1, fewer))
 
   pub count_blamed : (p : Place) (sql : List ℕ) (means : (s : Schema) (at tree : ℕ) → Stands s (name_of p) at (table_at p tree) → Means s sql (Select (record { lets = []; body = count_query tree }) (codes "count(*)" ∷ []))) (row : Option Row)
       → IfErr out (λ fault. IfStore fault ((row ≡ None) ⊎ HasNoNumber row)) → TakesFirst (seen_in g old) (seen_in g new) sql [] (Ok row) → Blames g old new out

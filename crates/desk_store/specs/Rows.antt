@@ -30,11 +30,21 @@ IsApproval approval (Some row) = flag_in (column row 2) ≡ Some approval
 
 -- ---- rows that can't be read
 
+-- there is a row, and it is broken
+abbrev pub IsBroken : (Row → Type 0) → Option Row → Type 0
+IsBroken is_broken None = ⊥
+IsBroken is_broken (Some row) = is_broken row
+
 -- one of the rows is broken
 pub record HasBroken (is_broken : Row → Type 0) (rows : List Row) : Type 0 where
   pub row : Row
   pub among : Has rows row
   pub broken : is_broken row
+
+-- the desk has no row, or its row breaks the rule of the approval
+abbrev pub HasNoApproval : Option Row → Type 0
+HasNoApproval None = Unit {0}
+HasNoApproval (Some row) = flag_in (column row 2) ≡ None
 
 -- the first column of the row has no number of 32 bits
 abbrev pub HasNoNumber : Option Row → Type 0

@@ -5,11 +5,11 @@ ghost use Rattle.std.specs.List.{list_all, zip};
 ghost use Rattle.std.specs.Option.{option_map};
 ghost use Rattle.rollout_machine.specs.ByteStrings.{item_numbered};
 ghost use Rattle.desk_records.specs.Actions.{history_of};
-ghost use Rattle.desk_records.specs.EntryRow.{BreaksSequenced, IsEntryRow, IsSequencedRow, keeps_details};
+ghost use Rattle.desk_records.specs.EntryRow.{BreaksEntry, BreaksSequenced, IsEntryRow, IsSequencedRow, keeps_details};
 ghost use Rattle.desk_records.specs.LedgerSteps.{AddsAction, AddsEntry, SetsAction, SetsOffer, with_offer};
 ghost use Rattle.desk_records.specs.NextOffers.{next_offer};
 ghost use Rattle.desk_records.specs.RolloutRow.{IsActionRow, IsListedActionRow, IsOfferRow, actions_for, actions_of, stored_action};
-ghost use Rattle.desk_records.specs.RolloutRow.{broken_action_column, broken_offer_column};
+ghost use Rattle.desk_records.specs.RolloutRow.{broken_action_column, broken_listed_action_column, broken_offer_column};
 ghost use Rattle.desk_store.specs.Counting.{AddsIn};
 ghost use Rattle.desk_store.specs.Changing.{FindsLedger, KeepsTables, MakesLedger, StaysIn};
 ghost use Rattle.desk_store.specs.Rows.{BreaksRule};
@@ -45,7 +45,7 @@ impl FromRow for StoredAction {
 impl FromRow for ListedAction {
     ghost is_row = { IsListedActionRow };
 
-    ghost is_broken = { λ row. Unit };
+    ghost is_broken = { λ row. BreaksRule (broken_listed_action_column row) };
 
     fn from_row(_alloc: Global, row: &Row) -> Result<Self, RowFault> {
         read_listed_action(row)
@@ -67,7 +67,7 @@ impl FromRow for Offer {
 impl FromRow for HistoryEntry {
     ghost is_row = { IsEntryRow };
 
-    ghost is_broken = { λ row. Unit };
+    ghost is_broken = { λ row. (c : _) × BreaksEntry row c };
 
     fn from_row(alloc: Global, row: &Row) -> Result<Self, RowFault> {
         read_entry(alloc, row)

@@ -2,11 +2,12 @@
 
 ghost use Rattle.std.specs.Prelude.{◌≡◌, IfErr, IfOk, false};
 ghost use Rattle.sqlite_value.specs.Order.{Row, column};
-ghost use Rattle.desk_records.specs.ArtifactRow.{IsArtifactRow, IsStoredRow, StoredBytes, has_bytes};
-ghost use Rattle.desk_records.specs.ModuleRow.{IsLabelRow, StoredText};
-ghost use Rattle.desk_records.specs.SetRow.{IsSetNameRow, StoredNumber};
-ghost use Rattle.desk_records.specs.TargetRow.{IsAttributeRow, IsListedTargetRow, IsTargetRow};
-ghost use Rattle.desk_store.specs.Rows.{IfBroken};
+ghost use Rattle.desk_records.specs.ArtifactRow.{IsArtifactRow, IsStoredRow, StoredBytes, broken_artifact_column, broken_stored_column, has_bytes};
+ghost use Rattle.desk_records.specs.ModuleRow.{IsLabelRow, StoredText, broken_column};
+ghost use Rattle.desk_records.specs.SetRow.{IsSetNameRow, StoredNumber, broken_set_column, has_number};
+ghost use Rattle.desk_records.specs.TargetRow.{IsAttributeRow, IsListedTargetRow, IsTargetRow, broken_attribute_column};
+ghost use Rattle.desk_records.specs.TargetRow.{broken_listed_column, broken_target_column, has_word};
+ghost use Rattle.desk_store.specs.Rows.{BreaksRule, IfBroken};
 
 use desk_records::{
     ListedTarget, RowFault, SetName, StoredArtifact, StoredTarget, read_artifact, read_attribute,
@@ -21,7 +22,7 @@ use std::alloc::Global;
 pub(crate) trait FromRow: Sized + Drop {
     ghost is_row: { Row → Self → Type 0 };
 
-    // what is known of a row that breaks a rule
+    // the row breaks a rule
     ghost is_broken: { Row → Type 0 };
 
     fn from_row(alloc: Global, row: &Row) -> Result<Self, RowFault>
@@ -33,7 +34,7 @@ pub(crate) trait FromRow: Sized + Drop {
 impl FromRow for ModuleLabel {
     ghost is_row = { IsLabelRow };
 
-    ghost is_broken = { λ row. Unit };
+    ghost is_broken = { λ row. BreaksRule (broken_column row) };
 
     fn from_row(alloc: Global, row: &Row) -> Result<Self, RowFault> {
         read_module_label(alloc, row)
@@ -44,7 +45,7 @@ impl FromRow for ModuleLabel {
 impl FromRow for SetName {
     ghost is_row = { IsSetNameRow };
 
-    ghost is_broken = { λ row. Unit };
+    ghost is_broken = { λ row. BreaksRule (broken_set_column row) };
 
     fn from_row(alloc: Global, row: &Row) -> Result<Self, RowFault> {
         read_set_name(alloc, row)
@@ -55,7 +56,7 @@ impl FromRow for SetName {
 impl FromRow for ModuleNo {
     ghost is_row = { λ row number. column row 0 ≡ StoredNumber number };
 
-    ghost is_broken = { λ row. Unit };
+    ghost is_broken = { λ row. has_number (column row 0) ≡ false };
 
     fn from_row(_alloc: Global, row: &Row) -> Result<Self, RowFault> {
         read_set_module(row)
@@ -66,7 +67,7 @@ impl FromRow for ModuleNo {
 impl FromRow for StoredArtifact {
     ghost is_row = { IsStoredRow };
 
-    ghost is_broken = { λ row. Unit };
+    ghost is_broken = { λ row. BreaksRule (broken_stored_column row) };
 
     fn from_row(_alloc: Global, row: &Row) -> Result<Self, RowFault> {
         read_stored_artifact(row)
@@ -77,7 +78,7 @@ impl FromRow for StoredArtifact {
 impl FromRow for Artifact {
     ghost is_row = { IsArtifactRow };
 
-    ghost is_broken = { λ row. Unit };
+    ghost is_broken = { λ row. BreaksRule (broken_artifact_column row) };
 
     fn from_row(_alloc: Global, row: &Row) -> Result<Self, RowFault> {
         read_artifact(row)
@@ -99,7 +100,7 @@ impl FromRow for Vec<u8> {
 impl FromRow for StoredTarget {
     ghost is_row = { IsTargetRow };
 
-    ghost is_broken = { λ row. Unit };
+    ghost is_broken = { λ row. BreaksRule (broken_target_column row) };
 
     fn from_row(alloc: Global, row: &Row) -> Result<Self, RowFault> {
         read_stored_target(alloc, row)
@@ -110,7 +111,7 @@ impl FromRow for StoredTarget {
 impl FromRow for ListedTarget {
     ghost is_row = { IsListedTargetRow };
 
-    ghost is_broken = { λ row. Unit };
+    ghost is_broken = { λ row. BreaksRule (broken_listed_column row) };
 
     fn from_row(alloc: Global, row: &Row) -> Result<Self, RowFault> {
         read_listed_target(alloc, row)
@@ -121,7 +122,7 @@ impl FromRow for ListedTarget {
 impl FromRow for Word {
     ghost is_row = { λ row tag. column row 0 ≡ StoredText tag };
 
-    ghost is_broken = { λ row. Unit };
+    ghost is_broken = { λ row. has_word (column row 0) ≡ false };
 
     fn from_row(_alloc: Global, row: &Row) -> Result<Self, RowFault> {
         read_tag(row)
@@ -132,7 +133,7 @@ impl FromRow for Word {
 impl FromRow for Attribute {
     ghost is_row = { IsAttributeRow };
 
-    ghost is_broken = { λ row. Unit };
+    ghost is_broken = { λ row. BreaksRule (broken_attribute_column row) };
 
     fn from_row(alloc: Global, row: &Row) -> Result<Self, RowFault> {
         read_attribute(alloc, row)

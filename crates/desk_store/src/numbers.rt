@@ -3,7 +3,7 @@
 ghost use Rattle.std.specs.Prelude.{◌≡◌, ◌≤◌, ◌+◌};
 ghost use Rattle.desk_records.specs.FeedbackNumbers.{last_number, numbers_numbered};
 ghost use Rattle.desk_records.specs.LedgerSteps.{AddsNumber};
-ghost use Rattle.desk_records.specs.NumberRow.{IsLastNumberRow, IsNumberRow, broken_number_column};
+ghost use Rattle.desk_records.specs.NumberRow.{IsLastNumberRow, IsNumberRow, broken_last_number_column, broken_number_column};
 ghost use Rattle.desk_store.specs.Counting.{AddsIn};
 ghost use Rattle.desk_store.specs.Rows.{BreaksRule};
 ghost use Rattle.desk_store.specs.Changing.{FindsLedger, MakesLedger, StaysIn};
@@ -35,7 +35,7 @@ impl FromRow for PlacedNumber {
 impl FromRow for LastNumber {
     ghost is_row = { IsLastNumberRow };
 
-    ghost is_broken = { λ row. Unit };
+    ghost is_broken = { λ row. BreaksRule (broken_last_number_column row) };
 
     fn from_row(_alloc: Global, row: &Row) -> Result<Self, RowFault> {
         read_last_number(row)

@@ -2,8 +2,8 @@
 
 ghost use Rattle.std.specs.Prelude.{◌≡◌, ◌<◌, ◌≤◌, ◌^◌, ◌⊎◌, IfErr, IfOk, None, length, slice_get};
 ghost use Rattle.desk_records.specs.Modules.{IsLastRow};
-ghost use Rattle.desk_records.specs.TargetRow.{IsAttributeRow};
-ghost use Rattle.desk_store.specs.Rows.{AreReadAs, HasBroken, HasNoNumber, IfStore, IsApproval, IsCount, IsReadAs};
+ghost use Rattle.desk_records.specs.TargetRow.{IsAttributeRow, broken_attribute_column};
+ghost use Rattle.desk_store.specs.Rows.{AreReadAs, BreaksRule, HasBroken, HasNoApproval, HasNoNumber, IfStore, IsApproval, IsBroken, IsCount, IsReadAs};
 ghost use Rattle.desk_store.specs.Faults.{as_store};
 
 use crate::from_row::FromRow;
@@ -29,7 +29,8 @@ pub(crate) fn last_number(row: Option<Row>) -> Result<u32, Fault>
 
 /// What the row is read as, where there is one.
 pub(crate) fn read_optional<T: FromRow>(alloc: Global, row: Option<Row>) -> Result<Option<T>, Fault>
-    ensures { IfOk result (λ found. IsReadAs T.is_row found row) }
+    ensures ok { IfOk result (λ found. IsReadAs T.is_row found row) }
+    ensures err { IfErr result (λ fault. IfStore fault (IsBroken T.is_broken row)) }
 {
     let Some(row) = row else {
         return Ok(None);
@@ -72,7 +73,8 @@ pub(crate) fn read_all<T: FromRow>(alloc: Global, rows: &[Row]) -> Result<Vec<T>
 
 /// The attributes in rows of key and value.
 pub(crate) fn read_attributes(alloc: Global, rows: &[Row]) -> Result<Attributes, Fault>
-    ensures { IfOk result (AreReadAs IsAttributeRow rows.now) }
+    ensures ok { IfOk result (AreReadAs IsAttributeRow rows.now) }
+    ensures err { IfErr result (λ fault. IfStore fault (HasBroken (λ row. BreaksRule (broken_attribute_column row)) rows.now)) }
 {
     let mut attributes = Attributes::new(alloc);
     for row in rows {
@@ -113,7 +115,7 @@ pub(crate) fn counted_in(row: Option<Row>) -> Result<u32, Fault>
 /// How many rows there are.
 pub(crate) fn row_count(rows: &[Row]) -> Result<u32, Fault>
     ensures ok { IfOk result (λ n. n ≡ length rows.now) }
-    ensures err { IfErr result (λ fault. 2 ^ 32 ≤ length rows.now) }
+    ensures err { IfErr result (λ fault. (fault ≡ Fault.Store) × (2 ^ 32 ≤ length rows.now)) }
 {
     let Ok(count) = u32::try_from(rows.len()) else {
         return Err(Fault::Store);
@@ -123,7 +125,8 @@ pub(crate) fn row_count(rows: &[Row]) -> Result<u32, Fault>
 
 /// Whether rollouts wait for approval, in the desk's row.
 pub(crate) fn approval_in(row: Option<Row>) -> Result<bool, Fault>
-    ensures { IfOk result (λ approval. IsApproval approval row) }
+    ensures ok { IfOk result (λ approval. IsApproval approval row) }
+    ensures err { IfErr result (λ fault. (fault ≡ Fault.Store) × HasNoApproval row) }
 {
     let Some(row) = row else {
         return Err(Fault::Store);

@@ -1,6 +1,6 @@
 //! Rollouts and their groups, in a change that is under way.
 
-ghost use Rattle.std.specs.Prelude.{◌≡◌, ◌≤◌, ◌+◌, IfOk, length, map, slice_get, take, drop};
+ghost use Rattle.std.specs.Prelude.{◌≡◌, ◌≤◌, ◌+◌, IfErr, IfOk, false, length, map, slice_get, take, drop};
 ghost use Rattle.std.specs.List.{list_any};
 ghost use Rattle.std.specs.Option.{option_map};
 ghost use Rattle.sqlite_value.specs.Order.{column};
@@ -8,11 +8,12 @@ ghost use Rattle.rollout_machine.specs.ByteStrings.{item_numbered};
 ghost use Rattle.rollout_machine.specs.StateWords.{group_holding, group_numbered};
 ghost use Rattle.desk_records.specs.LedgerSteps.{AddsGroup, AddsMember, AddsRollout, SetsGroup, SetsRollout};
 ghost use Rattle.desk_records.specs.ModuleRow.{StoredText};
-ghost use Rattle.desk_records.specs.RolloutRow.{IsGroupRow, IsRolloutRow, broken_rollout_column, stored_rollout};
+ghost use Rattle.desk_records.specs.RolloutRow.{IsGroupRow, IsRolloutRow, broken_group_column, broken_rollout_column, stored_rollout};
 ghost use Rattle.desk_records.specs.Rollouts.{groups_of, is_called, members_of};
+ghost use Rattle.desk_records.specs.TargetRow.{has_word};
 ghost use Rattle.desk_store.specs.Counting.{AddsIn};
 ghost use Rattle.desk_store.specs.GroupPairs.{group_and_next};
-ghost use Rattle.desk_store.specs.Rows.{BreaksRule, IsReadAs};
+ghost use Rattle.desk_store.specs.Rows.{BreaksRule, HasBroken, IfStore, IsReadAs};
 ghost use Rattle.desk_store.specs.Changing.{FindsLedger, KeepsTables, MakesLedger, StaysIn};
 
 use crate::change::OpenChange;
@@ -52,7 +53,7 @@ impl FromRow for StoredRollout {
 impl FromRow for GroupRecord {
     ghost is_row = { IsGroupRow };
 
-    ghost is_broken = { λ row. Unit };
+    ghost is_broken = { λ row. BreaksRule (broken_group_column row) };
 
     fn from_row(_alloc: Global, row: &Row) -> Result<Self, RowFault> {
         read_group(row)
@@ -63,7 +64,7 @@ impl FromRow for GroupRecord {
 impl FromRow for ControllerId {
     ghost is_row = { λ row id. column row 0 ≡ StoredText id };
 
-    ghost is_broken = { λ row. Unit };
+    ghost is_broken = { λ row. has_word (column row 0) ≡ false };
 
     fn from_row(_alloc: Global, row: &Row) -> Result<Self, RowFault> {
         read_member(row)
@@ -72,7 +73,8 @@ impl FromRow for ControllerId {
 
 /// The group in the first row, and the next one in the second.
 fn read_both(alloc: Global, rows: &[Row]) -> Result<GroupAndNext, Fault>
-    ensures { IfOk result (λ both. IsReadAs IsGroupRow both.group (slice_get rows.now 0) × IsReadAs IsGroupRow both.next (slice_get rows.now 1)) }
+    ensures ok { IfOk result (λ both. IsReadAs IsGroupRow both.group (slice_get rows.now 0) × IsReadAs IsGroupRow both.next (slice_get rows.now 1)) }
+    ensures err { IfErr result (λ fault. IfStore fault (HasBroken (λ row. BreaksRule (broken_group_column row)) rows.now)) }
 {
     let group = read_at(alloc, rows, 0)?;
     let next = read_at(alloc, rows, 1)?;

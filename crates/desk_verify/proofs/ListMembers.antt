@@ -3,10 +3,11 @@ use Rattle.std.proofs.Common.{◌≡◌, ◌⊎◌, inl, inr, ℕ, suc, Bool, tr
 use Rattle.std.proofs.lemmas.Bool.{and_parts}
 use Rattle.sqlite_rules.specs.Lists.{Has}
 use Rattle.sqlite_rules.proofs.ListLemmas.{has_either, has_filtered, test_has}
+use Rattle.rollout_model.specs.Rows.{is_target_row}
 use Rattle.rollout_model.specs.Rules.{is_word}
 use Rattle.rollout_machine.specs.ByteStrings.{bytes_below, same_bytes, with_word, with_words}
 use Rattle.rollout_machine.specs.CommandList.{CommandList, Make, ◌▸◌}
-use Rattle.rollout_machine.specs.CommandRules.{IsWellFormed, is_target_row}
+use Rattle.rollout_machine.specs.CommandRules.{IsWellFormed}
 use Rattle.rollout_machine.specs.Commands.{Bytes, Command, CreateRollout, PutTargets, TargetRow}
 use Rattle.rollout_machine.specs.Filters.{matches}
 use Rattle.rollout_machine.specs.Records.{records, rollouts_in}

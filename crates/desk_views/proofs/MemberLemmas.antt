@@ -20,8 +20,7 @@ use Rattle.rollout_machine.specs.Targets.{Target, import_rows_of, target_ids, ta
 use Rattle.rollout_machine.specs.Verdicts.{target_of}
 use Rattle.rollout_machine.specs.declared.records.RolloutRecord.{RolloutRecord}
 use Rattle.rollout_machine.proofs.Imports.{never_with}
-use Rattle.rollout_machine.proofs.TargetTies.{same_refl}
-use Rattle.desk_records.proofs.ByteOrder.{same_sym}
+use Rattle.rollout_machine.proofs.TargetTies.{same_refl, same_sym}
 use Rattle.desk_reads.specs.AtLists.{AreOfList}
 use Rattle.desk_reads.proofs.ListLemmas.{made}
 

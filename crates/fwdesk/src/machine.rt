@@ -2,7 +2,7 @@
 
 ghost use Rattle.sqlite.specs.WalFiles.{image_at};
 
-use desk_opening::OpenFault;
+use desk_opening::{NoFile, OpenFault};
 use desk_server::Host;
 use rollout_desk::Desk;
 use rollout_model::limits::FILE_LENGTH_LIMIT;
@@ -11,6 +11,7 @@ use std::alloc::Global;
 use std::fs::File;
 use std::io;
 use std::io::Read;
+use std::marker::PhantomData;
 use std::net::{Ipv4Addr, TcpListener};
 
 /// How many bytes of a file are read: one more than a file of targets may have.
@@ -21,15 +22,15 @@ const READ_LIMIT: u64 = FILE_LENGTH_LIMIT as u64 + 1;
 #[derive(Drop)]
 pub struct Machine<'a, S> {
     rt: &'a HostRuntime,
-    /// What is supposed of the files of the one desk that is opened, until it is.
-    start: Option<S>,
+    /// What is supposed of the files of the one desk that is opened.
+    start: PhantomData<S>,
 }
 
 impl<'a, S: Start> Machine<'a, S> {
-    pub fn new(rt: &'a HostRuntime, start: S) -> Machine<'a, S> {
+    pub fn new(rt: &'a HostRuntime) -> Machine<'a, S> {
         Machine {
             rt,
-            start: Some(start),
+            start: PhantomData,
         }
     }
 }
@@ -43,24 +44,25 @@ fn first_bytes(rt: &HostRuntime, alloc: Global, path: &str) -> io::Result<Vec<u8
 }
 
 impl<'a, S: Start> Host for Machine<'a, S> {
+    type Start = S;
+
     type Disk = FileFrom<S>;
 
     ghost image = { λ path. image_at S.Start };
+
+    ghost refuses = { λ path approval refusal. Unit {0} };
 
     ghost reads = { λ path file. Unit {0} };
 
     ghost listens = { λ address port bound. Unit {0} };
 
-    /// A second desk is refused.
     fn open(
         &mut self,
         path: &str,
+        start: S,
         approval_if_new: bool,
-    ) -> Result<Desk<FileStore<FileFrom<S>>>, OpenFault> {
-        match self.start.take() {
-            Some(start) => Desk::reopen_path(self.rt, path, start, approval_if_new),
-            None => Err(OpenFault::Store),
-        }
+    ) -> Result<Desk<FileStore<FileFrom<S>>>, (OpenFault, Option<NoFile<FileFrom<S>>>)> {
+        Desk::reopen_path(self.rt, path, start, approval_if_new)
     }
 
     fn read(&mut self, alloc: Global, path: &str) -> Option<Vec<u8>> {

@@ -33,7 +33,8 @@ fn main(rt: HostRuntime) -> ExitCode {
         Ok(order) => ExitCode::from(carry_out(
             alloc,
             &order,
-            &mut Machine::new(&rt, Unknown),
+            &mut Machine::new(&rt),
+            Unknown,
             &mut Watched::new(rt.stdin()),
             &mut Watched::new(rt.stdout()),
             &mut Watched::new(rt.stderr()),

@@ -26,7 +26,8 @@ impl Model for FixedText {
 }
 
 impl FixedText {
-    pub(crate) fn new() -> FixedText
+    /// No bytes yet.
+    pub fn new() -> FixedText
         ensures { result ≡ [] }
     {
         FixedText {
@@ -35,7 +36,8 @@ impl FixedText {
         }
     }
 
-    pub(crate) fn push(&mut self, part: &[u8])
+    /// Puts bytes behind what is there.
+    pub fn push(&mut self, part: &[u8])
         requires { length self.old + length part.now ≤ 256 }
         ensures text { self.new ≡ self.old ++ part.now }
         ensures len { length self.new ≡ length self.old + length part.now }
@@ -45,7 +47,8 @@ impl FixedText {
         self.len = end;
     }
 
-    pub(crate) fn push_number(&mut self, number: u64)
+    /// Puts the digits of a number behind what is there.
+    pub fn push_number(&mut self, number: u64)
         requires { length self.old + 20 ≤ 256 }
         ensures text { self.new ≡ self.old ++ decimal number }
         ensures len { length self.new ≤ length self.old + 20 }

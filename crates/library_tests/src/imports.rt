@@ -15,16 +15,18 @@ const DIGEST: &str = "a68c54be3824d4948ed701e5d31a81f8f0cdeb0aaab2ab560b4777cf95
 
 /// The one row of a file that has just one; `None` for any other file.
 fn only_row(alloc: Global, bytes: &[u8]) -> Option<TargetRow> {
-    let mut rows = read_targets(alloc, bytes).ok()?;
-    let row = rows.pop()?;
-    if rows.is_empty() { Some(row) } else { None }
+    let rows = read_targets(alloc, bytes).ok()?;
+    match rows.as_slice() {
+        [row] => row.copy(alloc).ok(),
+        _ => None,
+    }
 }
 
 #[test]
 fn rows_of_the_worked_file(rt: HostRuntime) -> Result<(), Fail> {
     let rows = read_targets(rt.alloc(), WORKED).ok().ok_or("rows")?;
-    assert_eq!(rt; rows.len(), 3);
-    for row in &rows {
+    assert_eq!(rt; rows.as_slice().len(), 3);
+    for row in rows.as_slice() {
         assert_eq!(rt; row.id.as_str().len(), 6);
     }
     Ok(())
@@ -114,7 +116,7 @@ fn is_row(alloc: Global, record: &[u8]) -> Option<bool> {
     bytes.extend_from_slice(record).ok()?;
     bytes.extend_from_slice(b"\nother,b,12345678,\n").ok()?;
     match read_targets(alloc, &bytes) {
-        Ok(rows) => Some(rows.len() == 2),
+        Ok(rows) => Some(rows.as_slice().len() == 2),
         Err(ImportFault::Line(line)) => if line == 2 { Some(false) } else { None },
         Err(ImportFault::Memory) => None,
     }
@@ -136,7 +138,7 @@ fn refusals(rt: HostRuntime) {
 #[test]
 fn want_of_memory(rt: HostRuntime) {
     match read_targets(rt.alloc(), WORKED) {
-        Ok(rows) => assert_eq!(rt; rows.len(), 3),
+        Ok(rows) => assert_eq!(rt; rows.as_slice().len(), 3),
         Err(fault) => assert!(rt; fault == ImportFault::Memory),
     }
 }

@@ -23,7 +23,7 @@ use crate::upload_query::read_upload;
 use desk_files::read_targets;
 use http_wire::Message;
 use mgmt_objects::{read_module_body, read_set_body, read_targets_body};
-use rollout_model::{Command, Query, Refusal, Request, TargetRows};
+use rollout_model::{Command, Query, Refusal, Request};
 use std::alloc::Global;
 
 fn read_show_modules(alloc: Global, message: &Message<'_>) -> Result<Request, Refusal>
@@ -178,7 +178,7 @@ pub fn read_file(alloc: Global, file: &[u8]) -> Result<Request, Refusal>
     ensures { ReadsRequest (imported (targets_of file.now)) result }
 {
     match read_targets(alloc, file) {
-        Ok(rows) => Ok(Request::Do(Command::PutTargets(TargetRows::from_rows(rows)))),
+        Ok(rows) => Ok(Request::Do(Command::PutTargets(rows))),
         Err(fault) => Err(fault.refusal()),
     }
 }

@@ -1,5 +1,5 @@
 -- From a connection that was opened to a desk over it.
-use Rattle.std.proofs.Common.{◌≡◌, ◌⊎◌, inl, inr, ℕ, zero, suc, Bool, false, List, [], Option, Some, None, MatchOption, Ok, Err, Result, IfOk, IfErr, refl, sym, ap, ◌∙◌, subst}
+use Rattle.std.proofs.Common.{◌≡◌, ℕ, zero, suc, Bool, false, List, [], Some, None, Ok, Err, Result, IfOk, IfErr, refl, sym, ap, ◌∙◌, subst}
 use Rattle.std.specs.Prelude.{slice_get}
 use Rattle.sqlite_disk.specs.declared.Disk as disk
 use Rattle.sqlite_disk.specs.declared.Files.{Files}
@@ -28,8 +28,7 @@ use Rattle.desk_opening.specs.Opening.{OpensDesk, IsSettled, IsFailure}
 use Rattle.sqlite.specs.Recovery.{Image}
 use Rattle.sqlite.specs.State.{State, HasCleanDisk}
 use Rattle.desk_records.specs.Holds.{HoldsRecords}
-use Rattle.desk_opening.specs.Reopening.{Reopens, LeavesUnharmed}
-use Rattle.sqlite.specs.declared.file.Leftover.{Leftover}
+use Rattle.desk_opening.specs.Reopening.{Reopens}
 use Rattle.rollout_machine.specs.CommandList.{CommandList, Make}
 use Rattle.rollout_machine.specs.Records.{records}
 use Rattle.rollout_machine.specs.Standing.{StandsFor}
@@ -38,7 +37,7 @@ use Rattle.rollout_desk.specs.Desks.{desk_state_at}
 use Rattle.rollout_desk.specs.declared.desk.Desk.{Desk}
 use Rattle.desk_store.specs.declared.store.DeskStore.{DeskStore}
 use Rattle.std.specs.declared.alloc.Global.{Global}
-use Rattle.rollout_desk.specs.Openings.{ReopensDesk, LeftUnharmed, GivesBack}
+use Rattle.rollout_desk.specs.Openings.{ReopensDesk, GivesBack}
 use Rattle.rollout_desk.proofs.ApplyLemmas.{readable}
 
 stands : (s : State) (h : CommandList) → IsValid h → Rests HoldsRecords s (records h) → HasCleanDisk s → StandsFor (desk_state_at HoldsRecords false s) h
@@ -76,13 +75,6 @@ module _ {D : Type 0} {g : disk.Ghosts D} (given old : Held (FileStore D g)) (sa
       → IfErr out (λ e. (db : Trees) → recovers e.1 db → (file_state old).may_leave db)
   gives_store (Ok files) Other h = tt
   gives_store (Err e) Other h = λ db left. (subst (λ c. IsClosed c e.1) same h.0).quiet.outcomes db left
-
--- ---- what is left of a refused opening is let go
-
-pub lets_go : {D : Type 0} {g : disk.Ghosts D} (before : Image → Type 0) (image : Image) (approval : Bool) (e : OpenFault) (rest : Option (Leftover D g))
-    → MatchOption rest (IsFailure e) (LeavesUnharmed before image approval e) → IsFailure e ⊎ LeftUnharmed g before image approval e
-lets_go before image approval e None fails = inl fails
-lets_go before image approval e (Some rest) left = inr (rest, left)
 
 -- ---- in memory
 

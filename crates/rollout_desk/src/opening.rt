@@ -1,6 +1,6 @@
 //! A desk over files.
 
-ghost use Rattle.std.specs.Prelude.{◌≡◌, ◌⊎◌, IsTrue, IfOk, IfErr, MatchOption};
+ghost use Rattle.std.specs.Prelude.{IsTrue, IfOk, IfErr};
 ghost use Rattle.sqlite.specs.Files.{image_of, over_files};
 ghost use Rattle.sqlite.specs.FileStore.{recovers};
 ghost use Rattle.sqlite.specs.Steps.{over_memory};
@@ -9,12 +9,12 @@ ghost use Rattle.sqlite.specs.WalFiles.{image_at, outcomes};
 ghost use Rattle.rollout_machine.specs.CommandList.{Make};
 ghost use Rattle.rollout_machine.specs.Standing.{StandsFor};
 ghost use Rattle.desk_opening.specs.Opening.{IsFailure};
-ghost use Rattle.desk_opening.specs.Reopening.{BeginsPlain, LeavesUnharmed};
+ghost use Rattle.desk_opening.specs.Reopening.{BeginsPlain, LeavesPath, LeavesUnharmed};
 ghost use Rattle.rollout_desk.specs.DeskStates.{desk_state};
-ghost use Rattle.rollout_desk.specs.Openings.{ReopensDesk, LeftUnharmed, GivesBack, GoesOnAfterCrash, GoesOnOver};
+ghost use Rattle.rollout_desk.specs.Openings.{ReopensDesk, LeftUnharmed, LeftPath, GivesBack, GoesOnAfterCrash, GoesOnOver};
 
 use crate::desk::Desk;
-use desk_opening::{OpenFault, open_desk, reopen_files, reopen_path};
+use desk_opening::{NoFile, OpenFault, PathLeftover, open_desk, reopen_files, reopen_path};
 use desk_store::DeskStore;
 use sqlite::{
     Alter, Connection, Error, FileFrom, FileStore, Files, Leftover, MemStore, Options, Start,
@@ -91,18 +91,16 @@ pub fn goes_on_after_crash<D: Disk + Drop, S: Alter>(
 }
 
 impl<S: Start> Desk<FileStore<FileFrom<S>>> {
-    /// The same for the file at a path, with its log beside it. A file that another process holds is refused as `Store`. Nothing is left
-    /// where no file was opened.
+    /// The same for the file at a path, with its log beside it. A file that another process holds is refused as `Store`.
     pub fn reopen_at(
         rt: &HostRuntime,
         path: &str,
         start: S,
         approval_if_new: bool,
-    ) -> Result<Desk<FileStore<FileFrom<S>>>, (OpenFault, Option<Leftover<FileFrom<S>>>)>
+    ) -> Result<Desk<FileStore<FileFrom<S>>>, (OpenFault, PathLeftover<FileFrom<S>>)>
         ensures reopened { IfOk result (λ desk. ReopensDesk (image_at S.Start) (desk_state over_files desk) approval_if_new) }
         ensures plain { IfOk result (λ desk. BeginsPlain (image_at S.Start) approval_if_new desk.store.calls.conn) }
-        ensures refused { IfErr result (λ e. MatchOption e.1 (IsFailure e.0)
-            (LeavesUnharmed (λ left. left ≡ image_at S.Start) (image_at S.Start) approval_if_new e.0)) }
+        ensures refused { IfErr result (λ e. LeavesPath (image_at S.Start) approval_if_new e.0 e.1) }
     {
         match reopen_path(rt, path, start, approval_if_new) {
             Ok(conn) => {
@@ -113,21 +111,21 @@ impl<S: Start> Desk<FileStore<FileFrom<S>>> {
         }
     }
 
-    /// The same, and lets go of what is left after a fault.
+    /// The same, and lets go of what is left after a fault. It still tells whether a file was opened.
     pub fn reopen_path(
         rt: &HostRuntime,
         path: &str,
         start: S,
         approval_if_new: bool,
-    ) -> Result<Desk<FileStore<FileFrom<S>>>, OpenFault>
+    ) -> Result<Desk<FileStore<FileFrom<S>>>, (OpenFault, Option<NoFile<FileFrom<S>>>)>
         ensures reopened { IfOk result (λ desk. ReopensDesk (image_at S.Start) (desk_state over_files desk) approval_if_new) }
         ensures plain { IfOk result (λ desk. BeginsPlain (image_at S.Start) approval_if_new desk.store.calls.conn) }
-        ensures refused { IfErr result (λ e. IsFailure e ⊎ LeftUnharmed ⟦<FileFrom<S> as Disk>⟧ (λ left. left ≡ image_at S.Start)
-            (image_at S.Start) approval_if_new e) }
+        ensures refused { IfErr result (LeftPath ⟦<FileFrom<S> as Disk>⟧ (image_at S.Start) approval_if_new) }
     {
         match Desk::reopen_at(rt, path, start, approval_if_new) {
             Ok(desk) => Ok(desk),
-            Err((fault, _)) => Err(fault),
+            Err((fault, PathLeftover::NoFile(none))) => Err((fault, Some(none))),
+            Err((fault, PathLeftover::Opened(_))) => Err((fault, None)),
         }
     }
 }

@@ -1,5 +1,6 @@
 -- An action's record after one more command, from its record before it.
 use Rattle.std.proofs.Common.{◌≡◌, ℕ, zero, suc, Bool, true, false, cond, ◌&&◌, ◌||◌, not, List, [], ◌∷◌, ◌++◌, refl, sym, ◌∙◌, ap, Option, Some, None}
+use Rattle.std.proofs.Math.Bool.{and-false}
 use Rattle.std.specs.Prelude.{nat_eq, is_none, is_some, map, slice_get}
 use Rattle.std.specs.Option.{option_or, unwrap_or, option_map}
 use Rattle.rollout_machine.specs.Actions.{ActionPlace, action_of, is_on_action, is_action_place, is_heard, outcome, outcome_given, cancel_stands, cancel_standing_said, is_canceling, history, reports}
@@ -10,16 +11,13 @@ use Rattle.rollout_machine.specs.RecordSteps.{action_after, is_same_action}
 use Rattle.rollout_machine.specs.Records.{ActionRecord, action_in}
 use Rattle.rollout_machine.specs.Reports.{Reported, entries_in, is_again, reported_by}
 use Rattle.std.proofs.lemmas.Bool.{eq-eqb, eqb-true, and_parts}
+use Rattle.rollout_machine.proofs.Tallies.{or_none}
 
 abbrev pub action_from : ActionPlace → Bool → Option Outcome → List Reported → ActionRecord
 action_from p b o es = record { rollout = p.rollout; position = p.position; canceling = b; outcome = o; history = es }
 
 pub same_action : (p : ActionPlace) (b b' : Bool) (o o' : Option Outcome) (es es' : List Reported) → b ≡ b' → o ≡ o' → es ≡ es' → action_from p b o es ≡ action_from p b' o' es'
 same_action p b b' o o' es es' e f g = rw (e, f, g) refl
-
-or_none : (o : Option Outcome) → option_or o None ≡ o
-or_none None = refl
-or_none (Some x) = refl
 
 pub append_none : {X : Type 0} (xs : List X) → xs ++ [] ≡ xs
 append_none [] = refl
@@ -37,10 +35,6 @@ cancels (Some x) gv said b = refl
 cancels None (Some x) said b = refl
 cancels None None None b = refl
 cancels None None (Some v) b = refl
-
-pub and_false : (b : Bool) → (b && false) ≡ false
-and_false true = refl
-and_false false = refl
 
 -- ---- what is heard
 
@@ -64,7 +58,7 @@ pub heard_open : (h : CommandList) (c : Command) (r j : ℕ) → is_on_action h 
 heard_open h c r j on e n = rw (on, open_reports h r j e, n) refl
 
 pub sent_again : (h : CommandList) (c : Command) (r j : ℕ) → outcome h r j ≡ None → is_again (history h r j) c ≡ true → is_heard h c r j ≡ false
-sent_again h c r j e n = rw (open_reports h r j e, n) (and_false (is_on_action h c r j))
+sent_again h c r j e n = rw (open_reports h r j e, n) (and-false (is_on_action h c r j))
 
 pub on_own : (h : CommandList) (c : Command) (q : ActionPlace) → action_of h c ≡ Some q → is_on_action h c q.rollout q.position ≡ true
 on_own h c q t = rw (t, eq-eqb q.rollout q.rollout refl, eq-eqb q.position q.position refl) refl
@@ -80,7 +74,7 @@ off_action h c p e = unheard h c p (rw e refl)
 
 -- so does each command on a closed one
 pub closed_action : (h : CommandList) (c : Command) (p : ActionPlace) (o : Outcome) → outcome h p.rollout p.position ≡ Some o → action_in (h ▸ c) p ≡ action_in h p
-closed_action h c p o e = same_action p _ _ _ _ _ _ (rw e refl) (rw e refl) (rw (e, and_false (is_heard h c p.rollout p.position)) (append_none (history h p.rollout p.position)))
+closed_action h c p o e = same_action p _ _ _ _ _ _ (rw e refl) (rw e refl) (rw (e, and-false (is_heard h c p.rollout p.position)) (append_none (history h p.rollout p.position)))
 
 closed_after : (h : CommandList) (c : Command) (p : ActionPlace) (o : Outcome) → outcome h p.rollout p.position ≡ Some o → action_after c (action_in h p) ≡ action_in h p
 closed_after h c p o e = same_action p _ _ _ _ _ _ (rw e refl) (rw e refl) (rw e (append_none (history h p.rollout p.position)))

@@ -1,5 +1,5 @@
 -- Counts over positions: equal where the tests agree, one more where they differ at one place.
-use Rattle.std.proofs.Common.{◌≡◌, ℕ, zero, suc, ◌+◌, ◌<◌, ◌≤◌, Bool, true, false, refl, sym, arith}
+use Rattle.std.proofs.Common.{◌≡◌, ℕ, zero, suc, ◌+◌, ◌<◌, ◌≤◌, Bool, true, false, cond, refl, sym, arith}
 use Rattle.std.proofs.Common.{inl, inr}
 use Rattle.std.proofs.lemmas.Bool.{cases_eq}
 use mathlib.Core.Bool.{or-false}
@@ -51,3 +51,11 @@ one_up_to p (suc n) k l u h = elim (cases_eq k (suc n)) [
       let here : p (suc n) ≡ false = h (suc n) (omega arith) (omega arith) (λ w. other (sym w)) in
       rw (before, here) (or-false (p k)))
 ]
+
+pub count_few : (p : ℕ → Bool) (first n : ℕ) → count_from p first n ≤ n
+count_few p first zero = omega arith
+count_few p first (suc n) = go (p (first + n)) (count_few p first n)
+  where
+    go : (b : Bool) → count_from p first n ≤ n → count_from p first n + cond b 1 0 ≤ suc n
+    go true few = omega arith
+    go false few = omega arith

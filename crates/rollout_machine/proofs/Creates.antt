@@ -15,7 +15,7 @@ use Rattle.rollout_machine.specs.StateWords.{word_from, is_finished}
 use Rattle.rollout_machine.specs.Validity.{IsValid}
 use Rattle.rollout_machine.specs.Verdicts.{verdict, verdict_row, is_waiting}
 use Rattle.rollout_machine.proofs.Counts.{count_none}
-use Rattle.rollout_machine.proofs.Tallies.{no_error_begins}
+use Rattle.rollout_machine.proofs.Tallies.{no_error_begins, none_is}
 use Rattle.rollout_machine.proofs.EffectLaws.{calm_outcome}
 use Rattle.rollout_machine.proofs.Ties.{IsCalm, calm_rollout, same_parts, same_group, same_each}
 use Rattle.rollout_machine.proofs.Actions.{append_none, calm_actions}
@@ -102,11 +102,6 @@ past_all (x ∷ xs) (suc i) e = past_all xs i (omega arith)
 pub length_in : (h : CommandList) (a : ℕ) (xs : List Rollout) → length (rollouts_in h a xs) ≡ length xs
 length_in h a [] = refl
 length_in h a (x ∷ xs) = ap suc (length_in h (suc a) xs)
-
-none_is : (q : Outcome) → is_outcome q None ≡ false
-none_is Good = refl
-none_is Bad = refl
-none_is Gone = refl
 
 no_tally : (q : Outcome) (x : Rollout) (r i : ℕ) (h : CommandList) → ((j : ℕ) → outcome h r j ≡ None) → tally q x r i h ≡ 0
 no_tally q x r i h e = count_none _ _ _ (λ j l u. ap (is_outcome q) (e j) ∙ none_is q)

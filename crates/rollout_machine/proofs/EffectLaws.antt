@@ -1,5 +1,6 @@
 -- The effects that the view alone gives are those of the history.
 use Rattle.std.proofs.Common.{◌≡◌, ℕ, zero, suc, ◌+◌, ◌<◌, ◌≤◌, Bool, true, false, cond, ◌||◌, ◌&&◌, not, refl, sym, ◌∙◌, ap, arith, inl, inr, Some, None}
+use Rattle.std.proofs.Math.Bool.{and-true, or-false, or-true}
 use Rattle.std.specs.Prelude.{nat_lt, nat_eq}
 use Rattle.std.proofs.lemmas.Bool.{cases_eq, cases_lt, ne_eqb, eq-eqb, false≢true, lt-ltb}
 use Rattle.rollout_machine.specs.Actions.{action_of, is_on_action, is_action_place, outcome}
@@ -22,26 +23,14 @@ next_is false n l e = refl
 
 pub opens_by_count : (x : Rollout) (r : ℕ) (h : CommandList) (c : Command) (l : ℕ) → 1 ≤ l → is_trigger_of r c ≡ false → starts_one_more x r h c l ≡ (nat_lt l x.plan.groups.count && (not (is_paused x r (h ▸ c)) && success_holds x r l (h ▸ c)))
 opens_by_count x r h c zero a e = absurd (omega arith)
-opens_by_count x r h c (suc k) a e = ap (λ b. nat_lt (suc k) x.plan.groups.count && ((not (is_paused x r (h ▸ c)) && success_holds x r (suc k) (h ▸ c)) || b)) e ∙ ap (λ b. nat_lt (suc k) x.plan.groups.count && b) (or_false _)
-  where
-    or_false : (b : Bool) → (b || false) ≡ b
-    or_false true = refl
-    or_false false = refl
+opens_by_count x r h c (suc k) a e = ap (λ b. nat_lt (suc k) x.plan.groups.count && ((not (is_paused x r (h ▸ c)) && success_holds x r (suc k) (h ▸ c)) || b)) e ∙ ap (λ b. nat_lt (suc k) x.plan.groups.count && b) (or-false _)
 
 pub opens_by_trigger : (x : Rollout) (r : ℕ) (h : CommandList) (c : Command) (l : ℕ) → 1 ≤ l → is_trigger_of r c ≡ true → starts_one_more x r h c l ≡ nat_lt l x.plan.groups.count
 opens_by_trigger x r h c zero a e = absurd (omega arith)
-opens_by_trigger x r h c (suc k) a e = ap (λ b. nat_lt (suc k) x.plan.groups.count && ((not (is_paused x r (h ▸ c)) && success_holds x r (suc k) (h ▸ c)) || b)) e ∙ ap (λ b. nat_lt (suc k) x.plan.groups.count && b) (or_true _) ∙ and_true _
-  where
-    or_true : (b : Bool) → (b || true) ≡ true
-    or_true true = refl
-    or_true false = refl
-
-    and_true : (b : Bool) → (b && true) ≡ b
-    and_true true = refl
-    and_true false = refl
+opens_by_trigger x r h c (suc k) a e = ap (λ b. nat_lt (suc k) x.plan.groups.count && ((not (is_paused x r (h ▸ c)) && success_holds x r (suc k) (h ▸ c)) || b)) e ∙ ap (λ b. nat_lt (suc k) x.plan.groups.count && b) (or-true _) ∙ and-true _
 
 -- the last started group has no lower number than a group with an action that the command is on
-no_further : (x : Rollout) (r g l : ℕ) (h : CommandList) → IsLast x r h l → is_group_started x r g h ≡ true → g ≤ l
+pub no_further : (x : Rollout) (r g l : ℕ) (h : CommandList) → IsLast x r h l → is_group_started x r g h ≡ true → g ≤ l
 no_further x r g l h w e = elim (cases_lt l g) [ inl more ↦ absurd (false≢true (sym (w.beyond g more) ∙ e)) | inr le ↦ le ]
 
 -- from a view, one more command moves the last started group by what `opens` says

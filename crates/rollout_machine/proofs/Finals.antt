@@ -11,6 +11,7 @@ use Rattle.rollout_machine.specs.StateWords.{all_final}
 use Rattle.std.proofs.Common.{◌≡◌, ℕ, zero, suc, ◌+◌, ◌≤◌, ◌<◌, Bool, true, false, cond, refl, sym, ◌∙◌, ap, arith, Option, Some, None, inl, inr}
 use Rattle.std.specs.Prelude.{is_some}
 use Rattle.std.proofs.lemmas.Bool.{cases_eq, eq-eqb, eqb-true}
+use Rattle.rollout_machine.proofs.Counts.{count_few}
 
 sum_of : (T : ℕ → Option Outcome) (a n : ℕ) → count_from (λ j. is_outcome Good (T j)) a n + count_from (λ j. is_outcome Bad (T j)) a n + count_from (λ j. is_outcome Gone (T j)) a n ≡ count_from (λ j. is_some (T j)) a n
 sum_of T a zero = refl
@@ -22,17 +23,9 @@ sum_of T a (suc n) = go (count_from (λ j. is_outcome Good (T j)) a n) (count_fr
     go g b x s (Some Bad) e = omega (arith, e)
     go g b x s (Some Gone) e = omega (arith, e)
 
-at_most : (p : ℕ → Bool) (a n : ℕ) → count_from p a n ≤ n
-at_most p a zero = omega arith
-at_most p a (suc n) = go (count_from p a n) (p (a + n)) (at_most p a n)
-  where
-    go : (k : ℕ) (b : Bool) → k ≤ n → k + cond b 1 0 ≤ suc n
-    go k true l = omega (arith, l)
-    go k false l = omega (arith, l)
-
 full_to : (p : ℕ → Bool) (a n : ℕ) → count_from p a n ≡ n → (j : ℕ) → a ≤ j → j < a + n → p j ≡ true
 full_to p a zero e j l u = absurd (omega (arith, l, u))
-full_to p a (suc n) e j l u = go (p (a + n)) refl (count_from p a n) refl e (at_most p a n) (λ f. full_to p a n f j l)
+full_to p a (suc n) e j l u = go (p (a + n)) refl (count_from p a n) refl e (count_few p a n) (λ f. full_to p a n f j l)
   where
     go : (b : Bool) → p (a + n) ≡ b → (k : ℕ) → count_from p a n ≡ k → k + cond b 1 0 ≡ suc n → count_from p a n ≤ n → (count_from p a n ≡ n → j < a + n → p j ≡ true) → p j ≡ true
     go false d k c f m ih = absurd (omega (arith, f, m, c))

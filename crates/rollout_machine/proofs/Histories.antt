@@ -9,10 +9,7 @@ use Rattle.rollout_machine.specs.Histories.{first_outcome, FitsHistory, Outcomes
 use Rattle.rollout_machine.specs.Reports.{HistoryEntry, Reported, entries_in, reported_by}
 use Rattle.rollout_machine.proofs.Actions.{append_none, entries_both}
 use Rattle.rollout_machine.proofs.AtNumbers.{has_place}
-
-or_none : (o : Option Outcome) → option_or o None ≡ o
-or_none None = refl
-or_none (Some x) = refl
+use Rattle.rollout_machine.proofs.Tallies.{or_none}
 
 -- entries behind a history that gives no outcome
 first_behind : (es fs : List HistoryEntry) → first_outcome es ≡ None → first_outcome (es ++ fs) ≡ first_outcome fs

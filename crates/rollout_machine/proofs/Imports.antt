@@ -52,7 +52,7 @@ below_trans (x ∷ a) (y ∷ b) (z ∷ c) d e = go (split _ _ _ d) (split _ _ _ 
     go (inr p) (inl q) ih = less (let m : x ≡ y = eqb-true _ _ p.0 in let n : y < z = ltb-true _ _ q in omega (arith, m, n))
     go (inr p) (inr q) ih = second _ _ _ (eq-eqb _ _ (eqb-true _ _ p.0 ∙ eqb-true _ _ q.0)) (ih p.1 q.1)
 
-below_other : (a b : Bytes) → same_bytes a b ≡ false → bytes_below a b ≡ false → bytes_below b a ≡ true
+pub below_other : (a b : Bytes) → same_bytes a b ≡ false → bytes_below a b ≡ false → bytes_below b a ≡ true
 below_other [] [] d e = cc
 below_other [] (y ∷ b) d e = cc
 below_other (x ∷ a) [] d e = refl
@@ -82,7 +82,7 @@ below_other (x ∷ a) (y ∷ b) d e = elim (cases_order x y) [
     rest_below true p q j k l = cc
     rest_below false false q j k l = cc
 
-below_apart : (a b : Bytes) → bytes_below a b ≡ true → same_bytes a b ≡ false
+pub below_apart : (a b : Bytes) → bytes_below a b ≡ true → same_bytes a b ≡ false
 below_apart a b e = elim (cases_Bool (same_bytes a b)) [ inr f ↦ f | inl t ↦ absurd (false≢true (sym (not_self b) ∙ subst (λ (c : Bytes). bytes_below c b ≡ true) (same_true a b t) e)) ]
   where
     not_self : (c : Bytes) → bytes_below c c ≡ false
@@ -139,6 +139,16 @@ sorted_ids (h ▸ c) = sorted_with_all (map (λ (row : TargetRow). row.id) (impo
 pub not_above : (t : Bytes) (vs : List Bytes) → AllAbove t vs → contains_word t vs ≡ false
 not_above t [] a = refl
 not_above t (v ∷ vs) a = rw (below_apart t v a.0, not_above t vs a.1) refl
+
+-- a word that is there changes nothing
+pub with_there : (w : Bytes) (vs : List Bytes) → IsSorted vs → contains_word w vs ≡ true → with_word w vs ≡ vs
+with_there w [] s e = cc
+with_there w (v ∷ vs) s e = go (same_bytes w v) (bytes_below w v) refl refl e (with_there w vs s.1)
+  where
+    go : (a b : Bool) → same_bytes w v ≡ a → bytes_below w v ≡ b → (a || contains_word w vs) ≡ true → (contains_word w vs ≡ true → with_word w vs ≡ vs) → cond a (v ∷ vs) (cond b (w ∷ v ∷ vs) (v ∷ with_word w vs)) ≡ v ∷ vs
+    go true b d k e ih = refl
+    go false true d k e ih = absurd (false≢true (sym (not_above w vs (above_more w v vs k s.0)) ∙ e))
+    go false false d k e ih = ap (λ xs. v ∷ xs) (ih e)
 
 -- ---- one row
 

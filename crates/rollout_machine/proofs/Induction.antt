@@ -1,5 +1,6 @@
 -- What holds of every history of accepted commands.
 use Rattle.std.proofs.Common.{◌≡◌, ℕ, zero, suc, ◌+◌, ◌<◌, ◌≤◌, Bool, true, false, cond, ◌||◌, ◌&&◌, not, List, [], ◌∷◌, ◌++◌, refl, sym, ◌∙◌, ap, subst, arith, inl, inr, ◌⊎◌, Option, Some, None, length}
+use Rattle.std.proofs.Math.Bool.{and-false, or-true}
 use Rattle.std.specs.Prelude.{nat_lt, nat_eq, is_none, slice_get}
 use Rattle.std.specs.Option.{unwrap_or, option_map}
 use Rattle.std.proofs.lemmas.Bool.{cases_Bool, ne_eqb, eq-eqb, and_parts, leb-true, eqb-true, false≢true, or_parts, not-false}
@@ -83,11 +84,7 @@ never_started x r zero h e = refl
 never_started x r (suc zero) h e = e
 never_started x r (suc (suc i)) h e =
     let none : next_started x r (suc i) (is_group_started x r (suc i)) h ≡ false = never_next x r (suc i) (is_group_started x r (suc i)) (λ g d. never_started x r (suc i) g d) h e in
-    rw none (and_false (nat_lt (suc i) x.plan.groups.count))
-  where
-    and_false : (b : Bool) → (b && false) ≡ false
-    and_false true = refl
-    and_false false = refl
+    rw none (and-false (nat_lt (suc i) x.plan.groups.count))
 
 before_start : (x : Rollout) (r : ℕ) (h : CommandList) → HasSoundPlan x → is_rollout_started r h ≡ false → IsFresh r h → IsFollowed x r h 0
 before_start x r h s e f = record {
@@ -192,7 +189,7 @@ goes_on h c w a = record {
   ];
   acted = λ k p e. elim (either_numbered (action_places h) (new_places h c) k p e) [
     | inl old ↦ rw (w.acted k p old) refl
-    | inr new ↦ (let n : IsNewPlace h c p = new_place h c new.1.0 p new.1.1 in rw n.starts (or_true (is_rollout_started p.rollout h)))
+    | inr new ↦ (let n : IsNewPlace h c p = new_place h c new.1.0 p new.1.1 in rw n.starts (or-true (is_rollout_started p.rollout h)))
   ];
   fresh = λ r e. fresh_after h c r w (or_parts _ _ e).0;
   unmade = λ r e. elim (is_there h r) [
@@ -201,10 +198,6 @@ goes_on h c w a = record {
   ];
 }
   where
-    or_true : (b : Bool) → (b || true) ≡ true
-    or_true true = refl
-    or_true false = refl
-
     calm_test : (p s q b : Bool) → p ≡ false → s ≡ false → b ≡ false → ((p || s) || (not q && b)) ≡ false
     calm_test p s true b e f g = rw (e, f) refl
     calm_test p s false b e f g = rw (e, f, g) refl

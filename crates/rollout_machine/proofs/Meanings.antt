@@ -309,7 +309,7 @@ stands_from h r j w =
     let now : cancel_stands (w.before ▸ Cancel w.target w.action w.force) r j ≡ true = rw w.on refl in
     subst (λ (g : CommandList). cancel_stands g r j ≡ true) w.whole (still_stands (w.before ▸ Cancel w.target w.action w.force) w.rest r j w.last now)
 
-is_open : (o : Option Outcome) → is_none o ≡ true → o ≡ None
+pub is_open : (o : Option Outcome) → is_none o ≡ true → o ≡ None
 is_open None e = refl
 is_open (Some o) e = cc
 

@@ -6,7 +6,7 @@ use Rattle.std.proofs.lemmas.Bool.{and_parts}
 use Rattle.rollout_machine.specs.Actions.{ActionPlace, action_places, action_place, outcome}
 use Rattle.rollout_machine.specs.ByteStrings.{item_numbered, same_bytes}
 use Rattle.rollout_machine.specs.CommandList.{CommandList}
-use Rattle.rollout_machine.specs.Commands.{Bytes, Outcome}
+use Rattle.rollout_machine.specs.Commands.{Bytes}
 use Rattle.rollout_machine.specs.Effects.{HasSoundPlan}
 use Rattle.rollout_machine.specs.Meanings.{IsOfferable, IsLeastOffer, OfferIsLeast}
 use Rattle.rollout_machine.specs.Offers.{Offer, first_offer, offer}
@@ -24,7 +24,7 @@ use Rattle.rollout_machine.proofs.Cuts.{group_of}
 use Rattle.rollout_machine.proofs.Whole.{rollout_numbered}
 use Rattle.rollout_machine.proofs.Valid.{found_action}
 use Rattle.rollout_machine.proofs.TargetTies.{same_refl, same_true}
-use Rattle.rollout_machine.proofs.Meanings.{is_candidate, least_offer, none_from}
+use Rattle.rollout_machine.proofs.Meanings.{is_candidate, is_open as is_open_of, least_offer, none_from}
 use Rattle.rollout_machine.proofs.Induction.{invariant_of}
 
 pub record IsOffered (rs : Records) (t : Bytes) (k : ℕ) (actions : List ActionRecord) (o : Offer) : Type 0 where
@@ -53,18 +53,14 @@ offered_one rs t k (a ∷ rest) o e = go (is_none a.outcome && (is_for rs t a &&
         let n : k ≡ o.action = ap (λ (v : Offer). v.action) same in
         record { index = 0; action = a; there = refl; number = omega (arith, n); is_open = parts.0; device = more.0; started = more.1; kind = sym (ap (λ (v : Offer). v.canceling) same) }
 
-some_item : {X : Type 0} (xs : List X) (j : ℕ) → 1 ≤ j → j ≤ length xs → (m : X) × (item_numbered xs j ≡ Some m)
+pub some_item : {X : Type 0} (xs : List X) (j : ℕ) → 1 ≤ j → j ≤ length xs → (m : X) × (item_numbered xs j ≡ Some m)
 some_item xs zero a b = absurd (omega (arith, a))
 some_item [] (suc j) a b = absurd (omega (arith, b))
 some_item (x ∷ xs) (suc zero) a b = (x, refl)
 some_item (x ∷ xs) (suc (suc j)) a b = some_item xs (suc j) (omega arith) (omega (arith, b))
 
-is_open_of : (o : Option Outcome) → is_none o ≡ true → o ≡ None
-is_open_of None e = refl
-is_open_of (Some o) e = cc
-
 -- what is for a target is of its member
-member_is : (h : CommandList) (t : Bytes) (p : ActionPlace) (w : IsPlace h p) → is_for (records h) t (action_in h p) ≡ true → item_numbered w.rollout.members p.position ≡ Some t
+pub member_is : (h : CommandList) (t : Bytes) (p : ActionPlace) (w : IsPlace h p) → is_for (records h) t (action_in h p) ≡ true → item_numbered w.rollout.members p.position ≡ Some t
 unfolding records
 member_is h t p w e =
     let (m, there) = some_item w.rollout.members p.position w.low w.high in

@@ -4,7 +4,7 @@ use Rattle.rollout_machine.specs.Requests.{Asked, Rejected, Asks, Do, Ask}
 use Rattle.rollout_machine.proofs.Answering.{rejected_answer, query_answer, refused_answer, accepted_step}
 use Rattle.rollout_model.specs.declared.refusal.Refusal.{Refusal}
 use Rattle.rollout_machine.specs.Actions.{ActionPlace, action_places, action_place}
-use Rattle.rollout_machine.specs.ByteStrings.{contains_word, with_words, same_bytes, same_words, bytes_below, with_word}
+use Rattle.rollout_machine.specs.ByteStrings.{contains_word, with_words, same_bytes, same_words, with_word}
 use Rattle.rollout_machine.specs.CommandList.{CommandList, ◌▸◌, Make}
 use Rattle.rollout_machine.specs.Commands.{Command, Feedback, Bytes, PutTargets, TargetRow, CancelFeedback}
 use Rattle.rollout_machine.specs.RecordSteps.{step_records}
@@ -18,7 +18,7 @@ use Rattle.std.proofs.Common.{List, [], ◌∷◌, ◌||◌, cond, Option, None,
 use Rattle.std.specs.Prelude.{map, ⊤}
 use Rattle.std.specs.Option.{option_or, unwrap_or}
 use Rattle.std.proofs.lemmas.Bool.{false≢true, cases_Bool}
-use Rattle.rollout_machine.proofs.Imports.{IsSorted, sorted_ids, not_above, above_more, never_with}
+use Rattle.rollout_machine.proofs.Imports.{IsSorted, sorted_ids, never_with, with_there}
 use Rattle.rollout_machine.proofs.TargetTies.{same_refl, same_true, has_with}
 use Rattle.rollout_machine.proofs.EffectLaws.{calm_outcome}
 use Rattle.rollout_machine.proofs.Actions.{calm_actions}
@@ -32,22 +32,13 @@ use Rattle.std.proofs.lemmas.Bool.{and_parts}
 
 -- ---- an import that comes twice
 
-same_with : (w : Bytes) (vs : List Bytes) → IsSorted vs → contains_word w vs ≡ true → with_word w vs ≡ vs
-same_with w [] s e = cc
-same_with w (v ∷ vs) s e = go (same_bytes w v) (bytes_below w v) refl refl e (same_with w vs s.1)
-  where
-    go : (a b : Bool) → same_bytes w v ≡ a → bytes_below w v ≡ b → (a || contains_word w vs) ≡ true → (contains_word w vs ≡ true → with_word w vs ≡ vs) → cond a (v ∷ vs) (cond b (w ∷ v ∷ vs) (v ∷ with_word w vs)) ≡ v ∷ vs
-    go true b d k e ih = refl
-    go false true d k e ih = absurd (false≢true (sym (not_above w vs (above_more w v vs k s.0)) ∙ e))
-    go false false d k e ih = ap (λ xs. v ∷ xs) (ih e)
-
 abbrev AllIn : List Bytes → List Bytes → Type 0
 AllIn [] vs = ⊤
 AllIn (w ∷ ws) vs = (contains_word w vs ≡ true) × AllIn ws vs
 
 same_with_all : (ws vs : List Bytes) → IsSorted vs → AllIn ws vs → with_words ws vs ≡ vs
 same_with_all [] vs s a = refl
-same_with_all (w ∷ ws) vs s a = ap (with_words ws) (same_with w vs s a.0) ∙ same_with_all ws vs s a.1
+same_with_all (w ∷ ws) vs s a = ap (with_words ws) (with_there w vs s a.0) ∙ same_with_all ws vs s a.1
 
 stays_in : (w : Bytes) (ws vs : List Bytes) → contains_word w vs ≡ true → contains_word w (with_words ws vs) ≡ true
 stays_in w ws vs e = elim (cases_Bool (contains_word w (with_words ws vs))) [ inl t ↦ t | inr f ↦ absurd (false≢true (sym (never_with w ws vs f) ∙ e)) ]

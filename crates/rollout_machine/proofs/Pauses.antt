@@ -7,7 +7,7 @@ use Rattle.rollout_machine.specs.Commands.{Resume, Start, Command}
 use Rattle.rollout_machine.specs.Meanings.{NoResume, SomePause, PausedIs, StartIsIn, FirstStartedIs}
 use Rattle.rollout_machine.specs.Progress.{is_rollout_started, is_start_of, is_paused, pause_begins, is_resume_of}
 use Rattle.rollout_machine.specs.Rollouts.{Rollout}
-use Rattle.rollout_machine.proofs.Meanings.{pause_begins_to, pause_begins_from, longer}
+use Rattle.rollout_machine.proofs.Meanings.{one_more, pause_begins_to, pause_begins_from, longer}
 use Rattle.std.proofs.Common.{inl, inr, ◌⊎◌}
 
 abbrev pub NoneResumes : ℕ → List Command → Type 0
@@ -22,10 +22,6 @@ pub record PauseAt (x : Rollout) (r : ℕ) (h : CommandList) : Type 0 where
   pub whole : followed_by (before ▸ at_command) rest ≡ h
   pub begins : pause_begins x r before at_command ≡ true
   pub no_resume : NoneResumes r rest
-
-one_more : (h : CommandList) (cs : List Command) (c : Command) → followed_by h (cs ++ c ∷ []) ≡ followed_by h cs ▸ c
-one_more h [] c = refl
-one_more h (d ∷ cs) c = one_more (h ▸ d) cs c
 
 no_more : (r : ℕ) (cs : List Command) (c : Command) → NoneResumes r cs → is_resume_of r c ≡ false → NoneResumes r (cs ++ c ∷ [])
 no_more r [] c w e = (e, tt)

@@ -6,6 +6,7 @@ use Rattle.rollout_machine.specs.Effects.{IsLast}
 use Rattle.rollout_machine.specs.Progress.{is_group_started, is_paused, next_started, is_trigger_of}
 use Rattle.rollout_machine.specs.Promises.{StartsGroup, NoGroupIsLeft}
 use Rattle.rollout_machine.specs.Rollouts.{Rollout, rollout_at}
+use Rattle.rollout_machine.proofs.EffectLaws.{no_further}
 use Rattle.rollout_machine.proofs.Starts.{starts_one_more, last_made}
 use Rattle.rollout_machine.proofs.Ties.{IsCalm, IsFollowed, calm_last, follow_on}
 use Rattle.rollout_machine.proofs.Whole.{IsAccepted}
@@ -25,18 +26,7 @@ behind x r i l h last e low = go (cases i l) where
   go (inl u) = absurd (false≢true (sym e ∙ last.up_to i low u))
   go (inr u) = u
 
-at_most : (x : Rollout) (r i l : ℕ) (h : CommandList) → IsLast x r h l → is_group_started x r i h ≡ true → i ≤ l
-at_most x r i l h last e = go (cases i l) where
-  cases : (a b : ℕ) → (a ≤ b) ⊎ (b < a)
-  cases zero b = inl (omega arith)
-  cases (suc a) zero = inr (omega arith)
-  cases (suc a) (suc b) = elim (cases a b) [ inl u ↦ inl (omega (arith, u)) | inr u ↦ inr (omega (arith, u)) ]
-
-  go : (i ≤ l) ⊎ (l < i) → i ≤ l
-  go (inl u) = u
-  go (inr u) = absurd (false≢true (sym (last.beyond i u) ∙ e))
-
-positive : (x : Rollout) (r i : ℕ) (h : CommandList) → is_group_started x r i h ≡ true → 1 ≤ i
+pub positive : (x : Rollout) (r i : ℕ) (h : CommandList) → is_group_started x r i h ≡ true → 1 ≤ i
 positive x r zero h e = absurd (false≢true e)
 positive x r (suc i) h e = omega arith
 
@@ -44,7 +34,7 @@ positive x r (suc i) h e = omega arith
 pub next_starts : (x : Rollout) (r i l : ℕ) (h : CommandList) (c : Command) (b : Bool) → IsLast x r h l → IsLast x r (h ▸ c) (cond b (suc l) l) → StartsGroup x r i h c → i ≡ suc l
 next_starts x r i l h c b last next s =
     let low : l < i = behind x r i l h last s.before (positive x r i (h ▸ c) s.now) in
-    let high : i ≤ cond b (suc l) l = at_most x r i (cond b (suc l) l) (h ▸ c) next s.now in
+    let high : i ≤ cond b (suc l) l = no_further x r i (cond b (suc l) l) (h ▸ c) next s.now in
     go b high low where
       go : (b : Bool) → i ≤ cond b (suc l) l → l < i → i ≡ suc l
       go true high low = omega (arith, high, low)

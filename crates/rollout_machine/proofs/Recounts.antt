@@ -15,6 +15,7 @@ use Rattle.rollout_machine.specs.Validity.{IsValid}
 use Rattle.rollout_machine.specs.Verdicts.{verdict, verdict_row, is_ready}
 use Rattle.rollout_machine.specs.declared.bounds.Bounds.{Bounds}
 use Rattle.rollout_machine.proofs.Counts.{count_same, count_none}
+use Rattle.rollout_machine.proofs.Tallies.{none_is}
 use Rattle.rollout_machine.proofs.Distinct.{position_at}
 use Rattle.rollout_machine.proofs.Induction.{invariant_of, word_at, ready_not_begun, stays_numbered, found_rollout}
 use Rattle.rollout_machine.proofs.Ties.{IsFollowed, groups_go}
@@ -140,11 +141,6 @@ over_places : (o : Outcome) (r : ℕ) (b : Bounds) (h : CommandList) (ps : List 
 over_places o r b h [] = refl
 over_places o r b h (p ∷ ps) = rw (over_places o r b h ps) refl
 
-none_counted : (o : Outcome) → is_outcome o None ≡ false
-none_counted Good = refl
-none_counted Bad = refl
-none_counted Gone = refl
-
 pub tally_is : (o : Outcome) (x : Rollout) (r i : ℕ) (h : CommandList) → IsValid h → rollout_at h r ≡ Some x → 1 ≤ i → i ≤ x.plan.groups.count → count_actions o r (bounds_in x i) (map (action_in h) (action_places h)) ≡ tally o x r i h
 tally_is o x r i h v d a u = over_places o r (bounds_in x i) h (action_places h) ∙ placed_count (is_counted o r (bounds_in x i) h) r (size_of x) only h v same_size ∙ go (is_rollout_started r h) refl where
   only : OnlyOf r (is_counted o r (bounds_in x i) h)
@@ -157,7 +153,7 @@ tally_is o x r i h v d a u = over_places o r (bounds_in x i) h (action_places h)
   sound = (invariant_of h v).follows r x d
 
   go : (b : Bool) → is_rollout_started r h ≡ b → cond b (count_where (is_counted o r (bounds_in x i) h) (places_from r 1 (size_of x))) 0 ≡ tally o x r i h
-  go false e = sym (count_none _ _ _ (λ j l w. ap (is_outcome o) (((invariant_of h v).fresh r e).outcome j) ∙ none_counted o))
+  go false e = sym (count_none _ _ _ (λ j l w. ap (is_outcome o) (((invariant_of h v).fresh r e).outcome j) ∙ none_is o))
   go true e =
       of_own (is_counted o r (bounds_in x i) h) r 1 (size_of x)
       ∙ count_same (λ j. is_counted o r (bounds_in x i) h (record { rollout = r; position = j })) (λ j. holds_position j (bounds_in x i) && is_outcome o (outcome h r j)) 1 (size_of x) (λ j l w. rw (eq-eqb r r refl) refl)

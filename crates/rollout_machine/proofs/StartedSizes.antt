@@ -1,5 +1,5 @@
 -- No more actions than the members of all rollouts: each rollout is started once.
-use Rattle.std.proofs.Common.{◌≡◌, ℕ, zero, suc, ◌+◌, ◌*◌, ◌≤◌, Bool, true, false, cond, ◌||◌, List, [], ◌∷◌, ◌++◌, length, refl, ap, subst, arith, Some, None}
+use Rattle.std.proofs.Common.{◌≡◌, ℕ, zero, suc, ◌+◌, ◌*◌, ◌≤◌, Bool, true, false, cond, List, [], ◌∷◌, ◌++◌, length, refl, ap, subst, arith, Some, None}
 use Rattle.std.specs.Prelude.{slice_get}
 use Rattle.std.proofs.lemmas.Bool.{eq-eqb}
 use Rattle.rollout_machine.specs.Actions.{action_places}
@@ -54,10 +54,6 @@ sizes_few : (h : CommandList) → IsValid h → started_sizes h ≤ members_wher
 sizes_few (Make approval) valid = omega arith
 sizes_few (h ▸ c) valid = go c valid.2 (sizes_few h valid.0)
   where
-    or_true : (b : Bool) → (b || true) ≡ true
-    or_true true = refl
-    or_true false = refl
-
     wider : (c : Command) → IsWider (begun_at h) (begun_at (h ▸ c))
     wider c r e = rw e refl
 

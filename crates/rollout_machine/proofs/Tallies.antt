@@ -1,5 +1,6 @@
 -- How one command changes the outcomes and the counts of a rollout's groups.
 use Rattle.std.proofs.Common.{◌≡◌, ℕ, zero, suc, ◌+◌, ◌*◌, ◌≤◌, Bool, true, false, cond, ◌||◌, ◌&&◌, not, refl, sym, ◌∙◌, ap, subst, arith, inl, inr, Option, Some, None}
+use Rattle.std.proofs.Math.Bool.{and-false}
 use Rattle.std.specs.Prelude.{nat_le, nat_eq}
 use Rattle.std.specs.Option.{option_or}
 use Rattle.std.proofs.lemmas.Bool.{cases_eq, cases_Bool, lt-leb, ne_eqb, false≢true}
@@ -15,7 +16,7 @@ use Rattle.rollout_machine.proofs.Counts.{count_same, count_none, count_one, non
 use Rattle.rollout_machine.proofs.Cuts.{one_group, size_positive}
 use Rattle.rollout_machine.proofs.Starts.{kept_started}
 
-or_none : (o : Option Outcome) → option_or o None ≡ o
+pub or_none : (o : Option Outcome) → option_or o None ≡ o
 or_none None = refl
 or_none (Some x) = refl
 
@@ -59,14 +60,10 @@ outcomes_after x r h c s o = record { none = λ i j a w e. still_open x r h c s 
 pub tally_same : (q : Outcome) (x : Rollout) (r i : ℕ) (h : CommandList) (c : Command) → ((j : ℕ) → IsInGroup x i j → outcome (h ▸ c) r j ≡ outcome h r j) → tally q x r i (h ▸ c) ≡ tally q x r i h
 tally_same q x r i h c e = count_same _ _ _ _ (λ j l u. ap (is_outcome q) (e j (record { low = l; high = u })))
 
-and_false : (b : Bool) → (b && false) ≡ false
-and_false true = refl
-and_false false = refl
-
 pub others : (x : Rollout) (r g j : ℕ) (h : CommandList) (c : Command) (o : Outcome) → GetsOutcome x r g j h c o → (k : ℕ) → (k ≡ j → ⊥) → outcome (h ▸ c) r k ≡ outcome h r k
-others x r g j h c o w k ne = untouched h c r k (ap (λ p. is_action_place p r k) w.on ∙ ap (λ b. nat_eq r r && b) (ne_eqb j k (λ e. ne (sym e))) ∙ and_false (nat_eq r r))
+others x r g j h c o w k ne = untouched h c r k (ap (λ p. is_action_place p r k) w.on ∙ ap (λ b. nat_eq r r && b) (ne_eqb j k (λ e. ne (sym e))) ∙ and-false (nat_eq r r))
 
-none_is : (q : Outcome) → is_outcome q None ≡ false
+pub none_is : (q : Outcome) → is_outcome q None ≡ false
 none_is Good = refl
 none_is Bad = refl
 none_is Gone = refl

@@ -4,11 +4,11 @@ use Rattle.rollout_machine.specs.CommandList.{Make, CommandList, ◌▸◌, foll
 use Rattle.rollout_machine.specs.Commands.{Attribute, PutAttributes, Bytes, PutTargets, TargetRow, Command}
 use Rattle.rollout_machine.specs.Meanings.{NotNamed, ValueIsLast, RowIsLast, last_given, TargetsAreNamed, NeverNamed, last_value, value_of, LastRow}
 use Rattle.rollout_machine.specs.Targets.{with_attributes, with_attribute, import_rows_of, last_row_of, target_ids, last_row_for, attributes_in}
-use Rattle.std.proofs.Common.{◌≡◌, Bool, true, false, cond, ◌||◌, List, [], ◌∷◌, ◌++◌, refl, sym, ◌∙◌, ap, subst, Option, Some, None, inl, inr}
+use Rattle.std.proofs.Common.{◌≡◌, Bool, true, false, cond, ◌||◌, List, [], ◌∷◌, ◌++◌, refl, sym, ◌∙◌, ap, subst, Option, Some, None}
 use Rattle.std.specs.Prelude.{map, is_some}
 use Rattle.std.specs.Option.{option_or}
-use Rattle.std.proofs.lemmas.Bool.{cases_Bool, false≢true}
-use Rattle.rollout_machine.proofs.TargetTies.{same_refl, same_true, has_with}
+use Rattle.std.proofs.lemmas.Bool.{false≢true}
+use Rattle.rollout_machine.proofs.TargetTies.{same_by, same_sym, same_true, has_with}
 use Rattle.rollout_machine.proofs.Meanings.{row_is_last}
 
 -- ---- the last row
@@ -34,18 +34,6 @@ pub row_is_the_last : RowIsLast
 row_is_the_last h t row = (row_is_last h t row, row_from h t row)
 
 -- ---- who is there
-
-same_sym : (a b : Bytes) → same_bytes a b ≡ same_bytes b a
-same_sym a b = elim (cases_Bool (same_bytes a b)) [
-  | inl t ↦ (let e : a ≡ b = same_true a b t in rw e refl)
-  | inr f ↦ (elim (cases_Bool (same_bytes b a)) [
-    | inl t ↦ absurd (false≢true (sym f ∙ by_equal a b (sym (same_true b a t))))
-    | inr g ↦ f ∙ sym g
-  ])
-]
-  where
-    by_equal : (a b : Bytes) → a ≡ b → same_bytes a b ≡ true
-    by_equal a b e = rw e (same_refl b)
 
 named_in : (t : Bytes) (rows : List TargetRow) (vs : List Bytes) → contains_word t (with_words (map (λ (row : TargetRow). row.id) rows) vs) ≡ (is_some (last_row_for t rows) || contains_word t vs)
 named_in t [] vs = refl
@@ -83,14 +71,11 @@ value_with k a (b ∷ bs) = go (same_bytes a.key b.key) (bytes_below a.key b.key
     apart true false e = refl
     apart false t e = refl
 
-    by_equal : (a b : Bytes) → a ≡ b → same_bytes a b ≡ true
-    by_equal a b e = rw e (same_refl b)
-
     go : (s b' : Bool) → same_bytes a.key b.key ≡ s → value_of k (with_attribute a bs) ≡ cond (same_bytes a.key k) (Some a.value) (value_of k bs)
         → value_of k (cond s (a ∷ bs) (cond b' (a ∷ b ∷ bs) (b ∷ with_attribute a bs))) ≡ cond (same_bytes a.key k) (Some a.value) (cond (same_bytes b.key k) (Some b.value) (value_of k bs))
     go true b' e ih = skips (same_bytes a.key k) (same_bytes b.key k) (ap (λ i. same_bytes i k) (same_true a.key b.key e))
     go false true e ih = refl
-    go false false e ih = ap (λ o. cond (same_bytes b.key k) (Some b.value) o) ih ∙ apart (same_bytes a.key k) (same_bytes b.key k) (λ p q. false≢true (sym e ∙ by_equal a.key b.key (same_true a.key k p ∙ sym (same_true b.key k q))))
+    go false false e ih = ap (λ o. cond (same_bytes b.key k) (Some b.value) o) ih ∙ apart (same_bytes a.key k) (same_bytes b.key k) (λ p q. false≢true (sym e ∙ same_by a.key b.key (same_true a.key k p ∙ sym (same_true b.key k q))))
 
 values_with : (k : Bytes) (new bs : List Attribute) → value_of k (with_attributes new bs) ≡ option_or (last_given k new) (value_of k bs)
 values_with k [] bs = refl

@@ -1,9 +1,11 @@
 -- The targets' records after a change of their tags or attributes.
-use Rattle.std.proofs.Common.{◌≡◌, Bool, true, false, cond, ◌||◌, ◌&&◌, not, List, [], ◌∷◌, refl, sym, ◌∙◌, ap, Option, Some, None}
+use Rattle.std.proofs.Common.{◌≡◌, ℕ, arith, ap₂, Bool, true, false, cond, ◌||◌, ◌&&◌, not, List, [], ◌∷◌, refl, sym, ◌∙◌, ap, Option, Some, None}
 use Rattle.std.specs.Prelude.{map, nat_eq}
 use Rattle.std.specs.Option.{unwrap_or}
 use Rattle.std.proofs.lemmas.Bool.{cases_Bool, eq-eqb, eqb-true, false≢true, and_parts}
 use Rattle.std.proofs.Common.{inl, inr}
+use Rattle.std.proofs.lemmas.Bool.Decides.{nat_tests}
+use Rattle.std.specs.Cmp.Lexicographic.{pointwise}
 use Rattle.rollout_machine.specs.Actions.{action_places}
 use Rattle.rollout_machine.specs.ByteStrings.{same_bytes, bytes_below, contains_word, with_word, without_word, sorted_words}
 use Rattle.rollout_machine.specs.CommandList.{CommandList, Make, ◌▸◌}
@@ -85,6 +87,25 @@ same_true (x ∷ xs) (y ∷ ys) e =
     let tail : xs ≡ ys = same_true xs ys parts.1 in
     rw (head, tail) refl
 
+pub same_by : (w v : Bytes) → w ≡ v → same_bytes w v ≡ true
+same_by w v e = rw e (same_refl v)
+
+pub same_sym : (w v : Bytes) → same_bytes w v ≡ same_bytes v w
+same_sym [] [] = refl
+same_sym [] (y ∷ ys) = refl
+same_sym (x ∷ xs) [] = refl
+same_sym (x ∷ xs) (y ∷ ys) = ap₂ ◌&&◌ (turned x y) (same_sym xs ys)
+  where
+    turned : (x y : ℕ) → nat_eq x y ≡ nat_eq y x
+    turned x y = grind (arith, nat_tests)
+
+-- as the code compares them
+pub same_pointwise : (w v : Bytes) → pointwise nat_eq w v ≡ same_bytes w v
+same_pointwise [] [] = refl
+same_pointwise [] (y ∷ ys) = refl
+same_pointwise (x ∷ xs) [] = refl
+same_pointwise (x ∷ xs) (y ∷ ys) = ap (λ b. nat_eq x y && b) (same_pointwise xs ys)
+
 pub has_with : (x y : Bytes) (ws : List Bytes) → contains_word x (with_word y ws) ≡ (same_bytes x y || contains_word x ws)
 has_with x y [] = refl
 has_with x y (v ∷ vs) = go (has_with x y vs) (same_bytes y v) (bytes_below y v) refl
@@ -104,7 +125,7 @@ has_with x y (v ∷ vs) = go (has_with x y vs) (same_bytes y v) (bytes_below y v
     go rest false true e = refl
     go rest false false e = ap (λ t. same_bytes x v || t) rest ∙ swap (same_bytes x y) (same_bytes x v) (contains_word x vs)
 
-has_without : (x y : Bytes) (ws : List Bytes) → contains_word x (without_word y ws) ≡ (not (same_bytes x y) && contains_word x ws)
+pub has_without : (x y : Bytes) (ws : List Bytes) → contains_word x (without_word y ws) ≡ (not (same_bytes x y) && contains_word x ws)
 has_without x y [] = false_right (not (same_bytes x y))
   where
     false_right : (b : Bool) → false ≡ (b && false)
@@ -112,9 +133,6 @@ has_without x y [] = false_right (not (same_bytes x y))
     false_right false = refl
 has_without x y (v ∷ vs) = go (has_without x y vs) (same_bytes y v) (same_bytes x v) refl refl
   where
-    same_by : (a b : Bytes) → a ≡ b → same_bytes a b ≡ true
-    same_by a b s = rw s (same_refl b)
-
     go : contains_word x (without_word y vs) ≡ (not (same_bytes x y) && contains_word x vs) → (s t : Bool) → same_bytes y v ≡ s → same_bytes x v ≡ t → contains_word x (cond s (without_word y vs) (v ∷ without_word y vs)) ≡ (not (same_bytes x y) && (t || contains_word x vs))
     go rest true true e d =
         let ev : y ≡ v = same_true y v e in
@@ -128,7 +146,7 @@ has_without x y (v ∷ vs) = go (has_without x y vs) (same_bytes y v) (same_byte
         rw (d, other) refl
     go rest false false e d = rw d rest
 
-has_sorted : (x : Bytes) (ws : List Bytes) → contains_word x (sorted_words ws) ≡ contains_word x ws
+pub has_sorted : (x : Bytes) (ws : List Bytes) → contains_word x (sorted_words ws) ≡ contains_word x ws
 has_sorted x [] = refl
 has_sorted x (w ∷ ws) = has_with x w (sorted_words ws) ∙ ap (λ t. same_bytes x w || t) (has_sorted x ws)
 

@@ -1,5 +1,6 @@
 -- A rollout's record after one more command, from its record before it.
 use Rattle.std.proofs.Common.{◌≡◌, ℕ, zero, suc, ◌+◌, ◌-◌, ◌<◌, ◌≤◌, Bool, true, false, cond, ◌||◌, ◌&&◌, not, List, [], ◌∷◌, refl, sym, ◌∙◌, ap, subst, arith, inl, inr, Option, Some, None}
+use Rattle.std.proofs.Math.Bool.{and-false, or-false, or-true}
 use Rattle.std.specs.Prelude.{nat_lt, nat_eq, map}
 use Rattle.std.specs.Option.{option_or}
 use Rattle.std.proofs.lemmas.Bool.{cases_eq, cases_Bool, cases_lt, cases_order, ne_eqb, eq-eqb, ltb-true}
@@ -56,15 +57,11 @@ holding_from x r h a (suc n) g j s l u w = elim (cases_eq a g) [
   | inl same ↦ rw same (rw (held x g j w) refl)
   | inr other ↦ (let less : suc a ≤ g = omega (arith, apart a g l other) in
       let past : nat_le j (last_of x a) ≡ false = lt-leb _ _ (omega (arith, s.cut.rises a (g - 1) (omega arith), w.low)) in
-      rw past (rw (and_false (nat_le (first_of x a) j)) (holding_from x r h (suc a) n g j s less (omega arith) w)))
+      rw past (rw (and-false (nat_le (first_of x a) j)) (holding_from x r h (suc a) n g j s less (omega arith) w)))
 ]
   where
     apart : (a i : ℕ) → a ≤ i → (a ≡ i → ⊥) → suc a ≤ i
     apart a i l ne = omega arith
-
-    and_false : (b : Bool) → (b && false) ≡ false
-    and_false true = refl
-    and_false false = refl
 
 -- the group that holds a position is found by its bounds
 pub find_holding : (x : Rollout) (r : ℕ) (h : CommandList) (g j : ℕ) → HasSoundPlan x → IsOwnGroup x g j → group_holding j (each_from (group_in x r h) 1 x.plan.groups.count) ≡ Some (group_in x r h g)
@@ -124,12 +121,8 @@ same_started x r l h h' w w' i a = elim (cases_lt l i) [
   | inr le ↦ w'.up_to i a le ∙ sym (w.up_to i a le)
 ]
 
-or_false : (b : Bool) → (b || false) ≡ b
-or_false true = refl
-or_false false = refl
-
 pub started_by : (x : Rollout) (r l n : ℕ) (h h' : CommandList) (b : Bool) → n ≡ l → IsLast x r h l → IsLast x r h' (last_with (next_if b n) l) → (i : ℕ) → 1 ≤ i → is_group_started x r i h' ≡ (is_group_started x r i h || is_item_number i (next_if b n))
-started_by x r l n h h' false e w w' i a = same_started x r l h h' w w' i a ∙ sym (or_false (is_group_started x r i h))
+started_by x r l n h h' false e w w' i a = same_started x r l h h' w w' i a ∙ sym (or-false (is_group_started x r i h))
 started_by x r l n h h' true e w w' i a = elim (cases_order i (n + 1)) [
   | inl same ↦ (let now : is_group_started x r i h' ≡ true = w'.up_to i a (omega arith) in
       let was : is_group_started x r i h ≡ false = w.beyond i (omega arith) in
@@ -204,7 +197,7 @@ calm_last x r l h c f s w = let moved : IsLast x r (h ▸ c) (cond (starts_one_m
 
 pub calm_rollout : (x : Rollout) (r l : ℕ) (h : CommandList) (c : Command) (a : Approval) → IsFollowed x r h l → StartedOnly x r h c → IsCalm r h c → approval_of r (h ▸ c) ≡ a → rollout_in (h ▸ c) r x ≡ record (rollout_in h r x) { approval = a }
 calm_rollout x r l h c a f s w e =
-    same_parts r x _ _ _ _ _ _ _ _ e (rw w.starts (or_false (is_rollout_started r h))) (calm_paused x r h c w)
+    same_parts r x _ _ _ _ _ _ _ _ e (rw w.starts (or-false (is_rollout_started r h))) (calm_paused x r h c w)
     (same_each (group_in x r (h ▸ c)) (group_in x r h) 1 x.plan.groups.count (λ i b u.
     same_group i (bounds_in x i) _ _ _ _ _ _ _ _ (same_started x r l h (h ▸ c) f.is_last (calm_last x r l h c f s w) i b)
     (calm_tally Good x r i h c w) (calm_tally Bad x r i h c w) (calm_tally Gone x r i h c w)))
@@ -238,7 +231,7 @@ outcome_rollout o x r g j l h c f s pos w =
     let e : Effects = record { pauses = feedback_pauses v o; starts = starts_next v (v.paused || feedback_pauses v o) (good_after v o) } in
     let after : (is_paused x r (h ▸ c) ≡ (e.pauses || is_paused x r h)) × IsLast x r (h ▸ c) (last_with e.starts l) = feedback_follows v o e refl refl x r g j l h c view s w in
     let calm : (is_pause_of r c ≡ false) × (is_resume_of r c ≡ false) × (is_trigger_of r c ≡ false) × (is_start_of r c ≡ false) = quiet h c _ r w.on in
-    same_parts r x _ _ _ _ _ _ _ _ (same_approval r h c (undecided w.on)) (rw calm.3 (or_false (is_rollout_started r h))) after.0
+    same_parts r x _ _ _ _ _ _ _ _ (same_approval r h c (undecided w.on)) (rw calm.3 (or-false (is_rollout_started r h))) after.0
     (groups_go (λ q. start_group e.starts (counted o g q)) x r h (h ▸ c) (λ i a u.
     counted_at o x r g j i h c e.starts f.sound w a (started_by x r l v.last.number h (h ▸ c) _ (view.last.number) f.is_last after.1 i a))
     ∙ sym (twice (counted o g) (start_group e.starts) (each_from (group_in x r h) 1 x.plan.groups.count)))
@@ -261,7 +254,7 @@ resume_rollout x r l h f pos =
     let view : IsView v x r l l h = subst P (sym last) (views x r l l h f pos pos f.is_last.within) in
     let e : Effects = record { pauses = false; starts = starts_next v false v.last.ok } in
     let after : (is_paused x r (h ▸ Resume r) ≡ e.pauses) × IsLast x r (h ▸ Resume r) (last_with e.starts l) = resume_follows v e refl refl x r l l h pos view in
-    same_parts r x _ _ _ _ _ _ _ _ (same_approval r h (Resume r) refl) (or_false (is_rollout_started r h)) after.0
+    same_parts r x _ _ _ _ _ _ _ _ (same_approval r h (Resume r) refl) (or-false (is_rollout_started r h)) after.0
     (groups_go (start_group e.starts) x r h (h ▸ Resume r) (λ i a u.
     same_counts x r i h (Resume r) e.starts refl (started_by x r l v.last.number h (h ▸ Resume r) _ view.last.number f.is_last after.1 i a)))
 
@@ -273,7 +266,7 @@ trigger_rollout x r l h f pos =
     let e : Effects = record { pauses = false; starts = next_if (nat_lt v.last.number v.groups) v.last.number } in
     let after : (is_paused x r (h ▸ TriggerNext r) ≡ (e.pauses || is_paused x r h)) × IsLast x r (h ▸ TriggerNext r) (last_with e.starts l) = trigger_follows v e refl refl x r l l h pos view in
     let number : v.last.number ≡ last_started (each_from (group_in x r h) 1 x.plan.groups.count) = view.last.number ∙ sym last in
-    same_parts r x _ _ _ _ _ _ _ _ (same_approval r h (TriggerNext r) refl) (or_false (is_rollout_started r h)) after.0
+    same_parts r x _ _ _ _ _ _ _ _ (same_approval r h (TriggerNext r) refl) (or-false (is_rollout_started r h)) after.0
     (groups_go (start_group e.starts) x r h (h ▸ TriggerNext r) (λ i a u.
     same_counts x r i h (TriggerNext r) e.starts refl (started_by x r l v.last.number h (h ▸ TriggerNext r) _ view.last.number f.is_last after.1 i a))
     ∙ ap (λ n. map (start_group (next_if (nat_lt n x.plan.groups.count) n)) (each_from (group_in x r h) 1 x.plan.groups.count)) number)
@@ -298,24 +291,20 @@ pub pause_rollout : (x : Rollout) (r l : ℕ) (h : CommandList) → IsFollowed x
 pause_rollout x r l h f =
     let now : is_paused x r (h ▸ Pause r) ≡ true = rw (eq-eqb r r refl) refl in
     let count : (q : Outcome) (i : ℕ) → tally q x r i (h ▸ Pause r) ≡ tally q x r i h = λ q i. tally_same q x r i h (Pause r) (λ j v. calm_outcome h (Pause r) r j refl) in
-    same_parts r x _ _ _ _ _ _ _ _ (same_approval r h (Pause r) refl) (or_false (is_rollout_started r h)) now
+    same_parts r x _ _ _ _ _ _ _ _ (same_approval r h (Pause r) refl) (or-false (is_rollout_started r h)) now
     (same_each (group_in x r (h ▸ Pause r)) (group_in x r h) 1 x.plan.groups.count (λ i b u.
     same_group i (bounds_in x i) _ _ _ _ _ _ _ _ (same_started x r l h (h ▸ Pause r) f.is_last (paused_last x r l h f now) i b) (count Good i) (count Bad i) (count Gone i)))
 
 pub start_rollout : (x : Rollout) (r : ℕ) (h : CommandList) → IsFollowed x r h 0 → rollout_in (h ▸ Start r) r x ≡ begin_rollout (rollout_in h r x)
 start_rollout x r h f =
     let moved : IsLast x r (h ▸ Start r) 1 = by_test (nat_eq r r) (eq-eqb r r refl) (last_goes x r 0 h (Start r) f (calm_on x r h (Start r) refl)) in
-    same_parts r x _ _ _ _ _ _ _ _ (same_approval r h (Start r) refl) (rw (eq-eqb r r refl) (or_true (is_rollout_started r h))) (rw (calm_errors x r h (Start r) refl) refl)
+    same_parts r x _ _ _ _ _ _ _ _ (same_approval r h (Start r) refl) (rw (eq-eqb r r refl) (or-true (is_rollout_started r h))) (rw (calm_errors x r h (Start r) refl) refl)
     (groups_go (start_group (Some 1)) x r h (h ▸ Start r) (λ i a u.
     same_counts x r i h (Start r) (Some 1) refl (started_by x r 0 0 h (h ▸ Start r) true refl f.is_last moved i a)))
   where
     by_test : (b : Bool) → b ≡ true → IsLast x r (h ▸ Start r) (cond b 1 0) → IsLast x r (h ▸ Start r) 1
     by_test true e m = m
     by_test false e m = cc
-
-    or_true : (b : Bool) → (b || true) ≡ true
-    or_true true = refl
-    or_true false = refl
 
 -- ---- what is followed goes on being so
 

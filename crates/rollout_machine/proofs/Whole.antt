@@ -1,5 +1,6 @@
 -- The records after one more command are the step of the records before it.
 use Rattle.std.proofs.Common.{◌≡◌, ℕ, zero, suc, ◌+◌, ◌≤◌, Bool, true, false, cond, ◌&&◌, ◌||◌, List, [], ◌∷◌, ◌++◌, refl, sym, ◌∙◌, ap, subst, arith, inl, inr, Option, Some, None}
+use Rattle.std.proofs.Math.Bool.{or-true}
 use Rattle.std.specs.Prelude.{is_some, nat_eq, map, slice_get}
 use Rattle.std.specs.Option.{option_map}
 use Rattle.std.proofs.lemmas.Bool.{cases_eq, cases_lt, ne_eqb, eq-eqb, eqb-true, false≢true, and_parts}
@@ -140,10 +141,6 @@ act_rollouts h c q x w t e a b new = go (outcome h q.rollout q.position) (outcom
 
 -- ---- the whole records
 
-or_true : (b : Bool) → (b || true) ≡ true
-or_true true = refl
-or_true false = refl
-
 abbrev pub records_from : Bool → List ModuleLabel → List ArtifactRecord → List SetLabel → List Target → List RolloutRecord → List ActionRecord → Records
 records_from a ms us ss ts xs as' = record { approval = a; modules = ms; artifacts = us; sets = ss; targets = ts; rollouts = xs; actions = as' }
 
@@ -180,7 +177,7 @@ act_is h c k w p t =
   where
     go : (b : Bool) → is_again (history h p.place.rollout p.place.position) c ≡ b
         → records_from (needs_approval h) (modules h) (artifacts h) (sets h) (targets h) (rollouts_in (h ▸ c) 1 (rollouts h)) (map (action_in (h ▸ c)) (action_places h)) ≡ cond b (records h) (act_on (records h) c (action_in h p.place))
-    go true d = had_changes_nothing h c p.place w t (rw d (or_true (is_some (outcome h p.place.rollout p.place.position))))
+    go true d = had_changes_nothing h c p.place w t (rw d (or-true (is_some (outcome h p.place.rollout p.place.position))))
     go false d = same_records (needs_approval h) _ _ _ _ _ _ _ _ _ _ _ _ refl refl refl refl (act_rollouts h c p.place p.rollout w t p.there p.low p.high d) (all_actions h c p.place t d (action_places h))
 
 -- nothing is made: the rollouts and actions are those that were there

@@ -1,5 +1,5 @@
 -- The numbers of a desk are within its limits.
-use Rattle.std.proofs.Common.{◌≡◌, ℕ, cond, zero, suc, ◌+◌, ◌<◌, ◌≤◌, Bool, true, false, ◌||◌, List, [], ◌∷◌, map, length, refl, sym, ap, subst, arith, inl, inr, Option, Some, None}
+use Rattle.std.proofs.Common.{◌≡◌, ℕ, zero, suc, ◌+◌, ◌<◌, ◌≤◌, Bool, true, false, ◌||◌, List, [], ◌∷◌, map, length, refl, sym, ap, subst, arith, inl, inr, Option, Some, None}
 use Rattle.std.specs.Prelude.{filter, nat_le, slice_get}
 use Rattle.std.proofs.lemmas.Bool.{and_parts, leb-false, leb-true, ltb-false}
 use Rattle.std.proofs.lemmas.List.{length-append, length-map}
@@ -14,13 +14,13 @@ use Rattle.rollout_machine.specs.Effects.{HasSoundPlan}
 use Rattle.rollout_machine.specs.Filters.{matches}
 use Rattle.rollout_machine.specs.Groups.{IsCut}
 use Rattle.target_filter.specs.Profile.{filter_of}
-use Rattle.rollout_machine.specs.Ranges.{count_from}
 use Rattle.rollout_machine.specs.Records.{action_in, added_artifacts, artifacts, group_in, rollout_in, records, rollouts_in}
 use Rattle.rollout_machine.specs.Rollouts.{Rollout, chosen, created, first_of, last_of, members_of, rollout_at, rollouts, size_in, size_of}
 use Rattle.rollout_machine.specs.Targets.{Target, target_ids, target_in, targets}
 use Rattle.rollout_machine.specs.Validity.{IsValid}
 use Rattle.rollout_machine.specs.Verdicts.{verdict, verdict_row}
 use Rattle.rollout_machine.specs.WithinLimits.{CountsNoMore, IsWithinLimits, LimitsHold}
+use Rattle.rollout_machine.proofs.Counts.{count_few}
 use Rattle.rollout_machine.proofs.AtNumbers.{of_group, of_rollout}
 use Rattle.rollout_machine.proofs.Creates.{length_in}
 use Rattle.rollout_machine.proofs.Induction.{either_numbered, invariant_of}
@@ -117,14 +117,6 @@ are_small = each_created IsSmall (λ h plan valid formed accepted. record {
 })
 
 -- ---- counts
-
-count_few : (p : ℕ → Bool) (first n : ℕ) → count_from p first n ≤ n
-count_few p first zero = omega arith
-count_few p first (suc n) = go (p (first + n)) (count_few p first n)
-  where
-    go : (b : Bool) → count_from p first n ≤ n → count_from p first n + cond b 1 0 ≤ suc n
-    go true few = omega arith
-    go false few = omega arith
 
 -- a group has no more members than its rollout
 size_few : (x : Rollout) (i : ℕ) → HasSoundPlan x → 1 ≤ i → i ≤ x.plan.groups.count → size_in x i ≤ size_of x

@@ -1,10 +1,12 @@
 -- The rules that the parts of a command keep: those of the words and numbers, ranges, and the limits of lists.
 use Rattle.rollout_model.specs.Groupings.{is_grouping}
-use Rattle.rollout_model.specs.Rules.{are_details, is_percentage, is_word, is_filename, is_text, is_value, is_byte, is_digest}
-use Rattle.rollout_model.specs.Rules.{is_feedback_number, is_module_list, is_number, is_tag_list}
-use Rattle.rollout_machine.specs.Commands.{AddArtifact, Cancel, CancelFeedback, RolloutPlan, Start, Command, Attribute, Pause, CreateRollout}
+use Rattle.rollout_model.specs.Pairs.{is_attribute}
+use Rattle.rollout_model.specs.Rows.{is_target_row}
+use Rattle.rollout_model.specs.Rules.{are_details, is_percentage, is_word, is_filename, is_text, is_byte, is_digest}
+use Rattle.rollout_model.specs.Rules.{is_feedback_number, is_module_list, is_number}
+use Rattle.rollout_machine.specs.Commands.{AddArtifact, Cancel, CancelFeedback, RolloutPlan, Start, Command, Pause, CreateRollout}
 use Rattle.rollout_machine.specs.Commands.{SetLabel, PutTargets, Untag, Deny, Approve, AddModule, Feedback, PutAttributes, Tag, Resume, TriggerNext}
-use Rattle.rollout_machine.specs.Commands.{TargetRow, AddSet, Upload, Bytes, Credential, DeviceFeedback}
+use Rattle.rollout_machine.specs.Commands.{AddSet, Upload, Bytes, Credential, DeviceFeedback}
 use Rattle.rollout_model.specs.Limits.{artifact_size_limit, attribute_limit}
 use Rattle.std.specs.Prelude.{◌≡◌, Bool, true, ◌&&◌, nat_le, length, ℕ, Option, Some, None}
 use Rattle.std.specs.List.{list_all}
@@ -14,12 +16,6 @@ use Rattle.std.specs.Str.{is_utf8}
 
 abbrev pub is_credential : Credential → Bool
 is_credential device = is_word device.id && is_digest device.digest
-
-abbrev pub is_target_row : TargetRow → Bool
-is_target_row row = is_word row.id && (is_text row.name && (is_digest row.digest && is_tag_list row.tags))
-
-abbrev pub is_attribute : Attribute → Bool
-is_attribute a = is_word a.key && is_value a.value
 
 abbrev pub is_digest_or_none : Option Bytes → Bool
 is_digest_or_none None = true

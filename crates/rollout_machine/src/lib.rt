@@ -22,4 +22,6 @@ pub use said::{outcome_of_cancel, outcome_of_deployment, outcome_said, says_note
 pub use standing::Standing;
 pub use store_failure::{is_failed_store, says_store_failed};
 pub use view::{Effects, GroupView, RolloutView};
-pub use well_formed::command_is_well_formed;
+pub use well_formed::{
+    cancel_is_well_formed, command_is_well_formed, feedback_is_well_formed, number_is_well_formed,
+};

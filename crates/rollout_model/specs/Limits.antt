@@ -1,4 +1,4 @@
--- The limits, each a number of its own.
+-- The limits. Each is a number of its own, but those of what a body hands in.
 use Rattle.std.specs.Prelude.{ℕ}
 
 abbrev pub module_limit : ℕ

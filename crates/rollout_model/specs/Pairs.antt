@@ -1,8 +1,12 @@
--- When attributes are the same, and how many a device gives.
-use Rattle.std.specs.Prelude.{Bool, ℕ, List, [], ◌∷◌, length, nat_eq, nat_le, Option, Some, None, if◌then◌else◌}
+-- The rule of an attribute, when two are the same, and how many a device gives.
+use Rattle.std.specs.Prelude.{Bool, ◌&&◌, ℕ, List, [], ◌∷◌, length, nat_eq, nat_le, Option, Some, None, if◌then◌else◌}
 use Rattle.std.specs.Cmp.Lexicographic.{pointwise}
 use Rattle.rollout_model.specs.Limits.{attribute_limit}
+use Rattle.rollout_model.specs.Rules.{is_value, is_word}
 use Rattle.rollout_model.specs.declared.target.Attribute.{Attribute}
+
+abbrev pub is_attribute : Attribute → Bool
+is_attribute a = is_word a.key && is_value a.value
 
 -- the byte strings of an attribute
 abbrev pub pair_of : Attribute → List (List ℕ)

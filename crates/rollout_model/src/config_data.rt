@@ -3,7 +3,8 @@
 ghost use Rattle.std.specs.Prelude.{◌≡◌, true, nat_eq, IfOk};
 ghost use Rattle.std.specs.Cmp.{on_equiv, on_per, partial_equiv_from_equiv};
 ghost use Rattle.std.specs.Cmp.Lexicographic.{pointwise, lists_equiv, nat_list_eq_equiv};
-ghost use Rattle.rollout_model.specs.Pairs.{config_data_of, is_config_data, is_same_attribute, pair_of};
+ghost use Rattle.std.specs.List.{list_all};
+ghost use Rattle.rollout_model.specs.Pairs.{config_data_of, is_attribute, is_config_data, is_same_attribute, pair_of};
 
 use crate::limits::ATTRIBUTE_LIMIT;
 use crate::target::{Attribute, Attributes};
@@ -42,6 +43,7 @@ impl ConfigData {
     pub fn as_slice(&self) -> &[Attribute]
         ensures value { result.now ≡ self.now }
         ensures few { is_config_data result.now ≡ true }
+        ensures rules { list_all is_attribute result.now ≡ true }
     {
         self.attributes.as_slice()
     }

@@ -1,4 +1,4 @@
-//! The limits of a desk: the code's copy of `specs/Limits.antt`, which has a literal of its own for each.
+//! The limits of a desk: the code's copy of `specs/Limits.antt`, from which it takes no number.
 
 /// How many modules a desk takes.
 pub const MODULE_LIMIT: u32 = 1000;

@@ -1,9 +1,10 @@
 //! Targets, the devices of a fleet.
 
-ghost use Rattle.std.specs.Prelude.{◌≡◌, [], ◌∷◌, ◌++◌, nat_eq, IfOk, OnOk, OnErr};
+ghost use Rattle.std.specs.Prelude.{◌≡◌, true, [], ◌∷◌, ◌++◌, nat_eq, IfOk, OnOk, OnErr};
 ghost use Rattle.std.specs.Cmp.{on_equiv, on_per, partial_equiv_from_equiv};
 ghost use Rattle.std.specs.Cmp.Lexicographic.{pointwise, lists_equiv, nat_list_eq_equiv};
-ghost use Rattle.rollout_model.specs.Pairs.{is_same_attribute, pair_of};
+ghost use Rattle.std.specs.List.{list_all};
+ghost use Rattle.rollout_model.specs.Pairs.{is_attribute, is_same_attribute, pair_of};
 
 use crate::tags::Tags;
 use crate::text::Text;
@@ -30,6 +31,14 @@ impl Attribute {
             value,
         })
     }
+
+    /// An attribute keeps the rule of attributes, as the types of its parts promise.
+    fn keeps_its_rule(&self)
+        ensures { is_attribute self.now ≡ true }
+    {
+        let _key = self.key.as_str();
+        let _value = self.value.as_str();
+    }
 }
 
 impl PartialEq for Attribute {
@@ -53,12 +62,16 @@ pub struct Attributes {
 }
 
 impl Model for Attributes {
-    ghost use Rattle.std.specs.Prelude.{List};
+    ghost use Rattle.std.specs.Prelude.{◌≡◌, List, true};
+    ghost use Rattle.std.specs.List.{list_all};
+    ghost use Rattle.rollout_model.specs.Pairs.{is_attribute};
     ghost use Rattle.rollout_model.specs.declared.target.Attribute.{Attribute};
 
     ghost Value = { List Attribute };
 
     ghost view = { λ s. s.pairs.items };
+
+    ghost invariant = { λ s. list_all is_attribute s.pairs.items ≡ true };
 }
 
 impl Attributes {
@@ -76,12 +89,14 @@ impl Attributes {
         ensures ok { OnOk result (self.new ≡ self.old ++ attribute ∷ []) }
         ensures err { OnErr result (self.new ≡ self.old) }
     {
+        attribute.keeps_its_rule();
         self.pairs.push(attribute)?;
         Ok(())
     }
 
     pub fn as_slice(&self) -> &[Attribute]
-        ensures { result.now ≡ self.now }
+        ensures value { result.now ≡ self.now }
+        ensures rules { list_all is_attribute result.now ≡ true }
     {
         self.pairs.as_slice()
     }

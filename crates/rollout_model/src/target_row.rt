@@ -1,9 +1,10 @@
 //! Targets as they are put.
 
-ghost use Rattle.std.specs.Prelude.{◌≡◌, nat_eq, IfOk};
+ghost use Rattle.std.specs.Prelude.{◌≡◌, [], ◌∷◌, ◌++◌, true, nat_eq, IfOk, OnOk, OnErr};
 ghost use Rattle.std.specs.Cmp.{on_equiv, on_per, partial_equiv_from_equiv};
 ghost use Rattle.std.specs.Cmp.Lexicographic.{pointwise, lists_equiv, nat_list_eq_equiv};
-ghost use Rattle.rollout_model.specs.Rows.{parts_of, is_same_row};
+ghost use Rattle.std.specs.List.{list_all};
+ghost use Rattle.rollout_model.specs.Rows.{is_same_row, is_target_row, parts_of};
 
 use crate::digest::Digest;
 use crate::tags::Tags;
@@ -36,6 +37,25 @@ impl TargetRow {
             tags,
         })
     }
+
+    /// A row keeps the rule of rows, as the types of its parts promise.
+    fn keeps_its_rule(&self)
+        ensures { is_target_row self.now ≡ true }
+    {
+        let _id = self.id.as_str();
+        let _name = self.name.as_str();
+        let _digest = self.digest.as_bytes();
+        let _tags = self.tags.as_slice();
+    }
+}
+
+/// Each row keeps the rule of rows.
+fn keep_their_rule(rows: &[TargetRow])
+    ensures { list_all is_target_row rows.now ≡ true }
+{
+    for row in rows {
+        row.keeps_its_rule();
+    }
 }
 
 impl PartialEq for TargetRow {
@@ -62,23 +82,49 @@ pub struct TargetRows {
 }
 
 impl Model for TargetRows {
-    ghost use Rattle.std.specs.Prelude.{List};
+    ghost use Rattle.std.specs.Prelude.{◌≡◌, List, true};
+    ghost use Rattle.std.specs.List.{list_all};
+    ghost use Rattle.rollout_model.specs.Rows.{is_target_row};
     ghost use Rattle.rollout_model.specs.declared.target_row.TargetRow.{TargetRow};
 
     ghost Value = { List TargetRow };
 
     ghost view = { λ s. s.rows.items };
+
+    ghost invariant = { λ s. list_all is_target_row s.rows.items ≡ true };
 }
 
 impl TargetRows {
+    /// No rows.
+    pub fn new(alloc: Global) -> TargetRows
+        ensures { result ≡ [] }
+    {
+        TargetRows {
+            rows: Vec::new(alloc),
+        }
+    }
+
+    /// These rows. It goes over them once; a list that is made row by row is made by `push`, which doesn't.
     pub fn from_rows(rows: Vec<TargetRow>) -> TargetRows
         ensures { result ≡ rows.items }
     {
+        keep_their_rule(&rows);
         TargetRows { rows }
     }
 
+    /// Adds a row at the end.
+    pub fn push(&mut self, row: TargetRow) -> Result<(), AllocError>
+        ensures ok { OnOk result (self.new ≡ self.old ++ row ∷ []) }
+        ensures err { OnErr result (self.new ≡ self.old) }
+    {
+        row.keeps_its_rule();
+        self.rows.push(row)?;
+        Ok(())
+    }
+
     pub fn as_slice(&self) -> &[TargetRow]
-        ensures { result.now ≡ self.now }
+        ensures value { result.now ≡ self.now }
+        ensures rules { list_all is_target_row result.now ≡ true }
     {
         self.rows.as_slice()
     }

@@ -27,7 +27,7 @@ use Rattle.sql_front.proofs.Lower.{Same, IsPlain, lower_same}
 use Rattle.sql_front.proofs.OneTable.{same_columns}
 use Rattle.sql_front.proofs.Select.{IsPlainTest, tests_same}
 use Rattle.sql_front.proofs.Query.{accepted}
-use Rattle.sql_front.proofs.Texts.{alone}
+use Rattle.sql_front.proofs.Texts.{Becomes, alone}
 
 abbrev pub ArePlainSets : List (Name × Expr) → Type 0
 ArePlainSets [] = ⊤
@@ -75,14 +75,11 @@ pub record Updates (text : List ℕ) (name : Name) (table : Table) (body : Query
   pub test : Option Expr
   pub draft : Draft
   pub read : first text ≡ Ok parsed
-  pub statement : parsed.statement ≡ written.Update name sets test []
-  pub formats : parsed.formats ≡ []
+  pub is : (parsed.statement ≡ written.Update name sets test []) × (parsed.formats ≡ [])
   pub values : ArePlainSets sets
   pub filter : IsPlainTest test
   pub known : updated (alone table) 0 table sets test ≡ Ok draft
-  pub is_body : query_of draft ≡ body
-  pub over : body.from ≡ inner table.tree end
-  pub fits : (accepts_after [] body (Some (row_classes table ∷ [])) && (is_count [] body.limit && is_count [] body.offset)) ≡ true
+  pub becomes : Becomes table draft body
 
 abbrev pub with_update : Parsed → ℕ → Query → Compiled
 with_update p at body = record { command = Update at (record { lets = []; body = body }); returning = None; names = p.names; formats = []; start = p.start; end = p.end; tail = p.tail }
@@ -92,9 +89,9 @@ module _ (text : List ℕ) (name : Name) (table : Table) (body : Query) (c : Upd
   unfolding compiled planned meaning timed returning command shows update program
   updates_known =
       let draft : updated s at table c.sets c.test ≡ Ok c.draft = update_alone s at table stands.got c.sets c.test c.values c.filter ∙ c.known in
-      let fits : accepts_program s [] (query_of c.draft) [] ≡ true = subst (λ b. accepts_program s [] b [] ≡ true) (sym c.is_body) (accepted s body table c.over stands.stored stands.found c.fits) in
-      let is : compiled s text ≡ Ok (with_update c.parsed at (query_of c.draft)) = rw (c.read) (rw (c.statement) (rw (c.formats) (rw (stands.named) (rw (stands.got) (rw draft (rw fits)))))) in
-      rw (c.is_body) at is
+      let fits : accepts_program s [] (query_of c.draft) [] ≡ true = subst (λ b. accepts_program s [] b [] ≡ true) (sym c.becomes.0) (accepted s body table c.becomes.1 stands.stored stands.found c.becomes.2) in
+      let is : compiled s text ≡ Ok (with_update c.parsed at (query_of c.draft)) = rw (c.read) (rw (c.is.0) (rw (c.is.1) (rw (stands.named) (rw (stands.got) (rw draft (rw fits)))))) in
+      rw (c.becomes.0) at is
 
 -- ---- DELETE
 
@@ -104,13 +101,10 @@ pub record Removes (text : List ℕ) (name : Name) (table : Table) (body : Query
   pub test : Option Expr
   pub draft : Draft
   pub read : first text ≡ Ok parsed
-  pub statement : parsed.statement ≡ written.Delete name test []
-  pub formats : parsed.formats ≡ []
+  pub is : (parsed.statement ≡ written.Delete name test []) × (parsed.formats ≡ [])
   pub filter : IsPlainTest test
   pub known : deleted (alone table) 0 table test ≡ Ok draft
-  pub is_body : query_of draft ≡ body
-  pub over : body.from ≡ inner table.tree end
-  pub fits : (accepts_after [] body (Some (row_classes table ∷ [])) && (is_count [] body.limit && is_count [] body.offset)) ≡ true
+  pub becomes : Becomes table draft body
 
 abbrev pub with_delete : Parsed → ℕ → Query → Compiled
 with_delete p at body = record { command = Delete at (record { lets = []; body = body }); returning = None; names = p.names; formats = []; start = p.start; end = p.end; tail = p.tail }
@@ -120,6 +114,6 @@ module _ (text : List ℕ) (name : Name) (table : Table) (body : Query) (r : Rem
   unfolding compiled planned meaning timed returning command shows delete program
   removes_known =
       let draft : deleted s at table r.test ≡ Ok r.draft = delete_alone s at table stands.got r.test r.filter ∙ r.known in
-      let fits : accepts_program s [] (query_of r.draft) [] ≡ true = subst (λ b. accepts_program s [] b [] ≡ true) (sym r.is_body) (accepted s body table r.over stands.stored stands.found r.fits) in
-      let is : compiled s text ≡ Ok (with_delete r.parsed at (query_of r.draft)) = rw (r.read) (rw (r.statement) (rw (r.formats) (rw (stands.named) (rw (stands.got) (rw draft (rw fits)))))) in
-      rw (r.is_body) at is
+      let fits : accepts_program s [] (query_of r.draft) [] ≡ true = subst (λ b. accepts_program s [] b [] ≡ true) (sym r.becomes.0) (accepted s body table r.becomes.1 stands.stored stands.found r.becomes.2) in
+      let is : compiled s text ≡ Ok (with_delete r.parsed at (query_of r.draft)) = rw (r.read) (rw (r.is.0) (rw (r.is.1) (rw (stands.named) (rw (stands.got) (rw draft (rw fits)))))) in
+      rw (r.becomes.0) at is

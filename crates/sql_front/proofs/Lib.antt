@@ -8,12 +8,8 @@ pub mod TextsWithin
 pub mod Past
 pub mod Write
 pub mod Change
-pub mod Examples
-pub mod WithinExamples
-pub mod ChangeExamples
 pub mod Created
 pub mod Grown
 pub mod Found
 pub mod TwoTables
 pub mod Upsert
-pub mod UpsertExamples

@@ -1,9 +1,15 @@
 -- A text's meaning under any schema that has its table, from its meaning over that table alone.
-use Rattle.std.proofs.Common.{◌≡◌, refl, sym, subst, ◌∙◌, ℕ, true, ◌&&◌, Ok, List, [], ◌∷◌, Some, None}
+use Rattle.std.proofs.Common.{◌≡◌, refl, sym, subst, ◌∙◌, ℕ, true, false, ◌&&◌, Ok, List, [], ◌∷◌, Some, None}
 use Rattle.sqlite_sql.specs.Query.{Query, inner, end}
 use Rattle.sqlite_sql.specs.Term.{Term}
 use Rattle.sqlite_ast.specs.declared.Select as written_select
+use Rattle.sqlite_ast.specs.declared.Select.{out-Select}
+use Rattle.sqlite_ast.specs.declared.Core.{out-Core}
+use Rattle.sqlite_ast.specs.declared.Source.{Source, out-Source}
+use Rattle.sqlite_ast.specs.declared.Origin.TheVariants as origin
+use Rattle.sqlite_ast.specs.declared.Statement.TheVariants as written
 use Rattle.sqlite_syntax.specs.declared.statement.Parsed.{Parsed}
+use Rattle.sqlite_draft.specs.declared.query.Draft.{Draft}
 use Rattle.sqlite_draft.specs.Query.{query_of}
 use Rattle.sqlite_schema.specs.declared.schema.Schema.{Schema}
 use Rattle.sqlite_schema.specs.declared.schema.Table.{Table}
@@ -16,37 +22,62 @@ use Rattle.sqlite_resolve.specs.Program.{Shown}
 use Rattle.sqlite_resolve.specs.declared.compiled.Compiled.{Compiled}
 use Rattle.sqlite_resolve.specs.Compile.{compiled, first}
 use Rattle.sql_front.specs.Stands.{Stands}
-use Rattle.sql_front.proofs.Select.{IsOneTable, IsPlainTest, same_named}
+use Rattle.sql_front.proofs.Select.{ArePlainShown, ArePlainSorts, IsOneTable, IsPlainTest, same_named}
 use Rattle.sql_front.proofs.Query.{Selects, accepted, select_known}
 
 abbrev pub alone : Table → Schema
 alone table = record { tables = table ∷ []; indexes = []; views = [] }
 
--- what computes of a text over one table alone
+-- the draft of a query becomes this one, which is over the table alone, and of classes that a program accepts
+abbrev pub Becomes : Table → Draft → Query → Type 0
+Becomes table draft body = (query_of draft ≡ body) × (body.from ≡ inner table.tree end)
+    × ((accepts_after [] body (Some (row_classes table ∷ [])) && (is_count [] body.limit && is_count [] body.offset)) ≡ true)
+
+-- What computes of a text that asks one table: how it is written, what it names, and the query that it becomes.
 pub record Queries (text : List ℕ) (name : Name) (table : Table) (body : Query) (columns : List Name) : Type 0 where
   pub parsed : Parsed
   pub select : written_select.Select
+  pub source : Source
   pub page : Term × Term
   pub shown : Shown
   pub read : first text ≡ Ok parsed
-  pub selects : Selects parsed select
-  pub one : IsOneTable name (written_select.out-Select select).first (written_select.out-Select select).order
+  pub is : (parsed.statement ≡ written.Select select) × (parsed.formats ≡ []) × ((out-Select select).with ≡ []) × ((out-Select select).others ≡ [])
+  pub core : ((out-Core (out-Select select).first).from ≡ source ∷ []) × ((out-Core (out-Select select).first).group ≡ []) × ((out-Core (out-Select select).first).having ≡ None)
+  pub from : ((out-Source source).origin ≡ origin.Table name) × ((out-Source source).alias ≡ None) × ((out-Source source).on ≡ None) × ((out-Source source).using ≡ []) × ((out-Source source).is_left ≡ false)
+  pub shows : ArePlainShown (out-Core (out-Select select).first).shown
+  pub filter : IsPlainTest (out-Core (out-Select select).first).filter
+  pub sorts : ArePlainSorts (out-Select select).order
   pub paged : (s : Schema) → paging s select ≡ Ok page
-  pub named_alone : table_named (alone table) name ≡ Some 0
-  pub known : named (alone table) (written_select.out-Select select).first (written_select.out-Select select).order page ≡ Ok shown
-  pub is_body : query_of shown.0 ≡ body
-  pub are_columns : shown.1 ≡ columns
-  pub over : body.from ≡ inner table.tree end
-  pub fits : (accepts_after [] body (Some (row_classes table ∷ [])) && (is_count [] body.limit && is_count [] body.offset)) ≡ true
+  pub named : (table_named (alone table) name ≡ Some 0) × (named (alone table) (out-Select select).first (out-Select select).order page ≡ Ok shown)
+  pub becomes : (shown.1 ≡ columns) × Becomes table shown.0 body
 
 abbrev pub with_query : Parsed → Query → List Name → Compiled
 with_query p body columns = record { command = Select (record { lets = []; body = body }) columns; returning = None; names = p.names; formats = []; start = p.start; end = p.end; tail = p.tail }
 
-module _ (text : List ℕ) (name : Name) (table : Table) (body : Query) (columns : List Name) (r : Queries text name table body columns) (s : Schema) (at : ℕ) (stands : Stands s name at table) where
-  pub queries_known : compiled s text ≡ Ok (with_query r.parsed body columns)
-  queries_known =
-      let same = same_named s (alone table) at 0 table name stands.named stands.got r.named_alone refl _ _ r.one r.page in
-      let fits = accepted s body table r.over stands.stored stands.found r.fits in
+module _ (text : List ℕ) (name : Name) (table : Table) (body : Query) (columns : List Name) (r : Queries text name table body columns) where
+  is_select : Selects r.parsed r.select
+  is_select = record { statement = r.is.0; formats = r.is.1; with = r.is.2; others = r.is.3 }
+
+  is_one : IsOneTable name (out-Select r.select).first (out-Select r.select).order
+  is_one = record {
+    source = r.source;
+    from = r.core.0;
+    group = r.core.1;
+    having = r.core.2;
+    table = r.from.0;
+    alias = r.from.1;
+    on = r.from.2;
+    using = r.from.3;
+    is_inner = r.from.4;
+    shown = r.shows;
+    filter = r.filter;
+    sorts = r.sorts;
+  }
+
+  pub queries_known : (s : Schema) (at : ℕ) → Stands s name at table → compiled s text ≡ Ok (with_query r.parsed body columns)
+  queries_known s at stands =
+      let same = same_named s (alone table) at 0 table name stands.named stands.got r.named.0 refl _ _ is_one r.page in
+      let fits = accepted s body table r.becomes.1.1 stands.stored stands.found r.becomes.1.2 in
       let known : compiled s text ≡ Ok (with_query r.parsed (query_of r.shown.0) r.shown.1) =
-      select_known s IsPlainTest text name r.parsed r.select r.page r.shown r.read r.selects r.one (r.paged s) (same ∙ r.known) (subst (λ b. accepts_program s [] b [] ≡ true) (sym r.is_body) fits) in
-      rw (r.is_body, r.are_columns) at known
+      select_known s IsPlainTest text name r.parsed r.select r.page r.shown r.read is_select is_one (r.paged s) (same ∙ r.named.1) (subst (λ b. accepts_program s [] b [] ≡ true) (sym r.becomes.1.0) fits) in
+      rw (r.becomes.1.0, r.becomes.0) at known

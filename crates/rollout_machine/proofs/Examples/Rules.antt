@@ -1,5 +1,5 @@
 -- The rules of a command's parts at their borders.
-use Rattle.rollout_model.specs.Rules.{are_details, is_filename, is_number, is_digest, is_word, is_value, is_text}
+use Rattle.rollout_model.specs.Rules.{are_details}
 use Rattle.rollout_machine.specs.CommandRules.{is_well_formed}
 use Rattle.rollout_machine.specs.Commands.{PutTargets, Command, Bytes, PutAttributes, CreateRollout, AddSet}
 use Rattle.rollout_machine.specs.Ranges.{each_from}
@@ -10,30 +10,9 @@ use Rattle.std.specs.Str.{is_utf8, chars}
 use lib.Utf8.{encode}
 use Rattle.rollout_machine.proofs.Examples.Fleet.{device, token, by, plan_for, everyone, fleet}
 
-words : map is_word (codes "" ∷ codes "aZ09._-" ∷ codes "a b" ∷ codes "a*" ∷ replicate 64 97 ∷ replicate 65 97 ∷ []) ≡ false ∷ true ∷ false ∷ false ∷ true ∷ false ∷ []
-words = refl
-
-filenames : map is_filename (codes "" ∷ codes "app-1.0_x.bin" ∷ codes "a/b" ∷ replicate 128 97 ∷ replicate 129 97 ∷ []) ≡ false ∷ true ∷ false ∷ true ∷ false ∷ []
-filenames = refl
-
--- controls and DEL are no letters of texts; bytes that aren't UTF-8 are none
-texts : map is_text ([] ∷ codes "a b*\"" ∷ (9 ∷ []) ∷ (127 ∷ []) ∷ (31 ∷ []) ∷ (32 ∷ []) ∷ (195 ∷ 164 ∷ []) ∷ (195 ∷ []) ∷ replicate 128 97 ∷ replicate 129 97 ∷ []) ≡ false ∷ true ∷ false ∷ false ∷ false ∷ true ∷ true ∷ false ∷ true ∷ false ∷ []
-unfolding is_utf8 chars encode
-texts = refl
-
-values : map is_value ([] ∷ replicate 128 97 ∷ replicate 129 97 ∷ []) ≡ true ∷ true ∷ false ∷ []
-unfolding is_utf8 chars encode
-values = refl
-
 details : map are_details ([] ∷ replicate 8 [] ∷ replicate 9 [] ∷ (replicate 256 97 ∷ []) ∷ (replicate 257 97 ∷ []) ∷ []) ≡ true ∷ true ∷ false ∷ true ∷ false ∷ []
 unfolding is_utf8 chars encode
 details = refl
-
-item_numbers : map is_number (0 ∷ 1 ∷ 2147483647 ∷ 2147483648 ∷ []) ≡ false ∷ true ∷ true ∷ false ∷ []
-item_numbers = refl
-
-digests : map is_digest (replicate 31 1 ∷ replicate 32 255 ∷ replicate 33 1 ∷ replicate 32 256 ∷ []) ≡ false ∷ true ∷ false ∷ false ∷ []
-digests = refl
 
 abbrev plan_of : ℕ → ℕ → ℕ → Command
 plan_of groups success error = CreateRollout (plan_for everyone 1 groups success error)

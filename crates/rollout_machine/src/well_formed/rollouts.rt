@@ -18,20 +18,23 @@ pub(super) fn plan_is_well_formed(plan: &RolloutPlan)
     let _error = plan.error.get();
 }
 
-pub(super) fn number_is_well_formed(number: RolloutNo)
+/// The number of a rollout keeps the rule of numbers.
+pub fn number_is_well_formed(number: RolloutNo)
     ensures { is_number number ≡ true }
 {
     let _number = number.get();
 }
 
-pub(super) fn cancel_is_well_formed(cancel: &Cancel)
+/// A cancel keeps the rules of commands.
+pub fn cancel_is_well_formed(cancel: &Cancel)
     ensures { (is_word cancel.now.target && is_number cancel.now.action) ≡ true }
 {
     let _target = cancel.target.as_str();
     let _action = cancel.action.get();
 }
 
-pub(super) fn feedback_is_well_formed<W: Copy>(feedback: &DeviceFeedback<W>)
+/// Feedback of either kind keeps the rules of its parts.
+pub fn feedback_is_well_formed<W: Copy>(feedback: &DeviceFeedback<W>)
     ensures { is_device_feedback feedback.now ≡ true }
 {
     let _id = feedback.credential.id.as_str();

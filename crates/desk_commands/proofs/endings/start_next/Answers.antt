@@ -1,4 +1,5 @@
+use Rattle.desk_commands.proofs.SeenLemmas.{ok_or_some}
 use Rattle.desk_commands.proofs.endings.start_next.Goals as goal
 
-pub returns-in-Some-clause-writes : goal.returns-in-Some-clause-writes
-returns-in-Some-clause-writes g c = rw c.in-Some.is c.start_group.ensures.writes
+pub returns-clause-writes : goal.returns-clause-writes
+returns-clause-writes g c = rw (ok_or_some _ _ _ c.in_ok-group.ensures.value) c.start_group.ensures.writes

@@ -2,12 +2,13 @@ use Rattle.sql_calls.proofs.Composing.{makes_as}
 use Rattle.std.proofs.Common.{subst, sym, ◌∙◌}
 use Rattle.desk_commands.specs.Standings.{StartsIf}
 use Rattle.desk_commands.proofs.ProgressLemmas.{the_group}
+use Rattle.desk_commands.proofs.SeenLemmas.{ok_or_some}
 use Rattle.desk_commands.proofs.progress.start_next.Goals as goal
 
-pub returns-in-Some-group_at-clause-writes : goal.returns-in-Some-group_at-clause-writes
-returns-in-Some-group_at-clause-writes g c =
+pub returns-clause-writes : goal.returns-clause-writes
+returns-clause-writes g c =
     let number = c.args.number in
     let groups = c.args.groups.now in
     makes_as
-    (λ l next h. the_group number groups c.in-Some.next c.in-Some-group_at.group l next (sym c.group_at.ensures ∙ c.in-Some-group_at.is) (subst (λ starts. StartsIf number groups starts l next) c.in-Some.is h))
+    (λ l next h. the_group number groups c.in-Some.next c.in_ok-group.group l next (sym c.group_at.ensures ∙ ok_or_some _ _ _ c.in_ok-group.ensures.value) (subst (λ starts. StartsIf number groups starts l next) c.in-Some.is h))
     _ c.start_group.ensures.writes

@@ -7,6 +7,7 @@ use Rattle.desk_records.specs.Holds.{ledger_of}
 use Rattle.desk_commands.specs.Starts.{StartsWhole}
 use Rattle.desk_commands.proofs.StandingLemmas.{none_there, seen_there}
 use Rattle.desk_commands.proofs.StartLemmas.{not_there, starts_whole}
+use Rattle.desk_commands.proofs.SeenLemmas.{ok_or_some}
 use Rattle.desk_commands.proofs.starting.start_rollout.Goals as goal
 
 pub returns-in_default-clause-steps : goal.returns-in_default-clause-steps
@@ -22,7 +23,7 @@ pub returns-clause-steps : goal.returns-clause-steps
 returns-clause-steps g c =
     let number = c.args.number in
     let seen = c.in-Some.seen in
-    let first = c.in-Some-first_group.first in
+    let first = c.in_ok-first.first in
     let last = c.in_ok-last.last in
     let members = c.in_ok-members.members.items in
     accepted_at
@@ -31,6 +32,6 @@ returns-clause-steps g c =
     (λ h valid is.
     let it = seen_there h valid number seen is.0.0 in
     starts_whole h valid number seen first last c.members.result members c.number_is_well_formed.ensures it (c.start_refusal.ensures h number it.rollout it.at ∙ c.in_default-start_refusal.is)
-    (sym c.in-Some-first_group.ensures) is.0.1 (c.members.ensures it.rollout it.at.is_seen) is.1)
+    (ok_or_some _ _ _ c.in_ok-first.ensures) is.0.1 (c.members.ensures it.rollout it.at.is_seen) is.1)
     (ledger_made (Ok tt) (rw c.deref-2.ensures.value at c.in_ok-write_start.ensures.writes)) _
     (λ h valid is. let it = seen_there h valid number seen is.0.0 in (c.start_refusal.ensures h number it.rollout it.at ∙ c.in_default-start_refusal.is, refl))

@@ -17,7 +17,7 @@ other (told.Refused refusal) put shown refused = absurd (refused refusal refl)
 other _ put shown refused = refl
 
 pub returns-in-TargetsPut : goal.returns-in-TargetsPut
-returns-in-TargetsPut g c = rw c.in-TargetsPut.is c.tell_count.ensures
+returns-in-TargetsPut g c = rw c.in-TargetsPut.is (rw (c.as_bytes.ensures, c.imported_line.ensures) at c.print_or_tell.ensures)
 
 pub returns-in-Report : goal.returns-in-Report
 returns-in-Report g c = rw c.in-Report.is c.tell_report.ensures

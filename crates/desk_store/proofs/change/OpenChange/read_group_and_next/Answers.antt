@@ -10,7 +10,7 @@ pub returns-clause-reads : goal.returns-clause-reads
 returns-clause-reads g c =
     let it : AsksFew (state g.S.Store c.args.self.now.store.now.calls.conn) (state g.S.Store c.few.new.self.store.now.calls.conn) GROUP_AND_NEXT.now (Int (pos c.args.number) ∷ Int (pos c.args.place) ∷ []) 2 (Ok c.in_ok-rows.rows) =
     rw (c.params-to_sql.ensures, c.params-to_sql-2.ensures, c.get.ensures.value) at c.in_ok-rows.ensures.asks in
-    group_and_next_read c.args.number c.args.place (subst (λ n. 1 ≤ n) c.get.ensures.value c.get.ensures.least) _ _ c.in_ok-rows.rows it c.read_both.result (rw c.deref.ensures.value at c.read_both.ensures)
+    group_and_next_read c.args.number c.args.place (subst (λ n. 1 ≤ n) c.get.ensures.value c.get.ensures.least) _ _ c.in_ok-rows.rows it c.read_both.result (rw c.deref.ensures.value at c.read_both.ensures.ok)
 
 pub few-requires : goal.few-requires
 few-requires g c = group_and_next_known

@@ -10,7 +10,7 @@ pub returns-clause-reads : goal.returns-clause-reads
 returns-clause-reads g c =
     let it : TakesFirst (state g.S.Store c.args.self.now.store.now.calls.conn) (state g.S.Store c.first.new.self.store.now.calls.conn) HOLDING_GROUP.now (Int (pos c.args.number) ∷ Int (pos c.args.place) ∷ []) (Ok c.in_ok-row.row) =
     rw (c.params-to_sql.ensures, c.params-to_sql-2.ensures, c.get.ensures.value) at c.in_ok-row.ensures.takes in
-    holding_read c.args.number c.args.place (subst (λ n. 1 ≤ n) c.get.ensures.value c.get.ensures.least) _ _ c.in_ok-row.row it c.read_optional.result c.read_optional.ensures
+    holding_read c.args.number c.args.place (subst (λ n. 1 ≤ n) c.get.ensures.value c.get.ensures.least) _ _ c.in_ok-row.row it c.read_optional.result c.read_optional.ensures.ok
 
 pub first-requires : goal.first-requires
 first-requires g c = holding_group

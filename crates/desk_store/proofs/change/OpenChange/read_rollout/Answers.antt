@@ -10,7 +10,7 @@ pub returns-clause-reads : goal.returns-clause-reads
 returns-clause-reads g c =
     let it : TakesFirst (state g.S.Store c.args.self.now.store.now.calls.conn) (state g.S.Store c.first.new.self.store.now.calls.conn) GET_ROLLOUT.now (Int (pos c.args.number) ∷ []) (Ok c.in_ok-row.row) =
     rw (c.params-to_sql.ensures, c.get.ensures.value) at c.in_ok-row.ensures.takes in
-    rollout_read c.args.number (subst (λ n. 1 ≤ n) c.get.ensures.value c.get.ensures.least) _ _ c.in_ok-row.row it c.read_optional.result c.read_optional.ensures
+    rollout_read c.args.number (subst (λ n. 1 ≤ n) c.get.ensures.value c.get.ensures.least) _ _ c.in_ok-row.row it c.read_optional.result c.read_optional.ensures.ok
 
 pub first-requires : goal.first-requires
 first-requires g c = getting

@@ -10,7 +10,7 @@ pub returns-clause-reads : goal.returns-clause-reads
 returns-clause-reads g c =
     let taken : TakesFirst (state g.S.Store c.args.self.now.store.now.calls.conn) (state g.S.Store c.first.new.self.store.now.calls.conn) GET_TARGET.now (Text c.args.id.now ∷ []) (Ok c.in_ok-row.row) =
     rw (c.params-to_sql.ensures, c.as_str.ensures.value) at c.in_ok-row.ensures.takes in
-    target_read c.args.id.now _ _ c.in_ok-row.row taken c.read_optional.result c.read_optional.ensures
+    target_read c.args.id.now _ _ c.in_ok-row.row taken c.read_optional.result c.read_optional.ensures.ok
 
 pub first-requires : goal.first-requires
 first-requires g c = getting

@@ -10,7 +10,7 @@ pub returns-clause-reads : goal.returns-clause-reads
 returns-clause-reads g c =
     let asked : AsksText (state g.S.Store c.args.self.now.store.now.calls.conn) (state g.S.Store c.ask.new.self.store.now.calls.conn) LIST_TARGET_ATTRIBUTES.now (Text c.args.id.now ∷ []) (Ok c.in_ok-rows.rows) =
     rw (c.params-to_sql.ensures, c.as_str.ensures.value) at c.in_ok-rows.ensures.asks in
-    attributes_read c.args.id.now _ _ c.in_ok-rows.rows asked c.read_attributes.result (rw c.deref.ensures.value at c.read_attributes.ensures)
+    attributes_read c.args.id.now _ _ c.in_ok-rows.rows asked c.read_attributes.result (rw c.deref.ensures.value at c.read_attributes.ensures.ok)
 
 pub ask-requires : goal.ask-requires
 ask-requires g c = listing
