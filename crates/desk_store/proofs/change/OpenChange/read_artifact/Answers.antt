@@ -17,7 +17,7 @@ pub returns-clause-tells : goal.returns-clause-tells
 returns-clause-tells g c =
     let taken : TakesFirst (state g.S.Store c.args.self.now.store.now.calls.conn) (state g.S.Store c.first.new.self.store.now.calls.conn) GET_ARTIFACT.now (Int (pos c.args.number) ∷ []) (Ok c.in_ok-row.row) =
     rw (c.params-to_sql.ensures, c.get.ensures.value) at c.in_ok-row.ensures.takes in
-    artifact_told c.args.number _ _ c.in_ok-row.row taken c.read_optional.result c.read_optional.ensures
+    artifact_told c.args.number _ _ c.in_ok-row.row taken c.read_optional.result c.read_optional.ensures.ok
 
 pub first-requires : goal.first-requires
 first-requires g c = getting
