@@ -1,6 +1,7 @@
 -- From typed reads of artifacts to what is shown.
 use Rattle.std.proofs.Common.{◌≡◌, ℕ, zero, suc, ◌+◌, nat_eq, Bool, true, false, not, cond, List, [], ◌∷◌, ◌++◌, map, length, take, drop, Option, Some, None, refl, sym, ap, ◌∙◌, append-nil, arith, add-one}
 use Rattle.std.proofs.Math.Seq.{take-nil}
+use Rattle.std.proofs.lemmas.Bool.Decides.{nat_tests}
 use Rattle.std.specs.Prelude.{slice_get}
 use Rattle.std.specs.List.{flat_map}
 use Rattle.std.specs.Option.{is_some, option_map}
@@ -39,6 +40,9 @@ no_artifact m (Some a) is = absurd cc
 pub turned : (b wanted : Bool) → not b ≡ wanted → b ≡ not wanted
 turned true wanted is = rw (sym is) refl
 turned false wanted is = rw (sym is) refl
+
+pub same_module : (m n : ℕ) → not (nat_eq m n) ≡ false → m ≡ n
+same_module m n own = grind (arith, nat_tests, own)
 
 -- whether the artifact that was found is another module's
 module _ (m : ℕ) (a : ArtifactRecord) (found : StoredArtifact) (is : Some found ≡ Some (stored a)) where

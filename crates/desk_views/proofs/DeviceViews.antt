@@ -1,11 +1,13 @@
 -- From typed reads to what a device is shown.
-use Rattle.std.proofs.Common.{◌≡◌, ℕ, zero, suc, ◌+◌, Bool, true, false, cond, ◌&&◌, nat_eq, List, [], ◌∷◌, ◌++◌, map, find, Option, Some, None, Result, Ok, Err, refl, sym, ap, subst, ◌∙◌, arith, append_assoc, append-nil}
+use Rattle.std.proofs.Common.{◌≡◌, inl, inr, IfOk, ℕ, zero, suc, ◌+◌, Bool, true, false, cond, ◌&&◌, nat_eq, List, [], ◌∷◌, ◌++◌, map, find, Option, Some, None, Result, Ok, Err, refl, sym, ap, subst, ◌∙◌, arith, append_assoc, append-nil}
 use Rattle.std.proofs.lemmas.List.{map-append}
 use Rattle.std.specs.List.{list_any, zip}
 use Rattle.std.specs.Option.{option_map}
+use Rattle.sqlite_rules.specs.Lists.{Has}
 use Rattle.std.specs.Prelude.{slice_get}
 use Rattle.desk_records.specs.Actions.{tally_of}
 use Rattle.desk_records.specs.RolloutRow.{stored_action, stored_rollout}
+use Rattle.desk_records.specs.Tables.{Tables}
 use Rattle.desk_records.specs.declared.rollout_row.StoredAction.{StoredAction}
 use Rattle.desk_records.specs.declared.rollout_row.StoredRollout.{StoredRollout}
 use Rattle.rollout_machine.specs.Answers.{artifact_named, for_device, if_found, is_offer_of, modules_offered, query_reply}
@@ -21,11 +23,14 @@ use Rattle.rollout_machine.specs.Replies.{Artifact, ContentsShown, Refused}
 use Rattle.rollout_machine.specs.Requests.{Download}
 use Rattle.rollout_machine.specs.Verdicts.{is_known}
 use Rattle.rollout_machine.specs.Views.{chunk}
+use Rattle.rollout_machine.proofs.TargetTies.{same_true}
 use Rattle.rollout_model.specs.declared.refusal.Refusal.{Refusal}
 use Rattle.rollout_model.specs.declared.refusal.Refusal.TheVariants.{NotFound, Unauthorized}
 use Rattle.rollout_model.specs.declared.rollout.Chunk.{Chunk as SeenChunk}
 use Rattle.desk_views.specs.Contents.{contents_found}
+use Rattle.desk_store.specs.RawLists.{HasListed}
 use Rattle.desk_views.specs.Downloads.{downloadable, named, or_not_found}
+use Rattle.desk_views.specs.Sizes.{IsOfName}
 
 -- ---- the device
 
@@ -123,6 +128,14 @@ module _ (r : Records) where
 module _ (m : ℕ) (filename : Bytes) where
   abbrev has_name : Artifact → Bool
   has_name a = same_bytes a.filename filename
+
+  -- what has the name among what the module's rows say
+  pub named_said : (t : Tables) (artifacts : List Artifact) → ((a : Artifact) → Has artifacts a → HasListed t m a) → IfOk (named filename artifacts) (IsOfName t m filename)
+  named_said t [] said = tt
+  named_said t (a ∷ more) said = go (has_name a) refl (named_said t more (λ b among. said b (inr among))) where
+    go : (b : Bool) → has_name a ≡ b → IfOk (named filename more) (IsOfName t m filename) → IfOk (or_not_found (cond b (Some a) (find has_name more))) (IsOfName t m filename)
+    go true same rest = record { row = said a (inl refl); name_is = same_true a.filename filename same }
+    go false other rest = rest
 
   -- the first of these artifacts that has the name is shown by its number among all
   abbrev IsShown : List ArtifactRecord → Option Artifact → Option ArtifactRecord → Type 0

@@ -1,7 +1,12 @@
 -- From groups that were read to what is shown of them.
-use Rattle.std.proofs.Common.{◌≡◌, ◌≤◌, ◌-◌, ℕ, zero, suc, slice_get, arith, List, [], ◌∷◌, map, length, take, drop, Option, Some, None, refl, sym, ap, ◌∙◌}
+use Rattle.std.proofs.Common.{◌≡◌, ◌≤◌, ◌<◌, ◌^◌, ◌⊎◌, ◌-◌, get_or, Result, Err, IfErr, subst, ℕ, zero, suc, slice_get, arith, List, [], ◌∷◌, map, length, take, drop, Option, Some, None, refl, sym, ap, ◌∙◌}
 use Rattle.std.proofs.lemmas.List.{drop-map, length-map, take-map}
+use Rattle.std.proofs.lemmas.List.Elements.{Contains-get_or}
+use Rattle.sqlite_rules.proofs.ListLemmas.{has_contained}
+use Rattle.sql_calls.specs.declared.fault.Fault.{Fault}
+use Rattle.sql_calls.specs.declared.fault.Fault.TheVariants.{Memory, Store}
 use Rattle.rollout_machine.specs.Answers.{group_reply, if_found}
+use Rattle.rollout_machine.specs.ByteStrings.{item_numbered}
 use Rattle.rollout_machine.specs.Objects.{group_shown, groups_shown, page_of}
 use Rattle.rollout_machine.specs.Replies.{PageOf, Refused, Reply, ShownGroup}
 use Rattle.rollout_machine.specs.Requests.{Page}
@@ -15,6 +20,8 @@ use Rattle.desk_reads.proofs.RuleLemmas.{rule_is}
 use Rattle.campaign_core.specs.StatusWords.{group_word_from}
 use Rattle.desk_records.specs.Parts.{parts_of}
 use Rattle.desk_reads.specs.Rollouts.{IsSeenOf}
+use Rattle.desk_store.specs.Rows.{IfStore}
+use Rattle.desk_views.specs.Groups.{HasUnshown}
 use Rattle.desk_reads.specs.declared.rollouts.SeenRollout.{SeenRollout}
 
 pub groups_mapped : (x : RolloutRecord) (gs : List GroupRecord) → groups_shown x gs ≡ map (group_shown x) gs
@@ -40,6 +47,15 @@ groups_paged page x shown is = is ∙ ap (page_of page) (sym (groups_mapped x x.
 pub numbered_rule : (plan : RolloutPlan) (rules : List GroupRule) (i : ℕ) (rule : GroupRule) → rules ≡ rules_of plan → 1 ≤ i → slice_get rules (i - 1) ≡ Some rule → rule ≡ rule_at plan i
 numbered_rule plan rules zero rule are least found = absurd (omega (arith, least))
 numbered_rule plan rules (suc k) rule are least found = rule_is plan (suc k) rule (let before : suc k - 1 ≡ k = omega arith in ap (λ its. slice_get its k) (sym are) ∙ rw before at found)
+
+-- a group that can't be shown, among all
+pub unshown_at : {A : Type 0} (rules : List GroupRule) (groups : List GroupRecord) (at : ℕ) (d : GroupRecord) → at < length groups → (item_numbered rules (get_or groups at d).number ≡ None) ⊎ (2 ^ 32 ≤ size_of_group (get_or groups at d))
+    → (fault : Fault) (out : Result A Fault) → out ≡ Err fault → IfErr out (λ fault. IfStore fault (HasUnshown rules groups))
+unshown_at {A = A} rules groups at d within why fault out is = subst (λ (o : Result A Fault). IfErr o (λ fault. IfStore fault (HasUnshown rules groups))) (sym is) (go fault)
+  where
+    go : (fault : Fault) → IfStore fault (HasUnshown rules groups)
+    go Memory = tt
+    go Store = record { group = get_or groups at d; among = has_contained groups _ (Contains-get_or groups at d within); unshown = why }
 
 -- ---- a group of a rollout
 

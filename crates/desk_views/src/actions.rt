@@ -1,6 +1,6 @@
 //! Actions of targets and of rollouts, and their histories.
 
-ghost use Rattle.std.specs.Prelude.{◌≡◌, ◌≤◌, ◌<◌, ◌+◌, length, map, take, drop, option_copied, IfOk};
+ghost use Rattle.std.specs.Prelude.{◌≡◌, ◌≤◌, ◌<◌, ◌+◌, ◌^◌, length, map, take, drop, option_copied, IfErr, IfOk, MatchResult};
 ghost use Rattle.std.specs.Option.{option_map};
 ghost use Rattle.rollout_machine.specs.Answers.{action_of_target};
 ghost use Rattle.rollout_machine.specs.ByteStrings.{item_numbered};
@@ -12,6 +12,8 @@ ghost use Rattle.desk_records.specs.Actions.{history_of};
 ghost use Rattle.desk_views.specs.Actions.{entry_by, listed_shown, number_at, reports_of, shown_among, shown_in, stored_in};
 ghost use Rattle.desk_reads.specs.AtLists.{FindsAtListsIn};
 ghost use Rattle.desk_views.specs.Showing.{ShowsIn};
+ghost use Rattle.sql_calls.specs.declared.fault.Fault.TheVariants.{Store};
+ghost use Rattle.desk_store.specs.Rows.{IfStore};
 ghost use Rattle.desk_store.specs.Changing.{FindsIn, StaysIn};
 
 use crate::pages::part_on;
@@ -149,7 +151,8 @@ fn numbered_after(
     entries: Vec<HistoryEntry>,
     numbers: &[PlacedNumber],
 ) -> Result<Vec<NumberedEntry>, Fault>
-    ensures { IfOk result (λ all. all.items ≡ numbered (entry_by numbers.now) (before + 1) entries.items) }
+    ensures ok { IfOk result (λ all. all.items ≡ numbered (entry_by numbers.now) (before + 1) entries.items) }
+    ensures err { IfErr result (λ fault. IfStore fault (2 ^ 32 ≤ before + length entries.items)) }
 {
     let mut all = Vec::new(alloc);
     let mut last = before;
@@ -182,7 +185,8 @@ fn number_at(numbers: &[PlacedNumber], place: u32) -> Option<FeedbackNumber>
 
 /// How many were listed. Where they are as many as a statement lists there may be more, and the store has failed.
 fn count_of(listed: &[ListedAction]) -> Result<u32, Fault>
-    ensures { IfOk result (λ count. (count ≡ length listed.now) × (count < 4294967295)) }
+    ensures { MatchResult result (λ count. (count ≡ length listed.now) × (count < 4294967295))
+        (λ fault. (fault ≡ Store) × (4294967295 ≤ length listed.now)) }
 {
     match u32::try_from(listed.len()) {
         Ok(count) if count < u32::MAX => Ok(count),

@@ -1,6 +1,6 @@
 //! Artifacts and their contents.
 
-ghost use Rattle.std.specs.Prelude.{◌≡◌, ◌++◌, length, take, drop, IfOk};
+ghost use Rattle.std.specs.Prelude.{◌≡◌, ◌≢◌, ◌≤◌, ◌<◌, ◌^◌, ◌++◌, ◌*◌, ◌⊎◌, length, take, drop, false, IfErr, IfOk, IfSome, IsSome};
 ghost use Rattle.std.specs.Option.{option_map};
 ghost use Rattle.desk_records.specs.ArtifactRow.{stored};
 ghost use Rattle.rollout_machine.specs.Answers.{artifact_of_module, query_reply};
@@ -8,6 +8,11 @@ ghost use Rattle.rollout_machine.specs.ByteStrings.{item_numbered};
 ghost use Rattle.rollout_machine.specs.Requests.{ShowArtifacts, ShowArtifact, ShowContents};
 ghost use Rattle.rollout_machine.specs.Views.{reply_of};
 ghost use Rattle.desk_views.specs.Contents.{contents_found};
+ghost use Rattle.rollout_model.specs.Limits.{artifact_size_limit, piece_length};
+ghost use Rattle.rollout_model.specs.Rules.{is_contents};
+ghost use Rattle.sql_calls.specs.declared.fault.Fault.TheVariants.{Store};
+ghost use Rattle.desk_store.specs.Rows.{IfStore};
+ghost use Rattle.desk_views.specs.Sizes.{AgreesIn, IsOfNumber, KeepsSize};
 ghost use Rattle.desk_store.specs.Changing.{FindsIn, StaysIn};
 
 use desk_store::{Fault, OpenChange, StoredArtifact};
@@ -62,6 +67,7 @@ pub fn show_contents<S: Alter>(
 ) -> Result<Reply, Fault>
     ensures stays { StaysIn S.Store change.old change.new result }
     ensures reads { FindsIn S.Store change.old change.new result (λ now reply. reply_of reply ≡ query_reply now (ShowContents module_number number)) }
+    ensures sized { AgreesIn S.Store change.old change.new result (λ t reply. KeepsSize t (ShowContents module_number number) (reply_of reply)) }
 {
     let found = match read_of_module(change, module_number, number)? {
         Some(found) => found,
@@ -90,6 +96,7 @@ pub(crate) fn read_contents<S: Alter>(
 fn part_of(alloc: Global, all: &[Artifact], page: Page) -> Result<PageOf<Artifact>, Fault>
     ensures content { IfOk result (λ part. part.content.items ≡ take page.limit (drop page.offset all.now)) }
     ensures total { IfOk result (λ part. part.total ≡ length all.now) }
+    ensures err { IfErr result (λ fault. IfStore fault (2 ^ 32 ≤ length all.now)) }
 {
     let Ok(total) = u32::try_from(all.len()) else {
         return Err(Fault::Store);
@@ -111,6 +118,7 @@ fn read_of_module<S: Alter>(
     ensures stays { StaysIn S.Store change.old change.new result }
     ensures reads { FindsIn S.Store change.old change.new result
         (λ now found. found ≡ option_map stored (artifact_of_module now module_number number)) }
+    ensures agrees { AgreesIn S.Store change.old change.new result (λ t found. IfSome found (IsOfNumber t module_number number)) }
 {
     let found = match change.read_artifact(number)? {
         Some(found) => found,
@@ -144,13 +152,28 @@ fn read_pieces<S: Alter>(
     ensures reads { FindsIn S.Store change.old change.new result (λ now bytes. bytes.items ≡ contents_found (item_numbered now.artifacts number)) }
 {
     let mut bytes = Vec::new(alloc);
-    for place in 0..=PIECE_LIMIT {
-        match change.read_piece(number, place + 1)? {
+    let mut pieces = 0;
+    loop {
+        let found = change.read_piece(number, pieces + 1)?;
+        match within_limit(pieces, found)? {
             Some(piece) => append(&mut bytes, &piece)?,
             None => return Ok(bytes),
         }
+        pieces += 1;
     }
-    Err(Fault::Store)
+}
+
+/// What was found behind so many pieces. Where these are as many as contents may have, the store has failed.
+fn within_limit(before: u32, found: Option<Vec<u8>>) -> Result<Option<Vec<u8>>, Fault>
+    ensures same { IfOk result (λ piece. piece ≡ found) }
+    ensures few { IfOk result (λ piece. IfSome piece (λ _. before * piece_length < artifact_size_limit)) }
+    ensures err { IfErr result (λ fault. (fault ≡ Store) × IsSome found × (artifact_size_limit ≤ before * piece_length)) }
+{
+    match found {
+        Some(piece) if before < PIECE_LIMIT => Ok(Some(piece)),
+        Some(_) => Err(Fault::Store),
+        None => Ok(None),
+    }
 }
 
 fn append(bytes: &mut Vec<u8>, piece: &[u8]) -> Result<(), Fault>
@@ -166,6 +189,7 @@ fn append(bytes: &mut Vec<u8>, piece: &[u8]) -> Result<(), Fault>
 fn whole_contents(bytes: Vec<u8>, size: u32) -> Result<Contents, Fault>
     ensures bytes { IfOk result (λ contents. contents ≡ bytes.items) }
     ensures sized { IfOk result (λ contents. length contents ≡ size) }
+    ensures err { IfErr result (λ fault. (fault ≡ Store) × ((length bytes.items ≢ size) ⊎ (is_contents bytes.items ≡ false))) }
 {
     if bytes.len() != size as usize {
         return Err(Fault::Store);

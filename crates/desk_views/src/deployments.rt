@@ -12,7 +12,8 @@ ghost use Rattle.rollout_machine.specs.Views.{chunk, reply_of};
 ghost use Rattle.desk_records.specs.declared.rollout_row.StoredRollout.{StoredRollout};
 ghost use Rattle.rollout_model.specs.declared.artifact.Artifact.{Artifact};
 ghost use Rattle.desk_views.specs.Downloads.{downloadable, named};
-ghost use Rattle.desk_store.specs.Changing.{FindsIn, StaysIn};
+ghost use Rattle.desk_views.specs.Sizes.{AgreesIn, IsOfName, KeepsSize};
+ghost use Rattle.desk_store.specs.Changing.{FindsIn, KeepsTables, StaysIn};
 
 use crate::artifacts::read_contents;
 use crate::devices::is_offer_of;
@@ -119,6 +120,7 @@ fn read_action_modules<S: Alter>(
     number: ActionNo,
 ) -> Result<Vec<ModuleNo>, Fault>
     ensures stays { StaysIn S.Store change.old change.new result }
+    ensures keeps { KeepsTables S.Store change.old change.new result }
     ensures reads { FindsIn S.Store change.old change.new result (λ now modules. modules.items ≡ modules_of_action now (item_numbered now.actions number)) }
 {
     match change.read_action(number)? {
@@ -134,6 +136,7 @@ fn read_rollout_modules<S: Alter>(
     number: RolloutNo,
 ) -> Result<Vec<ModuleNo>, Fault>
     ensures stays { StaysIn S.Store change.old change.new result }
+    ensures keeps { KeepsTables S.Store change.old change.new result }
     ensures reads { FindsIn S.Store change.old change.new result (λ now modules. modules.items ≡ modules_of_rollout now (item_numbered now.rollouts number)) }
 {
     let found = change.read_rollout(number)?;
@@ -164,6 +167,7 @@ pub fn show_download<S: Alter>(
     ensures stays { StaysIn S.Store change.old change.new result }
     ensures reads { FindsIn S.Store change.old change.new result
         (λ now reply. reply_of reply ≡ query_reply now (Download device.now module_number filename.now)) }
+    ensures sized { AgreesIn S.Store change.old change.new result (λ t reply. KeepsSize t (Download device.now module_number filename.now) (reply_of reply)) }
 {
     match find_download(alloc, change, device, module_number, filename)? {
         Ok(artifact) => {
@@ -184,6 +188,7 @@ pub fn find_download<S: Alter>(
 ) -> Result<Result<Artifact, Refusal>, Fault>
     ensures stays { StaysIn S.Store change.old change.new result }
     ensures reads { FindsIn S.Store change.old change.new result (λ now found. found ≡ downloadable now device.now module_number filename.now) }
+    ensures agrees { AgreesIn S.Store change.old change.new result (λ t found. IfOk found (IsOfName t module_number filename.now)) }
 {
     if !knows_device(change, device)? {
         return Ok(Err(Refusal::Unauthorized));
@@ -203,6 +208,7 @@ fn read_offered_modules<S: Alter>(
     id: &ControllerId,
 ) -> Result<Vec<ModuleNo>, Fault>
     ensures stays { StaysIn S.Store change.old change.new result }
+    ensures keeps { KeepsTables S.Store change.old change.new result }
     ensures reads { FindsIn S.Store change.old change.new result (λ now modules. modules.items ≡ modules_offered now (offer now id.now)) }
 {
     match change.read_offer(id)? {
@@ -218,6 +224,7 @@ fn read_installed<S: Alter>(
     offer: Offer,
 ) -> Result<Vec<ModuleNo>, Fault>
     ensures stays { StaysIn S.Store change.old change.new result }
+    ensures keeps { KeepsTables S.Store change.old change.new result }
     ensures reads { FindsIn S.Store change.old change.new result (λ now modules. modules.items ≡ modules_offered now (Some offer)) }
 {
     if offer.canceling {

@@ -1,6 +1,6 @@
 //! Groups of rollouts.
 
-ghost use Rattle.std.specs.Prelude.{◌≡◌, ◌+◌, ◌-◌, ◌<◌, ◌++◌, ◌∷◌, [], IfOk, Some, map, min};
+ghost use Rattle.std.specs.Prelude.{◌≡◌, ◌+◌, ◌-◌, ◌<◌, ◌≤◌, ◌^◌, ◌++◌, ◌⊎◌, ◌∷◌, [], IfErr, IfOk, MatchResult, Some, None, drop, length, map, min, take};
 ghost use Rattle.rollout_machine.specs.Answers.{target_if, targets_of};
 ghost use Rattle.rollout_machine.specs.ByteStrings.{item_numbered};
 ghost use Rattle.rollout_machine.specs.Commands.{RolloutPlan};
@@ -12,6 +12,9 @@ ghost use Rattle.rollout_machine.specs.Verdicts.{target_of};
 ghost use Rattle.rollout_machine.specs.Views.{listed, shown_target};
 ghost use Rattle.rollout_machine.specs.declared.records.RolloutRecord.{RolloutRecord};
 ghost use Rattle.desk_reads.specs.Rollouts.{IsSeenOf};
+ghost use Rattle.sql_calls.specs.declared.fault.Fault.TheVariants.{Store};
+ghost use Rattle.desk_store.specs.Rows.{IfStore};
+ghost use Rattle.desk_views.specs.Groups.{HasUnshown};
 ghost use Rattle.desk_views.specs.Showing.{ShowsIn};
 ghost use Rattle.desk_store.specs.Changing.{FindsIn, StaysIn};
 
@@ -164,7 +167,7 @@ fn push(content: &mut Vec<ShownTarget>, shown: ShownTarget) -> Result<(), Fault>
 
 /// How many members a group has. Where they are more than are counted, the store has failed.
 fn count_of(group: &GroupRecord) -> Result<u32, Fault>
-    ensures { IfOk result (λ size. size ≡ size_of_group group.now) }
+    ensures { MatchResult result (λ size. size ≡ size_of_group group.now) (λ fault. (fault ≡ Store) × (2 ^ 32 ≤ size_of_group group.now)) }
 {
     match u32::try_from(size_of(group)) {
         Ok(size) => Ok(size),
@@ -179,8 +182,10 @@ fn page_shown(
     rules: &[GroupRule],
     page: Page,
 ) -> Result<PageOf<Group>, Fault>
-    ensures { IfOk result (λ shown. (x : RolloutRecord) → IsSeenOf seen.now x → rules.now ≡ rules_of x.plan
+    ensures ok { IfOk result (λ shown. (x : RolloutRecord) → IsSeenOf seen.now x → rules.now ≡ rules_of x.plan
         → listed shown ≡ page_of page (map (group_shown x) x.groups)) }
+    ensures err { IfErr result (λ fault. IfStore fault ((2 ^ 32 ≤ length seen.now.groups.items) ⊎ HasUnshown rules.now
+        (take page.limit (drop page.offset seen.now.groups.items)))) }
 {
     let Ok(total) = u32::try_from(seen.groups.len()) else {
         return Err(Fault::Store);
@@ -196,8 +201,9 @@ pub(crate) fn all_shown(
     rules: &[GroupRule],
     groups: &[GroupRecord],
 ) -> Result<Vec<Group>, Fault>
-    ensures { IfOk result (λ shown. (x : RolloutRecord) → IsSeenOf seen.now x → rules.now ≡ rules_of x.plan
+    ensures ok { IfOk result (λ shown. (x : RolloutRecord) → IsSeenOf seen.now x → rules.now ≡ rules_of x.plan
         → shown.items ≡ map (group_shown x) groups.now) }
+    ensures err { IfErr result (λ fault. IfStore fault (HasUnshown rules.now groups.now)) }
 {
     let mut all = Vec::new(alloc);
     for group in groups {
@@ -213,7 +219,8 @@ pub(crate) fn all_shown(
 
 /// The rule of the group of a number, counted from 1. Where there is none, the store has failed.
 fn rule_of(rules: &[GroupRule], number: u32) -> Result<GroupRule, Fault>
-    ensures { IfOk result (λ rule. (plan : RolloutPlan) → rules.now ≡ rules_of plan → rule ≡ rule_at plan number) }
+    ensures { MatchResult result (λ rule. (plan : RolloutPlan) → rules.now ≡ rules_of plan → rule ≡ rule_at plan number)
+        (λ fault. (fault ≡ Store) × (item_numbered rules.now number ≡ None)) }
 {
     if number == 0 {
         return Err(Fault::Store);
@@ -226,8 +233,9 @@ fn rule_of(rules: &[GroupRule], number: u32) -> Result<GroupRule, Fault>
 
 /// A group of a rollout as it is shown, by its rule.
 fn shown_in(seen: &SeenRollout, rule: GroupRule, group: &GroupRecord) -> Result<Group, Fault>
-    ensures { IfOk result (λ shown. (x : RolloutRecord) → IsSeenOf seen.now x → rule ≡ rule_at x.plan group.now.number
+    ensures ok { IfOk result (λ shown. (x : RolloutRecord) → IsSeenOf seen.now x → rule ≡ rule_at x.plan group.now.number
         → shown ≡ group_shown x group.now) }
+    ensures err { IfErr result (λ fault. (fault ≡ Store) × (2 ^ 32 ≤ size_of_group group.now)) }
 {
     let size = count_of(group)?;
     let GroupRecord {

@@ -1,12 +1,14 @@
 //! Reports of rollouts.
 
-ghost use Rattle.std.specs.Prelude.{◌≡◌, IfOk};
+ghost use Rattle.std.specs.Prelude.{◌≡◌, IfErr, IfOk};
 ghost use Rattle.rollout_machine.specs.GroupRules.{rules_of};
 ghost use Rattle.rollout_machine.specs.Objects.{report_of};
 ghost use Rattle.rollout_machine.specs.Requests.{ShowReport};
 ghost use Rattle.rollout_machine.specs.Views.{report};
 ghost use Rattle.rollout_machine.specs.declared.records.RolloutRecord.{RolloutRecord};
 ghost use Rattle.desk_reads.specs.Rollouts.{IsSeenOf};
+ghost use Rattle.desk_store.specs.Rows.{IfStore};
+ghost use Rattle.desk_views.specs.Groups.{HasUnshown};
 ghost use Rattle.desk_views.specs.Showing.{ShowsIn};
 ghost use Rattle.desk_store.specs.Changing.{StaysIn};
 
@@ -38,7 +40,8 @@ pub fn show_report<S: Alter>(
 
 /// The report of a rollout, by the rules of all its groups.
 fn report_of(alloc: Global, seen: SeenRollout, rules: &[GroupRule]) -> Result<RolloutReport, Fault>
-    ensures { IfOk result (λ whole. (x : RolloutRecord) → IsSeenOf seen x → rules.now ≡ rules_of x.plan → report whole ≡ report_of x) }
+    ensures ok { IfOk result (λ whole. (x : RolloutRecord) → IsSeenOf seen x → rules.now ≡ rules_of x.plan → report whole ≡ report_of x) }
+    ensures err { IfErr result (λ fault. IfStore fault (HasUnshown rules.now seen.groups.items)) }
 {
     let groups = all_shown(alloc, &seen, rules, &seen.groups)?;
     let rollout = shown(seen);

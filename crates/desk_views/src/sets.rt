@@ -1,11 +1,13 @@
 //! Distribution sets.
 
-ghost use Rattle.std.specs.Prelude.{◌≡◌, length, take, drop, Some, IfOk};
+ghost use Rattle.std.specs.Prelude.{◌≡◌, length, take, drop, false, Some, MatchResult};
 ghost use Rattle.rollout_machine.specs.Answers.{query_reply};
 ghost use Rattle.rollout_machine.specs.ByteStrings.{item_numbered};
 ghost use Rattle.rollout_machine.specs.Objects.{numbered, set_shown};
 ghost use Rattle.rollout_machine.specs.Requests.{ShowSet, ShowSets};
 ghost use Rattle.rollout_machine.specs.Views.{reply_of};
+ghost use Rattle.rollout_model.specs.Rules.{is_module_list};
+ghost use Rattle.sql_calls.specs.declared.fault.Fault.TheVariants.{Store};
 ghost use Rattle.desk_store.specs.Changing.{FindsIn, StaysIn};
 
 use crate::pages::count_on;
@@ -99,7 +101,7 @@ fn read_label<S: Alter>(
 
 /// The modules of a set. Where they aren't 1 to 8, or one stands twice, the store has failed, since no such set was added.
 fn module_list(numbers: Vec<ModuleNo>) -> Result<ModuleList, Fault>
-    ensures { IfOk result (λ modules. modules ≡ numbers.items) }
+    ensures { MatchResult result (λ modules. modules ≡ numbers.items) (λ fault. (fault ≡ Store) × (is_module_list numbers.items ≡ false)) }
 {
     match ModuleList::from_numbers(numbers) {
         Some(modules) => Ok(modules),

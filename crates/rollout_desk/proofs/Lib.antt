@@ -9,3 +9,4 @@ pub mod PieceLemmas
 pub mod PromiseLemmas
 pub mod DownloadLemmas
 mod VerifyLemmas
+mod SizeLemmas

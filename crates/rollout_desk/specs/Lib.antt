@@ -9,3 +9,4 @@ pub mod Looks
 pub mod Downloads
 pub mod Working
 pub mod Verifying
+pub mod Sizes

@@ -6,7 +6,7 @@ ghost use Rattle.desk_records.specs.Holds.{HoldsRecords};
 ghost use Rattle.rollout_machine.specs.Requests.{Do, Ask};
 ghost use Rattle.rollout_machine.specs.StoreFailures.{is_failed_store};
 ghost use Rattle.rollout_machine.specs.Views.{command_of, query_of, reply_of};
-ghost use Rattle.desk_views.specs.Showing.{ShowsIn};
+ghost use Rattle.rollout_desk.specs.Sizes.{AnswersIn, KeepsSizes};
 ghost use Rattle.rollout_desk.specs.Working.{TellsFailures};
 ghost use Rattle.rollout_machine.specs.Bounds.{is_feedback};
 ghost use Rattle.rollout_desk.specs.Changes.{Handles, EndsByCommit, EndsByRollback};
@@ -34,7 +34,7 @@ fn answer<S: Alter>(
     query: &Query,
 ) -> Result<Reply, Fault>
     ensures stays { StaysIn S.Store change.old change.new result }
-    ensures shows { ShowsIn S.Store change.old change.new (query_of query.now) result }
+    ensures answers { AnswersIn S.Store change.old change.new (query_of query.now) result }
 {
     match query {
         Query::Modules(page) => show_modules(alloc, change, *page),
@@ -124,6 +124,7 @@ pub(crate) fn run_command<S: Alter>(
 pub(crate) fn run_query<S: Alter>(alloc: Global, store: &mut DeskStore<S>, query: &Query) -> Reply
     ensures handles { Handles HoldsRecords (state S.Store store.old.calls.conn) (state S.Store store.new.calls.conn) (Ask (query_of query.now))
         (reply_of result) }
+    ensures sized { KeepsSizes (state S.Store store.old.calls.conn) (state S.Store store.new.calls.conn) (query_of query.now) (reply_of result) }
     ensures tells { TellsFailures (is_failed_store (reply_of result)) store.old.calls store.new.calls }
 {
     let mut change = match store.begin() {

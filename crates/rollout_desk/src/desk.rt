@@ -1,6 +1,7 @@
 //! The desk.
 
 ghost use Rattle.std.specs.Prelude.{◌≡◌, true, false};
+ghost use Rattle.sqlite.specs.Held.{state};
 ghost use Rattle.rollout_model.specs.declared.refusal.Refusal.TheVariants.{Stopped, StoreFailed};
 ghost use Rattle.rollout_machine.specs.Bounds.{KeepsBound};
 ghost use Rattle.rollout_machine.specs.Replies.{Refused};
@@ -10,6 +11,7 @@ ghost use Rattle.rollout_machine.specs.StoreFailures.{is_failed_store};
 ghost use Rattle.rollout_machine.specs.Views.{command_of, query_of, request_of, reply_of};
 ghost use Rattle.rollout_desk.specs.DeskStates.{desk_state};
 ghost use Rattle.rollout_desk.specs.Promises.{IsPromised, KeepsToOffers, ShowsWhole};
+ghost use Rattle.rollout_desk.specs.Sizes.{KeepsSizes};
 ghost use Rattle.rollout_desk.specs.Working.{TellsFailures};
 ghost use Rattle.sql_calls.specs.Calls.{no_work, since};
 
@@ -80,6 +82,7 @@ impl<S: Alter> Desk<S> {
         ensures applies { Applies (desk_state S.Store self.old) (desk_state S.Store self.new) (Asks (Ask (query_of query.now))) (reply_of result) }
         ensures offered { IsPromised (desk_state S.Store self.old) (desk_state S.Store self.new) (λ h. KeepsToOffers h (query_of query.now) (reply_of result)) }
         ensures whole { IsPromised (desk_state S.Store self.old) (desk_state S.Store self.new) (λ h. ShowsWhole h (query_of query.now) (reply_of result)) }
+        ensures sized { KeepsSizes (state S.Store self.old.store.calls.conn) (state S.Store self.new.store.calls.conn) (query_of query.now) (reply_of result) }
         ensures stops { reply_of result ≡ Refused StoreFailed → (desk_state S.Store self.new).is_stopped ≡ true }
         ensures stopped { (desk_state S.Store self.old).is_stopped ≡ true → (reply_of result ≡ Refused Stopped)
             × StaysStopped (desk_state S.Store self.old) (desk_state S.Store self.new) }
@@ -99,6 +102,8 @@ impl<S: Alter> Desk<S> {
     pub fn answer(&mut self, request: &Request) -> Reply
         ensures clean { (desk_state S.Store self.new).is_clean → (desk_state S.Store self.old).is_clean }
         ensures applies { Applies (desk_state S.Store self.old) (desk_state S.Store self.new) (Asks (request_of request.now)) (reply_of result) }
+        ensures sized { (query : _) → request_of request.now ≡ Ask query
+            → KeepsSizes (state S.Store self.old.store.calls.conn) (state S.Store self.new.store.calls.conn) query (reply_of result) }
         ensures stops { reply_of result ≡ Refused StoreFailed → (desk_state S.Store self.new).is_stopped ≡ true }
         ensures stopped { (desk_state S.Store self.old).is_stopped ≡ true → (reply_of result ≡ Refused Stopped)
             × StaysStopped (desk_state S.Store self.old) (desk_state S.Store self.new) }

@@ -13,4 +13,4 @@ returns-then-is_empty-clause-reads g c =
 pub returns-clause-reads : goal.returns-clause-reads
 returns-clause-reads g c =
     finds_as (both_found c.in_ok-entries.ensures.reads (ledger_found _ c.in_ok-numbers.ensures.reads))
-    (λ r is of. page_numbered r c.args.number c.args.page c.in_ok-entries.entries.items c.in_ok-numbers.numbers.items c.in_ok-shown.shown.items (is.0 of) is.1 (rw c.deref.ensures.value at c.in_ok-shown.ensures))
+    (λ r is of. page_numbered r c.args.number c.args.page c.in_ok-entries.entries.items c.in_ok-numbers.numbers.items c.in_ok-shown.shown.items (is.0 of) is.1 (rw c.deref.ensures.value at c.in_ok-shown.ensures.ok))

@@ -1,7 +1,7 @@
 use Rattle.std.proofs.Common.{sym, ◌∙◌}
 use Rattle.sql_calls.proofs.Composing.{finds_as}
 use Rattle.rollout_machine.specs.ByteStrings.{item_numbered}
-use Rattle.desk_views.proofs.ArtifactViews.{no_artifact, of_another, of_this}
+use Rattle.desk_views.proofs.ArtifactViews.{no_artifact, of_another, of_this, same_module}
 use Rattle.desk_views.proofs.artifacts.read_of_module.Goals as goal
 
 pub returns-in-None-clause-reads : goal.returns-in-None-clause-reads
@@ -16,3 +16,11 @@ pub returns-clause-reads : goal.returns-clause-reads
 returns-clause-reads g c =
     finds_as (rw c.in-Some.is at c.in_ok-found.ensures.reads)
     (λ r is. of_this c.args.module_number (item_numbered r.artifacts c.args.number) c.in-Some.found is (sym c.ne.ensures ∙ c.if-ne.false))
+
+pub returns-clause-agrees : goal.returns-clause-agrees
+returns-clause-agrees g c = record {
+  agrees = λ t was clean. record {
+    row = ((rw c.in-Some.is at c.in_ok-found.ensures.tells).finds t was).1 clean;
+    module_is = same_module c.in-Some.found.module_number c.args.module_number (sym c.ne.ensures ∙ c.if-ne.false);
+  };
+}

@@ -1,4 +1,4 @@
-use Rattle.std.proofs.Common.{◌++◌, ap, ◌∙◌, arith, rules}
+use Rattle.std.proofs.Common.{◌++◌, sym, ap, ◌∙◌, arith, rules}
 use Rattle.sql_calls.proofs.Composing.{both_found, finds_as}
 use Rattle.desk_records.specs.Artifacts.{pieces_of_artifact}
 use Rattle.rollout_machine.specs.ByteStrings.{item_numbered}
@@ -7,13 +7,14 @@ use Rattle.desk_views.proofs.artifacts.read_pieces.Goals as goal
 
 pub returns-in-None-clause-reads : goal.returns-in-None-clause-reads
 returns-in-None-clause-reads g c =
-    finds_as (both_found c.loop-place.invariant.reads (rw c.in-None.is at c.in_ok-piece.ensures.reads))
-    (λ r is. pieces_end (item_numbered r.artifacts c.args.number) _ c.loop-place.place _ is.0 is.1 (omega arith))
+    finds_as (both_found c.loop-bytes.invariant.reads (rw (sym c.in_ok-piece.ensures.same ∙ c.in-None.is) at c.in_ok-found.ensures.reads))
+    (λ r is. pieces_end (item_numbered r.artifacts c.args.number) _ c.loop-bytes.pieces _ is.0 is.1 (omega arith))
 
-pub loop-place-preserved : goal.loop-place-preserved
-loop-place-preserved g c = record {
+pub loop-bytes-preserved : goal.loop-bytes-preserved
+loop-bytes-preserved g c = record {
+  few = omega (arith, rw c.in-Some.is at c.in_ok-piece.ensures.few);
   stays = search rules;
-  reads = finds_as (both_found c.loop-place.invariant.reads (rw c.in-Some.is at c.in_ok-piece.ensures.reads))
-      (λ r is. pieces_grow (pieces_of_artifact (item_numbered r.artifacts c.args.number)) _ _ c.loop-place.place _ _ is.0 is.1 (omega arith)
-      (c.in_ok-append-in-Some.ensures ∙ ap (λ l. c.loop-place.bytes.items ++ l) c.deref.ensures.value));
+  reads = finds_as (both_found c.loop-bytes.invariant.reads (rw (sym c.in_ok-piece.ensures.same ∙ c.in-Some.is) at c.in_ok-found.ensures.reads))
+      (λ r is. pieces_grow (pieces_of_artifact (item_numbered r.artifacts c.args.number)) _ _ c.loop-bytes.pieces _ _ is.0 is.1 (omega arith)
+      (c.in_ok-append-in-Some.ensures ∙ ap (λ l. c.loop-bytes.bytes.items ++ l) c.deref.ensures.value));
 }

@@ -1,4 +1,4 @@
-use Rattle.std.proofs.Common.{◌≡◌, Ok, take}
+use Rattle.std.proofs.Common.{◌≡◌, ◌≤◌, ◌-◌, Ok, take}
 use Rattle.sql_calls.specs.declared.fault.Fault.{Fault}
 use Rattle.desk_records.specs.Artifacts.{pieces_of_artifact}
 use Rattle.rollout_machine.specs.ByteStrings.{item_numbered}
@@ -7,9 +7,13 @@ use Rattle.desk_store.specs.Changing.{FindsIn, StaysIn}
 use Rattle.desk_views.proofs.artifacts.read_pieces.Given as goal
 
 -- the bytes so far are those of the first pieces
-abbrev pub invariant-loop-place : goal.invariant-loop-place
-invariant-loop-place g l = record {
+abbrev pub invariant-loop-bytes : goal.invariant-loop-bytes
+invariant-loop-bytes g l = record {
+  few : l.pieces ≤ 64;
   stays : StaysIn g.S.Store l.fn.change l.change (Ok (tt {0}));
   reads : FindsIn g.S.Store {E = Fault} l.fn.change l.change (Ok l.bytes.items)
-      (λ r items. items ≡ together (take l.place (pieces_of_artifact (item_numbered r.artifacts l.number))));
+      (λ r items. items ≡ together (take l.pieces (pieces_of_artifact (item_numbered r.artifacts l.number))));
 }
+
+abbrev pub decreases-loop-bytes : goal.decreases-loop-bytes
+decreases-loop-bytes g l = 64 - l.pieces

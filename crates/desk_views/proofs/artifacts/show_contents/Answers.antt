@@ -1,3 +1,4 @@
+use Rattle.std.proofs.Common.{sym, arith}
 use Rattle.sql_calls.proofs.Composing.{both_found, finds_as}
 use Rattle.rollout_machine.specs.Answers.{artifact_of_module}
 use Rattle.rollout_machine.specs.ByteStrings.{item_numbered}
@@ -9,3 +10,10 @@ returns-in-None-clause-reads g c = finds_as (rw c.in-None.is at c.in_ok-found.en
 
 pub returns-clause-reads : goal.returns-clause-reads
 returns-clause-reads g c = finds_as (both_found (rw c.in-Some.is at c.in_ok-found.ensures.reads) c.in_ok-contents.ensures.reads) (λ r is. contents_replied c.args.module_number (item_numbered r.artifacts c.args.number) c.in-Some.found _ is.0 is.1)
+
+pub returns-clause-sized : goal.returns-clause-sized
+returns-clause-sized g c = record {
+  agrees = λ t was clean.
+      let row = (rw c.in-Some.is at c.in_ok-found.ensures.agrees).agrees t was (omega (arith, clean, c.in_ok-contents.ensures.reads.wears)) in
+      (c.in-Some.found, row, sym c.in_ok-contents.ensures.sized);
+}

@@ -1,7 +1,8 @@
-use Rattle.std.proofs.Common.{◌∙◌, ap}
+use Rattle.std.proofs.Common.{◌∙◌, IfOk, ap, subst, sym}
 use Rattle.sql_calls.proofs.Composing.{both_found, finds_as}
 use Rattle.desk_views.specs.Downloads.{named}
-use Rattle.desk_views.proofs.DeviceViews.{is_named, not_among, not_known}
+use Rattle.desk_views.specs.Sizes.{IsOfName}
+use Rattle.desk_views.proofs.DeviceViews.{is_named, named_said, not_among, not_known}
 use Rattle.desk_views.proofs.deployments.find_download.Goals as goal
 
 pub returns-then-not-branch-clause-reads : goal.returns-then-not-branch-clause-reads
@@ -12,3 +13,11 @@ returns-then-not-is_among-clause-reads g c = finds_as (both_found (rw c.if-not-b
 
 pub returns-clause-reads : goal.returns-clause-reads
 returns-clause-reads g c = finds_as (both_found (both_found (rw c.if-not-branch.false at c.in_ok-knows_device.ensures.reads) c.in_ok-modules.ensures.reads) c.in_ok-artifacts.ensures.reads) (λ r is. c.named.ensures ∙ ap (named c.args.filename.now) (c.deref-2.ensures.value ∙ is.1) ∙ is_named c.args.module_number c.args.filename.now r c.args.device.now is.0.0 _ is.0.1 _ (rw c.deref.ensures.value at c.is_among.ensures) c.if-not-is_among.false)
+
+pub returns-clause-agrees : goal.returns-clause-agrees
+returns-clause-agrees g c = record {
+  agrees = λ t was clean.
+      let listed = (c.in_ok-artifacts.ensures.tells.finds t (c.in_ok-modules.ensures.keeps.to t (c.in_ok-knows_device.ensures.keeps.to t was))).1 clean in
+      subst (λ it. IfOk it (IsOfName t c.args.module_number c.args.filename.now)) (sym (c.named.ensures ∙ ap (named c.args.filename.now) c.deref-2.ensures.value))
+      (named_said c.args.module_number c.args.filename.now t _ listed.sound);
+}

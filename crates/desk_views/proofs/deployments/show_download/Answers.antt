@@ -1,4 +1,4 @@
-use Rattle.std.proofs.Common.{sym}
+use Rattle.std.proofs.Common.{sym, arith}
 use Rattle.sql_calls.proofs.Composing.{both_found, finds_as}
 use Rattle.desk_views.proofs.DeviceViews.{answered_by, downloaded}
 use Rattle.desk_views.proofs.deployments.show_download.Goals as goal
@@ -8,3 +8,10 @@ returns-in_ok-contents-in-Ok-clause-reads g c = finds_as (both_found (rw c.in-Ok
 
 pub returns-in-Err-clause-reads : goal.returns-in-Err-clause-reads
 returns-in-Err-clause-reads g c = finds_as (rw c.in-Err.is at c.in_ok-artifact.ensures.reads) (λ r is. sym (answered_by c.args.module_number c.args.filename.now r c.args.device.now _ is))
+
+pub returns-in_ok-contents-in-Ok-clause-sized : goal.returns-in_ok-contents-in-Ok-clause-sized
+returns-in_ok-contents-in-Ok-clause-sized g c = record {
+  agrees = λ t was clean.
+      let row = (rw c.in-Ok.is at c.in_ok-artifact.ensures.agrees).agrees t was (omega (arith, clean, c.in_ok-contents-in-Ok.ensures.reads.wears)) in
+      (c.in-Ok.artifact, row, sym c.in_ok-contents-in-Ok.ensures.sized);
+}

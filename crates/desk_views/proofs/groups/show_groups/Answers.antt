@@ -17,4 +17,4 @@ pub returns-clause-shows : goal.returns-clause-shows
 returns-clause-shows g c =
     finds_as (both_found (rw c.in-Some.is at c.in_ok-seen.ensures.reads) (ledger_found _ c.in_ok-rules.ensures.reads))
     (λ r is of. one_replied (λ x. GroupsShown (page_of c.args.page (groups_shown x x.groups))) (item_numbered r.rollouts c.args.number) c.in-Some.seen _ (is.0 of)
-    (λ x there it. ap GroupsShown (groups_paged c.args.page x _ (c.in_ok-shown.ensures x it (c.deref.ensures.value ∙ is.1 ∙ rules_there r c.args.number x there)))))
+    (λ x there it. ap GroupsShown (groups_paged c.args.page x _ (c.in_ok-shown.ensures.ok x it (c.deref.ensures.value ∙ is.1 ∙ rules_there r c.args.number x there)))))

@@ -15,4 +15,4 @@ pub returns-clause-shows : goal.returns-clause-shows
 returns-clause-shows g c =
     finds_as (both_found (rw c.in-Some.is at c.in_ok-seen.ensures.reads) (ledger_found _ c.in_ok-rules.ensures.reads))
     (λ r is of. one_replied (λ x. ReportShown (report_of x)) (item_numbered r.rollouts c.args.number) c.in-Some.seen _ (is.0 of)
-    (λ x there it. ap ReportShown (c.in_ok-whole.ensures x it (c.deref.ensures.value ∙ is.1 ∙ rules_there r c.args.number x there))))
+    (λ x there it. ap ReportShown (c.in_ok-whole.ensures.ok x it (c.deref.ensures.value ∙ is.1 ∙ rules_there r c.args.number x there))))

@@ -1,3 +1,4 @@
+use Rattle.std.proofs.Common.{refl}
 use Rattle.sqlite.specs.Held.{state}
 use Rattle.desk_records.specs.Holds.{HoldsRecords}
 use Rattle.rollout_machine.specs.Requests.{Ask}
@@ -6,6 +7,7 @@ use Rattle.rollout_desk.specs.DeskStates.{desk_state}
 use Rattle.rollout_desk.specs.Desks.{desk_state_at}
 use Rattle.rollout_desk.proofs.DeskLemmas.{answers}
 use Rattle.rollout_desk.proofs.PromiseLemmas.{offers_kept, contents_whole}
+use Rattle.rollout_desk.proofs.SizeLemmas.{refused_sized}
 use Rattle.rollout_desk.proofs.desk.Desk.ask.Goals as goal
 
 pub returns-clause-offered : goal.returns-clause-offered
@@ -19,3 +21,6 @@ returns-clause-whole g c =
     let now = desk_state_at HoldsRecords c.says_store_failed-self.result (state g.S.Store c.run_query-reply.new.store.calls.conn) in
     contents_whole (desk_state g.S.Store c.args.self.now) now (query_of c.args.query.now) (reply_of c.run_query-reply.result)
     (answers HoldsRecords (state g.S.Store c.args.self.now.store.calls.conn) (state g.S.Store c.run_query-reply.new.store.calls.conn) c.args.self.now.stopped c.says_store_failed-self.result (Ask (query_of c.args.query.now)) _ c.if-self.false c.run_query-reply.ensures.handles c.says_store_failed-self.ensures.is)
+
+pub returns-then-self-clause-sized : goal.returns-then-self-clause-sized
+returns-then-self-clause-sized g c = λ t clean shown. refused_sized t (query_of c.args.query.now) _ _ refl

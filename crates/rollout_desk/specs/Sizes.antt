@@ -1,0 +1,24 @@
+-- Contents by the sizes that the tables tell, whatever rows they have.
+use Rattle.std.specs.Prelude.{Result}
+use Rattle.sqlite.specs.State.{State, HasCleanDisk}
+use Rattle.sqlite.specs.Store.{Ghosts}
+use Rattle.sql_calls.specs.Standing.{Shows}
+use Rattle.sql_calls.specs.declared.fault.Fault.{Fault}
+use Rattle.rollout_machine.specs.Replies as shown
+use Rattle.rollout_machine.specs.Requests.{Query}
+use Rattle.rollout_machine.specs.Views.{reply_of}
+use Rattle.rollout_model.specs.declared.request.Reply.{Reply}
+use Rattle.desk_records.specs.Tables.{HoldsTables, Tables}
+use Rattle.desk_store.specs.declared.change.OpenChange.{OpenChange}
+use Rattle.desk_views.specs.Showing.{ShowsIn}
+use Rattle.desk_views.specs.Sizes.{AgreesIn, KeepsSize}
+
+module _ {S : Type 0} (g : Ghosts S) where
+  -- what a query is answered inside a change: at lists of accepted commands, and in whatever tables
+  pub record AnswersIn (old new : OpenChange S) (query : Query) (result : Result Reply Fault) : Type 0 where
+    pub shows : ShowsIn g old new query result
+    pub sized : AgreesIn g old new result (λ t reply. KeepsSize t query (reply_of reply))
+
+-- Contents that are shown are as many bytes as is told of their artifact in the tables that were shown, whatever rows these have.
+abbrev pub KeepsSizes : State → State → Query → shown.Reply → Type 0
+KeepsSizes old new query reply = (t : Tables) → HasCleanDisk new → Shows HoldsTables old t → KeepsSize t query reply
