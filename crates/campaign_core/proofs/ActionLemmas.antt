@@ -1,32 +1,11 @@
 -- What commands on actions come to, by the views of these actions, over sound records.
 use Rattle.std.proofs.Common.{◌≡◌, ℕ, Bool, true, false, cond, ◌&&◌, ◌||◌, List, [], ◌∷◌, ◌++◌, refl, sym, ◌∙◌, ap, subst, Option, Some, None, Ok}
 use Rattle.std.specs.Prelude.{IfSome, is_none, is_some, map, nat_eq, not}
-use Rattle.std.specs.Option.{option_map, option_or, unwrap_or}
-use Rattle.std.proofs.lemmas.Bool.{eq-eqb}
+use Rattle.campaign_core.proofs.Common.{option_map, option_or, unwrap_or, eq-eqb, cancel_standing_said, outcome_given, item_numbered, Bytes, Cancel, Command, action_after, change_rollout, counted, is_same_action, outcome_if_new, own_group, rollout_after, rollouts_after_outcome, act_on, step_action, Records, Reported, is_again, reported_by, ActionRecord, RolloutRecord, group_number_of, has_started, is_for, check, first_refusal, on_action, target_of, Outcome, Effects, Refusal, ClosedAction, NotFound, WrongState, OwnDecides, own_effects, own_view_of, OwnView, AreSound, BothOrNone, ChangesAction, Decides, IsActionView, IsCancelView, MakesCancel, action_for, action_with, cancel_refusal, change_by, change_numbered, ended_by, moved_by, only_if, outcome_forced, rollout_with, rollouts_with, ActionChange, ActionView, CancelView}
 use Rattle.rollout_machine.proofs.Actions.{append_none}
-use Rattle.rollout_machine.specs.Actions.{cancel_standing_said, outcome_given}
-use Rattle.rollout_machine.specs.ByteStrings.{item_numbered}
-use Rattle.rollout_machine.specs.Commands.{Bytes, Cancel, Command}
-use Rattle.rollout_machine.specs.RecordSteps.{action_after, change_rollout, counted, is_same_action, outcome_if_new, own_group, rollout_after, rollouts_after_outcome, act_on, step_action}
-use Rattle.rollout_machine.specs.Records.{Records}
-use Rattle.rollout_machine.specs.Reports.{Reported, is_again, reported_by}
-use Rattle.rollout_machine.specs.declared.records.ActionRecord.{ActionRecord}
-use Rattle.rollout_machine.specs.declared.records.RolloutRecord.{RolloutRecord}
-use Rattle.rollout_machine.specs.StateWords.{group_number_of, has_started, is_for}
 use Rattle.rollout_machine.specs.Targets.{Target}
-use Rattle.rollout_machine.specs.Verdicts.{check, first_refusal, on_action, target_of}
-use Rattle.rollout_machine.specs.declared.outcome.Outcome.{Outcome}
-use Rattle.rollout_machine.specs.declared.view.Effects.{Effects}
-use Rattle.rollout_model.specs.declared.refusal.Refusal.{Refusal}
-use Rattle.rollout_model.specs.declared.refusal.Refusal.TheVariants.{ClosedAction, NotFound, WrongState}
-use Rattle.campaign_core.specs.OwnGroups.{OwnDecides, own_effects, own_view_of}
-use Rattle.campaign_core.specs.declared.own_group.OwnView.{OwnView}
-use Rattle.campaign_core.specs.RolloutChecks.{AreSound, BothOrNone, ChangesAction, Decides, IsActionView, IsCancelView, MakesCancel, action_for, action_with, cancel_refusal, change_by, change_numbered, ended_by, moved_by, only_if, outcome_forced, rollout_with, rollouts_with}
 use Rattle.campaign_core.specs.declared.rollout_checks.RolloutChange.TheVariants as change
 use Rattle.campaign_core.specs.declared.rollout_checks.RolloutCommandView.TheVariants as seen
-use Rattle.campaign_core.specs.declared.rollout_checks.actions.ActionChange.{ActionChange}
-use Rattle.campaign_core.specs.declared.rollout_checks.actions.ActionView.{ActionView}
-use Rattle.campaign_core.specs.declared.rollout_checks.actions.CancelView.{CancelView}
 use Rattle.campaign_core.proofs.ItemLemmas.{IsFound, changed_same, found, only_found, picked, same_item, unchanged}
 use Rattle.campaign_core.proofs.RolloutLemmas.{number_is, rollouts_changed}
 

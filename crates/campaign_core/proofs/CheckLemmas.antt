@@ -1,11 +1,6 @@
 -- A verdict over records is that at a command list.
 use Rattle.std.proofs.Common.{sym, subst, Result, Ok, Err}
-use Rattle.rollout_machine.proofs.Main.{records_step}
-use Rattle.rollout_machine.specs.CommandList.{CommandList}
-use Rattle.rollout_machine.specs.Commands.{Command}
-use Rattle.rollout_machine.specs.Records.{Records, records}
-use Rattle.rollout_machine.specs.Validity.{IsValid}
-use Rattle.rollout_model.specs.declared.refusal.Refusal.{Refusal}
+use Rattle.campaign_core.proofs.Common.{records_step, CommandList, Command, Records, records, IsValid, Refusal}
 use Rattle.campaign_core.specs.Checks.{LeadsTo, Decides, Follows, Suffice}
 use Rattle.campaign_core.specs.declared.checks.Change.{Change}
 use Rattle.campaign_core.specs.declared.checks.View.{View}

@@ -1,26 +1,10 @@
 -- What feedback comes to, by their views, over sound records.
 use Rattle.std.proofs.Common.{◌≡◌, ℕ, Bool, true, false, cond, ◌&&◌, List, [], ◌∷◌, refl, sym, ◌∙◌, ap, subst, Option, Some, None}
 use Rattle.std.specs.Prelude.{is_none, is_some, nat_le, not}
-use Rattle.std.specs.Option.{option_or, unwrap_or}
-use Rattle.rollout_machine.specs.Actions.{cancel_standing_said, outcome_given, outcome_of_cancel, outcome_of_deployment}
-use Rattle.rollout_machine.specs.ByteStrings.{item_numbered}
-use Rattle.rollout_machine.specs.Commands.{CancelFeedback, CancelWord, CanceledCancel, ClosedCancel, Command, Credential, DeploymentWord, Feedback, DeviceFeedback, NotedCancel, RejectedCancel}
-use Rattle.rollout_machine.specs.RecordSteps.{act_on, step_action}
-use Rattle.rollout_machine.specs.Records.{Records}
-use Rattle.rollout_machine.specs.Reports.{OfCancel, OfDeployment, Reported, Said, is_again, reported, reported_by, says_again, says_old, standing_of}
-use Rattle.rollout_machine.specs.declared.standing.Standing.{Standing}
-use Rattle.rollout_machine.specs.declared.standing.Standing.TheVariants.{Again, Fresh, Old}
-use Rattle.rollout_machine.specs.declared.records.ActionRecord.{ActionRecord}
+use Rattle.campaign_core.proofs.Common.{option_or, unwrap_or, cancel_standing_said, outcome_given, outcome_of_cancel, outcome_of_deployment, item_numbered, CancelFeedback, CancelWord, CanceledCancel, ClosedCancel, Command, Credential, DeploymentWord, Feedback, DeviceFeedback, NotedCancel, RejectedCancel, act_on, step_action, Records, OfCancel, OfDeployment, Reported, Said, is_again, reported, reported_by, says_again, says_old, standing_of, Standing, Again, Fresh, Old, ActionRecord, check, first_refusal, is_device_action, is_known, notes_of, on_action, same_outcome, says_note, Outcome, Refusal, ClosedAction, NotFound, OldNumber, Quota, Unauthorized, WrongState, AreSound, IsFeedbackView, IsDeviceAction, MayChangeAction, canceling_after, change_by, change_if_fresh, device_action, gives_other, is_fresh, is_old, only_if, report_refusal, says_fresh, ActionChange, DeviceAction}
 use Rattle.rollout_machine.specs.Verdicts as row
-use Rattle.rollout_machine.specs.Verdicts.{check, first_refusal, is_device_action, is_known, notes_of, on_action, same_outcome, says_note}
-use Rattle.rollout_machine.specs.declared.outcome.Outcome.{Outcome}
 use Rattle.rollout_model.specs.Limits.{note_limit}
-use Rattle.rollout_model.specs.declared.refusal.Refusal.{Refusal}
-use Rattle.rollout_model.specs.declared.refusal.Refusal.TheVariants.{ClosedAction, NotFound, OldNumber, Quota, Unauthorized, WrongState}
-use Rattle.campaign_core.specs.RolloutChecks.{AreSound, IsFeedbackView, IsDeviceAction, MayChangeAction, canceling_after, change_by, change_if_fresh, device_action, gives_other, is_fresh, is_old, only_if, report_refusal, says_fresh}
-use Rattle.campaign_core.specs.declared.rollout_checks.actions.ActionChange.{ActionChange}
 use Rattle.campaign_core.specs.declared.rollout_checks.of_devices.FeedbackView.{FeedbackView}
-use Rattle.campaign_core.specs.declared.rollout_checks.of_devices.DeviceAction.{DeviceAction}
 use Rattle.campaign_core.proofs.ActionLemmas.{acts, stays}
 use Rattle.campaign_core.proofs.ItemLemmas.{IsFound, found, only_found}
 

@@ -1,11 +1,8 @@
 -- A grouping with definitions is cut as these are split.
 use Rattle.std.proofs.Common.{◌≡◌, ◌≤◌, ℕ, true, List, [], ◌∷◌, length, ap, ◌∙◌, arith}
-use Rattle.std.proofs.lemmas.Bool.{and_parts, eqb-true}
+use Rattle.campaign_core.proofs.Common.{and_parts, eqb-true, Grouping, GroupDefinition, cut_by, percentages, each_from, split, split_bounds_of}
 use Rattle.std.proofs.lemmas.List.{length-map}
 use Rattle.rollout_model.specs.Groupings.{define_each}
-use Rattle.rollout_machine.specs.Groupings.{Grouping, GroupDefinition, cut_by, percentages}
-use Rattle.rollout_machine.specs.Ranges.{each_from}
-use Rattle.rollout_machine.specs.Splits.{split, split_bounds_of}
 
 by_definitions : (ds : List GroupDefinition) (count m : ℕ) → define_each ds count ≡ true → 1 ≤ length ds → split m (percentages ds) ≡ cut_by (record { count = count; definitions = ds }) m
 by_definitions [] count m each some = absurd (omega arith)

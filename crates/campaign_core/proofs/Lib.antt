@@ -1,3 +1,4 @@
+pub mod Common
 pub mod ActionLemmas
 pub mod CheckLemmas
 pub mod Examples

@@ -2,35 +2,14 @@
 use Rattle.std.proofs.Common.{◌≡◌, ◌<◌, ◌≤◌, ℕ, zero, suc, ◌+◌, Bool, true, false, ◌&&◌, ◌||◌, not, cond, List, Option, None, refl, sym, ap, subst, ◌∙◌, arith, inl, inr}
 use Rattle.std.proofs.Math.Bool.{and-false}
 use Rattle.std.specs.Prelude.{nat_eq, nat_lt}
-use Rattle.std.proofs.lemmas.Bool.{cases_lt, cases_order, eq-eqb, eqb-true, le-ltb, lt-ltb, ltb-true, ne_eqb}
+use Rattle.campaign_core.proofs.Common.{cases_lt, cases_order, eq-eqb, eqb-true, le-ltb, lt-ltb, ltb-true, ne_eqb, Invariant, invariant_of, IsPlace, its_group, ActionPlace, CommandList, ◌▸◌, IsLast, IsView, error_begins, feedback_pauses, good_after, last_with, next_if, starts_next, is_group_started, is_paused, is_rollout_started, each_from, group_view, last_started, view_of, action_in, group_in, rollout_in, Rollout, error_at, size_in, success_at, group_is_started, group_numbered, number_of_group, Outcome, Good, Bad, Gone, ActionRecord, GroupRecord, Effects, GroupView, RolloutView, HasPlace, has_place, FollowsOutcome, IsOwnView, OwnDecides, OwnGroupDecides, effects_by, effects_of, following, own_effects, own_view_of, waits, OwnView}
 use Rattle.rollout_machine.proofs.EffectLaws.{feedback_follows, settled}
-use Rattle.rollout_machine.proofs.Induction.{Invariant, invariant_of}
 use Rattle.rollout_machine.proofs.Ties.{IsFollowed, find_group, find_holding, last_is, views}
-use Rattle.rollout_machine.proofs.Valid.{IsPlace, its_group}
-use Rattle.rollout_machine.specs.Actions.{ActionPlace}
-use Rattle.rollout_machine.specs.CommandList.{CommandList, ◌▸◌}
 use Rattle.rollout_machine.specs.Counts.{reaches, success_holds, tally}
-use Rattle.rollout_machine.specs.Effects.{IsLast, IsView, error_begins, feedback_pauses, good_after, last_with, next_if, starts_next}
-use Rattle.rollout_machine.specs.Progress.{is_group_started, is_paused, is_rollout_started}
-use Rattle.rollout_machine.specs.Ranges.{each_from}
-use Rattle.rollout_machine.specs.RecordSteps.{group_view, last_started, view_of}
-use Rattle.rollout_machine.specs.Records.{action_in, group_in, rollout_in}
-use Rattle.rollout_machine.specs.Rollouts.{Rollout, error_at, size_in, success_at}
-use Rattle.rollout_machine.specs.StateWords.{group_is_started, group_numbered, number_of_group}
-use Rattle.rollout_machine.specs.declared.outcome.Outcome.{Outcome}
-use Rattle.rollout_machine.specs.declared.outcome.Outcome.TheVariants.{Good, Bad, Gone}
-use Rattle.rollout_machine.specs.declared.records.ActionRecord.{ActionRecord}
-use Rattle.rollout_machine.specs.declared.records.GroupRecord.{GroupRecord}
-use Rattle.rollout_machine.specs.declared.view.Effects.{Effects}
-use Rattle.rollout_machine.specs.declared.view.GroupView.{GroupView}
-use Rattle.rollout_machine.specs.declared.view.RolloutView.{RolloutView}
 use Rattle.campaign_core.proofs.RolloutLemmas.{number_is}
-use Rattle.rollout_machine.proofs.AtNumbers.{HasPlace, has_place}
 use Rattle.campaign_core.proofs.PlacedActions.{IsMembers, is_members}
-use Rattle.campaign_core.specs.OwnGroups.{FollowsOutcome, IsOwnView, OwnDecides, OwnGroupDecides, effects_by, effects_of, following, own_effects, own_view_of, waits}
 use Rattle.campaign_core.specs.declared.own_group.Following.{Following}
 use Rattle.campaign_core.specs.declared.own_group.Following.TheVariants.{Nothing, Pauses, StartsNext}
-use Rattle.campaign_core.specs.declared.own_group.OwnView.{OwnView}
 
 -- ---- by a view
 

@@ -1,16 +1,8 @@
 -- An action of a number is of a member of its rollout.
 use Rattle.std.proofs.Common.{◌≡◌, ℕ, sym, ap, ◌∙◌, Some}
-use Rattle.rollout_machine.proofs.AtNumbers.{has_place}
-use Rattle.rollout_machine.proofs.Induction.{invariant_of}
-use Rattle.rollout_machine.proofs.Valid.{IsPlace}
+use Rattle.campaign_core.proofs.Common.{has_place, invariant_of, IsPlace, ActionPlace, item_numbered, CommandList, action_in, rollout_in, ActionRecord, RolloutRecord, IsValid}
 use Rattle.rollout_machine.proofs.Whole.{rollout_numbered}
-use Rattle.rollout_machine.specs.Actions.{ActionPlace}
-use Rattle.rollout_machine.specs.ByteStrings.{item_numbered}
-use Rattle.rollout_machine.specs.CommandList.{CommandList}
-use Rattle.rollout_machine.specs.Records.{action_in, records, rollout_in}
-use Rattle.rollout_machine.specs.declared.records.ActionRecord.{ActionRecord}
-use Rattle.rollout_machine.specs.declared.records.RolloutRecord.{RolloutRecord}
-use Rattle.rollout_machine.specs.Validity.{IsValid}
+use Rattle.rollout_machine.specs.Records.{records}
 
 -- the place of an action of a number is that of a member of its rollout
 pub record IsMembers (h : CommandList) (a : ActionRecord) (x : RolloutRecord) : Type 0 where

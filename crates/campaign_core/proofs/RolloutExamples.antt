@@ -1,20 +1,8 @@
 -- The rows of the verdicts on rollouts at their borders, by computing.
 use Rattle.std.proofs.Common.{◌≡◌, ℕ, Bool, true, false, [], ◌∷◌, Option, Some, None, refl}
 use Rattle.rollout_model.specs.Groupings.{defined, evenly}
-use Rattle.rollout_machine.specs.Commands.{Failed, Noted, Proceeding, Rejected, RejectedCancel, CanceledCancel, NotedCancel, Resumed}
-use Rattle.rollout_machine.specs.StateWords.{PausedRollout, RunningRollout}
-use Rattle.rollout_machine.specs.Verdicts.{is_at_pause, is_running}
-use Rattle.rollout_machine.specs.declared.outcome.Outcome.{Outcome}
-use Rattle.rollout_machine.specs.declared.outcome.Outcome.TheVariants.{Good, Bad, Gone}
-use Rattle.rollout_machine.specs.declared.standing.Standing.{Standing}
-use Rattle.rollout_machine.specs.declared.standing.Standing.TheVariants.{Again, Fresh, Old}
-use Rattle.rollout_machine.specs.declared.view.GroupView.{GroupView}
-use Rattle.rollout_model.specs.declared.refusal.Refusal.TheVariants.{BadFilter, ClosedAction, Exists, NotFound, OldNumber, Quota, TooFewTargets, Unauthorized, WrongState}
-use Rattle.campaign_core.specs.RolloutChecks.{cancel_feedback_refusal, cancel_refusal, canceling_after, change_if_fresh, device_refusal, feedback_refusal, outcome_forced, plan_refusal, word_refusal}
-use Rattle.campaign_core.specs.declared.rollout_checks.actions.ActionView.{ActionView}
-use Rattle.campaign_core.specs.declared.rollout_checks.actions.CancelView.{CancelView}
+use Rattle.campaign_core.proofs.Common.{Failed, Noted, Proceeding, Rejected, RejectedCancel, CanceledCancel, NotedCancel, Resumed, PausedRollout, RunningRollout, is_at_pause, is_running, Outcome, Good, Bad, Gone, Standing, Again, Fresh, Old, GroupView, BadFilter, ClosedAction, Exists, NotFound, OldNumber, Quota, TooFewTargets, Unauthorized, WrongState, cancel_feedback_refusal, cancel_refusal, canceling_after, change_if_fresh, device_refusal, feedback_refusal, outcome_forced, plan_refusal, word_refusal, ActionView, CancelView, DeviceAction}
 use Rattle.campaign_core.specs.declared.rollout_checks.plans.PlanView.{PlanView}
-use Rattle.campaign_core.specs.declared.rollout_checks.of_devices.DeviceAction.{DeviceAction}
 
 -- ---- creating in three groups
 

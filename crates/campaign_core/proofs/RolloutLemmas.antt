@@ -1,22 +1,7 @@
 -- The verdicts on commands on rollouts by their views, and the steps of sound records.
 use Rattle.std.proofs.Common.{◌≡◌, ℕ, Bool, true, false, cond, ◌||◌, List, [], ◌∷◌, ◌++◌, refl, sym, ◌∙◌, ap, subst, Option, Some, None, Ok}
 use Rattle.std.specs.Prelude.{nat_eq, nat_lt, not, is_none, map}
-use Rattle.std.specs.Option.{option_map}
-use Rattle.std.proofs.lemmas.Bool.{eq-eqb, eqb-true}
-use Rattle.rollout_machine.specs.ByteStrings.{item_numbered}
-use Rattle.rollout_machine.specs.Commands.{Resume, Start, TriggerNext}
-use Rattle.rollout_machine.specs.Effects.{next_if, starts_next}
-use Rattle.rollout_machine.specs.RecordSteps.{begin_rollout, change_rollout, group_view, last_started, new_actions, resumed, start_group, step_records, triggered, view_from_group, view_of}
-use Rattle.rollout_machine.specs.Records.{Records}
-use Rattle.rollout_machine.specs.declared.records.GroupRecord.{GroupRecord}
-use Rattle.rollout_machine.specs.declared.records.RolloutRecord.{RolloutRecord}
-use Rattle.rollout_machine.specs.StateWords.{RolloutWord, group_numbered, rollout_word}
-use Rattle.rollout_machine.specs.Verdicts.{first_refusal, has_next, is_at_pause, is_running, rollout_row, word_is}
-use Rattle.rollout_machine.specs.declared.view.Effects.{Effects}
-use Rattle.rollout_machine.specs.declared.view.RolloutView.{RolloutView}
-use Rattle.rollout_model.specs.declared.refusal.Refusal.{Refusal}
-use Rattle.rollout_model.specs.declared.refusal.Refusal.TheVariants.{NotFound, WrongState}
-use Rattle.campaign_core.specs.RolloutChecks.{AreSound, ChangesRollout, Decides, IsResumeView, IsStandingView, IsTriggerView, StartsRollout, change_numbered, moved_by, resumed_by, word_refusal}
+use Rattle.campaign_core.proofs.Common.{option_map, eq-eqb, eqb-true, item_numbered, Resume, Start, TriggerNext, next_if, starts_next, begin_rollout, change_rollout, group_view, last_started, new_actions, resumed, start_group, step_records, triggered, view_from_group, view_of, Records, GroupRecord, RolloutRecord, RolloutWord, group_numbered, rollout_word, first_refusal, has_next, is_at_pause, is_running, rollout_row, word_is, Effects, RolloutView, Refusal, NotFound, WrongState, AreSound, ChangesRollout, Decides, IsResumeView, IsStandingView, IsTriggerView, StartsRollout, change_numbered, moved_by, resumed_by, word_refusal}
 use Rattle.campaign_core.specs.declared.rollout_checks.RolloutChange.TheVariants as change
 use Rattle.campaign_core.specs.declared.rollout_checks.RolloutCommandView.TheVariants as seen
 use Rattle.campaign_core.specs.declared.rollout_checks.progress.ResumeView.{ResumeView}

@@ -1,22 +1,10 @@
 -- The records of accepted commands are sound, so a verdict over sound records is that at a command list.
 use Rattle.std.proofs.Common.{◌≡◌, ℕ, true, false, ◌&&◌, sym, ◌∙◌, ap, subst, Some, Result, Ok, Err}
 use Rattle.std.specs.Prelude.{is_none, nat_eq}
-use Rattle.std.proofs.lemmas.Bool.{and_parts, eqb-true}
+use Rattle.campaign_core.proofs.Common.{and_parts, eqb-true, records_step, ActionPlace, cancel_stands, CommandList, Command, is_same_action, Records, action_in, records, ActionRecord, IsValid, Outcome, Refusal, HasPlace, has_place, AreSound, Decides, Follows, LeadsTo}
 use Rattle.rollout_machine.proofs.Distinct.{one_number}
-use Rattle.rollout_machine.proofs.Main.{records_step}
-use Rattle.rollout_machine.specs.Actions.{ActionPlace, cancel_stands}
-use Rattle.rollout_machine.specs.CommandList.{CommandList}
-use Rattle.rollout_machine.specs.Commands.{Command}
-use Rattle.rollout_machine.specs.RecordSteps.{is_same_action}
-use Rattle.rollout_machine.specs.Records.{Records, action_in, records}
-use Rattle.rollout_machine.specs.declared.records.ActionRecord.{ActionRecord}
-use Rattle.rollout_machine.specs.Validity.{IsValid}
-use Rattle.rollout_machine.specs.declared.outcome.Outcome.{Outcome}
-use Rattle.rollout_model.specs.declared.refusal.Refusal.{Refusal}
 use Rattle.campaign_core.proofs.OwnGroups.{own_group_decides}
-use Rattle.rollout_machine.proofs.AtNumbers.{HasPlace, has_place}
 use Rattle.rollout_machine.proofs.GroupCounts.{groups_are_counted}
-use Rattle.campaign_core.specs.RolloutChecks.{AreSound, Decides, Follows, LeadsTo}
 use Rattle.campaign_core.specs.declared.rollout_checks.RolloutChange.{RolloutChange}
 use Rattle.campaign_core.specs.declared.rollout_checks.RolloutCommandView.{RolloutCommandView}
 

@@ -2,23 +2,12 @@
 use Rattle.std.proofs.Common.{◌≡◌, ℕ, zero, suc, Bool, true, false, ◌&&◌, cond, List, [], ◌∷◌, Option, Some, None, refl, ap, sym, ◌∙◌}
 use Rattle.std.specs.List.{list_all, list_any}
 use Rattle.std.specs.Prelude.{is_none}
-use Rattle.std.proofs.lemmas.Bool.{false≢true, or_parts}
-use Rattle.rollout_machine.specs.CommandList.{CommandList}
-use Rattle.rollout_machine.specs.Ranges.{each_from}
-use Rattle.rollout_machine.specs.Records.{Approval, group_in, approval_of, action_in, records}
-use Rattle.rollout_machine.specs.declared.records.GroupRecord.{GroupRecord}
-use Rattle.rollout_machine.specs.declared.records.ActionRecord.{ActionRecord}
-use Rattle.rollout_machine.specs.Progress.{is_rollout_started, is_paused}
-use Rattle.rollout_machine.specs.Rollouts.{Rollout}
-use Rattle.rollout_machine.specs.StateWords.{RolloutWord, GroupWord, ActionWord, all_final, word_from, has_started, TargetWord, Unknown, Pending, InSync, InError, word_by_last, started_actions_of}
-use Rattle.rollout_machine.proofs.Valid.{has_started_is}
+use Rattle.campaign_core.proofs.Common.{false≢true, or_parts, CommandList, each_from, Approval, group_in, approval_of, action_in, records, GroupRecord, ActionRecord, is_rollout_started, is_paused, Rollout, RolloutWord, GroupWord, ActionWord, all_final, word_from, has_started, TargetWord, Unknown, Pending, InSync, InError, word_by_last, started_actions_of, has_started_is, Outcome, Good, Bad, Gone}
 use Rattle.campaign_core.specs.StatusWords.{is_final, group_word_from, action_word_from, status_of_group, FollowsRollout, FollowsGroup, FollowsAction, last_word, last_outcome, target_word_from, FollowsTarget}
 use Rattle.campaign_core.specs.declared.status_words.RolloutStatus.{RolloutStatus}
 use Rattle.campaign_core.specs.declared.status_words.GroupStatus.{GroupStatus}
 use Rattle.campaign_core.specs.declared.status_words.ActionStatus.{ActionStatus}
 use Rattle.campaign_core.specs.declared.status_words.TargetStatus.{TargetStatus}
-use Rattle.rollout_machine.specs.declared.outcome.Outcome.{Outcome}
-use Rattle.rollout_machine.specs.declared.outcome.Outcome.TheVariants.{Good, Bad, Gone}
 
 abbrev is_over : GroupStatus → Bool
 is_over g = g.started && is_final g

@@ -1,13 +1,9 @@
 -- The attributes of an object, in a loop.
 use Rattle.std.proofs.Common.{◌≡◌, ◌++◌, List, [], ◌∷◌, Option, Some, None, string_bytes, refl, sym, ◌∙◌, ◌⊎◌}
-use Rattle.serde_json.specs.View.{view, members_view}
-use Rattle.serde_json.proofs.Views.{Entry}
-use Rattle.rollout_model.specs.declared.refusal.Refusal.{Refusal}
+use Rattle.ddi_api.proofs.Common.{view, members_view, Entry, Refusal, traverse, attribute_of, attributes_in}
 use Rattle.rollout_model.specs.declared.refusal.Refusal.TheVariants.{BadRequest, NoMemory}
 use Rattle.rollout_model.specs.declared.target.Attribute.{Attribute}
-use Rattle.mgmt_objects.specs.Traverse.{traverse}
 use Rattle.mgmt_objects.proofs.TraverseLemmas.{traverse-push, traverse_stops_by}
-use Rattle.ddi_api.specs.ConfigBodies.{attribute_of, attributes_in}
 
 abbrev pub attribute_at : Entry → Option Attribute
 attribute_at e = attribute_of (string_bytes e.0) (view e.1)

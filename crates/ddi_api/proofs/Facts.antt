@@ -6,19 +6,16 @@ use Rattle.matchit.proofs.OnLiterals.{matchit_on_literals}
 use Rattle.rollout_model.specs.Rules.{is_spelled, is_word_letter}
 use Rattle.rollout_model.proofs.RuleLemmas.{spelled_is_utf8}
 use Rattle.request_target.specs.Rows.{are_routes}
-use Rattle.request_target.specs.Routes.{route_in}
+use Rattle.ddi_api.proofs.Common.{route_in, Refusal, Refused, device_table, method_of}
 use Rattle.http_wire.specs.Messages.{WireMessage}
 use Rattle.http_wire.specs.Targets.{path_of}
 use Rattle.http_wire.specs.Replies.{refusal_text}
-use Rattle.rollout_model.specs.declared.refusal.Refusal.{Refusal}
 use Rattle.rollout_model.specs.declared.refusal.Refusal.TheVariants.{Unauthorized}
-use Rattle.rollout_machine.specs.Replies.{Refused}
 use Rattle.rollout_machine.specs.Requests.{Rejected}
 use Rattle.ddi_api.specs.declared.call.DeviceCall.{DeviceCall}
 use Rattle.ddi_api.specs.Credentials.{credential_of}
 use Rattle.ddi_api.specs.Reading.{device_reading}
 use Rattle.ddi_api.specs.Replies.{reply_text}
-use Rattle.ddi_api.specs.Routes.{device_table, method_of}
 use Rattle.ddi_api.specs.Table.{device_call}
 
 pub device_table_is_good : are_routes device_table ≡ true

@@ -1,17 +1,13 @@
 -- The texts that devices are shown, letter by letter.
 use Rattle.std.proofs.Common.{◌≡◌, ℕ, List, [], ◌∷◌, ◌++◌, Bool, true, false, Option, Some, None, codes, decimal, map, refl, append_assoc}
 use Rattle.std.specs.List.{concat}
-use Rattle.json.specs.Print.{quoted}
+use Rattle.ddi_api.proofs.Common.{quoted, items_of, Artifact, Chunk, Deployment, action_path, artifact_data, cancel_data, chunk_data, config_data, deployment_data, download_path, link_data, offer_kind, poll_data, artifact_letters, behind_commas, cancel_letters, chunk_letters, deployment_letters, poll_letters, separated}
 use Rattle.serde_json.specs.Data.{Data, object, member, no_members, string}
-use Rattle.serde_json.specs.View.{items_of}
 use Rattle.serde_json.specs.Written.{compact_text, items_text}
 use Rattle.serde_json.proofs.OnLiterals.{serde_json_on_literals}
 use Rattle.artifact_pieces.specs.Digests.{digest_digits}
 use Rattle.rollout_machine.specs.Offers.{Offer}
-use Rattle.rollout_machine.specs.Replies.{Artifact, Chunk, Deployment}
 use Rattle.mgmt_objects.specs.Pages.{whole}
-use Rattle.ddi_api.specs.Objects.{action_path, artifact_data, cancel_data, chunk_data, config_data, deployment_data, download_path, link_data, offer_kind, poll_data}
-use Rattle.ddi_api.specs.Letters.{artifact_letters, behind_commas, cancel_letters, chunk_letters, deployment_letters, poll_letters, separated}
 
 -- the items of an array behind its bracket
 behind_bracket : {A : Type 0} (shows : A → Data) (letters : A → List ℕ) → ((x : A) → compact_text (shows x) ≡ letters x) → (xs : List A)

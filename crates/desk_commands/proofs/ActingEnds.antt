@@ -1,51 +1,12 @@
 -- A command on an action, to its end: what is written makes the ledger of the records after it.
 use Rattle.std.proofs.Common.{◌≡◌, ℕ, ◌+◌, Bool, true, false, cond, ◌||◌, not, List, [], ◌∷◌, ◌++◌, map, filter, length, Option, Some, None, option_map, refl, sym, ap, ◌∙◌, subst, arith, nat_eq, inl, inr}
-use Rattle.std.proofs.lemmas.Bool.{and_parts, cases_Bool, eq-eqb, eqb-true, false≢true, not-true}
-use Rattle.std.proofs.lemmas.List.{length-append, length-map, map-append}
+use Rattle.desk_commands.proofs.Common.{and_parts, cases_Bool, eq-eqb, eqb-true, false≢true, not-true, length-append, length-map, map-append, HistoryEntry, Reported, entries_in, item_numbered, same_bytes, CommandList, ◌▸◌, IsWellFormed, Bytes, Command, is_outcome, Offer, offer, is_none, counted, start_group, step_records, Records, records, IsValid, check, is_note, Outcome, Good, Bad, Gone, ActionRecord, GroupRecord, RolloutRecord, numbered_map, records_step, same_refl, same_true, effects_by, following, waits, ChangesAction, action_with, change_by, ended_by, moved_by, rollout_with, OwnView, ActionChange, StaysOpen, Ends, Tally, tally_of, borne_at, numbers_from, numbers_of, Ledger, ledger_of, set_numbered, with_groups, with_offer, with_rollouts, next_offer, actor, offers_before_start, with_actor, Acts, Follows, TellsAction, stays_offered, FollowsSo, StartsGroupOf, with_outcome, with_rollout, StartsGroup, started, with_group, StartsNoGroup, starts_of, MayReoffer, action_view_seen, CountsNumbers, TellsReports, entries_by, numbers_by, tally_by, with_reports, Told, SeenAction}
 use Rattle.std.proofs.lemmas.List.Elements.{filter-append}
-use Rattle.rollout_machine.specs.Reports.{HistoryEntry, Reported, entries_in}
-use Rattle.rollout_machine.specs.ByteStrings.{item_numbered, same_bytes}
-use Rattle.rollout_machine.specs.CommandList.{CommandList, ◌▸◌}
-use Rattle.rollout_machine.specs.CommandRules.{IsWellFormed}
-use Rattle.rollout_machine.specs.Commands.{Bytes, Command}
-use Rattle.rollout_machine.specs.Counts.{is_outcome}
-use Rattle.rollout_machine.specs.Offers.{Offer, offer}
-use Rattle.std.specs.Option.{is_none}
-use Rattle.rollout_machine.specs.RecordSteps.{counted, start_group, step_records}
-use Rattle.rollout_machine.specs.Records.{Records, records}
-use Rattle.rollout_machine.specs.Validity.{IsValid}
-use Rattle.rollout_machine.specs.Verdicts.{check, is_note}
-use Rattle.rollout_machine.specs.declared.outcome.Outcome.{Outcome}
-use Rattle.rollout_machine.specs.declared.outcome.Outcome.TheVariants.{Good, Bad, Gone}
-use Rattle.rollout_machine.specs.declared.records.ActionRecord.{ActionRecord}
-use Rattle.rollout_machine.specs.declared.records.GroupRecord.{GroupRecord}
-use Rattle.rollout_machine.specs.declared.records.RolloutRecord.{RolloutRecord}
-use Rattle.rollout_machine.proofs.Actions.{numbered_map}
-use Rattle.rollout_machine.proofs.Main.{records_step}
-use Rattle.rollout_machine.proofs.TargetTies.{same_refl, same_true}
-use Rattle.campaign_core.specs.OwnGroups.{effects_by, following, waits}
-use Rattle.campaign_core.specs.RolloutChecks.{ChangesAction, action_with, change_by, ended_by, moved_by, rollout_with}
 use Rattle.campaign_core.specs.declared.own_group.Following.{Following}
 use Rattle.campaign_core.specs.declared.own_group.Following.TheVariants as so
-use Rattle.campaign_core.specs.declared.own_group.OwnView.{OwnView}
-use Rattle.campaign_core.specs.declared.rollout_checks.actions.ActionChange.{ActionChange}
-use Rattle.campaign_core.specs.declared.rollout_checks.actions.ActionChange.TheVariants.{StaysOpen, Ends}
-use Rattle.desk_records.specs.Actions.{Tally, tally_of}
-use Rattle.desk_records.specs.FeedbackNumbers.{borne_at, numbers_from, numbers_of}
-use Rattle.desk_records.specs.Holds.{Ledger, ledger_of}
-use Rattle.desk_records.specs.LedgerSteps.{set_numbered, with_groups, with_offer, with_rollouts}
-use Rattle.desk_records.specs.NextOffers.{next_offer}
-use Rattle.offer_laws.specs.GroupOffers.{actor, offers_before_start, with_actor, acted as acted_records}
-use Rattle.desk_commands.specs.ActionSteps.{Acts, Follows, TellsAction, stays_offered, with_changed}
-use Rattle.desk_commands.specs.Endings.{FollowsSo, StartsGroupOf, with_outcome, with_rollout}
-use Rattle.desk_commands.specs.GroupStarts.{StartsGroup, started, with_group}
-use Rattle.desk_commands.specs.LedgerEnds.{StartsNoGroup, starts_of}
-use Rattle.desk_commands.specs.Offering.{MayReoffer}
-use Rattle.desk_commands.specs.SeenActions.{action_view_seen}
-use Rattle.desk_commands.specs.Telling.{CountsNumbers, TellsReports, entries_by, numbers_by, tally_by, with_reports}
-use Rattle.desk_commands.specs.declared.telling.Told.{Told}
+use Rattle.offer_laws.specs.GroupOffers.{acted as acted_records}
+use Rattle.desk_commands.specs.ActionSteps.{with_changed}
 use Rattle.desk_records.proofs.NumberLists.{numbers_more}
-use Rattle.desk_commands.specs.declared.seen_actions.SeenAction.{SeenAction}
 use Rattle.desk_commands.proofs.GroupNumbers.{Numbered, map_at, numbered_groups, set_numbered_still}
 use Rattle.desk_commands.proofs.ItemSteps.{append_none, map_set, set_elsewhere, set_is_change, set_twice, zip_map}
 use Rattle.desk_commands.proofs.KnownActions.{IsPlaced, seen_at, started_is}

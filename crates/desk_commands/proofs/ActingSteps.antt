@@ -1,41 +1,11 @@
 -- Commands on actions, by what was seen of the action and what the rule of the command made of it.
 use Rattle.std.proofs.Common.{◌≡◌, ℕ, Bool, true, false, cond, ◌&&◌, ◌||◌, not, List, [], ◌∷◌, Option, Some, None, option_map, Ok, refl, sym, ap, ◌∙◌, subst}
 use Rattle.std.specs.Prelude.{is_some}
-use Rattle.std.specs.Option.{is_none}
-use Rattle.std.proofs.lemmas.Bool.{and_parts}
-use Rattle.rollout_machine.specs.ByteStrings.{item_numbered, same_bytes}
-use Rattle.rollout_machine.specs.CommandList.{CommandList}
-use Rattle.rollout_machine.specs.CommandRules.{IsWellFormed}
-use Rattle.rollout_machine.specs.Commands.{Bytes, Cancel, Command, Credential}
-use Rattle.rollout_machine.specs.RecordSteps.{step_records}
-use Rattle.rollout_machine.specs.Records.{Records, records}
-use Rattle.rollout_machine.specs.Reports.{Reported}
-use Rattle.rollout_machine.specs.declared.standing.Standing.{Standing}
-use Rattle.rollout_machine.specs.Validity.{IsValid}
-use Rattle.rollout_machine.specs.Verdicts.{check, first_refusal, target_of}
-use Rattle.rollout_machine.specs.declared.outcome.Outcome.{Outcome}
-use Rattle.rollout_machine.specs.declared.records.ActionRecord.{ActionRecord}
-use Rattle.rollout_machine.proofs.TargetTies.{same_true}
-use Rattle.rollout_model.specs.declared.refusal.Refusal.{Refusal}
-use Rattle.rollout_model.specs.declared.refusal.Refusal.TheVariants.{ClosedAction, WrongState}
-use Rattle.campaign_core.specs.RolloutChecks.{ChangesAction, Decides, IsFeedbackView, IsViewOf, LeadsTo, MakesCancel, MakesFeedback, MayChangeAction, cancel_refusal, change_by, change_if_fresh, is_fresh, outcome_forced, says_fresh}
-use Rattle.campaign_core.specs.declared.rollout_checks.RolloutChange.{RolloutChange}
+use Rattle.desk_commands.proofs.Common.{is_none, and_parts, item_numbered, same_bytes, CommandList, IsWellFormed, Bytes, Cancel, Command, Credential, step_records, Records, records, Reported, Standing, IsValid, check, first_refusal, target_of, Outcome, ActionRecord, same_true, Refusal, ClosedAction, WrongState, ChangesAction, Decides, IsFeedbackView, IsViewOf, LeadsTo, MakesCancel, MakesFeedback, MayChangeAction, cancel_refusal, change_by, change_if_fresh, is_fresh, outcome_forced, says_fresh, RolloutChange, RolloutCommandView, ActionChange, records_are_sound, numbers_of, ledger_of, actor, Acts, ActsBy, MayAct, WritesFeedback, action_change_of, does_act, CountsNumbers, TellsReports, IsSeen, MaySee, SeesFeedback, SeesTarget, action_view_seen, cancel_view_seen, only_of, only_started, feedback_view_seen, device_action_seen, seen_if, Told, SeenAction, SeenFeedback}
 use Rattle.campaign_core.specs.declared.rollout_checks.RolloutChange.TheVariants as change
-use Rattle.campaign_core.specs.declared.rollout_checks.RolloutCommandView.{RolloutCommandView}
 use Rattle.campaign_core.specs.declared.rollout_checks.RolloutCommandView.TheVariants as view
-use Rattle.campaign_core.specs.declared.rollout_checks.actions.ActionChange.{ActionChange}
 use Rattle.campaign_core.specs.declared.rollout_checks.actions.CancelView.{CancelView}
 use Rattle.campaign_core.specs.declared.rollout_checks.of_devices.DeviceAction.{DeviceAction}
-use Rattle.campaign_core.proofs.SoundLemmas.{records_are_sound}
-use Rattle.desk_records.specs.FeedbackNumbers.{numbers_of}
-use Rattle.desk_records.specs.Holds.{ledger_of}
-use Rattle.offer_laws.specs.GroupOffers.{actor}
-use Rattle.desk_commands.specs.ActionSteps.{Acts, ActsBy, MayAct, WritesFeedback, action_change_of, does_act}
-use Rattle.desk_commands.specs.Telling.{CountsNumbers, TellsReports}
-use Rattle.desk_commands.specs.SeenActions.{IsSeen, MaySee, SeesFeedback, SeesTarget, action_view_seen, cancel_view_seen, only_of, only_started, feedback_view_seen, device_action_seen, seen_if}
-use Rattle.desk_commands.specs.declared.telling.Told.{Told}
-use Rattle.desk_commands.specs.declared.seen_actions.SeenAction.{SeenAction}
-use Rattle.desk_commands.specs.declared.seen_actions.SeenFeedback.{SeenFeedback}
 use Rattle.desk_commands.proofs.ActingEnds.{acts}
 use Rattle.desk_commands.proofs.KnownActions.{IsKnown, cancel_viewed, feedback_viewed, heard_whole, known, seen_at}
 

@@ -1,22 +1,9 @@
 -- What the reads of an addition say, and what its writes come to.
 use Rattle.std.proofs.Common.{◌≡◌, ◌≤◌, ◌<◌, ℕ, zero, suc, ◌+◌, nat_le, nat_lt, Bool, true, false, ◌||◌, List, [], ◌∷◌, ◌++◌, length, Some, None, refl, sym, ap, ◌∙◌, arith, append_assoc, append-nil, get_or, drop, take, ◌-◌, subst}
-use Rattle.std.proofs.lemmas.Bool.Decides.{nat_tests}
-use Rattle.std.proofs.lemmas.List.{length-append, take_all}
-use Rattle.std.specs.List.{list_any, list_all}
-use Rattle.std.specs.Option.{is_none}
+use Rattle.desk_commands.proofs.Common.{nat_tests, length-append, take_all, list_any, list_all, is_none, command_reply, item_numbered, ModuleLabel, SetLabel, AddModule, AddSet, Records, step_records, check, is_named_by_set, reply_of, Exists, NotFound, Quota, is_between, is_module_list, is_number, number_of, AddsModules, AddsWhole, LacksModule, and_modules}
 use Rattle.desk_records.specs.Modules.{is_same, with_module}
 use Rattle.desk_records.specs.Sets.{is_same_set, with_set, set_named, and_module, AddsSetModule}
-use Rattle.rollout_machine.specs.Answers.{command_reply}
-use Rattle.rollout_machine.specs.ByteStrings.{item_numbered}
-use Rattle.rollout_machine.specs.Commands.{ModuleLabel, SetLabel, AddModule, AddSet}
-use Rattle.rollout_machine.specs.Records.{Records}
-use Rattle.rollout_machine.specs.RecordSteps.{step_records}
-use Rattle.rollout_machine.specs.Verdicts.{check, is_named_by_set}
-use Rattle.rollout_machine.specs.Views.{reply_of}
-use Rattle.rollout_model.specs.declared.refusal.Refusal.TheVariants.{Exists, NotFound, Quota}
-use Rattle.rollout_model.specs.Rules.{is_between, is_module_list, is_number, number_of}
 use Rattle.rollout_model.specs.declared.request.Reply.TheVariants as reply
-use Rattle.desk_commands.specs.Additions.{AddsModules, AddsWhole, LacksModule, and_modules}
 
 -- a number in its range is itself
 pub some_number : (n k : ℕ) → number_of n ≡ Some k → k ≡ n

@@ -1,30 +1,12 @@
 -- What the reads of an artifact's addition say, and what its writes come to.
 use Rattle.std.proofs.Common.{◌≡◌, ◌≤◌, ◌<◌, ℕ, suc, ◌+◌, ◌-◌, ◌*◌, min, nat_eq, nat_le, nat_lt, Bool, true, false, not, cond, ◌||◌, List, [], ◌∷◌, ◌++◌, length, filter, take, drop, Option, Some, None, refl, sym, ap, ◌∙◌, arith, subst, append_assoc, append-nil}
-use Rattle.std.proofs.Math.Bool.{or-true}
+use Rattle.desk_commands.proofs.Common.{or-true, list_any, pointwise, is_none, nat_tests, length-append, length-take, length-drop, take-append-drop, command_reply, added_artifact, item_numbered, same_bytes, Bytes, Upload, AddArtifact, ArtifactRecord, Records, artifact_from, step_records, ArtifactAdded, check, first_refusal, is_named_by_set, verdict_row, wrong_digest, reply_of, Artifact, Refusal, NotFound, Locked, Exists, Quota, WrongDigest, AddsArtifact, AddsContents, is_full, same_pointwise}
 use Rattle.std.specs.Prelude.{slice_get}
-use Rattle.std.specs.List.{list_any}
-use Rattle.std.specs.Cmp.Lexicographic.{pointwise}
-use Rattle.std.specs.Option.{is_none}
-use Rattle.std.proofs.lemmas.Bool.Decides.{nat_tests}
-use Rattle.std.proofs.lemmas.List.{length-append, length-take, length-drop, take-append-drop}
 use Rattle.desk_records.specs.Artifacts.{is_same_artifact, artifact_filed, with_artifact, and_piece, AddsPiece}
-use Rattle.rollout_machine.specs.Answers.{command_reply, added_artifact}
-use Rattle.rollout_machine.specs.ByteStrings.{item_numbered, same_bytes}
-use Rattle.rollout_machine.specs.Commands.{Bytes, Upload, AddArtifact}
 use Rattle.rollout_machine.specs.Digests.{digest_of}
 use Rattle.rollout_machine.specs.Objects.{artifact_shown, artifacts_shown}
-use Rattle.rollout_machine.specs.Records.{ArtifactRecord, Records, artifact_from}
-use Rattle.rollout_machine.specs.RecordSteps.{step_records}
-use Rattle.rollout_machine.specs.Replies.{ArtifactAdded}
-use Rattle.rollout_machine.specs.Verdicts.{check, first_refusal, is_named_by_set, verdict_row, wrong_digest}
-use Rattle.rollout_machine.specs.Views.{reply_of}
 use Rattle.rollout_model.specs.Limits.{piece_length}
-use Rattle.rollout_model.specs.declared.artifact.Artifact.{Artifact}
-use Rattle.rollout_model.specs.declared.refusal.Refusal.{Refusal}
-use Rattle.rollout_model.specs.declared.refusal.Refusal.TheVariants.{NotFound, Locked, Exists, Quota, WrongDigest}
 use Rattle.rollout_model.specs.declared.request.Reply.TheVariants as reply
-use Rattle.desk_commands.specs.Additions.{AddsArtifact, AddsContents, is_full}
-use Rattle.rollout_machine.proofs.TargetTies.{same_pointwise}
 use Rattle.desk_commands.proofs.AdditionLemmas.{past_is_missing}
 
 -- ---- the first tests of a row, and the others

@@ -1,25 +1,10 @@
 -- What the attributes that a device gives come to.
 use Rattle.std.proofs.Common.{◌≡◌, ◌≤◌, ◌<◌, ◌+◌, ℕ, suc, Bool, true, false, cond, ◌||◌, ◌&&◌, not, nat_eq, nat_lt, List, [], ◌∷◌, ◌++◌, length, get_or, take, Option, Some, None, option_map, refl, sym, ap, ◌∙◌, subst, arith}
 use Rattle.std.specs.Prelude.{is_some}
-use Rattle.std.specs.List.{list_any, list_all}
-use Rattle.std.specs.Cmp.Lexicographic.{pointwise}
-use Rattle.std.proofs.lemmas.Bool.{and_parts, false≢true}
-use Rattle.std.proofs.lemmas.Bool.Decides.{nat_tests}
-use Rattle.std.proofs.lemmas.List.{map-append, length-map}
-use Rattle.desk_records.specs.Targets.{AddsAttribute, SetsAttribute, are_sorted, attributed, attributes_of, in_byte_order, is_sorted, keys_of, with_changed}
-use Rattle.rollout_machine.specs.ByteStrings.{same_bytes, bytes_below, contains_word, with_word, with_words}
-use Rattle.rollout_machine.specs.Commands.{Bytes, Attribute, Credential, PutAttributes}
-use Rattle.rollout_machine.specs.Records.{Records}
-use Rattle.rollout_machine.specs.RecordSteps.{change_target, step_records}
-use Rattle.rollout_machine.specs.Targets.{Target, with_attribute, with_attributes}
-use Rattle.rollout_machine.specs.Verdicts.{check, is_known, target_of, keys_of as keys_there}
-use Rattle.rollout_machine.proofs.Imports.{AllAbove, IsSorted, above_more, not_above, sorted_with_all, with_there}
-use Rattle.rollout_machine.proofs.TargetTies.{same_pointwise, same_refl, same_sym, same_true}
+use Rattle.desk_commands.proofs.Common.{list_any, list_all, pointwise, and_parts, false≢true, nat_tests, map-append, length-map, AddsAttribute, SetsAttribute, are_sorted, attributed, attributes_of, in_byte_order, is_sorted, keys_of, with_changed, same_bytes, bytes_below, contains_word, with_word, with_words, Bytes, Attribute, Credential, PutAttributes, Records, change_target, step_records, Target, with_attribute, with_attributes, check, is_known, target_of, AllAbove, IsSorted, above_more, not_above, sorted_with_all, with_there, same_pointwise, same_refl, same_sym, same_true, Unauthorized, Quota, GivesAttribute, GivesAttributes, attributed_with, has_attribute, keys_after, sorted_from}
+use Rattle.rollout_machine.specs.Verdicts.{keys_of as keys_there}
 use Rattle.rollout_model.specs.Pairs.{is_same_attribute}
-use Rattle.rollout_model.specs.declared.refusal.Refusal.TheVariants.{Unauthorized, Quota}
-use Rattle.desk_commands.specs.Attributes.{GivesAttribute, GivesAttributes, attributed_with, has_attribute, keys_after}
 use Rattle.desk_records.proofs.Attributes.{keys_with}
-use Rattle.desk_records.proofs.ByteOrder.{sorted_from}
 use Rattle.desk_commands.proofs.ByteOrderLemmas.{count_with}
 use Rattle.desk_commands.proofs.PutLemmas.{one_more, words_then}
 use Rattle.desk_commands.proofs.TagLemmas.{has_all, pointwise_is}

@@ -1,10 +1,6 @@
 -- Lists of words in byte order.
 use Rattle.std.proofs.Common.{◌≡◌, Bool, true, false, cond, ◌||◌, suc, List, [], ◌∷◌, length, refl, sym, ap, ◌∙◌}
-use Rattle.std.proofs.lemmas.Bool.{or_parts, false≢true}
-use Rattle.rollout_machine.specs.ByteStrings.{same_bytes, bytes_below, contains_word, with_word}
-use Rattle.rollout_machine.specs.Commands.{Bytes}
-use Rattle.rollout_machine.proofs.Imports.{AllAbove, IsSorted, above_more, below_other, not_above}
-use Rattle.rollout_machine.proofs.TargetTies.{same_refl, same_true}
+use Rattle.desk_commands.proofs.Common.{or_parts, false≢true, same_bytes, bytes_below, contains_word, with_word, Bytes, AllAbove, IsSorted, above_more, below_other, not_above, same_refl, same_true}
 
 -- lists in byte order with the same words are the same list
 pub same_words : (xs ys : List Bytes) → IsSorted xs → IsSorted ys → ((w : Bytes) → contains_word w xs ≡ contains_word w ys) → xs ≡ ys

@@ -1,19 +1,7 @@
 -- A command inside a change, from what was read and what was written.
 use Rattle.std.proofs.Common.{◌≡◌, true, Some, None, Result, Ok, Err, arith}
-use Rattle.sqlite.specs.State.{State, HasCleanDisk}
-use Rattle.sql_calls.specs.Standing.{Finds, Makes, Wears, Sees}
-use Rattle.rollout_machine.specs.Answers.{command_reply}
-use Rattle.rollout_machine.specs.CommandList.{CommandList}
-use Rattle.rollout_machine.specs.Commands.{Command}
-use Rattle.rollout_machine.specs.Records.{Records, records}
-use Rattle.rollout_machine.specs.RecordSteps.{step_records}
-use Rattle.rollout_machine.specs.Validity.{IsValid}
-use Rattle.rollout_machine.specs.Verdicts.{check}
-use Rattle.rollout_machine.specs.Views.{reply_of}
-use Rattle.rollout_model.specs.declared.refusal.Refusal.{Refusal}
+use Rattle.desk_commands.proofs.Common.{State, HasCleanDisk, Finds, Makes, Wears, Sees, command_reply, CommandList, Command, Records, records, step_records, IsValid, check, reply_of, Refusal, HoldsLedger, ledger_of, are_sorted}
 use Rattle.rollout_model.specs.declared.request.Reply.{Reply}
-use Rattle.desk_records.specs.Holds.{HoldsLedger, ledger_of}
-use Rattle.desk_records.specs.Targets.{are_sorted}
 use Rattle.desk_commands.specs.Steps.{Steps}
 use Rattle.desk_commands.specs.declared.step.Step.TheVariants as step
 

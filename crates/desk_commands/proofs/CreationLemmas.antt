@@ -1,53 +1,22 @@
 -- The creation of a rollout, from what is read to what is written.
 use Rattle.std.proofs.Common.{◌≡◌, ◌≤◌, ◌<◌, ℕ, zero, suc, ◌+◌, Bool, true, false, not, cond, nat_eq, nat_lt, List, [], ◌∷◌, ◌++◌, map, filter, get_or, take, drop, length, set, slice_get, Some, None, is_none, refl, sym, ap, subst, ◌∙◌, arith}
-use Rattle.std.specs.List.{list_all}
-use Rattle.std.specs.Option.{IsSomeAnd}
-use Rattle.std.proofs.lemmas.Bool.{and_parts}
-use Rattle.std.proofs.lemmas.Bool.Decides.{nat_tests}
-use Rattle.std.proofs.lemmas.List.{length-append, length-map, length-take-le, map-append, take_all}
+use Rattle.desk_commands.proofs.Common.{list_all, IsSomeAnd, and_parts, nat_tests, length-append, length-map, length-take-le, map-append, take_all, added_rollout, command_reply, item_numbered, CommandList, Bytes, CreateRollout, RolloutPlan, GroupRule, rule_at, rules_of, first_offer, RolloutAdded, Records, action_in, rollouts_in, new_group, new_rollout, step_records, bounds_at, chosen, rollouts, RolloutWord, is_finished, rollout_word, Target, IsValid, check, reply_of, Bounds, ActionRecord, RolloutRecord, each_from_more, length_each, numbered_each, Tree, filter_of, IsPlanView, approval_at, plan_refusal, Ledger, ledger_of, AddsGroup, AddsMember, AddsRollout, AddsRule, cut_group, set_numbered, with_rollouts, with_rules, listed_target, are_sorted, same_ledger, target_listed, CreatesRollout, IsChosen, IsWordOf, and_rollout, first_rules, ids_matching, in_part, shown_new}
 use Rattle.std.proofs.lemmas.Option.{slice_get-get_or, slice_get_within}
 use Rattle.rollout_machine.specs.Actions.{ActionPlace, action_places}
-use Rattle.rollout_machine.specs.Answers.{added_rollout, command_reply}
-use Rattle.rollout_machine.specs.ByteStrings.{item_numbered}
-use Rattle.rollout_machine.specs.CommandList.{CommandList}
-use Rattle.rollout_machine.specs.Commands.{Bytes, CreateRollout, RolloutPlan}
 use Rattle.rollout_machine.specs.Filters.{matches, seen}
-use Rattle.rollout_machine.specs.GroupRules.{GroupRule, rule_at, rules_of}
 use Rattle.rollout_machine.specs.Groupings.{bounds_by, cut_by}
-use Rattle.rollout_machine.specs.Offers.{first_offer}
 use Rattle.rollout_machine.specs.Objects.{rollout_shown}
-use Rattle.rollout_machine.specs.Replies.{RolloutAdded}
-use Rattle.rollout_machine.specs.Records.{Records, action_in, records, rollouts_in}
-use Rattle.rollout_machine.specs.RecordSteps.{new_group, new_rollout, step_records}
-use Rattle.rollout_machine.specs.Rollouts.{Rollout as MadeRollout, bounds_at, chosen, rollouts}
-use Rattle.rollout_machine.specs.StateWords.{RolloutWord, is_finished, rollout_word}
-use Rattle.rollout_machine.specs.Targets.{Target}
-use Rattle.rollout_machine.specs.Validity.{IsValid}
-use Rattle.rollout_machine.specs.Verdicts.{check}
-use Rattle.rollout_machine.specs.Views.{reply_of}
-use Rattle.rollout_machine.specs.declared.bounds.Bounds.{Bounds}
-use Rattle.rollout_machine.specs.declared.records.ActionRecord.{ActionRecord}
-use Rattle.rollout_machine.specs.declared.records.RolloutRecord.{RolloutRecord}
+use Rattle.rollout_machine.specs.Records.{records}
+use Rattle.rollout_machine.specs.Rollouts.{Rollout as MadeRollout}
 use Rattle.rollout_machine.proofs.Induction.{invariant_of}
-use Rattle.rollout_machine.proofs.Lists.{each_from_more, length_each, numbered_each}
 use Rattle.rollout_model.specs.declared.request.Reply.TheVariants as reply
 use Rattle.rollout_model.specs.declared.rollout.Rollout.{Rollout}
 use Rattle.rollout_model.specs.declared.target.Target.{Target as SeenTarget}
-use Rattle.target_filter.specs.Grammar.{Tree}
 use Rattle.target_filter.specs.Meaning.{holds}
-use Rattle.target_filter.specs.Profile.{filter_of}
-use Rattle.campaign_core.specs.RolloutChecks.{IsPlanView, approval_at, plan_refusal}
 use Rattle.campaign_core.specs.declared.rollout_checks.plans.NewRollout.{NewRollout}
 use Rattle.campaign_core.specs.declared.rollout_checks.plans.PlanView.{PlanView}
-use Rattle.desk_records.specs.Holds.{Ledger, ledger_of}
-use Rattle.desk_records.specs.LedgerSteps.{AddsGroup, AddsMember, AddsRollout, AddsRule, cut_group, set_numbered, with_rollouts, with_rules}
-use Rattle.desk_records.specs.TargetRow.{listed_target}
-use Rattle.desk_records.specs.Targets.{are_sorted}
 use Rattle.desk_records.specs.declared.target_row.ListedTarget.{ListedTarget}
-use Rattle.desk_store.proofs.LedgersOfRecords.{same_ledger}
-use Rattle.desk_reads.specs.Targets.{target_listed}
 use Rattle.desk_reads.proofs.ListedTargets.{part_seen}
-use Rattle.desk_commands.specs.Creations.{CreatesRollout, IsChosen, IsWordOf, and_rollout, first_rules, ids_matching, in_part, shown_new}
 use Rattle.desk_commands.specs.declared.creation.Chosen.{Chosen}
 use Rattle.desk_commands.proofs.AdditionLemmas.{past_is_missing}
 use Rattle.desk_commands.proofs.ArtifactLemmas.{last_there}

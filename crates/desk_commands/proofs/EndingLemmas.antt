@@ -1,16 +1,8 @@
 -- What follows from the outcome of an action, write by write.
 use Rattle.std.proofs.Common.{◌≡◌, ◌+◌, Bool, true, false, cond, nat_eq, Some, refl, sym, ap, ◌∙◌, subst}
-use Rattle.rollout_machine.specs.ByteStrings.{item_numbered}
-use Rattle.rollout_machine.specs.Counts.{is_outcome}
-use Rattle.rollout_machine.specs.RecordSteps.{counted}
-use Rattle.rollout_machine.specs.declared.outcome.Outcome.{Outcome}
-use Rattle.rollout_machine.specs.declared.outcome.Outcome.TheVariants.{Good, Bad, Gone}
-use Rattle.rollout_machine.specs.declared.records.GroupRecord.{GroupRecord}
+use Rattle.desk_commands.proofs.Common.{item_numbered, is_outcome, counted, Outcome, Good, Bad, Gone, GroupRecord, Ledger, SetsGroup, SetsRollout, set_numbered, with_groups, CountsOutcome, FollowsOutcome, FollowsSo, Pauses, with_outcome, with_rollout, SeenAction}
 use Rattle.campaign_core.specs.declared.rollout_checks.actions.Ending.{Ending}
-use Rattle.desk_records.specs.Holds.{Ledger}
-use Rattle.desk_records.specs.LedgerSteps.{SetsGroup, SetsRollout, set_numbered, with_groups, counted as set_counts}
-use Rattle.desk_commands.specs.Endings.{CountsOutcome, FollowsOutcome, FollowsSo, Pauses, with_outcome, with_rollout}
-use Rattle.desk_commands.specs.declared.seen_actions.SeenAction.{SeenAction}
+use Rattle.desk_records.specs.LedgerSteps.{counted as set_counts}
 
 -- ---- the counts
 

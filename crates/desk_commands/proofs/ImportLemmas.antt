@@ -1,17 +1,7 @@
 -- What the rows of an import come to.
 use Rattle.std.proofs.Common.{◌≡◌, true, List, [], ◌∷◌, Option, Some, None, option_map, refl, sym, ap, ◌∙◌}
 use Rattle.std.specs.Prelude.{is_some}
-use Rattle.desk_records.specs.TargetRow.{stored_target}
-use Rattle.desk_records.specs.Targets.{AddsTarget, are_sorted, renamed, with_changed, with_target}
-use Rattle.desk_records.specs.declared.target_row.StoredTarget.{StoredTarget}
-use Rattle.rollout_machine.specs.ByteStrings.{contains_word}
-use Rattle.rollout_machine.specs.Commands.{Bytes, TargetRow}
-use Rattle.rollout_machine.specs.Records.{Records}
-use Rattle.rollout_machine.specs.RecordSteps.{change_target, new_target, put_target}
-use Rattle.rollout_machine.specs.Targets.{Target}
-use Rattle.rollout_machine.specs.Verdicts.{target_of, tags_of}
-use Rattle.rollout_model.specs.Rules.{are_distinct_words}
-use Rattle.desk_commands.specs.Imports.{AddsTags, PutsRows, Renames, Retags, lacking, retagged, tagged_with}
+use Rattle.desk_commands.proofs.Common.{stored_target, AddsTarget, are_sorted, renamed, with_changed, with_target, StoredTarget, contains_word, Bytes, TargetRow, Records, change_target, new_target, put_target, Target, target_of, tags_of, are_distinct_words, AddsTags, PutsRows, Renames, Retags, lacking, retagged, tagged_with}
 use Rattle.desk_commands.proofs.TagLemmas.{all_new}
 use Rattle.desk_commands.proofs.TargetLemmas.{change_twice, find_changed, found, found_id, found_new, ids_sorted, put_new, put_there, unchanged, untagged_row}
 

@@ -1,36 +1,9 @@
 -- An action that was seen in the tables of a list of accepted commands, and the views of it.
 use Rattle.std.proofs.Common.{◌≡◌, ◌+◌, ℕ, Bool, true, false, cond, ◌&&◌, List, Option, Some, None, option_map, refl, sym, ap, ◌∙◌, subst}
 use Rattle.std.specs.Prelude.{is_some}
-use Rattle.std.specs.Option.{is_none}
-use Rattle.rollout_machine.specs.ByteStrings.{item_numbered}
-use Rattle.rollout_machine.specs.CommandList.{CommandList}
-use Rattle.rollout_machine.specs.Commands.{Bytes, Credential}
-use Rattle.rollout_machine.specs.GroupRules.{rule_at}
-use Rattle.rollout_machine.specs.RecordSteps.{view_from_group}
-use Rattle.rollout_machine.specs.Records.{Records, action_in, records, rollout_in}
-use Rattle.rollout_machine.specs.Reports.{Reported, standing_of}
-use Rattle.rollout_machine.specs.declared.standing.Standing.{Standing}
-use Rattle.rollout_machine.specs.StateWords.{group_holding, group_is_started, group_number_of, group_numbered, has_started, is_for, is_started_in, number_of_group}
-use Rattle.rollout_machine.specs.Targets.{Target}
-use Rattle.rollout_machine.specs.Validity.{IsValid}
-use Rattle.rollout_machine.specs.Verdicts.{target_of}
-use Rattle.rollout_machine.specs.declared.records.ActionRecord.{ActionRecord}
-use Rattle.rollout_machine.specs.declared.records.GroupRecord.{GroupRecord}
-use Rattle.rollout_machine.specs.declared.records.RolloutRecord.{RolloutRecord}
+use Rattle.desk_commands.proofs.Common.{is_none, item_numbered, CommandList, Bytes, Credential, rule_at, view_from_group, Records, action_in, records, rollout_in, Reported, standing_of, Standing, group_holding, group_is_started, group_number_of, group_numbered, has_started, is_for, is_started_in, number_of_group, Target, IsValid, target_of, ActionRecord, GroupRecord, RolloutRecord, own_view_of, waits, BothOrNone, IsActionView, IsCancelView, IsFeedbackView, IsDeviceAction, action_for, device_action, only_if, Tally, tally_of, ledger_of, said_of, group_and_next, GroupAndNext, stored_action, stored_rollout, IsSeen, MaySee, SeesIn, SeesFeedback, SeesTarget, action_seen, action_view_seen, cancel_view_seen, only_of, only_started, feedback_view_seen, device_action_seen, seen_if, StandsAt, asked, with_number, SeenAction, SeenFeedback}
 use Rattle.campaign_core.proofs.PlacedActions.{is_members}
-use Rattle.campaign_core.specs.OwnGroups.{own_view_of, waits}
-use Rattle.campaign_core.specs.RolloutChecks.{BothOrNone, IsActionView, IsCancelView, IsFeedbackView, IsDeviceAction, action_for, device_action, only_if}
-use Rattle.desk_records.specs.Actions.{Tally, tally_of}
-use Rattle.desk_records.specs.Holds.{ledger_of}
-use Rattle.desk_reads.proofs.RuleLemmas.{said_of}
 use Rattle.desk_store.proofs.GroupPlaces.{group_and_next_is}
-use Rattle.desk_store.specs.GroupPairs.{group_and_next}
-use Rattle.desk_store.specs.declared.rollouts.GroupAndNext.{GroupAndNext}
-use Rattle.desk_records.specs.RolloutRow.{stored_action, stored_rollout}
-use Rattle.desk_commands.specs.SeenActions.{IsSeen, MaySee, SeesIn, SeesFeedback, SeesTarget, action_seen, action_view_seen, cancel_view_seen, only_of, only_started, feedback_view_seen, device_action_seen, seen_if}
-use Rattle.desk_commands.specs.SeenReports.{StandsAt, asked, with_number}
-use Rattle.desk_commands.specs.declared.seen_actions.SeenAction.{SeenAction}
-use Rattle.desk_commands.specs.declared.seen_actions.SeenFeedback.{SeenFeedback}
 use Rattle.desk_commands.proofs.GroupNumbers.{Numbered, held_stands, numbered_groups, same_groups}
 use Rattle.desk_commands.proofs.ItemSteps.{zip_map}
 use Rattle.desk_commands.proofs.LedgerEnds.{groups_stand}

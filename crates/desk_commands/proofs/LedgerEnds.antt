@@ -1,40 +1,12 @@
 -- The ledger at the end of a command on rollouts is that of the records after it.
 use Rattle.std.proofs.Common.{◌≡◌, ◌≤◌, ℕ, zero, suc, ◌+◌, true, false, List, [], ◌∷◌, map, length, set, Option, Some, None, option_map, refl, sym, ap, ◌∙◌, subst, arith}
 use Rattle.std.specs.Prelude.{nat_eq, slice_get}
-use Rattle.std.proofs.lemmas.Bool.{eq-eqb}
-use Rattle.std.proofs.lemmas.Bool.Decides.{nat_tests}
-use Rattle.std.proofs.lemmas.List.{length-map}
-use Rattle.rollout_machine.specs.ByteStrings.{item_numbered}
-use Rattle.rollout_machine.specs.CommandList.{CommandList, ◌▸◌}
-use Rattle.rollout_machine.specs.CommandRules.{IsWellFormed}
-use Rattle.rollout_machine.specs.Commands.{Bytes, Command}
-use Rattle.rollout_machine.specs.GroupRules.{GroupRule, rules_of}
-use Rattle.rollout_machine.specs.Offers.{offer}
-use Rattle.rollout_machine.specs.Ranges.{each_from}
-use Rattle.rollout_machine.specs.Records.{Records, group_in, records, rollout_in}
-use Rattle.rollout_machine.specs.RecordSteps.{change_rollout, step_records}
-use Rattle.rollout_machine.specs.Rollouts.{Rollout, rollout_at}
-use Rattle.rollout_machine.specs.StateWords.{group_numbered}
-use Rattle.rollout_machine.specs.Validity.{IsValid}
-use Rattle.rollout_machine.specs.Verdicts.{check}
-use Rattle.rollout_machine.specs.declared.bounds.Bounds.{Bounds}
-use Rattle.rollout_machine.specs.declared.records.GroupRecord.{GroupRecord}
-use Rattle.rollout_machine.specs.declared.records.RolloutRecord.{RolloutRecord}
-use Rattle.rollout_machine.proofs.Actions.{numbered_map}
+use Rattle.desk_commands.proofs.Common.{eq-eqb, nat_tests, length-map, item_numbered, CommandList, ◌▸◌, IsWellFormed, Bytes, Command, GroupRule, rules_of, offer, each_from, Records, group_in, rollout_in, change_rollout, step_records, Rollout, rollout_at, group_numbered, IsValid, check, Bounds, GroupRecord, RolloutRecord, numbered_map, records_step, change_numbered, records_are_sound, GroupStarts, group_offers, put_offers, offers_before_start, tally_of, numbers_of, Ledger, ledger_of, set_numbered, with_groups, with_rollouts, StartsGroup, started, with_group, StartsNoGroup, Waits, starts_of}
+use Rattle.rollout_machine.specs.Records.{records}
 use Rattle.rollout_machine.proofs.Induction.{no_record}
-use Rattle.rollout_machine.proofs.Main.{records_step}
 use Rattle.rollout_machine.proofs.Whole.{rollout_numbered}
-use Rattle.campaign_core.specs.RolloutChecks.{change_numbered}
 use Rattle.campaign_core.proofs.RolloutLemmas.{rollouts_changed}
-use Rattle.campaign_core.proofs.SoundLemmas.{records_are_sound}
-use Rattle.offer_laws.specs.GroupOffers.{GroupStarts, group_offers, put_offers, offers_before_start}
 use Rattle.offer_laws.proofs.Starts.{IsRollout, offers_after_group, offers_after_no_group}
-use Rattle.desk_records.specs.Actions.{tally_of}
-use Rattle.desk_records.specs.FeedbackNumbers.{numbers_of}
-use Rattle.desk_records.specs.Holds.{Ledger, ledger_of}
-use Rattle.desk_records.specs.LedgerSteps.{set_numbered, with_groups, with_rollouts}
-use Rattle.desk_commands.specs.GroupStarts.{StartsGroup, started, with_group}
-use Rattle.desk_commands.specs.LedgerEnds.{StartsNoGroup, Waits, starts_of}
 use Rattle.desk_commands.proofs.ItemSteps.{set_twice}
 
 -- ---- another in place of an item

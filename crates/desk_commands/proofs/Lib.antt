@@ -1,3 +1,4 @@
+pub mod Common
 pub mod ComposeLemmas
 pub mod AdditionLemmas
 pub mod ArtifactLemmas

@@ -1,26 +1,8 @@
 -- What a target is offered, looked up among its actions.
 use Rattle.std.proofs.Common.{◌≡◌, ℕ, zero, suc, Bool, true, false, cond, ◌&&◌, List, [], ◌∷◌, length, set, Option, Some, None, refl, sym, ap, ◌∙◌}
 use Rattle.std.specs.Prelude.{slice_get}
-use Rattle.std.specs.List.{list_any}
-use Rattle.std.specs.Option.{is_none}
-use Rattle.rollout_machine.specs.ByteStrings.{item_numbered, same_bytes}
-use Rattle.rollout_machine.specs.CommandList.{CommandList, ◌▸◌}
-use Rattle.rollout_machine.specs.Commands.{Bytes, Command}
-use Rattle.rollout_machine.specs.Offers.{Offer, first_offer, offer}
-use Rattle.rollout_machine.specs.StateWords.{has_started, is_for, is_started_in}
-use Rattle.rollout_machine.specs.Reports.{Reported}
-use Rattle.rollout_machine.specs.Records.{Records}
-use Rattle.rollout_machine.specs.Validity.{IsValid}
-use Rattle.rollout_machine.specs.declared.records.ActionRecord.{ActionRecord}
-use Rattle.rollout_machine.specs.declared.records.RolloutRecord.{RolloutRecord}
-use Rattle.offer_laws.specs.GroupOffers.{acted}
+use Rattle.desk_commands.proofs.Common.{list_any, is_none, item_numbered, same_bytes, CommandList, ◌▸◌, Bytes, Command, Offer, first_offer, offer, has_started, is_for, is_started_in, Reported, Records, IsValid, ActionRecord, RolloutRecord, acted, actor_of, Ledger, SetsOffer, set_numbered, with_offer, any_starts, next_offer, next_offer_from, starts_at, parts_of, Reoffers}
 use Rattle.offer_laws.proofs.AnyGroup.{started_by_any_then}
-use Rattle.desk_records.specs.Actions.{actor_of}
-use Rattle.desk_records.specs.Holds.{Ledger}
-use Rattle.desk_records.specs.LedgerSteps.{SetsOffer, set_numbered, with_offer}
-use Rattle.desk_records.specs.NextOffers.{any_starts, next_offer, next_offer_from, starts_at}
-use Rattle.desk_records.specs.Parts.{parts_of}
-use Rattle.desk_commands.specs.Offering.{Reoffers}
 
 -- ---- as the machine says
 

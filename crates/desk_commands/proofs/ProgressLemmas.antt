@@ -1,45 +1,13 @@
 -- How a rollout goes on.
 use Rattle.std.proofs.Common.{◌≡◌, ◌≤◌, ◌<◌, ◌⊎◌, inl, inr, ℕ, zero, suc, ◌+◌, Bool, true, false, cond, ◌&&◌, ◌||◌, List, [], ◌∷◌, ◌++◌, map, length, get_or, set, Option, Some, None, refl, sym, ap, ◌∙◌, subst, arith}
-use Rattle.std.proofs.Math.Bool.{or-false, or-true}
+use Rattle.desk_commands.proofs.Common.{or-false, or-true, list_any, eq-eqb, eqb-true, false≢true, ltb-true, nat_tests, take_more, command_reply, item_numbered, CommandList, IsWellFormed, Bytes, RolloutPlan, GroupRule, rule_at, offer, each_from, Records, group_in, records, change_rollout, group_view, last_started, resumed, start_group, step_records, triggered, view_from_group, view_of, Done, Rollout, RolloutWord, group_numbered, rollout_word, check, GroupRecord, RolloutRecord, is_number, NotFound, length_each, BothOrNone, IsResumeView, IsTriggerView, offers_before_start, Ledger, ledger_of, set_numbered, turned, with_groups, with_rollouts, told_plan, IsSeenOf, SeenRollout, StartsGroup, started, GoesOn, IsSeenAt, StartsIf, gone_by, pause_left, starts_by}
 use Rattle.std.specs.Prelude.{nat_eq, nat_lt, not, slice_get, take}
-use Rattle.std.specs.List.{list_any}
-use Rattle.std.proofs.lemmas.Bool.{eq-eqb, eqb-true, false≢true, ltb-true}
-use Rattle.std.proofs.lemmas.Bool.Decides.{nat_tests}
-use Rattle.std.proofs.lemmas.List.{take_more}
-use Rattle.rollout_machine.specs.Answers.{command_reply}
-use Rattle.rollout_machine.specs.ByteStrings.{item_numbered}
-use Rattle.rollout_machine.specs.CommandList.{CommandList}
-use Rattle.rollout_machine.specs.CommandRules.{IsWellFormed}
-use Rattle.rollout_machine.specs.Commands.{Bytes, RolloutPlan}
 use Rattle.rollout_machine.specs.Effects.{next_if}
-use Rattle.rollout_machine.specs.GroupRules.{GroupRule, rule_at}
-use Rattle.rollout_machine.specs.Offers.{offer}
-use Rattle.rollout_machine.specs.Ranges.{each_from}
-use Rattle.rollout_machine.specs.Records.{Records, group_in, records}
-use Rattle.rollout_machine.specs.RecordSteps.{change_rollout, group_view, last_started, resumed, start_group, step_records, triggered, view_from_group, view_of}
-use Rattle.rollout_machine.specs.Replies.{Done}
-use Rattle.rollout_machine.specs.Rollouts.{Rollout}
-use Rattle.rollout_machine.specs.StateWords.{RolloutWord, group_numbered, rollout_word}
-use Rattle.rollout_machine.specs.Verdicts.{check}
-use Rattle.rollout_machine.specs.declared.records.GroupRecord.{GroupRecord}
-use Rattle.rollout_machine.specs.declared.records.RolloutRecord.{RolloutRecord}
 use Rattle.rollout_machine.specs.declared.view.GroupView.{GroupView}
 use Rattle.rollout_machine.specs.declared.view.RolloutView.{RolloutView}
-use Rattle.rollout_model.specs.Rules.{is_number}
-use Rattle.rollout_model.specs.declared.refusal.Refusal.TheVariants.{NotFound}
-use Rattle.rollout_machine.proofs.Lists.{length_each}
-use Rattle.campaign_core.specs.RolloutChecks.{BothOrNone, IsResumeView, IsTriggerView}
 use Rattle.campaign_core.proofs.RolloutLemmas.{number_is}
-use Rattle.offer_laws.specs.GroupOffers.{offers_before_start}
-use Rattle.desk_records.specs.Holds.{Ledger, ledger_of}
-use Rattle.desk_records.specs.LedgerSteps.{set_numbered, turned, with_groups, with_rollouts}
-use Rattle.desk_records.specs.RolloutRow.{told_plan}
 use Rattle.desk_records.specs.declared.rollout_row.ToldPlan.{ToldPlan}
-use Rattle.desk_reads.specs.Rollouts.{IsSeenOf}
-use Rattle.desk_reads.specs.declared.rollouts.SeenRollout.{SeenRollout}
-use Rattle.desk_commands.specs.GroupStarts.{StartsGroup, started}
 use Rattle.desk_commands.specs.GroupViews.{view_by}
-use Rattle.desk_commands.specs.Standings.{GoesOn, IsSeenAt, StartsIf, gone_by, pause_left, starts_by}
 use Rattle.desk_commands.specs.declared.progress.Going.{Going}
 use Rattle.desk_commands.specs.declared.progress.Going.TheVariants.{Resumed, Triggered}
 use Rattle.desk_records.proofs.HeldCounts.{at_place}

@@ -1,28 +1,8 @@
 -- Rows of targets that are put one after the other, as far as the desk takes them.
 use Rattle.std.proofs.Common.{◌≡◌, ◌≤◌, ◌<◌, ◌+◌, ◌-◌, ℕ, suc, Bool, true, false, cond, ◌||◌, nat_lt, List, [], ◌∷◌, ◌++◌, length, get_or, take, drop, Option, Some, None, option_map, Ok, Err, refl, sym, ap, ◌∙◌, subst, arith}
 use Rattle.std.specs.Prelude.{is_some}
-use Rattle.std.proofs.lemmas.Bool.Decides.{nat_tests}
-use Rattle.std.proofs.lemmas.List.{map-append, take_more, take_all, take-append-drop, length-map}
-use Rattle.sqlite.specs.State.{State, HasCleanDisk}
-use Rattle.sql_calls.specs.Standing.{Finds, Makes, Sees, Wears}
-use Rattle.desk_records.specs.Holds.{HoldsLedger, ledger_of}
-use Rattle.desk_records.specs.TargetRow.{stored_target}
-use Rattle.desk_records.specs.Targets.{are_sorted, ids_of}
-use Rattle.desk_records.specs.declared.target_row.StoredTarget.{StoredTarget}
-use Rattle.rollout_machine.specs.ByteStrings.{same_bytes, bytes_below, contains_word, with_word, with_words}
-use Rattle.rollout_machine.specs.CommandList.{CommandList}
-use Rattle.rollout_machine.specs.Commands.{Bytes, TargetRow, PutTargets}
-use Rattle.rollout_machine.specs.Records.{Records, records}
-use Rattle.rollout_machine.specs.RecordSteps.{new_target, put_target, put_targets, step_records}
-use Rattle.rollout_machine.specs.Targets.{Target}
-use Rattle.rollout_machine.specs.Validity.{IsValid}
-use Rattle.rollout_machine.specs.Verdicts.{check, target_of}
-use Rattle.rollout_machine.proofs.TargetTies.{same_sym, same_true}
-use Rattle.rollout_model.specs.declared.refusal.Refusal.{Refusal}
-use Rattle.rollout_model.specs.declared.refusal.Refusal.TheVariants.{Quota}
-use Rattle.desk_commands.specs.Imports.{HasRoom, IsTooMany, LeavesRoom, PutsAll, PutsRow, ids_after, row_ids, with_row}
+use Rattle.desk_commands.proofs.Common.{nat_tests, map-append, take_more, take_all, take-append-drop, length-map, State, HasCleanDisk, Finds, Makes, Sees, Wears, HoldsLedger, ledger_of, stored_target, are_sorted, ids_of, StoredTarget, same_bytes, bytes_below, contains_word, with_word, with_words, CommandList, Bytes, TargetRow, PutTargets, Records, records, new_target, put_target, put_targets, step_records, Target, IsValid, check, target_of, same_sym, same_true, Refusal, Quota, HasRoom, IsTooMany, LeavesRoom, PutsAll, PutsRow, ids_after, row_ids, with_row, with_there}
 use Rattle.desk_commands.proofs.ByteOrderLemmas.{count_with}
-use Rattle.rollout_machine.proofs.Imports.{with_there}
 use Rattle.rollout_machine.proofs.WithinLimits.{limits_hold}
 use Rattle.desk_commands.proofs.TargetLemmas.{found, ids_sorted}
 

@@ -1,25 +1,9 @@
 -- How a report stands among what its action has heard, by the last number.
 use Rattle.std.proofs.Common.{◌≡◌, ℕ, suc, Bool, true, false, cond, List, [], ◌∷◌, length, Option, Some, None, option_map, refl, sym, ap, ◌∙◌, nat_eq, nat_lt, ◌&&◌, ◌≤◌, arith}
-use Rattle.std.specs.Option.{is_none}
-use Rattle.std.specs.List.{last_or}
-use Rattle.std.proofs.lemmas.Bool.{false≢true}
-use Rattle.std.proofs.lemmas.Bool.Decides.{nat_tests}
-use Rattle.rollout_machine.specs.ByteStrings.{item_numbered}
-use Rattle.rollout_machine.specs.Records.{Records}
-use Rattle.rollout_machine.specs.Reports.{HistoryEntry, Reported, against, entries_in, same_entry}
-use Rattle.rollout_machine.specs.declared.standing.Standing.{Standing}
+use Rattle.desk_commands.proofs.Common.{is_none, last_or, false≢true, nat_tests, item_numbered, Records, HistoryEntry, Reported, against, entries_in, same_entry, Standing, ActionRecord, numbered_map, history_of, last_number, numbers_numbered, numbers_of, ledger_of, parts_of, PlacedNumber, StandsAgainst, StandsAmong, StandsAt, number_asked, SeenAction}
 use Rattle.rollout_machine.specs.declared.standing.Standing.TheVariants.{Fresh, Again, Old}
-use Rattle.rollout_machine.specs.declared.records.ActionRecord.{ActionRecord}
-use Rattle.rollout_machine.proofs.Actions.{numbered_map}
-use Rattle.desk_records.specs.Actions.{history_of}
-use Rattle.desk_records.specs.FeedbackNumbers.{last_number, numbers_numbered, numbers_of}
-use Rattle.desk_records.specs.Holds.{ledger_of}
-use Rattle.desk_records.specs.Parts.{parts_of}
 use Rattle.desk_records.specs.declared.number_row.LastNumber.{LastNumber}
-use Rattle.desk_records.specs.declared.number_row.PlacedNumber.{PlacedNumber}
 use Rattle.desk_records.proofs.NumberLists.{BearsLast, bears_last}
-use Rattle.desk_commands.specs.SeenReports.{StandsAgainst, StandsAmong, StandsAt, number_asked}
-use Rattle.desk_commands.specs.declared.seen_actions.SeenAction.{SeenAction}
 
 -- ---- the last number
 

@@ -1,23 +1,8 @@
 -- An action as it is seen, and the views that the rules of commands rest on.
 use Rattle.std.proofs.Common.{◌≡◌, ℕ, Option, Some, None, option_map, Ok, refl, sym, ap, ◌∙◌, subst}
-use Rattle.std.specs.List.{zip}
-use Rattle.std.specs.Option.{ok_or}
-use Rattle.rollout_machine.specs.ByteStrings.{item_numbered}
-use Rattle.rollout_machine.specs.GroupRules.{GroupRule}
-use Rattle.rollout_machine.specs.declared.records.ActionRecord.{ActionRecord}
-use Rattle.rollout_machine.specs.declared.records.GroupRecord.{GroupRecord}
-use Rattle.rollout_machine.specs.declared.records.RolloutRecord.{RolloutRecord}
-use Rattle.campaign_core.specs.declared.own_group.OwnView.{OwnView}
-use Rattle.desk_records.specs.Actions.{Tally}
-use Rattle.desk_records.specs.Holds.{Ledger}
-use Rattle.desk_records.specs.RolloutRow.{stored_action, stored_rollout}
+use Rattle.desk_commands.proofs.Common.{zip, ok_or, item_numbered, GroupRule, ActionRecord, GroupRecord, RolloutRecord, OwnView, Tally, Ledger, stored_action, stored_rollout, group_and_next, GroupAndNext, StoredAction, IsSeen, SeesIn, own_seen, SeenAction}
 use Rattle.desk_records.specs.Rollouts.{groups_of, rule_numbered}
-use Rattle.desk_store.specs.GroupPairs.{group_and_next}
-use Rattle.desk_store.specs.declared.rollouts.GroupAndNext.{GroupAndNext}
-use Rattle.desk_records.specs.declared.rollout_row.StoredAction.{StoredAction}
 use Rattle.desk_records.specs.declared.rollout_row.StoredRollout.{StoredRollout}
-use Rattle.desk_commands.specs.SeenActions.{IsSeen, SeesIn, own_seen}
-use Rattle.desk_commands.specs.declared.seen_actions.SeenAction.{SeenAction}
 
 -- ---- an action with its group and its rollout
 

@@ -1,34 +1,9 @@
 -- What is said of a rollout as a whole.
 use Rattle.std.proofs.Common.{◌≡◌, ℕ, true, Option, Some, None, Result, Ok, Err, refl, sym, ap, ◌∙◌}
 use Rattle.std.specs.Prelude.{MatchResult}
-use Rattle.std.specs.Option.{option_map}
-use Rattle.rollout_machine.specs.Answers.{command_reply}
-use Rattle.rollout_machine.specs.ByteStrings.{item_numbered}
-use Rattle.rollout_machine.specs.CommandList.{CommandList}
-use Rattle.rollout_machine.specs.CommandRules.{IsWellFormed}
-use Rattle.rollout_machine.specs.Commands.{Bytes, Command}
-use Rattle.rollout_machine.specs.Offers.{offer}
-use Rattle.rollout_machine.specs.Records.{Records, records}
-use Rattle.rollout_machine.specs.RecordSteps.{change_rollout, step_records}
-use Rattle.rollout_machine.specs.Replies.{Done}
-use Rattle.rollout_machine.specs.StateWords.{RolloutWord, rollout_word}
-use Rattle.rollout_machine.specs.Validity.{IsValid}
-use Rattle.rollout_machine.specs.Verdicts.{check}
-use Rattle.rollout_machine.specs.declared.records.RolloutRecord.{RolloutRecord}
-use Rattle.rollout_model.specs.Rules.{is_number}
-use Rattle.rollout_model.specs.declared.refusal.Refusal.{Refusal}
-use Rattle.rollout_model.specs.declared.refusal.Refusal.TheVariants.{NotFound}
-use Rattle.campaign_core.specs.RolloutChecks.{AreSound, BothOrNone, Decides, IsStandingView, IsViewOf}
-use Rattle.campaign_core.specs.declared.rollout_checks.RolloutChange.{RolloutChange}
-use Rattle.campaign_core.specs.declared.rollout_checks.RolloutCommandView.{RolloutCommandView}
+use Rattle.desk_commands.proofs.Common.{option_map, command_reply, item_numbered, CommandList, IsWellFormed, Bytes, Command, offer, Records, records, change_rollout, step_records, Done, RolloutWord, rollout_word, IsValid, check, RolloutRecord, is_number, Refusal, NotFound, AreSound, BothOrNone, Decides, IsStandingView, IsViewOf, RolloutChange, RolloutCommandView, offers_before_start, ledger_of, turned, IsSeenOf, SeenRollout, IsSeenAt, WritesSaid, approval_after, paused_after, said_by}
 use Rattle.campaign_core.proofs.ItemLemmas.{IsFound, found}
-use Rattle.offer_laws.specs.GroupOffers.{offers_before_start}
-use Rattle.desk_records.specs.Holds.{ledger_of}
-use Rattle.desk_records.specs.LedgerSteps.{turned}
-use Rattle.desk_reads.specs.Rollouts.{IsSeenOf}
 use Rattle.desk_reads.specs.AtLists.{AreOfList}
-use Rattle.desk_reads.specs.declared.rollouts.SeenRollout.{SeenRollout}
-use Rattle.desk_commands.specs.Standings.{IsSeenAt, WritesSaid, approval_after, paused_after, said_by}
 use Rattle.desk_commands.specs.declared.standing.Said.{Said}
 use Rattle.desk_commands.specs.declared.standing.Said.TheVariants.{Approved, Denied, Paused}
 use Rattle.desk_commands.proofs.LedgerEnds.{changed_at, sets_alone}

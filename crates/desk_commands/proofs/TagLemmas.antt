@@ -1,20 +1,7 @@
 -- What the writes of a target's tags come to.
 use Rattle.std.proofs.Common.{◌≡◌, ◌≤◌, ◌<◌, ◌-◌, Bool, true, false, cond, ◌||◌, ◌&&◌, not, nat_eq, List, [], ◌∷◌, length, get_or, take, drop, Option, Some, None, option_map, refl, sym, ap, ◌∙◌, subst, arith}
 use Rattle.std.specs.Prelude.{is_some}
-use Rattle.std.specs.List.{list_any}
-use Rattle.std.specs.Cmp.Lexicographic.{pointwise}
-use Rattle.std.proofs.lemmas.Bool.{and_parts, false≢true}
-use Rattle.std.proofs.lemmas.List.{take_all}
-use Rattle.desk_records.specs.Targets.{AddsTag, are_sorted, tagged, untagged, with_changed}
-use Rattle.rollout_machine.specs.ByteStrings.{same_bytes, contains_word, with_word, with_words, without_word, sorted_words}
-use Rattle.rollout_machine.specs.Commands.{Bytes}
-use Rattle.rollout_machine.specs.Records.{Records}
-use Rattle.rollout_machine.specs.Targets.{Target}
-use Rattle.rollout_machine.specs.Verdicts.{target_of, tags_of}
-use Rattle.rollout_machine.proofs.Imports.{IsSorted, sorted_with_all}
-use Rattle.rollout_machine.proofs.TargetTies.{has_sorted, has_with, has_without, same_pointwise, same_refl, same_sym, same_true}
-use Rattle.rollout_model.specs.Rules.{are_distinct_words, is_tag_list}
-use Rattle.desk_commands.specs.Imports.{AddsTags, DropsTags, Retags, lacking, retagged, tagged_with, untagged_from, without_words}
+use Rattle.desk_commands.proofs.Common.{list_any, pointwise, and_parts, false≢true, take_all, AddsTag, are_sorted, tagged, untagged, with_changed, same_bytes, contains_word, with_word, with_words, without_word, sorted_words, Bytes, Records, Target, target_of, tags_of, IsSorted, sorted_with_all, has_sorted, has_with, has_without, same_pointwise, same_refl, same_sym, same_true, are_distinct_words, is_tag_list, AddsTags, DropsTags, Retags, lacking, retagged, tagged_with, untagged_from, without_words}
 use Rattle.rollout_machine.proofs.Orders.{sorted_all, sorted_without}
 use Rattle.desk_commands.proofs.ByteOrderLemmas.{same_words}
 use Rattle.desk_commands.proofs.TargetLemmas.{changed_as, change_twice, find_changed, ids_sorted, no_change, tags_sorted}

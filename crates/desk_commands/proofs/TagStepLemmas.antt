@@ -1,18 +1,6 @@
 -- Giving a target a tag, and taking it.
 use Rattle.std.proofs.Common.{◌≡◌, ◌≤◌, ◌<◌, Bool, true, false, List, length, Option, Some, None, option_map, is_none, is_some, not, nat_le, refl, sym, ap, ◌∙◌, arith}
-use Rattle.std.proofs.lemmas.Bool.{false≢true}
-use Rattle.std.proofs.lemmas.Bool.Decides.{nat_tests}
-use Rattle.desk_records.specs.TargetRow.{stored_target}
-use Rattle.desk_records.specs.declared.target_row.StoredTarget.{StoredTarget}
-use Rattle.desk_records.specs.Targets.{are_sorted, tagged, AddsTag}
-use Rattle.rollout_machine.specs.ByteStrings.{contains_word}
-use Rattle.rollout_machine.specs.Commands.{Bytes, Tag, Untag}
-use Rattle.rollout_machine.specs.Records.{Records}
-use Rattle.rollout_machine.specs.RecordSteps.{step_records}
-use Rattle.rollout_machine.specs.Targets.{Target}
-use Rattle.rollout_machine.specs.Verdicts.{check, tags_of, target_of}
-use Rattle.rollout_model.specs.declared.refusal.Refusal.TheVariants.{NotFound, Quota}
-use Rattle.rollout_machine.proofs.Imports.{with_there}
+use Rattle.desk_commands.proofs.Common.{false≢true, nat_tests, stored_target, StoredTarget, are_sorted, tagged, AddsTag, contains_word, Bytes, Tag, Untag, Records, step_records, Target, check, tags_of, target_of, NotFound, Quota, with_there}
 use Rattle.desk_commands.proofs.TargetLemmas.{ids_sorted, tags_sorted, unchanged}
 
 -- a target isn't there where nothing is kept of it

@@ -1,15 +1,6 @@
 -- Targets as single writes change them.
 use Rattle.std.proofs.Common.{◌≡◌, Bool, true, false, cond, List, [], ◌∷◌, Option, Some, None, option_map, refl, sym, ap, ◌∙◌, subst}
-use Rattle.std.specs.List.{find, list_all}
-use Rattle.std.proofs.lemmas.Bool.{and_parts}
-use Rattle.desk_records.specs.Targets.{ids_of, is_sorted, are_sorted}
-use Rattle.rollout_machine.specs.ByteStrings.{same_bytes, bytes_below}
-use Rattle.rollout_machine.specs.Commands.{Bytes, TargetRow}
-use Rattle.rollout_machine.specs.RecordSteps.{change_target, new_target, put_target}
-use Rattle.rollout_machine.specs.Targets.{Target}
-use Rattle.rollout_machine.proofs.Imports.{AllAbove, IsSorted, above_more, below_apart}
-use Rattle.rollout_machine.proofs.TargetTies.{same_refl, same_sym, same_true}
-use Rattle.desk_records.proofs.ByteOrder.{sorted_from}
+use Rattle.desk_commands.proofs.Common.{find, list_all, and_parts, ids_of, is_sorted, are_sorted, same_bytes, bytes_below, Bytes, TargetRow, change_target, new_target, put_target, Target, AllAbove, IsSorted, above_more, below_apart, same_refl, same_sym, same_true, sorted_from}
 
 -- the target of an id
 abbrev pub found : Bytes → List Target → Option Target

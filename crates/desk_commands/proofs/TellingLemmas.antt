@@ -1,26 +1,8 @@
 -- What is told of an action and what becomes of it, write by write.
-use Rattle.sql_calls.proofs.Composing.{Then}
+use Rattle.desk_commands.proofs.Common.{Then, item_numbered, Bytes, Reported, Outcome, ActionRecord, action_with, RolloutChange, ActionChange, StaysOpen, Ends, borne_at, Ledger, AddsEntry, AddsNumber, SetsAction, and_entry, set_numbered, with_actions, with_numbers, PlacedNumber, StoredAction, Acts, ActsBy, Follows, MayAct, TellsAction, action_change_of, canceling_by, outcome_by, stays_offered, MayReoffer, Reoffers, TellsReports, WritesNumber, WritesTold, entries_by, notes_by, numbers_by, tally_by, with_reports, SeenAction, Told}
 use Rattle.std.proofs.Common.{◌≡◌, ℕ, ◌+◌, Bool, true, false, List, [], ◌∷◌, ◌++◌, Option, Some, None, refl, sym, ap, ◌∙◌, subst}
 use Rattle.std.specs.Prelude.{is_some}
-use Rattle.rollout_machine.specs.ByteStrings.{item_numbered}
-use Rattle.rollout_machine.specs.Commands.{Bytes}
-use Rattle.rollout_machine.specs.Reports.{Reported}
-use Rattle.rollout_machine.specs.declared.outcome.Outcome.{Outcome}
-use Rattle.rollout_machine.specs.declared.records.ActionRecord.{ActionRecord}
-use Rattle.campaign_core.specs.RolloutChecks.{action_with}
-use Rattle.campaign_core.specs.declared.rollout_checks.RolloutChange.{RolloutChange}
-use Rattle.campaign_core.specs.declared.rollout_checks.actions.ActionChange.{ActionChange}
-use Rattle.campaign_core.specs.declared.rollout_checks.actions.ActionChange.TheVariants.{StaysOpen, Ends}
-use Rattle.desk_records.specs.FeedbackNumbers.{borne_at}
-use Rattle.desk_records.specs.Holds.{Ledger}
-use Rattle.desk_records.specs.LedgerSteps.{AddsEntry, AddsNumber, SetsAction, acted, and_entry, set_numbered, with_actions, with_numbers}
-use Rattle.desk_records.specs.declared.number_row.PlacedNumber.{PlacedNumber}
-use Rattle.desk_records.specs.declared.rollout_row.StoredAction.{StoredAction}
-use Rattle.desk_commands.specs.ActionSteps.{Acts, ActsBy, Follows, MayAct, TellsAction, action_change_of, canceling_by, outcome_by, stays_offered}
-use Rattle.desk_commands.specs.Offering.{MayReoffer, Reoffers}
-use Rattle.desk_commands.specs.Telling.{TellsReports, WritesNumber, WritesTold, entries_by, notes_by, numbers_by, tally_by, with_reports}
-use Rattle.desk_commands.specs.declared.seen_actions.SeenAction.{SeenAction}
-use Rattle.desk_commands.specs.declared.telling.Told.{Told}
+use Rattle.desk_records.specs.LedgerSteps.{acted}
 use Rattle.desk_commands.proofs.ItemSteps.{append_none, set_same, set_twice, zip_at, zip_set}
 
 -- ---- the history and its numbers

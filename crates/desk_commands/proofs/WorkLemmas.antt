@@ -1,11 +1,8 @@
 -- What a feedback takes: a new report is told, and of another one no more is read than the entry that bears its number.
 use Rattle.std.proofs.Common.{◌≡◌, ◌≤◌, ℕ, ◌+◌, Bool, true, false, cond, Option, Some, None, refl, ap, arith}
-use Rattle.rollout_machine.specs.declared.standing.Standing.{Standing}
-use Rattle.campaign_core.specs.RolloutChecks.{says_fresh}
+use Rattle.desk_commands.proofs.Common.{Standing, says_fresh, more_reads, reads_for, if_numbered}
 use Rattle.sql_calls.specs.declared.calls.Work.{Work}
 use Rattle.desk_store.specs.Counting.{Adds}
-use Rattle.desk_commands.specs.SeenReports.{more_reads, reads_for}
-use Rattle.desk_commands.specs.Telling.{if_numbered}
 
 more_within : (s : Option Standing) → more_reads s ≤ 1
 more_within None = omega arith

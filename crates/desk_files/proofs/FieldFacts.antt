@@ -1,16 +1,10 @@
 -- Records of four fields, and fields that are no text.
 use Rattle.std.proofs.Common.{◌≡◌, ◌<◌, ◌≤◌, ◌==◌, ℕ, List, [], ◌∷◌, length, Bool, true, false, cond, Option, Some, None, refl, arith, nat_le, count_by, Bor, get_or, map, take, ◌+◌, ◌++◌, sym, ◌∙◌}
-use Rattle.std.specs.List.{list_all, slice_split}
-use Rattle.std.proofs.lemmas.List.{map-append, take_more}
-use Rattle.std.proofs.lemmas.List.Folds.{list_all-map, list_all_at}
-use Rattle.std.proofs.lemmas.Bool.Decides.{nat_tests}
+use Rattle.desk_files.proofs.Common.{list_all, slice_split, map-append, take_more, list_all-map, list_all_at, nat_tests, is_spelled, is_text, is_text_letter, is_token, is_word, tag_list_of, text_of, token_of, word_of, both, spelled_is_utf8, tags_of}
 use Rattle.std.proofs.lemmas.List.Splits.{length-slice_split}
 use Rattle.std.specs.Str.{IsUtf8, is_utf8}
 use Rattle.std.proofs.lemmas.Str.{IsUtf8-from_is_utf8}
 use Rattle.csv.specs.Records.{field_at}
-use Rattle.rollout_model.specs.Rules.{is_spelled, is_text, is_text_letter, is_token, is_word, tag_list_of, text_of, token_of, word_of}
-use Rattle.rollout_model.proofs.RuleLemmas.{both, spelled_is_utf8}
-use Rattle.desk_files.specs.TargetRecords.{tags_of}
 
 pub four_are : (fs : List (List ℕ)) (a b c d : List ℕ) → length fs ≡ 4 → Some a ≡ field_at fs 0 → Some b ≡ field_at fs 1 → Some c ≡ field_at fs 2 → Some d ≡ field_at fs 3
     → fs ≡ a ∷ b ∷ c ∷ d ∷ []

@@ -1,3 +1,4 @@
+pub mod Common
 pub mod FieldFacts
 pub mod ReaderFacts
 pub mod StepFacts

@@ -9,11 +9,9 @@ use Rattle.csv.specs.declared.parser.State.{State}
 use Rattle.csv.specs.declared.parser.State.TheVariants as st
 use Rattle.csv.specs.declared.parser.Terminator.{Terminator}
 use Rattle.csv.specs.declared.parser.Terminator.TheVariants as term
-use Rattle.csv.specs.declared.reader.Reader.{Reader}
+use Rattle.desk_files.proofs.Common.{Reader, Gives, GivesNext, known, Record}
 use Rattle.csv.specs.declared.reader.Trim.TheVariants as trim
 use Rattle.csv.proofs.ReadFacts.{rows-end, rows-more}
-use Rattle.desk_files.specs.RecordReaders.{Gives, GivesNext, known}
-use Rattle.desk_files.specs.TargetRecords.{Record}
 
 -- a byte that ends a record leaves the machine between two
 abbrev Parts : State × Action → Type 0

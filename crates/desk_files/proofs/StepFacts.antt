@@ -1,19 +1,10 @@
 -- How the rows and their ids go on by one record.
 use Rattle.std.proofs.Common.{◌≡◌, ◌&&◌, ◌||◌, ℕ, List, [], ◌∷◌, ◌++◌, Bool, true, false, not, cond, nat_eq, nat_cmp, Option, Some, None, option_map, option_and_then, BTreeSet, refl, sym, ◌∙◌, ap}
-use Rattle.std.specs.List.{list_any}
+use Rattle.desk_files.proofs.Common.{list_any, false≢true, true≢false, map-append, list_any-append, are_distinct_words, TargetRow, distinct_rows, each_row, ids_of, HasIds, Pushes, TakesRow, has_id, if_new, row_behind, Record, row_of, ImportedRows}
 use Rattle.std.specs.Option.{MatchOption}
 use Rattle.std.specs.BTreeMap.{is_at}
 use Rattle.std.specs.BTreeSet.{contains}
 use Rattle.std.specs.Cmp.Lexicographic.{nat_list_eq_equiv, pointwise, slice_cmp, texts_ties}
-use Rattle.std.proofs.lemmas.Bool.{false≢true, true≢false}
-use Rattle.std.proofs.lemmas.List.{map-append}
-use Rattle.std.proofs.lemmas.List.Folds.{list_any-append}
-use Rattle.rollout_model.specs.Rules.{are_distinct_words}
-use Rattle.rollout_model.specs.declared.target_row.TargetRow.{TargetRow}
-use Rattle.desk_files.specs.Imports.{distinct_rows, each_row, ids_of}
-use Rattle.desk_files.specs.ImportSteps.{HasIds, Pushes, TakesRow, has_id, if_new, row_behind}
-use Rattle.desk_files.specs.TargetRecords.{Record, row_of}
-use Rattle.desk_files.specs.declared.imported_rows.ImportedRows.{ImportedRows}
 
 -- ---- the set of ids
 

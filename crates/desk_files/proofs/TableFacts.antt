@@ -1,17 +1,12 @@
 -- No field of a table of actions needs quotes.
 use Rattle.std.proofs.Common.{◌≡◌, ◌<◌, ◌^◌, ◌+◌, ◌%◌, ℕ, List, [], ◌∷◌, ◌++◌, true, false, All, codes, map, refl, sym, ◌∙◌, ap, arith, append_assoc}
 use Rattle.std.specs.Fmt.{decimal}
-use Rattle.std.specs.List.{flat_map, list_all}
+use Rattle.desk_files.proofs.Common.{flat_map, list_all, nat_tests, append-nil, list_any-append, both, is_between, is_word, is_word_letter}
 use Rattle.std.specs.Prelude.{length}
-use Rattle.std.proofs.lemmas.Bool.Decides.{nat_tests}
 use Rattle.std.proofs.lemmas.Fmt.{decimal_by_steps}
-use Rattle.std.proofs.lemmas.List.{append-nil}
 use Rattle.std.proofs.lemmas.List.Elements.{All-head, All-tail}
-use Rattle.std.proofs.lemmas.List.Folds.{list_any-append}
 use Rattle.std.proofs.lemmas.List.Splits.{join_with_byte-slice_split}
 use Rattle.csv.specs.Writing.{default_writer, needs_byte, fields_text, is_blank, needs_quotes, row_text}
-use Rattle.rollout_model.proofs.RuleLemmas.{both}
-use Rattle.rollout_model.specs.Rules.{is_between, is_word, is_word_letter}
 use Rattle.rollout_model.specs.StateTexts.{action_text}
 use Rattle.rollout_model.specs.declared.action_word.ActionWord.{ActionWord}
 use Rattle.rollout_model.specs.declared.action_word.ActionWord.TheVariants as word

@@ -1,20 +1,6 @@
 -- What was read is taken over.
 use Rattle.std.proofs.Common.{◌≡◌, inr, Ok, Err, Result, IfErr, IsTrue, sym, subst, arith}
-use Rattle.sqlite.specs.Effect.{Database}
-use Rattle.sqlite.specs.State.{State, HasCleanDisk}
-use Rattle.sql_front.specs.Found.{StandsSomewhere}
-use Rattle.sql_calls.specs.Standing.{HoldIn, IsAtRest, Rests, Wears}
-use Rattle.rollout_machine.specs.Records.{Records}
-use Rattle.desk_records.specs.Schema.{desk_table}
-use Rattle.desk_records.specs.Holds.{HoldsRecords}
-use Rattle.desk_records.specs.Readable.{HoldsAt, HoldsReadable}
-use Rattle.desk_records.specs.Versions.{newest}
-use Rattle.desk_records.specs.declared.version.Version.{Version}
-use Rattle.desk_records.proofs.Readable.{from_newest, newest_is_readable}
-use Rattle.desk_opening.specs.declared.opening.OpenFault.{OpenFault}
-use Rattle.desk_opening.specs.declared.opening.OpenFault.TheVariants.{NotDesk, NewerVersion, Memory, Store}
-use Rattle.desk_opening.specs.Migrating.{Migrates}
-use Rattle.desk_opening.specs.Opening.{Adopts, HasDeskTables, HasNoRow, HasRow, IsDeskRow, IsFailure, IsSettled, Keeps, Tells}
+use Rattle.desk_opening.proofs.Common.{Database, State, HasCleanDisk, StandsSomewhere, HoldIn, IsAtRest, Rests, Wears, Records, desk_table, HoldsRecords, HoldsAt, HoldsReadable, newest, Version, from_newest, newest_is_readable, OpenFault, NotDesk, NewerVersion, Memory, Store, Migrates, Adopts, HasDeskTables, HasNoRow, HasRow, IsDeskRow, IsFailure, IsSettled, Keeps, Tells}
 use Rattle.desk_opening.proofs.HeldLemmas.{same_version}
 use Rattle.desk_opening.proofs.OpeningLemmas.{leaves_still}
 use Rattle.desk_opening.proofs.Steps.{rests_as}

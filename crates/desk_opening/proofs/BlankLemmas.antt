@@ -1,27 +1,17 @@
 -- Files that hold nothing are opened to empty trees.
 use Rattle.std.proofs.Common.{◌≡◌, ◌≤◌, ◌<◌, ◌-◌, ◌*◌, ℕ, List, [], ◌∷◌, ◌++◌, codes, min, true, false, length, take, slice_index, Option, Some, unwrap_or, inl, inr, refl, sym, ap, subst, ◌∙◌, zero-add, arith, get_or-take}
-use Rattle.std.specs.List.{AllZip}
-use Rattle.std.proofs.lemmas.List.{length-take}
-use Rattle.std.proofs.Math.Logic.{∥∥₁_elim}
-use Rattle.sqlite.specs.Schema.{Schema}
-use Rattle.sqlite.specs.Tree.{Trees}
-use Rattle.sqlite.specs.Recovery.{Image}
-use Rattle.sqlite.specs.Files.{AreFoundIn, IsNothing}
+use Rattle.desk_opening.proofs.Common.{AllZip, length-take, ∥∥₁_elim, Schema, Trees, Image, AreFoundIn, IsNothing, IsTableRow, IsIndexRow, IsViewRow, AreListed, stored_size, used_size, LeavesFree, desk_names, UsesNoName}
 use Rattle.sqlite_trees.specs.Objects.{catalog_tree}
-use Rattle.sqlite_catalog.specs.Listing.{IsTableRow, IsIndexRow, IsViewRow, AreListed}
 use Rattle.sqlite_wal.specs.Format.{part}
 use Rattle.sqlite_wal.specs.Recovery.{Pages, pages_after}
 use Rattle.sqlite_wal.proofs.PartLemmas.{slice_index-part, part_within}
 use Rattle.sqlite_wal.proofs.RecoveryLemmas.{replays_once}
 use Rattle.sqlite_wal.proofs.AppendLemmas.{some_value, page_from_pages}
-use Rattle.sqlite_pool.specs.Stored.{stored_size, used_size, Adopts}
+use Rattle.sqlite_pool.specs.Stored.{Adopts}
 use Rattle.sqlite_pool.specs.StoredLaws.{trimmed_some}
 use Rattle.sqlite_pool.specs.File.{header_in, IsSoundFile}
 use Rattle.sqlite_pool.specs.Opening.{IsBlankFile}
 use Rattle.sqlite_pool.proofs.ProbeLemmas.{first_byte}
-use Rattle.sql_front.specs.Free.{LeavesFree}
-use Rattle.desk_records.specs.Schema.{desk_names}
-use Rattle.desk_opening.specs.Reopening.{UsesNoName}
 
 shorter : (n m size : ℕ) (xs wanted : List ℕ) → take n (take m (take size xs)) ≡ wanted → length wanted ≡ n → n ≤ size
 shorter n m size xs wanted is len =

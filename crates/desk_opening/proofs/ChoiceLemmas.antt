@@ -1,21 +1,7 @@
 -- Which of the two ways an open takes.
 use Rattle.std.proofs.Common.{Bool, codes, inl, inr, Ok, Err, Result, IfOk, IfErr, arith}
-use Rattle.std.proofs.lemmas.Bool.{both_ways}
-use Rattle.sqlite.specs.Effect.{Database}
-use Rattle.sqlite.specs.State.{State, HasCleanDisk}
-use Rattle.sqlite_catalog.specs.Change.{is_used}
-use Rattle.sql_front.specs.Free.{LeavesFree}
-use Rattle.sql_calls.specs.Standing.{Rests}
-use Rattle.sql_calls.proofs.FrameEnds.{still_holds}
-use Rattle.rollout_machine.specs.Records.{Records}
-use Rattle.desk_records.specs.Schema.{Desk, desk_names}
-use Rattle.desk_records.specs.Readable.{HoldsPlace, HoldsReadable}
-use Rattle.desk_records.proofs.Readable.{has_desk}
-use Rattle.desk_opening.specs.Making.{HoldsStage, Free, Makes, told}
-use Rattle.desk_opening.specs.declared.opening.OpenFault.{OpenFault}
-use Rattle.desk_opening.specs.declared.opening.OpenFault.TheVariants.{NotDesk, NewerVersion, Memory, Store}
+use Rattle.desk_opening.proofs.Common.{both_ways, Database, State, HasCleanDisk, is_used, LeavesFree, Rests, still_holds, Records, Desk, desk_names, HoldsPlace, HoldsReadable, has_desk, HoldsStage, Free, Makes, told, OpenFault, NotDesk, NewerVersion, Memory, Store, Adopts, HasDesk, HasRow, LacksDesk, IsFailure, Tells, FindsTo, OpensDesk, OpensTo, IsKnownOpen}
 use Rattle.desk_opening.proofs.VersionLemmas.{used_at}
-use Rattle.desk_opening.specs.Opening.{Adopts, HasDesk, HasRow, LacksDesk, IsFailure, Tells, FindsTo, OpensDesk, OpensTo, IsKnownOpen}
 
 -- a database that holds records uses the name `desk`
 held_is_used : (old : State) (r : Records) → IsKnownOpen old → Rests HoldsReadable old r → HasCleanDisk old → ¬ LeavesFree old.now.schema desk_names

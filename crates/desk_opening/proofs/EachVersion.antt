@@ -1,22 +1,9 @@
 -- What is known of each version by its cases.
 use Rattle.std.proofs.Common.{◌≡◌, ℕ, ◌+◌, List, [], ◌∷◌, ◌++◌, map, true, None, refl, ap, subst}
-use Rattle.std.specs.List.{AllByRecursion}
-use Rattle.std.proofs.lemmas.List.{take-append-drop}
-use Rattle.sqlite_value.specs.Order.{Row}
-use Rattle.rollout_machine.specs.Records.{Records}
+use Rattle.desk_opening.proofs.Common.{AllByRecursion, take-append-drop, Row, Records, RolloutRecord, Content, Ordered, Unordered, Offered, content_at, ledger_of, rule_row, rules_from, Place, Offers, places, IsTellable, IsUnnumbered, later_than, places_at, table_count_of, Version, One, Two, Three, among, is_among, of_all, bare_ledger, no_rules}
 use Rattle.rollout_machine.specs.declared.records.ActionRecord.{ActionRecord}
-use Rattle.rollout_machine.specs.declared.records.RolloutRecord.{RolloutRecord}
-use Rattle.desk_records.specs.Holds.{Content, Ordered, Unordered, Offered, content_at, ledger_of}
-use Rattle.desk_records.specs.Rollouts.{rule_row, rules_from}
 use Rattle.desk_records.specs.Parts.{parts_from}
 use Rattle.desk_records.specs.FeedbackNumbers.{number_row, number_rows, numbers_of}
-use Rattle.desk_records.specs.Schema.{Place, Offers, places}
-use Rattle.desk_records.specs.Versions.{IsTellable, IsUnnumbered, later_than, places_at, table_count_of}
-use Rattle.desk_records.specs.declared.version.Version.{Version}
-use Rattle.desk_records.specs.declared.version.Version.TheVariants.{One, Two, Three}
-use Rattle.desk_records.proofs.Places.{among, is_among}
-use Rattle.desk_records.proofs.Readable.{of_all}
-use Rattle.desk_opening.specs.Filling.{bare_ledger, no_rules}
 
 -- what holds of a version's tables holds of one of them
 pub has_at : (v : Version) (t : Place) → is_among (places_at v) t ≡ true → (P : Place → Type 0) → AllByRecursion P (places_at v) → P t

@@ -1,44 +1,21 @@
 -- Reads and writes of a change that fills the tables of the newest version.
 use Rattle.std.proofs.Common.{◌≡◌, ◌<◌, ◌≤◌, ◌⊎◌, inl, inr, ◌++◌, ℕ, zero, suc, ◌+◌, List, [], ◌∷◌, length, map, codes, pos, slice_get, set, Option, Some, None, option_map, Ok, Err, Result, IsErr, IfOk, MatchOption, Bool, if◌then◌else◌, refl, sym, ap, subst, ◌∙◌, arith}
-use Rattle.sqlite_value.specs.declared.value.Value.TheVariants.{Int}
-use Rattle.sqlite_value.specs.Order.{Row}
-use Rattle.sqlite.specs.Command.TheVariants.{Insert, Select}
-use Rattle.sqlite.specs.Source.TheVariants.{Values}
-use Rattle.sqlite.specs.Effect.{Database, IsDatabase}
-use Rattle.sqlite.specs.State.{State}
-use Rattle.sql_front.specs.Stands.{Stands}
-use Rattle.sql_calls.specs.declared.fault.Fault.{Fault}
-use Rattle.sql_calls.specs.Calls.{RunsText, TakesFirst}
-use Rattle.sql_calls.specs.Means.{Known, Knows}
+use Rattle.desk_opening.proofs.Common.{Int, Row, Insert, Select, Values, Database, IsDatabase, State, Stands, Fault, RunsText, TakesFirst, Known, Knows, inserts, simple, GroupRule, even_rules, RolloutRecord, HoldsLedger, Ledger, ledger_of, rule_row, told_rollout, Rollouts, Rules, name_of, rule_table, table_at, GET_ROLLOUT, LAST_ROLLOUT, PUT_RULE, Version, One, Two, Three, at_key, FillsLater, FillsRollout, FindsLedger, IsOfNumber, MakesLedger, Stays, WritesCopies, WritesRules, WritesUpTo, no_rules, rules_up_to, HoldsStage, Standing}
 use Rattle.sql_calls.proofs.Composing.{found_then_makes, makes_as, makes_nothing, makes_then}
 use Rattle.sql_calls.proofs.Finding.{ShowsFirst, first_finds, run_makes}
-use Rattle.sql_calls.proofs.Inserts.{inserts}
-use Rattle.sql_calls.proofs.Selects.{simple}
 use Rattle.rollout_model.specs.Rules.{is_group_count, is_percentage}
-use Rattle.rollout_model.specs.declared.group_rule.GroupRule.{GroupRule}
 use Rattle.rollout_machine.specs.ByteStrings.{item_numbered}
-use Rattle.rollout_machine.specs.GroupRules.{even_rules}
 use Rattle.rollout_machine.specs.Ranges.{each_from}
-use Rattle.rollout_machine.specs.declared.records.RolloutRecord.{RolloutRecord}
 use Rattle.rollout_machine.proofs.Lists.{each_from_more, length_each}
-use Rattle.desk_records.specs.Holds.{HoldsLedger, Ledger, ledger_of}
 use Rattle.desk_records.specs.LedgerSteps.{AddsRule, set_numbered, with_rules}
 use Rattle.desk_records.specs.Modules.{IsLastRow}
 use Rattle.desk_records.specs.Codes.{coded_in}
 use Rattle.desk_records.specs.RolloutRow.{IsRolloutRow}
-use Rattle.desk_records.specs.Rollouts.{rule_row, told_rollout}
-use Rattle.desk_records.specs.Schema.{Rollouts, Rules, name_of, rule_table, table_at}
 use Rattle.desk_records.specs.declared.rollout_row.StoredRollout.{StoredRollout}
-use Rattle.desk_records.specs.declared.rollout_texts.TheConstants.{GET_ROLLOUT, LAST_ROLLOUT, PUT_RULE}
-use Rattle.desk_records.specs.declared.version.Version.{Version}
-use Rattle.desk_records.specs.declared.version.Version.TheVariants.{One, Two, Three}
-use Rattle.desk_records.proofs.MeaningWords.{at_key}
 use Rattle.desk_records.proofs.NumberColumns.{ranged_is}
 use Rattle.desk_records.proofs.PartWrites.{adds_rule}
 use Rattle.desk_records.proofs.RolloutMeaning.{get_rollout_is, last_rollout_is, last_rollout_query, put_rule_is, rollout_columns, rollout_names, rule_terms}
 use Rattle.desk_records.proofs.RolloutRecords.{gets_rollout, lasts_rollout}
-use Rattle.desk_opening.specs.Filling.{FillsLater, FillsRollout, FindsLedger, IsOfNumber, MakesLedger, Stays, WritesCopies, WritesRules, WritesUpTo, no_rules, rules_up_to}
-use Rattle.desk_opening.specs.Making.{HoldsStage, Standing}
 use Rattle.desk_opening.proofs.RuleLists.{all_even, all_said, got_set, none_said, none_yet, one_more, set_same, set_twice}
 use Rattle.desk_opening.proofs.Steps.{leaves_of, read_fails, read_step, step, step_fails}
 

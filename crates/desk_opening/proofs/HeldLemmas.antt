@@ -1,28 +1,8 @@
 -- A database that holds the records of a desk, or uses no name of one, is refused for a failure alone.
 use Rattle.std.proofs.Common.{◌≡◌, ◌<ℤ◌, inl, inr, ℤ, false, [], ◌∷◌, codes, pos, Some, Err, slice_get, refl, sym, ap, subst, ◌∙◌, arith}
-use Rattle.std.specs.List.{AllByRecursion}
-use Rattle.std.proofs.lemmas.Bool.{true≢false, both_ways}
+use Rattle.desk_opening.proofs.Common.{AllByRecursion, true≢false, both_ways, Int, Text, Row, column, Table, Database, has_rowid, Has, is_used, LeavesFree, StandsSomewhere, Records, Desk, table_at, desk_table, desk_names, desk_row, HoldsAt, HoldsPlace, newest, number_of, places_at, Version, has_desk, is_known, one_numbered, flag, OpenFault, NotDesk, NewerVersion, Memory, Store, FindsTo, HasDeskTables, HasNoRow, HasRow, IsDeskRow, IsFailure, IsNewerRow, IsOtherRow, LacksDesk}
 use Rattle.std.proofs.lemmas.Int.{ints}
-use Rattle.sqlite_value.specs.declared.value.Value.TheVariants.{Int, Text}
-use Rattle.sqlite_value.specs.Order.{Row, column, value_cmp}
-use Rattle.sqlite.specs.Table.{Table}
-use Rattle.sqlite.specs.Effect.{Database}
-use Rattle.sqlite_trees.specs.Tree.{has_rowid}
-use Rattle.sqlite_rules.specs.Lists.{Has}
-use Rattle.sqlite_catalog.specs.Change.{is_used}
-use Rattle.sql_front.specs.Free.{LeavesFree}
-use Rattle.sql_front.specs.Found.{StandsSomewhere}
-use Rattle.rollout_machine.specs.Records.{Records}
-use Rattle.desk_records.specs.Schema.{Desk, table_at, desk_table, desk_names}
-use Rattle.desk_records.specs.Holds.{desk_row}
-use Rattle.desk_records.specs.Readable.{HoldsAt, HoldsPlace}
-use Rattle.desk_records.specs.Versions.{newest, number_of, places_at}
-use Rattle.desk_records.specs.declared.version.Version.{Version}
-use Rattle.desk_records.proofs.Readable.{has_desk, is_known, one_numbered}
-use Rattle.desk_records.specs.Rollouts.{flag}
-use Rattle.desk_opening.specs.declared.opening.OpenFault.{OpenFault}
-use Rattle.desk_opening.specs.declared.opening.OpenFault.TheVariants.{NotDesk, NewerVersion, Memory, Store}
-use Rattle.desk_opening.specs.Opening.{FindsTo, HasDeskTables, HasNoRow, HasRow, IsDeskRow, IsFailure, IsNewerRow, IsOtherRow, LacksDesk}
+use Rattle.sqlite_value.specs.Order.{value_cmp}
 use Rattle.desk_opening.proofs.VersionLemmas.{used_at}
 use Rattle.desk_opening.proofs.Tables.{all_kept}
 

@@ -1,17 +1,11 @@
 -- What the text of a table has to be.
 use Rattle.std.proofs.Common.{◌≡◌, refl, ℕ, false, Option, List, [], ◌++◌, codes, Ok, Err, Result}
-use Rattle.sqlite_value.specs.declared.keys.Order.{Order}
-use Rattle.sqlite.specs.State.{text_of}
-use Rattle.sqlite_schema.specs.Names.{same_name}
+use Rattle.desk_opening.proofs.Common.{Order, text_of, same_name, table_defined_by, first, IsBareTable, HaveNullDefaults, Place, table_at, name_of, create_text_of}
 use Rattle.sqlite_schema.specs.declared.schema.Column.{Column}
 use Rattle.sqlite_syntax.specs.declared.statement.Parsed.{Parsed}
 use Rattle.sqlite_resolve.specs.declared.error.CompileError.{CompileError}
-use Rattle.sqlite_resolve.specs.Compile.{table_defined_by, first}
-use Rattle.sql_front.specs.Bare.{IsBareTable, HaveNullDefaults}
 use Rattle.sql_front.proofs.Write.{Makes, with_create}
 use Rattle.sql_calls.specs.Tables.{table_of}
-use Rattle.desk_records.specs.Schema.{Place, table_at, name_of}
-use Rattle.desk_opening.specs.Places.{create_text_of}
 
 abbrev pub text_at : Result Parsed CompileError → List ℕ → List ℕ
 text_at (Ok p) sql = text_of sql (with_create p)

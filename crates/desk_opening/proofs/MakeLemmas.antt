@@ -1,30 +1,9 @@
 -- A new desk, from BEGIN to COMMIT.
 use Rattle.std.proofs.Common.{◌≡◌, ◌⊎◌, inl, ℕ, ◌+◌, Bool, List, [], ◌∷◌, ◌++◌, ◌<◌, ◌≤◌, length, map, take, drop, get_or, pos, Ok, Err, Result, IsErr, if◌then◌else◌, None, refl, sym, subst, arith}
-use Rattle.std.specs.List.{AllByRecursion}
-use Rattle.sqlite_value.specs.declared.value.Value.TheVariants.{Int}
-use Rattle.sqlite.specs.Tree.{Trees}
-use Rattle.sqlite.specs.Effect.{Database}
-use Rattle.sqlite_trees.specs.Tree.{IsAscending}
-use Rattle.sqlite.specs.Command.TheVariants.{CreateTable, Insert}
-use Rattle.sqlite.specs.Source.TheVariants.{Values}
-use Rattle.sqlite.specs.State.{State, HasCleanDisk, Writes}
-use Rattle.sql_calls.specs.declared.fault.Fault.{Fault}
-use Rattle.sql_calls.specs.Calls.{RunsText}
-use Rattle.sql_calls.specs.Standing.{HoldIn, Wears, Rests}
-use Rattle.sql_calls.specs.Means.{Known}
+use Rattle.desk_opening.proofs.Common.{AllByRecursion, Int, Trees, Database, IsAscending, CreateTable, Insert, Values, State, HasCleanDisk, Writes, Fault, RunsText, HoldIn, Wears, Rests, Known, begin_is, commit_is, drop_all, length-map, take_all, HoldsRecords, ledger_of, PUT_DESK, put_desk_is, desk_terms, Place, places, BEGIN, COMMIT, AreApart, Before, Changes, HoldsPartly, HoldsStage, Free, Nothing, Partly, Stage, Whole, LeavesNoDesk, LeavesDesk, first_records, MakesTables, Makes, DeskTable, place_of, create_text_of}
 use Rattle.sql_calls.proofs.Leavings.{IsSettled}
-use Rattle.sql_calls.proofs.Ends.{begin_is, commit_is}
 use Rattle.sql_calls.proofs.FrameEnds as frame
-use Rattle.std.proofs.lemmas.List.{drop_all, length-map, take_all}
-use Rattle.desk_records.specs.Holds.{HoldsRecords, ledger_of}
-use Rattle.desk_records.specs.declared.texts.TheConstants.{PUT_DESK}
-use Rattle.desk_records.proofs.Meaning.{put_desk_is, desk_terms}
-use Rattle.desk_records.specs.Schema.{Place, places}
-use Rattle.desk_opening.specs.declared.running.TheConstants.{BEGIN, COMMIT}
-use Rattle.desk_opening.specs.Making.{AreApart, Before, Changes, HoldsPartly, HoldsStage, Free, Nothing, Partly, Stage, Whole, LeavesNoDesk, LeavesDesk, first_records, MakesTables, Makes}
 use Rattle.desk_opening.proofs.Steps.{changes_as, rests_as, step, step_fails}
-use Rattle.desk_opening.specs.declared.desk_table.DeskTable.{DeskTable}
-use Rattle.desk_opening.specs.Places.{place_of, create_text_of}
 use Rattle.desk_opening.proofs.Places.{behind_apart, create_means, next_place, places_so_far, HaveNamesApart, create_text}
 use Rattle.desk_opening.proofs.Tables.{table_made, desk_filled}
 

@@ -1,30 +1,9 @@
 -- From the tables of a version to those of the newest, from BEGIN to COMMIT.
 use Rattle.std.proofs.Common.{inl, inr, [], Ok, Err, Result, IsErr, refl, arith}
-use Rattle.sqlite.specs.Tree.{Trees}
-use Rattle.sqlite.specs.Command.TheVariants.{Update}
-use Rattle.sqlite.specs.Effect.{Database}
-use Rattle.sqlite.specs.State.{State, HasCleanDisk}
-use Rattle.sql_calls.specs.declared.fault.Fault.{Fault}
-use Rattle.sql_calls.specs.Calls.{RunsText}
-use Rattle.sql_calls.specs.Means.{Known}
-use Rattle.sql_calls.specs.Standing.{HoldIn, Rests, Sees, Wears}
-use Rattle.sql_calls.proofs.Ends.{begin_is, commit_is}
+use Rattle.desk_opening.proofs.Common.{Trees, Update, Database, State, HasCleanDisk, Fault, RunsText, Known, HoldIn, Rests, Sees, Wears, begin_is, commit_is, Records, HoldsLedger, HoldsRecords, ledger_of, HoldsAt, HoldsReadable, Desk, IsTellable, later_than, newest, SET_VERSION, Version, set_version_is, set_version_query, at_newest, BEGIN, COMMIT, FillsLater, MakesLedger, Stays, bare_ledger, At, Changes, HoldsPartly, HoldsStage, MakesTables, Older, Partly, Standing, Whole, Migrates}
 use Rattle.sql_calls.proofs.FrameEnds as frame
 use Rattle.sql_calls.proofs.Leavings.{IsSettled}
-use Rattle.rollout_machine.specs.Records.{Records}
-use Rattle.desk_records.specs.Holds.{HoldsLedger, HoldsRecords, ledger_of}
-use Rattle.desk_records.specs.Readable.{HoldsAt, HoldsReadable}
-use Rattle.desk_records.specs.Schema.{Desk}
-use Rattle.desk_records.specs.Versions.{IsTellable, later_than, newest}
-use Rattle.desk_records.specs.declared.texts.TheConstants.{SET_VERSION}
-use Rattle.desk_records.specs.declared.version.Version.{Version}
 use Rattle.desk_records.proofs.HeldTables.{are_tables, rows_of}
-use Rattle.desk_records.proofs.Meaning.{set_version_is, set_version_query}
-use Rattle.desk_records.proofs.Readable.{at_newest}
-use Rattle.desk_opening.specs.declared.running.TheConstants.{BEGIN, COMMIT}
-use Rattle.desk_opening.specs.Filling.{FillsLater, MakesLedger, Stays, bare_ledger}
-use Rattle.desk_opening.specs.Making.{At, Changes, HoldsPartly, HoldsStage, MakesTables, Older, Partly, Standing, Whole}
-use Rattle.desk_opening.specs.Migrating.{Migrates}
 use Rattle.desk_opening.proofs.MakeLemmas.{begun}
 use Rattle.desk_opening.proofs.Steps.{changes_as, rests_as, step, step_fails}
 use Rattle.desk_opening.proofs.VersionSet.{desk_renewed, spot_in, stands_in}

@@ -1,33 +1,9 @@
 -- The row of `desk` is read in a change that is given up.
 use Rattle.std.proofs.Common.{◌≡◌, ◌≢◌, inl, inr, [], codes, true, false, Option, Some, None, MatchOption, Ok, Err, Result, IsErr, refl, ap, subst, arith}
-use Rattle.std.proofs.lemmas.Bool.{both_ways}
+use Rattle.desk_opening.proofs.Common.{both_ways, Trees, Schema, Begin, Select, is_used, Database, State, HasCleanDisk, StandsSomewhere, Fault, RunsText, TakesFirst, Wears, HoldIn, Rests, Spoiled, Knows, runs_plain, begin_is, rollback_is, begins, fails_to_begin, gives_up, Records, Place, Desk, Rules, Numbers, name_of, table_at, HoldsAt, HoldsPlace, HoldsReadable, Version, One, Two, Three, places_at, is_among, has_desk, GET_DESK, desk_query, get_desk_is, Keeps, HasDeskTables}
 use Rattle.sqlite.specs.Order.{Row}
-use Rattle.sqlite.specs.Tree.{Trees}
-use Rattle.sqlite.specs.Schema.{Schema}
-use Rattle.sqlite.specs.Command.TheVariants.{Begin, Select}
-use Rattle.sqlite_catalog.specs.Change.{is_used}
-use Rattle.sqlite.specs.Effect.{Database}
-use Rattle.sqlite.specs.State.{State, HasCleanDisk}
-use Rattle.sql_front.specs.Found.{StandsSomewhere}
-use Rattle.sql_calls.specs.declared.fault.Fault.{Fault}
-use Rattle.sql_calls.specs.Calls.{RunsText, TakesFirst}
-use Rattle.sql_calls.specs.Standing.{Wears, HoldIn, Rests, Opens, Spoiled}
-use Rattle.sql_calls.specs.Means.{Knows}
-use Rattle.sql_calls.proofs.Leavings.{runs_plain}
-use Rattle.sql_calls.proofs.Ends.{begin_is, rollback_is}
-use Rattle.sql_calls.proofs.FrameEnds.{begins, fails_to_begin, gives_up}
+use Rattle.sql_calls.specs.Standing.{Opens}
 use Rattle.sql_calls.proofs.Framing.{first_frames}
-use Rattle.rollout_machine.specs.Records.{Records}
-use Rattle.desk_records.specs.Schema.{Place, Desk, Rules, Numbers, name_of, table_at}
-use Rattle.desk_records.specs.Readable.{HoldsAt, HoldsPlace, HoldsReadable}
-use Rattle.desk_records.specs.declared.version.Version.{Version}
-use Rattle.desk_records.specs.declared.version.Version.TheVariants.{One, Two, Three}
-use Rattle.desk_records.specs.Versions.{places_at}
-use Rattle.desk_records.proofs.Places.{is_among}
-use Rattle.desk_records.proofs.Readable.{has_desk}
-use Rattle.desk_records.specs.declared.texts.TheConstants.{GET_DESK}
-use Rattle.desk_records.proofs.Meaning.{desk_query, get_desk_is}
-use Rattle.desk_opening.specs.Opening.{Keeps, HasDeskTables}
 use Rattle.desk_opening.proofs.EachVersion.{has_at}
 use Rattle.desk_opening.proofs.VersionLemmas.{used_at}
 

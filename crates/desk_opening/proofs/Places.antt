@@ -1,25 +1,10 @@
 -- What the texts of all tables make.
 use Rattle.std.proofs.Common.{◌≡◌, refl, sym, ap, ◌∙◌, arith, ◌||◌, ℕ, zero, suc, ◌+◌, ◌<◌, Bool, false, List, [], ◌∷◌, ◌++◌, length, map, take, drop, get_or}
-use Rattle.std.specs.List.{list_any}
-use Rattle.std.proofs.lemmas.Bool.{or_parts}
-use Rattle.std.proofs.lemmas.List.{drop_more, length-map, take_more}
+use Rattle.desk_opening.proofs.Common.{list_any, or_parts, drop_more, length-map, take_more, Schema, Table, CreateTable, statement_of, IsAscending, first, is_used, none_from_any, Means, Place, places, table_at, name_of, means_of, DeskTable, place_of, create_text_of}
 use Rattle.std.proofs.Math.ListN.{get_or-map}
-use Rattle.sqlite.specs.Schema.{Schema}
-use Rattle.sqlite.specs.Table.{Table}
 use Rattle.sqlite.specs.Listing.{understood}
-use Rattle.sqlite.specs.Command.TheVariants.{CreateTable}
-use Rattle.sqlite.proofs.Callers.{statement_of}
-use Rattle.sqlite_trees.specs.Tree.{IsAscending}
 use Rattle.sqlite_schema.specs.Names.{same_name}
-use Rattle.sqlite_resolve.specs.Compile.{first}
-use Rattle.sqlite_catalog.specs.Change.{is_used}
-use Rattle.sqlite_keyed.proofs.ListLemmas.{none_from_any}
 use Rattle.sql_front.proofs.Write.{Makes, makes_known}
-use Rattle.sql_calls.specs.Means.{Means}
-use Rattle.desk_records.specs.Schema.{Place, places, table_at, name_of}
-use Rattle.desk_records.proofs.MeaningWords.{means_of}
-use Rattle.desk_opening.specs.declared.desk_table.DeskTable.{DeskTable}
-use Rattle.desk_opening.specs.Places.{place_of, create_text_of}
 use Rattle.desk_opening.proofs.IsPlace.{text_at}
 pub use Rattle.desk_opening.proofs.EachText.{is_place}
 

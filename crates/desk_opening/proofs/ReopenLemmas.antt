@@ -1,45 +1,17 @@
 -- From files that were opened to what the connection stands for.
 use Rattle.std.proofs.Common.{◌≡◌, ◌⊎◌, inl, inr, ℕ, ◌+◌, Bool, cond, false, Some, ap, List, [], ◌∷◌, map, ◌∙◌, refl, Ok, Err, Result, IfOk, IfErr, sym, subst, arith}
-use Rattle.std.proofs.Math.Logic.{∥∥₁_elim}
+use Rattle.desk_opening.proofs.Common.{∥∥₁_elim, Trees, Schema, Table, Image, HoldsDatabase, AreFoundIn, IsNothing, IsBlankAs, IsCleanLeft, file_state, Held, Leftover, State, HasCleanDisk, Opens, IsLive, AllZip, position_from, Row, Text, IsSound, IsViewRow, same_name, is_used, Stands, Has, HoldIn, IsAtRest, Rests, still_holds, LeavesFree, Records, desk_names, HoldsPlace, HoldsReadable, name_of, later_than, places_at, HoldsStage, Free, told, OpenFault, OpensDesk, HasDesk, HasNoDesk, HasRow, IsFailure, IsNewerRow, FindsTo, IsSettled, Reopens, Refuses, RefusesStore, LeavesUnharmed, IsLeftOf, BeginsPlain, HoldsDesk, HoldsNone, HoldsNoDesk, HasNewer, IsOpenable, UsesNoName}
 use Rattle.std.proofs.Math.Bool.{Bool-set}
 use mathlib.Core.HLevel.{Π_prop}
 use Rattle.sqlite_trees.specs.Props.{Trees-set, AllByRecursion-prop}
-use Rattle.sqlite.specs.Tree.{Trees}
-use Rattle.sqlite.specs.Schema.{Schema}
-use Rattle.sqlite.specs.Table.{Table}
-use Rattle.sqlite.specs.Recovery.{Image}
-use Rattle.sqlite.specs.Files.{HoldsDatabase, AreFoundIn, IsNothing, IsBlankAs, IsCleanLeft, file_state}
 use Rattle.sqlite.specs.Start.{FindsIn}
-use Rattle.sqlite.specs.Held.{Held}
-use Rattle.sqlite.specs.declared.file.Leftover.{Leftover}
 use Rattle.sqlite.specs.declared.file.Leftover.TheVariants as left
 use Rattle.sqlite_disk.specs.declared.Disk as disk
 use Rattle.sqlite_store.specs.declared.store.FileStore.{FileStore}
 use Rattle.sqlite_store.specs.FileStore as store
 use Rattle.sqlite_trees.proofs.Doubt.{no_doubt}
-use Rattle.sqlite.specs.State.{State, HasCleanDisk, Opens, IsLive}
-use Rattle.std.specs.List.{AllZip, position_from}
-use Rattle.sqlite_value.specs.Order.{Row}
-use Rattle.sqlite_value.specs.declared.value.Value.TheVariants.{Text}
-use Rattle.sqlite_catalog.specs.Listing.{IsSound, IsViewRow}
-use Rattle.sqlite_schema.specs.Names.{same_name}
 use Rattle.sqlite_schema.specs.declared.schema.View.{View}
-use Rattle.sqlite_catalog.specs.Change.{is_used}
-use Rattle.sql_front.specs.Stands.{Stands}
-use Rattle.sqlite_rules.specs.Lists.{Has}
-use Rattle.sql_calls.specs.Standing.{HoldIn, IsAtRest, Rests}
-use Rattle.sql_calls.proofs.FrameEnds.{still_holds}
 use Rattle.sql_calls.proofs.Schemas.{same_indexes, same_tables}
-use Rattle.sql_front.specs.Free.{LeavesFree}
-use Rattle.rollout_machine.specs.Records.{Records}
-use Rattle.desk_records.specs.Schema.{desk_names}
-use Rattle.desk_records.specs.Readable.{HoldsPlace, HoldsReadable}
-use Rattle.desk_records.specs.Schema.{name_of}
-use Rattle.desk_records.specs.Versions.{later_than, places_at}
-use Rattle.desk_opening.specs.Making.{HoldsStage, Free, told}
-use Rattle.desk_opening.specs.declared.opening.OpenFault.{OpenFault}
-use Rattle.desk_opening.specs.Opening.{OpensDesk, HasDesk, HasNoDesk, HasRow, IsFailure, IsNewerRow, FindsTo, IsSettled}
-use Rattle.desk_opening.specs.Reopening.{Reopens, Refuses, RefusesStore, LeavesUnharmed, IsLeftOf, BeginsPlain, HoldsDesk, HoldsNone, HoldsNoDesk, HasNewer, IsOpenable, UsesNoName}
 use Rattle.desk_opening.proofs.BlankLemmas.{nothing_is_unused}
 use Rattle.desk_opening.proofs.Tables.{all_kept}
 use Rattle.desk_opening.proofs.HeldLemmas.{held_fails, free_fails}

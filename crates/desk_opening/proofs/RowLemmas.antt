@@ -1,32 +1,10 @@
 -- What the query of the row of `desk` reads.
 use Rattle.std.proofs.Common.{◌≡◌, ◌≢◌, ◌<◌, ◌⊎◌, ◌&&◌, inl, inr, ℕ, zero, suc, length, pos, Bool, true, false, List, [], ◌∷◌, cond, map, filter, codes, Option, Some, None, Ok, Err, Result, refl, sym, subst, ◌∙◌, arith}
-use Rattle.sqlite_value.specs.declared.value.Value.{Value}
-use Rattle.sqlite_value.specs.declared.value.Value.TheVariants.{Null, Int, Real, Text, Blob}
-use Rattle.sqlite_value.specs.Order.{Row, column, value_cmp}
-use Rattle.sqlite_trees.specs.Tree.{has_rowid}
-use Rattle.sqlite_rules.specs.Lists.{Has}
-use Rattle.std.specs.List.{AllByRecursion}
+use Rattle.desk_opening.proofs.Common.{Value, Null, Int, Real, Text, Blob, Row, column, has_rowid, Has, AllByRecursion, length-map, Term, col, lit, Begin, Database, State, HasCleanDisk, StandsSomewhere, RunsText, TakesFirst, begin_is, first_shown, none_shown, shows_as, runs_plain, passes, shown_of, simple_rows, desk_table, GET_DESK, is_equal, get_desk_is, OpenFault, NotDesk, NewerVersion, Memory, Store, Version, HasNoRow, HasRow, ReadsRow, Tells, IsDeskRow, IsNewerRow, IsOtherRow}
+use Rattle.sqlite_value.specs.Order.{value_cmp}
 use Rattle.sqlite_trees.proofs.ListLemmas.{all-permutation}
-use Rattle.std.proofs.lemmas.List.{length-map}
 use Rattle.std.proofs.lemmas.List.Sorted.{length_permutation}
 use Rattle.sqlite_sql.specs.Ops.{binary, is_true, from_truth}
-use Rattle.sqlite.specs.Term.{Term, col, lit}
-use Rattle.sqlite.specs.Command.TheVariants.{Begin}
-use Rattle.sqlite.specs.Effect.{Database}
-use Rattle.sqlite.specs.State.{State, HasCleanDisk}
-use Rattle.sql_front.specs.Found.{StandsSomewhere}
-use Rattle.sql_calls.specs.Calls.{RunsText, TakesFirst}
-use Rattle.sql_calls.proofs.Ends.{begin_is}
-use Rattle.sql_calls.proofs.Leavings.{first_shown, none_shown, shows_as, runs_plain}
-use Rattle.sql_calls.proofs.Selects.{passes, shown_of, simple_rows}
-use Rattle.desk_records.specs.Schema.{desk_table}
-use Rattle.desk_records.specs.declared.texts.TheConstants.{GET_DESK}
-use Rattle.desk_records.proofs.MeaningWords.{is_equal}
-use Rattle.desk_records.proofs.Meaning.{get_desk_is}
-use Rattle.desk_opening.specs.declared.opening.OpenFault.{OpenFault}
-use Rattle.desk_opening.specs.declared.opening.OpenFault.TheVariants.{NotDesk, NewerVersion, Memory, Store}
-use Rattle.desk_records.specs.declared.version.Version.{Version}
-use Rattle.desk_opening.specs.Opening.{HasNoRow, HasRow, ReadsRow, Tells, IsDeskRow, IsNewerRow, IsOtherRow}
 
 pub judged : (b : Bool) → is_true (from_truth (Some b)) ≡ b
 judged true = refl

@@ -1,10 +1,6 @@
 -- What is said of groups, in lists alone.
 use Rattle.std.proofs.Common.{◌≡◌, ℕ, zero, suc, List, [], ◌∷◌, length, map, set, slice_get, Some, refl, ap, ap₂, sym}
-use Rattle.std.specs.List.{AllByRecursion}
-use Rattle.rollout_machine.specs.GroupRules.{even_rules, rules_of}
-use Rattle.rollout_machine.specs.declared.records.RolloutRecord.{RolloutRecord}
-use Rattle.desk_records.specs.Versions.{IsEven}
-use Rattle.desk_opening.specs.Filling.{no_rules, rules_up_to}
+use Rattle.desk_opening.proofs.Common.{AllByRecursion, even_rules, rules_of, RolloutRecord, IsEven, no_rules, rules_up_to}
 
 -- ---- one in place of another
 

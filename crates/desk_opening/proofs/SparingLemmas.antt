@@ -1,7 +1,6 @@
 -- What files keep that were not opened.
 use Rattle.std.proofs.Common.{◌≡◌, ◌≢◌, ◌==◌, ◌%◌, ◌≤◌, inl, inr, ℕ, Bool, true, false, List, [], ◌∷◌, if◌then◌else◌, cond, refl, sym, ap, ap₂, subst, ◌∙◌, IsTrue, arith}
-use Rattle.std.proofs.lemmas.Bool.{cases_eq, cases_Bool}
-use Rattle.std.proofs.Math.Logic.{∥∥₁_map, ∥∥₁_elim}
+use Rattle.desk_opening.proofs.Common.{cases_eq, cases_Bool, ∥∥₁_map, ∥∥₁_elim, Image, Trees, is_summed, reserved, stored_size, StandsAs, store_error, outcomes, Leftover, HoldsDatabase, IsCleanLeft, FailsToOpenFiles, NamesSize, SaysSums, LeavesFiles, image_of, HoldIn, Records, HoldsReadable, OpenFault, NotDesk, NewerVersion, Memory, Store, IsFailure, HoldsPlain, HoldsNone, HoldsDesk, UsesNoName, EachAfter, IsForeign, Spares, LeavesUnharmed}
 use Rattle.sqlite_disk.specs.declared.Disk as disk
 use Rattle.sqlite_disk.specs.declared.Files.{Files}
 use Rattle.sqlite_disk.specs.declared.modelled.Modelled.{Modelled}
@@ -10,29 +9,15 @@ use Rattle.sqlite_disk.specs.declared.start.Start as start_ghosts
 use Rattle.sqlite_disk.specs.Events.{settled, replay}
 use Rattle.sqlite_disk.specs.History.{MayLeave}
 use Rattle.sqlite_disk.specs.Modelled.{start_of}
-use Rattle.sqlite.specs.Recovery.{Image}
-use Rattle.sqlite.specs.Tree.{Trees}
-use Rattle.sqlite_pool.specs.Stored.{is_summed, reserved, stored_size, StandsAs}
 use Rattle.sqlite_pool.proofs.ProbeLemmas.{size_by_log, size_by_file, reserved_word}
 use Rattle.sqlite_trees.specs.declared.error.StoreError.{StoreError}
 use Rattle.sqlite_trees.specs.declared.error.StoreError.TheVariants as stored
-use Rattle.sqlite.specs.State.{store_error}
-use Rattle.sqlite_wal.specs.Files.{outcomes}
 use Rattle.sqlite_wal.specs.Recovery.{IsIgnored, Recovers}
 use Rattle.sqlite.specs.declared.error.Error.{Error}
 use Rattle.sqlite.specs.declared.error.Error.TheVariants.{SqliteFailure}
 use Rattle.sqlite.specs.declared.error.ErrorCode.TheVariants as code
-use Rattle.sqlite.specs.declared.file.Leftover.{Leftover}
 use Rattle.sqlite.specs.declared.file.Leftover.TheVariants as left
-use Rattle.sqlite.specs.Files.{HoldsDatabase, IsCleanLeft, FailsToOpenFiles, NamesSize, SaysSums, LeavesFiles, image_of}
 use Rattle.sqlite.proofs.FileLemmas.{is_something}
-use Rattle.sql_calls.specs.Standing.{HoldIn}
-use Rattle.rollout_machine.specs.Records.{Records}
-use Rattle.desk_records.specs.Readable.{HoldsReadable}
-use Rattle.desk_opening.specs.declared.opening.OpenFault.{OpenFault}
-use Rattle.desk_opening.specs.declared.opening.OpenFault.TheVariants.{NotDesk, NewerVersion, Memory, Store}
-use Rattle.desk_opening.specs.Opening.{IsFailure}
-use Rattle.desk_opening.specs.Reopening.{HoldsPlain, HoldsNone, HoldsDesk, UsesNoName, EachAfter, IsForeign, Spares, LeavesUnharmed}
 use Rattle.desk_opening.proofs.BlankLemmas.{nothing_is_unused, empty_is_unused}
 use Rattle.desk_opening.proofs.ReopenLemmas.{found_records, found_none}
 

@@ -1,19 +1,8 @@
 -- One statement of a change in which tables are made, where only what the change sees is known to understand it.
 use Rattle.std.proofs.Common.{◌≡◌, ℕ, true, List, [], Option, Some, None, Ok, Err, sym, subst, ◌∙◌, arith}
-use Rattle.std.proofs.lemmas.Bool.{both_ways}
+use Rattle.desk_opening.proofs.Common.{both_ways, Trees, Database, State, HasCleanDisk, IsUnchanged, Survives, Runs, Writes, CommitsBy, CommitsShowing, statement_of, Fault, RunsText, TakesFirst, TakesTo, Known, HoldIn, Rests, stays_inside, never_commits_inside, never_shows_inside, crash_kept, first_unchanged, none_shown, runs_plain, unchanged_by, Leaves, Stage, HoldsStage, Changes}
 use Rattle.sqlite.specs.Order.{Row}
-use Rattle.sqlite.specs.Tree.{Trees}
 use Rattle.sqlite.specs.Listing.{understood}
-use Rattle.sqlite.specs.Effect.{Database}
-use Rattle.sqlite.specs.State.{State, HasCleanDisk, IsUnchanged, Survives, Runs, Writes, CommitsBy, CommitsShowing}
-use Rattle.sqlite.proofs.Callers.{statement_of}
-use Rattle.sql_calls.specs.declared.fault.Fault.{Fault}
-use Rattle.sql_calls.specs.Calls.{RunsText, TakesFirst, TakesTo}
-use Rattle.sql_calls.specs.Means.{Known}
-use Rattle.sql_calls.specs.Standing.{HoldIn, Rests}
-use Rattle.sql_calls.proofs.Leavings.{stays_inside, never_commits_inside, never_shows_inside, crash_kept, first_unchanged, none_shown, runs_plain, unchanged_by}
-use Rattle.desk_opening.specs.Filling.{Leaves}
-use Rattle.desk_opening.specs.Making.{Stage, HoldsStage, Changes}
 
 -- ---- one thing as another
 

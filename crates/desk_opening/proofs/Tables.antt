@@ -1,54 +1,22 @@
 -- What each text of the making does.
 use Rattle.std.proofs.Common.{◌≡◌, ◌≢◌, inl, inr, ℕ, zero, suc, slice_index_or, ◌+◌, ◌<◌, ◌^◌, ◌==◌, Bool, true, false, List, [], ◌∷◌, ◌++◌, length, codes, pos, map, drop, Some, None, Ok, find, if◌then◌else◌, refl, sym, ap, subst, ◌∙◌, arith}
-use Rattle.std.specs.List.{AllZip, AllByRecursion, position_from}
-use Rattle.std.proofs.lemmas.Bool.{true≢false, and_parts, eqb-true}
-use Rattle.sqlite_value.specs.declared.value.Value.{Value}
-use Rattle.sqlite_value.specs.declared.value.Value.TheVariants.{Null, Int, Real, Text, Blob}
-use Rattle.sqlite_value.specs.declared.keys.Order.{Order}
+use Rattle.desk_opening.proofs.Common.{AllZip, AllByRecursion, position_from, true≢false, and_parts, eqb-true, Value, Null, Int, Real, Text, Blob, Order, column, Schema, Table, Database, IsDatabase, CreateTable, Insert, Values, State, Writes, Has, same_name, next_tree, is_used, automatics, IsTableRow, IsIndexRow, IsDefined, all-slice_get, IsPermutation-same, table_defined_by, Stands, LeavesFree, HasNoForeignKey, ComparesBytes, Inserted, inserts, uncounted, given_rows, cast_int, cast_null, Place, Desk, Offers, places, table_at, name_of, desk_table, offer_table, newest, number_of, places_at, HoldsPlace, AreRowsOf, Content, HoldsRecords, Offered, Ordered, Spot, IsHeld, Unordered, content_at, content_of, desk_row, ledger_of, desk_terms, create_text_of, Before, HoldsBefore, HoldsPartly, IsEmptyTable, Nothing, Older, first_records, each_place, place_or_other, same_elsewhere, same_places}
 use Rattle.sqlite_value.specs.declared.keys.Collation.TheVariants.{Binary}
 use Rattle.sqlite_value.specs.Keys.{plain, first_key}
-use Rattle.sqlite_value.specs.Order.{column}
 use Rattle.sqlite.specs.Order.{Row}
-use Rattle.sqlite.specs.Schema.{Schema}
-use Rattle.sqlite.specs.Table.{Table}
-use Rattle.sqlite.specs.Effect.{Database, IsDatabase}
-use Rattle.sqlite.specs.Command.TheVariants.{CreateTable, Insert}
-use Rattle.sqlite.specs.Source.TheVariants.{Values}
-use Rattle.sqlite.specs.State.{State, Writes}
-use Rattle.sqlite_rules.specs.Lists.{Has}
-use Rattle.sqlite_schema.specs.Names.{same_name}
 use Rattle.sqlite_schema.specs.declared.schema.Index.{Index}
-use Rattle.sqlite_catalog.specs.Change.{next_tree, is_used, automatics}
-use Rattle.sqlite_catalog.specs.Listing.{IsTableRow, IsIndexRow, IsDefined}
 use Rattle.sqlite_catalog.proofs.LayoutLemmas.{zipped_left}
 use Rattle.sqlite_catalog.proofs.StepLemmas.{same_itself, table_below}
 use Rattle.sqlite_rules.proofs.ListLemmas.{has_got}
-use Rattle.sqlite_keyed.proofs.ListLemmas.{all-slice_get, IsPermutation-same}
-use Rattle.sqlite_resolve.specs.Compile.{table_defined_by}
-use Rattle.sql_front.specs.Stands.{Stands}
-use Rattle.sql_front.specs.Free.{LeavesFree}
 use Rattle.sql_front.proofs.Created.{stands_kept, stands_last}
 use Rattle.sql_front.proofs.Grown.{Grown, grown}
 use Rattle.sqlite_rules.specs.Edit.{put_all, numbered}
 use Rattle.sqlite_rules.specs.Cast.{cast_row}
 use Rattle.sqlite.specs.Rowids.TheVariants.{Chosen}
-use Rattle.sql_calls.specs.Apart.{HasNoForeignKey}
-use Rattle.sql_calls.specs.KeyIndexes.{ComparesBytes}
-use Rattle.sql_calls.proofs.Inserts.{Inserted, inserts, uncounted, given_rows}
-use Rattle.sql_calls.proofs.NumberedRows.{cast_int, cast_null}
 use Rattle.rollout_machine.specs.RecordSteps.{no_records}
 use Rattle.rollout_machine.proofs.Answering.{made_records}
-use Rattle.desk_records.specs.Schema.{Place, Desk, Offers, places, table_at, name_of, desk_table, offer_table}
 use Rattle.sql_calls.specs.Keyed.{IsHeldBy}
-use Rattle.desk_records.specs.Versions.{newest, number_of, places_at}
-use Rattle.desk_records.specs.Readable.{HoldsPlace}
-use Rattle.desk_records.specs.Holds.{AreRowsOf, Content, HoldsRecords, Offered, Ordered, Spot, IsHeld, Unordered, content_at, content_of, desk_row, ledger_of}
-use Rattle.desk_records.proofs.Meaning.{desk_terms}
-use Rattle.desk_opening.specs.Places.{create_text_of}
-use Rattle.desk_opening.specs.Making.{Before, HoldsBefore, HoldsPartly, IsEmptyTable, Nothing, Older, first_records}
 use Rattle.desk_opening.proofs.EachVersion.{has_offers, nothing}
-use Rattle.desk_records.proofs.EachPlace.{each_place}
-use Rattle.desk_records.proofs.Places.{place_or_other, same_elsewhere, same_places}
 use Rattle.desk_opening.proofs.Places.{is_place, HaveNamesApart, names_apart}
 
 -- ---- the tree of a table is low

@@ -1,16 +1,6 @@
 -- The tables of a version, as the code lists them.
 use Rattle.std.proofs.Common.{◌≡◌, ◌<◌, ◌≤◌, ℕ, zero, suc, Bool, true, false, not, IsTrue, sym, List, [], ◌∷◌, map, length, take, get_or, Some, refl, subst, arith}
-use Rattle.std.specs.List.{AllByRecursion, list_any}
-use Rattle.std.proofs.lemmas.Bool.{true≢false}
-use Rattle.std.proofs.lemmas.List.{take_all}
-use Rattle.sqlite.specs.Schema.{Schema}
-use Rattle.sqlite_schema.specs.Names.{table_named}
-use Rattle.sqlite_keyed.proofs.ListLemmas.{none_from_any}
-use Rattle.sqlite_catalog.specs.Change.{is_used}
-use Rattle.sql_front.specs.Free.{LeavesFree}
-use Rattle.desk_records.specs.Schema.{Place, name_of}
-use Rattle.desk_opening.specs.declared.desk_table.DeskTable.{DeskTable}
-use Rattle.desk_opening.specs.Places.{place_of}
+use Rattle.desk_opening.proofs.Common.{AllByRecursion, list_any, true≢false, take_all, Schema, table_named, none_from_any, is_used, LeavesFree, Place, name_of, DeskTable, place_of}
 
 all_mapped : {X Y : Type 0} (P : Y → Type 0) (f : X → Y) (xs : List X) → AllByRecursion (λ x. P (f x)) xs → AllByRecursion P (map f xs)
 all_mapped P f [] all = tt

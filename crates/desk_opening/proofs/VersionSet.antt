@@ -1,38 +1,12 @@
 -- What the UPDATE of the version makes of the tables of an older version, beside later ones with no row.
 use Rattle.std.proofs.Common.{◌≡◌, ◌≢◌, inl, inr, ℕ, ◌+◌, pos, codes, List, [], ◌∷◌, map, find, slice_get, ◌==◌, Bool, Some, None, refl, sym, ap, subst, ◌∙◌, arith}
-use Rattle.std.specs.List.{AllByRecursion}
-use Rattle.sqlite_value.specs.declared.value.Value.TheVariants.{Null, Int, Text}
-use Rattle.sqlite_value.specs.Order.{Row}
+use Rattle.desk_opening.proofs.Common.{AllByRecursion, Null, Int, Text, Row, Table, Database, Update, State, Writes, all-slice_get, Stands, HasNoForeignKey, ComparesBytes, cast_int, cast_null, passes, Records, AreRowsOf, HoldsLedger, IsHeld, Spot, content_at, content_of, desk_row, ledger_of, HoldsPlace, flag, Place, Desk, Offers, desk_table, name_of, offer_table, table_at, later_than, newest, number_of, places_at, Version, each_place, set_version_query, version_values, is_equal, is_named, place_named, place_or_other, same_elsewhere, bare_ledger, HoldsPartly, IsEmptyTable, Older, Term, lit, col}
 use Rattle.sqlite_sql.specs.Ops.{binary}
-use Rattle.sqlite.specs.Table.{Table}
-use Rattle.sqlite.specs.Effect.{Database}
-use Rattle.sqlite.specs.Command.TheVariants.{Update}
-use Rattle.sqlite.specs.State.{State, Writes}
-use Rattle.sqlite_keyed.proofs.ListLemmas.{all-slice_get}
-use Rattle.sql_front.specs.Stands.{Stands}
-use Rattle.sql_calls.specs.Apart.{HasNoForeignKey}
-use Rattle.sql_calls.specs.KeyIndexes.{ComparesBytes}
-use Rattle.sql_calls.proofs.NumberedRows.{cast_int, cast_null}
 use Rattle.sql_calls.proofs.NumberedTables.{has_number, sets_at}
-use Rattle.sql_calls.proofs.Selects.{passes}
 use Rattle.sql_calls.proofs.Updates.{Updated, updates}
-use Rattle.rollout_machine.specs.Records.{Records}
-use Rattle.desk_records.specs.Holds.{AreRowsOf, HoldsLedger, IsHeld, Spot, content_at, content_of, desk_row, ledger_of}
-use Rattle.desk_records.specs.Readable.{HoldsPlace}
-use Rattle.desk_records.specs.Rollouts.{flag}
-use Rattle.desk_records.specs.Schema.{Place, Desk, Offers, desk_table, name_of, offer_table, table_at}
-use Rattle.desk_records.specs.Versions.{later_than, newest, number_of, places_at}
-use Rattle.desk_records.specs.declared.version.Version.{Version}
-use Rattle.desk_records.proofs.EachPlace.{each_place}
-use Rattle.desk_records.proofs.Meaning.{set_version_query, version_values}
-use Rattle.desk_records.proofs.MeaningWords.{is_equal}
-use Rattle.desk_records.proofs.Places.{is_named, place_named, place_or_other, same_elsewhere}
-use Rattle.desk_opening.specs.Filling.{bare_ledger}
-use Rattle.desk_opening.specs.Making.{HoldsPartly, IsEmptyTable, Older}
 use Rattle.desk_opening.proofs.EachVersion.{at_all, has_offers, later_held, older_held, nothing}
 use Rattle.desk_opening.proofs.RowLemmas.{and_true, judged}
 use Rattle.desk_opening.proofs.Tables.{no_rows}
-use Rattle.sqlite.specs.Term.{Term, lit, col}
 
 abbrev first_desk : List Term
 first_desk = is_equal (col 1 0) (lit (Int (pos 1))) ∷ []

@@ -1,22 +1,17 @@
 -- The details in the histories of accepted commands keep their rule.
 use Rattle.std.proofs.Common.{◌≡◌, ℕ, Bool, true, false, cond, [], Option, Some, None, refl, ap, ◌∙◌}
 use Rattle.std.specs.List.{list_all}
-use Rattle.std.specs.Option.{option_map}
-use Rattle.std.proofs.lemmas.Bool.{and_parts}
+use Rattle.desk_reads.proofs.Common.{option_map, and_parts, item_numbered, CommandList, Make, ◌▸◌, Records, action_in, IsValid, AreOfList}
 use Rattle.std.proofs.lemmas.List.Folds.{list_all-append}
 use Rattle.rollout_machine.specs.Actions.{ActionPlace, action_place, action_places, history}
-use Rattle.rollout_machine.specs.ByteStrings.{item_numbered}
-use Rattle.rollout_machine.specs.CommandList.{CommandList, Make, ◌▸◌}
 use Rattle.rollout_machine.specs.CommandRules.{IsWellFormed, is_credential, is_device_feedback}
 use Rattle.rollout_machine.specs.Commands.{Command, DeviceFeedback, Feedback, CancelFeedback}
-use Rattle.rollout_machine.specs.Records.{Records, action_in, records}
+use Rattle.rollout_machine.specs.Records.{records}
 use Rattle.rollout_machine.specs.Reports.{entries_in, reported_by}
-use Rattle.rollout_machine.specs.Validity.{IsValid}
 use Rattle.rollout_machine.proofs.Actions.{entries_both, numbered_map}
 use Rattle.rollout_model.specs.Rules.{are_details, is_number}
 use Rattle.desk_records.specs.Actions.{history_of}
 use Rattle.desk_records.specs.EntryRow.{keeps_details}
-use Rattle.desk_reads.specs.AtLists.{AreOfList}
 
 -- of one command
 of_feedback : {W : Type 0} (feedback : DeviceFeedback W) → is_device_feedback feedback ≡ true → are_details feedback.details ≡ true

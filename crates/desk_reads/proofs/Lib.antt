@@ -1,3 +1,4 @@
+pub mod Common
 pub mod SeenRollouts
 pub mod ListLemmas
 pub mod RuleLemmas

@@ -3,25 +3,15 @@ use Rattle.std.proofs.Common.{◌≡◌, ◌≤◌, ◌<◌, ◌-◌, ℕ, zero,
 use Rattle.std.specs.Prelude.{slice_get}
 use Rattle.sqlite.specs.State.{State}
 use Rattle.sql_calls.specs.Standing.{Finds}
-use Rattle.sql_calls.proofs.Composing.{finds_as}
-use Rattle.rollout_machine.specs.ByteStrings.{item_numbered}
-use Rattle.rollout_machine.specs.CommandList.{CommandList}
+use Rattle.desk_reads.proofs.Common.{finds_as, item_numbered, CommandList, Records, group_in, rollout_in, rollouts_in, IsValid, RolloutRecord, each_there, length_each, HoldsLedger, ledger_of, parts_of, groups_of, numbered_from, AreOfList, last_in, last_place}
 use Rattle.rollout_machine.specs.Effects.{HasSoundPlan}
 use Rattle.rollout_machine.specs.Ranges.{each_from}
-use Rattle.rollout_machine.specs.Records.{Records, group_in, records, rollout_in, rollouts_in}
+use Rattle.rollout_machine.specs.Records.{records}
 use Rattle.rollout_machine.specs.Rollouts.{Rollout, first_of, rollout_at, rollouts, size_in, size_of}
 use Rattle.rollout_machine.specs.StateWords.{group_numbered, size_of_group}
-use Rattle.rollout_machine.specs.Validity.{IsValid}
 use Rattle.rollout_machine.specs.declared.records.GroupRecord.{GroupRecord}
-use Rattle.rollout_machine.specs.declared.records.RolloutRecord.{RolloutRecord}
 use Rattle.rollout_machine.proofs.Induction.{invariant_of, no_record}
-use Rattle.rollout_machine.proofs.Lists.{each_there, length_each}
 use Rattle.rollout_machine.proofs.Whole.{rollout_numbered}
-use Rattle.desk_records.specs.Holds.{HoldsLedger, ledger_of}
-use Rattle.desk_records.specs.Parts.{parts_of}
-use Rattle.desk_records.specs.Rollouts.{groups_of, numbered_from}
-use Rattle.desk_reads.specs.AtLists.{AreOfList}
-use Rattle.desk_reads.specs.Rollouts.{last_in, last_place}
 
 -- what answers for all records answers at lists
 pub at_lists : {A E : Type 0} {a b : State} {P : Records → A → Type 0} → (out : Result A E) → Finds HoldsLedger ledger_of a b out P → Finds HoldsLedger ledger_of a b out (λ r it. AreOfList r → P r it)

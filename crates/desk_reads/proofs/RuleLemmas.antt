@@ -1,14 +1,9 @@
 -- What is said of the groups of a rollout, as it is read.
 use Rattle.std.proofs.Common.{◌≡◌, ◌≤◌, ℕ, zero, suc, Some, refl, sym, ap, ◌∙◌, arith}
 use Rattle.std.proofs.lemmas.Option.{slice_get-map}
-use Rattle.rollout_machine.specs.ByteStrings.{item_numbered}
+use Rattle.desk_reads.proofs.Common.{item_numbered, Records, RolloutRecord, each_there, numbered_each, ledger_of, rule_numbered, rules_numbered}
 use Rattle.rollout_machine.specs.Commands.{RolloutPlan}
 use Rattle.rollout_machine.specs.GroupRules.{GroupRule, rule_at, rules_of}
-use Rattle.rollout_machine.specs.Records.{Records}
-use Rattle.rollout_machine.specs.declared.records.RolloutRecord.{RolloutRecord}
-use Rattle.rollout_machine.proofs.Lists.{each_there, numbered_each}
-use Rattle.desk_records.specs.Holds.{ledger_of}
-use Rattle.desk_records.specs.Rollouts.{rule_numbered, rules_numbered}
 
 -- those of a rollout that is there are its plan's
 pub rules_there : (r : Records) (number : ℕ) (x : RolloutRecord) → item_numbered r.rollouts number ≡ Some x → rules_numbered (ledger_of r).rules number ≡ rules_of x.plan

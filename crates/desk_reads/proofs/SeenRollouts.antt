@@ -1,16 +1,9 @@
 -- Rollouts as they are read.
 use Rattle.std.proofs.Common.{◌≡◌, ℕ, Option, Some, None, refl, sym, ap, ◌∙◌}
-use Rattle.std.specs.Option.{option_map}
-use Rattle.rollout_machine.specs.ByteStrings.{item_numbered}
-use Rattle.rollout_machine.specs.Records.{Records}
-use Rattle.rollout_machine.specs.declared.records.RolloutRecord.{RolloutRecord}
+use Rattle.desk_reads.proofs.Common.{option_map, item_numbered, Records, RolloutRecord, parts_of, groups_of, IsSeenOf, AreOfList}
 use Rattle.campaign_core.specs.RolloutChecks.{BothOrNone}
-use Rattle.desk_records.specs.Parts.{parts_of}
 use Rattle.desk_records.specs.RolloutRow.{stored_rollout}
-use Rattle.desk_records.specs.Rollouts.{groups_of}
 use Rattle.desk_records.specs.declared.rollout_row.StoredRollout.{StoredRollout}
-use Rattle.desk_reads.specs.Rollouts.{IsSeenOf}
-use Rattle.desk_reads.specs.AtLists.{AreOfList}
 use Rattle.desk_reads.specs.declared.rollouts.SeenRollout.{SeenRollout}
 use Rattle.desk_reads.proofs.ListLemmas.{groups_are, last_is_count, numbered_so}
 

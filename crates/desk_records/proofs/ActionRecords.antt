@@ -1,36 +1,10 @@
 -- What is read of actions and offers, where a ledger is held.
 use Rattle.std.proofs.Common.{◌≡◌, ◌≤◌, ℕ, ◌+◌, pos, List, [], ◌∷◌, map, filter, take, drop, length, slice_get, Bool, true, false, cond, Option, Some, None, option_map, refl, ap, ◌∙◌, nat_eq}
-use Rattle.std.specs.List.{zip}
-use Rattle.std.proofs.lemmas.List.{take-map, drop-map}
-use Rattle.sqlite_value.specs.declared.value.Value.{Value}
-use Rattle.sqlite_value.specs.declared.value.Value.TheVariants.{Null, Int, Text}
-use Rattle.sqlite_value.specs.Order.{Row}
-use Rattle.sqlite.specs.Collation.TheVariants.{Binary}
-use Rattle.sqlite.specs.Term.{Term, col}
-use Rattle.sqlite.specs.Command.TheVariants.{Select}
-use Rattle.sqlite.specs.Effect.{Database, Reads as Shows}
-use Rattle.sqlite_value.specs.Keys.{first_key, plain}
-use Rattle.sqlite_schema.specs.Rules.{agree}
-use Rattle.sql_calls.specs.Keyed.{rows_from}
-use Rattle.sql_calls.proofs.Finding.{ShowsFirst}
-use Rattle.sql_calls.proofs.KeyedRows.{on_content}
-use Rattle.sql_calls.proofs.KeyedTables.{keys_apart, reads_key}
-use Rattle.sql_calls.proofs.NumberedTables.{numbered_in_order}
-use Rattle.sql_calls.proofs.Selects.{simple, by, passes, shown_of}
-use Rattle.rollout_machine.specs.ByteStrings.{item_numbered, same_bytes}
-use Rattle.rollout_machine.specs.Commands.{Bytes}
-use Rattle.rollout_machine.specs.Kinds.{TargetOffer, offer_to}
-use Rattle.rollout_machine.specs.declared.records.ActionRecord.{ActionRecord}
-use Rattle.rollout_model.specs.declared.rollout.Offer.{Offer}
+use Rattle.desk_records.proofs.Common.{zip, take-map, drop-map, Value, Null, Int, Text, Row, Binary, Term, col, Select, Database, plain, agree, rows_from, ShowsFirst, on_content, keys_apart, reads_key, numbered_in_order, simple, by, passes, shown_of, item_numbered, same_bytes, Bytes, TargetOffer, offer_to, ActionRecord, Offer, Tally, action_row, actor_of, outcome_code, HoldsLedger, Ledger, IsLastRow, is_to, offer_row, actions_of, actions_for, listed_where, stored_action, flag, Actions, Offers, offer_table}
+use Rattle.sqlite.specs.Effect.{Reads as Shows}
+use Rattle.sqlite_value.specs.Keys.{first_key}
 use Rattle.desk_records.specs.declared.rollout_row.ListedAction.{ListedAction}
 use Rattle.desk_records.specs.declared.rollout_row.StoredAction.{StoredAction}
-use Rattle.desk_records.specs.Actions.{Tally, action_row, actor_of, outcome_code}
-use Rattle.desk_records.specs.Holds.{HoldsLedger, Ledger}
-use Rattle.desk_records.specs.Modules.{IsLastRow}
-use Rattle.desk_records.specs.Offers.{is_to, offer_row}
-use Rattle.desk_records.specs.RolloutRow.{actions_of, actions_for, listed_where, stored_action}
-use Rattle.desk_records.specs.Rollouts.{flag}
-use Rattle.desk_records.specs.Schema.{Actions, Offers, offer_table}
 use Rattle.desk_records.proofs.ActionMeaning.{last_action_query, action_columns, listed_columns, list_actions_query, list_target_actions_query, of_rollout, of_actor, of_controller, offer_columns}
 use Rattle.desk_records.proofs.Comparisons.{and_true, numbers_equal, words_equal}
 use Rattle.desk_records.proofs.MeaningWords.{at_key}

@@ -1,17 +1,9 @@
 -- What LIST_ACTIONS shows where it is asked for all of a rollout, whatever rows the table of actions has.
 use Rattle.std.proofs.Common.{◌≡◌, ℕ, pos, negsuc, List, [], ◌∷◌, filter, filter_map, length, refl, ap, ◌∙◌}
-use Rattle.sqlite_value.specs.declared.value.Value.TheVariants.{Null, Int}
-use Rattle.sqlite_value.specs.Order.{Row}
-use Rattle.sqlite.specs.Command.TheVariants.{Select}
-use Rattle.sqlite.specs.Effect.{Database, Reads as Shows}
-use Rattle.sqlite.specs.Query.{Query}
-use Rattle.sqlite_rules.specs.Lists.{Has}
-use Rattle.sql_calls.proofs.Selects.{passes}
+use Rattle.desk_records.proofs.Common.{Null, Int, Row, Select, Database, Query, Has, passes, has_at, Actions, HoldsTables, Tables}
+use Rattle.sqlite.specs.Effect.{Reads as Shows}
 use Rattle.desk_records.specs.CheckedRows.{counted_of}
 use Rattle.desk_records.specs.CountedActions.{AreCounted, passes_if_there}
-use Rattle.desk_records.specs.Listings.{has_at}
-use Rattle.desk_records.specs.Schema.{Actions}
-use Rattle.desk_records.specs.Tables.{HoldsTables, Tables}
 use Rattle.desk_records.specs.declared.checked_rows.CountedAction.{CountedAction}
 use Rattle.desk_records.proofs.ActionMeaning.{list_actions_query, listed_columns, of_rollout}
 use Rattle.desk_records.proofs.AnyRows.{tested_shown}

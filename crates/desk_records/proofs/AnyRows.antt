@@ -1,26 +1,8 @@
 -- What a statement on one table shows, whatever rows the table has: those that pass, in its order.
 use Rattle.std.proofs.Common.{◌≡◌, inl, ◌≤◌, ◌<◌, ℕ, ◌+◌, ◌&&◌, pos, Bool, true, false, List, [], ◌∷◌, map, filter, length, get_or, true≢false, refl, sym, ap, subst, ◌∙◌, arith, IsPermutation}
-use Rattle.std.specs.List.{AllZip, list_all}
+use Rattle.desk_records.proofs.Common.{AllZip, list_all, is_lt, nat_tests, ints, length-map, Contains-get_or, length_permutation, IsPermutation-sym, IsNonDecreasingBy-from_all_adjacent, Int, Row, column, value_cmp, value_cmp-Int, then-Equal, Binary, Query, IsAnswer, Output, output_cmp, page, Term, col, Trees, overlay, Has, has_contained, has_filtered, has_kept, fails_has, simple, by, passes, shown_of, shown_in, ordered_rows, IsOrdered, AreBroken, AreSaid, IsAmong, IsOnly, IsSaid}
 use Rattle.std.specs.List.Sorted.{IsNonDecreasingBy}
-use Rattle.std.specs.Ordering.{is_lt}
-use Rattle.std.proofs.lemmas.Bool.Decides.{nat_tests}
-use Rattle.std.proofs.lemmas.Int.{ints}
-use Rattle.std.proofs.lemmas.List.{length-map}
-use Rattle.std.proofs.lemmas.List.Elements.{Contains-get_or}
-use Rattle.std.proofs.lemmas.List.Sorted.{length_permutation, IsPermutation-sym, IsNonDecreasingBy-from_all_adjacent}
-use Rattle.sqlite_value.specs.declared.value.Value.TheVariants.{Int}
 use Rattle.sqlite_value.specs.declared.keys.Key.{Key}
-use Rattle.sqlite_value.specs.Order.{Row, column, value_cmp}
-use Rattle.sqlite_value.proofs.OrderLemmas.{value_cmp-Int, then-Equal}
-use Rattle.sqlite.specs.Collation.TheVariants.{Binary}
-use Rattle.sqlite.specs.Query.{Query, IsAnswer, Output, output_cmp, page}
-use Rattle.sqlite.specs.Term.{Term, col}
-use Rattle.sqlite.specs.Tree.{Trees}
-use Rattle.sqlite.specs.Program.{overlay}
-use Rattle.sqlite_rules.specs.Lists.{Has}
-use Rattle.sqlite_rules.proofs.ListLemmas.{has_contained, has_filtered, has_kept, fails_has}
-use Rattle.sql_calls.proofs.Selects.{simple, by, passes, shown_of, shown_in, ordered_rows, IsOrdered}
-use Rattle.desk_records.specs.Listings.{AreBroken, AreSaid, IsAmong, IsOnly, IsSaid}
 use Rattle.desk_records.proofs.Membership.{has_alone, has_mapped, has_permuted, map_has, mapped_at, mapped_pass, both_pass, permuted_pass, same_kept, zip_at, zip_left, zip_length, zip_right}
 
 module _ (tree : ℕ) (test columns : List Term) (order : List (Term × Key)) (limit offset : Term) (params : Row) (db : Trees) (rows : List Row) (are : rows ≡ db tree)

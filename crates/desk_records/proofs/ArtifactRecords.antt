@@ -1,26 +1,7 @@
 -- The statements on artifacts and their pieces, in records.
 use Rattle.std.proofs.Common.{◌≡◌, ◌≤◌, ◌++◌, ℕ, ◌+◌, pos, List, [], ◌∷◌, length, Option, None, option_map, refl, sym, ap, subst, ◌∙◌}
-use Rattle.std.specs.List.{list_any}
-use Rattle.std.specs.Option.{is_some}
-use Rattle.sqlite_value.specs.declared.value.Value.TheVariants.{Int, Blob}
-use Rattle.sqlite_value.specs.Order.{Row}
-use Rattle.sqlite.specs.Term.{col}
-use Rattle.sqlite.specs.Command.TheVariants.{Select, Insert}
-use Rattle.sqlite.specs.Source.TheVariants.{Values}
-use Rattle.sqlite.specs.Effect.{Database, Reads as Shows}
-use Rattle.sqlite.specs.State.{State, Writes}
-use Rattle.sql_calls.specs.Keyed.{rows_from, IsHeldBy}
-use Rattle.sql_calls.proofs.Finding.{ShowsFirst}
-use Rattle.sql_calls.proofs.Selects.{simple}
-use Rattle.sql_calls.proofs.Inserts.{inserts}
-use Rattle.rollout_machine.specs.Commands.{Bytes}
-use Rattle.rollout_machine.specs.ByteStrings.{item_numbered}
-use Rattle.rollout_machine.specs.Objects.{artifacts_shown}
-use Rattle.rollout_machine.specs.Records.{Records}
-use Rattle.desk_records.specs.Modules.{IsLastRow}
-use Rattle.desk_records.specs.Schema.{Artifacts, Pieces, artifact_table, piece_table}
-use Rattle.desk_records.specs.Artifacts.{told_of, artifact_row, piece_row, pieces_from, is_same_artifact, file_of, shown_rows, piece_numbered, artifact_filed, with_artifact, and_piece, AddsPiece}
-use Rattle.desk_records.specs.Holds.{HoldsRecords, ledger_of, Ordered, Unordered}
+use Rattle.desk_records.proofs.Common.{list_any, is_some, Int, Blob, Row, col, Select, Insert, Values, Database, State, Writes, rows_from, IsHeldBy, ShowsFirst, simple, inserts, Bytes, item_numbered, artifacts_shown, Records, IsLastRow, Artifacts, Pieces, artifact_table, piece_table, told_of, artifact_row, piece_row, pieces_from, is_same_artifact, file_of, shown_rows, piece_numbered, artifact_filed, with_artifact, and_piece, AddsPiece, HoldsRecords, ledger_of, Ordered, Unordered}
+use Rattle.sqlite.specs.Effect.{Reads as Shows}
 use Rattle.desk_records.proofs.HoldsAfter.{ChangesOnly, holds_after, records_differ}
 use Rattle.desk_records.proofs.MeaningWords.{at_key}
 use Rattle.desk_records.proofs.ArtifactMeaning.{same_file, last_artifact_query, told_columns, artifacts_query, artifact_terms, at_piece, piece_terms}

@@ -1,30 +1,8 @@
 -- The statements on artifacts and their pieces, in lists of them.
 use Rattle.std.proofs.Common.{◌≡◌, ◌≤◌, ◌++◌, ℕ, suc, ◌+◌, ◌-◌, ◌*◌, pos, negsuc, List, [], ◌∷◌, map, filter, length, Bool, true, false, cond, Option, option_map, refl, sym, ap, subst, ◌∙◌, arith, nat_eq}
-use Rattle.std.specs.List.{list_any}
-use Rattle.std.specs.Option.{is_some, option_to_list}
-use Rattle.sqlite_value.specs.declared.value.Value.TheVariants.{Null, Int, Blob}
-use Rattle.sqlite_value.specs.Order.{Row}
-use Rattle.sqlite_trees.specs.Tree.{put_row}
-use Rattle.sqlite_rules.specs.Edit.{next_rowid}
+use Rattle.desk_records.proofs.Common.{list_any, is_some, option_to_list, Null, Int, Blob, Row, put_row, next_rowid, lit, col, Select, Schema, Database, rows_from, IsHeldBy, ShowsFirst, simple, passes, shown_of, Inserted, given_rows, put_next, cast_int, cast_null, has_number, numbered_in_order, piece_length, Bytes, same_bytes, item_numbered, artifact_shown, artifacts_shown, ArtifactRecord, IsLastRow, artifact_table, piece_table, told_of, artifact_row, piece_row, pieces_in, pieces_from, is_same_artifact, file_of, shown_rows, pieces_of_artifact, piece_numbered, artifact_filed, and_piece}
 use Rattle.sqlite_sql.specs.Ops.{binary}
-use Rattle.sqlite.specs.Term.{lit, col}
-use Rattle.sqlite.specs.Command.TheVariants.{Select}
-use Rattle.sqlite.specs.Schema.{Schema}
-use Rattle.sqlite.specs.Effect.{Database, Reads as Shows}
-use Rattle.sql_calls.specs.Keyed.{rows_from, IsHeldBy}
-use Rattle.sql_calls.proofs.Finding.{ShowsFirst}
-use Rattle.sql_calls.proofs.Selects.{simple, passes, shown_of}
-use Rattle.sql_calls.proofs.Inserts.{Inserted, given_rows}
-use Rattle.sql_calls.proofs.NumberedRows.{put_next, cast_int, cast_null}
-use Rattle.sql_calls.proofs.NumberedTables.{has_number, numbered_in_order}
-use Rattle.rollout_model.specs.Limits.{piece_length}
-use Rattle.rollout_machine.specs.Commands.{Bytes}
-use Rattle.rollout_machine.specs.ByteStrings.{same_bytes, item_numbered}
-use Rattle.rollout_machine.specs.Objects.{artifact_shown, artifacts_shown}
-use Rattle.rollout_machine.specs.Records.{ArtifactRecord}
-use Rattle.desk_records.specs.Modules.{IsLastRow}
-use Rattle.desk_records.specs.Schema.{artifact_table, piece_table}
-use Rattle.desk_records.specs.Artifacts.{told_of, artifact_row, piece_row, pieces_in, pieces_from, is_same_artifact, file_of, shown_rows, pieces_of_artifact, piece_numbered, artifact_filed, and_piece}
+use Rattle.sqlite.specs.Effect.{Reads as Shows}
 use Rattle.desk_records.proofs.MeaningWords.{at_key}
 use Rattle.desk_records.proofs.ArtifactMeaning.{same_file, last_artifact_query, told_columns, shown_columns, artifacts_query, artifact_terms, at_piece, piece_terms}
 use Rattle.desk_records.proofs.Comparisons.{judged, words_equal, numbers_equal, and_true}

@@ -1,33 +1,9 @@
 -- The statements on attributes of targets, in records.
 use Rattle.std.proofs.Common.{◌≡◌, ◌∷◌, ◌&&◌, ℕ, pos, negsuc, List, [], Bool, true, false, cond, map, filter, flat_map, Option, Some, None, refl, sym, ap, subst, ◌∙◌, codes}
-use Rattle.std.proofs.lemmas.Bool.{and_parts}
-use Rattle.sqlite_value.specs.declared.value.Value.TheVariants.{Null, Int, Text}
-use Rattle.sqlite_value.specs.Order.{Row}
-use Rattle.sqlite_value.specs.Keys.{plain, first_key}
-use Rattle.sqlite_schema.specs.Rules.{agree}
-use Rattle.sqlite_rules.specs.Cast.{cast_all}
+use Rattle.desk_records.proofs.Common.{and_parts, Null, Int, Text, Row, plain, agree, cast_all, lit, col, Select, Insert, Update, Values, Database, State, Writes, IsHeldBy, Rise, strict, inserts, on_content, keys_apart, are_whole, changes_key, adds_row, reads_risen, passes, shown_of, updates, same_bytes, Bytes, Attribute, Records, Target, target_of, Targets, TargetTags, TargetAttributes, target_attribute_table, target_row, tag_rows, attribute_rows, in_byte_order, ids_of, keys_of, is_sorted, attributes_of, attributed, with_changed, AddsAttribute, SetsAttribute, HoldsRecords, ledger_of, Unordered}
+use Rattle.sqlite_value.specs.Keys.{first_key}
 use Rattle.sqlite.specs.Kind.TheVariants as kind
-use Rattle.sqlite.specs.Term.{lit, col}
-use Rattle.sqlite.specs.Command.TheVariants.{Select, Insert, Update}
-use Rattle.sqlite.specs.Source.TheVariants.{Values}
-use Rattle.sqlite.specs.Effect.{Database, Reads as Shows}
-use Rattle.sqlite.specs.State.{State, Writes}
-use Rattle.sql_calls.specs.Keyed.{IsHeldBy, Rise}
-use Rattle.sql_calls.specs.Tables.{strict}
-use Rattle.sql_calls.proofs.Inserts.{inserts}
-use Rattle.sql_calls.proofs.KeyedRows.{on_content}
-use Rattle.sql_calls.proofs.KeyedTables.{keys_apart, are_whole, changes_key, adds_row}
-use Rattle.sql_calls.proofs.KeyedOrder.{reads_risen}
-use Rattle.sql_calls.proofs.Selects.{passes, shown_of}
-use Rattle.sql_calls.proofs.Updates.{updates}
-use Rattle.rollout_machine.specs.ByteStrings.{same_bytes}
-use Rattle.rollout_machine.specs.Commands.{Bytes, Attribute}
-use Rattle.rollout_machine.specs.Records.{Records}
-use Rattle.rollout_machine.specs.Targets.{Target}
-use Rattle.rollout_machine.specs.Verdicts.{target_of}
-use Rattle.desk_records.specs.Schema.{Targets, TargetTags, TargetAttributes, target_attribute_table}
-use Rattle.desk_records.specs.Targets.{target_row, tag_rows, attribute_rows, in_byte_order, ids_of, keys_of, is_sorted, attributes_of, attributed, with_changed, AddsAttribute, SetsAttribute}
-use Rattle.desk_records.specs.Holds.{HoldsRecords, ledger_of, Unordered}
+use Rattle.sqlite.specs.Effect.{Reads as Shows}
 use Rattle.desk_records.proofs.HoldsAfter.{ChangesOnly, holds_after, records_differ}
 use Rattle.desk_records.proofs.TargetMeaning.{of_target, attributes_query, attribute_terms, of_attribute, new_value, set_attribute_query}
 use Rattle.desk_records.proofs.Comparisons.{words_equal, and_true}

@@ -1,22 +1,6 @@
 -- The attributes of targets and their rows, in lists alone.
 use Rattle.std.proofs.Common.{◌≡◌, ◌++◌, Bool, true, false, cond, ◌&&◌, ◌||◌, List, [], ◌∷◌, map, Option, Some, None, refl, sym, ap, ap₂, ◌∙◌, subst, IsPermutation, flat_map, find}
-use Rattle.std.specs.List.{list_all, AllByRecursion}
-use Rattle.std.specs.Ordering.{is_gt}
-use Rattle.std.specs.Option.{is_some}
-use Rattle.std.proofs.lemmas.Bool.{and_parts, or_parts, false≢true}
-use Rattle.std.proofs.lemmas.List.{map-append}
-use Rattle.std.proofs.lemmas.List.Sorted.{IsPermutation-refl, IsPermutation-trans, IsPermutation-cons, IsPermutation-middle, IsPermutation-map}
-use Rattle.sqlite_value.specs.declared.value.Value.TheVariants.{Text}
-use Rattle.sqlite_value.specs.Order.{Row}
-use Rattle.sql_calls.specs.Keyed.{by_column, Rise}
-use Rattle.sql_calls.proofs.KeyedRows.{changed}
-use Rattle.rollout_machine.specs.ByteStrings.{same_bytes, bytes_below, contains_word, with_word}
-use Rattle.rollout_machine.specs.Commands.{Bytes, Attribute}
-use Rattle.rollout_machine.specs.RecordSteps.{change_target}
-use Rattle.rollout_machine.specs.Targets.{Target, with_attribute}
-use Rattle.rollout_machine.proofs.Imports.{IsSorted, above_more, not_above}
-use Rattle.rollout_machine.proofs.TargetTies.{same_sym, same_true}
-use Rattle.desk_records.specs.Targets.{attribute_rows, in_byte_order, keys_of, ids_of, is_sorted, attributes_of, attributed}
+use Rattle.desk_records.proofs.Common.{list_all, AllByRecursion, is_gt, is_some, and_parts, or_parts, false≢true, map-append, IsPermutation-refl, IsPermutation-trans, IsPermutation-cons, IsPermutation-middle, IsPermutation-map, Text, Row, by_column, Rise, changed, same_bytes, bytes_below, contains_word, with_word, Bytes, Attribute, change_target, Target, with_attribute, IsSorted, above_more, not_above, same_sym, same_true, attribute_rows, in_byte_order, keys_of, ids_of, is_sorted, attributes_of, attributed}
 use Rattle.desk_records.proofs.ByteOrder.{below_rises, sorted_from, in_order_with}
 use Rattle.desk_records.proofs.Targets.{has_id, id_found, none_after, unchanged, one_more}
 

@@ -1,18 +1,8 @@
 -- Lists of words in byte order.
 use Rattle.std.proofs.Common.{◌≡◌, ℕ, Bool, true, false, cond, ◌||◌, ◌&&◌, List, [], ◌∷◌, refl, sym, ap, ◌∙◌, subst, nat_eq, nat_lt, nat_cmp, IsPermutation, Ordering}
-use Rattle.std.specs.List.{list_all}
-use Rattle.std.specs.Ordering.{is_gt, ordering_then}
+use Rattle.desk_records.proofs.Common.{list_all, is_gt, ordering_then, and_parts, or_parts, false≢true, IsPermutation-refl, IsPermutation-trans, IsPermutation-cons, IsPermutation-middle, Text, value_cmp, value_cmp-Text, same_bytes, bytes_below, contains_word, with_word, without_word, Bytes, AllAbove, IsSorted, sorted_with, in_byte_order}
 use Rattle.std.specs.Cmp.Lexicographic.{slice_cmp}
-use Rattle.std.proofs.lemmas.Bool.{and_parts, or_parts, false≢true}
-use Rattle.std.proofs.lemmas.List.Sorted.{IsPermutation-refl, IsPermutation-trans, IsPermutation-cons, IsPermutation-middle}
-use Rattle.sqlite_value.specs.declared.value.Value.TheVariants.{Text}
-use Rattle.sqlite_value.specs.Order.{value_cmp}
-use Rattle.sqlite_value.proofs.OrderLemmas.{value_cmp-Text}
-use Rattle.rollout_machine.specs.ByteStrings.{same_bytes, bytes_below, contains_word, with_word, without_word}
-use Rattle.rollout_machine.specs.Commands.{Bytes}
-use Rattle.rollout_machine.proofs.Imports.{AllAbove, IsSorted, sorted_with}
 use Rattle.rollout_machine.proofs.Orders.{sorted_without}
-use Rattle.desk_records.specs.Targets.{in_byte_order}
 
 -- ---- two words
 

@@ -1,16 +1,6 @@
 -- What is read of the desk's own row, where a ledger is held.
 use Rattle.std.proofs.Common.{◌≡◌, List, [], ◌∷◌, map, filter, ℕ, pos, codes, Bool, Option, Some, ap, subst, ◌∙◌, refl, IsPermutation}
-use Rattle.sqlite_value.specs.declared.value.Value.TheVariants.{Null, Int, Text}
-use Rattle.sqlite_value.specs.Order.{Row}
-use Rattle.sqlite.specs.Term.{Term, lit, col}
-use Rattle.sqlite.specs.Command.TheVariants.{Select}
-use Rattle.sqlite.specs.Effect.{Database}
-use Rattle.sql_calls.proofs.Finding.{ShowsFirst}
-use Rattle.sql_calls.proofs.Selects.{passes, shown_of, simple_rows}
-use Rattle.desk_records.specs.Holds.{HoldsLedger, Ledger, desk_row}
-use Rattle.desk_records.specs.Versions.{newest, number_of}
-use Rattle.desk_records.specs.Rollouts.{flag}
-use Rattle.desk_records.specs.Schema.{Desk}
+use Rattle.desk_records.proofs.Common.{Null, Int, Text, Row, Term, lit, col, Select, Database, ShowsFirst, passes, shown_of, simple_rows, HoldsLedger, Ledger, desk_row, newest, number_of, flag, Desk}
 use Rattle.desk_records.proofs.Comparisons.{and_true, numbers_equal}
 use Rattle.desk_records.proofs.Meaning.{desk_query}
 use Rattle.desk_records.proofs.MeaningWords.{is_equal}

@@ -1,17 +1,7 @@
 -- Texts of details: each line ended by a line feed.
 use Rattle.std.proofs.Common.{◌≡◌, ◌≢◌, ◌≤◌, ◌<◌, ℕ, suc, Bool, true, false, not, nat_eq, nat_le, List, [], ◌∷◌, ◌++◌, length, get_or, Option, Some, None, IfNone, refl, sym, ap, ap₂, subst, ◌∙◌, arith, append-nil, append_assoc, length-append, if◌then◌else◌}
-use Rattle.std.specs.List.{list_all}
-use Rattle.std.specs.Str.{IsUtf8, is_utf8}
-use Rattle.std.proofs.lemmas.Bool.{and_parts}
-use Rattle.std.proofs.lemmas.Bool.Decides.{nat_tests}
-use Rattle.std.proofs.lemmas.List.Folds.{list_all-append}
+use Rattle.desk_records.proofs.Common.{list_all, IsUtf8, is_utf8, and_parts, nat_tests, list_all-append, IsUtf8-append, IsUtf8-from_ascii, IsUtf8-from_is_utf8, IsUtf8-nil, Value, Text, Bytes, are_details, detail_of, details_of, is_detail, is_text_letter, lines_of}
 use Rattle.std.proofs.lemmas.Str.Ascii.{IsAscii-cons, IsAscii-nil}
-use Rattle.std.proofs.lemmas.Str.{IsUtf8-append, IsUtf8-from_ascii, IsUtf8-from_is_utf8, IsUtf8-nil}
-use Rattle.sqlite_value.specs.declared.value.Value.{Value}
-use Rattle.sqlite_value.specs.declared.value.Value.TheVariants.{Text}
-use Rattle.rollout_machine.specs.Commands.{Bytes}
-use Rattle.rollout_model.specs.Rules.{are_details, detail_of, details_of, is_detail, is_text_letter}
-use Rattle.desk_records.specs.Actions.{lines_of}
 use Rattle.desk_records.specs.EntryRow.{HasNoDetails}
 
 -- ---- what a text says

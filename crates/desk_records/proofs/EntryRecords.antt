@@ -1,21 +1,7 @@
 -- What is read of the history of an action, where a ledger is held.
 use Rattle.std.proofs.Common.{◌≡◌, ◌≤◌, ℕ, pos, true, false, nat_eq, List, [], ◌∷◌, map, take, drop, filter, refl, sym, ap, ◌∙◌, arith}
-use Rattle.std.proofs.lemmas.Bool.Decides.{nat_tests}
-use Rattle.std.proofs.lemmas.List.{take-map, drop-map}
-use Rattle.sqlite_value.specs.declared.value.Value.TheVariants.{Null, Int}
-use Rattle.sqlite_value.specs.Order.{Row, column}
-use Rattle.sqlite.specs.Command.TheVariants.{Select}
-use Rattle.sqlite.specs.Effect.{Database, Reads as Shows}
-use Rattle.sqlite.specs.Term.{Term, col}
-use Rattle.sqlite_keyed.proofs.ListLemmas.{map-map}
-use Rattle.sql_calls.specs.Keyed.{rows_from}
-use Rattle.sql_calls.proofs.KeyedRows.{on_content}
-use Rattle.sql_calls.proofs.Selects.{passes, shown_of}
-use Rattle.desk_records.specs.Parts.{part_row}
-use Rattle.rollout_machine.specs.ByteStrings.{item_numbered}
-use Rattle.desk_records.specs.Actions.{entries_of, history_of, told_entry}
-use Rattle.desk_records.specs.Holds.{HoldsLedger, Ledger}
-use Rattle.desk_records.specs.Schema.{Feedbacks}
+use Rattle.desk_records.proofs.Common.{nat_tests, take-map, drop-map, Null, Int, Row, column, Select, Database, Term, col, map-map, rows_from, on_content, passes, shown_of, part_row, item_numbered, entries_of, history_of, told_entry, HoldsLedger, Ledger, Feedbacks}
+use Rattle.sqlite.specs.Effect.{Reads as Shows}
 use Rattle.desk_records.proofs.ActionMeaning.{entry_columns, list_entries_query, of_action}
 use Rattle.desk_records.proofs.Comparisons.{and_true, numbers_equal}
 use Rattle.desk_records.proofs.PartReads.{all_shown, reads_parts}

@@ -1,30 +1,9 @@
 -- The statement that offers the actions of a group, in ledgers.
 use Rattle.std.proofs.Common.{◌≡◌, ℕ, suc, ◌+◌, pos, Bool, true, false, cond, ◌&&◌, nat_le, nat_eq, List, [], ◌∷◌, map, filter, length, None, Some, refl, sym, ap, subst, ◌∙◌, arith, Ok}
-use Rattle.std.specs.List.{zip}
-use Rattle.sqlite_value.specs.declared.value.Value.TheVariants.{Null, Int}
-use Rattle.sqlite_value.specs.Order.{Row}
-use Rattle.sqlite.specs.Term.{lit}
+use Rattle.desk_records.proofs.Common.{zip, Null, Int, Row, lit, Database, State, Writes, all_from, key_at, rows_from, numbered_in_order, passes, shown_of, PutsEach, each_keeps, uncollated, upserts_from, holds_position, TargetOffer, Records, Bounds, ActionRecord, group_offers, member_of, offers_from, put_offers, Tally, action_row, HoldsLedger, Ledger, OffersGroup, Actions, Offers, offer_table}
 use Rattle.sqlite.specs.Source.TheVariants.{Query as Queried}
-use Rattle.sqlite.specs.Effect.{Database}
-use Rattle.sqlite.specs.State.{State, Writes}
-use Rattle.sqlite_rules.proofs.ListLemmas.{all_from}
-use Rattle.sqlite_resolve.specs.Given.{key_at}
 use Rattle.sql_front.proofs.Upsert.{key_found}
-use Rattle.sql_calls.specs.Keyed.{rows_from}
 use Rattle.sql_calls.proofs.KeyConflicts.{HasKeyIndex, key_index, key_only}
-use Rattle.sql_calls.proofs.NumberedTables.{numbered_in_order}
-use Rattle.sql_calls.proofs.Selects.{passes, shown_of}
-use Rattle.sql_calls.proofs.UpsertsFrom.{PutsEach, each_keeps, uncollated, upserts_from}
-use Rattle.rollout_machine.specs.Groups.{holds_position}
-use Rattle.rollout_machine.specs.Kinds.{TargetOffer}
-use Rattle.rollout_machine.specs.Records.{Records}
-use Rattle.rollout_machine.specs.declared.bounds.Bounds.{Bounds}
-use Rattle.rollout_machine.specs.declared.records.ActionRecord.{ActionRecord}
-use Rattle.offer_laws.specs.GroupOffers.{group_offers, member_of, offers_from, put_offers}
-use Rattle.desk_records.specs.Actions.{Tally, action_row}
-use Rattle.desk_records.specs.Holds.{HoldsLedger, Ledger}
-use Rattle.desk_records.specs.LedgerSteps.{OffersGroup}
-use Rattle.desk_records.specs.Schema.{Actions, Offers, offer_table}
 use Rattle.desk_records.proofs.Comparisons.{numbers_at_least, numbers_at_most, numbers_equal}
 use Rattle.desk_records.proofs.GroupOffersMeaning.{in_group, group_columns, group_query, taking_query, put_group_offers_command}
 use Rattle.desk_records.proofs.OfferPuts.{puts_all, source_of}

@@ -1,28 +1,16 @@
 -- What the text means that offers the actions of a group, wherever its two tables stand.
 use Rattle.std.proofs.Common.{◌≡◌, refl, List, [], ◌∷◌, ℕ, codes, Ok, pos, negsuc, false}
 use Rattle.sqlite.specs.declared.types.Value.TheVariants.{Null, Int}
-use Rattle.sqlite.specs.Collation.TheVariants.{Binary}
-use Rattle.sqlite.specs.Schema.{Schema}
-use Rattle.sqlite.specs.Command.{Command}
-use Rattle.sqlite.specs.Command.TheVariants.{InsertOr}
+use Rattle.desk_records.proofs.Common.{Binary, Schema, Command, InsertOr, Query, Term, lit, col, op2, Compare, Lt, key_at, Stands, Means, simple, by, action_table, offer_table}
 use Rattle.sqlite.specs.Source.TheVariants.{Query as Queried}
-use Rattle.sqlite.specs.Query.{Query}
-use Rattle.sqlite.specs.Term.{Term, lit, col, op2}
-use Rattle.sqlite_sql.specs.declared.ops.BinaryOp.TheVariants.{Compare}
-use Rattle.sqlite_sql.specs.declared.ops.CompareOp.TheVariants.{Lt}
 use Rattle.sqlite_schema.specs.declared.command.Conflict.TheVariants.{Abort}
 use Rattle.sqlite_tied.specs.Compute.{everything}
 use Rattle.sqlite_resolve.specs.Compile.{first}
 use Rattle.sqlite_resolve.specs.Expr.{combine}
-use Rattle.sqlite_resolve.specs.Given.{key_at}
 use Rattle.sqlite_resolve.specs.Select.{named, paging}
 use Rattle.sqlite_resolve.specs.Write.{places, as_row, updated_in}
-use Rattle.sql_front.specs.Stands.{Stands}
 use Rattle.sql_front.proofs.Upsert.{Upserts, upserts_known, upsert_of}
-use Rattle.sql_calls.specs.Means.{Means}
-use Rattle.sql_calls.proofs.Selects.{simple, by}
 use Rattle.desk_records.specs.declared.action_texts.TheConstants.{PUT_GROUP_OFFERS}
-use Rattle.desk_records.specs.Schema.{action_table, offer_table}
 use Rattle.desk_records.proofs.MeaningWords.{means_of, is_equal, at_key, at_least, at_most}
 
 -- the actions of a rollout between two places

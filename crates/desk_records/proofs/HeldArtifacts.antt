@@ -1,18 +1,6 @@
 -- What the tables of artifacts and pieces have where a ledger is held.
 use Rattle.std.proofs.Common.{◌≤◌, ℕ, ◌∷◌, Option, Some, None, option_map, refl, sym, subst}
-use Rattle.std.specs.List.{AllZip}
-use Rattle.std.specs.Option.{option_to_list}
-use Rattle.sqlite_value.specs.declared.value.Value.TheVariants.{Null}
-use Rattle.sqlite_value.specs.Order.{Row}
-use Rattle.sqlite.specs.Effect.{Database}
-use Rattle.sqlite_rules.specs.Lists.{Has}
-use Rattle.rollout_machine.specs.Commands.{Bytes}
-use Rattle.desk_records.specs.FoundPieces.{ArePieces, lies_at}
-use Rattle.desk_records.specs.Artifacts.{artifact_row, piece_numbered, piece_row, pieces_from}
-use Rattle.desk_records.specs.Holds.{HoldsLedger, Ledger}
-use Rattle.desk_records.specs.Schema.{Artifacts, Pieces}
-use Rattle.desk_records.specs.TableRows.{IsPiece}
-use Rattle.desk_records.specs.Tables.{HoldsTables, Tables}
+use Rattle.desk_records.proofs.Common.{AllZip, option_to_list, Null, Row, Database, Has, Bytes, ArePieces, lies_at, artifact_row, piece_numbered, piece_row, pieces_from, HoldsLedger, Ledger, Artifacts, Pieces, IsPiece, HoldsTables, Tables}
 use Rattle.desk_records.proofs.Artifacts.{its_piece}
 use Rattle.desk_records.proofs.HeldTables.{IsNumbered, held_rows, held_said, numbered}
 

@@ -1,13 +1,6 @@
 -- Where the rows of numbered records and of their parts are, and how many are of one record.
 use Rattle.std.proofs.Common.{◌≡◌, inl, inr, ◌<◌, ℕ, zero, suc, ◌+◌, pos, Bool, true, false, cond, List, [], ◌∷◌, ◌++◌, filter, length, slice_get, nat_eq, Some, refl, sym, ap, subst, ◌∙◌, arith}
-use Rattle.std.proofs.lemmas.Bool.Decides.{nat_tests}
-use Rattle.sqlite_value.specs.declared.value.Value.TheVariants.{Int}
-use Rattle.sqlite_value.specs.Order.{Row}
-use Rattle.sqlite_rules.specs.Lists.{Has}
-use Rattle.sqlite_rules.proofs.ListLemmas.{has_left, has_right}
-use Rattle.sql_calls.specs.Keyed.{AreIn, IsHeldBy, rows_from}
-use Rattle.desk_records.specs.Listings.{has_at}
-use Rattle.desk_records.specs.Parts.{part_row, parts_from}
+use Rattle.desk_records.proofs.Common.{nat_tests, Int, Row, Has, has_left, has_right, AreIn, IsHeldBy, rows_from, has_at, part_row, parts_from}
 use Rattle.desk_records.proofs.Membership.{permuted_pass}
 
 -- ---- places in a list

@@ -1,23 +1,6 @@
 -- What tables have where a ledger is held, whatever rowids nobody knows.
 use Rattle.std.proofs.Common.{◌≡◌, ◌⊎◌, inl, inr, ◌≤◌, ◌<◌, ℕ, suc, ◌+◌, pos, Bool, true, false, List, [], ◌∷◌, filter, length, slice_get, nat_lt, Some, refl, sym, ap, subst, ◌∙◌, arith}
-use Rattle.std.specs.List.{AllZip}
-use Rattle.std.proofs.lemmas.Bool.Decides.{nat_tests}
-use Rattle.std.proofs.lemmas.List.{length-map}
-use Rattle.std.proofs.lemmas.List.Sorted.{IsPermutation-sym, length_permutation}
-use Rattle.sqlite_value.specs.declared.value.Value.{Value}
-use Rattle.sqlite_value.specs.declared.value.Value.TheVariants.{Int, Null}
-use Rattle.sqlite_value.specs.Order.{Row}
-use Rattle.sqlite.specs.Effect.{Database}
-use Rattle.sqlite.specs.Table.{Table}
-use Rattle.sqlite_rules.specs.Lists.{Has}
-use Rattle.sqlite_rules.proofs.ListLemmas.{has_either, has_filtered, has_kept, has_left, has_right}
-use Rattle.sql_calls.specs.Keyed.{AreIn, IsHeldBy, rows_from}
-use Rattle.sql_calls.proofs.KeyedRows.{IsBlind, held_seen, on_content}
-use Rattle.desk_records.specs.Holds.{HoldsLedger, IsHeld, Ledger}
-use Rattle.desk_records.specs.Listings.{AreSaid}
-use Rattle.desk_records.specs.Parts.{parts_from}
-use Rattle.desk_records.specs.Schema.{Place, table_at}
-use Rattle.desk_records.specs.Tables.{HoldsTables, Tables}
+use Rattle.desk_records.proofs.Common.{AllZip, nat_tests, length-map, IsPermutation-sym, length_permutation, Value, Int, Null, Row, Database, Table, Has, has_either, has_filtered, has_kept, has_left, has_right, AreIn, IsHeldBy, rows_from, IsBlind, held_seen, on_content, HoldsLedger, IsHeld, Ledger, AreSaid, parts_from, Place, table_at, HoldsTables, Tables}
 use Rattle.desk_records.proofs.Membership.{has_permuted, zip_left, zip_length, zip_right}
 
 -- ---- the tables of a ledger

@@ -1,20 +1,9 @@
 -- One table changes, and the others keep their rows.
 use Rattle.std.proofs.Common.{◌≡◌, ◌≢◌, inl, inr, ℕ, suc, true, List, [], ◌∷◌, Some, refl, sym, ap, subst, ◌∙◌, find, ◌==◌, map, cond}
-use Rattle.std.specs.List.{AllByRecursion}
-use Rattle.std.proofs.lemmas.Bool.{cases_eq}
-use Rattle.sqlite.specs.Table.{Table}
-use Rattle.sqlite.specs.Effect.{Database, IsDatabase}
-use Rattle.sqlite_keyed.proofs.ListLemmas.{all-slice_get}
-use Rattle.rollout_machine.specs.Commands.{Bytes}
+use Rattle.desk_records.proofs.Common.{AllByRecursion, cases_eq, Table, Database, IsDatabase, all-slice_get, Bytes, Records, ActionRecord, Stands, Place, Offers, places, offer_table, table_at, name_of, are_sorted, AreRowsOf, HoldsLedger, HoldsRecords, IsHeld, Ledger, Offered, content_of, ledger_of}
 use Rattle.rollout_machine.specs.Offers.{first_offer, offer}
-use Rattle.rollout_machine.specs.Records.{Records}
-use Rattle.rollout_machine.specs.declared.records.ActionRecord.{ActionRecord}
-use Rattle.sql_front.specs.Stands.{Stands}
 use Rattle.sql_calls.specs.Apart.{HasNoForeignKey}
 use Rattle.sql_calls.specs.KeyIndexes.{ComparesBytes}
-use Rattle.desk_records.specs.Schema.{Place, Offers, places, offer_table, table_at, name_of}
-use Rattle.desk_records.specs.Targets.{are_sorted}
-use Rattle.desk_records.specs.Holds.{AreRowsOf, HoldsLedger, HoldsRecords, IsHeld, Ledger, Offered, content_of, ledger_of}
 use Rattle.desk_records.proofs.Places.{place_named, is_named, is_among, same_elsewhere}
 
 -- what one statement leaves of the tables, where it writes the rows of one place

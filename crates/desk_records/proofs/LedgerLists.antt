@@ -1,18 +1,7 @@
 -- Lists in which one changes, and rows that don't tell of the change.
 use Rattle.std.proofs.Common.{◌≡◌, ◌≢◌, ◌++◌, ◌<◌, ℕ, zero, suc, ◌+◌, List, [], ◌∷◌, length, set, slice_get, Option, Some, refl, sym, ap, ap₂, subst, ◌∙◌, arith, nat_eq, not, cond, Bool, true, false, ◌&&◌, append_assoc, IsPermutation}
-use Rattle.std.specs.List.{list_all, zip}
-use Rattle.std.proofs.lemmas.Bool.{and_parts}
-use Rattle.std.proofs.lemmas.Bool.Decides.{nat_tests}
-use Rattle.std.proofs.lemmas.List.Sorted.{IsPermutation-trans, IsPermutation-middle, IsPermutation-append_right}
-use Rattle.sqlite_value.specs.Order.{Row}
-use Rattle.sql_calls.specs.Keyed.{rows_from, IsHeldBy}
-use Rattle.sql_calls.proofs.KeyedRows.{changed}
-use Rattle.rollout_machine.specs.ByteStrings.{item_numbered}
+use Rattle.desk_records.proofs.Common.{list_all, zip, and_parts, nat_tests, IsPermutation-trans, IsPermutation-middle, IsPermutation-append_right, Row, rows_from, IsHeldBy, changed, item_numbered, ActionRecord, RolloutRecord, Tally, actor_of, action_row, part_row, parts_from}
 use Rattle.rollout_machine.specs.StateWords.{member_at}
-use Rattle.rollout_machine.specs.declared.records.ActionRecord.{ActionRecord}
-use Rattle.rollout_machine.specs.declared.records.RolloutRecord.{RolloutRecord}
-use Rattle.desk_records.specs.Actions.{Tally, actor_of, action_row}
-use Rattle.desk_records.specs.Parts.{part_row, parts_from}
 use Rattle.desk_records.proofs.Parts.{next_place}
 
 module _ {X : Type 0} (x y : X) where

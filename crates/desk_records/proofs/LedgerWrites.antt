@@ -1,37 +1,8 @@
 -- The statements on rollouts, actions and offers that write, in ledgers.
 use Rattle.std.proofs.Common.{◌≡◌, ◌≢◌, ◌∷◌, ◌++◌, ℕ, zero, suc, ◌+◌, pos, List, [], Bool, set, length, slice_get, Option, Some, None, refl, sym, ap, subst, ◌∙◌, arith}
-use Rattle.std.specs.List.{zip}
+use Rattle.desk_records.proofs.Common.{zip, Int, Text, Row, Term, col, Insert, Update, Values, Database, State, Writes, Table, cast_all, put_row, rowid, rows_from, inserts, put_next, cast_int, cast_null, has_number, sets_at, simple, shown_of, updates, Updated, Bytes, RolloutPlan, Outcome, ActionRecord, RolloutRecord, GroupRule, Tally, action_row, entries_of, entry_row, outcome_code, number_row, number_rows, HoldsLedger, Ledger, Ordered, Unordered, AddsRollout, AddsAction, SetsRollout, SetsAction, acted, created, no_tally, scheduled, turned, with_actions, with_numbers, with_rollouts, with_rules, listed_parts, parts_from, approval_code, flag, group_row, groups_from, member_row, members_from, rollout_row, rule_row, rules_from, Place, Rollouts, Members, Groups, Actions, Feedbacks, Rules, Numbers, action_table, rollout_table, PlacedNumber}
 use Rattle.std.proofs.lemmas.Option.{slice_get_within}
-use Rattle.sqlite_value.specs.declared.value.Value.TheVariants.{Int, Text}
-use Rattle.sqlite_value.specs.Order.{Row}
-use Rattle.sqlite.specs.Term.{Term, col}
-use Rattle.sqlite.specs.Command.TheVariants.{Insert, Update}
-use Rattle.sqlite.specs.Source.TheVariants.{Values}
-use Rattle.sqlite.specs.Effect.{Database}
-use Rattle.sqlite.specs.State.{State, Writes}
-use Rattle.sqlite.specs.Table.{Table}
-use Rattle.sqlite_rules.specs.Cast.{cast_all}
-use Rattle.sqlite_trees.specs.Tree.{put_row, rowid}
-use Rattle.sql_calls.specs.Keyed.{rows_from}
-use Rattle.sql_calls.proofs.Inserts.{inserts}
-use Rattle.sql_calls.proofs.NumberedRows.{put_next, cast_int, cast_null}
-use Rattle.sql_calls.proofs.NumberedTables.{has_number, sets_at}
-use Rattle.sql_calls.proofs.Selects.{simple, shown_of}
-use Rattle.sql_calls.proofs.Updates.{updates, Updated}
-use Rattle.rollout_machine.specs.Commands.{Bytes, RolloutPlan}
-use Rattle.rollout_machine.specs.declared.outcome.Outcome.{Outcome}
-use Rattle.rollout_machine.specs.declared.records.ActionRecord.{ActionRecord}
-use Rattle.rollout_machine.specs.declared.records.RolloutRecord.{RolloutRecord}
 use Rattle.rollout_model.specs.declared.approval.Approval.{Approval}
-use Rattle.rollout_model.specs.declared.group_rule.GroupRule.{GroupRule}
-use Rattle.desk_records.specs.Actions.{Tally, action_row, entries_of, entry_row, outcome_code}
-use Rattle.desk_records.specs.FeedbackNumbers.{number_row, number_rows}
-use Rattle.desk_records.specs.Holds.{HoldsLedger, Ledger, Ordered, Unordered}
-use Rattle.desk_records.specs.LedgerSteps.{AddsRollout, AddsAction, SetsRollout, SetsAction, acted, created, no_tally, scheduled, turned, with_actions, with_numbers, with_rollouts, with_rules}
-use Rattle.desk_records.specs.Parts.{listed_parts, parts_from}
-use Rattle.desk_records.specs.Rollouts.{approval_code, flag, group_row, groups_from, member_row, members_from, rollout_row, rule_row, rules_from}
-use Rattle.desk_records.specs.Schema.{Place, Rollouts, Members, Groups, Actions, Feedbacks, Rules, Numbers, action_table, rollout_table}
-use Rattle.desk_records.specs.declared.number_row.PlacedNumber.{PlacedNumber}
 use Rattle.desk_records.proofs.ActionMeaning.{action_terms, action_values, set_action_query}
 use Rattle.desk_records.proofs.HoldsAfter.{ChangesOnly, contents_differ, ledger_after}
 use Rattle.desk_records.proofs.LedgerLists.{actions_stay, actors_of_more, actors_stay, first_of, length_zip, parts_stay, zip_more, zip_set}

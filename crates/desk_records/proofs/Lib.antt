@@ -1,3 +1,4 @@
+pub mod Common
 pub mod MeaningWords
 pub mod TableMeaning
 pub mod Meaning

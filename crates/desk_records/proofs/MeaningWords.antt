@@ -1,23 +1,15 @@
 -- The words in which the meanings of texts are written.
 use Rattle.std.proofs.Common.{◌≡◌, refl, List, [], ℕ, Ok, None}
-use Rattle.sqlite.specs.Collation.TheVariants.{Binary}
-use Rattle.sqlite.specs.Schema.{Schema}
-use Rattle.sqlite.specs.Term.{Term, col, op2}
+use Rattle.desk_records.proofs.Common.{Binary, Schema, Term, col, op2, Compare, Eq, Le, Ge, Gt, Query, Table, Stands, Means}
 use Rattle.sqlite.specs.Listing.{understood}
-use Rattle.sqlite_sql.specs.declared.ops.BinaryOp.TheVariants.{Compare}
-use Rattle.sqlite_sql.specs.declared.ops.CompareOp.TheVariants.{Eq, Le, Ge, Gt}
 use Rattle.sqlite_resolve.specs.declared.compiled.Compiled.{Compiled}
 use Rattle.sqlite_resolve.specs.Compile.{compiled}
 use Rattle.sqlite_resolve.specs.Scope.{Name}
 use Rattle.sqlite_schema.specs.declared.command.Command.TheVariants.{Select, Insert, Update, Delete}
 use Rattle.sqlite.specs.Source.{Source}
-use Rattle.sqlite.specs.Query.{Query}
-use Rattle.sqlite.specs.Table.{Table}
-use Rattle.sql_front.specs.Stands.{Stands}
 use Rattle.sql_front.proofs.Texts.{Queries, queries_known}
 use Rattle.sql_front.proofs.Write.{Adds, adds_known, unstamped}
 use Rattle.sql_front.proofs.Change.{Updates, Removes, updates_known, removes_known}
-use Rattle.sql_calls.specs.Means.{Means}
 
 pub means_of : (s : Schema) (sql : List ℕ) (c : Compiled) → compiled s sql ≡ Ok c → c.returning ≡ None → c.formats ≡ [] → Means s sql c.command
 unfolding understood

@@ -1,10 +1,7 @@
 -- Membership in lists that are mapped, zipped or put in another order, and how many pass a test.
 use Rattle.std.proofs.Common.{◌≡◌, ◌⊎◌, inl, inr, ◌≤◌, ℕ, zero, suc, ◌<◌, ◌&&◌, Option, Some, None, filter_map, List, [], ◌∷◌, map, filter, length, Bool, true, false, cond, refl, sym, ap, subst, ◌∙◌, arith, IsPermutation, get_or}
-use Rattle.std.specs.List.{AllZip, cons_option}
-use Rattle.std.proofs.lemmas.List.Sorted.{Contains-permutation, sum_by-IsPermutation}
+use Rattle.desk_records.proofs.Common.{AllZip, cons_option, Contains-permutation, sum_by-IsPermutation, Has, has_contained, contains_had}
 use Rattle.std.proofs.lemmas.List.Sums.{length-filter}
-use Rattle.sqlite_rules.specs.Lists.{Has}
-use Rattle.sqlite_rules.proofs.ListLemmas.{has_contained, contains_had}
 
 pub has_permuted : {X : Type 0} (xs ys : List X) (x : X) → IsPermutation xs ys → Has xs x → Has ys x
 has_permuted xs ys x same among = has_contained ys x (Contains-permutation xs ys x same (contains_had xs x among))

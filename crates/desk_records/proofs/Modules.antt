@@ -1,27 +1,7 @@
 -- The statements on modules, in records.
 use Rattle.std.proofs.Common.{◌≡◌, ◌≤◌, ℕ, ◌+◌, pos, List, [], ◌∷◌, ◌++◌, length, None, Option, option_map, refl, ◌∙◌, arith}
-use Rattle.std.specs.List.{list_any}
-use Rattle.std.specs.Option.{is_some}
-use Rattle.sqlite_value.specs.declared.value.Value.TheVariants.{Int}
-use Rattle.sqlite_value.specs.Order.{Row}
+use Rattle.desk_records.proofs.Common.{list_any, is_some, Int, Row, col, Select, Insert, Values, Database, State, Writes, rows_from, ShowsFirst, simple, passes, inserts, put_next, cast_int, cast_null, has_number, ModuleLabel, same_bytes, item_numbered, Records, words_of, with_module, is_same, IsLastRow, Modules, module_table, HoldsRecords, ledger_of, module_row}
 use Rattle.sqlite_sql.specs.Ops.{binary}
-use Rattle.sqlite.specs.Term.{col}
-use Rattle.sqlite.specs.Command.TheVariants.{Select, Insert}
-use Rattle.sqlite.specs.Source.TheVariants.{Values}
-use Rattle.sqlite.specs.Effect.{Database}
-use Rattle.sqlite.specs.State.{State, Writes}
-use Rattle.sql_calls.specs.Keyed.{rows_from}
-use Rattle.sql_calls.proofs.Finding.{ShowsFirst}
-use Rattle.sql_calls.proofs.Selects.{simple, passes}
-use Rattle.sql_calls.proofs.Inserts.{inserts}
-use Rattle.sql_calls.proofs.NumberedRows.{put_next, cast_int, cast_null}
-use Rattle.sql_calls.proofs.NumberedTables.{has_number}
-use Rattle.rollout_machine.specs.Commands.{ModuleLabel}
-use Rattle.rollout_machine.specs.ByteStrings.{same_bytes, item_numbered}
-use Rattle.rollout_machine.specs.Records.{Records}
-use Rattle.desk_records.specs.Modules.{words_of, with_module, is_same, IsLastRow}
-use Rattle.desk_records.specs.Schema.{Modules, module_table}
-use Rattle.desk_records.specs.Holds.{HoldsRecords, ledger_of, module_row}
 use Rattle.desk_records.proofs.HoldsAfter.{ChangesOnly, holds_after, records_differ}
 use Rattle.desk_records.proofs.Comparisons.{judged, words_equal, and_true}
 use Rattle.desk_records.proofs.NumberedReads.{finds, lasts, gets}

@@ -1,32 +1,10 @@
 -- What is read of the next offer, where a ledger is held.
 use Rattle.std.proofs.Common.{◌≡◌, ◌<◌, ℕ, zero, suc, ◌+◌, pos, List, [], ◌∷◌, map, filter, take, length, slice_get, Bool, true, false, cond, ◌&&◌, ◌||◌, Option, Some, None, option_map, refl, ap, ap₂, ◌∙◌, arith, nat_eq, nat_le}
 use Rattle.std.proofs.Math.Bool.{or-false}
-use Rattle.std.specs.List.{list_any, zip}
-use Rattle.std.specs.Option.{is_none}
-use Rattle.std.proofs.lemmas.Bool.Decides.{nat_tests}
-use Rattle.std.proofs.lemmas.List.Folds.{list_any-append}
-use Rattle.sqlite_value.specs.declared.value.Value.TheVariants.{Null, Int, Text}
-use Rattle.sqlite_value.specs.Order.{Row}
-use Rattle.sqlite.specs.Term.{lit, eval_all}
-use Rattle.sqlite.specs.Command.TheVariants.{Select}
-use Rattle.sqlite.specs.Effect.{Database}
-use Rattle.sql_calls.specs.Keyed.{rows_from}
-use Rattle.sql_calls.proofs.Finding.{ShowsFirst}
-use Rattle.sql_calls.proofs.KeyedRows.{on_content}
+use Rattle.desk_records.proofs.Common.{list_any, zip, is_none, nat_tests, list_any-append, Null, Int, Text, Row, lit, eval_all, Select, Database, rows_from, ShowsFirst, on_content, item_numbered, Bytes, Outcome, ActionRecord, GroupRecord, RolloutRecord, Tally, action_row, actor_of, outcome_code, HoldsLedger, Ledger, parts_from, parts_of, flag, group_row, groups_from, Actions, Groups}
 use Rattle.sql_calls.proofs.NumberedWithin.{counts_any, held_any, is_beside, passes_within, seen, within_in_order}
-use Rattle.rollout_machine.specs.ByteStrings.{item_numbered}
-use Rattle.rollout_machine.specs.Commands.{Bytes}
-use Rattle.rollout_machine.specs.declared.outcome.Outcome.{Outcome}
 use Rattle.rollout_machine.specs.declared.outcome.Outcome.TheVariants.{Good, Bad, Gone}
-use Rattle.rollout_machine.specs.declared.records.ActionRecord.{ActionRecord}
-use Rattle.rollout_machine.specs.declared.records.GroupRecord.{GroupRecord}
-use Rattle.rollout_machine.specs.declared.records.RolloutRecord.{RolloutRecord}
-use Rattle.desk_records.specs.Actions.{Tally, action_row, actor_of, outcome_code}
-use Rattle.desk_records.specs.Holds.{HoldsLedger, Ledger}
 use Rattle.desk_records.specs.NextOffers.{any_starts, is_next, next_offer, next_offer_from, starts_at}
-use Rattle.desk_records.specs.Parts.{parts_from, parts_of}
-use Rattle.desk_records.specs.Rollouts.{flag, group_row, groups_from}
-use Rattle.desk_records.specs.Schema.{Actions, Groups}
 use Rattle.desk_records.proofs.ActionRecords.{told_offer}
 use Rattle.desk_records.proofs.Comparisons.{and_true, numbers_equal, numbers_at_least, numbers_at_most, words_equal}
 use Rattle.desk_records.proofs.ActionMeaning.{next_action, next_columns, next_group, next_offer_query}

@@ -1,24 +1,10 @@
 -- What columns with a number say of it.
 use Rattle.std.proofs.Common.{◌≡◌, ◌<◌, ◌≤◌, ◌^◌, ◌&&◌, [], ◌∷◌, ℕ, ℤ, pos, negsuc, Bool, true, false, cond, Option, Some, None, true≢false, refl, sym, ap, ap₂, ◌∙◌, arith, nat_eq, nat_lt, nat_le, is_eq, int_cmp, if◌then◌else◌}
-use Rattle.std.specs.Option.{option_and_then}
-use Rattle.std.proofs.lemmas.Bool.{and_parts}
-use Rattle.std.proofs.lemmas.Bool.Decides.{nat_tests}
-use Rattle.std.proofs.lemmas.Int.{ints}
-use Rattle.sqlite_value.specs.declared.value.Value.{Value}
-use Rattle.sqlite_value.specs.declared.value.Value.TheVariants.{Null, Int, Real, Text, Blob}
-use Rattle.sqlite_value.specs.Order.{Row, column, value_cmp}
-use Rattle.sqlite_value.proofs.OrderLemmas.{value_cmp-Int, value_cmp-Null}
-use Rattle.sqlite_trees.specs.Tree.{has_rowid, rowid}
-use Rattle.sqlite_sql.specs.Ops.{binary, is_true}
-use Rattle.sqlite_sql.specs.declared.ops.BinaryOp.TheVariants.{Compare}
-use Rattle.sqlite_sql.specs.declared.ops.CompareOp.TheVariants.{Eq}
-use Rattle.sqlite.specs.Collation.TheVariants.{Binary}
-use Rattle.sql_calls.proofs.Selects.{passes}
-use Rattle.rollout_model.specs.Limits.{number_limit}
-use Rattle.rollout_model.specs.Rules.{is_number, number_of}
+use Rattle.desk_records.proofs.Common.{option_and_then, and_parts, nat_tests, ints, Value, Null, Int, Real, Text, Blob, Row, column, value_cmp, value_cmp-Int, value_cmp-Null, has_rowid, rowid, is_true, Compare, Eq, Binary, passes, number_limit, is_number, has_at, is_number_of}
+use Rattle.sqlite_sql.specs.Ops.{binary}
+use Rattle.rollout_model.specs.Rules.{number_of}
 use Rattle.desk_records.specs.ArtifactRow.{small_number}
 use Rattle.desk_records.specs.Codes.{coded_in, number_in}
-use Rattle.desk_records.specs.Listings.{has_at, is_number_of}
 use Rattle.desk_records.proofs.Comparisons.{and_true, judged}
 use Rattle.desk_records.proofs.MeaningWords.{at_key}
 

@@ -1,10 +1,6 @@
 -- The numbers of a history, one more, and the last of them.
 use Rattle.std.proofs.Common.{◌≡◌, ◌++◌, ℕ, suc, ◌+◌, List, [], ◌∷◌, length, slice_get, Option, Some, None, refl, sym, ap, subst, ◌∙◌, arith, append_assoc, append-nil}
-use Rattle.std.specs.List.{last_or}
-use Rattle.std.specs.Option.{option_or}
-use Rattle.rollout_machine.specs.Reports.{Reported, bearing}
-use Rattle.desk_records.specs.FeedbackNumbers.{borne_at, numbers_from}
-use Rattle.desk_records.specs.declared.number_row.PlacedNumber.{PlacedNumber}
+use Rattle.desk_records.proofs.Common.{last_or, option_or, Reported, bearing, borne_at, numbers_from, PlacedNumber}
 use Rattle.desk_records.proofs.NumberRecords.{last_joined}
 
 -- one more entry

@@ -1,21 +1,9 @@
 -- What is read of the numbers of an action, where a ledger is held.
 use Rattle.std.proofs.Common.{◌≡◌, ◌≤◌, ℕ, suc, ◌+◌, pos, negsuc, true, false, List, [], ◌∷◌, ◌++◌, map, take, length, reverse, slice_get, Option, Some, None, option_map, refl, sym, ap, ◌∙◌, arith}
-use Rattle.std.specs.List.{last_or}
-use Rattle.std.specs.Option.{option_or}
-use Rattle.std.proofs.lemmas.Grind.{reverse_onto}
-use Rattle.sqlite_value.specs.declared.value.Value.TheVariants.{Null, Int}
-use Rattle.sqlite_value.specs.Order.{Row}
-use Rattle.sqlite.specs.Command.TheVariants.{Select}
-use Rattle.sqlite.specs.Effect.{Database, Reads as Shows}
-use Rattle.sqlite.specs.Term.{lit}
-use Rattle.sqlite_keyed.proofs.ListLemmas.{first_taken}
-use Rattle.sql_calls.specs.Keyed.{rows_from}
-use Rattle.sql_calls.proofs.Finding.{ShowsFirst}
-use Rattle.desk_records.specs.FeedbackNumbers.{last_number, numbers_numbered, told_number}
-use Rattle.desk_records.specs.Holds.{HoldsLedger, Ledger}
-use Rattle.desk_records.specs.Schema.{Numbers}
+use Rattle.desk_records.proofs.Common.{last_or, option_or, reverse_onto, Null, Int, Row, Select, Database, lit, first_taken, rows_from, ShowsFirst, numbers_numbered, told_number, HoldsLedger, Ledger, Numbers, PlacedNumber}
+use Rattle.sqlite.specs.Effect.{Reads as Shows}
+use Rattle.desk_records.specs.FeedbackNumbers.{last_number}
 use Rattle.desk_records.specs.declared.number_row.LastNumber.{LastNumber}
-use Rattle.desk_records.specs.declared.number_row.PlacedNumber.{PlacedNumber}
 use Rattle.desk_records.proofs.ActionMeaning.{last_number_columns, last_number_query, list_numbers_query, number_columns}
 use Rattle.desk_records.proofs.PartReads.{reads_listed, unplaced}
 use Rattle.desk_records.proofs.TargetRecords.{first_row}

@@ -1,33 +1,8 @@
 -- What the usual reads of a table show whose k-th row has number k: one that passes a test, the last number, one by its number.
 use Rattle.std.proofs.Common.{◌≡◌, ◌≤◌, ◌==◌, ◌||◌, ◌&&◌, ℕ, zero, suc, ◌+◌, pos, List, [], ◌∷◌, map, filter, take, drop, length, slice_get, Bool, true, false, not, Option, Some, None, option_map, refl, sym, ap, ap₂, subst, ◌∙◌, arith, IsPermutation}
-use Rattle.std.specs.List.{list_any}
-use Rattle.std.specs.Option.{is_some, option_to_list}
-use Rattle.std.proofs.lemmas.Bool.Decides.{nat_tests}
-use Rattle.std.proofs.lemmas.List.{length-map, take-map, drop-map}
-use Rattle.std.proofs.lemmas.List.Sorted.{length_permutation}
-use Rattle.sqlite_value.specs.declared.value.Value.TheVariants.{Null, Int}
-use Rattle.sqlite_value.specs.Order.{Row, column, value_cmp}
-use Rattle.sqlite_trees.specs.Tree.{rowid}
-use Rattle.sqlite.specs.Term.{Term, col}
-use Rattle.sqlite.specs.Tree.{Trees}
-use Rattle.sqlite.specs.Query.{IsAnswer}
-use Rattle.sqlite.specs.Program.{overlay}
-use Rattle.sqlite.specs.Command.{Command}
-use Rattle.sqlite.specs.Command.TheVariants.{Select}
-use Rattle.sqlite.specs.Effect.{Database, Reads as Shows}
-use Rattle.sqlite.proofs.Callers.{one_permutation}
-use Rattle.sqlite_keyed.proofs.ListLemmas.{all_of, filter_all, none_counted}
-use Rattle.sql_calls.specs.Keyed.{rows_from}
-use Rattle.sql_calls.proofs.Finding.{ShowsFirst}
-use Rattle.sql_calls.proofs.Selects.{simple, passes, shown_of, simple_rows}
-use Rattle.sql_calls.proofs.NumberedTables.{number_query, numbered_in_order, has_number, filter_numbered, at_number, row_of, last_query, last_number, last_of}
-use Rattle.rollout_machine.specs.ByteStrings.{item_numbered}
-use Rattle.std.specs.Ordering.{is_eq}
-use Rattle.sqlite.specs.Collation.TheVariants.{Binary}
-use Rattle.sqlite_sql.specs.declared.ops.BinaryOp.TheVariants.{Compare}
-use Rattle.sqlite_sql.specs.declared.ops.CompareOp.TheVariants.{Eq}
-use Rattle.sqlite_sql.specs.Ops.{binary, is_true}
-use Rattle.desk_records.specs.Modules.{IsLastRow}
+use Rattle.desk_records.proofs.Common.{list_any, is_some, option_to_list, nat_tests, length-map, take-map, drop-map, length_permutation, Null, Int, Row, column, value_cmp, rowid, Term, col, Trees, IsAnswer, overlay, Command, Select, Database, one_permutation, all_of, filter_all, none_counted, rows_from, ShowsFirst, simple, passes, shown_of, simple_rows, number_query, numbered_in_order, has_number, filter_numbered, at_number, row_of, last_query, last_number, last_of, item_numbered, is_eq, Binary, Compare, Eq, is_true, IsLastRow}
+use Rattle.sqlite.specs.Effect.{Reads as Shows}
+use Rattle.sqlite_sql.specs.Ops.{binary}
 use Rattle.desk_records.proofs.Comparisons.{and_true, judged}
 use Rattle.desk_records.proofs.MeaningWords.{at_key}
 

@@ -1,47 +1,14 @@
 -- Offers that go in one after the other, as rows: each where its target has none, or else in place of one of a greater action.
 use Rattle.std.proofs.Common.{◌≡◌, ◌⊎◌, inl, inr, ◌≤◌, ℕ, pos, Bool, true, false, cond, ◌&&◌, nat_lt, List, [], ◌∷◌, ◌++◌, map, filter, drop, length, Option, Some, None, refl, sym, ap, ap₂, ◌∙◌, subst, arith, IsPermutation}
-use Rattle.std.specs.Ordering.{is_eq}
-use Rattle.std.proofs.lemmas.Bool.{cases_Bool}
-use Rattle.std.proofs.lemmas.List.Sorted.{length_permutation}
-use Rattle.sqlite_value.specs.declared.value.Value.{Value}
-use Rattle.sqlite_value.specs.declared.value.Value.TheVariants.{Int, Null, Text}
-use Rattle.sqlite_value.specs.Order.{Row, value_cmp, column}
-use Rattle.sqlite.specs.Tree.{Trees}
-use Rattle.sqlite_trees.specs.Tree.{rowid, put_row, without_rowid}
-use Rattle.sqlite.specs.Table.{Table}
-use Rattle.sqlite.specs.Schema.{Schema}
+use Rattle.desk_records.proofs.Common.{is_eq, cases_Bool, length_permutation, Value, Int, Null, Text, Row, value_cmp, column, Trees, rowid, put_row, without_rowid, Table, Schema, Has, cast, cast_all, cast_row, next_rowid, edit_of, with_rowid, Applies, col, one_permutation, Integer, is_true, Compare, Eq, Lt, Binary, IsHeldBy, IsBlind, on_content, held_added, held_seen, held_changed, next_is, found_id, none_passes, is_among, only_one, one_written, written, cast_int, cast_null, passes, shown_of, simple_rows, PutsEach, same_bytes, Bytes, TargetOffer, offer_to, same_true, Offer, OffersById, lesser, put_offer, put_offers, flag, offer_table, HoldsOffers, offer_row}
 use Rattle.sqlite_schema.specs.declared.program.Program.{Program}
 use Rattle.sqlite_schema.specs.declared.schema.Keys.TheVariants.{Enforced}
 use Rattle.sqlite_rules.specs.Keys.{conflicts, AreConflicts}
-use Rattle.sqlite_rules.specs.Lists.{Has}
-use Rattle.sqlite_rules.specs.Cast.{cast, cast_all, cast_row}
-use Rattle.sqlite_rules.specs.Edit.{next_rowid, edit_of, with_rowid, Applies}
 use Rattle.sqlite.specs.Rowids.TheVariants.{Chosen, Given}
-use Rattle.sqlite.specs.Term.{col}
 use Rattle.sqlite.specs.Rows.{shown}
-use Rattle.sqlite.proofs.Callers.{one_permutation}
-use Rattle.sqlite.specs.Kind.TheVariants.{Integer}
-use Rattle.sqlite_sql.specs.Ops.{binary, is_true}
-use Rattle.sqlite_sql.specs.declared.ops.BinaryOp.TheVariants.{Compare}
-use Rattle.sqlite_sql.specs.declared.ops.CompareOp.TheVariants.{Eq, Lt}
-use Rattle.sqlite.specs.Collation.TheVariants.{Binary}
-use Rattle.sql_calls.specs.Keyed.{IsHeldBy}
+use Rattle.sqlite_sql.specs.Ops.{binary}
 use Rattle.sql_calls.proofs.KeyConflicts.{IsKeyOnly}
-use Rattle.sql_calls.proofs.KeyedRows.{IsBlind, on_content, held_added, held_seen, held_changed, next_is, found_id}
-use Rattle.sql_calls.proofs.KeyedTables.{none_passes, is_among, only_one, one_written, written}
-use Rattle.sql_calls.proofs.NumberedRows.{cast_int, cast_null}
-use Rattle.sql_calls.proofs.Selects.{passes, shown_of, simple_rows}
 use Rattle.sql_calls.proofs.Upserts.{Puts, Resolved}
-use Rattle.sql_calls.proofs.UpsertsFrom.{PutsEach}
-use Rattle.rollout_machine.specs.ByteStrings.{same_bytes}
-use Rattle.rollout_machine.specs.Commands.{Bytes}
-use Rattle.rollout_machine.specs.Kinds.{TargetOffer, offer_to}
-use Rattle.rollout_machine.proofs.TargetTies.{same_true}
-use Rattle.rollout_model.specs.declared.rollout.Offer.{Offer}
-use Rattle.offer_laws.specs.GroupOffers.{OffersById, lesser, put_offer, put_offers}
-use Rattle.desk_records.specs.Rollouts.{flag}
-use Rattle.desk_records.specs.Schema.{offer_table}
-use Rattle.desk_records.specs.Offers.{HoldsOffers, offer_row}
 use Rattle.desk_records.proofs.ActionMeaning.{of_controller}
 use Rattle.desk_records.proofs.ActionRecords.{its_offers, names_offer}
 use Rattle.desk_records.proofs.Comparisons.{and_true, judged, numbers_below}

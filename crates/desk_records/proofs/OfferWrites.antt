@@ -1,27 +1,6 @@
 -- The statements on offers that write, in ledgers.
 use Rattle.std.proofs.Common.{◌≡◌, ℕ, pos, List, [], ◌∷◌, Bool, true, false, not, cond, map, filter, Option, Some, None, refl, sym, ap, ap₂, subst, ◌∙◌}
-use Rattle.sqlite_value.specs.declared.value.Value.TheVariants.{Null, Int, Text}
-use Rattle.sqlite_value.specs.Order.{Row}
-use Rattle.sqlite.specs.Command.TheVariants.{Update, Delete}
-use Rattle.sqlite.specs.Effect.{Database}
-use Rattle.sqlite.specs.State.{State, Writes}
-use Rattle.sqlite_rules.specs.Cast.{cast_all}
-use Rattle.sql_calls.specs.Keyed.{IsHeldBy}
-use Rattle.sql_calls.proofs.KeyedRows.{on_content, changed}
-use Rattle.sql_calls.proofs.KeyedTables.{changes_key, drops, keys_apart}
-use Rattle.sql_calls.proofs.NumberedRows.{cast_int}
-use Rattle.sql_calls.proofs.Selects.{passes, shown_of}
-use Rattle.sql_calls.proofs.Updates.{deletes, updates}
-use Rattle.rollout_machine.specs.ByteStrings.{same_bytes}
-use Rattle.rollout_machine.specs.Commands.{Bytes}
-use Rattle.rollout_machine.specs.Kinds.{TargetOffer, offer_to}
-use Rattle.rollout_machine.proofs.TargetTies.{same_sym, same_true}
-use Rattle.rollout_model.specs.declared.rollout.Offer.{Offer}
-use Rattle.desk_records.specs.Holds.{HoldsLedger, Ledger}
-use Rattle.desk_records.specs.LedgerSteps.{SetsOffer, with_offer}
-use Rattle.desk_records.specs.Offers.{HoldsOffers, is_to, offer_row}
-use Rattle.desk_records.specs.Rollouts.{flag}
-use Rattle.desk_records.specs.Schema.{Offers, offer_table}
+use Rattle.desk_records.proofs.Common.{Null, Int, Text, Row, Update, Delete, Database, State, Writes, cast_all, IsHeldBy, on_content, changed, changes_key, drops, keys_apart, cast_int, passes, shown_of, deletes, updates, same_bytes, Bytes, TargetOffer, offer_to, same_sym, same_true, Offer, HoldsLedger, Ledger, SetsOffer, with_offer, HoldsOffers, is_to, offer_row, flag, Offers, offer_table}
 use Rattle.desk_records.proofs.ActionMeaning.{drop_offer_query, of_controller, offer_values, set_offer_query}
 use Rattle.desk_records.proofs.ActionRecords.{names_offer, offer_keyed}
 use Rattle.desk_records.proofs.HoldsAfter.{Leaves, contents_differ, ledger_after}

@@ -1,30 +1,8 @@
 -- What is read of the parts of one numbered record, in the order of their places.
 use Rattle.std.proofs.Common.{◌≡◌, ◌<◌, ◌≤◌, ℕ, zero, suc, ◌+◌, ◌-◌, pos, List, [], ◌∷◌, ◌++◌, map, filter, drop, slice_get, Bool, true, false, cond, reverse, refl, sym, ap, subst, ◌∙◌, arith, Less, IsPermutation, nat_eq, nat_lt}
-use Rattle.std.specs.List.{AllByRecursion}
+use Rattle.desk_records.proofs.Common.{AllByRecursion, ints, nat_tests, reverse_onto, map-append, IsPermutation-reverse, IsPermutation-sym, IsPermutation-trans, Int, Row, value_cmp, value_cmp-Int, IsAscending, Binary, Term, col, Trees, Query, Output, output_cmp, page, IsAnswer, overlay, output_cmp_total, sorted_unique, map-map, rows_from, IsHeldBy, IsBlind, on_content, held_seen, simple, by, passes, shown_of, shown_in, ordered_rows, item_numbered, listed_parts, part_row, parts_from, parts_numbered, parts_of}
 use Rattle.std.proofs.Math.Seq.{drop-nil}
-use Rattle.std.proofs.lemmas.Int.{ints}
-use Rattle.std.proofs.lemmas.Bool.Decides.{nat_tests}
-use Rattle.std.proofs.lemmas.Grind.{reverse_onto}
-use Rattle.std.proofs.lemmas.List.{map-append}
-use Rattle.std.proofs.lemmas.List.Sorted.{IsPermutation-reverse, IsPermutation-sym, IsPermutation-trans}
-use Rattle.sqlite_value.specs.declared.value.Value.TheVariants.{Int}
-use Rattle.sqlite_value.specs.Order.{Row, value_cmp}
-use Rattle.sqlite_value.proofs.OrderLemmas.{value_cmp-Int}
-use Rattle.sqlite_trees.specs.Tree.{IsAscending}
-use Rattle.sqlite.specs.Collation.TheVariants.{Binary}
-use Rattle.sqlite.specs.Term.{Term, col}
-use Rattle.sqlite.specs.Tree.{Trees}
-use Rattle.sqlite.specs.Query.{Query, Output, output_cmp, page, IsAnswer}
-use Rattle.sqlite.specs.Program.{overlay}
-use Rattle.sqlite_sql.proofs.QueryLemmas.{output_cmp_total}
 use Rattle.sqlite_exec.proofs.ScanLemmas.{ascending-reverse}
-use Rattle.sqlite_keyed.proofs.SortLemmas.{sorted_unique}
-use Rattle.sqlite_keyed.proofs.ListLemmas.{map-map}
-use Rattle.sql_calls.specs.Keyed.{rows_from, IsHeldBy}
-use Rattle.sql_calls.proofs.KeyedRows.{IsBlind, on_content, held_seen}
-use Rattle.sql_calls.proofs.Selects.{simple, by, passes, shown_of, shown_in, ordered_rows}
-use Rattle.rollout_machine.specs.ByteStrings.{item_numbered}
-use Rattle.desk_records.specs.Parts.{listed_parts, part_row, parts_from, parts_numbered, parts_of}
 use Rattle.desk_records.proofs.Comparisons.{and_true, numbers_equal}
 use Rattle.desk_records.proofs.MeaningWords.{at_key}
 use Rattle.desk_records.proofs.Parts.{its_parts}

@@ -1,40 +1,9 @@
 -- The statements on members, groups and histories that write, in ledgers.
 use Rattle.std.proofs.Common.{◌≡◌, ◌∷◌, ◌++◌, ◌&&◌, ℕ, zero, suc, ◌+◌, pos, List, [], Bool, true, length, set, slice_get, string_bytes, Option, Some, None, refl, sym, ap, subst, ◌∙◌, arith, nat_eq}
-use Rattle.std.proofs.lemmas.List.{length-map, map-append}
-use Rattle.sqlite_value.specs.declared.value.Value.TheVariants.{Int, Text}
-use Rattle.sqlite_value.specs.Keys.{plain, first_key}
-use Rattle.sqlite_value.specs.Order.{Row}
-use Rattle.sqlite_schema.specs.Rules.{agree}
-use Rattle.sqlite.specs.Command.TheVariants.{Insert, Update}
-use Rattle.sqlite.specs.Source.TheVariants.{Values}
-use Rattle.sqlite.specs.Effect.{Database}
-use Rattle.sqlite.specs.State.{State, Writes}
-use Rattle.sqlite.specs.Kind.TheVariants.{Integer}
+use Rattle.desk_records.proofs.Common.{length-map, map-append, Int, Text, plain, Row, agree, Insert, Update, Values, Database, State, Writes, Integer, cast, cast_all, IsHeldBy, inserts, on_content, adds_row, changes_key, keys_apart, cast_int, cast_null, passes, shown_of, updates, GroupRule, Bytes, Reported, entries_in, Bounds, GroupRecord, RolloutRecord, entries_of, entry_row, PlacedNumber, number_row, number_rows, told_number, AreRowsOf, HoldsLedger, Ledger, Unordered, content_of, AddsMember, AddsGroup, AddsRule, AddsNumber, SetsGroup, AddsEntry, and_member, and_group, and_entry, counted, cut_group, with_actions, with_groups, with_numbers, with_rollouts, with_rules, listed_parts, part_row, flag, group_row, groups_from, member_row, members_from, rollout_row, rule_row, rules_from, told_group, told_rule, Place, Members, Groups, Feedbacks, Rules, Numbers, feedback_table, group_table, member_table, number_table, rule_table, are_sorted}
+use Rattle.sqlite_value.specs.Keys.{first_key}
 use Rattle.sqlite.specs.Values.{or_null}
-use Rattle.sqlite_rules.specs.Cast.{cast, cast_all}
-use Rattle.sql_calls.specs.Keyed.{IsHeldBy}
-use Rattle.sql_calls.proofs.Inserts.{inserts}
-use Rattle.sql_calls.proofs.KeyedRows.{on_content}
-use Rattle.sql_calls.proofs.KeyedTables.{adds_row, changes_key, keys_apart}
-use Rattle.sql_calls.proofs.NumberedRows.{cast_int, cast_null}
-use Rattle.sql_calls.proofs.Selects.{passes, shown_of}
-use Rattle.sql_calls.proofs.Updates.{updates}
-use Rattle.rollout_model.specs.declared.group_rule.GroupRule.{GroupRule}
-use Rattle.rollout_machine.specs.Commands.{Bytes}
-use Rattle.rollout_machine.specs.Reports.{Reported, entries_in}
-use Rattle.rollout_machine.specs.declared.bounds.Bounds.{Bounds}
-use Rattle.rollout_machine.specs.declared.records.GroupRecord.{GroupRecord}
-use Rattle.rollout_machine.specs.declared.records.RolloutRecord.{RolloutRecord}
-use Rattle.desk_records.specs.Actions.{entries_of, entry_row}
 use Rattle.desk_records.specs.declared.new_entry.NewEntry.{NewEntry}
-use Rattle.desk_records.specs.declared.number_row.PlacedNumber.{PlacedNumber}
-use Rattle.desk_records.specs.FeedbackNumbers.{number_row, number_rows, told_number}
-use Rattle.desk_records.specs.Holds.{AreRowsOf, HoldsLedger, Ledger, Unordered, content_of}
-use Rattle.desk_records.specs.LedgerSteps.{AddsMember, AddsGroup, AddsRule, AddsNumber, SetsGroup, AddsEntry, and_member, and_group, and_entry, counted, cut_group, with_actions, with_groups, with_numbers, with_rollouts, with_rules}
-use Rattle.desk_records.specs.Parts.{listed_parts, part_row}
-use Rattle.desk_records.specs.Rollouts.{flag, group_row, groups_from, member_row, members_from, rollout_row, rule_row, rules_from, told_group, told_rule}
-use Rattle.desk_records.specs.Schema.{Place, Members, Groups, Feedbacks, Rules, Numbers, feedback_table, group_table, member_table, number_table, rule_table}
-use Rattle.desk_records.specs.Targets.{are_sorted}
 use Rattle.desk_records.proofs.ActionMeaning.{feedback_terms, number_terms}
 use Rattle.desk_records.proofs.Comparisons.{and_true, numbers_equal}
 use Rattle.desk_records.proofs.HoldsAfter.{ChangesOnly, Leaves, ledger_after}

@@ -1,16 +1,6 @@
 -- The rows of the parts of numbered records, in lists alone.
 use Rattle.std.proofs.Common.{◌≡◌, ◌<◌, ◌++◌, ℕ, zero, suc, ◌+◌, List, [], ◌∷◌, filter, length, slice_get, Bool, true, false, Option, Some, None, option_map, refl, sym, ap, ap₂, subst, ◌∙◌, arith, IsPermutation, nat_eq, append_assoc, append-nil}
-use Rattle.std.specs.Option.{option_to_list}
-use Rattle.std.proofs.lemmas.Bool.Decides.{nat_tests}
-use Rattle.std.proofs.lemmas.List.Elements.{filter-append}
-use Rattle.std.proofs.lemmas.List.Sorted.{IsPermutation-trans, IsPermutation-to_front}
-use Rattle.sqlite_value.specs.declared.value.Value.TheVariants.{Int}
-use Rattle.sqlite_value.specs.Order.{Row}
-use Rattle.sqlite_trees.specs.Tree.{put_row}
-use Rattle.sqlite_rules.specs.Edit.{next_rowid}
-use Rattle.sql_calls.specs.Keyed.{rows_from, IsHeldBy}
-use Rattle.sql_calls.proofs.KeyedRows.{held_added}
-use Rattle.desk_records.specs.Parts.{parts_from}
+use Rattle.desk_records.proofs.Common.{option_to_list, nat_tests, filter-append, IsPermutation-trans, IsPermutation-to_front, Int, Row, put_row, next_rowid, rows_from, IsHeldBy, held_added, parts_from}
 
 -- a changed last record whose row is the same
 pub same_rows : {X : Type 0} (f : ℕ → X → Row) (x y : X) → ((n : ℕ) → f n y ≡ f n x) → (n : ℕ) (before : List X) → rows_from f n (before ++ y ∷ []) ≡ rows_from f n (before ++ x ∷ [])

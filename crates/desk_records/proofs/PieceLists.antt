@@ -1,20 +1,13 @@
 -- Contents in pieces, and what one more piece makes of them.
 use Rattle.std.proofs.Common.{◌≡◌, ◌≤◌, ◌++◌, ℕ, zero, suc, ◌+◌, ◌*◌, List, [], ◌∷◌, map, take, drop, length, Option, Some, None, refl, sym, ap, ap₂, ◌∙◌, arith, length-append}
-use Rattle.std.specs.List.{flat_map, range_with_len}
-use Rattle.std.specs.Option.{option_map}
+use Rattle.desk_records.proofs.Common.{flat_map, range_with_len, option_map, div_ceil_times, length-drop, take_all, take-append-le, drop-append-le, map-map, map_same, Bytes, piece_length, pieces_in}
 use Rattle.std.specs.Prelude.{slice_get}
 use Rattle.std.proofs.Math.Nat.{sub-zero}
 use Rattle.std.proofs.Math.Seq.{drop-append_seam}
-use Rattle.std.proofs.lemmas.Grind.{div_ceil_times}
-use Rattle.std.proofs.lemmas.List.{length-drop, take_all, take-append-le, drop-append-le}
 use Rattle.std.proofs.lemmas.Option.{slice_get-map}
 use Rattle.std.proofs.lemmas.List.FromFn.{length-map-range_with_len, map-range_with_len_more}
-use Rattle.sqlite_keyed.proofs.ListLemmas.{map-map, map_same}
-use Rattle.rollout_machine.specs.Commands.{Bytes}
-use Rattle.rollout_model.specs.Limits.{piece_length}
 use Rattle.artifact_pieces.specs.Pieces.{piece_at, piece_bytes, piece_count, pieces_of}
 use Rattle.artifact_pieces.proofs.PieceLemmas.{one_piece, pieces_make_the_whole}
-use Rattle.desk_records.specs.Artifacts.{pieces_in}
 
 -- how many pieces contents have whose last piece has so many bytes
 whole_count : (total k : ℕ) → total ≡ k * piece_length → piece_count total ≡ k

@@ -1,22 +1,8 @@
 -- What GET_PIECE shows, whatever rows the table of pieces has.
 use Rattle.std.proofs.Common.{◌≡◌, ℕ, pos, true, List, [], ◌∷◌, refl}
-use Rattle.std.specs.List.{AllZip}
-use Rattle.std.proofs.lemmas.Bool.{and_parts}
-use Rattle.sqlite_value.specs.declared.value.Value.TheVariants.{Null, Int}
-use Rattle.sqlite_value.specs.Order.{Row, column}
-use Rattle.sqlite.specs.Command.TheVariants.{Select}
-use Rattle.sqlite.specs.Effect.{Database, Reads as Shows}
-use Rattle.sqlite.specs.Query.{Query}
-use Rattle.sqlite.specs.Term.{col}
-use Rattle.sqlite_rules.specs.Lists.{Has}
-use Rattle.sql_calls.proofs.Selects.{passes, simple}
-use Rattle.rollout_machine.specs.Commands.{Bytes}
+use Rattle.desk_records.proofs.Common.{AllZip, and_parts, Null, Int, Row, column, Select, Database, Query, col, Has, passes, simple, Bytes, ArePieces, lies_at, has_at, Pieces, IsPiece, HoldsTables, Tables}
+use Rattle.sqlite.specs.Effect.{Reads as Shows}
 use Rattle.desk_records.specs.ArtifactRow.{StoredBytes}
-use Rattle.desk_records.specs.FoundPieces.{ArePieces, lies_at}
-use Rattle.desk_records.specs.Listings.{has_at}
-use Rattle.desk_records.specs.Schema.{Pieces}
-use Rattle.desk_records.specs.TableRows.{IsPiece}
-use Rattle.desk_records.specs.Tables.{HoldsTables, Tables}
 use Rattle.desk_records.proofs.AnyRows.{are_said}
 use Rattle.desk_records.proofs.ArtifactMeaning.{at_piece}
 use Rattle.desk_records.proofs.NumberColumns.{number_is}

@@ -1,19 +1,9 @@
 -- What LIST_PLACES shows, whatever rows the table of members has.
 use Rattle.std.proofs.Common.{◌≡◌, ◌≤◌, ℕ, pos, true, false, List, [], ◌∷◌, length, filter, Option, Some, None, refl}
-use Rattle.sqlite_value.specs.declared.value.Value.TheVariants.{Null, Int}
-use Rattle.sqlite_value.specs.Order.{Row, column}
-use Rattle.sqlite.specs.Command.TheVariants.{Select}
-use Rattle.sqlite.specs.Effect.{Database, Reads as Shows}
-use Rattle.sqlite.specs.Query.{Query, output_cmp}
-use Rattle.std.specs.Ordering.{is_lt}
-use Rattle.sqlite_rules.specs.Lists.{Has}
-use Rattle.sql_calls.proofs.Selects.{passes, shown_in, shown_of}
-use Rattle.rollout_model.specs.Rules.{is_number}
-use Rattle.desk_records.specs.Listings.{AreRead}
+use Rattle.desk_records.proofs.Common.{Null, Int, Row, column, Select, Database, Query, output_cmp, is_lt, Has, passes, shown_in, shown_of, is_number, AreRead, Members, HoldsTables, Tables}
+use Rattle.sqlite.specs.Effect.{Reads as Shows}
 use Rattle.desk_records.specs.MemberRow.{IsPlacedRow, keeps_member_rules}
 use Rattle.desk_records.specs.PlaceLists.{ListsPlaces, SaysMember, is_of}
-use Rattle.desk_records.specs.Schema.{Members}
-use Rattle.desk_records.specs.Tables.{HoldsTables, Tables}
 use Rattle.desk_records.specs.declared.member_row.PlacedMember.{PlacedMember}
 use Rattle.desk_records.proofs.AnyRows.{are_said, broken, count_shown, number_order, rise}
 use Rattle.desk_records.proofs.NumberColumns.{is_number_in, number_is, small_is}

@@ -1,19 +1,7 @@
 -- A part by the number of its record and by its place.
 use Rattle.std.proofs.Common.{◌≡◌, ◌≤◌, ◌&&◌, ℕ, zero, suc, ◌+◌, pos, List, [], ◌∷◌, map, filter, slice_get, Bool, true, false, Option, Some, None, option_map, refl, sym, ap, subst, ◌∙◌, arith, IsPermutation, nat_eq}
-use Rattle.std.specs.Option.{option_to_list}
-use Rattle.std.proofs.lemmas.Bool.Decides.{nat_tests}
-use Rattle.std.proofs.lemmas.List.Sorted.{IsPermutation-trans}
-use Rattle.sqlite_value.specs.declared.value.Value.TheVariants.{Null, Int}
-use Rattle.sqlite_value.specs.Order.{Row}
-use Rattle.sqlite.specs.Term.{Term}
-use Rattle.sqlite.specs.Command.TheVariants.{Select}
-use Rattle.sqlite.specs.Effect.{Database, Reads as Shows}
-use Rattle.sql_calls.specs.Keyed.{rows_from, IsHeldBy}
-use Rattle.sql_calls.proofs.Finding.{ShowsFirst}
-use Rattle.sql_calls.proofs.KeyedRows.{IsBlind, on_content, held_seen}
-use Rattle.sql_calls.proofs.Selects.{simple, passes, shown_of, simple_rows}
-use Rattle.rollout_machine.specs.ByteStrings.{item_numbered}
-use Rattle.desk_records.specs.Parts.{part_row, parts_from}
+use Rattle.desk_records.proofs.Common.{option_to_list, nat_tests, IsPermutation-trans, Null, Int, Row, Term, Select, Database, rows_from, IsHeldBy, ShowsFirst, IsBlind, on_content, held_seen, simple, passes, shown_of, simple_rows, item_numbered, part_row, parts_from}
+use Rattle.sqlite.specs.Effect.{Reads as Shows}
 use Rattle.desk_records.proofs.Comparisons.{and_true, numbers_equal}
 use Rattle.desk_records.proofs.MeaningWords.{at_key}
 use Rattle.desk_records.proofs.NumberedReads.{first_found}

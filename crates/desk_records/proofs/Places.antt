@@ -1,9 +1,7 @@
 -- What is known of every place at once.
 use Rattle.std.proofs.Common.{◌≡◌, ◌≢◌, ◌⊎◌, inl, inr, ℕ, Bool, true, false, cond, List, [], ◌∷◌, map, Option, Some, find, bytes_eq, refl, sym, ap, subst, ◌∙◌}
-use Rattle.std.specs.List.{AllByRecursion, list_any}
-use Rattle.std.proofs.lemmas.Bool.{or_cases, cases_Bool, true≢false}
+use Rattle.desk_records.proofs.Common.{AllByRecursion, list_any, or_cases, cases_Bool, true≢false, Place, places, name_of}
 use Rattle.std.proofs.lemmas.Slice.Eq.{bytes_eq-Decides}
-use Rattle.desk_records.specs.Schema.{Place, places, name_of}
 use Rattle.desk_records.proofs.EachPlace.{each_place}
 
 each_same : {X : Type 0} (f g : Place → X) (ts : List Place) → map f ts ≡ map g ts → AllByRecursion (λ t. f t ≡ g t) ts

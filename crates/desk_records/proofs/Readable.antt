@@ -1,12 +1,7 @@
 -- The tables of the newest version hold records as the program keeps them.
 use Rattle.std.proofs.Common.{◌≡◌, ◌≤◌, ℕ, List, [], ◌∷◌, Option, Some, if◌then◌else◌, nat_eq, refl, sym, ap, ◌∙◌, arith}
-use Rattle.std.specs.List.{AllByRecursion}
-use Rattle.sqlite.specs.Effect.{Database}
-use Rattle.rollout_machine.specs.Records.{Records}
-use Rattle.desk_records.specs.Schema.{Place, Desk, places}
-use Rattle.desk_records.specs.Holds.{HoldsRecords}
+use Rattle.desk_records.proofs.Common.{AllByRecursion, Database, Records, Place, Desk, places, HoldsRecords, newest, number_of, places_at}
 use Rattle.desk_records.specs.Readable.{HoldsAt, HoldsPlace, HoldsReadable}
-use Rattle.desk_records.specs.Versions.{newest, number_of, places_at}
 use Rattle.desk_records.specs.declared.version.Version.{Version}
 use Rattle.desk_records.specs.declared.version.Version.TheVariants.{One, Two, Three}
 use Rattle.desk_records.proofs.EachPlace.{each_place}

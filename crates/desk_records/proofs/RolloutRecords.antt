@@ -1,30 +1,8 @@
 -- What is read of rollouts and groups, where a ledger is held.
 use Rattle.std.proofs.Common.{◌≡◌, ◌≤◌, ◌&&◌, ℕ, ◌+◌, pos, negsuc, List, [], ◌∷◌, map, filter, take, drop, find, length, slice_get, Bool, true, false, cond, Option, Some, option_map, refl, ap, ◌∙◌, arith, nat_eq, nat_le, nat_lt}
-use Rattle.std.specs.List.{list_any}
-use Rattle.std.specs.Option.{is_some}
-use Rattle.std.proofs.lemmas.List.{take-map}
-use Rattle.std.proofs.lemmas.Bool.Decides.{nat_tests}
-use Rattle.sqlite_value.specs.declared.value.Value.TheVariants.{Null, Int, Text}
-use Rattle.sqlite_value.specs.Order.{Row}
-use Rattle.sqlite.specs.Term.{Term, lit, col}
-use Rattle.sqlite.specs.Command.TheVariants.{Select}
-use Rattle.sqlite.specs.Effect.{Database, Reads as Shows}
-use Rattle.sql_calls.specs.Keyed.{rows_from}
-use Rattle.sql_calls.proofs.Finding.{ShowsFirst}
-use Rattle.sql_calls.proofs.KeyedRows.{on_content}
-use Rattle.sql_calls.proofs.Selects.{simple, passes, shown_of}
-use Rattle.rollout_model.specs.declared.group_rule.GroupRule.{GroupRule}
-use Rattle.rollout_machine.specs.ByteStrings.{item_numbered}
-use Rattle.rollout_machine.specs.Commands.{Bytes}
-use Rattle.rollout_machine.specs.Groups.{holds_position}
+use Rattle.desk_records.proofs.Common.{list_any, is_some, take-map, nat_tests, Null, Int, Text, Row, Term, lit, col, Select, Database, rows_from, ShowsFirst, on_content, simple, passes, shown_of, GroupRule, item_numbered, Bytes, holds_position, GroupRecord, RolloutRecord, IsLastRow, Rollouts, Groups, Members, Rules, parts_of, is_called, rollout_row, told_rollout, group_row, told_group, numbered_from, groups_of, member_row, members_of, rule_numbered, rules_numbered, that_reach, told_rule, HoldsLedger, Ledger}
+use Rattle.sqlite.specs.Effect.{Reads as Shows}
 use Rattle.rollout_machine.specs.StateWords.{group_numbered, group_holding}
-use Rattle.rollout_machine.specs.declared.records.GroupRecord.{GroupRecord}
-use Rattle.rollout_machine.specs.declared.records.RolloutRecord.{RolloutRecord}
-use Rattle.desk_records.specs.Modules.{IsLastRow}
-use Rattle.desk_records.specs.Schema.{Rollouts, Groups, Members, Rules}
-use Rattle.desk_records.specs.Parts.{parts_of}
-use Rattle.desk_records.specs.Rollouts.{is_called, rollout_row, told_rollout, group_row, told_group, numbered_from, groups_of, member_row, members_of, rule_numbered, rules_numbered, that_reach, told_rule}
-use Rattle.desk_records.specs.Holds.{HoldsLedger, Ledger}
 use Rattle.desk_records.proofs.Comparisons.{and_true, numbers_above, numbers_equal, numbers_at_least, numbers_at_most, words_equal}
 use Rattle.desk_records.proofs.MeaningWords.{at_key}
 use Rattle.desk_records.proofs.RolloutMeaning.{same_name, last_rollout_query, rollout_columns, list_rollouts_query, of_rollout, group_columns, list_groups_query, of_group, get_group_query, holding, holding_group_query, reaching, group_and_next_query, after_place, list_members_query, list_rules_query, member_columns, rule_columns}

@@ -1,27 +1,7 @@
 -- What LAST_ROLLOUT shows, whatever rows the table of rollouts has.
 use Rattle.std.proofs.Common.{◌≡◌, ◌≤◌, inl, inr, ℕ, pos, true, false, List, [], ◌∷◌, map, filter, get_or, take, Option, Some, None, true≢false, refl, sym, ap, subst, ◌∙◌, arith, Ordering, Less, Equal, Greater, int_cmp, is_eq, IsPermutation}
-use Rattle.std.specs.Ordering.{is_lt, ordering_reverse}
-use Rattle.std.proofs.lemmas.Int.{ints}
-use Rattle.std.proofs.lemmas.Bool.Decides.{nat_tests}
-use Rattle.std.proofs.lemmas.List.Sorted.{IsPermutation-sym, ranks_by, sorted_far}
-use Rattle.sqlite_value.specs.declared.value.Value.{Value}
-use Rattle.sqlite_value.specs.declared.value.Value.TheVariants.{Null, Int}
-use Rattle.sqlite_value.specs.Order.{Row, column, value_cmp}
-use Rattle.sqlite_value.proofs.OrderLemmas.{value_cmp-Int, value_cmp_total, then-Equal}
-use Rattle.sqlite_trees.specs.Tree.{rowid}
-use Rattle.sqlite.specs.Command.TheVariants.{Select}
-use Rattle.sqlite.specs.Effect.{Database, Reads as Shows}
-use Rattle.sqlite.specs.Query.{Query, Output, output_cmp}
-use Rattle.sqlite.specs.Term.{col}
-use Rattle.sqlite_sql.proofs.QueryLemmas.{output_cmp_total}
-use Rattle.sqlite_rules.specs.Lists.{Has}
-use Rattle.sqlite_rules.proofs.ListLemmas.{contains_had}
-use Rattle.sql_calls.proofs.Finding.{ShowsFirst}
-use Rattle.sql_calls.proofs.Selects.{IsOrdered, ordered_rows, passes, shown_in}
-use Rattle.desk_records.specs.Listings.{IsLast}
-use Rattle.desk_records.specs.Modules.{IsLastRow}
-use Rattle.desk_records.specs.Schema.{Rollouts}
-use Rattle.desk_records.specs.Tables.{HoldsTables, Tables}
+use Rattle.desk_records.proofs.Common.{is_lt, ordering_reverse, ints, nat_tests, IsPermutation-sym, ranks_by, sorted_far, Value, Null, Int, Row, column, value_cmp, value_cmp-Int, value_cmp_total, then-Equal, rowid, Select, Database, Query, Output, output_cmp, col, output_cmp_total, Has, contains_had, ShowsFirst, IsOrdered, ordered_rows, passes, shown_in, IsLast, IsLastRow, Rollouts, HoldsTables, Tables}
+use Rattle.sqlite.specs.Effect.{Reads as Shows}
 use Rattle.desk_records.proofs.Membership.{has_mapped, has_permuted, map_has}
 use Rattle.desk_records.proofs.NumberColumns.{has_own_number}
 use Rattle.desk_records.proofs.RolloutMeaning.{last_rollout_query}

@@ -1,23 +1,12 @@
 -- A column that is not read breaks its rule.
 use Rattle.std.proofs.Common.{◌≡◌, ◌≢◌, ◌⊎◌, inl, inr, ◌<◌, ℕ, Bool, false, List, refl, ap, ◌∙◌, length, arith, nat_lt}
-use Rattle.std.specs.Str.{IsUtf8, is_utf8}
-use Rattle.std.proofs.lemmas.Bool.{cases_Bool, and_parts}
-use Rattle.std.proofs.lemmas.Str.{IsUtf8-from_is_utf8}
-use Rattle.std.proofs.lemmas.Bool.Decides.{nat_tests}
-use Rattle.std.proofs.lemmas.List.{get_or_past}
-use Rattle.sqlite_value.specs.declared.value.Value.{Value}
-use Rattle.sqlite_value.specs.declared.value.Value.TheVariants.{Null, Int, Real, Text, Blob}
-use Rattle.sqlite_value.specs.Order.{Row, column}
+use Rattle.desk_records.proofs.Common.{IsUtf8, is_utf8, cases_Bool, and_parts, IsUtf8-from_is_utf8, nat_tests, get_or_past, Value, Null, Int, Real, Text, Blob, Row, column, is_text, is_value, has_text, fault_at, has_value, has_filter}
 use Rattle.sqlite.specs.declared.error.Error.{Error}
 use Rattle.sqlite.specs.declared.error.Error.TheVariants.{SqliteFailure}
 use Rattle.sqlite.specs.declared.error.ErrorCode.{ErrorCode}
 use Rattle.sqlite.specs.declared.error.ErrorCode.TheVariants.{OutOfMemory}
-use Rattle.rollout_model.specs.Rules.{is_text, is_value}
 use Rattle.desk_records.specs.declared.module_row.Column.{Column}
 use Rattle.desk_records.specs.declared.module_row.RowFault.TheVariants.{Memory, Broken}
-use Rattle.desk_records.specs.ModuleRow.{has_text, fault_at}
-use Rattle.desk_records.specs.TargetRow.{has_value}
-use Rattle.desk_records.specs.RolloutRow.{has_filter}
 
 unread_text : (t : List ℕ) → ((s : List ℕ) × (Text t ≡ Text s) × IsUtf8 s → ⊥) → is_text t ≡ false
 unread_text t h = elim (cases_Bool (is_text t)) [

@@ -1,13 +1,6 @@
 -- What GET_RULE shows, whatever rows the table of what is said of groups has.
 use Rattle.std.proofs.Common.{◌≡◌, ℕ, pos, [], ◌∷◌, refl}
-use Rattle.sqlite_value.specs.declared.value.Value.TheVariants.{Int}
-use Rattle.sqlite_value.specs.Order.{Row}
-use Rattle.sqlite.specs.Effect.{Database}
-use Rattle.sqlite_rules.specs.Lists.{Has}
-use Rattle.sql_calls.proofs.Selects.{passes}
-use Rattle.desk_records.specs.FoundPieces.{lies_at}
-use Rattle.desk_records.specs.Schema.{Rules}
-use Rattle.desk_records.specs.Tables.{HoldsTables, Tables}
+use Rattle.desk_records.proofs.Common.{Int, Row, Database, Has, passes, lies_at, Rules, HoldsTables, Tables}
 use Rattle.desk_records.proofs.RolloutMeaning.{of_group}
 use Rattle.desk_records.proofs.TableColumns.{passes_part}
 

@@ -1,27 +1,7 @@
 -- The statements on distribution sets, in records.
 use Rattle.std.proofs.Common.{◌≡◌, ◌≤◌, ◌++◌, ℕ, ◌+◌, pos, List, [], ◌∷◌, length, Option, None, option_map, refl, sym, ap, subst, ◌∙◌}
-use Rattle.std.specs.List.{list_any}
-use Rattle.std.specs.Option.{is_some}
-use Rattle.sqlite_value.specs.declared.value.Value.TheVariants.{Int}
-use Rattle.sqlite_value.specs.Order.{Row}
-use Rattle.sqlite.specs.Term.{col}
-use Rattle.sqlite.specs.Command.TheVariants.{Select, Insert}
-use Rattle.sqlite.specs.Source.TheVariants.{Values}
-use Rattle.sqlite.specs.Effect.{Database, Reads as Shows}
-use Rattle.sqlite.specs.State.{State, Writes}
-use Rattle.sql_calls.specs.Keyed.{rows_from, IsHeldBy}
-use Rattle.sql_calls.proofs.Finding.{ShowsFirst}
-use Rattle.sql_calls.proofs.Selects.{simple}
-use Rattle.sql_calls.proofs.Inserts.{inserts}
-use Rattle.rollout_machine.specs.Commands.{Bytes, SetLabel}
-use Rattle.rollout_machine.specs.ByteStrings.{item_numbered}
-use Rattle.rollout_machine.specs.Objects.{modules_of_set}
-use Rattle.rollout_machine.specs.Records.{Records}
-use Rattle.rollout_machine.specs.Verdicts.{is_named_by_set}
-use Rattle.desk_records.specs.Modules.{IsLastRow}
-use Rattle.desk_records.specs.Schema.{Sets, SetModules, set_table, set_module_table}
-use Rattle.desk_records.specs.Sets.{set_row, place_row, places_from, is_same_set, names_of, module_rows, with_set, and_module, AddsSetModule}
-use Rattle.desk_records.specs.Holds.{HoldsRecords, ledger_of, Ordered, Unordered}
+use Rattle.desk_records.proofs.Common.{list_any, is_some, Int, Row, col, Select, Insert, Values, Database, State, Writes, rows_from, IsHeldBy, ShowsFirst, simple, inserts, Bytes, SetLabel, item_numbered, modules_of_set, Records, is_named_by_set, IsLastRow, Sets, SetModules, set_table, set_module_table, set_row, place_row, places_from, is_same_set, names_of, module_rows, with_set, and_module, AddsSetModule, HoldsRecords, ledger_of, Ordered, Unordered}
+use Rattle.sqlite.specs.Effect.{Reads as Shows}
 use Rattle.desk_records.proofs.HoldsAfter.{ChangesOnly, holds_after, records_differ}
 use Rattle.desk_records.proofs.MeaningWords.{at_key}
 use Rattle.desk_records.proofs.SetMeaning.{same_names, last_set_query, name_columns, set_terms, set_modules_query, locked_query, set_module_terms}

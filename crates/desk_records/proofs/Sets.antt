@@ -1,39 +1,8 @@
 -- The statements on distribution sets, in lists of them.
 use Rattle.std.proofs.Common.{◌≡◌, ◌≤◌, ◌<◌, ◌==◌, ◌||◌, ◌++◌, ℕ, zero, suc, ◌+◌, pos, List, [], ◌∷◌, map, filter, take, length, slice_get, Bool, true, not, Option, Some, None, option_map, refl, sym, ap, ap₂, subst, ◌∙◌, arith, IsPermutation, Less, nat_eq}
-use Rattle.std.specs.List.{list_any, AllByRecursion}
-use Rattle.std.specs.Option.{is_some}
-use Rattle.std.proofs.lemmas.Int.{ints}
-use Rattle.std.proofs.lemmas.Bool.Decides.{nat_tests}
-use Rattle.std.proofs.lemmas.List.{length-map}
-use Rattle.std.proofs.lemmas.List.Folds.{list_any-append}
-use Rattle.std.proofs.lemmas.List.Sorted.{IsPermutation-trans, length_permutation}
-use Rattle.sqlite_value.specs.declared.value.Value.TheVariants.{Null, Int}
-use Rattle.sqlite_value.specs.Order.{Row, value_cmp}
-use Rattle.sqlite_value.proofs.OrderLemmas.{value_cmp-Int}
-use Rattle.sqlite_trees.specs.Tree.{IsAscending, put_row}
-use Rattle.sqlite_rules.specs.Edit.{next_rowid}
+use Rattle.desk_records.proofs.Common.{list_any, AllByRecursion, is_some, ints, nat_tests, length-map, list_any-append, IsPermutation-trans, length_permutation, Null, Int, Row, value_cmp, value_cmp-Int, IsAscending, put_row, next_rowid, output_cmp_total, col, Query, Output, output_cmp, Select, Schema, Database, sorted_unique, rows_from, IsHeldBy, ShowsFirst, simple, passes, shown_in, ordered_rows, Inserted, given_rows, put_next, cast_int, cast_null, has_number, on_content, held_seen, Bytes, SetLabel, same_bytes, item_numbered, modules_of_set, is_named_by_set, IsLastRow, set_table, set_module_table, set_row, place_row, places_from, is_same_set, names_of, module_rows, set_named, and_module}
 use Rattle.sqlite_sql.specs.Ops.{binary}
-use Rattle.sqlite_sql.proofs.QueryLemmas.{output_cmp_total}
-use Rattle.sqlite.specs.Term.{col}
-use Rattle.sqlite.specs.Query.{Query, Output, output_cmp}
-use Rattle.sqlite.specs.Command.TheVariants.{Select}
-use Rattle.sqlite.specs.Schema.{Schema}
-use Rattle.sqlite.specs.Effect.{Database, Reads as Shows}
-use Rattle.sqlite_keyed.proofs.SortLemmas.{sorted_unique}
-use Rattle.sql_calls.specs.Keyed.{rows_from, IsHeldBy}
-use Rattle.sql_calls.proofs.Finding.{ShowsFirst}
-use Rattle.sql_calls.proofs.Selects.{simple, passes, shown_in, ordered_rows}
-use Rattle.sql_calls.proofs.Inserts.{Inserted, given_rows}
-use Rattle.sql_calls.proofs.NumberedRows.{put_next, cast_int, cast_null}
-use Rattle.sql_calls.proofs.NumberedTables.{has_number}
-use Rattle.sql_calls.proofs.KeyedRows.{on_content, held_seen}
-use Rattle.rollout_machine.specs.Commands.{Bytes, SetLabel}
-use Rattle.rollout_machine.specs.ByteStrings.{same_bytes, item_numbered}
-use Rattle.rollout_machine.specs.Objects.{modules_of_set}
-use Rattle.rollout_machine.specs.Verdicts.{is_named_by_set}
-use Rattle.desk_records.specs.Modules.{IsLastRow}
-use Rattle.desk_records.specs.Schema.{set_table, set_module_table}
-use Rattle.desk_records.specs.Sets.{set_row, place_row, places_from, is_same_set, names_of, module_rows, set_named, and_module}
+use Rattle.sqlite.specs.Effect.{Reads as Shows}
 use Rattle.desk_records.proofs.MeaningWords.{at_key}
 use Rattle.desk_records.proofs.SetMeaning.{same_names, last_set_query, name_columns, set_terms, set_modules_query, locked_query, set_module_terms}
 use Rattle.desk_records.proofs.Comparisons.{judged, words_equal, numbers_equal, and_true}

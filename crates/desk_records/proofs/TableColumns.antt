@@ -1,24 +1,10 @@
 -- The columns of the tables of a desk are of their kinds, in each sound database.
 use Rattle.std.proofs.Common.{◌≡◌, ◌||◌, ℕ, zero, suc, ◌+◌, ℤ, Bool, true, false, not, pos, List, [], ◌∷◌, drop, slice_get, Option, Some, true≢false, refl, sym, ap, subst, ◌∙◌, arith, if◌then◌else◌}
-use Rattle.std.proofs.lemmas.Bool.{and_parts}
-use Rattle.sqlite_value.specs.declared.value.Value.{Value}
-use Rattle.sqlite_value.specs.declared.value.Value.TheVariants.{Null, Int, Real, Text, Blob}
-use Rattle.sqlite_value.specs.Order.{Row, column}
-use Rattle.sqlite_sql.specs.Ops.{is_null}
+use Rattle.desk_records.proofs.Common.{and_parts, Value, Null, Int, Real, Text, Blob, Row, column, is_null, is_of, suits, are_typed, are_present, Has, all_has, all-slice_get, Database, passes, lies_at, has_at, Place, table_at, table_by, HoldsTables, Tables}
 use Rattle.sqlite_schema.specs.declared.schema.Kind.TheVariants as kind
 use Rattle.sqlite_schema.specs.declared.schema.Column.{Column}
 use Rattle.sqlite_schema.specs.declared.schema.Constraint.TheVariants.{Datatype, NotNull}
 use Rattle.sqlite_schema.specs.Names.{is_key}
-use Rattle.sqlite_schema.specs.Rules.{is_of, suits, are_typed, are_present}
-use Rattle.sqlite_rules.specs.Lists.{Has}
-use Rattle.sqlite_rules.proofs.ListLemmas.{all_has}
-use Rattle.sqlite_keyed.proofs.ListLemmas.{all-slice_get}
-use Rattle.sqlite.specs.Effect.{Database}
-use Rattle.sql_calls.proofs.Selects.{passes}
-use Rattle.desk_records.specs.FoundPieces.{lies_at}
-use Rattle.desk_records.specs.Listings.{has_at}
-use Rattle.desk_records.specs.Schema.{Place, table_at, table_by}
-use Rattle.desk_records.specs.Tables.{HoldsTables, Tables}
 use Rattle.desk_records.proofs.MeaningWords.{at_key}
 use Rattle.desk_records.proofs.NumberColumns.{passes_first, passes_two}
 use Rattle.desk_records.proofs.PlacedParts.{at_part}

@@ -1,41 +1,10 @@
 -- The statements on targets and their tags, in records.
 use Rattle.std.proofs.Common.{◌≡◌, ◌∷◌, ◌&&◌, ℕ, min, pos, negsuc, List, [], Bool, true, false, cond, not, map, filter, take, drop, flat_map, length, slice_get, Option, Some, None, option_map, refl, sym, ap, ap₂, subst, ◌∙◌, codes, IsPermutation}
-use Rattle.std.specs.List.{list_all}
-use Rattle.std.proofs.lemmas.Bool.{and_parts}
-use Rattle.std.proofs.lemmas.List.{length-map, take-map, drop-map}
-use Rattle.std.proofs.lemmas.List.Sorted.{IsPermutation-map, IsPermutation-trans}
-use Rattle.sqlite_value.specs.declared.value.Value.TheVariants.{Null, Int, Text, Blob}
-use Rattle.sqlite_value.specs.Order.{Row}
-use Rattle.sqlite_value.specs.Keys.{plain, first_key}
-use Rattle.sqlite_schema.specs.Rules.{agree}
-use Rattle.sqlite_keyed.proofs.ListLemmas.{filter_all, all_of, map-map}
-use Rattle.sqlite_rules.specs.Cast.{cast_all}
+use Rattle.desk_records.proofs.Common.{list_all, and_parts, length-map, take-map, drop-map, IsPermutation-map, IsPermutation-trans, Null, Int, Text, Blob, Row, plain, agree, filter_all, all_of, map-map, cast_all, lit, col, Command, Select, Insert, Update, Delete, Values, Database, State, Writes, IsHeldBy, Rise, strict, ShowsFirst, inserts, on_content, changed, keys_apart, are_whole, reads_key, changes_key, drops, adds_row, reads_risen, simple, passes, shown_of, updates, deletes, same_bytes, with_word, without_word, Bytes, TargetRow, change_target, Records, Target, tags_of, target_of, Targets, TargetTags, TargetAttributes, target_table, target_tag_table, target_row, tag_rows, attribute_rows, in_byte_order, ids_of, keys_of, is_sorted, renamed, tagged, untagged, with_target, with_changed, AddsTarget, AddsTag, HoldsRecords, IsHeld, ledger_of, Unordered}
+use Rattle.sqlite_value.specs.Keys.{first_key}
 use Rattle.sqlite.specs.Kind.TheVariants as kind
-use Rattle.sqlite.specs.Term.{lit, col}
-use Rattle.sqlite.specs.Command.{Command}
-use Rattle.sqlite.specs.Command.TheVariants.{Select, Insert, Update, Delete}
-use Rattle.sqlite.specs.Source.TheVariants.{Values}
-use Rattle.sqlite.specs.Effect.{Database, Reads as Shows}
-use Rattle.sqlite.specs.State.{State, Writes}
-use Rattle.sql_calls.specs.Keyed.{IsHeldBy, Rise}
-use Rattle.sql_calls.specs.Tables.{strict}
-use Rattle.sql_calls.proofs.Finding.{ShowsFirst}
+use Rattle.sqlite.specs.Effect.{Reads as Shows}
 use Rattle.sql_calls.proofs.Counts.{count_query, count_rows, length_held}
-use Rattle.sql_calls.proofs.Inserts.{inserts}
-use Rattle.sql_calls.proofs.KeyedRows.{on_content, changed}
-use Rattle.sql_calls.proofs.KeyedTables.{keys_apart, are_whole, reads_key, changes_key, drops, adds_row}
-use Rattle.sql_calls.proofs.KeyedOrder.{reads_risen}
-use Rattle.sql_calls.proofs.Selects.{simple, passes, shown_of}
-use Rattle.sql_calls.proofs.Updates.{updates, deletes}
-use Rattle.rollout_machine.specs.ByteStrings.{same_bytes, with_word, without_word}
-use Rattle.rollout_machine.specs.Commands.{Bytes, TargetRow}
-use Rattle.rollout_machine.specs.RecordSteps.{change_target}
-use Rattle.rollout_machine.specs.Records.{Records}
-use Rattle.rollout_machine.specs.Targets.{Target}
-use Rattle.rollout_machine.specs.Verdicts.{tags_of, target_of}
-use Rattle.desk_records.specs.Schema.{Targets, TargetTags, TargetAttributes, target_table, target_tag_table}
-use Rattle.desk_records.specs.Targets.{target_row, tag_rows, attribute_rows, in_byte_order, ids_of, keys_of, is_sorted, renamed, tagged, untagged, with_target, with_changed, AddsTarget, AddsTag}
-use Rattle.desk_records.specs.Holds.{HoldsRecords, IsHeld, ledger_of, Unordered}
 use Rattle.desk_records.proofs.HoldsAfter.{ChangesOnly, holds_after, records_differ}
 use Rattle.desk_records.proofs.TargetMeaning.{of_target, target_columns, target_terms, new_values, set_target_query, targets_query, tags_query, tag_terms, of_tag, drop_tag_query}
 use Rattle.desk_records.proofs.Comparisons.{words_equal, and_true}

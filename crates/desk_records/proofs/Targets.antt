@@ -1,22 +1,6 @@
 -- Targets and their rows, in lists alone.
 use Rattle.std.proofs.Common.{◌≡◌, ◌++◌, Bool, true, false, cond, not, ◌&&◌, List, [], ◌∷◌, map, filter, slice_get, Option, Some, None, option_map, refl, sym, ap, ap₂, ◌∙◌, subst, IsPermutation, flat_map, find}
-use Rattle.std.specs.List.{list_all, AllByRecursion}
-use Rattle.std.specs.Ordering.{is_gt}
-use Rattle.std.specs.Option.{is_some}
-use Rattle.std.proofs.lemmas.Bool.{and_parts, or_parts, false≢true}
-use Rattle.std.proofs.lemmas.List.Elements.{filter-append}
-use Rattle.std.proofs.lemmas.List.Sorted.{IsPermutation-refl, IsPermutation-trans, IsPermutation-cons, IsPermutation-middle, IsPermutation-map, IsPermutation-append_left, IsPermutation-append_right}
-use Rattle.sqlite_value.specs.declared.value.Value.TheVariants.{Text}
-use Rattle.sqlite_value.specs.Order.{Row}
-use Rattle.sql_calls.specs.Keyed.{by_column, Rise}
-use Rattle.rollout_machine.specs.ByteStrings.{same_bytes, bytes_below, contains_word, with_word, without_word}
-use Rattle.rollout_machine.specs.Commands.{Bytes, TargetRow}
-use Rattle.rollout_machine.specs.RecordSteps.{new_target, put_target, change_target}
-use Rattle.rollout_machine.specs.Targets.{Target}
-use Rattle.rollout_machine.specs.Verdicts.{tags_of}
-use Rattle.rollout_machine.proofs.Imports.{AllAbove, IsSorted, not_above}
-use Rattle.rollout_machine.proofs.TargetTies.{same_sym, same_true}
-use Rattle.desk_records.specs.Targets.{target_row, tag_rows, in_byte_order, ids_of, is_sorted, are_sorted, tagged, untagged}
+use Rattle.desk_records.proofs.Common.{list_all, AllByRecursion, is_gt, is_some, and_parts, or_parts, false≢true, filter-append, IsPermutation-refl, IsPermutation-trans, IsPermutation-cons, IsPermutation-middle, IsPermutation-map, IsPermutation-append_left, IsPermutation-append_right, Text, Row, by_column, Rise, same_bytes, bytes_below, contains_word, with_word, without_word, Bytes, TargetRow, new_target, put_target, change_target, Target, tags_of, AllAbove, IsSorted, not_above, same_sym, same_true, target_row, tag_rows, in_byte_order, ids_of, is_sorted, are_sorted, tagged, untagged}
 use Rattle.desk_records.proofs.ByteOrder.{below_rises, in_order_with, with_is_more}
 
 -- ---- the target of an id

@@ -1,17 +1,7 @@
 -- What columns with a text say of it.
 use Rattle.std.proofs.Common.{◌≡◌, [], ◌∷◌, ℕ, true, true≢false, refl, sym, ap, ◌∙◌}
-use Rattle.sqlite_value.specs.declared.value.Value.{Value}
-use Rattle.sqlite_value.specs.declared.value.Value.TheVariants.{Null, Int, Real, Text, Blob}
-use Rattle.sqlite_value.specs.Order.{Row, column}
-use Rattle.sqlite_value.proofs.OrderLemmas.{value_cmp-apart}
-use Rattle.sqlite_sql.specs.Ops.{binary, is_true}
-use Rattle.sqlite_sql.specs.declared.ops.BinaryOp.TheVariants.{Compare}
-use Rattle.sqlite_sql.specs.declared.ops.CompareOp.TheVariants.{Eq}
-use Rattle.sqlite.specs.Collation.TheVariants.{Binary}
-use Rattle.sql_calls.proofs.Selects.{passes}
-use Rattle.rollout_machine.specs.Commands.{Bytes}
-use Rattle.rollout_machine.proofs.TargetTies.{same_true}
-use Rattle.desk_records.specs.Listings.{has_text_at, is_text_of}
+use Rattle.desk_records.proofs.Common.{Value, Null, Int, Real, Text, Blob, Row, column, value_cmp-apart, is_true, Compare, Eq, Binary, passes, Bytes, same_true, has_text_at, is_text_of}
+use Rattle.sqlite_sql.specs.Ops.{binary}
 use Rattle.desk_records.proofs.Comparisons.{and_true, words_equal}
 use Rattle.desk_records.proofs.MeaningWords.{at_key}
 

@@ -1,19 +1,14 @@
 -- What the artifacts of a list of accepted commands have: the size and the digest of their contents, and columns that keep their rules.
 use Rattle.std.proofs.Common.{◌≡◌, ◌≤◌, ◌++◌, ◌&&◌, ℕ, zero, suc, ◌*◌, ◌/◌, ◌%◌, ◌^◌, true, List, [], ◌∷◌, length, All, refl, ap, arith, nat_le, length-append}
-use Rattle.std.specs.List.{list_all}
+use Rattle.desk_records.proofs.Common.{list_all, and_parts, le-leb, nat_tests, All-append, All-cons, All-nil, artifact_size_limit, is_byte, is_digest, is_filename, is_number, AddArtifact, ArtifactRecord, added_artifacts, artifacts}
 use Rattle.std.specs.Int.{bytes_high_first}
 use Rattle.std.specs.Prelude.{slice_index}
-use Rattle.std.proofs.lemmas.Bool.{and_parts, le-leb}
-use Rattle.std.proofs.lemmas.Bool.Decides.{nat_tests}
-use Rattle.std.proofs.lemmas.List.Elements.{All-append, All-cons, All-nil}
 use Rattle.sha2.specs.Sha256.{digest_bytes, sha256}
-use Rattle.rollout_model.specs.Limits.{artifact_size_limit}
-use Rattle.rollout_model.specs.Rules.{is_byte, is_digest, is_filename, is_number}
 use Rattle.rollout_machine.specs.CommandList.{CommandList, Make, ◌▸◌}
 use Rattle.rollout_machine.specs.CommandRules.{IsWellFormed, is_digest_or_none}
-use Rattle.rollout_machine.specs.Commands.{Command, AddArtifact}
+use Rattle.rollout_machine.specs.Commands.{Command}
 use Rattle.rollout_machine.specs.Digests.{digest_of}
-use Rattle.rollout_machine.specs.Records.{ArtifactRecord, added_artifacts, artifacts, records}
+use Rattle.rollout_machine.specs.Records.{records}
 use Rattle.rollout_machine.specs.Validity.{IsValid}
 
 -- ---- size and digest

@@ -1,41 +1,9 @@
 -- The calls on actions and offers.
 use Rattle.std.proofs.Common.{◌≡◌, ◌≤◌, ℕ, zero, suc, pos, take, drop, Bool, true, List, [], ◌∷◌, length, Option, Some, None, Ok, Err, Result, IfOk, option_map, Vec, vec_items, refl, sym, ap, subst, map, slice_get, ◌∙◌, codes}
-use Rattle.std.specs.List.{list_all, zip}
-use Rattle.std.specs.declared.alloc.Global.{Global}
-use Rattle.sqlite_value.specs.declared.value.Value.TheVariants.{Int, Text}
-use Rattle.sqlite_value.specs.Order.{Row}
-use Rattle.sqlite.specs.Command.TheVariants.{Select}
-use Rattle.sqlite.specs.Effect.{Database, Reads as Shows}
-use Rattle.sqlite.specs.State.{State}
-use Rattle.sql_calls.specs.declared.fault.Fault.{Fault}
-use Rattle.sql_calls.specs.Calls.{AsksText, TakesFirst}
-use Rattle.sql_calls.specs.Standing.{Finds}
-use Rattle.sql_calls.specs.Means.{Knows}
-use Rattle.sql_calls.proofs.Finding.{ShowsFirst}
-use Rattle.sql_calls.proofs.Selects.{simple}
-use Rattle.sql_calls.proofs.Finding.{ask_finds, first_finds}
-use Rattle.std.proofs.lemmas.Bool.{and_parts}
-use Rattle.std.proofs.lemmas.Option.{slice_get-map}
+use Rattle.desk_store.proofs.Common.{list_all, zip, Global, Int, Text, Row, Select, Database, State, Fault, AsksText, TakesFirst, Finds, Knows, ShowsFirst, simple, ask_finds, first_finds, and_parts, slice_get-map, HistoryEntry, item_numbered, Bytes, Offer, LAST_ACTION, GET_ACTION, LIST_ACTIONS, LIST_TARGET_ACTIONS, LIST_ENTRIES, GET_OFFER, ListedAction, StoredAction, history_of, told_entry, IsEntryRow, keeps_details, HoldsLedger, Ledger, IsLastRow, IsActionRow, IsListedActionRow, IsOfferRow, actions_for, actions_of, stored_action, Actions, Feedbacks, Offers, HoldsTables, at_key, last_action_query, action_columns, action_names, listed_names, list_actions_query, list_target_actions_query, list_entries_query, entry_names, of_controller, offer_columns, last_action_is, get_action_is, list_actions_is, list_target_actions_is, list_entries_is, get_offer_is, shown_action, told_listed, lasts_action, gets_action, lists_actions, lists_target_actions, told_offer, gets_offer, AreReadAs, IsReadAs}
+use Rattle.sqlite.specs.Effect.{Reads as Shows}
 use Rattle.sqlite_keyed.proofs.ListLemmas.{first_taken}
-use Rattle.rollout_machine.specs.Reports.{HistoryEntry}
-use Rattle.rollout_machine.specs.ByteStrings.{item_numbered}
-use Rattle.rollout_machine.specs.Commands.{Bytes}
-use Rattle.rollout_model.specs.declared.rollout.Offer.{Offer}
-use Rattle.desk_records.specs.declared.action_texts.TheConstants.{LAST_ACTION, GET_ACTION, LIST_ACTIONS, LIST_TARGET_ACTIONS, LIST_ENTRIES, GET_OFFER}
-use Rattle.desk_records.specs.declared.rollout_row.ListedAction.{ListedAction}
-use Rattle.desk_records.specs.declared.rollout_row.StoredAction.{StoredAction}
-use Rattle.desk_records.specs.Actions.{history_of, told_entry}
-use Rattle.desk_records.specs.EntryRow.{IsEntryRow, keeps_details}
-use Rattle.desk_records.specs.Holds.{HoldsLedger, Ledger}
-use Rattle.desk_records.specs.Modules.{IsLastRow}
-use Rattle.desk_records.specs.RolloutRow.{IsActionRow, IsListedActionRow, IsOfferRow, actions_for, actions_of, stored_action}
-use Rattle.desk_records.specs.Schema.{Actions, Feedbacks, Offers}
-use Rattle.desk_records.specs.Tables.{HoldsTables}
-use Rattle.desk_records.proofs.MeaningWords.{at_key}
-use Rattle.desk_records.proofs.ActionMeaning.{last_action_query, action_columns, action_names, listed_names, list_actions_query, list_target_actions_query, list_entries_query, entry_names, of_controller, offer_columns, last_action_is, get_action_is, list_actions_is, list_target_actions_is, list_entries_is, get_offer_is}
-use Rattle.desk_records.proofs.ActionRecords.{shown_action, told_listed, lasts_action, gets_action, lists_actions, lists_target_actions, told_offer, gets_offer}
 use Rattle.desk_records.proofs.EntryRecords.{lists_entries, told_part}
-use Rattle.desk_store.specs.Rows.{AreReadAs, IsReadAs}
 use Rattle.desk_store.proofs.Known.{in_ledgers, tables_know}
 use Rattle.desk_store.proofs.LedgerReads.{both_mapped, one_action, one_entry, one_listed, one_offer, same_entries}
 use Rattle.desk_store.proofs.ModuleCalls.{one_last}

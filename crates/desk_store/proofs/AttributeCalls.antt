@@ -1,29 +1,9 @@
 -- The calls on attributes of targets.
 use Rattle.std.proofs.Common.{◌≡◌, List, [], ◌∷◌, Ok, Result, IfOk, Vec, refl, codes}
-use Rattle.std.specs.declared.alloc.Global.{Global}
-use Rattle.sqlite_value.specs.declared.value.Value.TheVariants.{Text}
-use Rattle.sqlite_value.specs.Order.{Row}
-use Rattle.sqlite.specs.Command.TheVariants.{Select, Insert, Update}
-use Rattle.sqlite.specs.Source.TheVariants.{Values}
-use Rattle.sqlite.specs.State.{State}
-use Rattle.sql_calls.specs.declared.fault.Fault.{Fault}
-use Rattle.sql_calls.specs.Calls.{RunsText, AsksText}
-use Rattle.sql_calls.specs.Standing.{Finds, Makes}
-use Rattle.sql_calls.specs.Means.{Knows, KnowsWrite}
-use Rattle.sql_calls.proofs.Finding.{run_makes}
-use Rattle.rollout_machine.specs.Commands.{Bytes, Attribute}
-use Rattle.rollout_machine.specs.Records.{Records}
-use Rattle.rollout_machine.specs.Verdicts.{target_of}
-use Rattle.desk_records.specs.declared.target_texts.TheConstants.{LIST_TARGET_ATTRIBUTES, PUT_TARGET_ATTRIBUTE, SET_TARGET_ATTRIBUTE}
-use Rattle.desk_records.specs.Schema.{TargetAttributes}
-use Rattle.desk_records.specs.Holds.{HoldsLedger, ledger_of}
-use Rattle.desk_records.specs.TargetRow.{IsAttributeRow}
+use Rattle.desk_store.proofs.Common.{Global, Text, Row, Select, Insert, Update, Values, State, Fault, RunsText, AsksText, Finds, Makes, Knows, KnowsWrite, run_makes, Bytes, Attribute, Records, target_of, LIST_TARGET_ATTRIBUTES, PUT_TARGET_ATTRIBUTE, SET_TARGET_ATTRIBUTE, TargetAttributes, HoldsLedger, ledger_of, IsAttributeRow, HoldsTables, attribute_row, AreReadAs}
 use Rattle.desk_records.specs.Targets.{attributes_of, AddsAttribute, SetsAttribute}
-use Rattle.desk_records.specs.Tables.{HoldsTables}
-use Rattle.desk_records.proofs.Attributes.{attribute_row}
 use Rattle.desk_records.proofs.TargetMeaning.{attributes_query, attribute_terms, set_attribute_query, list_target_attributes_is, put_target_attribute_is, set_target_attribute_is}
 use Rattle.desk_records.proofs.AttributeRecords.{lists_target_attributes, adds_attribute, sets_attribute}
-use Rattle.desk_store.specs.Rows.{AreReadAs}
 use Rattle.desk_store.proofs.ReadLemmas.{asks_all}
 use Rattle.desk_store.proofs.Known.{ledger_writes, tables_know}
 

@@ -1,14 +1,6 @@
 -- What a failed store is blamed on, by what was read before.
 use Rattle.std.proofs.Common.{◌≤◌, inr, Ok, Err, Result, IfErr, arith}
-use Rattle.sqlite.specs.Store.{Ghosts}
-use Rattle.sql_calls.specs.declared.fault.Fault.{Fault}
-use Rattle.sql_calls.specs.declared.fault.Fault.TheVariants.{Memory, Store}
-use Rattle.desk_records.specs.Tables.{Tables}
-use Rattle.desk_store.specs.Blaming.{BlamesGiven}
-use Rattle.desk_store.specs.Changing.{FindsTables}
-use Rattle.desk_store.specs.Rows.{IfStore}
-use Rattle.desk_store.specs.Unreadable.{IsUnreadable}
-use Rattle.desk_store.specs.declared.change.OpenChange.{OpenChange}
+use Rattle.desk_store.proofs.Common.{Ghosts, Fault, Memory, Store, Tables, BlamesGiven, FindsTables, IfStore, IsUnreadable, OpenChange}
 
 -- where no call failed: on what was found
 pub blamed : {S A B : Type 0} {g : Ghosts S} {Given : Tables → Type 0} {old new : OpenChange S} {x : A} {P : Tables → A → Type 0} → FindsTables g {E = Fault} old new (Ok x) P → old.store.now.calls.failures ≤ new.store.now.calls.failures

@@ -1,10 +1,6 @@
 -- The ends of a change, where each failure is a failed store.
 use Rattle.std.proofs.Common.{◌≡◌, Bool, true, false, not, Ok, Err, Result, refl}
-use Rattle.sql_calls.specs.Calls.{errors_in}
-use Rattle.sqlite.specs.State.{State}
-use Rattle.sql_calls.specs.declared.fault.Fault.{Fault}
-use Rattle.sql_calls.specs.Standing.{Commits, GivesUp}
-use Rattle.desk_records.specs.Holds.{HoldsLedger}
+use Rattle.desk_store.proofs.Common.{errors_in, State, Fault, Commits, GivesUp, HoldsLedger}
 use Rattle.desk_store.specs.Faults.{as_store}
 
 module _ (old new : State) where

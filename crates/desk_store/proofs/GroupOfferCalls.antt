@@ -1,18 +1,8 @@
 -- The write of a group's offers.
 use Rattle.std.proofs.Common.{ℕ, Result, refl}
-use Rattle.sqlite.specs.State.{State}
-use Rattle.sql_calls.specs.declared.fault.Fault.{Fault}
-use Rattle.sql_calls.specs.Calls.{RunsText}
-use Rattle.sql_calls.specs.Standing.{Makes}
-use Rattle.sql_calls.specs.Means.{KnowsWrite}
-use Rattle.sql_calls.proofs.Finding.{run_makes}
-use Rattle.rollout_machine.specs.declared.bounds.Bounds.{Bounds}
-use Rattle.desk_records.specs.declared.action_texts.TheConstants.{PUT_GROUP_OFFERS}
-use Rattle.desk_records.specs.Holds.{HoldsLedger, Ledger}
+use Rattle.desk_store.proofs.Common.{State, Fault, RunsText, Makes, KnowsWrite, run_makes, Bounds, PUT_GROUP_OFFERS, HoldsLedger, Ledger, Actions, Offers, group_params, offers_group, offers_keyed}
 use Rattle.desk_records.specs.LedgerSteps.{OffersGroup}
-use Rattle.desk_records.specs.Schema.{Actions, Offers}
 use Rattle.desk_records.proofs.GroupOffersMeaning.{put_group_offers_command, put_group_offers_is}
-use Rattle.desk_records.proofs.GroupOfferWrites.{group_params, offers_group, offers_keyed}
 
 abbrev pub knows_put_group_offers : KnowsWrite HoldsLedger PUT_GROUP_OFFERS.now
 knows_put_group_offers = record {

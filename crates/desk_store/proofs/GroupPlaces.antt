@@ -1,19 +1,12 @@
 -- The groups of a rollout that reach a member's place: the one that holds it, and all behind it.
 use Rattle.std.proofs.Common.{◌≡◌, ◌<◌, ◌≤◌, ℕ, zero, suc, ◌+◌, ◌-◌, List, [], ◌∷◌, drop, slice_get, refl, sym, ap, subst, ◌∙◌, arith}
-use Rattle.std.proofs.lemmas.Bool.{le-leb, lt-leb}
+use Rattle.desk_store.proofs.Common.{le-leb, lt-leb, item_numbered, group_in, rollout_in, group_holding, number_of_group, GroupRecord, that_reach, group_and_next, GroupAndNext}
 use Rattle.rollout_machine.proofs.Cuts.{group_of, in_its_group}
 use Rattle.rollout_machine.proofs.Ties.{find_holding}
-use Rattle.rollout_machine.specs.ByteStrings.{item_numbered}
 use Rattle.rollout_machine.specs.CommandList.{CommandList}
 use Rattle.rollout_machine.specs.Effects.{HasSoundPlan, IsInGroup}
 use Rattle.rollout_machine.specs.Ranges.{each_from}
-use Rattle.rollout_machine.specs.Records.{group_in, rollout_in}
 use Rattle.rollout_machine.specs.Rollouts.{Rollout, last_of, size_of}
-use Rattle.rollout_machine.specs.StateWords.{group_holding, number_of_group}
-use Rattle.rollout_machine.specs.declared.records.GroupRecord.{GroupRecord}
-use Rattle.desk_records.specs.Rollouts.{that_reach}
-use Rattle.desk_store.specs.GroupPairs.{group_and_next}
-use Rattle.desk_store.specs.declared.rollouts.GroupAndNext.{GroupAndNext}
 
 at_drop : {X : Type 0} (d i : ℕ) (xs : List X) (n : ℕ) → d + i ≡ n → slice_get (drop d xs) i ≡ slice_get xs n
 at_drop zero i xs n at = let same : i ≡ n = omega (arith, at) in ap (slice_get xs) same

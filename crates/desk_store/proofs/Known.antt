@@ -1,12 +1,6 @@
 -- What a text on one table means where tables are held, whatever rows they have, and so where a ledger is.
 use Rattle.std.proofs.Common.{◌≡◌, ℕ, true, List, refl}
-use Rattle.sqlite.specs.Command.{Command}
-use Rattle.sqlite.specs.Schema.{Schema}
-use Rattle.sql_calls.specs.Means.{Knows, KnowsWrite, Means, writes_rows}
-use Rattle.sql_front.specs.Stands.{Stands}
-use Rattle.desk_records.specs.Schema.{Place, name_of, table_at}
-use Rattle.desk_records.specs.Holds.{HoldsLedger}
-use Rattle.desk_records.specs.Tables.{HoldsTables}
+use Rattle.desk_store.proofs.Common.{Command, Schema, Knows, KnowsWrite, Means, writes_rows, Stands, Place, name_of, table_at, HoldsLedger, HoldsTables}
 use Rattle.desk_records.proofs.HeldTables.{rows_of}
 
 -- where a ledger is held, tables are

@@ -1,40 +1,9 @@
 -- What rows of rollouts, groups, actions and offers tell of the ledger that they show.
 use Rattle.std.proofs.Common.{◌≡◌, ℕ, pos, List, [], ◌∷◌, map, Bool, true, false, Option, Some, None, option_map, refl, sym, ◌∙◌, ap, ap₂, if◌then◌else◌, nat_eq, nat_lt}
-use Rattle.std.specs.List.{list_all}
-use Rattle.std.proofs.lemmas.Bool.{and_parts}
-use Rattle.std.specs.Option.{option_and_then}
-use Rattle.sqlite_value.specs.declared.value.Value.TheVariants.{Int, Text}
-use Rattle.sqlite_value.specs.Order.{Row}
-use Rattle.rollout_machine.specs.Reports.{HistoryEntry, Said, OfDeployment, OfCancel}
-use Rattle.rollout_machine.specs.Commands.{DeploymentWord, CancelWord, Proceeding, Scheduled, Resumed, Succeeded, Failed, Rejected, Noted, ClosedCancel, CanceledCancel, RejectedCancel, NotedCancel}
-use Rattle.rollout_machine.specs.declared.outcome.Outcome.{Outcome}
+use Rattle.desk_store.proofs.Common.{list_all, and_parts, option_and_then, Int, Text, Row, HistoryEntry, Said, OfDeployment, OfCancel, DeploymentWord, CancelWord, Proceeding, Scheduled, Resumed, Succeeded, Failed, Rejected, Noted, ClosedCancel, CanceledCancel, RejectedCancel, NotedCancel, Outcome, GroupRecord, is_number, is_feedback_number, is_group_count, is_percentage, Approval, Offer, ListedAction, StoredAction, StoredRollout, cancel_code, deployment_code, kind_code, lines_of, outcome_code, told_entry, word_code, IsEntryRow, cancel_from, cancel_in, deployment_from, deployment_in, keeps_details, said_in, or_null, coded_in, flag_of, approval_from, outcome_from, place_from, flag_in, approval_in, outcome_in, place_in, percentage_in, percentage_or_none_in, told_number, IsLastNumberRow, IsNumberRow, LastNumber, PlacedNumber, IsRolloutRow, IsGroupRow, IsActionRow, IsListedActionRow, IsOfferRow, approval_code, flag, told_rule, IsRuleRow, GroupRule, shown_group, shown_action, told_listed, told_offer, ranged_is, told_last, AreReadAs}
 use Rattle.rollout_machine.specs.declared.outcome.Outcome.TheVariants.{Good, Bad, Gone}
-use Rattle.rollout_machine.specs.declared.records.GroupRecord.{GroupRecord}
-use Rattle.rollout_model.specs.Rules.{is_number, is_feedback_number, is_group_count, is_percentage}
-use Rattle.rollout_model.specs.declared.approval.Approval.{Approval}
 use Rattle.rollout_model.specs.declared.approval.Approval.TheVariants.{Waiting, Denied, Given}
-use Rattle.rollout_model.specs.declared.rollout.Offer.{Offer}
-use Rattle.desk_records.specs.declared.rollout_row.ListedAction.{ListedAction}
-use Rattle.desk_records.specs.declared.rollout_row.StoredAction.{StoredAction}
-use Rattle.desk_records.specs.declared.rollout_row.StoredRollout.{StoredRollout}
-use Rattle.desk_records.specs.Actions.{cancel_code, deployment_code, kind_code, lines_of, outcome_code, told_entry, word_code}
-use Rattle.desk_records.specs.EntryRow.{IsEntryRow, cancel_from, cancel_in, deployment_from, deployment_in, keeps_details, said_in}
-use Rattle.sqlite.specs.Values.{or_null}
-use Rattle.desk_records.specs.Codes.{coded_in, flag_of, approval_from, outcome_from, place_from, flag_in, approval_in, outcome_in, place_in, percentage_in, percentage_or_none_in}
-use Rattle.desk_records.specs.FeedbackNumbers.{told_number}
-use Rattle.desk_records.specs.NumberRow.{IsLastNumberRow, IsNumberRow}
-use Rattle.desk_records.specs.declared.number_row.LastNumber.{LastNumber}
-use Rattle.desk_records.specs.declared.number_row.PlacedNumber.{PlacedNumber}
-use Rattle.desk_records.specs.RolloutRow.{IsRolloutRow, IsGroupRow, IsActionRow, IsListedActionRow, IsOfferRow}
-use Rattle.desk_records.specs.Rollouts.{approval_code, flag, told_rule}
-use Rattle.desk_records.specs.RuleRow.{IsRuleRow}
-use Rattle.rollout_model.specs.declared.group_rule.GroupRule.{GroupRule}
-use Rattle.desk_records.proofs.RolloutRecords.{shown_group}
-use Rattle.desk_records.proofs.ActionRecords.{shown_action, told_listed, told_offer}
 use Rattle.desk_records.proofs.DetailLines.{same_details}
-use Rattle.desk_records.proofs.NumberColumns.{ranged_is}
-use Rattle.desk_records.proofs.NumberRecords.{told_last}
-use Rattle.desk_store.specs.Rows.{AreReadAs}
 
 pub both_mapped : {A B C : Type 0} (f : B → C) (g : A → B) (o : Option A) → option_map (λ a. f (g a)) o ≡ option_map f (option_map g o)
 both_mapped f g None = refl

@@ -1,10 +1,7 @@
 -- Calls on ledgers, said of records: the tables hold the ledger of the records before a command and after it.
 use Rattle.std.proofs.Common.{◌≡◌, Result}
-use Rattle.sqlite.specs.State.{State}
-use Rattle.sql_calls.specs.Standing.{Finds, Makes}
+use Rattle.desk_store.proofs.Common.{State, Finds, Makes, Bytes, HoldsLedger, Ledger, ledger_of}
 use Rattle.sql_calls.proofs.Composing.{found_of, made_of}
-use Rattle.rollout_machine.specs.Commands.{Bytes}
-use Rattle.desk_records.specs.Holds.{HoldsLedger, Ledger, ledger_of}
 
 module _ {A E : Type 0} {old new : State} where
   pub ledger_found : {Answer : Ledger → A → Type 0} → (out : Result A E) → Finds HoldsLedger (λ (l : Ledger). l) old new out Answer → Finds HoldsLedger ledger_of old new out (λ r a. Answer (ledger_of r) a)

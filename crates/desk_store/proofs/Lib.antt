@@ -1,3 +1,4 @@
+pub mod Common
 pub mod Known
 pub mod ReadLemmas
 pub mod ModuleCalls

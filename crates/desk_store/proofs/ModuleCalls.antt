@@ -1,35 +1,10 @@
 -- The calls on modules.
 use Rattle.std.proofs.Common.{◌≡◌, ◌≤◌, ℕ, ◌+◌, pos, [], ◌∷◌, length, Bool, Option, Some, None, Ok, Err, Result, IfOk, refl, sym, ap, subst, ◌∙◌}
-use Rattle.std.specs.List.{list_any}
-use Rattle.std.specs.Option.{is_some}
-use Rattle.sqlite_value.specs.declared.value.Value.TheVariants.{Int, Text}
-use Rattle.sqlite_value.specs.Order.{Row}
-use Rattle.sqlite.specs.Command.TheVariants.{Select, Insert}
-use Rattle.sqlite.specs.Source.TheVariants.{Values}
-use Rattle.sqlite.specs.Term.{col}
-use Rattle.sqlite.specs.Effect.{Database}
-use Rattle.sqlite.specs.State.{State}
+use Rattle.desk_store.proofs.Common.{list_any, is_some, Int, Text, Row, Select, Insert, Values, col, Database, State, Fault, RunsText, TakesFirst, Finds, Makes, Knows, KnowsWrite, ShowsFirst, simple, first_finds, run_makes, item_numbered, ModuleLabel, Records, FIND_MODULE, LAST_MODULE, GET_MODULE, PUT_MODULE, Modules, HoldsLedger, HoldsRecords, ledger_of, is_same, words_of, with_module, IsLastRow, HoldsTables, at_key, IsReadAs}
 use Rattle.std.specs.Prelude.{codes}
-use Rattle.sql_calls.specs.declared.fault.Fault.{Fault}
-use Rattle.sql_calls.specs.Calls.{RunsText, TakesFirst}
-use Rattle.sql_calls.specs.Standing.{Finds, Makes}
-use Rattle.sql_calls.specs.Means.{Knows, KnowsWrite}
-use Rattle.sql_calls.proofs.Finding.{ShowsFirst}
-use Rattle.sql_calls.proofs.Selects.{simple}
-use Rattle.sql_calls.proofs.Finding.{first_finds, run_makes}
-use Rattle.rollout_machine.specs.ByteStrings.{item_numbered}
-use Rattle.rollout_machine.specs.Commands.{ModuleLabel}
-use Rattle.rollout_machine.specs.Records.{Records}
-use Rattle.desk_records.specs.declared.texts.TheConstants.{FIND_MODULE, LAST_MODULE, GET_MODULE, PUT_MODULE}
 use Rattle.desk_records.specs.ModuleRow.{IsLabelRow}
-use Rattle.desk_records.specs.Schema.{Modules}
-use Rattle.desk_records.specs.Holds.{HoldsLedger, HoldsRecords, ledger_of}
-use Rattle.desk_records.specs.Modules.{is_same, words_of, with_module, IsLastRow}
-use Rattle.desk_records.specs.Tables.{HoldsTables}
-use Rattle.desk_records.proofs.MeaningWords.{at_key}
 use Rattle.desk_records.proofs.Meaning.{same_label, label_columns, last_module_query, module_terms, find_module_is, last_module_is, get_module_is, put_module_is}
 use Rattle.desk_records.proofs.Modules.{finds_module, lasts_module, gets_module, adds_module}
-use Rattle.desk_store.specs.Rows.{IsReadAs}
 use Rattle.desk_store.proofs.ReadLemmas.{takes_one}
 use Rattle.desk_store.proofs.Known.{in_ledgers, ledger_writes, tables_know}
 

@@ -1,32 +1,8 @@
 -- The call on the next offer, whose text names two tables.
 use Rattle.std.proofs.Common.{◌≡◌, ℕ, List, [], ◌∷◌, length, Option, Some, Ok, Err, Result, IfOk, refl, ap, codes}
-use Rattle.sqlite_value.specs.declared.value.Value.TheVariants.{Text}
-use Rattle.sqlite_value.specs.Order.{Row}
-use Rattle.sqlite.specs.Command.{Command}
-use Rattle.sqlite.specs.Command.TheVariants.{Select}
-use Rattle.sqlite.specs.Effect.{Database}
-use Rattle.sqlite.specs.Schema.{Schema}
-use Rattle.sqlite.specs.State.{State}
-use Rattle.sql_front.specs.Stands.{Stands}
-use Rattle.sql_calls.specs.declared.fault.Fault.{Fault}
-use Rattle.sql_calls.specs.Calls.{TakesFirst}
-use Rattle.sql_calls.specs.Standing.{Finds}
-use Rattle.sql_calls.specs.Means.{Knows}
-use Rattle.sql_calls.proofs.Finding.{ShowsFirst}
-use Rattle.sql_calls.specs.Means.{Means}
-use Rattle.sql_calls.proofs.Finding.{first_finds}
-use Rattle.rollout_machine.specs.Commands.{Bytes}
-use Rattle.rollout_model.specs.declared.rollout.Offer.{Offer}
-use Rattle.desk_records.specs.declared.action_texts.TheConstants.{NEXT_OFFER}
-use Rattle.desk_records.specs.Holds.{HoldsLedger, Ledger}
+use Rattle.desk_store.proofs.Common.{Text, Row, Command, Select, Database, Schema, State, Stands, Fault, TakesFirst, Finds, Knows, ShowsFirst, Means, first_finds, Bytes, Offer, NEXT_OFFER, HoldsLedger, Ledger, IsOfferRow, Place, Actions, Groups, name_of, table_at, HoldsTables, next_offer_query, next_offer_is, told_offer, IsReadAs}
 use Rattle.desk_records.specs.NextOffers.{next_offer}
-use Rattle.desk_records.specs.RolloutRow.{IsOfferRow}
-use Rattle.desk_records.specs.Schema.{Place, Actions, Groups, name_of, table_at}
-use Rattle.desk_records.specs.Tables.{HoldsTables}
-use Rattle.desk_records.proofs.ActionMeaning.{next_offer_query, next_offer_is}
-use Rattle.desk_records.proofs.ActionRecords.{told_offer}
 use Rattle.desk_records.proofs.NextOfferRecords.{gets_next_offer}
-use Rattle.desk_store.specs.Rows.{IsReadAs}
 use Rattle.desk_store.proofs.Known.{in_ledgers}
 use Rattle.desk_store.proofs.LedgerReads.{one_offer}
 use Rattle.desk_store.proofs.ReadLemmas.{one_read}

@@ -1,29 +1,7 @@
 -- The calls on the numbers that devices give entries of histories.
 use Rattle.std.proofs.Common.{◌≡◌, ◌≤◌, ℕ, pos, [], ◌∷◌, Option, Some, Ok, Result, IfOk, Vec, vec_items, refl, ap}
-use Rattle.std.specs.declared.alloc.Global.{Global}
-use Rattle.sqlite_value.specs.declared.value.Value.TheVariants.{Int}
-use Rattle.sqlite_value.specs.Order.{Row}
-use Rattle.sqlite.specs.Command.TheVariants.{Insert, Select}
-use Rattle.sqlite.specs.Source.TheVariants.{Values}
-use Rattle.sqlite.specs.State.{State}
-use Rattle.sql_calls.specs.declared.fault.Fault.{Fault}
-use Rattle.sql_calls.specs.Calls.{AsksText, RunsText, TakesFirst}
-use Rattle.sql_calls.specs.Means.{Knows, KnowsWrite}
-use Rattle.sql_calls.specs.Standing.{Finds, Makes}
-use Rattle.sql_calls.proofs.Finding.{run_makes}
-use Rattle.desk_records.specs.declared.action_texts.TheConstants.{LAST_NUMBER, LIST_NUMBERS, PUT_NUMBER}
-use Rattle.desk_records.specs.declared.number_row.LastNumber.{LastNumber}
-use Rattle.desk_records.specs.declared.number_row.PlacedNumber.{PlacedNumber}
-use Rattle.desk_records.specs.FeedbackNumbers.{last_number, number_row, numbers_numbered, told_number}
-use Rattle.desk_records.specs.Holds.{HoldsLedger, Ledger}
+use Rattle.desk_store.proofs.Common.{Global, Int, Row, Insert, Select, Values, State, Fault, AsksText, RunsText, TakesFirst, Knows, KnowsWrite, Finds, Makes, run_makes, LAST_NUMBER, LIST_NUMBERS, PUT_NUMBER, LastNumber, PlacedNumber, last_number, number_row, numbers_numbered, told_number, HoldsLedger, Ledger, IsLastNumberRow, IsNumberRow, Numbers, HoldsTables, last_number_is, last_number_names, last_number_query, list_numbers_is, list_numbers_query, number_names, number_terms, put_number_is, lasts_number, lists_numbers, told_last, adds_number, AreReadAs, IsReadAs}
 use Rattle.desk_records.specs.LedgerSteps.{AddsNumber}
-use Rattle.desk_records.specs.NumberRow.{IsLastNumberRow, IsNumberRow}
-use Rattle.desk_records.specs.Schema.{Numbers}
-use Rattle.desk_records.specs.Tables.{HoldsTables}
-use Rattle.desk_records.proofs.ActionMeaning.{last_number_is, last_number_names, last_number_query, list_numbers_is, list_numbers_query, number_names, number_terms, put_number_is}
-use Rattle.desk_records.proofs.NumberRecords.{lasts_number, lists_numbers, told_last}
-use Rattle.desk_records.proofs.PartWrites.{adds_number}
-use Rattle.desk_store.specs.Rows.{AreReadAs, IsReadAs}
 use Rattle.desk_store.proofs.Known.{ledger_writes, tables_know}
 use Rattle.desk_store.proofs.LedgerReads.{one_last_placed, one_placed}
 use Rattle.desk_store.proofs.ReadLemmas.{asks_all, takes_one}

@@ -1,19 +1,9 @@
 -- The calls on the table of actions with whatever rows it has.
 use Rattle.std.proofs.Common.{◌≡◌, ℕ, filter_map, Ok, Err, Result, IfOk, Vec}
-use Rattle.std.specs.declared.alloc.Global.{Global}
-use Rattle.sqlite_value.specs.Order.{Row}
-use Rattle.sqlite.specs.Effect.{Database, Reads as Shows}
-use Rattle.sqlite.specs.State.{State}
-use Rattle.sql_calls.specs.declared.fault.Fault.{Fault}
-use Rattle.sql_calls.specs.Calls.{AsksText}
-use Rattle.sql_calls.proofs.Finding.{ask_finds}
-use Rattle.desk_records.specs.CheckedRows.{counted_of}
+use Rattle.desk_store.proofs.Common.{Global, Row, Database, State, Fault, AsksText, ask_finds, counted_of, Actions, HoldsTables, Tables, LIST_ACTIONS, listed_names}
+use Rattle.sqlite.specs.Effect.{Reads as Shows}
 use Rattle.desk_records.specs.CountedActions.{AreCounted}
-use Rattle.desk_records.specs.Schema.{Actions}
-use Rattle.desk_records.specs.Tables.{HoldsTables, Tables}
-use Rattle.desk_records.specs.declared.action_texts.TheConstants.{LIST_ACTIONS}
 use Rattle.desk_records.specs.declared.checked_rows.CountedAction.{CountedAction}
-use Rattle.desk_records.proofs.ActionMeaning.{listed_names}
 use Rattle.desk_records.proofs.ActionRows.{counts_actions}
 use Rattle.desk_store.proofs.ActionCalls.{listing}
 use Rattle.desk_store.proofs.RawCalls.{FindsOf}

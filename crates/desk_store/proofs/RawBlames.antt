@@ -1,61 +1,15 @@
 -- What a failed read of a table is blamed on.
 use Rattle.std.proofs.Common.{◌≡◌, ◌≤◌, ◌<◌, ◌⊎◌, ◌^◌, ◌||◌, inl, inr, ℕ, min, nat_lt, pos, negsuc, Bool, true, false, not, List, [], ◌∷◌, length, filter, map, nat_le, take, Option, Some, None, Ok, Err, Result, IfErr, Vec, refl, sym, ap, subst, ◌∙◌, arith, codes}
-use Rattle.std.proofs.lemmas.Bool.{and_parts}
-use Rattle.std.proofs.lemmas.Bool.Decides.{nat_tests}
+use Rattle.desk_store.proofs.Common.{and_parts, nat_tests, has_filtered, count_query, number_in_good, number_in_is, Global, Value, Null, Int, Text, Key, Row, column, Select, Database, Output, Query, page, Schema, Ghosts, Term, col, lit, Has, Fault, Memory, Store, AsksFew, AsksText, TakesFirst, Knows, Means, ShowsFirst, first_finds, IsOrdered, by, ordered_rows, passes, shown_in, shown_of, simple, Stands, Actions, Artifacts, Feedbacks, Groups, Members, Numbers, Offers, Pieces, Place, Rollouts, Rules, name_of, table_at, HoldsTables, Tables, has_bytes, has_wide_count, is_wide, first_broken, number_in, BreaksSequenced, broken_number_column, broken_action_column, broken_offer_column, broken_rollout_column, broken_rule_column, Offer, Column, StoredAction, GET_ACTION, GET_OFFER, LIST_ACTIONS, LIST_ENTRIES, LIST_NUMBERS, LIST_OFFERS, GET_PIECE, LIST_ALL_ARTIFACTS, GET_ROLLOUT, GET_RULE, LAST_ROLLOUT, LIST_GROUPS, LIST_PLACES, action_columns, action_names, entry_columns, entry_names, get_action_is, get_offer_is, list_actions_is, list_actions_query, list_entries_is, list_entries_query, list_numbers_is, list_numbers_query, list_offers_is, listed_columns, listed_names, number_columns, number_names, of_action, of_controller, offer_columns, owned_columns, owned_names, count_shown, from_shown, all_artifacts_query, all_columns, all_names, at_piece, get_piece_is, list_all_artifacts_is, at_key, get_rollout_is, get_rule_is, last_rollout_query, group_columns, group_names, list_groups_is, list_groups_query, list_places_is, of_group, of_rollout, placed_columns, placed_names, places_query, rollout_columns, rollout_names, rule_columns, rule_names, Blames, BlamesGiven, FindsTables, seen_in, BreaksRule, HasBroken, HasNoNumber, IfStore, IsUnreadable, broken_entry, broken_number, broken_piece, broken_rollout, broken_rule, large_count, large_number, many_rows, OpenChange}
 use Rattle.std.proofs.lemmas.List.Filters.{length-filter_both}
 use Rattle.std.proofs.lemmas.List.Sorted.{IsPermutation-sym}
-use Rattle.sqlite_rules.proofs.ListLemmas.{has_filtered}
-use Rattle.sql_calls.proofs.Counts.{count_query}
 use Rattle.rollout_model.specs.Limits.{number_limit}
 use Rattle.desk_records.proofs.Membership.{has_mapped, has_permuted}
-use Rattle.desk_records.proofs.NumberColumns.{number_in_good, number_in_is}
-use Rattle.std.specs.declared.alloc.Global.{Global}
-use Rattle.sqlite_value.specs.declared.value.Value.{Value}
-use Rattle.sqlite_value.specs.declared.value.Value.TheVariants.{Null, Int, Text}
-use Rattle.sqlite_value.specs.declared.keys.Key.{Key}
-use Rattle.sqlite_value.specs.Order.{Row, column}
-use Rattle.sqlite.specs.Command.TheVariants.{Select}
-use Rattle.sqlite.specs.Effect.{Database, Reads as Shows}
-use Rattle.sqlite.specs.Query.{Output, Query, page}
-use Rattle.sqlite.specs.Schema.{Schema}
-use Rattle.sqlite.specs.Store.{Ghosts}
-use Rattle.sqlite.specs.Term.{Term, col, lit}
-use Rattle.sqlite_rules.specs.Lists.{Has}
-use Rattle.sql_calls.specs.declared.fault.Fault.{Fault}
-use Rattle.sql_calls.specs.declared.fault.Fault.TheVariants.{Memory, Store}
-use Rattle.sql_calls.specs.Calls.{AsksFew, AsksText, TakesFirst}
-use Rattle.sql_calls.specs.Means.{Knows, Means}
-use Rattle.sql_calls.proofs.Finding.{ShowsFirst, first_finds}
-use Rattle.sql_calls.proofs.Selects.{IsOrdered, by, ordered_rows, passes, shown_in, shown_of, simple}
-use Rattle.sql_front.specs.Stands.{Stands}
-use Rattle.desk_records.specs.Schema.{Actions, Artifacts, Feedbacks, Groups, Members, Numbers, Offers, Pieces, Place, Rollouts, Rules, name_of, table_at}
-use Rattle.desk_records.specs.Tables.{HoldsTables, Tables}
-use Rattle.desk_records.specs.ArtifactRow.{has_bytes}
-use Rattle.desk_records.specs.CheckedRows.{has_wide_count, is_wide}
-use Rattle.desk_records.specs.Codes.{first_broken, number_in}
-use Rattle.desk_records.specs.EntryRow.{BreaksSequenced}
-use Rattle.desk_records.specs.NumberRow.{broken_number_column}
-use Rattle.desk_records.specs.RolloutRow.{broken_action_column, broken_offer_column, broken_rollout_column}
-use Rattle.desk_records.specs.RuleRow.{broken_rule_column}
+use Rattle.sqlite.specs.Effect.{Reads as Shows}
 use Rattle.desk_records.specs.TableRows.{IsAction, IsOffer, action_shown, offer_shown}
-use Rattle.rollout_model.specs.declared.rollout.Offer.{Offer}
-use Rattle.desk_records.specs.declared.module_row.Column.{Column}
 use Rattle.desk_records.specs.declared.module_row.Column.TheVariants as rule
-use Rattle.desk_records.specs.declared.rollout_row.StoredAction.{StoredAction}
-use Rattle.desk_records.specs.declared.action_texts.TheConstants.{GET_ACTION, GET_OFFER, LIST_ACTIONS, LIST_ENTRIES, LIST_NUMBERS, LIST_OFFERS}
-use Rattle.desk_records.specs.declared.artifact_texts.TheConstants.{GET_PIECE, LIST_ALL_ARTIFACTS}
-use Rattle.desk_records.specs.declared.rollout_texts.TheConstants.{GET_ROLLOUT, GET_RULE, LAST_ROLLOUT, LIST_GROUPS, LIST_PLACES}
-use Rattle.desk_records.proofs.ActionMeaning.{action_columns, action_names, entry_columns, entry_names, get_action_is, get_offer_is, list_actions_is, list_actions_query, list_entries_is, list_entries_query, list_numbers_is, list_numbers_query, list_offers_is, listed_columns, listed_names, number_columns, number_names, of_action, of_controller, of_rollout as of_its_rollout, offer_columns, owned_columns, owned_names}
-use Rattle.desk_records.proofs.AnyRows.{count_shown, from_shown}
-use Rattle.desk_records.proofs.ArtifactMeaning.{all_artifacts_query, all_columns, all_names, at_piece, get_piece_is, list_all_artifacts_is}
-use Rattle.desk_records.proofs.MeaningWords.{at_key}
-use Rattle.desk_records.proofs.RolloutMeaning.{get_rollout_is, get_rule_is, last_rollout_query, group_columns, group_names, list_groups_is, list_groups_query, list_places_is, of_group, of_rollout, placed_columns, placed_names, places_query, rollout_columns, rollout_names, rule_columns, rule_names}
-use Rattle.desk_store.specs.Blaming.{Blames, BlamesGiven}
-use Rattle.desk_store.specs.Changing.{FindsTables, seen_in}
+use Rattle.desk_records.proofs.ActionMeaning.{of_rollout as of_its_rollout}
 use Rattle.desk_store.specs.RawLists.{AreActions, AreOffers}
-use Rattle.desk_store.specs.Rows.{BreaksRule, HasBroken, HasNoNumber, IfStore}
-use Rattle.desk_store.specs.Unreadable.{IsUnreadable, broken_entry, broken_number, broken_piece, broken_rollout, broken_rule, large_count, large_number, many_rows}
-use Rattle.desk_store.specs.declared.change.OpenChange.{OpenChange}
 use Rattle.desk_store.proofs.BlameLemmas.{blamed}
 use Rattle.desk_store.proofs.Known.{tables_know}
 use Rattle.desk_store.proofs.RawCalls.{all_read, count_shown as row_of_count, counted, ending_any, few_read}

@@ -1,32 +1,12 @@
 -- The calls on tables with whatever rows they have.
 use Rattle.std.proofs.Common.{◌≡◌, ◌<◌, ◌^◌, ℕ, min, pos, true, List, [], ◌∷◌, filter, length, Option, Some, None, Ok, Err, Result, IfOk, option_map, Vec, vec_items, sym, ap, ◌∙◌, codes}
-use Rattle.std.specs.declared.alloc.Global.{Global}
-use Rattle.sqlite_value.specs.declared.value.Value.TheVariants.{Null, Int}
-use Rattle.sqlite_value.specs.Order.{Row}
-use Rattle.sqlite.specs.Command.TheVariants.{Select}
-use Rattle.sqlite.specs.Effect.{Database, Reads as Shows}
-use Rattle.sqlite.specs.Schema.{Schema}
-use Rattle.sqlite.specs.State.{State}
-use Rattle.sql_calls.specs.declared.fault.Fault.{Fault}
-use Rattle.sql_calls.specs.Calls.{AsksFew, AsksText, TakesFirst}
-use Rattle.sql_calls.specs.Means.{Knows, Means}
-use Rattle.sql_calls.specs.Standing.{Finds}
-use Rattle.sql_calls.proofs.Counts.{count_query, count_rows}
-use Rattle.sql_calls.proofs.Finding.{ShowsFirst, ask_finds, few_finds, first_finds}
-use Rattle.sql_front.specs.Stands.{Stands}
-use Rattle.rollout_model.specs.Rules.{is_number}
-use Rattle.desk_records.specs.Listings.{AreRead, IsLast}
+use Rattle.desk_store.proofs.Common.{Global, Null, Int, Row, Select, Database, Schema, State, Fault, AsksFew, AsksText, TakesFirst, Knows, Means, Finds, count_query, count_rows, ShowsFirst, ask_finds, few_finds, first_finds, Stands, is_number, AreRead, IsLast, IsLastRow, Members, Place, Rollouts, name_of, table_at, HoldsTables, Tables, COUNT_MEMBERS, LAST_ROLLOUT, LIST_PLACES, count_members_is, last_rollout_is, last_rollout_query, list_places_is, placed_names, places_query, IsCount}
+use Rattle.sqlite.specs.Effect.{Reads as Shows}
 use Rattle.desk_records.specs.MemberRow.{IsPlacedRow, keeps_member_rules}
-use Rattle.desk_records.specs.Modules.{IsLastRow}
 use Rattle.desk_records.specs.PlaceLists.{ListsPlaces, is_of}
-use Rattle.desk_records.specs.Schema.{Members, Place, Rollouts, name_of, table_at}
-use Rattle.desk_records.specs.Tables.{HoldsTables, Tables}
 use Rattle.desk_records.specs.declared.member_row.PlacedMember.{PlacedMember}
-use Rattle.desk_records.specs.declared.rollout_texts.TheConstants.{COUNT_MEMBERS, LAST_ROLLOUT, LIST_PLACES}
 use Rattle.desk_records.proofs.PlaceRows.{counts_places, lists_places}
-use Rattle.desk_records.proofs.RolloutMeaning.{count_members_is, last_rollout_is, last_rollout_query, list_places_is, placed_names, places_query}
 use Rattle.desk_records.proofs.RolloutRows.{lasts_any}
-use Rattle.desk_store.specs.Rows.{IsCount}
 use Rattle.desk_store.proofs.Known.{tables_know}
 use Rattle.desk_store.proofs.TargetCalls.{same_count}
 

@@ -1,51 +1,13 @@
 -- The reads of one row of a table, whatever rows the table has.
 use Rattle.std.proofs.Common.{◌≡◌, inl, ◌≤◌, ℕ, pos, negsuc, Bool, true, List, [], ◌∷◌, length, slice_get, nat_le, cond, false, Option, Some, None, IfSome, Ok, Err, Result, IfOk, Vec, refl, sym, subst, arith, codes}
-use Rattle.std.specs.declared.alloc.Global.{Global}
-use Rattle.std.proofs.lemmas.Bool.Decides.{nat_tests}
-use Rattle.sqlite_value.specs.declared.value.Value.TheVariants.{Null, Int, Text}
-use Rattle.sqlite_value.specs.Order.{Row, column}
+use Rattle.desk_store.proofs.Common.{Global, nat_tests, Null, Int, Text, Row, column, Select, Database, Schema, State, Term, lit, Has, Fault, Store, AsksFew, TakesFirst, few_of, Knows, Means, ShowsFirst, first_finds, passes, shown_of, simple, Stands, Bytes, is_word, GroupRule, Offer, IsStoredRow, FindsOne, IsSaid, has_text_at, IsActionRow, IsOfferRow, IsRolloutRow, IsRuleRow, Actions, Artifacts, Offers, Place, Rollouts, Rules, name_of, table_at, HoldsTables, Tables, GET_ACTION, GET_OFFER, StoredArtifact, GET_ARTIFACT, StoredAction, StoredRollout, GET_ROLLOUT, GET_RULE, action_columns, action_names, get_action_is, get_offer_is, of_controller, offer_columns, from_shown, is_only, none_passes, get_artifact_is, told_columns, told_names, at_key, passes_rowid, get_rollout_is, get_rule_is, of_group, rollout_columns, rollout_names, rule_columns, rule_names, IsReadAs}
 use Rattle.sqlite_trees.specs.Tree.{has_rowid}
-use Rattle.sqlite.specs.Command.TheVariants.{Select}
-use Rattle.sqlite.specs.Effect.{Database, Reads as Shows}
-use Rattle.sqlite.specs.Schema.{Schema}
-use Rattle.sqlite.specs.State.{State}
-use Rattle.sqlite.specs.Term.{Term, lit}
-use Rattle.sqlite_rules.specs.Lists.{Has}
-use Rattle.sql_calls.specs.declared.fault.Fault.{Fault}
-use Rattle.sql_calls.specs.declared.fault.Fault.TheVariants.{Store}
-use Rattle.sql_calls.specs.Calls.{AsksFew, TakesFirst, few_of}
-use Rattle.sql_calls.specs.Means.{Knows, Means}
-use Rattle.sql_calls.proofs.Finding.{ShowsFirst, first_finds}
-use Rattle.sql_calls.proofs.Selects.{passes, shown_of, simple}
-use Rattle.sql_front.specs.Stands.{Stands}
-use Rattle.rollout_machine.specs.Commands.{Bytes}
-use Rattle.rollout_model.specs.Rules.{is_word}
-use Rattle.rollout_model.specs.declared.group_rule.GroupRule.{GroupRule}
-use Rattle.rollout_model.specs.declared.rollout.Offer.{Offer}
-use Rattle.desk_records.specs.ArtifactRow.{IsStoredRow}
+use Rattle.sqlite.specs.Effect.{Reads as Shows}
 use Rattle.desk_records.specs.FoundPieces.{lies_at}
-use Rattle.desk_records.specs.Listings.{FindsOne, IsSaid, has_text_at}
-use Rattle.desk_records.specs.RolloutRow.{IsActionRow, IsOfferRow, IsRolloutRow}
-use Rattle.desk_records.specs.RuleRow.{IsRuleRow}
-use Rattle.desk_records.specs.Schema.{Actions, Artifacts, Offers, Place, Rollouts, Rules, name_of, table_at}
 use Rattle.desk_records.specs.TableRows.{IsRollout}
-use Rattle.desk_records.specs.Tables.{HoldsTables, Tables}
-use Rattle.desk_records.specs.declared.action_texts.TheConstants.{GET_ACTION, GET_OFFER}
-use Rattle.desk_records.specs.declared.artifact_row.StoredArtifact.{StoredArtifact}
-use Rattle.desk_records.specs.declared.artifact_texts.TheConstants.{GET_ARTIFACT}
-use Rattle.desk_records.specs.declared.rollout_row.StoredAction.{StoredAction}
-use Rattle.desk_records.specs.declared.rollout_row.StoredRollout.{StoredRollout}
-use Rattle.desk_records.specs.declared.rollout_texts.TheConstants.{GET_ROLLOUT, GET_RULE}
-use Rattle.desk_records.proofs.ActionMeaning.{action_columns, action_names, get_action_is, get_offer_is, of_controller, offer_columns}
-use Rattle.desk_records.proofs.AnyRows.{from_shown, is_only, none_passes}
-use Rattle.desk_records.proofs.ArtifactMeaning.{get_artifact_is, told_columns, told_names}
-use Rattle.desk_records.proofs.MeaningWords.{at_key}
-use Rattle.desk_records.proofs.NumberColumns.{passes_rowid}
-use Rattle.desk_records.proofs.RolloutMeaning.{get_rollout_is, get_rule_is, of_group, rollout_columns, rollout_names, rule_columns, rule_names}
 use Rattle.desk_records.proofs.RuleRows.{judges_rule}
 use Rattle.desk_records.proofs.TextColumns.{passes_text, text_is}
 use Rattle.desk_store.specs.RawLists.{HasNumbered, SaysNumbered, SaysOfferOf, SaysRule, SaysStored}
-use Rattle.desk_store.specs.Rows.{IsReadAs}
 use Rattle.desk_store.proofs.Known.{tables_know}
 use Rattle.desk_store.proofs.RawCalls.{FindsOf, few_read}
 

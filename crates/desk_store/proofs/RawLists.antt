@@ -2,57 +2,17 @@
 use Rattle.std.proofs.Common.{◌≡◌, ◌≤◌, ◌||◌, ◌^◌, ℕ, nat_lt, pos, negsuc, Bool, true, false, not, List, [], ◌∷◌, Option, Some, None, Ok, Result, IfOk, option_map, Vec, vec_items, refl, sym, ap, ◌∙◌}
 use Rattle.std.specs.List.Sorted.{IsNonDecreasingBy}
 use Rattle.std.specs.Ordering.{is_lt}
-use Rattle.std.specs.Option.{is_none, is_some, option_or}
-use Rattle.std.specs.declared.alloc.Global.{Global}
-use Rattle.sqlite_value.specs.declared.value.Value.{Value}
-use Rattle.sqlite_value.specs.declared.value.Value.TheVariants.{Null, Int}
-use Rattle.sqlite_value.specs.declared.keys.Key.{Key}
-use Rattle.sqlite_value.specs.Order.{Row, column}
-use Rattle.sqlite.specs.Command.TheVariants.{Select}
-use Rattle.sqlite.specs.Effect.{Database, Reads as Shows}
-use Rattle.sqlite.specs.Query.{output_cmp, page}
-use Rattle.sqlite.specs.Schema.{Schema}
-use Rattle.sqlite.specs.State.{State}
-use Rattle.sqlite.specs.Term.{Term, col, lit}
-use Rattle.sqlite_rules.specs.Lists.{Has}
-use Rattle.sql_calls.specs.declared.fault.Fault.{Fault}
-use Rattle.sql_calls.specs.Calls.{AsksText}
-use Rattle.sql_calls.specs.Means.{Knows, Means}
-use Rattle.sql_calls.proofs.Selects.{by, passes, shown_in, shown_of, simple}
-use Rattle.sql_front.specs.Stands.{Stands}
-use Rattle.rollout_machine.specs.declared.records.GroupRecord.{GroupRecord}
-use Rattle.rollout_model.specs.Rules.{is_number}
-use Rattle.rollout_model.specs.declared.artifact.Artifact.{Artifact}
-use Rattle.desk_records.specs.ArtifactRow.{IsArtifactRow, has_size, small_number}
-use Rattle.desk_records.specs.CheckedRows.{IsCheckedArtifactRow, IsOwnedOfferRow, is_wide, keeps_action_rules, keeps_artifact_rules, keeps_offer_rules}
-use Rattle.desk_records.specs.Codes.{first_broken, flag_in, number_in, outcome_in}
-use Rattle.desk_records.specs.Listings.{AreRead, AreSaid, has_at}
-use Rattle.desk_records.specs.EntryRow.{IsSequencedRow}
-use Rattle.desk_records.specs.NumberRow.{IsNumberRow}
-use Rattle.desk_records.specs.RolloutRow.{broken_group_column, broken_listed_action_column}
-use Rattle.desk_records.specs.Schema.{Actions, Artifacts, Feedbacks, Groups, Numbers, Offers, Place, name_of, table_at}
+use Rattle.desk_store.proofs.Common.{is_none, is_some, option_or, Global, Value, Null, Int, Key, Row, column, Select, Database, output_cmp, page, Schema, State, Term, col, lit, Has, Fault, AsksText, Knows, Means, by, passes, shown_in, shown_of, simple, Stands, GroupRecord, is_number, Artifact, IsArtifactRow, has_size, small_number, IsCheckedArtifactRow, IsOwnedOfferRow, is_wide, keeps_action_rules, keeps_artifact_rules, keeps_offer_rules, first_broken, flag_in, number_in, outcome_in, AreRead, AreSaid, IsSequencedRow, IsNumberRow, broken_group_column, broken_listed_action_column, Actions, Artifacts, Feedbacks, Groups, Numbers, Offers, Place, name_of, table_at, HoldsTables, Tables, has_word, Column, LIST_ACTIONS, LIST_ENTRIES, LIST_NUMBERS, LIST_OFFERS, LIST_ALL_ARTIFACTS, LIST_ARTIFACTS, PlacedNumber, ListedAction, LIST_GROUPS, entry_columns, entry_names, list_actions_is, list_actions_query, list_entries_is, list_entries_query, list_numbers_is, list_numbers_query, list_offers_is, listed_columns, listed_names, number_columns, number_names, of_action, owned_columns, owned_names, are_said, broken, number_order, rise, all_artifacts_query, all_columns, all_names, artifacts_query, list_all_artifacts_is, list_artifacts_is, shown_columns, shown_names, at_key, is_number_in, number_in_good, number_in_is, number_is, group_columns, group_names, list_groups_is, list_groups_query, of_rollout, AreReadAs}
+use Rattle.sqlite.specs.Effect.{Reads as Shows}
+use Rattle.desk_records.specs.Listings.{has_at}
 use Rattle.desk_records.specs.SetRow.{has_number}
-use Rattle.desk_records.specs.Tables.{HoldsTables, Tables}
-use Rattle.desk_records.specs.TargetRow.{has_word}
-use Rattle.desk_records.specs.declared.module_row.Column.{Column}
 use Rattle.desk_records.specs.declared.module_row.Column.TheVariants as rule
-use Rattle.desk_records.specs.declared.action_texts.TheConstants.{LIST_ACTIONS, LIST_ENTRIES, LIST_NUMBERS, LIST_OFFERS}
-use Rattle.desk_records.specs.declared.artifact_texts.TheConstants.{LIST_ALL_ARTIFACTS, LIST_ARTIFACTS}
 use Rattle.desk_records.specs.declared.checked_rows.CheckedArtifact.{CheckedArtifact}
 use Rattle.desk_records.specs.declared.checked_rows.OwnedOffer.{OwnedOffer}
 use Rattle.desk_records.specs.declared.entry_row.SequencedEntry.{SequencedEntry}
-use Rattle.desk_records.specs.declared.number_row.PlacedNumber.{PlacedNumber}
-use Rattle.desk_records.specs.declared.rollout_row.ListedAction.{ListedAction}
-use Rattle.desk_records.specs.declared.rollout_texts.TheConstants.{LIST_GROUPS}
-use Rattle.desk_records.proofs.ActionMeaning.{entry_columns, entry_names, list_actions_is, list_actions_query, list_entries_is, list_entries_query, list_numbers_is, list_numbers_query, list_offers_is, listed_columns, listed_names, number_columns, number_names, of_action, of_rollout as of_its_rollout, owned_columns, owned_names}
-use Rattle.desk_records.proofs.AnyRows.{are_said, broken, number_order, rise}
-use Rattle.desk_records.proofs.ArtifactMeaning.{all_artifacts_query, all_columns, all_names, artifacts_query, list_all_artifacts_is, list_artifacts_is, shown_columns, shown_names}
-use Rattle.desk_records.proofs.MeaningWords.{at_key}
-use Rattle.desk_records.proofs.NumberColumns.{is_number_in, number_in_good, number_in_is, number_is}
-use Rattle.desk_records.proofs.RolloutMeaning.{group_columns, group_names, list_groups_is, list_groups_query, of_rollout}
+use Rattle.desk_records.proofs.ActionMeaning.{of_rollout as of_its_rollout}
 use Rattle.desk_records.proofs.TableColumns.{passes_integer}
 use Rattle.desk_store.specs.RawLists.{AreInOrder, AreListed, IsKeptActionRow, IsKeptGroupRow, ListsRows, SaysAction, SaysArtifact, SaysEntry, SaysGroup, SaysListed, SaysNumber, SaysOffer, any_row}
-use Rattle.desk_store.specs.Rows.{AreReadAs}
 use Rattle.desk_store.proofs.Known.{tables_know}
 use Rattle.desk_store.proofs.RawCalls.{FindsOf, all_read}
 

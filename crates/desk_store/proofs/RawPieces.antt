@@ -1,18 +1,8 @@
 -- The read of the pieces at a place of an artifact, whatever rows their table has.
 use Rattle.std.proofs.Common.{◌≡◌, ℕ, pos, [], ◌∷◌, map, Ok, Result, IfOk, Vec, vec_items, codes}
-use Rattle.std.specs.declared.alloc.Global.{Global}
-use Rattle.sqlite_value.specs.declared.value.Value.TheVariants.{Int}
-use Rattle.sqlite_value.specs.Order.{Row, column}
-use Rattle.sqlite.specs.State.{State}
-use Rattle.sql_calls.specs.declared.fault.Fault.{Fault}
-use Rattle.sql_calls.specs.Calls.{AsksText}
-use Rattle.desk_records.specs.ArtifactRow.{StoredBytes}
+use Rattle.desk_store.proofs.Common.{Global, Int, Row, column, State, Fault, AsksText, StoredBytes, Pieces, Tables, GET_PIECE, AreReadAs}
 use Rattle.desk_records.specs.FoundPieces.{ArePieces}
-use Rattle.desk_records.specs.Schema.{Pieces}
-use Rattle.desk_records.specs.Tables.{Tables}
-use Rattle.desk_records.specs.declared.artifact_texts.TheConstants.{GET_PIECE}
 use Rattle.desk_records.proofs.PieceRows.{lists_pieces}
-use Rattle.desk_store.specs.Rows.{AreReadAs}
 use Rattle.desk_store.proofs.ArtifactCalls.{IsPieceRow, taking}
 use Rattle.desk_store.proofs.RawCalls.{FindsOf, all_read}
 use Rattle.desk_store.proofs.ReadLemmas.{read_mapped}

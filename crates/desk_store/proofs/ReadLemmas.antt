@@ -2,25 +2,11 @@
 use Rattle.std.proofs.Common.{◌≡◌, ◌<◌, ◌++◌, ◌+◌, ℕ, get_or, take, List, [], ◌∷◌, length, map, Option, Some, None, option_map, Ok, Err, Result, IfErr, IfOk, Vec, refl, sym, ap₂, subst, filter_map, ap, ◌∙◌, arith}
 use Rattle.std.proofs.lemmas.List.{take_more}
 use Rattle.std.proofs.lemmas.Slice.Zip.{all_zipped_more}
-use Rattle.std.specs.List.{cons_option}
-use Rattle.std.specs.declared.alloc.Global.{Global}
-use Rattle.sqlite_value.specs.Order.{Row}
-use Rattle.sqlite.specs.Effect.{Database, Reads as Shows}
-use Rattle.sqlite.specs.State.{HasCleanDisk, IsUnchanged, State}
+use Rattle.desk_store.proofs.Common.{cons_option, Global, Row, Database, HasCleanDisk, IsUnchanged, State, Fault, AsksText, TakesFirst, Finds, Sees, Wears, Known, Knows, ShowsFirst, ask_finds, first_finds, HoldsLedger, Ledger, HoldsTables, Tables, Has, Memory, Store, KeepsTo, AreReadAs, HasBroken, IfStore, IsReadAs}
+use Rattle.sqlite.specs.Effect.{Reads as Shows}
 use Rattle.sqlite.proofs.Callers.{EndsIn}
-use Rattle.sql_calls.specs.declared.fault.Fault.{Fault}
-use Rattle.sql_calls.specs.Calls.{AsksText, TakesFirst}
-use Rattle.sql_calls.specs.Standing.{Finds, Sees, Wears}
-use Rattle.sql_calls.specs.Means.{Known, Knows}
-use Rattle.sql_calls.proofs.Finding.{ShowsFirst, ask_finds, first_finds}
 use Rattle.sql_calls.proofs.Framing.{took}
 use Rattle.sql_calls.proofs.Leavings.{unchanged_by}
-use Rattle.desk_records.specs.Holds.{HoldsLedger, Ledger}
-use Rattle.desk_records.specs.Tables.{HoldsTables, Tables}
-use Rattle.sqlite_rules.specs.Lists.{Has}
-use Rattle.sql_calls.specs.declared.fault.Fault.TheVariants.{Memory, Store}
-use Rattle.desk_store.specs.Changing.{KeepsTo}
-use Rattle.desk_store.specs.Rows.{AreReadAs, HasBroken, IfStore, IsReadAs}
 use Rattle.desk_store.proofs.Known.{in_ledgers}
 
 -- a further row, and what it is read as

@@ -1,50 +1,12 @@
 -- The calls on rollouts and groups.
 use Rattle.std.proofs.Common.{◌≡◌, ◌<◌, ◌≤◌, ℕ, Bool, pos, take, drop, slice_get, arith, [], ◌∷◌, length, map, Option, Some, None, Ok, Err, Result, IfOk, option_map, Vec, vec_items, refl, sym, ap, subst, ◌∙◌, codes}
-use Rattle.std.specs.List.{list_any}
-use Rattle.std.specs.Option.{is_some}
-use Rattle.std.specs.declared.alloc.Global.{Global}
-use Rattle.sqlite_value.specs.declared.value.Value.TheVariants.{Int, Text}
-use Rattle.sqlite_value.specs.Order.{Row, column}
-use Rattle.sqlite.specs.Command.TheVariants.{Select}
-use Rattle.sqlite.specs.Term.{col}
-use Rattle.sqlite.specs.Effect.{Database, Reads as Shows}
-use Rattle.sqlite.specs.State.{State}
-use Rattle.std.proofs.lemmas.Option.{slice_get-map}
+use Rattle.desk_store.proofs.Common.{list_any, is_some, Global, Int, Text, Row, column, Select, col, Database, State, slice_get-map, Fault, AsksFew, AsksText, TakesFirst, Finds, Knows, ShowsFirst, simple, few_finds, first_finds, item_numbered, Bytes, group_numbered, group_holding, GroupRecord, Word, GET_DESK, FIND_ROLLOUT, LAST_ROLLOUT, GET_ROLLOUT, LIST_ROLLOUTS, LIST_MEMBERS, LIST_GROUPS, GET_GROUP, HOLDING_GROUP, GROUP_AND_NEXT, GET_RULE, LIST_RULES, StoredRollout, HoldsLedger, Ledger, IsLastRow, IsRolloutRow, IsGroupRow, stored_rollout, is_called, groups_of, members_of, rule_numbered, rules_numbered, that_reach, told_rule, IsRuleRow, Desk, Rollouts, Groups, Members, Rules, GroupRule, flag_in, HoldsTables, at_key, same_name, last_rollout_query, rollout_columns, rollout_names, list_rollouts_query, group_names, list_groups_query, get_group_query, holding_group_query, group_and_next_query, find_rollout_is, last_rollout_is, get_rollout_is, list_rollouts_is, list_members_query, list_members_is, list_groups_is, get_group_is, holding_group_is, group_and_next_is, of_group, rule_columns, rule_names, get_rule_is, list_rules_query, list_rules_is, finds_rollout, lasts_rollout, gets_rollout, lists_rollouts, lists_members, shown_group, lists_groups, gets_group, gets_group_and_next, holds_group, gets_rule, lists_rules, group_and_next, GroupAndNext, AreReadAs, IsApproval, IsReadAs}
+use Rattle.sqlite.specs.Effect.{Reads as Shows}
 use Rattle.sqlite.proofs.MarkLemmas.{slice_get-take}
 use Rattle.sqlite_keyed.proofs.ListLemmas.{map-map}
-use Rattle.sql_calls.specs.declared.fault.Fault.{Fault}
-use Rattle.sql_calls.specs.Calls.{AsksFew, AsksText, TakesFirst}
-use Rattle.sql_calls.specs.Standing.{Finds}
-use Rattle.sql_calls.specs.Means.{Knows}
-use Rattle.sql_calls.proofs.Finding.{ShowsFirst}
-use Rattle.sql_calls.proofs.Selects.{simple}
-use Rattle.sql_calls.proofs.Finding.{few_finds, first_finds}
-use Rattle.rollout_machine.specs.ByteStrings.{item_numbered}
-use Rattle.rollout_machine.specs.Commands.{Bytes}
-use Rattle.rollout_machine.specs.StateWords.{group_numbered, group_holding}
-use Rattle.rollout_machine.specs.declared.records.GroupRecord.{GroupRecord}
 use Rattle.rollout_model.specs.declared.word.TargetKind.{TargetKind}
-use Rattle.rollout_model.specs.declared.word.Word.{Word}
-use Rattle.desk_records.specs.declared.texts.TheConstants.{GET_DESK}
-use Rattle.desk_records.specs.declared.rollout_texts.TheConstants.{FIND_ROLLOUT, LAST_ROLLOUT, GET_ROLLOUT, LIST_ROLLOUTS, LIST_MEMBERS, LIST_GROUPS, GET_GROUP, HOLDING_GROUP, GROUP_AND_NEXT, GET_RULE, LIST_RULES}
-use Rattle.desk_records.specs.declared.rollout_row.StoredRollout.{StoredRollout}
-use Rattle.desk_records.specs.Holds.{HoldsLedger, Ledger}
-use Rattle.desk_records.specs.Modules.{IsLastRow}
-use Rattle.desk_records.specs.RolloutRow.{IsRolloutRow, IsGroupRow, stored_rollout}
-use Rattle.desk_records.specs.Rollouts.{is_called, groups_of, members_of, rule_numbered, rules_numbered, that_reach, told_rule}
-use Rattle.desk_records.specs.RuleRow.{IsRuleRow}
-use Rattle.desk_records.specs.Schema.{Desk, Rollouts, Groups, Members, Rules}
-use Rattle.rollout_model.specs.declared.group_rule.GroupRule.{GroupRule}
-use Rattle.desk_records.specs.Codes.{flag_in}
-use Rattle.desk_records.specs.Tables.{HoldsTables}
 use Rattle.desk_records.proofs.DeskRecords.{gets_desk, told_desk}
 use Rattle.desk_records.proofs.Meaning.{desk_query, get_desk_is}
-use Rattle.desk_records.proofs.MeaningWords.{at_key}
-use Rattle.desk_records.proofs.RolloutMeaning.{same_name, last_rollout_query, rollout_columns, rollout_names, list_rollouts_query, group_names, list_groups_query, get_group_query, holding_group_query, group_and_next_query, find_rollout_is, last_rollout_is, get_rollout_is, list_rollouts_is, list_members_query, list_members_is, list_groups_is, get_group_is, holding_group_is, group_and_next_is, of_group, rule_columns, rule_names, get_rule_is, list_rules_query, list_rules_is}
-use Rattle.desk_records.proofs.RolloutRecords.{finds_rollout, lasts_rollout, gets_rollout, lists_rollouts, lists_members, shown_group, lists_groups, gets_group, gets_group_and_next, holds_group, gets_rule, lists_rules}
-use Rattle.desk_store.specs.GroupPairs.{group_and_next}
-use Rattle.desk_store.specs.declared.rollouts.GroupAndNext.{GroupAndNext}
-use Rattle.desk_store.specs.Rows.{AreReadAs, IsApproval, IsReadAs}
 use Rattle.desk_store.proofs.Known.{in_ledgers, tables_know}
 use Rattle.desk_store.proofs.LedgerReads.{both_mapped, kept_flag, shown_rollout, one_rollout, one_group, one_rule}
 use Rattle.desk_store.proofs.ModuleCalls.{one_last}

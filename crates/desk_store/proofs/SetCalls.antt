@@ -1,41 +1,13 @@
 -- The calls on distribution sets.
 use Rattle.std.proofs.Common.{◌≡◌, ◌≤◌, ℕ, ◌+◌, pos, [], ◌∷◌, length, Bool, Option, Some, Ok, Err, Result, IfOk, option_map, Vec, vec_items, refl, sym, ap, subst, codes}
-use Rattle.std.specs.List.{list_any}
-use Rattle.std.specs.declared.alloc.Global.{Global}
-use Rattle.std.specs.Option.{is_some}
-use Rattle.sqlite_value.specs.declared.value.Value.TheVariants.{Int, Text}
-use Rattle.sqlite_value.specs.Order.{Row, column}
-use Rattle.sqlite.specs.Command.TheVariants.{Select, Insert}
-use Rattle.sqlite.specs.Source.TheVariants.{Values}
-use Rattle.sqlite.specs.Term.{col}
-use Rattle.sqlite.specs.Effect.{Database}
-use Rattle.sqlite.specs.State.{State}
-use Rattle.sql_calls.specs.declared.fault.Fault.{Fault}
-use Rattle.sql_calls.specs.Calls.{RunsText, AsksText, TakesFirst}
-use Rattle.sql_calls.specs.Standing.{Finds, Makes}
-use Rattle.sql_calls.specs.Means.{Knows, KnowsWrite}
-use Rattle.sql_calls.proofs.Finding.{ShowsFirst}
-use Rattle.sql_calls.proofs.Selects.{simple}
-use Rattle.sql_calls.proofs.Finding.{first_finds, run_makes}
-use Rattle.rollout_machine.specs.ByteStrings.{item_numbered}
-use Rattle.rollout_machine.specs.Commands.{Bytes, SetLabel}
+use Rattle.desk_store.proofs.Common.{list_any, Global, is_some, Int, Text, Row, column, Select, Insert, Values, col, Database, State, Fault, RunsText, AsksText, TakesFirst, Finds, Makes, Knows, KnowsWrite, ShowsFirst, simple, first_finds, run_makes, item_numbered, Bytes, SetLabel, Records, is_named_by_set, FIND_SET, LAST_SET, GET_SET, LIST_SET_MODULES, MODULE_LOCKED, PUT_SET, PUT_SET_MODULE, Sets, SetModules, HoldsLedger, HoldsRecords, ledger_of, IsLastRow, place_row, is_same_set, names_of, with_set, AddsSetModule, HoldsTables, at_key, AreReadAs, IsReadAs}
 use Rattle.rollout_machine.specs.Objects.{modules_of_set}
-use Rattle.rollout_machine.specs.Records.{Records}
 use Rattle.rollout_model.specs.declared.number.ModuleKind.{ModuleKind}
 use Rattle.rollout_model.specs.declared.number.Number.{Number}
-use Rattle.rollout_machine.specs.Verdicts.{is_named_by_set}
-use Rattle.desk_records.specs.declared.set_texts.TheConstants.{FIND_SET, LAST_SET, GET_SET, LIST_SET_MODULES, MODULE_LOCKED, PUT_SET, PUT_SET_MODULE}
 use Rattle.desk_records.specs.declared.set_row.SetName.{SetName}
-use Rattle.desk_records.specs.Schema.{Sets, SetModules}
-use Rattle.desk_records.specs.Holds.{HoldsLedger, HoldsRecords, ledger_of}
-use Rattle.desk_records.specs.Modules.{IsLastRow}
-use Rattle.desk_records.specs.Sets.{place_row, is_same_set, names_of, with_set, AddsSetModule}
 use Rattle.desk_records.specs.SetRow.{IsSetNameRow, StoredNumber, called}
-use Rattle.desk_records.specs.Tables.{HoldsTables}
-use Rattle.desk_records.proofs.MeaningWords.{at_key}
 use Rattle.desk_records.proofs.SetMeaning.{same_names, last_set_query, name_columns, set_terms, set_modules_query, locked_query, set_module_terms, find_set_is, last_set_is, get_set_is, list_set_modules_is, module_locked_is, put_set_is, put_set_module_is}
 use Rattle.desk_records.proofs.SetRecords.{finds_set, lasts_set, gets_set, lists_set_modules, finds_lock, adds_set, adds_set_module}
-use Rattle.desk_store.specs.Rows.{AreReadAs, IsReadAs}
 use Rattle.desk_store.proofs.ReadLemmas.{asks_all, takes_one}
 use Rattle.desk_store.proofs.ModuleCalls.{one_last}
 use Rattle.desk_store.proofs.Known.{in_ledgers, ledger_writes, tables_know}

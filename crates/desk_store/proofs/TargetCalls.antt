@@ -1,39 +1,14 @@
 -- The calls on targets and their tags.
 use Rattle.std.proofs.Common.{◌≡◌, ◌<◌, ◌^◌, ℕ, min, pos, take, drop, List, [], ◌∷◌, length, map, Option, Some, None, option_map, Ok, Err, Result, IfOk, Vec, vec_items, refl, sym, ap, subst, ◌∙◌, arith, codes}
-use Rattle.std.specs.declared.alloc.Global.{Global}
-use Rattle.sqlite_value.specs.declared.value.Value.TheVariants.{Int, Text, Blob}
-use Rattle.sqlite_value.specs.Order.{Row, column}
-use Rattle.sqlite.specs.Command.TheVariants.{Select, Insert, Update, Delete}
-use Rattle.sqlite.specs.Source.TheVariants.{Values}
-use Rattle.sqlite.specs.Effect.{Database}
-use Rattle.sqlite.specs.State.{State}
-use Rattle.sql_calls.specs.declared.fault.Fault.{Fault}
-use Rattle.sql_calls.specs.Calls.{RunsText, AsksText, TakesFirst}
-use Rattle.sql_calls.specs.Standing.{Finds, Makes}
-use Rattle.sql_calls.specs.Means.{Knows, KnowsWrite}
-use Rattle.sql_calls.proofs.Finding.{ShowsFirst}
-use Rattle.sql_calls.proofs.Counts.{count_query}
-use Rattle.sql_calls.proofs.Selects.{simple}
-use Rattle.sql_calls.proofs.Finding.{first_finds, run_makes}
-use Rattle.rollout_machine.specs.Commands.{Bytes}
-use Rattle.rollout_machine.specs.Records.{Records}
+use Rattle.desk_store.proofs.Common.{Global, Int, Text, Blob, Row, column, Select, Insert, Update, Delete, Values, Database, State, Fault, RunsText, AsksText, TakesFirst, Finds, Makes, Knows, KnowsWrite, ShowsFirst, count_query, simple, first_finds, run_makes, Bytes, Records, tags_of, target_of, Word, COUNT_TARGETS, DROP_TARGET_TAG, GET_TARGET, LIST_TARGETS, LIST_TARGET_TAGS, PUT_TARGET, PUT_TARGET_TAG, SET_TARGET, Targets, TargetTags, HoldsLedger, HoldsRecords, ledger_of, IsTargetRow, IsListedTargetRow, listed_target, stored_target, HoldsTables, tag_row, AreReadAs, IsCount, IsReadAs}
 use Rattle.rollout_machine.specs.Targets.{Target}
-use Rattle.rollout_machine.specs.Verdicts.{tags_of, target_of}
 use Rattle.rollout_model.specs.declared.word.LabelKind.{LabelKind}
-use Rattle.rollout_model.specs.declared.word.Word.{Word}
-use Rattle.desk_records.specs.declared.target_texts.TheConstants.{COUNT_TARGETS, DROP_TARGET_TAG, GET_TARGET, LIST_TARGETS, LIST_TARGET_TAGS, PUT_TARGET, PUT_TARGET_TAG, SET_TARGET}
 use Rattle.desk_records.specs.declared.target_row.ListedTarget.{ListedTarget}
 use Rattle.desk_records.specs.declared.target_row.StoredTarget.{StoredTarget}
-use Rattle.desk_records.specs.Schema.{Targets, TargetTags}
-use Rattle.desk_records.specs.Holds.{HoldsLedger, HoldsRecords, ledger_of}
 use Rattle.desk_records.specs.ModuleRow.{StoredText}
-use Rattle.desk_records.specs.TargetRow.{IsTargetRow, IsListedTargetRow, listed_target, stored_target}
 use Rattle.desk_records.specs.Targets.{AddsTag, AddsTarget, renamed, untagged, with_changed}
-use Rattle.desk_records.specs.Tables.{HoldsTables}
-use Rattle.desk_records.proofs.Targets.{tag_row}
 use Rattle.desk_records.proofs.TargetMeaning.{of_target, target_columns, target_terms, set_target_query, targets_query, tags_query, tag_terms, drop_tag_query, get_target_is, count_targets_is, list_targets_is, list_target_tags_is, put_target_is, set_target_is, put_target_tag_is, drop_target_tag_is}
 use Rattle.desk_records.proofs.TargetRecords.{told_target, listed_row, gets_target, counts_targets, lists_targets, lists_target_tags, adds_target, sets_target, adds_tag, drops_tag}
-use Rattle.desk_store.specs.Rows.{AreReadAs, IsCount, IsReadAs}
 use Rattle.desk_store.proofs.ReadLemmas.{asks_all, takes_one}
 use Rattle.desk_store.proofs.Known.{in_ledgers, ledger_writes, tables_know}
 

@@ -1,33 +1,8 @@
 -- The writes on rollouts, members, groups, actions and offers.
 use Rattle.std.proofs.Common.{◌≡◌, ℕ, [], ◌∷◌, Bool, Option, None, Result, refl, sym, subst}
-use Rattle.sqlite_value.specs.declared.value.Value.TheVariants.{Text}
-use Rattle.sqlite.specs.Command.TheVariants.{Insert, Update, Delete}
-use Rattle.sqlite.specs.Source.TheVariants.{Values}
-use Rattle.sqlite.specs.State.{State}
-use Rattle.sql_calls.specs.declared.fault.Fault.{Fault}
-use Rattle.sql_calls.specs.Calls.{RunsText}
-use Rattle.sql_calls.specs.Standing.{Makes}
-use Rattle.sql_calls.specs.Means.{KnowsWrite}
-use Rattle.sql_calls.proofs.Finding.{run_makes}
-use Rattle.rollout_machine.specs.Commands.{Bytes, RolloutPlan}
-use Rattle.rollout_machine.specs.declared.bounds.Bounds.{Bounds}
-use Rattle.rollout_machine.specs.declared.outcome.Outcome.{Outcome}
-use Rattle.rollout_model.specs.declared.approval.Approval.{Approval}
-use Rattle.rollout_model.specs.declared.group_rule.GroupRule.{GroupRule}
-use Rattle.rollout_model.specs.declared.rollout.Offer.{Offer}
-use Rattle.desk_records.specs.declared.action_texts.TheConstants.{PUT_ACTION, SET_ACTION, PUT_FEEDBACK, SET_OFFER, DROP_OFFER}
-use Rattle.desk_records.specs.declared.rollout_texts.TheConstants.{PUT_ROLLOUT, SET_ROLLOUT, PUT_MEMBER, PUT_GROUP, PUT_RULE, SET_GROUP}
-use Rattle.desk_records.specs.Actions.{Tally}
+use Rattle.desk_store.proofs.Common.{Text, Insert, Update, Delete, Values, State, Fault, RunsText, Makes, KnowsWrite, run_makes, Bytes, RolloutPlan, Bounds, Outcome, Approval, GroupRule, Offer, PUT_ACTION, SET_ACTION, PUT_FEEDBACK, SET_OFFER, DROP_OFFER, PUT_ROLLOUT, SET_ROLLOUT, PUT_MEMBER, PUT_GROUP, PUT_RULE, SET_GROUP, Tally, HoldsLedger, Ledger, member_row, rule_row, Rollouts, Members, Groups, Actions, Feedbacks, Offers, Rules, feedback_terms, put_feedback_is, action_terms, set_action_query, set_offer_query, drop_offer_query, put_action_is, set_action_is, set_offer_is, drop_offer_is, created_params, turned_params, scheduled_params, acted_params, adds_rollout, sets_rollout, adds_action, sets_action, offered_params, sets_offer, drops_offer, entry_params, adds_entry, cut_params, counted_params, adds_member, adds_group, adds_rule, sets_group, rollout_terms, set_rollout_query, member_terms, group_terms, rule_terms, set_group_query, put_rollout_is, set_rollout_is, put_member_is, put_group_is, put_rule_is, set_group_is}
 use Rattle.desk_records.specs.declared.new_entry.NewEntry.{NewEntry}
-use Rattle.desk_records.specs.Holds.{HoldsLedger, Ledger}
 use Rattle.desk_records.specs.LedgerSteps.{AddsRollout, SetsRollout, AddsMember, AddsGroup, AddsRule, SetsGroup, AddsAction, SetsAction, AddsEntry, SetsOffer, with_offer}
-use Rattle.desk_records.specs.Rollouts.{member_row, rule_row}
-use Rattle.desk_records.specs.Schema.{Rollouts, Members, Groups, Actions, Feedbacks, Offers, Rules}
-use Rattle.desk_records.proofs.ActionMeaning.{feedback_terms, put_feedback_is, action_terms, set_action_query, set_offer_query, drop_offer_query, put_action_is, set_action_is, set_offer_is, drop_offer_is}
-use Rattle.desk_records.proofs.LedgerWrites.{created_params, turned_params, scheduled_params, acted_params, adds_rollout, sets_rollout, adds_action, sets_action}
-use Rattle.desk_records.proofs.OfferWrites.{offered_params, sets_offer, drops_offer}
-use Rattle.desk_records.proofs.PartWrites.{entry_params, adds_entry, cut_params, counted_params, adds_member, adds_group, adds_rule, sets_group}
-use Rattle.desk_records.proofs.RolloutMeaning.{rollout_terms, set_rollout_query, member_terms, group_terms, rule_terms, set_group_query, put_rollout_is, set_rollout_is, put_member_is, put_group_is, put_rule_is, set_group_is}
 use Rattle.desk_store.proofs.Known.{ledger_writes}
 
 abbrev pub knows_put_rollout : KnowsWrite HoldsLedger PUT_ROLLOUT.now

@@ -1,47 +1,12 @@
 -- The table of actions agrees where records of accepted commands are held.
 use Rattle.std.proofs.Common.{◌≡◌, ◌≤◌, ◌<◌, ◌^◌, ℕ, zero, suc, pos, true, false, List, [], ◌∷◌, map, slice_get, zip, unwrap_or, Option, Some, None, refl, sym, ap, subst, ◌∙◌, arith}
-use Rattle.std.specs.Option.{is_some, option_or}
-use Rattle.sqlite_value.specs.declared.value.Value.TheVariants.{Int, Null}
-use Rattle.sqlite_value.specs.Order.{Row, column}
-use Rattle.sqlite_trees.specs.Tree.{has_rowid}
-use Rattle.sqlite.specs.Effect.{Database}
-use Rattle.sqlite_rules.specs.Lists.{Has}
-use Rattle.sqlite_rules.proofs.ListLemmas.{has_got}
-use Rattle.rollout_model.specs.Rules.{is_number, is_word}
-use Rattle.rollout_machine.specs.Actions.{outcome_said}
-use Rattle.rollout_machine.specs.ByteStrings.{item_numbered}
-use Rattle.rollout_machine.specs.CommandList.{CommandList}
-use Rattle.rollout_machine.specs.Commands.{Bytes, CancelWord, DeploymentWord, Proceeding, Scheduled, Resumed, Succeeded, Failed, Rejected}
-use Rattle.rollout_machine.specs.Commands.{Noted, ClosedCancel, CanceledCancel, RejectedCancel, NotedCancel}
+use Rattle.desk_verify.proofs.Common.{is_some, option_or, Int, Null, Row, column, has_rowid, Database, Has, has_got, is_number, is_word, outcome_said, item_numbered, CommandList, Bytes, CancelWord, DeploymentWord, Proceeding, Scheduled, Resumed, Succeeded, Failed, Rejected, Noted, ClosedCancel, CanceledCancel, RejectedCancel, NotedCancel, FollowMembers, IsOfMember, records, IsValid, AreWithinLimits, Outcome, Good, Bad, Gone, ActionRecord, RolloutRecord, actions_follow_members, limits_hold, Tally, action_row, actor_of, entries_of, entry_row, kind_code, outcome_code, tally_of, word_code, flag_in, outcome_in, HoldsRecords, ledger_of, stored_action, member_row, members_from, rollout_row, told_rollout, Actions, Feedbacks, Members, Rollouts, IsAction, HoldsTables, Tables, StoredAction, item_row, part_among, place_within, held_rows, numbered, of_part, row_of, wanted_of, has_own_number, is_at, is_in_range, is_number_in, is_small, number_in_is, number_is, one_number, small_is, AgreesActions, AreInOrder, FitsEntries, GivesOutcome, HasActions, HasMember, IsRightAction, IsStarted}
 use Rattle.rollout_machine.specs.Histories.{first_outcome}
-use Rattle.rollout_machine.specs.MemberActions.{FollowMembers, IsOfMember}
-use Rattle.rollout_machine.specs.Records.{records}
 use Rattle.rollout_machine.specs.Reports.{HistoryEntry, Said, OfDeployment, OfCancel}
 use Rattle.rollout_machine.specs.StateWords.{member_at}
-use Rattle.rollout_machine.specs.Validity.{IsValid}
-use Rattle.rollout_machine.specs.WithinLimits.{AreWithinLimits}
-use Rattle.rollout_machine.specs.declared.outcome.Outcome.{Outcome}
-use Rattle.rollout_machine.specs.declared.outcome.Outcome.TheVariants.{Good, Bad, Gone}
-use Rattle.rollout_machine.specs.declared.records.ActionRecord.{ActionRecord}
-use Rattle.rollout_machine.specs.declared.records.RolloutRecord.{RolloutRecord}
 use Rattle.rollout_machine.proofs.Histories.{outcomes_fit_histories}
-use Rattle.rollout_machine.proofs.MemberActions.{actions_follow_members}
-use Rattle.rollout_machine.proofs.WithinLimits.{limits_hold}
-use Rattle.desk_records.specs.Actions.{Tally, action_row, actor_of, entries_of, entry_row, kind_code, outcome_code, tally_of, word_code}
-use Rattle.desk_records.specs.Codes.{flag_in, outcome_in}
 use Rattle.desk_records.specs.EntryRow.{said_by}
-use Rattle.desk_records.specs.Holds.{HoldsRecords, ledger_of}
 use Rattle.desk_records.specs.Parts.{parts_from}
-use Rattle.desk_records.specs.RolloutRow.{stored_action}
-use Rattle.desk_records.specs.Rollouts.{member_row, members_from, rollout_row, told_rollout}
-use Rattle.desk_records.specs.Schema.{Actions, Feedbacks, Members, Rollouts}
-use Rattle.desk_records.specs.TableRows.{IsAction}
-use Rattle.desk_records.specs.Tables.{HoldsTables, Tables}
-use Rattle.desk_records.specs.declared.rollout_row.StoredAction.{StoredAction}
-use Rattle.desk_records.proofs.HeldCounts.{item_row, part_among, place_within}
-use Rattle.desk_records.proofs.HeldTables.{held_rows, numbered, of_part, row_of, wanted_of}
-use Rattle.desk_records.proofs.NumberColumns.{has_own_number, is_at, is_in_range, is_number_in, is_small, number_in_is, number_is, one_number, small_is}
-use Rattle.desk_verify.specs.Actions.{AgreesActions, AreInOrder, FitsEntries, GivesOutcome, HasActions, HasMember, IsRightAction, IsStarted}
 use Rattle.desk_verify.proofs.GroupLaw.{few_places, flag_is, one_rowid}
 use Rattle.desk_verify.proofs.ListMembers.{member_ids}
 use Rattle.desk_verify.proofs.MemberLaw.{members_in, said}

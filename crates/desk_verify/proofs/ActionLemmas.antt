@@ -1,25 +1,6 @@
 -- What the reads of the tables of actions, members and rollouts come to.
 use Rattle.std.proofs.Common.{◌≡◌, ◌<◌, ℕ, true, false, true≢false, List, [], ◌∷◌, length, nat_eq, pos, Some, None, inl, refl, sym, ap, subst, ◌∙◌, arith}
-use Rattle.std.specs.List.{AllByRecursion}
-use Rattle.sqlite_value.specs.declared.value.Value.TheVariants.{Int, Text}
-use Rattle.sqlite_value.specs.Order.{Row, column}
-use Rattle.sqlite_rules.specs.Lists.{Has}
-use Rattle.sqlite_rules.proofs.ListLemmas.{all_from, all_has}
-use Rattle.rollout_machine.specs.Commands.{Bytes}
-use Rattle.desk_records.specs.Listings.{has_at}
-use Rattle.desk_records.specs.Schema.{Actions}
-use Rattle.desk_records.specs.TableRows.{IsAction}
-use Rattle.desk_records.specs.Tables.{Tables}
-use Rattle.desk_records.specs.declared.member_row.PlacedMember.{PlacedMember}
-use Rattle.desk_records.specs.declared.rollout_row.ListedAction.{ListedAction}
-use Rattle.desk_records.specs.declared.rollout_row.StoredAction.{StoredAction}
-use Rattle.desk_records.specs.declared.rollout_row.StoredRollout.{StoredRollout}
-use Rattle.desk_records.proofs.NumberColumns.{is_at, number_in_is, number_in_least, number_is, one_number}
-use Rattle.desk_verify.specs.ActionChecks.{AreActionsInTurn, AreMembersInTurn, AreWhole, FitsHistory, ListsActions, PassesHistory, are_for, count_none, is_for}
-use Rattle.desk_verify.specs.Actions.{AgreesActions, AreInOrder, FitsEntries, HasActions, HasMember, IsRightAction, IsStarted, KeepsNumbers, PassesActions}
-use Rattle.desk_verify.specs.Agreement.{Settles}
-use Rattle.desk_verify.specs.RolloutChecks.{AreAllChecked, HasRollout, IsChecked, JudgesOne}
-use Rattle.desk_verify.specs.Rollouts.{IsThere}
+use Rattle.desk_verify.proofs.Common.{AllByRecursion, Int, Text, Row, column, Has, all_from, all_has, Bytes, has_at, Actions, IsAction, Tables, PlacedMember, ListedAction, StoredAction, StoredRollout, is_at, number_in_is, number_in_least, number_is, one_number, AreActionsInTurn, AreMembersInTurn, AreWhole, FitsHistory, ListsActions, PassesHistory, are_for, count_none, is_for, AgreesActions, AreInOrder, FitsEntries, HasActions, HasMember, IsRightAction, IsStarted, KeepsNumbers, PassesActions, Settles, AreAllChecked, HasRollout, IsChecked, JudgesOne, IsThere}
 use Rattle.desk_verify.proofs.OneRow.{one_action, one_in}
 use Rattle.desk_verify.proofs.RolloutLemmas.{decided}
 use Rattle.desk_verify.proofs.TurnLemmas.{AreFollowing, AreTurns, following, is_own, own_is, turns}

@@ -1,28 +1,11 @@
 -- The table of artifacts agrees where records of accepted commands are held.
 use Rattle.std.proofs.Common.{◌≡◌, ℕ, suc, ◌+◌, true, List, length, slice_get, Option, Some, refl, sym, ap, subst, ◌∙◌, arith, add-one}
-use Rattle.std.specs.Option.{option_to_list}
+use Rattle.desk_verify.proofs.Common.{option_to_list, Database, contains_had, is_digest, is_number, item_numbered, CommandList, ArtifactRecord, Records, records, IsValid, limits_hold, ArePieces, artifact_row, piece_numbered, pieces_in, pieces_of_artifact, HoldsRecords, ledger_of, Pieces, HoldsTables, Tables, IsNumbered, is_in_range, is_number_in, is_small, SaysArtifact, AgreesArtifacts}
 use Rattle.std.proofs.lemmas.List.Elements.{All-contains}
 use Rattle.std.proofs.lemmas.Option.{slice_get_past}
-use Rattle.sqlite.specs.Effect.{Database}
-use Rattle.sqlite_rules.proofs.ListLemmas.{contains_had}
-use Rattle.rollout_model.specs.Rules.{is_digest, is_number}
-use Rattle.rollout_machine.specs.ByteStrings.{item_numbered}
-use Rattle.rollout_machine.specs.CommandList.{CommandList}
-use Rattle.rollout_machine.specs.Records.{ArtifactRecord, Records, records}
-use Rattle.rollout_machine.specs.Validity.{IsValid}
-use Rattle.rollout_machine.proofs.WithinLimits.{limits_hold}
-use Rattle.desk_records.specs.FoundPieces.{ArePieces}
 use Rattle.desk_records.specs.ArtifactRow.{stored}
-use Rattle.desk_records.specs.Artifacts.{artifact_row, piece_numbered, pieces_in, pieces_of_artifact}
-use Rattle.desk_records.specs.Holds.{HoldsRecords, ledger_of}
-use Rattle.desk_records.specs.Schema.{Pieces}
-use Rattle.desk_records.specs.Tables.{HoldsTables, Tables}
 use Rattle.desk_records.proofs.HeldArtifacts.{held_artifact, held_pieces}
-use Rattle.desk_records.proofs.HeldTables.{IsNumbered}
-use Rattle.desk_records.proofs.NumberColumns.{is_in_range, is_number_in, is_small}
 use Rattle.desk_records.proofs.WholeArtifacts.{IsWhole, KeepsRules, all_keep, all_whole, digest_is_one}
-use Rattle.desk_store.specs.RawLists.{SaysArtifact}
-use Rattle.desk_verify.specs.Artifacts.{AgreesArtifacts}
 
 -- its row says it
 says : (number : ℕ) (a : ArtifactRecord) → is_number number ≡ true → KeepsRules a → IsWhole a → SaysArtifact (artifact_row number a) (record { number = number; artifact = stored a })

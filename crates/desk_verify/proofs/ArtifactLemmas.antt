@@ -1,27 +1,7 @@
 -- What the reads of the tables of artifacts and pieces come to.
 use Rattle.std.proofs.Common.{◌≡◌, ℕ, suc, ◌+◌, Bool, true, false, not, true≢false, List, [], ◌∷◌, map, length, nat_eq, Vec, vec_items, Some, None, refl, sym, ap, subst, ◌∙◌, arith}
-use Rattle.std.specs.List.{AllByRecursion}
-use Rattle.std.specs.Cmp.Lexicographic.{pointwise}
-use Rattle.std.specs.declared.alloc.Global.{Global}
-use Rattle.std.proofs.lemmas.Bool.Decides.{Decides-eqb, nat_tests}
-use Rattle.std.proofs.lemmas.Slice.Eq.{slice_eq-Decides}
-use Rattle.sqlite_value.specs.declared.value.Value.TheVariants.{Blob}
-use Rattle.sqlite_value.specs.Order.{Row, column}
-use Rattle.sqlite_rules.proofs.ListLemmas.{all_from, all_has}
-use Rattle.artifact_pieces.specs.Digests.{digest_of}
-use Rattle.artifact_pieces.specs.Pieces.{piece_count}
-use Rattle.rollout_machine.specs.Commands.{Bytes}
-use Rattle.desk_records.specs.FoundPieces.{ArePieces}
-use Rattle.desk_records.specs.Artifacts.{pieces_in}
-use Rattle.desk_records.specs.Schema.{Artifacts, Pieces}
-use Rattle.desk_records.specs.Tables.{Tables}
+use Rattle.desk_verify.proofs.Common.{AllByRecursion, pointwise, Global, Decides-eqb, nat_tests, slice_eq-Decides, Blob, Row, column, all_from, all_has, digest_of, piece_count, Bytes, ArePieces, pieces_in, Artifacts, Pieces, Tables, number_in_is, one_number, count_pieces, ListsRows, SaysArtifact, any_row, Decides, HashesPieces, AgreesArtifacts, IsWhole}
 use Rattle.desk_records.specs.declared.checked_rows.CheckedArtifact.{CheckedArtifact}
-use Rattle.desk_records.proofs.NumberColumns.{number_in_is, one_number}
-use Rattle.desk_records.proofs.PieceLists.{count_pieces}
-use Rattle.desk_store.specs.RawLists.{ListsRows, SaysArtifact, any_row}
-use Rattle.desk_verify.specs.Agreement.{Decides}
-use Rattle.desk_verify.specs.ArtifactChecks.{HashesPieces}
-use Rattle.desk_verify.specs.Artifacts.{AgreesArtifacts, IsWhole}
 use Rattle.desk_verify.proofs.PieceChecks.{none_found, one_whole}
 
 -- ---- one artifact

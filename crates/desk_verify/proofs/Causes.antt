@@ -1,38 +1,11 @@
 -- What a failed store is blamed on in the checks.
 use Rattle.std.proofs.Common.{◌≡◌, ◌≤◌, ◌<◌, ◌^◌, ◌⊎◌, ◌&&◌, inl, inr, ◌≢◌, ℕ, nat_eq, nat_le, nat_lt, pos, ◌+◌, slice_index_or, zero, suc, take, Bool, not, true, false, cond, List, [], ◌∷◌, length, filter, map, Option, Some, None, refl, Ok, Err, Result, sym, ap, subst, ◌∙◌, arith}
 use Rattle.std.proofs.lemmas.List.Filters.{length-filter_both}
-use Rattle.std.proofs.lemmas.Bool.{and_parts}
-use Rattle.std.proofs.lemmas.Bool.Decides.{nat_tests}
-use Rattle.std.specs.List.{AllByRecursion}
+use Rattle.desk_verify.proofs.Common.{and_parts, nat_tests, AllByRecursion, Int, Row, column, value_cmp, State, Finds, Wears, Fault, is_number, number_of, number_in, AreSaid, HasNumber, IsLast, AreMembers, OwnedOffer, PlacedMember, Members, Offers, Place, Rollouts, number_in_good, number_in_is, HoldsTables, Tables, BlamesGiven, Watches, FindsTables, seen_in, AreActions, AreOffers, SaysOffer, any_row, IsUnreadable, large_number, many_rows, rise, twin_members, count_on, AgreesActions, AgreeBefore, Passes, checked, Artifact, follow, AgreesMembers, IsUpTo}
 use Rattle.std.specs.Ordering.{is_eq}
-use Rattle.sqlite_value.specs.declared.value.Value.TheVariants.{Int}
-use Rattle.sqlite_value.specs.Order.{Row, column, value_cmp}
 use Rattle.sqlite.specs.Store.{Ghosts}
-use Rattle.sqlite.specs.State.{State}
-use Rattle.sql_calls.specs.Standing.{Finds, Wears}
-use Rattle.sql_calls.specs.declared.fault.Fault.{Fault}
 use Rattle.rollout_model.specs.Limits.{number_limit}
-use Rattle.rollout_model.specs.Rules.{is_number, number_of}
-use Rattle.desk_records.specs.Codes.{number_in}
-use Rattle.desk_records.specs.Listings.{AreSaid, HasNumber, IsLast}
-use Rattle.desk_records.specs.PlaceLists.{AreMembers}
-use Rattle.desk_records.specs.declared.checked_rows.OwnedOffer.{OwnedOffer}
-use Rattle.desk_records.specs.declared.member_row.PlacedMember.{PlacedMember}
-use Rattle.desk_records.specs.Schema.{Members, Offers, Place, Rollouts}
-use Rattle.desk_records.proofs.NumberColumns.{number_in_good, number_in_is}
-use Rattle.desk_records.specs.Tables.{HoldsTables, Tables}
-use Rattle.desk_store.specs.Blaming.{BlamesGiven, Watches}
-use Rattle.desk_store.specs.Changing.{FindsTables, seen_in}
-use Rattle.desk_store.specs.RawLists.{AreActions, AreOffers, SaysOffer, any_row}
-use Rattle.desk_store.specs.Unreadable.{IsUnreadable, large_number, many_rows, rise, twin_members}
 use Rattle.desk_store.specs.declared.change.OpenChange.{OpenChange}
-use Rattle.desk_verify.specs.ActionChecks.{count_on}
-use Rattle.desk_verify.specs.Actions.{AgreesActions}
-use Rattle.desk_verify.specs.Agreement.{AgreeBefore, Passes, checked}
-use Rattle.desk_verify.specs.declared.damage.CheckedTable.TheVariants.{Artifact}
-use Rattle.desk_verify.specs.Following.{follow}
-use Rattle.desk_verify.specs.Members.{AgreesMembers}
-use Rattle.desk_verify.specs.RolloutChecks.{IsUpTo}
 use Rattle.desk_verify.proofs.Follow.{differs}
 use Rattle.desk_verify.proofs.GroupLaw.{one_rowid}
 

@@ -1,12 +1,6 @@
 -- The rows of the rollouts from 1 on, counted, where a column has the rollout's number.
 use Rattle.std.proofs.Common.{◌≡◌, ◌≤◌, ◌||◌, ℕ, zero, suc, ◌+◌, Bool, true, false, cond, List, [], ◌∷◌, filter, length, refl, sym, ap, ◌∙◌, arith, nat_eq}
-use Rattle.std.proofs.lemmas.Bool.Decides.{nat_tests}
-use Rattle.sqlite_value.specs.Order.{Row, column}
-use Rattle.sqlite_rules.specs.Lists.{Has}
-use Rattle.desk_records.specs.Listings.{has_at}
-use Rattle.desk_records.proofs.Membership.{all_pass, each_passes}
-use Rattle.desk_records.proofs.NumberColumns.{number_is, one_number}
-use Rattle.desk_verify.specs.Judged.{AreJudged, within}
+use Rattle.desk_verify.proofs.Common.{nat_tests, Row, column, Has, has_at, all_pass, each_passes, number_is, one_number, AreJudged, within}
 
 pub either : (a b : Bool) → (a || b) ≡ true → a ≡ false → b ≡ true
 either true b h is = cc

@@ -1,23 +1,8 @@
 -- Places that rise by at most one.
 use Rattle.std.proofs.Common.{◌≡◌, ◌⊎◌, inl, inr, ◌≤◌, ◌<◌, ◌&&◌, ℕ, zero, suc, ◌+◌, Bool, true, false, List, [], ◌∷◌, ◌++◌, nat_le, nat_lt, refl, sym, ap, subst, ◌∙◌, arith, append_assoc, Some, pos}
 use Rattle.std.specs.List.Sorted.{IsNonDecreasingBy}
-use Rattle.std.proofs.lemmas.Bool.{and_parts}
-use Rattle.std.proofs.lemmas.Bool.Decides.{nat_tests}
+use Rattle.desk_verify.proofs.Common.{and_parts, nat_tests, Int, Row, column, Has, contains_had, has_either, AreBroken, AreMembers, SaysMember, is_of, Members, IsMember, Tables, PlacedMember, is_at, number_in_is, number_is, one_number, follow, AgreesMembers, HasPlace, IsInPlace, IsThere}
 use Rattle.std.proofs.lemmas.List.Sorted.{IsNonDecreasingBy-drop}
-use Rattle.sqlite_value.specs.declared.value.Value.TheVariants.{Int}
-use Rattle.sqlite_value.specs.Order.{Row, column}
-use Rattle.sqlite_rules.specs.Lists.{Has}
-use Rattle.sqlite_rules.proofs.ListLemmas.{contains_had, has_either}
-use Rattle.desk_records.specs.Listings.{AreBroken}
-use Rattle.desk_records.specs.PlaceLists.{AreMembers, SaysMember, is_of}
-use Rattle.desk_records.specs.Schema.{Members}
-use Rattle.desk_records.specs.TableRows.{IsMember}
-use Rattle.desk_records.specs.Tables.{Tables}
-use Rattle.desk_records.specs.declared.member_row.PlacedMember.{PlacedMember}
-use Rattle.desk_records.proofs.NumberColumns.{is_at, number_in_is, number_is, one_number}
-use Rattle.desk_verify.specs.Following.{follow}
-use Rattle.desk_verify.specs.Members.{AgreesMembers, HasPlace, IsInPlace}
-use Rattle.desk_verify.specs.Rollouts.{IsThere}
 
 -- a member at this place
 abbrev At : List PlacedMember → ℕ → Type 0

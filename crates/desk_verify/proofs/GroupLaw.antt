@@ -1,59 +1,17 @@
 -- The table of groups agrees where records of accepted commands are held.
 use Rattle.std.proofs.Common.{◌≡◌, inl, inr, ◌≤◌, ◌<◌, ◌^◌, ◌&&◌, ℕ, zero, suc, ◌+◌, ◌-◌, pos, Bool, true, false, cond, List, [], ◌∷◌, filter, length, map, slice_get, zip, nat_eq, nat_lt, Option, Some, None, refl, sym, ap, subst, ◌∙◌, arith, is_eq}
-use Rattle.std.proofs.lemmas.Bool.{and_parts}
-use Rattle.std.proofs.lemmas.Bool.Decides.{nat_tests}
+use Rattle.desk_verify.proofs.Common.{and_parts, nat_tests, option_map, Int, Null, Row, column, has_rowid, Database, Has, is_group_count, is_number, item_numbered, CommandList, Bytes, is_outcome, GroupRule, rule_at, rules_of, bounds_by, last_by, leaves_empty, IsCut, holds_position, Records, records, IsValid, AreWithinLimits, IsWithinLimits, Bounds, Outcome, Good, Bad, Gone, ActionRecord, GroupRecord, RolloutRecord, each_there, actions_follow_members, limits_hold, action_row, outcome_code, tally_of, flag_in, group_count_in, HoldsRecords, ledger_of, has_at, is_of, broken_group_column, flag, group_row, groups_from, members_from, rollout_row, rule_row, rules_from, told_rollout, Actions, Groups, Members, Rollouts, Rules, IsGroup, HoldsTables, Tables, at_place, has_place, held_passing, item_row, own_parts, part_among, place_within, held_rows, numbered, of_part, row_of, wanted_of, has_own_number, is_number_in, HasGroupCount, HasRule, AgreesGroups, HasGroup, IsCutBy, IsInRollout, IsRightGroup, ended_in, has_ended, members_in}
 use Rattle.std.proofs.lemmas.Option.{slice_get-map}
-use Rattle.std.specs.Option.{option_map}
 use Rattle.std.proofs.lemmas.Int.{ints}
-use Rattle.sqlite_value.specs.declared.value.Value.TheVariants.{Int, Null}
-use Rattle.sqlite_value.specs.Order.{Row, column}
 use Rattle.sqlite_value.proofs.OrderLemmas.{value_cmp-Int}
-use Rattle.sqlite_trees.specs.Tree.{has_rowid}
-use Rattle.sqlite.specs.Effect.{Database}
-use Rattle.sqlite_rules.specs.Lists.{Has}
 use Rattle.sql_calls.specs.Keyed.{rows_from}
 use Rattle.rollout_model.specs.Limits.{group_limit}
-use Rattle.rollout_model.specs.Rules.{is_group_count, is_number}
-use Rattle.rollout_machine.specs.ByteStrings.{item_numbered}
-use Rattle.rollout_machine.specs.CommandList.{CommandList}
-use Rattle.rollout_machine.specs.Commands.{Bytes}
-use Rattle.rollout_machine.specs.Counts.{is_outcome}
 use Rattle.rollout_machine.specs.GroupCounts.{HasCountedGroups, IsCountedGroup}
-use Rattle.rollout_machine.specs.GroupRules.{GroupRule, rule_at, rules_of}
-use Rattle.rollout_machine.specs.Groupings.{bounds_by, last_by, leaves_empty}
-use Rattle.rollout_machine.specs.Groups.{IsCut, holds_position}
 use Rattle.rollout_machine.specs.Kinds.{count_actions}
-use Rattle.rollout_machine.specs.Records.{Records, records}
-use Rattle.rollout_machine.specs.Validity.{IsValid}
-use Rattle.rollout_machine.specs.WithinLimits.{AreWithinLimits, IsWithinLimits}
-use Rattle.rollout_machine.specs.declared.bounds.Bounds.{Bounds}
-use Rattle.rollout_machine.specs.declared.outcome.Outcome.{Outcome}
-use Rattle.rollout_machine.specs.declared.outcome.Outcome.TheVariants.{Good, Bad, Gone}
-use Rattle.rollout_machine.specs.declared.records.ActionRecord.{ActionRecord}
-use Rattle.rollout_machine.specs.declared.records.GroupRecord.{GroupRecord}
-use Rattle.rollout_machine.specs.declared.records.RolloutRecord.{RolloutRecord}
 use Rattle.rollout_machine.proofs.GroupCounts.{groups_are_counted}
 use Rattle.rollout_machine.proofs.Groupings.{grouping_is_cut}
-use Rattle.rollout_machine.proofs.Lists.{each_there}
-use Rattle.rollout_machine.proofs.MemberActions.{actions_follow_members}
-use Rattle.rollout_machine.proofs.WithinLimits.{limits_hold}
-use Rattle.desk_records.specs.Actions.{action_row, outcome_code, tally_of}
 use Rattle.desk_records.specs.CheckedRows.{counted_in}
-use Rattle.desk_records.specs.Codes.{flag_in, group_count_in}
 use Rattle.desk_records.specs.CountedActions.{is_counted, passes_if_there}
-use Rattle.desk_records.specs.Holds.{HoldsRecords, ledger_of}
-use Rattle.desk_records.specs.Listings.{has_at}
-use Rattle.desk_records.specs.PlaceLists.{is_of}
-use Rattle.desk_records.specs.RolloutRow.{broken_group_column}
-use Rattle.desk_records.specs.Rollouts.{flag, group_row, groups_from, members_from, rollout_row, rule_row, rules_from, told_rollout}
-use Rattle.desk_records.specs.Schema.{Actions, Groups, Members, Rollouts, Rules}
-use Rattle.desk_records.specs.TableRows.{IsGroup}
-use Rattle.desk_records.specs.Tables.{HoldsTables, Tables}
-use Rattle.desk_records.proofs.HeldCounts.{at_place, has_place, held_passing, item_row, own_parts, part_among, place_within}
-use Rattle.desk_records.proofs.HeldTables.{held_rows, numbered, of_part, row_of, wanted_of}
-use Rattle.desk_records.proofs.NumberColumns.{has_own_number, is_number_in}
-use Rattle.desk_store.specs.RuleTables.{HasGroupCount, HasRule}
-use Rattle.desk_verify.specs.Groups.{AgreesGroups, HasGroup, IsCutBy, IsInRollout, IsRightGroup, ended_in, has_ended, members_in}
 use Rattle.desk_verify.proofs.PlanLaw.{IsPlanned, each_has, plans_are, rule_told, rules_make}
 
 -- ---- rows

@@ -1,33 +1,10 @@
 -- What the reads of the tables of groups, members and actions come to.
 use Rattle.std.proofs.Common.{◌≡◌, ◌≤◌, ◌<◌, ◌&&◌, ℕ, zero, suc, ◌+◌, Bool, true, false, not, List, count_by, length, Option, Some, None, true≢false, refl, sym, ap, subst, ◌∙◌, arith, nat_eq}
-use Rattle.std.specs.List.{list_all}
-use Rattle.std.proofs.lemmas.Bool.{and_from, and_parts}
-use Rattle.std.proofs.lemmas.Bool.Decides.{nat_tests}
+use Rattle.desk_verify.proofs.Common.{list_all, and_from, and_parts, nat_tests, Row, column, Has, some_from, some_has, test_from, test_has, item_numbered, bounds_by, cut_by, leaves_empty, each_there, numbered_each, Bounds, Outcome, Good, Bad, Gone, GroupRecord, HasNumber, has_at, Actions, Groups, Rollouts, IsGroup, Tables, is_at, number_in_is, number_in_least, number_is, one_number, ListsRows, SaysGroup, HasGroupCount, Decides, are_bounds, are_right, counts_them, has_each, has_number, is_cut, is_right, same_bounds, HasEach, IsCutOnlyBy, IsGroupCount, AgreesGroups, HasGroup, IsCutBy, IsInRollout, IsRightGroup, ended_in, has_ended, members_in, AreAllChecked, IsChecked}
 use Rattle.std.proofs.lemmas.List.Sums.{length-filter}
-use Rattle.sqlite_value.specs.Order.{Row, column}
-use Rattle.sqlite_rules.specs.Lists.{Has}
-use Rattle.sqlite_rules.proofs.ListLemmas.{some_from, some_has, test_from, test_has}
-use Rattle.rollout_machine.specs.ByteStrings.{item_numbered}
-use Rattle.rollout_machine.specs.Groupings.{Grouping, bounds_by, cut_by, leaves_empty}
-use Rattle.rollout_machine.proofs.Lists.{each_there, numbered_each}
-use Rattle.rollout_machine.specs.declared.bounds.Bounds.{Bounds}
-use Rattle.rollout_machine.specs.declared.outcome.Outcome.{Outcome}
-use Rattle.rollout_machine.specs.declared.outcome.Outcome.TheVariants.{Good, Bad, Gone}
-use Rattle.rollout_machine.specs.declared.records.GroupRecord.{GroupRecord}
+use Rattle.rollout_machine.specs.Groupings.{Grouping}
 use Rattle.desk_records.specs.CountedActions.{AreCounted}
-use Rattle.desk_records.specs.Listings.{HasNumber, has_at}
-use Rattle.desk_records.specs.Schema.{Actions, Groups, Rollouts}
-use Rattle.desk_records.specs.TableRows.{IsGroup}
-use Rattle.desk_records.specs.Tables.{Tables}
 use Rattle.desk_records.specs.declared.checked_rows.CountedAction.{CountedAction}
-use Rattle.desk_records.proofs.NumberColumns.{is_at, number_in_is, number_in_least, number_is, one_number}
-use Rattle.desk_store.specs.RawLists.{ListsRows, SaysGroup}
-use Rattle.desk_store.specs.RuleTables.{HasGroupCount}
-use Rattle.desk_verify.specs.Agreement.{Decides}
-use Rattle.desk_verify.specs.Cuts.{are_bounds, are_right, counts_them, has_each, has_number, is_cut, is_right, same_bounds}
-use Rattle.desk_verify.specs.GroupChecks.{HasEach, IsCutOnlyBy, IsGroupCount}
-use Rattle.desk_verify.specs.Groups.{AgreesGroups, HasGroup, IsCutBy, IsInRollout, IsRightGroup, ended_in, has_ended, members_in}
-use Rattle.desk_verify.specs.RolloutChecks.{AreAllChecked, IsChecked}
 use Rattle.desk_verify.proofs.OneRow.{one_in}
 use Rattle.desk_verify.proofs.RolloutLemmas.{decided}
 use Rattle.desk_verify.proofs.RuleLemmas.{some_groups}

@@ -1,25 +1,7 @@
 -- What the history of an action that was read comes to.
 use Rattle.std.proofs.Common.{◌≡◌, inl, inr, ◌⊎◌, ◌≤◌, ℕ, Bool, true, false, true≢false, List, [], ◌∷◌, map, Option, Some, None, refl, sym, ap, ◌∙◌, arith}
-use Rattle.std.specs.Option.{option_or}
-use Rattle.sqlite_value.specs.Order.{column}
-use Rattle.sqlite_rules.specs.Lists.{Has}
-use Rattle.rollout_machine.specs.Actions.{outcome_said}
-use Rattle.rollout_machine.specs.Counts.{is_outcome}
-use Rattle.rollout_machine.specs.declared.outcome.Outcome.{Outcome}
-use Rattle.rollout_machine.specs.declared.outcome.Outcome.TheVariants.{Good, Bad, Gone}
-use Rattle.desk_records.specs.Listings.{AreSaid, has_at}
-use Rattle.desk_records.specs.Schema.{Feedbacks, Numbers}
-use Rattle.desk_records.specs.TableRows.{IsEntry}
-use Rattle.desk_records.specs.Tables.{Tables}
-use Rattle.desk_records.specs.declared.entry_row.SequencedEntry.{SequencedEntry}
+use Rattle.desk_verify.proofs.Common.{option_or, column, Has, outcome_said, is_outcome, Outcome, Good, Bad, Gone, AreSaid, has_at, Feedbacks, Numbers, IsEntry, Tables, SequencedEntry, ListedAction, is_at, number_is, one_number, SaysNumber, rise, FitsHistory, IsGiven, IsGivenFirst, PassesHistory, first_said, is_fit, sequences_rise, FitsEntries, GivesOutcome, KeepsNumbers, Decides, Settles}
 use Rattle.desk_records.specs.declared.number_row.PlacedNumber.{PlacedNumber}
-use Rattle.desk_records.specs.declared.rollout_row.ListedAction.{ListedAction}
-use Rattle.desk_records.proofs.NumberColumns.{is_at, number_is, one_number}
-use Rattle.desk_store.specs.RawLists.{SaysNumber}
-use Rattle.desk_store.specs.Unreadable.{rise}
-use Rattle.desk_verify.specs.ActionChecks.{FitsHistory, IsGiven, IsGivenFirst, PassesHistory, first_said, is_fit, sequences_rise}
-use Rattle.desk_verify.specs.Actions.{FitsEntries, GivesOutcome, KeepsNumbers}
-use Rattle.desk_verify.specs.Agreement.{Decides, Settles}
 use Rattle.desk_verify.proofs.Rising.{above, only_one, rest_rises}
 
 abbrev sequence_of : SequencedEntry → ℕ

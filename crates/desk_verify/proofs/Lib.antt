@@ -1,3 +1,4 @@
+pub mod Common
 mod PieceChecks
 mod ArtifactLemmas
 mod Counting

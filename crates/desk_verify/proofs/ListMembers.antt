@@ -1,23 +1,13 @@
 -- The members of the rollouts of a list of accepted commands are ids.
 use Rattle.std.proofs.Common.{◌≡◌, ◌⊎◌, inl, inr, ℕ, suc, Bool, true, false, cond, List, [], ◌∷◌, map, filter, Option, Some, None, refl, sym, ap, subst, ◌∙◌}
-use Rattle.std.proofs.lemmas.Bool.{and_parts}
-use Rattle.sqlite_rules.specs.Lists.{Has}
-use Rattle.sqlite_rules.proofs.ListLemmas.{has_either, has_filtered, test_has}
+use Rattle.desk_verify.proofs.Common.{and_parts, Has, has_either, has_filtered, test_has, is_word, bytes_below, same_bytes, with_word, with_words, CommandList, Make, ◌▸◌, Bytes, Command, CreateRollout, PutTargets, TargetRow, rollouts_in, Rollout, chosen, created, rollouts, IsValid, RolloutRecord, has_mapped}
 use Rattle.rollout_model.specs.Rows.{is_target_row}
-use Rattle.rollout_model.specs.Rules.{is_word}
-use Rattle.rollout_machine.specs.ByteStrings.{bytes_below, same_bytes, with_word, with_words}
-use Rattle.rollout_machine.specs.CommandList.{CommandList, Make, ◌▸◌}
 use Rattle.rollout_machine.specs.CommandRules.{IsWellFormed}
-use Rattle.rollout_machine.specs.Commands.{Bytes, Command, CreateRollout, PutTargets, TargetRow}
 use Rattle.rollout_machine.specs.Filters.{matches}
-use Rattle.rollout_machine.specs.Records.{records, rollouts_in}
-use Rattle.rollout_machine.specs.Rollouts.{Rollout, chosen, created, rollouts}
+use Rattle.rollout_machine.specs.Records.{records}
 use Rattle.rollout_machine.specs.Targets.{Target, import_rows_of, target_ids, target_in, targets}
-use Rattle.rollout_machine.specs.Validity.{IsValid}
-use Rattle.rollout_machine.specs.declared.records.RolloutRecord.{RolloutRecord}
 use Rattle.target_filter.specs.Grammar.{Tree}
 use Rattle.target_filter.specs.Profile.{filter_of}
-use Rattle.desk_records.proofs.Membership.{has_mapped}
 
 -- ---- targets
 

@@ -1,28 +1,8 @@
 -- The table of members agrees where records of accepted commands are held.
 use Rattle.std.proofs.Common.{◌≡◌, ◌⊎◌, inl, inr, ◌≤◌, ◌<◌, ℕ, zero, suc, ◌+◌, pos, true, List, ◌∷◌, length, refl, sym, ap, subst, ◌∙◌, arith}
-use Rattle.sqlite_value.specs.declared.value.Value.TheVariants.{Int, Null}
-use Rattle.sqlite_value.specs.Order.{Row}
-use Rattle.sqlite.specs.Effect.{Database}
-use Rattle.sqlite_rules.specs.Lists.{Has}
+use Rattle.desk_verify.proofs.Common.{Int, Null, Row, Database, Has, is_number, is_word, Bytes, CommandList, Records, records, IsValid, RolloutRecord, limits_hold, IsWithinLimits, HoldsLedger, HoldsRecords, Ledger, ledger_of, member_row, members_from, rollout_row, told_rollout, Members, Rollouts, IsMember, HoldsTables, Tables, IsPart, held_rows, numbered, of_part, row_numbered, row_of, wanted_of, has_own_number, is_in_range, is_number_in, is_small, AgreesMembers, HasPlace, IsThere}
 use Rattle.sql_calls.specs.Keyed.{IsHeldBy}
 use Rattle.rollout_model.specs.Limits.{target_limit}
-use Rattle.rollout_model.specs.Rules.{is_number, is_word}
-use Rattle.rollout_machine.specs.Commands.{Bytes}
-use Rattle.rollout_machine.specs.CommandList.{CommandList}
-use Rattle.rollout_machine.specs.Records.{Records, records}
-use Rattle.rollout_machine.specs.Validity.{IsValid}
-use Rattle.rollout_machine.specs.declared.records.RolloutRecord.{RolloutRecord}
-use Rattle.rollout_machine.proofs.WithinLimits.{limits_hold}
-use Rattle.rollout_machine.specs.WithinLimits.{IsWithinLimits}
-use Rattle.desk_records.specs.Holds.{HoldsLedger, HoldsRecords, Ledger, ledger_of}
-use Rattle.desk_records.specs.Rollouts.{member_row, members_from, rollout_row, told_rollout}
-use Rattle.desk_records.specs.Schema.{Members, Rollouts}
-use Rattle.desk_records.specs.TableRows.{IsMember}
-use Rattle.desk_records.specs.Tables.{HoldsTables, Tables}
-use Rattle.desk_records.proofs.HeldTables.{IsPart, held_rows, numbered, of_part, row_numbered, row_of, wanted_of}
-use Rattle.desk_records.proofs.NumberColumns.{has_own_number, is_in_range, is_number_in, is_small}
-use Rattle.desk_verify.specs.Members.{AgreesMembers, HasPlace}
-use Rattle.desk_verify.specs.Rollouts.{IsThere}
 use Rattle.desk_verify.proofs.ListMembers.{AreIds, member_ids}
 
 abbrev pub members_in : RolloutRecord → List Bytes

@@ -1,16 +1,6 @@
 -- What the reads of the table of members come to.
 use Rattle.std.proofs.Common.{◌≡◌, ℕ, true, List, length, Some, ◌∙◌, nat_eq}
-use Rattle.sqlite_value.specs.Order.{column}
-use Rattle.desk_records.specs.PlaceLists.{ListsPlaces}
-use Rattle.desk_records.specs.Schema.{Members}
-use Rattle.desk_records.specs.Tables.{Tables}
-use Rattle.desk_records.specs.declared.member_row.PlacedMember.{PlacedMember}
-use Rattle.desk_records.proofs.NumberColumns.{is_at, number_in_is, number_in_least}
-use Rattle.desk_verify.specs.Agreement.{Decides}
-use Rattle.desk_verify.specs.Following.{follow}
-use Rattle.desk_verify.specs.RolloutChecks.{AreAllChecked, IsChecked}
-use Rattle.desk_verify.specs.Members.{AgreesMembers, IsInPlace}
-use Rattle.desk_verify.specs.Rollouts.{IsThere}
+use Rattle.desk_verify.proofs.Common.{column, ListsPlaces, Members, Tables, PlacedMember, is_at, number_in_is, number_in_least, Decides, follow, AreAllChecked, IsChecked, AgreesMembers, IsInPlace, IsThere}
 use Rattle.desk_verify.proofs.Follow.{in_place}
 use Rattle.desk_verify.proofs.RolloutLemmas.{decided}
 

@@ -1,16 +1,6 @@
 -- A desk that holds the records of accepted commands is never told of a table.
 use Rattle.std.proofs.Common.{◌∷◌, inl, Option, Some, None, Result, Ok, Err, refl, sym, subst, arith}
-use Rattle.std.specs.List.{AllByRecursion}
-use Rattle.sqlite.specs.State.{State}
-use Rattle.sqlite_rules.specs.Lists.{Has}
-use Rattle.sqlite_rules.proofs.ListLemmas.{all_has, has_right}
-use Rattle.sql_calls.specs.declared.fault.Fault.{Fault}
-use Rattle.sql_calls.specs.Standing.{Finds}
-use Rattle.rollout_machine.specs.Records.{records}
-use Rattle.desk_records.specs.Holds.{ledger_of}
-use Rattle.desk_records.specs.Tables.{HoldsTables, Tables}
-use Rattle.desk_records.proofs.HeldTables.{are_tables, rows_of}
-use Rattle.desk_verify.specs.Agreement.{Agrees, IsDamage, NamesFirst, checked}
+use Rattle.desk_verify.proofs.Common.{AllByRecursion, State, Has, all_has, has_right, Fault, Finds, records, ledger_of, HoldsTables, Tables, are_tables, rows_of, Agrees, IsDamage, NamesFirst, checked}
 use Rattle.desk_verify.specs.Promises.{NamesNone, RecordsAgree}
 use Rattle.desk_verify.specs.declared.damage.CheckedTable.{CheckedTable}
 use Rattle.desk_verify.proofs.ActionLaw.{actions_agree}

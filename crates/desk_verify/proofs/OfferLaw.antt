@@ -1,47 +1,15 @@
 -- The table of offers agrees where records of accepted commands are held.
 use Rattle.std.proofs.Common.{◌≡◌, inl, inr, ◌≤◌, ℕ, zero, suc, pos, Bool, true, false, ◌∷◌, map, slice_get, nat_lt, is_none, Option, Some, None, true≢false, refl, sym, ap, subst, ◌∙◌, arith}
-use Rattle.std.proofs.lemmas.Bool.{and_from, and_parts}
-use Rattle.std.proofs.lemmas.Bool.Decides.{nat_tests}
-use Rattle.sqlite_value.specs.declared.value.Value.TheVariants.{Int, Null}
-use Rattle.sqlite_value.specs.Order.{Row}
-use Rattle.sqlite.specs.Effect.{Database}
-use Rattle.sqlite_rules.specs.Lists.{Has}
-use Rattle.sqlite_rules.proofs.ListLemmas.{has_filtered, has_got, has_kept, some_from, some_has}
-use Rattle.rollout_model.specs.Rules.{is_word}
-use Rattle.rollout_model.specs.declared.rollout.Offer.{Offer}
-use Rattle.rollout_machine.specs.ByteStrings.{item_numbered}
-use Rattle.rollout_machine.specs.CommandList.{CommandList}
-use Rattle.rollout_machine.specs.Commands.{Bytes}
-use Rattle.rollout_machine.specs.Groups.{holds_position}
+use Rattle.desk_verify.proofs.Common.{and_from, and_parts, nat_tests, Int, Null, Row, Database, Has, has_filtered, has_got, has_kept, some_from, some_has, is_word, Offer, item_numbered, CommandList, Bytes, holds_position, IsOfMember, records, IsValid, ActionRecord, RolloutRecord, actions_follow_members, same_refl, same_true, action_row, actor_of, tally_of, told_action, number_in, HoldsRecords, ledger_of, stored_action, Offers, IsAction, IsGroup, IsOffer, HoldsTables, Tables, StoredAction, held_rows, row_of, wanted_of, has_mapped, map_has, has_own_number, holds_started, is_started_at, AgreesOffers, HasNumberedAction, IsDue, IsInStartedGroup, IsOffered, IsRightOffer}
 use Rattle.rollout_machine.specs.Kinds.{TargetOffer, offer_to}
-use Rattle.rollout_machine.specs.MemberActions.{IsOfMember}
 use Rattle.rollout_machine.specs.Offers.{offer}
-use Rattle.rollout_machine.specs.Records.{records}
 use Rattle.rollout_machine.specs.StateWords.{has_started}
-use Rattle.rollout_machine.specs.Validity.{IsValid}
-use Rattle.rollout_machine.specs.declared.records.ActionRecord.{ActionRecord}
-use Rattle.rollout_machine.specs.declared.records.RolloutRecord.{RolloutRecord}
 use Rattle.rollout_machine.proofs.AtNumbers.{has_place}
-use Rattle.rollout_machine.proofs.MemberActions.{actions_follow_members}
 use Rattle.rollout_machine.proofs.Meanings.{is_candidate, least_offer, none_from}
 use Rattle.rollout_machine.proofs.Offers.{offered_one}
-use Rattle.rollout_machine.proofs.TargetTies.{same_refl, same_true}
 use Rattle.offer_laws.proofs.AnyGroup.{started_by_any}
-use Rattle.desk_records.specs.Actions.{action_row, actor_of, tally_of, told_action}
-use Rattle.desk_records.specs.Codes.{number_in}
-use Rattle.desk_records.specs.Holds.{HoldsRecords, ledger_of}
 use Rattle.desk_records.specs.Offers.{HoldsOffers, is_to, offer_row}
-use Rattle.desk_records.specs.RolloutRow.{stored_action}
-use Rattle.desk_records.specs.Schema.{Offers}
-use Rattle.desk_records.specs.TableRows.{IsAction, IsGroup, IsOffer}
-use Rattle.desk_records.specs.Tables.{HoldsTables, Tables}
-use Rattle.desk_records.specs.declared.rollout_row.StoredAction.{StoredAction}
 use Rattle.desk_records.proofs.HeldCounts.{has_place as place_of}
-use Rattle.desk_records.proofs.HeldTables.{held_rows, row_of, wanted_of}
-use Rattle.desk_records.proofs.Membership.{has_mapped, map_has}
-use Rattle.desk_records.proofs.NumberColumns.{has_own_number}
-use Rattle.desk_verify.specs.OfferChecks.{holds_started, is_started_at}
-use Rattle.desk_verify.specs.Offers.{AgreesOffers, HasNumberedAction, IsDue, IsInStartedGroup, IsOffered, IsRightOffer}
 use Rattle.desk_verify.proofs.ActionLaw.{among, is_word_of, its_action, says}
 use Rattle.desk_verify.proofs.GroupLaw.{flag_is, group_lies, is_group, one_of}
 use Rattle.desk_verify.proofs.GroupLemmas.{one_group, one_rollout}

@@ -1,13 +1,7 @@
 -- A row says one thing.
 use Rattle.std.proofs.Common.{◌≡◌, Option, Some, sym, ◌∙◌}
 use Rattle.sqlite_value.specs.declared.value.Value.{Value}
-use Rattle.sqlite_value.specs.declared.value.Value.TheVariants.{Text}
-use Rattle.sqlite_value.specs.Order.{Row, column}
-use Rattle.rollout_machine.specs.Commands.{Bytes}
-use Rattle.desk_records.specs.RolloutRow.{IsActionRow}
-use Rattle.desk_records.specs.TableRows.{action_shown}
-use Rattle.desk_records.specs.declared.rollout_row.StoredAction.{StoredAction}
-use Rattle.desk_records.proofs.NumberColumns.{one_number}
+use Rattle.desk_verify.proofs.Common.{Text, Row, column, Bytes, IsActionRow, action_shown, StoredAction, one_number}
 
 pub one_in : {X : Type 0} (read : Option X) (x y : X) → read ≡ Some x → read ≡ Some y → x ≡ y
 one_in read x y is other = let same : Some x ≡ Some y = sym is ∙ other in cc

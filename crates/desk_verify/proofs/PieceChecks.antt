@@ -1,25 +1,12 @@
 -- What is found at the places of an artifact, one after the other.
 use Rattle.std.proofs.Common.{◌≡◌, ◌≤◌, ◌<◌, ◌⊎◌, inl, inr, ◌++◌, ℕ, zero, suc, ◌+◌, ◌-◌, ◌*◌, List, [], ◌∷◌, length, map, slice_get, get_or, min, drop, Vec, vec_items, Some, None, refl, sym, ap, ap₂, subst, ◌∙◌, arith, length-append}
-use Rattle.std.specs.declared.alloc.Global.{Global}
+use Rattle.desk_verify.proofs.Common.{Global, Blob, Row, Has, digest_of, piece_count, Bytes, ArePieces, pieces_in, Pieces, Tables, count_pieces, count_whole, nth_piece, one_more, same_contents, HashesPieces, IsHashed, HasPieces}
 use Rattle.std.proofs.lemmas.Grind.{div_ceil_times}
 use Rattle.std.proofs.lemmas.List.{length-drop, length-take}
 use Rattle.std.proofs.lemmas.Option.{slice_get_cases, slice_get_within}
-use Rattle.sqlite_value.specs.declared.value.Value.TheVariants.{Blob}
-use Rattle.sqlite_value.specs.Order.{Row}
-use Rattle.sqlite_rules.specs.Lists.{Has}
 use Rattle.sha2.specs.Hashers.{Holds256}
 use Rattle.sha2.specs.declared.Sha256.{Sha256}
-use Rattle.artifact_pieces.specs.Digests.{digest_of}
-use Rattle.artifact_pieces.specs.Pieces.{piece_count}
 use Rattle.rollout_model.specs.Limits.{piece_length}
-use Rattle.rollout_machine.specs.Commands.{Bytes}
-use Rattle.desk_records.specs.FoundPieces.{ArePieces}
-use Rattle.desk_records.specs.Artifacts.{pieces_in}
-use Rattle.desk_records.specs.Schema.{Pieces}
-use Rattle.desk_records.specs.Tables.{Tables}
-use Rattle.desk_records.proofs.PieceLists.{count_pieces, count_whole, nth_piece, one_more, same_contents}
-use Rattle.desk_verify.specs.ArtifactChecks.{HashesPieces, IsHashed}
-use Rattle.desk_verify.specs.Artifacts.{HasPieces}
 
 -- ---- what lies at one place
 

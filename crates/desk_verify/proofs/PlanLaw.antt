@@ -1,33 +1,15 @@
 -- The plans of accepted commands: each is well formed, and leaves no group of its members empty.
 use Rattle.std.proofs.Common.{◌≡◌, ◌≤◌, ◌<◌, ℕ, zero, suc, ◌+◌, ◌^◌, pos, true, false, List, [], ◌∷◌, length, nat_lt, slice_get, Some, None, refl, sym, ap, subst, ◌∙◌, arith}
-use Rattle.std.specs.Option.{option_map}
-use Rattle.std.proofs.lemmas.Bool.{and_parts, eqb-true, leb-true}
-use Rattle.std.proofs.lemmas.Bool.Decides.{nat_tests}
-use Rattle.sqlite_value.specs.declared.value.Value.TheVariants.{Int}
-use Rattle.rollout_model.specs.Groupings.{define_each, is_grouping}
+use Rattle.desk_verify.proofs.Common.{option_map, and_parts, eqb-true, leb-true, nat_tests, Int, define_each, is_grouping, is_percentage, item_numbered, CommandList, CreateRollout, RolloutPlan, GroupRule, rule_at, rules_of, GroupDefinition, leaves_empty, Rollout, members_of, size_of, IsValid, RolloutRecord, length_each, each_created, made, percentage_in, told_rule, HaveRules, definitions_in, grouping_of}
 use Rattle.rollout_model.specs.Limits.{percentage_limit}
-use Rattle.rollout_model.specs.Rules.{is_percentage}
-use Rattle.rollout_machine.specs.ByteStrings.{item_numbered}
-use Rattle.rollout_machine.specs.CommandList.{CommandList}
 use Rattle.rollout_machine.specs.CommandRules.{is_plan}
-use Rattle.rollout_machine.specs.Commands.{CreateRollout, RolloutPlan}
-use Rattle.rollout_machine.specs.GroupRules.{GroupRule, rule_at, rules_of}
-use Rattle.rollout_machine.specs.Groupings.{GroupDefinition, leaves_empty}
 use Rattle.rollout_machine.specs.Ranges.{each_from}
 use Rattle.rollout_machine.specs.Records.{records}
-use Rattle.rollout_machine.specs.Rollouts.{Rollout, members_of, size_of}
-use Rattle.rollout_machine.specs.Validity.{IsValid}
 use Rattle.rollout_machine.specs.Verdicts.{verdict, verdict_row}
-use Rattle.rollout_machine.specs.declared.records.RolloutRecord.{RolloutRecord}
 use Rattle.rollout_machine.proofs.AtNumbers.{of_rollout}
 use Rattle.rollout_machine.proofs.Groupings.{each_rule}
-use Rattle.rollout_machine.proofs.Lists.{length_each}
 use Rattle.rollout_machine.proofs.Valid.{NoneHolds, none_holds}
-use Rattle.rollout_machine.proofs.WithinLimits.{each_created, made}
-use Rattle.desk_records.specs.Codes.{percentage_in}
 use Rattle.desk_records.specs.RuleRow.{IsRuleRow}
-use Rattle.desk_records.specs.Rollouts.{told_rule}
-use Rattle.desk_store.specs.RuleTables.{HaveRules, definitions_in, grouping_of}
 
 -- ---- plans
 

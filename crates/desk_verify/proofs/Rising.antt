@@ -1,9 +1,6 @@
 -- Lists whose numbers rise.
 use Rattle.std.proofs.Common.{◌≡◌, ◌⊎◌, inl, inr, ◌<◌, ℕ, true, List, [], ◌∷◌, map, nat_lt, sym, ap, ◌∙◌, arith}
-use Rattle.std.proofs.lemmas.Bool.{and_parts}
-use Rattle.std.proofs.lemmas.Bool.Decides.{nat_tests}
-use Rattle.sqlite_rules.specs.Lists.{Has}
-use Rattle.desk_store.specs.Unreadable.{rise}
+use Rattle.desk_verify.proofs.Common.{and_parts, nat_tests, Has, rise}
 
 module _ {X : Type 0} (f : X → ℕ) where
   -- each is greater than the one that they rise from

@@ -1,15 +1,6 @@
 -- The loop over the rollouts, and what it comes to.
 use Rattle.std.proofs.Common.{◌≡◌, ◌≤◌, ℕ, suc, ◌+◌, Bool, true, false, length, true≢false, refl, sym, subst, ◌∙◌, arith, nat_eq}
-use Rattle.std.proofs.lemmas.Bool.Decides.{nat_tests}
-use Rattle.sqlite_value.specs.Order.{Row}
-use Rattle.sqlite_rules.specs.Lists.{Has}
-use Rattle.desk_records.specs.Listings.{has_at}
-use Rattle.desk_records.specs.Schema.{Place}
-use Rattle.desk_records.specs.Tables.{Tables}
-use Rattle.desk_records.specs.declared.rollout_row.StoredRollout.{StoredRollout}
-use Rattle.desk_verify.specs.Agreement.{Settles}
-use Rattle.desk_verify.specs.RolloutChecks.{AreAllChecked, AreChecked, IsChecked, HasRollout}
-use Rattle.desk_verify.specs.Rollouts.{IsThere}
+use Rattle.desk_verify.proofs.Common.{nat_tests, Row, Has, has_at, Place, Tables, StoredRollout, Settles, AreAllChecked, AreChecked, IsChecked, HasRollout, IsThere}
 use Rattle.desk_verify.proofs.Counting.{all_judged, is_within, judged_all, more_judged, none_judged}
 
 pub rollout_there : (t : Tables) (number : ℕ) (rollout : StoredRollout) → HasRollout t number rollout → IsThere t number

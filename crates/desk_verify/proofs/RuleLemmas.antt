@@ -1,24 +1,8 @@
 -- What is said of the groups of a rollout, and how it is cut by that.
 use Rattle.std.proofs.Common.{◌≡◌, ◌≤◌, ℕ, suc, ◌+◌, Bool, true, false, cond, List, [], ◌∷◌, ◌++◌, length, Some, None, refl, sym, ap, subst, ◌∙◌, arith}
-use Rattle.std.proofs.lemmas.Bool.{and_parts, leb-true}
-use Rattle.sqlite_value.specs.Order.{Row, column}
-use Rattle.sqlite_trees.specs.Tree.{has_rowid}
+use Rattle.desk_verify.proofs.Common.{and_parts, leb-true, Row, column, has_rowid, Grouping, is_grouping, GroupRule, percentage_in, percentage_or_none_in, IsOnly, Rollouts, IsRollout, Tables, StoredRollout, SaysRule, HasGroupCount, HasRule, HaveRules, definitions_in, grouping_of, grouping_with, IsUnreadable, no_grouping, HasOnlyRule, HaveOnlyRules, IsCutOnlyBy, IsGroupCount, IsCutBy, HasRollout}
 use Rattle.std.specs.Prelude.{pos}
-use Rattle.rollout_model.specs.Groupings.{Grouping, is_grouping}
 use Rattle.rollout_model.specs.declared.group_definition.GroupDefinition.{GroupDefinition}
-use Rattle.rollout_machine.specs.GroupRules.{GroupRule}
-use Rattle.desk_records.specs.Codes.{percentage_in, percentage_or_none_in}
-use Rattle.desk_records.specs.Listings.{IsOnly}
-use Rattle.desk_records.specs.Schema.{Rollouts}
-use Rattle.desk_records.specs.TableRows.{IsRollout}
-use Rattle.desk_records.specs.Tables.{Tables}
-use Rattle.desk_records.specs.declared.rollout_row.StoredRollout.{StoredRollout}
-use Rattle.desk_store.specs.RawLists.{SaysRule}
-use Rattle.desk_store.specs.RuleTables.{HasGroupCount, HasRule, HaveRules, definitions_in, grouping_of, grouping_with}
-use Rattle.desk_store.specs.Unreadable.{IsUnreadable, no_grouping}
-use Rattle.desk_verify.specs.GroupChecks.{HasOnlyRule, HaveOnlyRules, IsCutOnlyBy, IsGroupCount}
-use Rattle.desk_verify.specs.Groups.{IsCutBy}
-use Rattle.desk_verify.specs.RolloutChecks.{HasRollout}
 use Rattle.desk_verify.proofs.OneRow.{one_in}
 
 -- ---- how many groups a rollout is to have

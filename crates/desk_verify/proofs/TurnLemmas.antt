@@ -1,14 +1,6 @@
 -- Members and actions, each in its turn.
 use Rattle.std.proofs.Common.{◌≡◌, ◌⊎◌, inl, inr, ◌<◌, ℕ, ◌+◌, true, List, [], ◌∷◌, length, map, nat_eq, refl, sym, ap, ◌∙◌, arith}
-use Rattle.std.specs.Cmp.Lexicographic.{pointwise}
-use Rattle.std.proofs.lemmas.Bool.{and_from, and_parts}
-use Rattle.std.proofs.lemmas.Bool.Decides.{Decides-eqb, nat_tests}
-use Rattle.std.proofs.lemmas.Slice.Eq.{slice_eq-Decides}
-use Rattle.sqlite_rules.specs.Lists.{Has}
-use Rattle.desk_records.specs.declared.member_row.PlacedMember.{PlacedMember}
-use Rattle.desk_records.specs.declared.rollout_row.ListedAction.{ListedAction}
-use Rattle.desk_store.specs.Unreadable.{rise}
-use Rattle.desk_verify.specs.ActionChecks.{are_for, count_on, is_each_for, is_for, numbers_rise}
+use Rattle.desk_verify.proofs.Common.{pointwise, and_from, and_parts, Decides-eqb, nat_tests, slice_eq-Decides, Has, PlacedMember, ListedAction, rise, are_for, count_on, is_each_for, is_for, numbers_rise}
 use Rattle.desk_verify.proofs.Rising.{above, rest_rises}
 
 -- ---- a member and its action

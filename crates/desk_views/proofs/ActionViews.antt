@@ -1,30 +1,9 @@
 -- From actions that were read to what is shown of them.
 use Rattle.std.proofs.Common.{◌≡◌, ◌<◌, ℕ, zero, suc, ◌+◌, nat_eq, Bool, true, false, not, cond, List, [], ◌∷◌, ◌++◌, map, get_or, length, take, drop, Option, Some, None, inl, inr, refl, sym, ap, ◌∙◌, add-one, arith}
-use Rattle.std.proofs.lemmas.Bool.{cases_lt}
-use Rattle.std.proofs.lemmas.Bool.Decides.{nat_tests}
-use Rattle.std.proofs.lemmas.List.{length-map, length-take-le, map-append, take_all, take_more}
-use Rattle.std.specs.List.{zip}
-use Rattle.std.specs.Option.{is_some, option_map}
+use Rattle.desk_views.proofs.Common.{cases_lt, nat_tests, length-map, length-take-le, map-append, take_all, take_more, zip, is_some, option_map, action_if, if_found, item_numbered, same_bytes, Bytes, action_shown, actions_of_rollout, actions_of_target, actions_where, group_of_action, page_of, Records, ActionShown, Refused, ShownAction, Page, group_holding, group_is_started, is_for, is_started_in, member_at, number_of_group, ActionRecord, GroupRecord, RolloutRecord, NotFound, Tally, tally_of, parts_of, actions_for, actions_of, listed_where, stored_action, ListedAction, StoredAction, listed_shown, shown_among, stored_in}
 use Rattle.std.specs.Prelude.{slice_get}
-use Rattle.rollout_machine.specs.Answers.{action_if, if_found}
-use Rattle.rollout_machine.specs.ByteStrings.{item_numbered, same_bytes}
-use Rattle.rollout_machine.specs.Commands.{Bytes}
-use Rattle.rollout_machine.specs.Objects.{action_shown, actions_of_rollout, actions_of_target, actions_where, group_of_action, page_of}
-use Rattle.rollout_machine.specs.Records.{Records}
-use Rattle.rollout_machine.specs.Replies.{ActionShown, Refused, Reply, ShownAction}
-use Rattle.rollout_machine.specs.Requests.{Page}
-use Rattle.rollout_machine.specs.StateWords.{group_holding, group_is_started, is_for, is_started_in, member_at, number_of_group}
-use Rattle.rollout_machine.specs.declared.records.ActionRecord.{ActionRecord}
-use Rattle.rollout_machine.specs.declared.records.GroupRecord.{GroupRecord}
-use Rattle.rollout_machine.specs.declared.records.RolloutRecord.{RolloutRecord}
-use Rattle.rollout_model.specs.declared.refusal.Refusal.TheVariants.{NotFound}
+use Rattle.rollout_machine.specs.Replies.{Reply}
 use Rattle.campaign_core.specs.StatusWords.{action_word_from}
-use Rattle.desk_records.specs.Actions.{Tally, tally_of}
-use Rattle.desk_records.specs.Parts.{parts_of}
-use Rattle.desk_records.specs.RolloutRow.{actions_for, actions_of, listed_where, stored_action}
-use Rattle.desk_records.specs.declared.rollout_row.ListedAction.{ListedAction}
-use Rattle.desk_records.specs.declared.rollout_row.StoredAction.{StoredAction}
-use Rattle.desk_views.specs.Actions.{listed_shown, shown_among, stored_in}
 use Rattle.desk_views.proofs.ArtifactViews.{turned}
 use Rattle.desk_views.proofs.GroupViews.{part_mapped}
 

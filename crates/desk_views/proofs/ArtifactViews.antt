@@ -1,30 +1,15 @@
 -- From typed reads of artifacts to what is shown.
 use Rattle.std.proofs.Common.{◌≡◌, ℕ, zero, suc, ◌+◌, nat_eq, Bool, true, false, not, cond, List, [], ◌∷◌, ◌++◌, map, length, take, drop, Option, Some, None, refl, sym, ap, ◌∙◌, append-nil, arith, add-one}
-use Rattle.std.proofs.Math.Seq.{take-nil}
-use Rattle.std.proofs.lemmas.Bool.Decides.{nat_tests}
+use Rattle.desk_views.proofs.Common.{take-nil, nat_tests, flat_map, is_some, option_map, pieces_of_artifact, artifact_if, artifact_of_module, if_found, query_reply, item_numbered, Bytes, ModuleLabel, artifact_shown, page_of, ArtifactRecord, Records, Artifact, Refused, ArtifactsShown, ArtifactShown, ContentsShown, Page, ShowArtifact, listed, reply_of, NotFound, Reply, contents_found}
 use Rattle.std.specs.Prelude.{slice_get}
-use Rattle.std.specs.List.{flat_map}
-use Rattle.std.specs.Option.{is_some, option_map}
 use Rattle.std.proofs.lemmas.Grind.{flat_map-append}
 use Rattle.artifact_pieces.specs.Pieces.{piece_bytes, pieces_of}
 use Rattle.artifact_pieces.proofs.PieceLemmas.{pieces_make_the_whole}
 use Rattle.desk_records.specs.ArtifactRow.{stored}
-use Rattle.desk_records.specs.Artifacts.{pieces_of_artifact}
 use Rattle.desk_records.specs.declared.artifact_row.StoredArtifact.{StoredArtifact}
-use Rattle.rollout_machine.specs.Answers.{artifact_if, artifact_of_module, if_found, query_reply}
-use Rattle.rollout_machine.specs.ByteStrings.{item_numbered}
-use Rattle.rollout_machine.specs.Commands.{Bytes, ModuleLabel}
-use Rattle.rollout_machine.specs.Objects.{artifact_shown, page_of}
-use Rattle.rollout_machine.specs.Records.{ArtifactRecord, Records}
 use Rattle.rollout_machine.specs.Replies as shown
-use Rattle.rollout_machine.specs.Replies.{Artifact, Refused, ArtifactsShown, ArtifactShown, ContentsShown}
-use Rattle.rollout_machine.specs.Requests.{Page, ShowArtifact}
-use Rattle.rollout_machine.specs.Views.{listed, reply_of}
 use Rattle.rollout_model.specs.declared.page.PageOf.{PageOf}
-use Rattle.rollout_model.specs.declared.refusal.Refusal.TheVariants.{NotFound}
-use Rattle.rollout_model.specs.declared.request.Reply.{Reply}
 use Rattle.rollout_model.specs.declared.request.Reply.TheVariants as reply
-use Rattle.desk_views.specs.Contents.{contents_found}
 use Rattle.desk_views.proofs.PageLemmas.{one_more}
 
 -- ---- the artifact of a number, where it is one of the module's

@@ -1,36 +1,14 @@
 -- From typed reads to what a device is shown.
 use Rattle.std.proofs.Common.{◌≡◌, inl, inr, IfOk, ℕ, zero, suc, ◌+◌, Bool, true, false, cond, ◌&&◌, nat_eq, List, [], ◌∷◌, ◌++◌, map, find, Option, Some, None, Result, Ok, Err, refl, sym, ap, subst, ◌∙◌, arith, append_assoc, append-nil}
-use Rattle.std.proofs.lemmas.List.{map-append}
-use Rattle.std.specs.List.{list_any, zip}
-use Rattle.std.specs.Option.{option_map}
+use Rattle.desk_views.proofs.Common.{map-append, list_any, zip, option_map, tally_of, stored_action, stored_rollout, StoredAction, artifact_named, for_device, if_found, is_offer_of, modules_offered, query_reply, item_numbered, same_bytes, Bytes, Credential, artifact_shown, artifacts_shown, chunks_of, chunks_of_module, modules_of_action, modules_of_rollout, modules_of_set, Offer, offer, ArtifactRecord, Records, ActionRecord, RolloutRecord, Artifact, ContentsShown, Refused, Download, is_known, chunk, same_true, NotFound, Unauthorized, contents_found, downloadable, named, or_not_found, IsOfName}
 use Rattle.sqlite_rules.specs.Lists.{Has}
 use Rattle.std.specs.Prelude.{slice_get}
-use Rattle.desk_records.specs.Actions.{tally_of}
-use Rattle.desk_records.specs.RolloutRow.{stored_action, stored_rollout}
 use Rattle.desk_records.specs.Tables.{Tables}
-use Rattle.desk_records.specs.declared.rollout_row.StoredAction.{StoredAction}
 use Rattle.desk_records.specs.declared.rollout_row.StoredRollout.{StoredRollout}
-use Rattle.rollout_machine.specs.Answers.{artifact_named, for_device, if_found, is_offer_of, modules_offered, query_reply}
-use Rattle.rollout_machine.specs.ByteStrings.{item_numbered, same_bytes}
-use Rattle.rollout_machine.specs.Commands.{Bytes, Credential}
-use Rattle.rollout_machine.specs.Objects.{artifact_shown, artifacts_shown, chunks_of, chunks_of_module, modules_of_action, modules_of_rollout, modules_of_set}
-use Rattle.rollout_machine.specs.Offers.{Offer, offer}
-use Rattle.rollout_machine.specs.Records.{ArtifactRecord, Records}
-use Rattle.rollout_machine.specs.declared.records.ActionRecord.{ActionRecord}
-use Rattle.rollout_machine.specs.declared.records.RolloutRecord.{RolloutRecord}
 use Rattle.rollout_machine.specs.Replies as shown
-use Rattle.rollout_machine.specs.Replies.{Artifact, ContentsShown, Refused}
-use Rattle.rollout_machine.specs.Requests.{Download}
-use Rattle.rollout_machine.specs.Verdicts.{is_known}
-use Rattle.rollout_machine.specs.Views.{chunk}
-use Rattle.rollout_machine.proofs.TargetTies.{same_true}
 use Rattle.rollout_model.specs.declared.refusal.Refusal.{Refusal}
-use Rattle.rollout_model.specs.declared.refusal.Refusal.TheVariants.{NotFound, Unauthorized}
 use Rattle.rollout_model.specs.declared.rollout.Chunk.{Chunk as SeenChunk}
-use Rattle.desk_views.specs.Contents.{contents_found}
 use Rattle.desk_store.specs.RawLists.{HasListed}
-use Rattle.desk_views.specs.Downloads.{downloadable, named, or_not_found}
-use Rattle.desk_views.specs.Sizes.{IsOfName}
 
 -- ---- the device
 

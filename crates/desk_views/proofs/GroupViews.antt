@@ -1,28 +1,14 @@
 -- From groups that were read to what is shown of them.
 use Rattle.std.proofs.Common.{◌≡◌, ◌≤◌, ◌<◌, ◌^◌, ◌⊎◌, ◌-◌, get_or, Result, Err, IfErr, subst, ℕ, zero, suc, slice_get, arith, List, [], ◌∷◌, map, length, take, drop, Option, Some, None, refl, sym, ap, ◌∙◌}
-use Rattle.std.proofs.lemmas.List.{drop-map, length-map, take-map}
+use Rattle.desk_views.proofs.Common.{drop-map, length-map, take-map, Fault, group_reply, if_found, item_numbered, group_shown, groups_shown, page_of, PageOf, Refused, ShownGroup, Page, GroupWord, group_numbered, size_of_group, GroupRecord, RolloutRecord, NotFound, GroupRule, rule_at, rules_of, rule_is, parts_of, IsSeenOf, SeenRollout}
 use Rattle.std.proofs.lemmas.List.Elements.{Contains-get_or}
 use Rattle.sqlite_rules.proofs.ListLemmas.{has_contained}
-use Rattle.sql_calls.specs.declared.fault.Fault.{Fault}
 use Rattle.sql_calls.specs.declared.fault.Fault.TheVariants.{Memory, Store}
-use Rattle.rollout_machine.specs.Answers.{group_reply, if_found}
-use Rattle.rollout_machine.specs.ByteStrings.{item_numbered}
-use Rattle.rollout_machine.specs.Objects.{group_shown, groups_shown, page_of}
-use Rattle.rollout_machine.specs.Replies.{PageOf, Refused, Reply, ShownGroup}
-use Rattle.rollout_machine.specs.Requests.{Page}
-use Rattle.rollout_machine.specs.StateWords.{GroupWord, group_numbered, size_of_group}
-use Rattle.rollout_machine.specs.declared.records.GroupRecord.{GroupRecord}
-use Rattle.rollout_machine.specs.declared.records.RolloutRecord.{RolloutRecord}
-use Rattle.rollout_model.specs.declared.refusal.Refusal.TheVariants.{NotFound}
+use Rattle.rollout_machine.specs.Replies.{Reply}
 use Rattle.rollout_model.specs.declared.rollout_plan.RolloutPlan.{RolloutPlan}
-use Rattle.rollout_machine.specs.GroupRules.{GroupRule, rule_at, rules_of}
-use Rattle.desk_reads.proofs.RuleLemmas.{rule_is}
 use Rattle.campaign_core.specs.StatusWords.{group_word_from}
-use Rattle.desk_records.specs.Parts.{parts_of}
-use Rattle.desk_reads.specs.Rollouts.{IsSeenOf}
 use Rattle.desk_store.specs.Rows.{IfStore}
 use Rattle.desk_views.specs.Groups.{HasUnshown}
-use Rattle.desk_reads.specs.declared.rollouts.SeenRollout.{SeenRollout}
 
 pub groups_mapped : (x : RolloutRecord) (gs : List GroupRecord) → groups_shown x gs ≡ map (group_shown x) gs
 groups_mapped x [] = refl

@@ -1,25 +1,11 @@
 -- From entries of histories that were read to what is shown of them.
 use Rattle.std.proofs.Common.{◌≡◌, ◌<◌, ℕ, zero, suc, ◌+◌, nat_eq, Bool, true, false, cond, List, [], ◌∷◌, ◌++◌, length, slice_get, take, drop, Option, Some, None, refl, sym, ap, ◌∙◌, arith}
-use Rattle.std.specs.Option.{option_map}
-use Rattle.std.proofs.lemmas.Bool.Decides.{nat_tests}
-use Rattle.rollout_machine.specs.Answers.{action_if, if_found}
-use Rattle.rollout_machine.specs.ByteStrings.{item_numbered}
-use Rattle.rollout_machine.specs.Commands.{Bytes}
-use Rattle.rollout_machine.specs.Objects.{entry_shown, numbered, page_of}
-use Rattle.rollout_machine.specs.Records.{Records}
-use Rattle.rollout_machine.specs.Replies.{HistoryShown, ShownEntry}
+use Rattle.desk_views.proofs.Common.{option_map, nat_tests, action_if, if_found, item_numbered, Bytes, entry_shown, numbered, page_of, Records, HistoryShown, ShownEntry, Page, is_for, ActionRecord, history_of, parts_of, StoredAction, entry_by, number_at, reports_of, stored_in}
 use Rattle.rollout_machine.specs.Reports.{HistoryEntry, Reported, entries_in}
-use Rattle.rollout_machine.specs.Requests.{Page}
-use Rattle.rollout_machine.specs.StateWords.{is_for}
-use Rattle.rollout_machine.specs.declared.records.ActionRecord.{ActionRecord}
-use Rattle.desk_records.specs.Actions.{history_of}
 use Rattle.desk_records.specs.FeedbackNumbers.{borne_at, numbers_from, numbers_numbered, numbers_of}
 use Rattle.desk_records.specs.Holds.{ledger_of}
-use Rattle.desk_records.specs.Parts.{parts_of}
 use Rattle.desk_records.specs.declared.number_row.PlacedNumber.{PlacedNumber}
-use Rattle.desk_records.specs.declared.rollout_row.StoredAction.{StoredAction}
 use Rattle.rollout_machine.proofs.Actions.{numbered_map}
-use Rattle.desk_views.specs.Actions.{entry_by, number_at, reports_of, stored_in}
 use Rattle.desk_views.proofs.PageLemmas.{numbered_length}
 
 numbered_taken : {X Y : Type 0} (f : ℕ → X → Y) (k n : ℕ) (xs : List X) → take n (numbered f k xs) ≡ numbered f k (take n xs)

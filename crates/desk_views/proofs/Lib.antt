@@ -1,3 +1,4 @@
+pub mod Common
 pub mod HistoryViews
 pub mod ActionViews
 pub mod MemberViews

@@ -1,28 +1,13 @@
 -- The members of a rollout of a list of accepted commands are targets.
 use Rattle.std.proofs.Common.{◌≡◌, ℕ, zero, suc, Bool, true, false, ◌||◌, cond, List, [], ◌∷◌, ◌++◌, map, filter, find, take, drop, Option, Some, None, refl, sym, ap, ◌∙◌}
 use Rattle.std.specs.Prelude.{slice_get}
-use Rattle.std.specs.List.{list_all}
-use Rattle.std.specs.Option.{is_some, unwrap_or}
-use Rattle.std.proofs.lemmas.Bool.{and_parts, false≢true}
+use Rattle.desk_views.proofs.Common.{list_all, is_some, unwrap_or, and_parts, false≢true, filter_of, Tree, target_if, targets_of, contains_word, item_numbered, same_bytes, with_words, Bytes, Command, CreateRollout, TargetRow, matches, target_shown, targets_shown, Records, Target, import_rows_of, target_ids, target_in, target_of, RolloutRecord, same_refl, same_sym, AreOfList, made}
 use Rattle.std.proofs.lemmas.List.Folds.{list_all-append}
-use Rattle.target_filter.specs.Profile.{filter_of}
-use Rattle.target_filter.specs.Grammar.{Tree}
-use Rattle.rollout_machine.specs.Answers.{target_if, targets_of}
-use Rattle.rollout_machine.specs.ByteStrings.{contains_word, item_numbered, same_bytes, with_words}
 use Rattle.rollout_machine.specs.CommandList.{CommandList, Make, ◌▸◌}
-use Rattle.rollout_machine.specs.Commands.{Bytes, Command, CreateRollout, TargetRow}
-use Rattle.rollout_machine.specs.Filters.{matches}
-use Rattle.rollout_machine.specs.Objects.{target_shown, targets_shown}
-use Rattle.rollout_machine.specs.Records.{Records, records}
+use Rattle.rollout_machine.specs.Records.{records}
 use Rattle.rollout_machine.specs.Replies.{ShownTarget}
 use Rattle.rollout_machine.specs.Rollouts.{Rollout, chosen, created, rollouts}
-use Rattle.rollout_machine.specs.Targets.{Target, import_rows_of, target_ids, target_in}
-use Rattle.rollout_machine.specs.Verdicts.{target_of}
-use Rattle.rollout_machine.specs.declared.records.RolloutRecord.{RolloutRecord}
 use Rattle.rollout_machine.proofs.Imports.{never_with}
-use Rattle.rollout_machine.proofs.TargetTies.{same_refl, same_sym}
-use Rattle.desk_reads.specs.AtLists.{AreOfList}
-use Rattle.desk_reads.proofs.ListLemmas.{made}
 
 -- ---- tests of lists
 

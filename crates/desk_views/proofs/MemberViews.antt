@@ -1,27 +1,10 @@
 -- From members that were read to the targets that are shown of a group.
 use Rattle.std.proofs.Common.{◌≡◌, ◌+◌, ◌-◌, ◌≤◌, ◌<◌, ℕ, min, List, [], ◌∷◌, ◌++◌, map, length, take, drop, Option, Some, None, inl, inr, sym, ap, ◌∙◌, append-nil, arith}
-use Rattle.std.proofs.Math.Seq.{take-nil}
-use Rattle.std.proofs.lemmas.Bool.{cases_lt}
-use Rattle.std.proofs.lemmas.List.{drop-drop, drop-take, drop_all, length-drop, length-map, length-take, length-take-le, map-append, take-take, take_all}
-use Rattle.std.specs.Option.{option_map}
-use Rattle.rollout_machine.specs.Answers.{target_if, targets_of}
-use Rattle.rollout_machine.specs.ByteStrings.{item_numbered}
-use Rattle.rollout_machine.specs.Commands.{Bytes}
-use Rattle.rollout_machine.specs.Objects.{members_in, page_of, target_shown, targets_shown}
-use Rattle.rollout_machine.specs.Records.{Records}
+use Rattle.desk_views.proofs.Common.{take-nil, cases_lt, drop-drop, drop-take, drop_all, length-drop, length-map, length-take, length-take-le, map-append, take-take, take_all, option_map, target_if, targets_of, item_numbered, Bytes, members_in, page_of, target_shown, targets_shown, Records, Page, group_numbered, size_of_group, Target, target_of, shown_target, GroupRecord, RolloutRecord, AreOfList, group_within}
 use Rattle.rollout_machine.specs.Replies.{ShownTarget}
-use Rattle.rollout_machine.specs.Requests.{Page}
-use Rattle.rollout_machine.specs.StateWords.{group_numbered, size_of_group}
-use Rattle.rollout_machine.specs.Targets.{Target}
-use Rattle.rollout_machine.specs.Verdicts.{target_of}
-use Rattle.rollout_machine.specs.Views.{shown_target}
-use Rattle.rollout_machine.specs.declared.records.GroupRecord.{GroupRecord}
-use Rattle.rollout_machine.specs.declared.records.RolloutRecord.{RolloutRecord}
 use Rattle.rollout_model.specs.declared.shown_target.ShownTarget.{ShownTarget as RustTarget}
 use Rattle.desk_records.specs.Rollouts.{members_of}
-use Rattle.desk_reads.specs.AtLists.{AreOfList}
 use Rattle.desk_views.proofs.GroupViews.{part_mapped}
-use Rattle.desk_reads.proofs.ListLemmas.{group_within}
 use Rattle.desk_views.proofs.MemberLemmas.{members_there, part_there, target_at, targets_there}
 
 -- ---- the targets of ids

@@ -1,18 +1,6 @@
 -- From typed reads of modules to what is shown.
 use Rattle.std.proofs.Common.{◌≡◌, ℕ, Bool, Vec, length, take, drop, Option, Some, None, refl, sym, ap, ◌∙◌}
-use Rattle.std.specs.declared.alloc.Global.{Global}
-use Rattle.std.specs.Option.{option_map}
-use Rattle.rollout_machine.specs.Answers.{if_found, query_reply}
-use Rattle.rollout_machine.specs.ByteStrings.{item_numbered}
-use Rattle.rollout_machine.specs.Commands.{ModuleLabel}
-use Rattle.rollout_machine.specs.Objects.{module_shown, modules_shown}
-use Rattle.rollout_machine.specs.Records.{Records}
-use Rattle.rollout_machine.specs.Replies.{Module, ModuleShown, ModulesShown}
-use Rattle.rollout_machine.specs.Requests.{Page, ShowModule, ShowModules}
-use Rattle.rollout_machine.specs.Verdicts.{is_named_by_set}
-use Rattle.rollout_machine.specs.Views.{reply_of}
-use Rattle.rollout_model.specs.declared.refusal.Refusal.TheVariants.{NotFound}
-use Rattle.rollout_model.specs.declared.request.Reply.{Reply}
+use Rattle.desk_views.proofs.Common.{Global, option_map, if_found, query_reply, item_numbered, ModuleLabel, module_shown, modules_shown, Records, Module, ModuleShown, ModulesShown, Page, ShowModule, ShowModules, is_named_by_set, reply_of, NotFound, Reply}
 use Rattle.rollout_model.specs.declared.request.Reply.TheVariants as reply
 use Rattle.desk_views.proofs.PageLemmas.{entry_numbered, numbered_length}
 

@@ -1,10 +1,7 @@
 -- Entries of a list by their numbers, and the part of it that is on a page.
 use Rattle.std.proofs.Common.{◌≡◌, ℕ, zero, suc, ◌+◌, ◌-◌, min, Bool, true, false, List, [], ◌∷◌, ◌++◌, length, take, drop, Some, None, refl, sym, ap, ◌∙◌, arith, add-one, length-drop}
-use Rattle.std.proofs.Math.Seq.{take-nil}
+use Rattle.desk_views.proofs.Common.{take-nil, option_map, item_numbered, numbered}
 use Rattle.std.specs.Prelude.{slice_get}
-use Rattle.std.specs.Option.{option_map}
-use Rattle.rollout_machine.specs.ByteStrings.{item_numbered}
-use Rattle.rollout_machine.specs.Objects.{numbered}
 use Rattle.rollout_model.specs.Rules.{is_number, number_of}
 
 pub numbered_length : {X Y : Type 0} (f : ℕ → X → Y) (n : ℕ) (xs : List X) → length (numbered f n xs) ≡ length xs

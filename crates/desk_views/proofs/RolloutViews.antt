@@ -1,20 +1,8 @@
 -- From typed reads of rollouts to what is seen of them.
 use Rattle.std.proofs.Common.{◌≡◌, ℕ, suc, List, [], ◌∷◌, Vec, length, take, drop, Option, Some, None, refl, sym, ap, ◌∙◌}
-use Rattle.std.specs.declared.alloc.Global.{Global}
-use Rattle.std.specs.Option.{option_map}
-use Rattle.rollout_machine.specs.Answers.{if_found, query_reply}
-use Rattle.rollout_machine.specs.ByteStrings.{item_numbered}
-use Rattle.rollout_machine.specs.Objects.{numbered, rollout_shown, rollouts_shown}
-use Rattle.rollout_machine.specs.Records.{Records}
-use Rattle.rollout_machine.specs.Replies.{Refused, Reply, RolloutsShown, ShownRollout}
-use Rattle.rollout_machine.specs.Requests.{Page, ShowRollouts}
-use Rattle.rollout_machine.specs.declared.records.RolloutRecord.{RolloutRecord}
-use Rattle.rollout_machine.specs.Views.{reply_of}
-use Rattle.rollout_model.specs.declared.refusal.Refusal.TheVariants.{NotFound}
+use Rattle.desk_views.proofs.Common.{Global, option_map, if_found, query_reply, item_numbered, numbered, rollout_shown, rollouts_shown, Records, Refused, RolloutsShown, ShownRollout, Page, ShowRollouts, RolloutRecord, reply_of, NotFound, BothOrNone, IsSeenOf, SeenRollout}
+use Rattle.rollout_machine.specs.Replies.{Reply}
 use Rattle.rollout_model.specs.declared.request.Reply.TheVariants as reply
-use Rattle.campaign_core.specs.RolloutChecks.{BothOrNone}
-use Rattle.desk_reads.specs.Rollouts.{IsSeenOf}
-use Rattle.desk_reads.specs.declared.rollouts.SeenRollout.{SeenRollout}
 use Rattle.desk_views.proofs.PageLemmas.{entry_numbered, numbered_length}
 
 -- ---- what is replied

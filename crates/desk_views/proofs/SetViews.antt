@@ -1,19 +1,8 @@
 -- From typed reads of distribution sets to what is shown.
 use Rattle.std.proofs.Common.{◌≡◌, ℕ, List, Vec, length, take, drop, Option, Some, None, refl, sym, ap, ◌∙◌}
-use Rattle.std.specs.declared.alloc.Global.{Global}
-use Rattle.std.specs.Option.{option_map}
+use Rattle.desk_views.proofs.Common.{Global, option_map, query_reply, item_numbered, SetLabel, modules_of_set, numbered, set_shown, Records, DistributionSet, SetsShown, Page, ShowSet, ShowSets, reply_of, NotFound, Reply}
 use Rattle.desk_records.specs.declared.set_row.SetName.{SetName}
 use Rattle.desk_records.specs.SetRow.{called}
-use Rattle.rollout_machine.specs.Answers.{query_reply}
-use Rattle.rollout_machine.specs.ByteStrings.{item_numbered}
-use Rattle.rollout_machine.specs.Commands.{SetLabel}
-use Rattle.rollout_machine.specs.Objects.{modules_of_set, numbered, set_shown}
-use Rattle.rollout_machine.specs.Records.{Records}
-use Rattle.rollout_machine.specs.Replies.{DistributionSet, SetsShown}
-use Rattle.rollout_machine.specs.Requests.{Page, ShowSet, ShowSets}
-use Rattle.rollout_machine.specs.Views.{reply_of}
-use Rattle.rollout_model.specs.declared.refusal.Refusal.TheVariants.{NotFound}
-use Rattle.rollout_model.specs.declared.request.Reply.{Reply}
 use Rattle.rollout_model.specs.declared.request.Reply.TheVariants as reply
 use Rattle.desk_views.proofs.PageLemmas.{entry_numbered, numbered_length}
 

@@ -1,34 +1,14 @@
 -- From typed reads of targets to pages of them.
 use Rattle.std.proofs.Common.{◌≡◌, ℕ, suc, ◌+◌, ◌-◌, ◌&&◌, nat_le, nat_lt, ◌*◌, ◌/◌, ◌%◌, min, Bool, true, false, cond, List, [], ◌∷◌, ◌++◌, map, filter, length, take, drop, Some, None, refl, sym, ap, ◌∙◌, append-nil, append_assoc, arith, length-drop, Vec}
-use Rattle.std.proofs.Math.Seq.{take-add, take-nil}
-use Rattle.std.proofs.lemmas.Bool.{leb-false, leb-true}
+use Rattle.desk_views.proofs.Common.{take-add, take-nil, leb-false, leb-true, drop-append-le, drop-map, drop_all, length-append, length-map, map-append, take-append-le, take-map, take_all, IsSomeAnd, Global, query_reply, targets_matching, Bytes, matches, seen, page_of, target_shown, targets_shown, Records, PageOf, TargetsShown, Page, ShowTargets, Target, listed, listed_targets, reply_of, shown_target, ShownTarget, Tree, filter_of, listed_target, matching_shown, worded, target_listed, part_seen}
 use Rattle.std.proofs.lemmas.Grind.{div_ceil_times}
-use Rattle.std.proofs.lemmas.List.{drop-append-le, drop-map, drop_all, length-append, length-map, map-append, take-append-le, take-map, take_all}
 use Rattle.std.proofs.lemmas.List.Elements.{filter-append}
-use Rattle.std.specs.Option.{IsSomeAnd}
-use Rattle.std.specs.declared.alloc.Global.{Global}
-use Rattle.rollout_machine.specs.Answers.{query_reply, targets_matching}
-use Rattle.rollout_machine.specs.Commands.{Bytes}
-use Rattle.rollout_machine.specs.Filters.{matches, seen}
-use Rattle.rollout_machine.specs.Objects.{page_of, target_shown, targets_shown}
-use Rattle.rollout_machine.specs.Records.{Records}
-use Rattle.rollout_machine.specs.Replies.{PageOf, TargetsShown}
-use Rattle.rollout_machine.specs.Requests.{Page, ShowTargets}
-use Rattle.rollout_machine.specs.Targets.{Target}
-use Rattle.rollout_machine.specs.Views.{listed, listed_targets, reply_of, shown_target}
 use Rattle.rollout_model.specs.declared.page.PageOf.{PageOf as RustPageOf}
 use Rattle.rollout_model.specs.declared.request.Reply.TheVariants as reply
-use Rattle.rollout_model.specs.declared.shown_target.ShownTarget.{ShownTarget}
 use Rattle.rollout_model.specs.declared.target.Target.{Target as SeenTarget}
-use Rattle.target_filter.specs.Grammar.{Tree}
 use Rattle.target_filter.specs.Meaning.{holds}
-use Rattle.target_filter.specs.Profile.{filter_of}
 use Rattle.desk_records.specs.declared.target_row.ListedTarget.{ListedTarget}
-use Rattle.desk_records.specs.TargetRow.{listed_target}
 use Rattle.desk_records.specs.Targets.{are_sorted}
-use Rattle.desk_views.specs.Targets.{matching_shown, worded}
-use Rattle.desk_reads.specs.Targets.{target_listed}
-use Rattle.desk_reads.proofs.ListedTargets.{part_seen}
 
 -- ---- what is found by its id
 

@@ -1,29 +1,11 @@
 -- From typed reads of targets to what is shown.
 use Rattle.std.proofs.Common.{◌≡◌, ◌∷◌, Bool, true, false, cond, List, [], find, Option, Some, None, refl, sym, ap, ◌∙◌}
-use Rattle.std.specs.Option.{option_map}
+use Rattle.desk_views.proofs.Common.{option_map, stored_target, if_found, query_reply, same_bytes, Bytes, target_shown, Records, TargetShown, ShowTarget, target_word, Target, tags_of, target_of, reply_of, shown_target, same_true, NotFound, Reply, ShownTarget, target_listed, worded}
 use Rattle.desk_records.specs.declared.target_row.StoredTarget.{StoredTarget}
-use Rattle.desk_records.specs.TargetRow.{stored_target}
 use Rattle.desk_records.specs.Targets.{attributes_of}
 use Rattle.desk_records.proofs.Targets.{has_id}
-use Rattle.rollout_machine.specs.Answers.{if_found, query_reply}
-use Rattle.rollout_machine.specs.ByteStrings.{same_bytes}
-use Rattle.rollout_machine.specs.Commands.{Bytes}
-use Rattle.rollout_machine.specs.Objects.{target_shown}
-use Rattle.rollout_machine.specs.Records.{Records}
-use Rattle.rollout_machine.specs.Replies.{TargetShown}
-use Rattle.rollout_machine.specs.Requests.{ShowTarget}
-use Rattle.rollout_machine.specs.StateWords.{target_word}
-use Rattle.rollout_machine.specs.Targets.{Target}
-use Rattle.rollout_machine.specs.Verdicts.{tags_of, target_of}
-use Rattle.rollout_machine.specs.Views.{reply_of, shown_target}
-use Rattle.rollout_machine.proofs.TargetTies.{same_true}
-use Rattle.rollout_model.specs.declared.refusal.Refusal.TheVariants.{NotFound}
-use Rattle.rollout_model.specs.declared.request.Reply.{Reply}
 use Rattle.rollout_model.specs.declared.request.Reply.TheVariants as reply
-use Rattle.rollout_model.specs.declared.shown_target.ShownTarget.{ShownTarget}
 use Rattle.rollout_model.specs.declared.target.Target.{Target as SeenTarget}
-use Rattle.desk_reads.specs.Targets.{target_listed}
-use Rattle.desk_views.specs.Targets.{worded}
 
 -- what is found by an id has it
 pub id_found : (id : Bytes) (t : Target) (ts : List Target) → find (has_id id) ts ≡ Some t → t.id ≡ id

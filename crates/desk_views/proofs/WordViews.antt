@@ -1,26 +1,11 @@
 -- From typed reads of actions to the word of their target.
 use Rattle.std.proofs.Common.{◌≡◌, ℕ, suc, ◌+◌, ◌<◌, Bool, true, false, cond, ◌&&◌, ◌||◌, List, [], ◌∷◌, ◌++◌, map, filter, length, take, Option, Some, None, is_none, refl, sym, ap, ◌∙◌, arith}
-use Rattle.std.proofs.lemmas.Bool.{false≢true, or_parts}
-use Rattle.std.proofs.lemmas.List.{length-take, take_all}
-use Rattle.std.specs.List.{list_any, zip}
-use Rattle.std.specs.Option.{is_some}
+use Rattle.desk_views.proofs.Common.{false≢true, or_parts, length-take, take_all, list_any, zip, is_some, tally_of, actions_for, stored_action, ListedAction, item_numbered, Bytes, Offer, first_offer, offer, Records, ActionRecord, GroupRecord, RolloutRecord, group_holding, group_is_started, has_started, is_for, is_started_in, started_actions_of, target_word, word_by_last, InError, InSync, Pending, TargetWord, Unknown, is_begun, last_ending}
 use Rattle.campaign_core.specs.StatusWords.{last_word, target_word_from}
-use Rattle.desk_records.specs.Actions.{tally_of}
 use Rattle.desk_records.specs.Rollouts.{groups_of, numbered_from}
-use Rattle.desk_records.specs.RolloutRow.{actions_for, stored_action}
-use Rattle.desk_records.specs.declared.rollout_row.ListedAction.{ListedAction}
-use Rattle.rollout_machine.specs.ByteStrings.{item_numbered}
-use Rattle.rollout_machine.specs.Commands.{Bytes}
 use Rattle.rollout_machine.specs.Groups.{holds_position}
-use Rattle.rollout_machine.specs.Offers.{Offer, first_offer, offer}
-use Rattle.rollout_machine.specs.Records.{Records}
-use Rattle.rollout_machine.specs.declared.records.ActionRecord.{ActionRecord}
-use Rattle.rollout_machine.specs.declared.records.GroupRecord.{GroupRecord}
-use Rattle.rollout_machine.specs.declared.records.RolloutRecord.{RolloutRecord}
-use Rattle.rollout_machine.specs.StateWords.{group_holding, group_is_started, has_started, is_for, is_started_in, started_actions_of, target_word, word_by_last, InError, InSync, Pending, TargetWord, Unknown}
 use Rattle.rollout_machine.specs.declared.outcome.Outcome.{Outcome}
 use Rattle.rollout_machine.specs.declared.outcome.Outcome.TheVariants.{Bad, Gone, Good}
-use Rattle.desk_views.specs.TargetWords.{is_begun, last_ending}
 
 -- ---- groups
 

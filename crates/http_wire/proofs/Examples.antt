@@ -1,15 +1,11 @@
 -- Computed examples: they guard the definitions against slips.
 use Rattle.std.proofs.Common.{◌≡◌, ℕ, ◌+◌, true, false, List, [], ◌∷◌, ◌++◌, Some, None, refl}
 use Rattle.std.specs.Prelude.{codes, decimal, replicate, map, Ok, Err}
-use Rattle.std.specs.List.{flat_map}
+use Rattle.http_wire.proofs.Common.{flat_map, body_length_limit, TooLarge, BadLength, BadCoding, line_ends, sole_value}
 use Rattle.std.specs.Fmt.{digits}
 use Rattle.httparse.specs.Grammar.{trim_ows}
-use Rattle.rollout_model.specs.Limits.{body_length_limit}
 use Rattle.rollout_model.specs.declared.Refusal.TheVariants as refusals
-use Rattle.http_wire.specs.Faults.{TooLarge, BadLength, BadCoding}
-use Rattle.http_wire.specs.Regions.{line_ends}
 use Rattle.http_wire.specs.Heads.{is_target_byte}
-use Rattle.http_wire.specs.Fields.{sole_value}
 use Rattle.http_wire.specs.BodyLengths.{body_length}
 use Rattle.http_wire.specs.Targets.{path_of, query_of}
 use Rattle.http_wire.specs.Replies.{reason, reply_text, refusal_body, refusal_text, Octets, Text, Csv}

@@ -1,11 +1,9 @@
 -- The strict heads are those of httparse's grammar in which each LF follows a CR, apart empty line comes
 -- first, the version is 1.1 and the target is in origin form.
 use Rattle.std.proofs.Common.{◌≡◌, ◌≢◌, ℕ, ◌+◌, ◌<◌, ◌≤◌, true, cond, eqb, List, [], ◌∷◌, ◌++◌, map, length, get_or, take, drop, refl, sym, ap, ◌∙◌, subst, arith, append_assoc, inl, inr}
-use Rattle.std.specs.List.{flat_map}
+use Rattle.http_wire.proofs.Common.{flat_map, and_parts, and_from, eqb-true, cases_lt, not_from_false, ne_eqb, false≢true, append-nil, get_or_past, length-map, drop_all, field_limit, FieldLine, HeadParts, line_text, IsOriginForm, IsFieldLine, SpellsHead, name_and_value, line_ends, HasFewFields, lf_follows_cr, is_no_line_break, IsStrict, IsHeadAt}
 use Rattle.std.specs.Prelude.{IsAscii, All}
-use Rattle.std.proofs.lemmas.Bool.{and_parts, and_from, eqb-true, cases_lt, not_from_false, ne_eqb, false≢true}
 use Rattle.std.proofs.lemmas.Bool.Decides.{nat_tests}
-use Rattle.std.proofs.lemmas.List.{append-nil, get_or_past, length-map, drop_all}
 use Rattle.std.proofs.lemmas.List.Elements.{All-head, All-tail, All-weaker, All-map}
 use Rattle.std.proofs.lemmas.Str.{IsUtf8-from_ascii}
 use Rattle.httparse.specs.Grammar.{is_token_byte, is_uri_byte, is_value_byte, AllPass, IsToken, LineEnd, crlf, lf, print_end, print_blank, print_version, Field, print_field, IsField, print_section, RequestHead, print_request, ReadsRequest}
@@ -13,10 +11,7 @@ use Rattle.httparse.specs.Spans as Spans
 use Rattle.httparse.specs.declared.spans.RequestSpans.{RequestSpans}
 use Rattle.httparse.specs.declared.spans.HeaderSpan.{HeaderSpan}
 use Rattle.httparse.proofs.GrammarLemmas.{print_request-append, cons-append}
-use Rattle.rollout_model.specs.Limits.{field_limit}
-use Rattle.http_wire.specs.Heads.{FieldLine, HeadParts, line_text, head_text, is_target_byte, IsOriginForm, IsFieldLine, SpellsHead, name_and_value}
-use Rattle.http_wire.specs.Regions.{line_ends, HasFewFields}
-use Rattle.http_wire.specs.Parse.{lf_follows_cr, is_no_line_break, IsStrict, IsHeadAt}
+use Rattle.http_wire.specs.Heads.{head_text, is_target_byte}
 
 -- ---- between the two trees
 

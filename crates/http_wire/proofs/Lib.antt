@@ -1,3 +1,4 @@
+pub mod Common
 pub mod RegionLemmas
 pub mod HeadLemmas
 pub mod MessageLemmas

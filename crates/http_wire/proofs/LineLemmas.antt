@@ -1,13 +1,9 @@
 -- The number of line ends is the number of lines, the parts between the CR LF pairs, and that of the LF behind a CR.
 use Rattle.std.proofs.Common.{◌≡◌, ℕ, ◌+◌, ◌-◌, Bool, true, false, ◌&&◌, List, [], ◌∷◌, ◌++◌, drop, get_or, refl, sym, arith, ap, ◌∙◌}
 use Rattle.std.specs.Prelude.{length, if◌then◌else◌, ◌==◌, nat_lt}
-use Rattle.std.specs.List.{flat_map, list_all}
-use Rattle.std.proofs.lemmas.Bool.{lt-ltb}
-use Rattle.std.proofs.lemmas.List.{drop-drop, get_or-drop}
+use Rattle.http_wire.proofs.Common.{flat_map, list_all, lt-ltb, drop-drop, get_or-drop, is_byte, places, line_ends, AreLines, HasLines, lf_follows_cr}
 use Rattle.httparse.specs.Ascii.{crlf_bytes}
-use Rattle.memchr.specs.Find.{is_byte, places, places_from}
-use Rattle.http_wire.specs.Regions.{line_ends, AreLines, HasLines}
-use Rattle.http_wire.specs.Parse.{lf_follows_cr}
+use Rattle.memchr.specs.Find.{places_from}
 
 one_line : (line rest : List ℕ) → line_ends line ≡ 0 → line_ends (line ++ 13 ∷ 10 ∷ rest) ≡ 1 + line_ends rest
 one_line [] rest e = omega arith

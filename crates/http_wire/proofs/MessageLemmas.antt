@@ -1,25 +1,12 @@
 -- At the front of the bytes stands one message, one fault or neither, and more bytes leave it there.
 use Rattle.std.proofs.Common.{◌≡◌, ℕ, ◌+◌, ◌<◌, ◌≤◌, ◌⊎◌, List, [], ◌∷◌, ◌++◌, length, map, take, drop, refl, sym, ap, ◌∙◌, subst, arith, append_assoc, inl, inr, Result, Ok, Err, Option, Some, None, append-nil}
-use Rattle.std.proofs.lemmas.List.{length-append, take_at, drop_at, take-append-drop, length-take-le}
+use Rattle.http_wire.proofs.Common.{length-append, take_at, drop_at, take-append-drop, length-take-le, digits_value, cond_both, ltb-false, head_length_limit, field_limit, body_length_limit, WireFault, TooLarge, BadHead, BadLength, HeadTooLarge, BadCoding, HasRegion, HasNoRegion, HasFewFields, line_ends, FieldLine, HeadParts, SpellsHead, NameAndValue, name_and_value, is_digits, length_of, length_by, unless_coded, fields_named, WireMessage, IsHeadWith, IsMessage, IsBadRegion, IsFault, IsUndecided, Begins, HasMessages, EndsAs, message_of, Answers, HandsOut, End, Input, Cut, Fault}
 use Rattle.std.specs.Prelude.{◌^◌, codes, nat_lt}
-use Rattle.std.specs.Str.Parse.{digits_value}
-use Rattle.std.proofs.lemmas.Bool.{cond_both, ltb-false}
 use Rattle.httparse.proofs.GrammarLemmas.{request_unique}
-use Rattle.rollout_model.specs.Limits.{head_length_limit, field_limit, body_length_limit}
-use Rattle.http_wire.specs.Faults.{WireFault}
-use Rattle.http_wire.specs.Faults.{TooLarge, BadHead, BadLength, HeadTooLarge, BadCoding}
-use Rattle.http_wire.specs.Regions.{HasRegion, HasNoRegion, HasFewFields, line_ends}
-use Rattle.http_wire.specs.Heads.{FieldLine, HeadParts, SpellsHead, NameAndValue, name_and_value}
-use Rattle.http_wire.specs.BodyLengths.{body_length, is_digits, length_of, length_by, unless_coded}
-use Rattle.http_wire.specs.Fields.{fields_named}
-use Rattle.http_wire.specs.Messages.{WireMessage, IsHeadWith, IsMessage, IsBadRegion, IsFault, IsUndecided}
-use Rattle.http_wire.specs.Streams.{Begins, HasMessages, EndsAs}
+use Rattle.http_wire.specs.BodyLengths.{body_length}
 use Rattle.http_wire.specs.declared.message.Message.{Message}
-use Rattle.http_wire.specs.Inbox.{message_of, Answers, HandsOut}
 use Rattle.http_wire.specs.Fronts.{IsUndecidedBelow, StandsFirst}
 use Rattle.http_wire.specs.declared.message.NoMessage.TheVariants.{Wants}
-use Rattle.http_wire.specs.Faults.{End}
-use Rattle.http_wire.specs.Faults.{Input, Cut, Fault}
 use Rattle.http_wire.proofs.RegionLemmas.{region_unique, region_append, no_region_append}
 use Rattle.http_wire.proofs.HeadLemmas.{field_of, line_of, as_request, parts_of, spelled_reads}
 

@@ -2,12 +2,9 @@
 use Rattle.std.proofs.Common.{◌≡◌, ◌≢◌, ℕ, List, [], ◌∷◌, length, Bool, true, false, Option, Some, None, cond, refl, sym, ◌∙◌, map}
 use Rattle.std.specs.Str.{IsUtf8, is_utf8}
 use Rattle.std.proofs.lemmas.Str.{is_utf8-from_IsUtf8, IsUtf8-from_is_utf8}
-use Rattle.serde_json.specs.Data.{Data}
+use Rattle.mgmt_objects.proofs.Common.{Data, as_array, Value, view, items_view, items_of}
 use Rattle.serde_json.specs.Read.{read}
-use Rattle.serde_json.specs.Find.{as_array}
-use Rattle.serde_json.specs.declared.value.Value.{Value}
 use Rattle.std.proofs.lemmas.List.{length-map}
-use Rattle.serde_json.specs.View.{view, items_view, items_of}
 use Rattle.mgmt_objects.specs.Bodies.{body_data, only_item, only}
 
 pub body_is : (bytes : List ℕ) (d : Data) → IsUtf8 bytes → read bytes ≡ Some d → body_data bytes ≡ Some d

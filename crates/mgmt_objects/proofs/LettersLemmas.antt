@@ -2,7 +2,7 @@
 use Rattle.std.proofs.Common.{◌≡◌, ℕ, List, [], ◌∷◌, Bool, true, false, codes, decimal, append_assoc}
 use Rattle.std.specs.List.{concat}
 use Rattle.json.specs.Print.{quoted}
-use Rattle.serde_json.specs.Data.{object, member, no_members, string, boolean}
+use Rattle.mgmt_objects.proofs.Common.{object, member, no_members, string, boolean, whole}
 use Rattle.serde_json.specs.Written.{compact_text}
 use Rattle.serde_json.proofs.OnLiterals.{serde_json_on_literals}
 use Rattle.rollout_model.specs.declared.module.Module.{Module}
@@ -13,7 +13,6 @@ use Rattle.rollout_model.specs.StateTexts.{action_text, group_text, rollout_text
 use Rattle.mgmt_objects.specs.ModuleObjects.{module_data, module_letters, truth_letters}
 use Rattle.mgmt_objects.specs.ActionObjects.{action_data, action_letters}
 use Rattle.mgmt_objects.specs.RolloutObjects.{group_data, group_letters, rollout_data, rollout_letters}
-use Rattle.mgmt_objects.specs.Pages.{whole}
 
 spelled : (id : ℕ) (locked : Bool) (name kind version : List ℕ) → compact_text (object (member (codes "id") (whole id) (member (codes "locked") (boolean locked) (member (codes "name") (string name) (member (codes "type") (string kind) (member (codes "version") (string version) no_members)))))) ≡ concat (codes "{\"id\":" ∷ decimal id ∷ codes ",\"locked\":" ∷ truth_letters locked ∷ codes ",\"name\":" ∷ quoted name ∷ codes ",\"type\":" ∷ quoted kind ∷ codes ",\"version\":" ∷ quoted version ∷ codes "}" ∷ [])
 unfolding serde_json_on_literals

@@ -1,3 +1,4 @@
+pub mod Common
 pub mod BodyLemmas
 pub mod TraverseLemmas
 pub mod LettersLemmas

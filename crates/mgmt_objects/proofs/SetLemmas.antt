@@ -1,11 +1,7 @@
 -- The ids of an array's objects.
 use Rattle.std.proofs.Common.{◌≡◌, ℕ, List, Some, map, ap, sym, option_and_then}
-use Rattle.serde_json.specs.Data.{Data}
-use Rattle.serde_json.specs.Find.{get, as_array}
-use Rattle.serde_json.specs.declared.value.Value.{Value}
-use Rattle.serde_json.specs.View.{view, items_view}
+use Rattle.mgmt_objects.proofs.Common.{Data, get, as_array, Value, view, items_view, traverse}
 use Rattle.mgmt_objects.specs.SetBodies.{id_of, ids_member}
-use Rattle.mgmt_objects.specs.Traverse.{traverse}
 use Rattle.mgmt_objects.proofs.TraverseLemmas.{list_of_items}
 
 pub ids_listed : (key : List ℕ) (d : Data) (vs : List Value) → Some (items_view vs) ≡ option_and_then as_array (get key d) → traverse id_of (map view vs) ≡ ids_member key d

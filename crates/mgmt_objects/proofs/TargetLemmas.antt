@@ -1,9 +1,8 @@
 -- The members of attributes, in a loop.
 use Rattle.std.proofs.Common.{◌≡◌, ◌<◌, ◌+◌, ℕ, List, length, drop, get_or, ◌∷◌, ap, sym, ◌∙◌}
 use Rattle.std.proofs.lemmas.List.{at_drop_more}
-use Rattle.serde_json.specs.Data.{Members, put, string}
+use Rattle.mgmt_objects.proofs.Common.{Members, put, string, with_attributes}
 use Rattle.rollout_model.specs.declared.target.Attribute.{Attribute}
-use Rattle.mgmt_objects.specs.TargetObjects.{with_attributes}
 
 -- one more is put
 pub with_attributes_more : (members : Members) (attributes : List Attribute) (i : ℕ) (a : Attribute) → i < length attributes → a ≡ get_or attributes i a

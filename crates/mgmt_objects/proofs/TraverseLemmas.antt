@@ -3,12 +3,7 @@ use Rattle.std.proofs.Common.{◌≡◌, ◌<◌, ◌+◌, ◌++◌, ℕ, zero, 
 use Rattle.rollout_model.specs.declared.refusal.Refusal.{Refusal}
 use Rattle.rollout_model.specs.declared.refusal.Refusal.TheVariants.{BadRequest, NoMemory}
 use Rattle.std.proofs.lemmas.List.{map_more}
-use Rattle.serde_json.specs.Data.{Data}
-use Rattle.serde_json.specs.View.{items_of}
-use Rattle.serde_json.specs.Find.{as_array}
-use Rattle.serde_json.specs.View.{view, items_view}
-use Rattle.serde_json.specs.declared.value.Value.{Value}
-use Rattle.mgmt_objects.specs.Traverse.{array_of, list_of, traverse}
+use Rattle.mgmt_objects.proofs.Common.{Data, items_of, as_array, view, items_view, Value, array_of, list_of, traverse}
 
 after_none : {A B : Type 0} (y : Option A) → option_and_then {T = A} {U = B} (λ _. None) y ≡ None
 after_none (Some y) = refl

@@ -1,3 +1,4 @@
+pub mod Common
 pub mod Meets
 pub mod PairLemmas
 pub mod Longest

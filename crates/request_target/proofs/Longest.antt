@@ -1,10 +1,7 @@
 -- The suffix that a parameter leaves: a slash or nothing.
 use Rattle.std.proofs.Common.{◌≡◌, ℕ, suc, ◌-◌, ◌<◌, List, [], ◌∷◌, length, drop, Bool, true, false, cond, ◌&&◌, ◌||◌, ◌==◌, ltb, nat_eq, refl, sym, ◌∙◌, ap, arith}
-use Rattle.std.proofs.lemmas.Bool.{false≢true, eqb-true}
-use Rattle.std.proofs.lemmas.Bool.Decides.{nat_tests}
+use Rattle.request_target.proofs.Common.{false≢true, eqb-true, nat_tests, RowsOf, segment, has_slash, cuts, better, longest_from}
 use Rattle.std.specs.Cmp.Lexicographic.{pointwise}
-use Rattle.matchit.specs.Rows.{RowsOf}
-use Rattle.matchit.specs.Seek.{segment, has_slash, cuts, better, longest_from}
 use Rattle.request_target.proofs.Meets.{segment_len, all_open, some_goes_on}
 
 pub both : (a b : Bool) → (a && b) ≡ true → (a ≡ true) × (b ≡ true)

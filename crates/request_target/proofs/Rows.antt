@@ -1,9 +1,6 @@
 -- Rows after a token.
 use Rattle.std.proofs.Common.{◌≡◌, ◌⊎◌, inl, inr, ℕ, List, [], ◌∷◌, Bool, true, false, cond, ◌==◌, Some, None, refl, arith}
-use Rattle.std.proofs.lemmas.Bool.{false≢true, eqb-true}
-use Rattle.std.proofs.lemmas.Bool.Decides.{nat_tests}
-use Rattle.matchit.specs.Rows.{RowsOf}
-use Rattle.matchit.specs.Seek.{own, step}
+use Rattle.request_target.proofs.Common.{false≢true, eqb-true, nat_tests, RowsOf, own, step}
 use Rattle.request_target.proofs.Meets.{In}
 
 same : (x : ℕ) → (x == x) ≡ true

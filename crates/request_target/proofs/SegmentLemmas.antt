@@ -1,11 +1,9 @@
 -- The first segment of a path, and the segment at a place.
 use Rattle.std.proofs.Common.{◌≡◌, ◌<◌, ◌+◌, ℕ, suc, List, [], ◌∷◌, ◌++◌, length, take, drop, get_or, Bool, true, false, not, ◌==◌, None, refl, sym, ap, ◌∙◌, arith}
 use Rattle.std.specs.Prelude.{slice_get}
-use Rattle.std.specs.List.{list_all}
-use Rattle.std.proofs.lemmas.Bool.{false≢true}
+use Rattle.request_target.proofs.Common.{list_all, false≢true, segments}
 use Rattle.std.proofs.lemmas.List.{take-append-drop}
 use Rattle.std.proofs.Math.Seq.{drop-cons}
-use Rattle.request_target.specs.Routes.{segments}
 use Rattle.request_target.proofs.Longest.{both}
 
 abbrev pub no_slash : ℕ → Bool

@@ -1,11 +1,8 @@
 -- A path meets a route's tokens where the route's segments stand for its own.
 use Rattle.std.proofs.Common.{◌≡◌, ℕ, suc, List, [], ◌∷◌, ◌++◌, length, take, drop, Bool, true, false, not, cond, ◌&&◌, ◌==◌, nat_lt, nat_eq, refl, sym, ◌∙◌, ap, arith, append-nil}
-use Rattle.std.specs.List.{list_all}
+use Rattle.request_target.proofs.Common.{list_all, nat_tests, onto_first, segments, is_parameter, stands_for, fits, part_tokens, tokens, is_part}
 use Rattle.std.specs.Prelude.{bytes_eq}
-use Rattle.std.proofs.lemmas.Bool.Decides.{nat_tests}
-use Rattle.request_target.specs.Routes.{onto_first, segments, is_parameter, stands_for, fits}
 use Rattle.request_target.proofs.Meets.{segment_len, meets}
-use Rattle.request_target.specs.Rows.{part_tokens, tokens, is_part}
 use Rattle.request_target.proofs.Longest.{both}
 
 -- the segments behind the first slash of this rest of a path

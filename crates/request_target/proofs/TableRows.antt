@@ -1,19 +1,13 @@
 -- The rows that were made of a table lead where the table does.
 use Rattle.std.proofs.Common.{◌≡◌, ℕ, List, [], ◌∷◌, Bool, true, false, cond, ◌&&◌, ◌==◌, Option, Some, None, option_map, Result, Ok, Err, refl, sym, ◌∙◌, ap}
-use Rattle.std.proofs.lemmas.Bool.{false≢true}
+use Rattle.request_target.proofs.Common.{false≢true, list_all, RowsOf, comes_before, first, segments, fits, onto_first, route_in, all_plain, all_apart, apart, apart_from, tokens, is_part, added, rows_with, is_new, are_new, are_routes}
 use Rattle.std.specs.Prelude.{bytes_eq}
-use Rattle.std.specs.List.{list_all}
 use Rattle.std.proofs.lemmas.Slice.Eq.{bytes_eq-Decides}
-use Rattle.matchit.specs.Rows.{RowsOf, comes_before}
 use Rattle.matchit.specs.Route.{Scan, parse_route}
 use Rattle.matchit.specs.Router.{RouteOf, route_from}
 use Rattle.matchit.specs.Order.{placed}
-use Rattle.matchit.specs.Seek.{first}
 use Rattle.matchit.specs.declared.error.InsertError.{InsertError}
-use Rattle.request_target.specs.Routes.{segments, fits, onto_first, route_in}
-use Rattle.request_target.specs.Tokens.{all_plain, all_apart, apart, apart_from}
 use Rattle.request_target.proofs.Meets.{meets, all_bytes, met_row}
-use Rattle.request_target.specs.Rows.{tokens, is_part, added, rows_with, is_new, are_new, are_routes}
 use Rattle.request_target.proofs.Longest.{both}
 use Rattle.request_target.proofs.Apart.{not_both, first_is}
 use Rattle.request_target.proofs.Segments.{meets_tokens}

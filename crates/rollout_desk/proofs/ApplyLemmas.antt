@@ -1,37 +1,11 @@
 -- From the calls of the store to one request of a desk.
 use Rattle.std.proofs.Common.{◌≡◌, ◌≢◌, ◌⊎◌, inl, inr, Bool, false, Option, Some, None, Ok, refl, sym, subst, ap, ◌∙◌, arith}
-use Rattle.std.proofs.lemmas.Bool.{cases_Bool, false≢true}
-use Rattle.sqlite.specs.Tree.{Trees}
-use Rattle.sqlite.specs.State.{State, HasCleanDisk}
-use Rattle.sql_calls.specs.Standing.{HoldIn, IsAtRest, Rests, Doubts, Begins, Keeps, Finds, Opens, Sees, Spoiled, Wears}
+use Rattle.rollout_desk.proofs.Common.{cases_Bool, false≢true, Trees, State, HasCleanDisk, HoldIn, IsAtRest, Rests, Doubts, Begins, Keeps, Finds, Opens, Sees, Spoiled, Wears, Answer, answer, query_reply, CommandList, ◌▸◌, followed_by, Command, Records, records, step_records, Reply, Refused, Request, Do, Ask, Query, Asks, one, StandsFor, Becomes, AppliesAt, IsValid, reply_of, query_answer, refused_answer, accepted_step, records_step, answer_never_stores, failed_true, Refusal, StoreFailed, NoMemory, HoldsList, desk_state_at, rest_shows, Fault, Memory, Store, is_failed_store, refusal_of_fault, Handles, EndsByCommit, EndsByRollback, HoldsLedger, HoldsRecords, Ledger, ledger_of, HoldsReadable}
 use Rattle.rollout_model.specs.declared.request.Reply as model
-use Rattle.rollout_machine.specs.Answers.{Answer, answer, query_reply}
-use Rattle.rollout_machine.specs.CommandList.{CommandList, ◌▸◌, followed_by}
 use Rattle.rollout_machine.specs.CommandRules.{IsWellFormed}
-use Rattle.rollout_machine.specs.Commands.{Command}
-use Rattle.rollout_machine.specs.Records.{Records, records}
-use Rattle.rollout_machine.specs.RecordSteps.{step_records}
-use Rattle.rollout_machine.specs.Replies.{Reply, Refused}
-use Rattle.rollout_machine.specs.Requests.{Request, Do, Ask, Query, Asks, one}
-use Rattle.rollout_machine.specs.Standing.{StandsFor, Becomes, AppliesAt}
-use Rattle.rollout_machine.specs.Validity.{IsValid}
 use Rattle.rollout_machine.specs.Verdicts.{check}
-use Rattle.rollout_machine.specs.Views.{reply_of}
-use Rattle.rollout_machine.proofs.Answering.{query_answer, refused_answer, accepted_step}
-use Rattle.rollout_machine.proofs.Main.{records_step}
-use Rattle.rollout_machine.proofs.StoreFailures.{answer_never_stores, failed_true}
-use Rattle.rollout_model.specs.declared.refusal.Refusal.{Refusal}
-use Rattle.rollout_model.specs.declared.refusal.Refusal.TheVariants.{StoreFailed, NoMemory}
-use Rattle.rollout_desk.specs.Desks.{HoldsList, desk_state_at}
-use Rattle.sql_calls.proofs.FrameEnds.{rest_shows}
-use Rattle.sql_calls.specs.declared.fault.Fault.{Fault}
-use Rattle.sql_calls.specs.declared.fault.Fault.TheVariants.{Memory, Store}
-use Rattle.rollout_machine.specs.StoreFailures.{is_failed_store}
-use Rattle.rollout_desk.specs.Changes.{refusal_of_fault, Handles, EndsByCommit, EndsByRollback}
 use Rattle.desk_commands.specs.Steps.{Steps}
 use Rattle.desk_commands.specs.declared.step.Step.TheVariants as step
-use Rattle.desk_records.specs.Holds.{HoldsLedger, HoldsRecords, Ledger, ledger_of}
-use Rattle.desk_records.specs.Readable.{HoldsReadable}
 use Rattle.desk_records.proofs.Readable.{newest_is_readable}
 use Rattle.desk_reads.specs.AtLists.{AreOfList}
 

@@ -2,23 +2,12 @@
 use Rattle.std.proofs.Common.{◌≡◌, Bool, IsTrue, sym, subst, ◌∙◌, arith}
 use Rattle.std.proofs.Math.Logic.{∥∥₁_map}
 use Rattle.sqlite_disk.specs.declared.Disk.{Ghosts}
-use Rattle.sqlite_disk.specs.declared.Files.{Files}
-use Rattle.sqlite.specs.Recovery.{Image}
-use Rattle.sqlite.specs.Tree.{Trees}
+use Rattle.rollout_desk.proofs.Common.{Files, Image, Trees, AreClean, FileStore, files, recovers, view, faults, is_shielded, Held, AreDatabases, State, HoldsDatabase, file_state, HoldsRecords, desk_state_at, AllHold, GoesOnOver}
 use Rattle.sqlite.specs.WalFiles.{outcomes}
-use Rattle.sqlite.specs.WalReads.{AreClean}
 use Rattle.sqlite_trees.specs.View.{IsClean, IsQuiet, IsRolledBack}
 use Rattle.sqlite_trees.proofs.Doubt.{no_doubt, clean_of}
 use Rattle.sqlite_pool.proofs.StateLemmas.{clean_is, may_leave_is}
-use Rattle.sqlite_store.specs.declared.store.FileStore.{FileStore}
-use Rattle.sqlite.specs.FileStore.{files, recovers, view, faults, is_shielded}
-use Rattle.sqlite.specs.Held.{Held, AreDatabases}
-use Rattle.sqlite.specs.State.{State}
-use Rattle.sqlite.specs.Files.{HoldsDatabase, file_state}
 use Rattle.sqlite.proofs.Theorems.{opens_again}
-use Rattle.desk_records.specs.Holds.{HoldsRecords}
-use Rattle.rollout_desk.specs.Desks.{desk_state_at}
-use Rattle.rollout_desk.specs.Openings.{AllHold, GoesOnOver}
 
 -- an open of each image finds a file that a crash may leave
 abbrev LeavesFiles : State → (Image → Type 0) → Type 0

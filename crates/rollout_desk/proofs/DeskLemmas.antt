@@ -1,15 +1,6 @@
 -- From one request of a desk's store to the desk, which may be stopped.
 use Rattle.std.proofs.Common.{◌≡◌, Bool, true, false, sym, subst, ◌∙◌, arith}
-use Rattle.std.proofs.lemmas.Bool.{false≢true}
-use Rattle.sqlite.specs.Effect.{Database}
-use Rattle.sqlite.specs.State.{State, HasCleanDisk}
-use Rattle.rollout_machine.specs.Records.{Records}
-use Rattle.rollout_machine.specs.Replies.{Reply}
-use Rattle.rollout_machine.specs.Requests.{Request, Asks}
-use Rattle.rollout_machine.specs.Standing.{StandsFor, Applies, AppliesAt, StaysStopped}
-use Rattle.rollout_desk.specs.Desks.{desk_state_at}
-use Rattle.rollout_machine.specs.StoreFailures.{is_failed_store}
-use Rattle.rollout_desk.specs.Changes.{Handles}
+use Rattle.rollout_desk.proofs.Common.{false≢true, Database, State, HasCleanDisk, Records, Reply, Request, Asks, StandsFor, Applies, AppliesAt, StaysStopped, desk_state_at, is_failed_store, Handles}
 
 module _ (Holds : Database → Records → Type 0) (old new : State) where
   -- a running desk answers by its store, and is stopped after a failed one

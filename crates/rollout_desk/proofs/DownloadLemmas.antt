@@ -1,42 +1,19 @@
 -- From looks at the records, and from answers, to downloads.
 use Rattle.std.proofs.Common.{◌≡◌, ◌≢◌, ◌≤◌, ◌<◌, inl, inr, ◌+◌, ◌*◌, ◌++◌, ℕ, zero, suc, List, [], ◌∷◌, Bool, true, false, cond, nat_eq, take, drop, Vec, Option, Some, None, Result, Ok, Err, IfOk, refl, sym, subst, ap, ◌∙◌, arith}
-use Rattle.std.specs.declared.alloc.Global.{Global}
-use Rattle.std.specs.Option.{option_map}
-use Rattle.sqlite.specs.State.{State}
-use Rattle.sql_calls.specs.Standing.{Begins as BeginsChange, Doubts, Finds, Keeps, Opens, Rests, Spoiled, Wears}
-use Rattle.sql_calls.proofs.FrameEnds.{rest_shows}
-use Rattle.sql_calls.specs.declared.fault.Fault.{Fault}
-use Rattle.desk_records.specs.Holds.{HoldsLedger, HoldsRecords, Ledger, ledger_of}
-use Rattle.desk_records.specs.Artifacts.{piece_numbered, pieces_of_artifact}
+use Rattle.rollout_desk.proofs.Common.{Global, option_map, State, Doubts, Finds, Keeps, Opens, Rests, Spoiled, Wears, rest_shows, Fault, HoldsLedger, HoldsRecords, Ledger, ledger_of, piece_numbered, pieces_of_artifact, Answer, query_reply, if_found, artifact_if, artifact_of_module, item_numbered, CommandList, followed_by, Bytes, Command, Credential, ArtifactRecord, Records, added_artifacts, artifacts, Reply, Refused, ArtifactShown, ContentsShown, Ask, Asks, Query, Request, ShowArtifact, ShowContents, one, DeskState, StandsFor, Applies, reply_of, query_answer, piece_length, Refusal, NoMemory, NotFound, StoreFailed, desk_state_at, sent, next_length, BeginsAt, HandsPieces, artifact_in, BeginsOffered, HandsItsArtifact, IsNextOf, RefusesContents, DownloadsGoOn, EndsLook, FindsDownload, Looks, bytes_of, Handles, refusal_of_fault, is_store, IsPromised}
+use Rattle.sql_calls.specs.Standing.{Begins as BeginsChange}
 use Rattle.desk_views.specs.Downloads.{downloadable}
 use Rattle.desk_views.proofs.DeviceViews.{answered_by}
-use Rattle.rollout_machine.specs.Answers.{Answer, query_reply, if_found, artifact_if, artifact_of_module}
-use Rattle.rollout_machine.specs.ByteStrings.{item_numbered}
-use Rattle.rollout_machine.specs.CommandList.{CommandList, followed_by}
-use Rattle.rollout_machine.specs.Commands.{Bytes, Command, Credential}
 use Rattle.rollout_machine.specs.Objects.{artifact_shown}
-use Rattle.rollout_machine.specs.Records.{ArtifactRecord, Records, added_artifacts, artifacts, records}
-use Rattle.rollout_machine.specs.Replies.{Reply, Refused, ArtifactShown, ContentsShown}
-use Rattle.rollout_machine.specs.Requests.{Ask, Asks, Download as DownloadOf, Query, Request, ShowArtifact, ShowContents, one}
-use Rattle.rollout_machine.specs.Standing.{DeskState, StandsFor, Applies}
-use Rattle.rollout_machine.specs.Views.{reply_of}
-use Rattle.rollout_machine.proofs.Answering.{query_answer}
-use Rattle.rollout_model.specs.Limits.{piece_length}
+use Rattle.rollout_machine.specs.Records.{records}
+use Rattle.rollout_machine.specs.Requests.{Download as DownloadOf}
 use Rattle.rollout_model.specs.declared.artifact.Artifact.{Artifact}
-use Rattle.rollout_model.specs.declared.refusal.Refusal.{Refusal}
-use Rattle.rollout_model.specs.declared.refusal.Refusal.TheVariants.{NoMemory, NotFound, StoreFailed}
 use Rattle.rollout_model.specs.declared.request.Reply as model
 use Rattle.rollout_model.specs.declared.request.Reply.TheVariants as reply
-use Rattle.rollout_desk.specs.Desks.{desk_state_at}
-use Rattle.contents_handler.specs.Downloads.{sent, next_length, BeginsAt, HandsPieces}
 use Rattle.contents_handler.specs.declared.download.Download.{Download}
-use Rattle.rollout_desk.specs.Downloads.{artifact_in, Begins, BeginsOffered, HandsItsArtifact, IsNextOf, RefusesContents, DownloadsGoOn}
-use Rattle.rollout_desk.specs.Looks.{EndsLook, FindsDownload, Looks, bytes_of}
-use Rattle.rollout_desk.specs.Changes.{Handles, refusal_of_fault}
-use Rattle.rollout_machine.specs.StoreFailures.{is_store}
+use Rattle.rollout_desk.specs.Downloads.{Begins}
 use Rattle.rollout_desk.proofs.ApplyLemmas.{fault_fails, found as found_inside, lost, stands, unbegun, rests_records, stood}
 use Rattle.rollout_desk.proofs.DeskLemmas.{answers}
-use Rattle.rollout_desk.specs.Promises.{IsPromised}
 use Rattle.rollout_desk.proofs.PromiseLemmas.{downloaded}
 use Rattle.rollout_desk.proofs.PieceLemmas.{size_is, piece_is, so_far, joins}
 

@@ -1,3 +1,4 @@
+pub mod Common
 pub mod ApplyLemmas
 pub mod DeskLemmas
 pub mod OpeningLemmas

@@ -1,22 +1,6 @@
 -- From the calls of the store to a look at the records.
 use Rattle.std.proofs.Common.{◌≡◌, ◌⊎◌, inl, inr, Bool, None, Ok, Err, Result, refl, sym, ap, subst, ◌∙◌, arith}
-use Rattle.sqlite.specs.Tree.{Trees}
-use Rattle.sqlite.specs.State.{State, HasCleanDisk}
-use Rattle.sql_calls.specs.Standing.{Begins, Doubts, Finds, HoldIn, Keeps, Opens, Rests, Spoiled, Wears}
-use Rattle.sql_calls.proofs.FrameEnds.{rest_shows}
-use Rattle.sql_calls.specs.declared.fault.Fault.{Fault}
-use Rattle.sql_calls.specs.declared.fault.Fault.TheVariants.{Memory, Store}
-use Rattle.desk_records.specs.Holds.{HoldsLedger, HoldsRecords, Ledger, ledger_of}
-use Rattle.rollout_machine.specs.CommandList.{CommandList}
-use Rattle.rollout_machine.specs.Records.{Records, records}
-use Rattle.rollout_machine.specs.Replies.{Refused}
-use Rattle.rollout_machine.specs.Standing.{Becomes, DeskState, IsInDoubt, StandsFor}
-use Rattle.rollout_machine.specs.StoreFailures.{is_store}
-use Rattle.rollout_model.specs.declared.refusal.Refusal.{Refusal}
-use Rattle.rollout_model.specs.declared.refusal.Refusal.TheVariants.{NoMemory, StoreFailed}
-use Rattle.rollout_desk.specs.Looks.{Looks, EndsLook}
-use Rattle.rollout_desk.specs.Changes.{refusal_of_fault}
-use Rattle.rollout_desk.specs.Desks.{desk_state_at}
+use Rattle.rollout_desk.proofs.Common.{Trees, State, HasCleanDisk, Begins, Doubts, Finds, HoldIn, Keeps, Opens, Rests, Spoiled, Wears, rest_shows, Fault, Memory, Store, HoldsLedger, HoldsRecords, Ledger, ledger_of, CommandList, Records, records, Refused, Becomes, DeskState, IsInDoubt, StandsFor, is_store, Refusal, NoMemory, StoreFailed, Looks, EndsLook, refusal_of_fault, desk_state_at}
 use Rattle.rollout_desk.proofs.ApplyLemmas.{readable, rests_ledger, rests_records, stands}
 
 -- the refusal of a fault

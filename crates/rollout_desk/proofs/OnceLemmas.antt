@@ -1,25 +1,9 @@
 -- What comes again in a run leaves no trace.
 use Rattle.std.proofs.Common.{◌≡◌, inl, inr, Bool, List, [], ◌∷◌, ◌++◌, Option, Some, None, sym, subst, ap, ◌∙◌}
-use Rattle.sqlite.specs.Effect.{Database}
-use Rattle.sqlite.specs.State.{State}
-use Rattle.sqlite.specs.Tree.{Trees}
-use Rattle.sql_calls.specs.Standing.{HoldIn, IsAtRest}
-use Rattle.rollout_machine.specs.Answers.{Answer, answer, MayAnswer}
-use Rattle.rollout_machine.specs.CommandList.{CommandList, ◌▸◌, followed_by}
-use Rattle.rollout_machine.specs.Commands.{Command}
-use Rattle.rollout_machine.specs.RecordSteps.{step_records}
-use Rattle.rollout_machine.specs.Records.{Records}
+use Rattle.rollout_desk.proofs.Common.{Database, State, Trees, HoldIn, IsAtRest, Answer, answer, MayAnswer, CommandList, ◌▸◌, followed_by, Command, step_records, Records, Reply, Asked, Asks, Request, one, StandsFor, IsInDoubt, IsValid, records_step, HoldsReadable, HoldsList, desk_state_at, EndsRun, Exchange, IsRun, accepted_in}
 use Rattle.rollout_machine.specs.Repeats.{without_repeats, IsTraceless}
-use Rattle.rollout_machine.specs.Replies.{Reply}
-use Rattle.rollout_machine.specs.Requests.{Asked, Asks, Request, one}
-use Rattle.rollout_machine.specs.Standing.{StandsFor, IsInDoubt}
-use Rattle.rollout_machine.specs.Validity.{IsValid}
-use Rattle.rollout_machine.proofs.Main.{records_step}
 use Rattle.rollout_machine.proofs.Once.{repeats_leave_no_trace}
-use Rattle.desk_records.specs.Readable.{HoldsReadable}
-use Rattle.rollout_desk.specs.Desks.{HoldsList, desk_state_at}
 use Rattle.rollout_desk.specs.Once.{AnswersOnce, EndsOnce}
-use Rattle.rollout_desk.specs.Runs.{EndsRun, Exchange, IsRun, accepted_in}
 use Rattle.rollout_desk.proofs.RunLemmas.{followed_append}
 
 -- ---- answers

@@ -2,20 +2,13 @@
 use Rattle.std.proofs.Common.{◌≡◌, ℕ, zero, suc, Bool, false, List, [], Some, None, Ok, Err, Result, IfOk, IfErr, refl, sym, ap, ◌∙◌, subst}
 use Rattle.std.specs.Prelude.{slice_get}
 use Rattle.sqlite_disk.specs.declared.Disk as disk
-use Rattle.sqlite_disk.specs.declared.Files.{Files}
-use Rattle.sqlite.specs.Tree.{Trees}
-use Rattle.sqlite.specs.WalReads.{AreClean}
+use Rattle.rollout_desk.proofs.Common.{Files, Trees, AreClean, IsClosed, file_state, recovers, Held, FileStore, HoldIn, IsAtRest, Rests, Image, State, HasCleanDisk, HoldsRecords, Reopens, CommandList, Make, records, StandsFor, IsValid, desk_state_at, Global, ReopensDesk, GivesBack}
 use Rattle.sqlite.specs.Closing.{IsCopied}
-use Rattle.sqlite.specs.Files.{IsClosed, file_state}
-use Rattle.sqlite.specs.FileStore.{recovers}
 use Rattle.sql_calls.specs.Calls.{no_work}
-use Rattle.sqlite.specs.Held.{Held}
-use Rattle.sqlite_store.specs.declared.store.FileStore.{FileStore}
 use Rattle.sqlite_store.specs.Laws.{stays_at}
 use Rattle.sqlite_wal.proofs.LogLemmas.{SeenMayStay}
 use Rattle.sqlite.specs.Steps.{IsEmpty}
 use Rattle.sql_front.specs.Free.{LeavesFree}
-use Rattle.sql_calls.specs.Standing.{HoldIn, IsAtRest, Rests}
 use Rattle.desk_opening.proofs.BlankLemmas.{nothing_is_used}
 use Rattle.desk_records.specs.Schema.{desk_names}
 use Rattle.desk_opening.specs.Making.{HoldsStage, Free}
@@ -25,19 +18,8 @@ use Rattle.sql_front.specs.Stands.{Stands}
 use Rattle.desk_opening.specs.declared.opening.OpenFault.{OpenFault}
 use Rattle.desk_opening.specs.declared.opening.OpenFault.TheVariants.{NotDesk, NewerVersion, Memory, Store}
 use Rattle.desk_opening.specs.Opening.{OpensDesk, IsSettled, IsFailure}
-use Rattle.sqlite.specs.Recovery.{Image}
-use Rattle.sqlite.specs.State.{State, HasCleanDisk}
-use Rattle.desk_records.specs.Holds.{HoldsRecords}
-use Rattle.desk_opening.specs.Reopening.{Reopens}
-use Rattle.rollout_machine.specs.CommandList.{CommandList, Make}
-use Rattle.rollout_machine.specs.Records.{records}
-use Rattle.rollout_machine.specs.Standing.{StandsFor}
-use Rattle.rollout_machine.specs.Validity.{IsValid}
-use Rattle.rollout_desk.specs.Desks.{desk_state_at}
 use Rattle.rollout_desk.specs.declared.desk.Desk.{Desk}
 use Rattle.desk_store.specs.declared.store.DeskStore.{DeskStore}
-use Rattle.std.specs.declared.alloc.Global.{Global}
-use Rattle.rollout_desk.specs.Openings.{ReopensDesk, GivesBack}
 use Rattle.rollout_desk.proofs.ApplyLemmas.{readable}
 
 stands : (s : State) (h : CommandList) → IsValid h → Rests HoldsRecords s (records h) → HasCleanDisk s → StandsFor (desk_state_at HoldsRecords false s) h

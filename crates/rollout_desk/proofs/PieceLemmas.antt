@@ -1,19 +1,12 @@
 -- From pieces in the records to pieces that are handed out.
 use Rattle.std.proofs.Common.{◌≡◌, ◌<◌, ◌+◌, ◌*◌, ◌++◌, ℕ, zero, suc, List, take, drop, length, min, Option, Some, None, All, sym, subst, ap, ◌∙◌, arith, add-one}
 use Rattle.std.specs.Prelude.{slice_get}
-use Rattle.std.specs.Option.{option_map}
+use Rattle.rollout_desk.proofs.Common.{option_map, pieces_in, pieces_of_artifact, piece_numbered, IsWhole, all_whole, item_numbered, CommandList, Bytes, ArtifactRecord, Records, records, piece_length}
 use Rattle.std.proofs.Math.Seq.{take-add}
 use Rattle.std.proofs.lemmas.List.{take_min}
 use Rattle.std.proofs.lemmas.List.Elements.{All-get_or}
 use Rattle.std.proofs.lemmas.Option.{slice_get_within, get_or_from_slice_get}
-use Rattle.desk_records.specs.Artifacts.{pieces_in, pieces_of_artifact, piece_numbered}
 use Rattle.desk_records.proofs.PieceLists.{nth_piece}
-use Rattle.desk_records.proofs.WholeArtifacts.{IsWhole, all_whole}
-use Rattle.rollout_machine.specs.ByteStrings.{item_numbered}
-use Rattle.rollout_machine.specs.CommandList.{CommandList}
-use Rattle.rollout_machine.specs.Commands.{Bytes}
-use Rattle.rollout_machine.specs.Records.{ArtifactRecord, Records, records}
-use Rattle.rollout_model.specs.Limits.{piece_length}
 
 -- ---- an artifact's size and digest are those of its contents
 

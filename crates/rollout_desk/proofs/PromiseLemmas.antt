@@ -1,36 +1,22 @@
 -- What is promised of an answer follows from the answer itself.
-use Rattle.rollout_machine.specs.Answers.{Answer, query_reply, if_found, for_device, download, targets_reply, targets_matching, is_offer_of, modules_offered, artifact_named, action_of_target, artifact_if, artifact_of_module}
-use Rattle.rollout_machine.specs.ByteStrings.{contains_word, item_numbered, same_bytes}
-use Rattle.rollout_machine.specs.CommandList.{CommandList}
-use Rattle.rollout_machine.specs.Commands.{Bytes, Credential, TargetRow}
+use Rattle.rollout_desk.proofs.Common.{Answer, query_reply, if_found, for_device, download, targets_reply, targets_matching, is_offer_of, modules_offered, artifact_named, action_of_target, artifact_if, artifact_of_module, contains_word, item_numbered, same_bytes, CommandList, Bytes, Credential, TargetRow, ArtifactRecord, Records, Reply, Refused, PollShown, DeploymentShown, CancelShown, ContentsShown, Page, Query, Ask, Asks, Poll, ShowDeployment, ShowCancel, Download, ShowTargets, ShowTarget, ShowTargetActions, ShowAction, ShowHistory, ShowModules, ShowModule, ShowArtifacts, ShowArtifact, ShowContents, ShowSets, ShowSet, ShowRollouts, ShowRollout, ShowGroups, ShowGroup, ShowGroupTargets, ShowReport, ShowActionsTable, Applies, DeskState, IsValid, query_answer, Refusal, NoMemory, NotFound, StoreFailed, Unauthorized, unwrap_or, and_parts, eqb-true, false≢true, IsWhole, all_whole, Describes, DownloadsItsOffer, IsPromised, IsTarget, KeepsToOffers, NamesItsOffer, ShowsWhole, asker, offer_named}
 use Rattle.rollout_machine.specs.Objects.{deployment_shown}
 use Rattle.rollout_machine.specs.Offers.{Offer, offer}
-use Rattle.rollout_machine.specs.Records.{ArtifactRecord, Records, records}
-use Rattle.rollout_machine.specs.Replies.{Reply, Refused, PollShown, DeploymentShown, CancelShown, ContentsShown}
-use Rattle.rollout_machine.specs.Requests.{Page, Query, Ask, Asks, Poll, ShowDeployment, ShowCancel, Download, ShowTargets, ShowTarget, ShowTargetActions, ShowAction, ShowHistory, ShowModules, ShowModule, ShowArtifacts, ShowArtifact, ShowContents, ShowSets, ShowSet, ShowRollouts, ShowRollout, ShowGroups, ShowGroup, ShowGroupTargets, ShowReport, ShowActionsTable}
-use Rattle.rollout_machine.specs.Standing.{Applies, DeskState}
+use Rattle.rollout_machine.specs.Records.{records}
 use Rattle.rollout_machine.specs.StateWords.{group_numbered}
 use Rattle.rollout_machine.specs.Targets.{Target, last_row_of, target_ids, target_in}
-use Rattle.rollout_machine.specs.Validity.{IsValid}
 use Rattle.rollout_machine.specs.Verdicts.{is_known, target_of}
-use Rattle.rollout_machine.proofs.Answering.{query_answer}
 use Rattle.rollout_machine.proofs.Offering.{downloads_are_offered}
 use Rattle.rollout_machine.proofs.Offers.{offer_is_least}
 use Rattle.rollout_machine.proofs.TargetMeanings.{targets_are_named}
 use Rattle.rollout_machine.proofs.TargetTies.{same_true, same_refl}
-use Rattle.rollout_model.specs.declared.refusal.Refusal.{Refusal}
-use Rattle.rollout_model.specs.declared.refusal.Refusal.TheVariants.{NoMemory, NotFound, StoreFailed, Unauthorized}
 use Rattle.target_filter.specs.Grammar.{Tree}
 use Rattle.target_filter.specs.Profile.{filter_of}
 use Rattle.std.proofs.Common.{◌≡◌, inl, inr, ℕ, Bool, true, false, cond, not, ◌&&◌, ◌||◌, List, [], ◌∷◌, map, Option, Some, None, refl, sym, subst, ap, ◌∙◌}
 use Rattle.std.specs.Prelude.{is_some, nat_eq}
-use Rattle.std.specs.Option.{unwrap_or}
 use Rattle.std.specs.List.{list_any}
-use Rattle.std.proofs.lemmas.Bool.{and_parts, eqb-true, false≢true}
 use Rattle.sqlite_keyed.proofs.SliceLemmas.{All-find}
-use Rattle.desk_records.proofs.WholeArtifacts.{IsWhole, all_whole}
 use Rattle.rollout_desk.proofs.PieceLemmas.{is_whole}
-use Rattle.rollout_desk.specs.Promises.{Describes, DownloadsItsOffer, IsPromised, IsTarget, KeepsToOffers, NamesItsOffer, ShowsWhole, asker, offer_named}
 
 -- ---- the device is a target
 

@@ -1,22 +1,11 @@
 -- Runs grow at their end by one request.
 use Rattle.std.proofs.Common.{Contains, inl, inr, ◌≡◌, ◌≢◌, ◌≤◌, ◌<◌, ◌+◌, ℕ, true, false, zero, suc, length, take, drop, get_or, List, [], ◌∷◌, ◌++◌, map, refl, sym, ap, ◌∙◌, subst, append-nil, arith}
-use Rattle.std.proofs.lemmas.Bool.{false≢true}
+use Rattle.rollout_desk.proofs.Common.{false≢true, StoreFailed, MayAnswer, Command, CommandList, ◌▸◌, followed_by, Reply, Refused, Request, Asks, one, DeskState, StandsFor, Applies, request_of, reply_of, Exchange, accepted_in, IsRun, GoesOn, RunsThrough, BreaksOff, is_failed_store, failed_true}
 use Rattle.std.proofs.lemmas.List.{map-append, take_all, take_more, take-append-drop}
 use Rattle.std.proofs.lemmas.List.Concat.{flat_map-append}
 use Rattle.std.proofs.lemmas.List.Elements.{All-append, Contains-push_cases}
-use Rattle.rollout_model.specs.declared.refusal.Refusal.TheVariants.{StoreFailed}
 use Rattle.rollout_model.specs.declared.request.Reply as model
 use Rattle.rollout_model.specs.declared.request.Request as asked
-use Rattle.rollout_machine.specs.Answers.{MayAnswer}
-use Rattle.rollout_machine.specs.Commands.{Command}
-use Rattle.rollout_machine.specs.CommandList.{CommandList, ◌▸◌, followed_by}
-use Rattle.rollout_machine.specs.Replies.{Reply, Refused}
-use Rattle.rollout_machine.specs.Requests.{Request, Asks, one}
-use Rattle.rollout_machine.specs.Standing.{DeskState, StandsFor, Applies}
-use Rattle.rollout_machine.specs.Views.{request_of, reply_of}
-use Rattle.rollout_desk.specs.Runs.{Exchange, accepted_in, IsRun, GoesOn, RunsThrough, BreaksOff}
-use Rattle.rollout_machine.specs.StoreFailures.{is_failed_store}
-use Rattle.rollout_machine.proofs.StoreFailures.{failed_true}
 
 pub followed_append : (h : CommandList) (cs ds : List Command) → followed_by h (cs ++ ds) ≡ followed_by (followed_by h cs) ds
 followed_append h [] ds = refl

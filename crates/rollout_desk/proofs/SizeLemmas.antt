@@ -1,22 +1,10 @@
 -- From what a call inside a change says of the tables to what a query is answered.
 use Rattle.std.proofs.Common.{◌≡◌, inl, inr, Result, Ok, Err, IfOk, sym, subst, arith}
-use Rattle.sqlite.specs.Store.{Ghosts}
-use Rattle.sqlite.specs.State.{State, HasCleanDisk}
-use Rattle.sql_calls.specs.Standing.{Begins, Sees, Wears}
-use Rattle.sql_calls.specs.declared.fault.Fault.{Fault}
-use Rattle.rollout_machine.specs.Replies.{Refused}
+use Rattle.rollout_desk.proofs.Common.{Ghosts, State, HasCleanDisk, Begins, Sees, Wears, Fault, Refused, Query, Download, ShowContents, reply_of, Refusal, StoreFailed, HoldsTables, Tables, OpenChange, EndsByRollback, AnswersIn, KeepsSizes}
 use Rattle.rollout_machine.specs.Replies as shown
-use Rattle.rollout_machine.specs.Requests.{Query, Download, ShowContents}
-use Rattle.rollout_machine.specs.Views.{reply_of}
-use Rattle.rollout_model.specs.declared.refusal.Refusal.{Refusal}
-use Rattle.rollout_model.specs.declared.refusal.Refusal.TheVariants.{StoreFailed}
 use Rattle.rollout_model.specs.declared.request.Reply.{Reply}
-use Rattle.desk_records.specs.Tables.{HoldsTables, Tables}
-use Rattle.desk_store.specs.declared.change.OpenChange.{OpenChange}
 use Rattle.desk_views.specs.Showing.{ShowsIn}
 use Rattle.desk_views.specs.Sizes.{KeepsSize}
-use Rattle.rollout_desk.specs.Changes.{EndsByRollback}
-use Rattle.rollout_desk.specs.Sizes.{AnswersIn, KeepsSizes}
 
 every : {A E : Type 0} {P : A → Type 0} (out : Result A E) → ((a : A) → P a) → IfOk out P
 every (Ok a) all = all a

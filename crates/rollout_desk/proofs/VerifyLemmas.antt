@@ -1,28 +1,13 @@
 -- From what a change sees of the tables to what a verification says.
 use Rattle.std.proofs.Common.{◌≡◌, ◌≤◌, ◌<◌, ◌+◌, ◌^◌, ◌-◌, ◌⊎◌, ℕ, zero, suc, inl, inr, Option, Result, Ok, Err, refl, sym, subst, arith}
-use Rattle.sqlite.specs.Held.{state}
-use Rattle.sqlite.specs.Store.{Ghosts}
-use Rattle.sqlite.specs.State.{State, HasCleanDisk}
-use Rattle.sql_calls.specs.Standing.{Begins, Finds, Rests, Sees, Wears}
+use Rattle.rollout_desk.proofs.Common.{state, Ghosts, State, HasCleanDisk, Begins, Finds, Rests, Sees, Wears, Fault, Memory, Store, rest_shows, HoldsLedger, ledger_of, HoldsTables, Tables, OpenChange, Records, Refusal, StoreFailed, refusal_of_fault, EndsLook, FindsDamage, HasCause, IsNeverDamaged}
 use Rattle.sql_calls.specs.declared.calls.Calls.{Calls}
-use Rattle.sql_calls.specs.declared.fault.Fault.{Fault}
-use Rattle.sql_calls.specs.declared.fault.Fault.TheVariants.{Memory, Store}
-use Rattle.sql_calls.proofs.FrameEnds.{rest_shows}
-use Rattle.desk_records.specs.Holds.{HoldsLedger, ledger_of}
-use Rattle.desk_records.specs.Tables.{HoldsTables, Tables}
 use Rattle.desk_store.specs.Blaming.{Blames, HasFailed, Watch}
 use Rattle.desk_store.specs.Changing.{seen_in}
 use Rattle.desk_store.specs.Unreadable.{IsUnreadable}
-use Rattle.desk_store.specs.declared.change.OpenChange.{OpenChange}
-use Rattle.rollout_machine.specs.Records.{Records}
-use Rattle.rollout_model.specs.declared.refusal.Refusal.{Refusal}
-use Rattle.rollout_model.specs.declared.refusal.Refusal.TheVariants.{StoreFailed}
 use Rattle.desk_verify.specs.Agreement.{IsDamage}
 use Rattle.desk_verify.specs.Promises.{NamesNone}
 use Rattle.desk_verify.specs.declared.damage.CheckedTable.{CheckedTable}
-use Rattle.rollout_desk.specs.Changes.{refusal_of_fault}
-use Rattle.rollout_desk.specs.Looks.{EndsLook}
-use Rattle.rollout_desk.specs.Verifying.{FindsDamage, HasCause, IsNeverDamaged}
 
 module _ (a b c : State) (found : Option CheckedTable) (reads : Finds HoldsTables (λ (t : Tables). t) {E = Fault} b c (Ok found) IsDamage) where
   -- of whatever tables were shown before it

@@ -1,16 +1,7 @@
 -- An action's record after one more command, from its record before it.
 use Rattle.std.proofs.Common.{◌≡◌, ℕ, zero, suc, Bool, true, false, cond, ◌&&◌, ◌||◌, not, List, [], ◌∷◌, ◌++◌, refl, sym, ◌∙◌, ap, Option, Some, None}
-use Rattle.std.proofs.Math.Bool.{and-false}
+use Rattle.rollout_machine.proofs.Common.{and-false, option_or, unwrap_or, option_map, ActionPlace, action_of, is_on_action, is_action_place, is_heard, outcome, outcome_given, cancel_stands, cancel_standing_said, is_canceling, history, reports, item_numbered, CommandList, Make, ◌▸◌, Command, Outcome, action_after, is_same_action, ActionRecord, action_in, Reported, entries_in, is_again, reported_by, eq-eqb, eqb-true, and_parts}
 use Rattle.std.specs.Prelude.{nat_eq, is_none, is_some, map, slice_get}
-use Rattle.std.specs.Option.{option_or, unwrap_or, option_map}
-use Rattle.rollout_machine.specs.Actions.{ActionPlace, action_of, is_on_action, is_action_place, is_heard, outcome, outcome_given, cancel_stands, cancel_standing_said, is_canceling, history, reports}
-use Rattle.rollout_machine.specs.ByteStrings.{item_numbered}
-use Rattle.rollout_machine.specs.CommandList.{CommandList, Make, ◌▸◌}
-use Rattle.rollout_machine.specs.Commands.{Command, Outcome}
-use Rattle.rollout_machine.specs.RecordSteps.{action_after, is_same_action}
-use Rattle.rollout_machine.specs.Records.{ActionRecord, action_in}
-use Rattle.rollout_machine.specs.Reports.{Reported, entries_in, is_again, reported_by}
-use Rattle.std.proofs.lemmas.Bool.{eq-eqb, eqb-true, and_parts}
 use Rattle.rollout_machine.proofs.Tallies.{or_none}
 
 abbrev pub action_from : ActionPlace → Bool → Option Outcome → List Reported → ActionRecord

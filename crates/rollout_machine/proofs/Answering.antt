@@ -1,14 +1,8 @@
 -- What answers are, by what is asked, and which refusals they can have.
-use Rattle.rollout_machine.specs.Answers.{answer, query_reply, command_reply}
-use Rattle.rollout_machine.specs.CommandList.{CommandList, Make, ◌▸◌}
-use Rattle.rollout_machine.specs.Commands.{Command}
-use Rattle.rollout_machine.specs.RecordSteps.{step_records, no_records}
-use Rattle.rollout_machine.specs.Records.{records, Records}
-use Rattle.rollout_machine.specs.Replies.{Refused}
-use Rattle.rollout_machine.specs.Requests.{Query, Do, Ask, Rejected, Asks}
-use Rattle.rollout_machine.specs.Validity.{IsValid}
-use Rattle.rollout_machine.specs.Verdicts.{verdict}
-use Rattle.rollout_model.specs.declared.refusal.Refusal.{Refusal}
+use Rattle.rollout_machine.proofs.Common.{query_reply, command_reply, CommandList, Make, ◌▸◌, Command, step_records, no_records, Records, Refused, Query, Do, Ask, Asks, IsValid, verdict, Refusal}
+use Rattle.rollout_machine.specs.Answers.{answer}
+use Rattle.rollout_machine.specs.Records.{records}
+use Rattle.rollout_machine.specs.Requests.{Rejected}
 use Rattle.std.proofs.Common.{◌≡◌, Bool, Some, None, refl, ap, ◌∙◌}
 use Rattle.rollout_machine.proofs.Main.{records_step}
 

@@ -1,9 +1,8 @@
 -- Counts over positions: equal where the tests agree, one more where they differ at one place.
 use Rattle.std.proofs.Common.{◌≡◌, ℕ, zero, suc, ◌+◌, ◌<◌, ◌≤◌, Bool, true, false, cond, refl, sym, arith}
 use Rattle.std.proofs.Common.{inl, inr}
-use Rattle.std.proofs.lemmas.Bool.{cases_eq}
+use Rattle.rollout_machine.proofs.Common.{cases_eq, count_from, some_up_to}
 use mathlib.Core.Bool.{or-false}
-use Rattle.rollout_machine.specs.Ranges.{count_from, some_up_to}
 
 pub count_same : (p q : ℕ → Bool) (first n : ℕ) → ((j : ℕ) → first ≤ j → j < first + n → p j ≡ q j) → count_from p first n ≡ count_from q first n
 count_same p q first zero h = refl

@@ -1,11 +1,6 @@
 -- Groups follow one another, none is empty, and each member is in one of them and in no two.
 use Rattle.std.proofs.Common.{◌≡◌, ℕ, zero, suc, ◌+◌, ◌-◌, ◌*◌, ◌/◌, ◌<◌, ◌≤◌, Bool, true, false, cond, nat_le, inl, inr, refl, sym, subst, arith}
-use Rattle.std.proofs.lemmas.Nat.{le-div}
-use Rattle.std.proofs.lemmas.Bool.{and_parts, cases_order, le-leb, leb-false, leb-true}
-use Rattle.std.proofs.Math.Nat.{div-mul-le_self, div-lt_iff_lt-mul}
-use Rattle.rollout_machine.specs.Effects.{HasSoundPlan, IsInGroup}
-use Rattle.rollout_machine.specs.Groups.{IsCut, holds_position, last_position}
-use Rattle.rollout_machine.specs.Rollouts.{Rollout, bounds_in, last_of, size_in, size_of}
+use Rattle.rollout_machine.proofs.Common.{le-div, and_parts, cases_order, le-leb, leb-false, leb-true, div-mul-le_self, div-lt_iff_lt-mul, HasSoundPlan, IsInGroup, IsCut, holds_position, last_position, Rollout, bounds_in, last_of, size_in, size_of}
 
 -- The cut into even groups is one. Nothing else need know how it is computed.
 pub even_is_cut : (m n : ℕ) → 1 ≤ n → n ≤ m → IsCut (last_position m n) m n

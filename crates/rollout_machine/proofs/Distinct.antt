@@ -1,18 +1,7 @@
 -- No two actions have one place: so the action of a number is the action of its place.
 use Rattle.std.proofs.Common.{◌≡◌, ℕ, zero, suc, ◌+◌, false, List, [], ◌∷◌, ◌++◌, refl, sym, ◌∙◌, ap, arith, inl, inr, ◌⊎◌, Option, Some, None, length}
 use Rattle.std.specs.Prelude.{slice_get}
-use Rattle.std.specs.Option.{option_map, unwrap_or}
-use Rattle.std.proofs.lemmas.Bool.{false≢true}
-use Rattle.rollout_machine.specs.Actions.{ActionPlace, action_places, new_places, places_of, places_from}
-use Rattle.rollout_machine.specs.CommandList.{CommandList, Make, ◌▸◌}
-use Rattle.rollout_machine.specs.Commands.{Command, Start}
-use Rattle.rollout_machine.specs.Meanings.{NumbersDiffer}
-use Rattle.rollout_machine.specs.Progress.{is_rollout_started, is_paused}
-use Rattle.rollout_machine.specs.Records.{records, rollout_in, approval_of}
-use Rattle.rollout_machine.specs.Rollouts.{Rollout, rollout_at, size_of}
-use Rattle.rollout_machine.specs.StateWords.{is_finished}
-use Rattle.rollout_machine.specs.Validity.{IsValid}
-use Rattle.rollout_machine.specs.Verdicts.{verdict, verdict_row, is_ready}
+use Rattle.rollout_machine.proofs.Common.{option_map, unwrap_or, false≢true, ActionPlace, action_places, new_places, places_of, places_from, CommandList, Make, ◌▸◌, Command, Start, NumbersDiffer, is_rollout_started, is_paused, records, rollout_in, approval_of, Rollout, rollout_at, size_of, is_finished, IsValid, verdict, verdict_row, is_ready}
 use Rattle.rollout_machine.proofs.Valid.{NoneHolds, none_holds}
 use Rattle.rollout_machine.proofs.Induction.{Invariant, invariant_of, word_at, ready_not_begun}
 

@@ -1,16 +1,7 @@
 -- Where the counts of a group add up to its size, each member has an outcome.
-use Rattle.rollout_machine.specs.Actions.{outcome}
-use Rattle.rollout_machine.specs.Commands.{Good, Gone, Bad, Outcome}
-use Rattle.rollout_machine.specs.Counts.{tally, is_outcome}
-use Rattle.rollout_machine.specs.Effects.{IsInGroup}
-use Rattle.rollout_machine.specs.Meanings.{FinalIsAll}
-use Rattle.rollout_machine.specs.Ranges.{count_from}
-use Rattle.rollout_machine.specs.Records.{group_in}
-use Rattle.rollout_machine.specs.Rollouts.{first_of, size_in}
-use Rattle.rollout_machine.specs.StateWords.{all_final}
+use Rattle.rollout_machine.proofs.Common.{outcome, Good, Gone, Bad, Outcome, tally, is_outcome, IsInGroup, FinalIsAll, count_from, group_in, first_of, size_in, all_final, cases_eq, eq-eqb, eqb-true}
 use Rattle.std.proofs.Common.{◌≡◌, ℕ, zero, suc, ◌+◌, ◌≤◌, ◌<◌, Bool, true, false, cond, refl, sym, ◌∙◌, ap, arith, Option, Some, None, inl, inr}
 use Rattle.std.specs.Prelude.{is_some}
-use Rattle.std.proofs.lemmas.Bool.{cases_eq, eq-eqb, eqb-true}
 use Rattle.rollout_machine.proofs.Counts.{count_few}
 
 sum_of : (T : ℕ → Option Outcome) (a n : ℕ) → count_from (λ j. is_outcome Good (T j)) a n + count_from (λ j. is_outcome Bad (T j)) a n + count_from (λ j. is_outcome Gone (T j)) a n ≡ count_from (λ j. is_some (T j)) a n

@@ -1,11 +1,8 @@
 -- The groups of a rollout are those of its plan, and their counts are those of its actions.
 use Rattle.std.proofs.Common.{◌≡◌, ℕ, ◌≤◌, refl, sym, subst, Some}
-use Rattle.rollout_machine.specs.CommandList.{CommandList}
-use Rattle.rollout_machine.specs.Commands.{Good, Bad, Gone}
+use Rattle.rollout_machine.proofs.Common.{CommandList, Good, Bad, Gone, group_in, rollout_in, Rollout, rollout_at, IsValid}
 use Rattle.rollout_machine.specs.GroupCounts.{GroupsAreCounted, HasCountedGroups, IsCountedGroup}
-use Rattle.rollout_machine.specs.Records.{group_in, records, rollout_in}
-use Rattle.rollout_machine.specs.Rollouts.{Rollout, rollout_at}
-use Rattle.rollout_machine.specs.Validity.{IsValid}
+use Rattle.rollout_machine.specs.Records.{records}
 use Rattle.rollout_machine.proofs.AtNumbers.{of_group, of_rollout}
 use Rattle.rollout_machine.proofs.Lists.{length_each}
 use Rattle.rollout_machine.proofs.Recounts.{tally_is}

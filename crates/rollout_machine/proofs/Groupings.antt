@@ -1,19 +1,12 @@
 -- A grouping that leaves no group empty is a cut, and each group has thresholds.
 use Rattle.std.proofs.Common.{◌≡◌, ◌≤◌, ℕ, zero, suc, true, false, List, [], ◌∷◌, ◌++◌, length, slice_get, Option, Some, None, refl, sym, ap, subst, ◌∙◌}
-use Rattle.std.specs.List.{AllByRecursion, list_all}
+use Rattle.rollout_machine.proofs.Common.{AllByRecursion, list_all, and_parts, eqb-true, false≢true, leb-true, ltb-false, length-map, is_plan, RolloutPlan, GroupDefinition, GroupingCovers, last_defined, percentages, some_empty, IsCut, LeavesNoneEmpty, first_empty, split_last}
 use Rattle.std.specs.Prelude.{is_some}
-use Rattle.std.proofs.lemmas.Bool.{and_parts, eqb-true, false≢true, leb-true, ltb-false}
-use Rattle.std.proofs.lemmas.List.{length-map}
 use Rattle.rollout_model.specs.Groupings.{define_each, definition_numbered, ends_whole, is_definition}
 use Rattle.rollout_model.specs.Limits.{percentage_limit}
 use Rattle.rollout_model.specs.PlanRules.{rule_by}
 use Rattle.rollout_model.specs.Rules.{is_between, is_group_count, is_percentage}
-use Rattle.rollout_machine.specs.CommandRules.{is_plan}
-use Rattle.rollout_machine.specs.Commands.{RolloutPlan}
 use Rattle.rollout_machine.specs.GroupRules.{GroupRule, rule_at, success_at, error_at}
-use Rattle.rollout_machine.specs.Groupings.{GroupDefinition, GroupingCovers, last_defined, percentages, some_empty}
-use Rattle.rollout_machine.specs.Groups.{IsCut}
-use Rattle.rollout_machine.specs.Splits.{LeavesNoneEmpty, first_empty, split_last}
 use Rattle.rollout_machine.proofs.Cuts.{even_is_cut}
 use Rattle.rollout_machine.proofs.Splits.{first_empty_tells, split_is_cut}
 

@@ -1,17 +1,8 @@
 -- The actions are those of the members of the started rollouts, in the members' order.
 use Rattle.std.proofs.Common.{◌≡◌, ℕ, ◌+◌, ◌≤◌, true, ◌||◌, [], refl, sym, ◌∙◌, ap, subst, arith, inl, inr, Some}
-use Rattle.std.specs.Option.{option_map}
-use Rattle.std.proofs.lemmas.Bool.{cases_Bool, eqb-true}
-use Rattle.rollout_machine.specs.Actions.{ActionPlace, action_place, action_places, new_places}
-use Rattle.rollout_machine.specs.ByteStrings.{item_numbered}
-use Rattle.rollout_machine.specs.CommandList.{CommandList, Make, ◌▸◌}
-use Rattle.rollout_machine.specs.Commands.{Bytes, Command, Start}
-use Rattle.rollout_machine.specs.Meanings.{started_sizes}
+use Rattle.rollout_machine.proofs.Common.{option_map, cases_Bool, eqb-true, ActionPlace, action_place, action_places, new_places, item_numbered, CommandList, Make, ◌▸◌, Bytes, Command, Start, started_sizes, is_rollout_started, is_start_of, ActionRecord, RolloutRecord, action_in, rollout_in, Rollout, created, rollout_at, rollouts, size_of, IsValid}
 use Rattle.rollout_machine.specs.MemberActions.{ActionsFollowMembers, HasAction, IsOfMember}
-use Rattle.rollout_machine.specs.Progress.{is_rollout_started, is_start_of}
-use Rattle.rollout_machine.specs.Records.{ActionRecord, RolloutRecord, action_in, records, rollout_in}
-use Rattle.rollout_machine.specs.Rollouts.{Rollout, created, rollout_at, rollouts, size_of}
-use Rattle.rollout_machine.specs.Validity.{IsValid}
+use Rattle.rollout_machine.specs.Records.{records}
 use Rattle.rollout_machine.proofs.Actions.{numbered_map}
 use Rattle.rollout_machine.proofs.AtNumbers.{has_place, item_in, item_within, of_rollout, recorded}
 use Rattle.rollout_machine.proofs.Distinct.{one_number}

@@ -1,7 +1,6 @@
 -- How many notes a command adds to an action.
 use Rattle.rollout_machine.specs.Promises.{NotesGrow}
-use Rattle.rollout_machine.specs.Reports.{HistoryEntry, entries_in, reported_by}
-use Rattle.rollout_machine.specs.Verdicts.{is_note, notes_of}
+use Rattle.rollout_machine.proofs.Common.{HistoryEntry, entries_in, reported_by, is_note, notes_of}
 use Rattle.std.proofs.Common.{◌≡◌, ◌+◌, Bool, true, false, cond, List, [], ◌∷◌, ◌++◌, length, refl, ◌∙◌, ap, arith}
 use Rattle.std.specs.Prelude.{filter, is_none}
 use Rattle.rollout_machine.proofs.Actions.{entries_both}

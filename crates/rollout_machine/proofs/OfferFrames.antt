@@ -1,15 +1,6 @@
 -- The offers of targets that a command doesn't touch stay.
-use Rattle.rollout_machine.specs.Actions.{ActionPlace, action_place, action_places, action_of, is_on_action, is_action_place, is_canceling, new_places, outcome, cancel_stands}
-use Rattle.rollout_machine.specs.ByteStrings.{item_numbered}
-use Rattle.rollout_machine.specs.CommandList.{CommandList, ◌▸◌}
-use Rattle.rollout_machine.specs.Commands.{Bytes, Command, Outcome}
-use Rattle.rollout_machine.specs.Meanings.{IsOfferable, IsLeastOffer}
-use Rattle.rollout_machine.specs.Offers.{Offer, offer}
-use Rattle.rollout_machine.specs.Progress.{is_group_started}
+use Rattle.rollout_machine.proofs.Common.{ActionPlace, action_place, action_places, action_of, is_on_action, is_action_place, is_canceling, new_places, outcome, cancel_stands, item_numbered, CommandList, ◌▸◌, Bytes, Command, Outcome, IsOfferable, IsLeastOffer, Offer, offer, is_group_started, records, Rollout, rollout_at, IsValid, and_parts, cases_Bool, cases_order, eqb-true}
 use Rattle.rollout_machine.specs.Promises.{IsUntouched, OffersStay}
-use Rattle.rollout_machine.specs.Records.{records}
-use Rattle.rollout_machine.specs.Rollouts.{Rollout, rollout_at}
-use Rattle.rollout_machine.specs.Validity.{IsValid}
 use Rattle.rollout_machine.proofs.Distinct.{new_at}
 use Rattle.rollout_machine.proofs.Induction.{invariant_of, stays_numbered, either_numbered, never_started}
 use Rattle.rollout_machine.proofs.Offers.{offer_is_least}
@@ -19,7 +10,6 @@ use Rattle.rollout_machine.proofs.Tallies.{untouched, closed_stays}
 use Rattle.rollout_machine.proofs.Valid.{IsPlace}
 use Rattle.std.proofs.Common.{◌≡◌, ◌⊎◌, ℕ, Bool, true, false, ◌&&◌, Option, Some, None, inl, inr, refl, sym, ap, ◌∙◌}
 use Rattle.std.specs.Prelude.{slice_get, nat_eq}
-use Rattle.std.proofs.lemmas.Bool.{and_parts, cases_Bool, cases_order, eqb-true}
 
 -- the command is not on an action of an untouched target
 off : (h : CommandList) (c : Command) (t : Bytes) (k : ℕ) (p : ActionPlace) → IsUntouched h c t → (x : Rollout) → rollout_at h p.rollout ≡ Some x → item_numbered x.members p.position ≡ Some t → is_on_action h c p.rollout p.position ≡ false

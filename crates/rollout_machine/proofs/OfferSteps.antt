@@ -1,13 +1,6 @@
 -- What can be offered after a command, from what could be before it.
-use Rattle.rollout_machine.specs.Actions.{ActionPlace, action_places, new_places, outcome}
-use Rattle.rollout_machine.specs.ByteStrings.{item_numbered}
-use Rattle.rollout_machine.specs.CommandList.{CommandList, ◌▸◌}
-use Rattle.rollout_machine.specs.Commands.{Bytes, Command, Outcome}
-use Rattle.rollout_machine.specs.Meanings.{IsOfferable}
-use Rattle.rollout_machine.specs.Progress.{is_group_started}
+use Rattle.rollout_machine.proofs.Common.{ActionPlace, action_places, new_places, outcome, item_numbered, CommandList, ◌▸◌, Bytes, Command, Outcome, IsOfferable, is_group_started, Rollout, rollout_at, IsValid, cases_Bool}
 use Rattle.rollout_machine.specs.Promises.{BecomesOfferable, OffersFollow, StaysOfferable}
-use Rattle.rollout_machine.specs.Rollouts.{Rollout, rollout_at}
-use Rattle.rollout_machine.specs.Validity.{IsValid}
 use Rattle.rollout_machine.proofs.Distinct.{new_at}
 use Rattle.rollout_machine.proofs.Induction.{accepted, either_numbered, invariant_of, never_started, stays_numbered}
 use Rattle.rollout_machine.proofs.Recounts.{new_rollout_there, stays_there}
@@ -17,7 +10,6 @@ use Rattle.rollout_machine.proofs.Valid.{IsPlace}
 use Rattle.rollout_machine.proofs.Whole.{IsAccepted}
 use Rattle.std.proofs.Common.{◌≡◌, ◌⊎◌, ℕ, false, Option, Some, None, inl, inr, refl, sym, ◌∙◌}
 use Rattle.std.specs.Prelude.{slice_get}
-use Rattle.std.proofs.lemmas.Bool.{cases_Bool}
 
 open_before : (h : CommandList) (c : Command) (p : ActionPlace) → outcome (h ▸ c) p.rollout p.position ≡ None → outcome h p.rollout p.position ≡ None
 open_before h c p open' = go (outcome h p.rollout p.position) refl where

@@ -1,28 +1,10 @@
 -- What answers to devices name and give is offered.
-use Rattle.rollout_machine.specs.Actions.{ActionPlace}
-use Rattle.rollout_machine.specs.Answers.{answer, query_reply, if_found, for_device, download, targets_reply, targets_matching, is_offer_of, modules_offered, artifact_named, action_of_target, artifact_of_module}
-use Rattle.rollout_machine.specs.ByteStrings.{item_numbered}
-use Rattle.rollout_machine.specs.CommandList.{CommandList}
-use Rattle.rollout_machine.specs.Commands.{Bytes, Credential}
-use Rattle.rollout_machine.specs.Meanings.{IsOfferable, IsLeastOffer}
-use Rattle.rollout_machine.specs.Objects.{deployment_shown, modules_of_action}
-use Rattle.rollout_machine.specs.Offers.{Offer, offer}
+use Rattle.rollout_machine.proofs.Common.{ActionPlace, query_reply, if_found, for_device, download, targets_reply, targets_matching, is_offer_of, modules_offered, artifact_named, action_of_target, artifact_of_module, item_numbered, CommandList, Bytes, Credential, IsOfferable, IsLeastOffer, deployment_shown, modules_of_action, Offer, offer, records, Records, ArtifactRecord, Reply, Refused, PollShown, DeploymentShown, CancelShown, ContentsShown, Page, Query, Poll, ShowDeployment, ShowCancel, Download, ShowTargets, ShowTarget, ShowTargetActions, ShowAction, ShowHistory, ShowModules, ShowModule, ShowArtifacts, ShowArtifact, ShowContents, ShowSets, ShowSet, ShowRollouts, ShowRollout, ShowGroups, ShowGroup, ShowGroupTargets, ShowReport, ShowActionsTable, group_numbered, IsValid, is_known, target_of, NotFound, Unauthorized, Tree, filter_of, list_any, option_map, and_parts, eqb-true}
+use Rattle.rollout_machine.specs.Answers.{answer}
 use Rattle.rollout_machine.specs.Promises.{named_action, NamedIsOfferable, IsDownloadable, DownloadsAreOffered}
-use Rattle.rollout_machine.specs.Records.{records, Records, ArtifactRecord}
-use Rattle.rollout_machine.specs.Replies.{Reply, Refused, PollShown, DeploymentShown, CancelShown, ContentsShown}
-use Rattle.rollout_machine.specs.Requests.{Page, Query, Poll, ShowDeployment, ShowCancel, Download, ShowTargets, ShowTarget, ShowTargetActions, ShowAction, ShowHistory, ShowModules, ShowModule, ShowArtifacts, ShowArtifact, ShowContents, ShowSets, ShowSet, ShowRollouts, ShowRollout, ShowGroups, ShowGroup, ShowGroupTargets, ShowReport, ShowActionsTable}
-use Rattle.rollout_machine.specs.StateWords.{group_numbered}
-use Rattle.rollout_machine.specs.Validity.{IsValid}
-use Rattle.rollout_machine.specs.Verdicts.{is_known, target_of}
 use Rattle.rollout_machine.proofs.Offers.{offer_is_least}
-use Rattle.rollout_model.specs.declared.refusal.Refusal.TheVariants.{NotFound, Unauthorized}
-use Rattle.target_filter.specs.Grammar.{Tree}
-use Rattle.target_filter.specs.Profile.{filter_of}
 use Rattle.std.proofs.Common.{◌≡◌, ℕ, Bool, true, false, cond, not, ◌&&◌, [], Option, Some, None, refl, subst, ◌∙◌}
 use Rattle.std.specs.Prelude.{nat_eq}
-use Rattle.std.specs.List.{list_any}
-use Rattle.std.specs.Option.{option_map}
-use Rattle.std.proofs.lemmas.Bool.{and_parts, eqb-true}
 
 -- ---- replies that name no action
 

@@ -1,25 +1,11 @@
 -- What is offered is an open action of a started group.
 use Rattle.std.proofs.Common.{◌≡◌, ℕ, suc, ◌+◌, Bool, true, false, cond, ◌&&◌, List, [], ◌∷◌, refl, sym, ◌∙◌, ap, arith, Option, Some, None}
 use Rattle.std.specs.Prelude.{slice_get, is_none}
-use Rattle.std.specs.Option.{option_map}
-use Rattle.std.proofs.lemmas.Bool.{and_parts}
-use Rattle.rollout_machine.specs.Actions.{ActionPlace, action_places, action_place, outcome}
-use Rattle.rollout_machine.specs.ByteStrings.{item_numbered, same_bytes}
-use Rattle.rollout_machine.specs.CommandList.{CommandList}
-use Rattle.rollout_machine.specs.Commands.{Bytes}
-use Rattle.rollout_machine.specs.Effects.{HasSoundPlan}
-use Rattle.rollout_machine.specs.Meanings.{IsOfferable, IsLeastOffer, OfferIsLeast}
-use Rattle.rollout_machine.specs.Offers.{Offer, first_offer, offer}
-use Rattle.rollout_machine.specs.Progress.{is_group_started}
-use Rattle.rollout_machine.specs.Records.{Records, ActionRecord, action_in, records}
-use Rattle.rollout_machine.specs.Rollouts.{Rollout}
-use Rattle.rollout_machine.specs.StateWords.{is_for, has_started, member_at}
-use Rattle.rollout_machine.specs.Validity.{IsValid}
+use Rattle.rollout_machine.proofs.Common.{option_map, and_parts, ActionPlace, action_places, action_place, outcome, item_numbered, same_bytes, CommandList, Bytes, HasSoundPlan, IsOfferable, IsLeastOffer, OfferIsLeast, Offer, first_offer, offer, is_group_started, Records, ActionRecord, action_in, Rollout, is_for, has_started, member_at, IsValid, unwrap_or, false≢true, ltb-true}
+use Rattle.rollout_machine.specs.Records.{records}
 use Rattle.rollout_machine.proofs.Actions.{get_map}
 use Rattle.rollout_machine.proofs.Valid.{IsPlace, its_group, has_started_is}
 use Rattle.std.proofs.Common.{zero, ◌+◌, ◌≤◌, ◌<◌, length}
-use Rattle.std.specs.Option.{unwrap_or}
-use Rattle.std.proofs.lemmas.Bool.{false≢true, ltb-true}
 use Rattle.rollout_machine.proofs.Cuts.{group_of}
 use Rattle.rollout_machine.proofs.Whole.{rollout_numbered}
 use Rattle.rollout_machine.proofs.Valid.{found_action}

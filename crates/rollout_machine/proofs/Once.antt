@@ -1,23 +1,10 @@
 -- A feedback on an action that has its outcome changes no record, and neither does an import that comes twice.
-use Rattle.rollout_machine.specs.Answers.{answer, query_reply, command_reply}
-use Rattle.rollout_machine.specs.Requests.{Asked, Rejected, Asks, Do, Ask}
+use Rattle.rollout_machine.proofs.Common.{answer, query_reply, command_reply, Asked, Asks, Do, Ask, Refusal, ActionPlace, action_places, action_place, contains_word, with_words, same_bytes, same_words, with_word, CommandList, ◌▸◌, Make, Command, Feedback, Bytes, PutTargets, TargetRow, CancelFeedback, step_records, rollouts_in, action_in, needs_approval, modules, artifacts, sets, without_repeats, is_doubled, same_rows, same_row, IsTraceless, is_had, RepeatsLeaveNoTrace, is_repeat, rollouts, target_in, last_row_of, tags_in, target_ids, targets, attributes_in, Target, last_row_for, tags_by_row, IsValid, verdict, check, option_or, unwrap_or, false≢true, cases_Bool, and_parts}
+use Rattle.rollout_machine.specs.Requests.{Rejected}
 use Rattle.rollout_machine.proofs.Answering.{rejected_answer, query_answer, refused_answer, accepted_step}
-use Rattle.rollout_model.specs.declared.refusal.Refusal.{Refusal}
-use Rattle.rollout_machine.specs.Actions.{ActionPlace, action_places, action_place}
-use Rattle.rollout_machine.specs.ByteStrings.{contains_word, with_words, same_bytes, same_words, with_word}
-use Rattle.rollout_machine.specs.CommandList.{CommandList, ◌▸◌, Make}
-use Rattle.rollout_machine.specs.Commands.{Command, Feedback, Bytes, PutTargets, TargetRow, CancelFeedback}
-use Rattle.rollout_machine.specs.RecordSteps.{step_records}
-use Rattle.rollout_machine.specs.Records.{rollouts_in, action_in, needs_approval, modules, artifacts, sets, records}
-use Rattle.rollout_machine.specs.Repeats.{without_repeats, is_doubled, same_rows, same_row, IsTraceless, is_had, RepeatsLeaveNoTrace, is_repeat}
-use Rattle.rollout_machine.specs.Rollouts.{rollouts}
-use Rattle.rollout_machine.specs.Targets.{target_in, last_row_of, tags_in, target_ids, targets, attributes_in, Target, last_row_for, tags_by_row}
-use Rattle.rollout_machine.specs.Validity.{IsValid}
-use Rattle.rollout_machine.specs.Verdicts.{verdict, check}
+use Rattle.rollout_machine.specs.Records.{records}
 use Rattle.std.proofs.Common.{List, [], ◌∷◌, ◌||◌, cond, Option, None, subst, inl, inr}
 use Rattle.std.specs.Prelude.{map, ⊤}
-use Rattle.std.specs.Option.{option_or, unwrap_or}
-use Rattle.std.proofs.lemmas.Bool.{false≢true, cases_Bool}
 use Rattle.rollout_machine.proofs.Imports.{IsSorted, sorted_ids, never_with, with_there}
 use Rattle.rollout_machine.proofs.TargetTies.{same_refl, same_true, has_with}
 use Rattle.rollout_machine.proofs.EffectLaws.{calm_outcome}
@@ -28,7 +15,6 @@ use Rattle.rollout_machine.proofs.Main.{records_step}
 use Rattle.std.proofs.Common.{◌≡◌, Bool, true, false, ◌&&◌, refl, sym, ◌∙◌, ap, Some}
 use Rattle.rollout_machine.proofs.Actions.{append_none, map_same}
 use Rattle.rollout_machine.proofs.Whole.{same_records}
-use Rattle.std.proofs.lemmas.Bool.{and_parts}
 
 -- ---- an import that comes twice
 

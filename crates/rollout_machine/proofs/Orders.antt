@@ -1,18 +1,9 @@
 -- The lists of targets, tags and members rise in byte order.
 use Rattle.std.proofs.Common.{◌≡◌, ℕ, zero, suc, ◌<◌, Bool, true, false, cond, not, List, [], ◌∷◌, map, refl, sym, ◌∙◌, ap, subst, arith, Option, Some, None}
 use Rattle.std.specs.Prelude.{filter, slice_get}
-use Rattle.std.specs.Option.{option_map}
-use Rattle.target_filter.specs.Grammar.{Tree}
-use Rattle.target_filter.specs.Profile.{filter_of}
-use Rattle.rollout_machine.specs.ByteStrings.{bytes_below, item_numbered, same_bytes, sorted_words, without_word}
-use Rattle.rollout_machine.specs.CommandList.{CommandList, Make, ◌▸◌}
-use Rattle.rollout_machine.specs.Commands.{Bytes, PutTargets, Tag, TargetRow, Untag}
-use Rattle.rollout_machine.specs.Filters.{matches}
+use Rattle.rollout_machine.proofs.Common.{option_map, Tree, filter_of, bytes_below, item_numbered, same_bytes, sorted_words, without_word, CommandList, Make, ◌▸◌, Bytes, PutTargets, Tag, TargetRow, Untag, matches, Rollout, chosen, rollout_at, Target, last_row_for, tags_by_row, tags_in, target_ids, target_in, targets, IsValid}
 use Rattle.rollout_machine.specs.Orders.{ListsRiseInOrder, RiseInBytes}
 use Rattle.rollout_machine.specs.Records.{records}
-use Rattle.rollout_machine.specs.Rollouts.{Rollout, chosen, rollout_at}
-use Rattle.rollout_machine.specs.Targets.{Target, last_row_for, tags_by_row, tags_in, target_ids, target_in, targets}
-use Rattle.rollout_machine.specs.Validity.{IsValid}
 use Rattle.rollout_machine.proofs.Actions.{numbered_map}
 use Rattle.rollout_machine.proofs.AtNumbers.{of_rollout}
 use Rattle.rollout_machine.proofs.Imports.{AllAbove, IsSorted, sorted_ids, sorted_with}

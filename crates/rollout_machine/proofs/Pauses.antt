@@ -1,12 +1,7 @@
 -- The computing definition of a pause, and the words "some prefix began a pause, and no resume follows it".
 use Rattle.std.proofs.Common.{◌≡◌, Bool, true, false, ◌||◌, ◌&&◌, not, List, [], ◌∷◌, ◌++◌, refl, ◌∙◌, ap, subst, ℕ}
-use Rattle.std.proofs.lemmas.Bool.{and_parts, not-true, eq-eqb, eqb-true, false≢true, cases_Bool}
+use Rattle.rollout_machine.proofs.Common.{and_parts, not-true, eq-eqb, eqb-true, false≢true, cases_Bool, CommandList, Make, ◌▸◌, followed_by, Resume, Start, Command, NoResume, SomePause, PausedIs, StartIsIn, FirstStartedIs, is_rollout_started, is_start_of, is_paused, pause_begins, is_resume_of, Rollout}
 use Rattle.std.proofs.Common.{sym}
-use Rattle.rollout_machine.specs.CommandList.{CommandList, Make, ◌▸◌, followed_by}
-use Rattle.rollout_machine.specs.Commands.{Resume, Start, Command}
-use Rattle.rollout_machine.specs.Meanings.{NoResume, SomePause, PausedIs, StartIsIn, FirstStartedIs}
-use Rattle.rollout_machine.specs.Progress.{is_rollout_started, is_start_of, is_paused, pause_begins, is_resume_of}
-use Rattle.rollout_machine.specs.Rollouts.{Rollout}
 use Rattle.rollout_machine.proofs.Meanings.{one_more, pause_begins_to, pause_begins_from, longer}
 use Rattle.std.proofs.Common.{inl, inr, ◌⊎◌}
 

@@ -1,19 +1,8 @@
 -- The counts of groups are those of their actions.
-use Rattle.rollout_machine.specs.Actions.{ActionPlace, action_places, new_places, places_of, places_from, outcome}
-use Rattle.rollout_machine.specs.CommandList.{CommandList, Make, ◌▸◌}
-use Rattle.rollout_machine.specs.Commands.{Command, Start, Outcome, Good, Bad, Gone}
-use Rattle.rollout_machine.specs.Counts.{is_outcome, tally}
-use Rattle.rollout_machine.specs.Groups.{IsCut, holds_position}
+use Rattle.rollout_machine.proofs.Common.{ActionPlace, action_places, new_places, places_of, places_from, outcome, CommandList, Make, ◌▸◌, Command, Start, Outcome, Good, Bad, Gone, is_outcome, tally, IsCut, holds_position, is_rollout_started, is_start_of, is_paused, count_from, each_from, action_in, ActionRecord, group_in, rollout_in, rollouts_in, approval_of, GroupRecord, Rollout, rollout_at, rollouts, size_of, bounds_in, last_of, created, is_finished, IsValid, verdict, verdict_row, is_ready, Bounds, cases_eq, ne_eqb, eq-eqb, lt-leb, le-leb}
 use Rattle.rollout_machine.specs.Kinds.{count_actions, counted_group, counted_rollout, stored_group, stored_rollout}
-use Rattle.rollout_machine.specs.Progress.{is_rollout_started, is_start_of, is_paused}
 use Rattle.rollout_machine.specs.Promises.{StoredSayAll}
-use Rattle.rollout_machine.specs.Ranges.{count_from, each_from}
-use Rattle.rollout_machine.specs.Records.{records, action_in, ActionRecord, group_in, rollout_in, rollouts_in, approval_of, GroupRecord}
-use Rattle.rollout_machine.specs.Rollouts.{Rollout, rollout_at, rollouts, size_of, bounds_in, last_of, created}
-use Rattle.rollout_machine.specs.StateWords.{is_finished}
-use Rattle.rollout_machine.specs.Validity.{IsValid}
-use Rattle.rollout_machine.specs.Verdicts.{verdict, verdict_row, is_ready}
-use Rattle.rollout_machine.specs.declared.bounds.Bounds.{Bounds}
+use Rattle.rollout_machine.specs.Records.{records}
 use Rattle.rollout_machine.proofs.Counts.{count_same, count_none}
 use Rattle.rollout_machine.proofs.Tallies.{none_is}
 use Rattle.rollout_machine.proofs.Distinct.{position_at}
@@ -23,7 +12,6 @@ use Rattle.rollout_machine.proofs.Valid.{NoneHolds, none_holds}
 use Rattle.rollout_machine.proofs.Whole.{AllNumbered, from_numbers}
 use Rattle.std.proofs.Common.{◌≡◌, ℕ, zero, suc, ◌+◌, ◌-◌, ◌≤◌, ◌<◌, Bool, true, false, cond, ◌&&◌, ◌||◌, List, [], ◌∷◌, ◌++◌, refl, sym, ◌∙◌, ap, subst, arith, inl, inr, Option, Some, None}
 use Rattle.std.specs.Prelude.{map, nat_eq, nat_le, slice_get}
-use Rattle.std.proofs.lemmas.Bool.{cases_eq, ne_eqb, eq-eqb, lt-leb, le-leb}
 
 abbrev count_where : (ActionPlace → Bool) → List ActionPlace → ℕ
 count_where P [] = 0

@@ -1,11 +1,6 @@
 -- A split that leaves no group empty is a cut.
 use Rattle.std.proofs.Common.{◌≡◌, ◌≤◌, ◌<◌, ℕ, zero, suc, ◌+◌, ◌-◌, ◌*◌, ◌/◌, Bool, true, false, cond, List, [], ◌∷◌, ◌++◌, nat_eq, length, slice_get, take, drop, Some, None, refl, sym, ap, subst, ◌∙◌, arith}
-use Rattle.std.specs.List.{AllByRecursion}
-use Rattle.std.proofs.lemmas.Bool.Decides.{nat_tests}
-use Rattle.std.proofs.lemmas.Nat.{le-div}
-use Rattle.std.proofs.Math.Nat.{div-lt_iff_lt-mul}
-use Rattle.rollout_machine.specs.Splits.{FirstEmptyTells, SplitCovers, first_empty_from, left_by, share, split_bounds_of, split_last}
-use Rattle.rollout_machine.specs.declared.bounds.Bounds.{Bounds}
+use Rattle.rollout_machine.proofs.Common.{AllByRecursion, nat_tests, le-div, div-lt_iff_lt-mul, FirstEmptyTells, SplitCovers, first_empty_from, left_by, share, split_bounds_of, split_last, Bounds}
 
 some_share : (rest p : ℕ) → 1 ≤ rest → 1 ≤ p → 1 ≤ share rest p
 some_share rest p a b = le-div 1 (rest * p + 99) 100 (omega arith) (omega (arith, product rest p a b))

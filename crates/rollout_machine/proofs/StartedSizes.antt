@@ -1,15 +1,7 @@
 -- No more actions than the members of all rollouts: each rollout is started once.
 use Rattle.std.proofs.Common.{◌≡◌, ℕ, zero, suc, ◌+◌, ◌*◌, ◌≤◌, Bool, true, false, cond, List, [], ◌∷◌, ◌++◌, length, refl, ap, subst, arith, Some, None}
 use Rattle.std.specs.Prelude.{slice_get}
-use Rattle.std.proofs.lemmas.Bool.{eq-eqb}
-use Rattle.rollout_machine.specs.Actions.{action_places}
-use Rattle.rollout_machine.specs.CommandList.{CommandList, Make, ◌▸◌}
-use Rattle.rollout_machine.specs.Commands.{Command, Start}
-use Rattle.rollout_machine.specs.Meanings.{size_at, started_by, started_sizes}
-use Rattle.rollout_machine.specs.Progress.{is_rollout_started}
-use Rattle.rollout_machine.specs.Rollouts.{Rollout, created, rollout_at, rollouts, size_of}
-use Rattle.rollout_machine.specs.Validity.{IsValid}
-use Rattle.rollout_machine.specs.Verdicts.{verdict}
+use Rattle.rollout_machine.proofs.Common.{eq-eqb, action_places, CommandList, Make, ◌▸◌, Command, Start, size_at, started_by, started_sizes, is_rollout_started, Rollout, created, rollout_at, rollouts, size_of, IsValid, verdict}
 use Rattle.rollout_machine.proofs.Meanings.{length_places}
 use Rattle.rollout_machine.proofs.Recounts.{starts_fresh}
 

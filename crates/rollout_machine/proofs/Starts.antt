@@ -1,13 +1,7 @@
 -- Which groups are started after one more command: those that were, and at most the next one.
 use Rattle.std.proofs.Common.{◌≡◌, ℕ, zero, suc, ◌<◌, ◌≤◌, Bool, true, false, cond, ◌||◌, ◌&&◌, not, refl, ◌∙◌, arith, inl, inr, ◌⊎◌}
 use Rattle.std.specs.Prelude.{nat_lt}
-use Rattle.std.proofs.lemmas.Bool.{cases_eq, cases_Bool, ltb-true, false≢true}
-use Rattle.rollout_machine.specs.CommandList.{CommandList, Make, ◌▸◌}
-use Rattle.rollout_machine.specs.Commands.{Command}
-use Rattle.rollout_machine.specs.Counts.{success_holds}
-use Rattle.rollout_machine.specs.Effects.{IsLast}
-use Rattle.rollout_machine.specs.Progress.{is_group_started, next_started, is_paused, is_trigger_of, is_start_of, is_rollout_started}
-use Rattle.rollout_machine.specs.Rollouts.{Rollout}
+use Rattle.rollout_machine.proofs.Common.{cases_eq, cases_Bool, ltb-true, false≢true, CommandList, Make, ◌▸◌, Command, success_holds, IsLast, is_group_started, next_started, is_paused, is_trigger_of, is_start_of, is_rollout_started, Rollout}
 
 -- whether the command starts a group, where l is the last one before it
 abbrev pub starts_one_more : Rollout → ℕ → CommandList → Command → ℕ → Bool

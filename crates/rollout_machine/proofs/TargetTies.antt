@@ -1,22 +1,10 @@
 -- The targets' records after a change of their tags or attributes.
 use Rattle.std.proofs.Common.{◌≡◌, ℕ, arith, ap₂, Bool, true, false, cond, ◌||◌, ◌&&◌, not, List, [], ◌∷◌, refl, sym, ◌∙◌, ap, Option, Some, None}
 use Rattle.std.specs.Prelude.{map, nat_eq}
-use Rattle.std.specs.Option.{unwrap_or}
-use Rattle.std.proofs.lemmas.Bool.{cases_Bool, eq-eqb, eqb-true, false≢true, and_parts}
+use Rattle.rollout_machine.proofs.Common.{unwrap_or, cases_Bool, eq-eqb, eqb-true, false≢true, and_parts, nat_tests, action_places, same_bytes, bytes_below, contains_word, with_word, without_word, sorted_words, CommandList, Make, ◌▸◌, Bytes, Credential, Attribute, TargetRow, Command, PutTargets, Tag, Untag, PutAttributes, TagsAreSaid, step_records, change_target, rollouts_in, action_in, needs_approval, modules, artifacts, sets, rollouts, Target, target_in, target_ids, tags_in, tags_by_row, has_tag, tag_in_row, last_row_for, attributes_in, with_attributes, IsValid, verdict}
 use Rattle.std.proofs.Common.{inl, inr}
-use Rattle.std.proofs.lemmas.Bool.Decides.{nat_tests}
 use Rattle.std.specs.Cmp.Lexicographic.{pointwise}
-use Rattle.rollout_machine.specs.Actions.{action_places}
-use Rattle.rollout_machine.specs.ByteStrings.{same_bytes, bytes_below, contains_word, with_word, without_word, sorted_words}
-use Rattle.rollout_machine.specs.CommandList.{CommandList, Make, ◌▸◌}
-use Rattle.rollout_machine.specs.Commands.{Bytes, Credential, Attribute, TargetRow, Command, PutTargets, Tag, Untag, PutAttributes}
-use Rattle.rollout_machine.specs.Meanings.{TagsAreSaid}
-use Rattle.rollout_machine.specs.RecordSteps.{step_records, change_target}
-use Rattle.rollout_machine.specs.Records.{records, rollouts_in, action_in, needs_approval, modules, artifacts, sets}
-use Rattle.rollout_machine.specs.Rollouts.{rollouts}
-use Rattle.rollout_machine.specs.Targets.{Target, target_in, target_ids, tags_in, tags_by_row, has_tag, tag_in_row, last_row_for, attributes_in, with_attributes}
-use Rattle.rollout_machine.specs.Validity.{IsValid}
-use Rattle.rollout_machine.specs.Verdicts.{verdict}
+use Rattle.rollout_machine.specs.Records.{records}
 use Rattle.rollout_machine.proofs.EffectLaws.{calm_outcome}
 use Rattle.rollout_machine.proofs.Actions.{append_none, calm_actions, map_same, map_twice}
 use Rattle.rollout_machine.proofs.Whole.{calm_everywhere, same_records}

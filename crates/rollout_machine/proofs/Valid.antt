@@ -1,19 +1,8 @@
 -- What the verdict on a command gives: it is only on actions of started groups.
 use Rattle.std.proofs.Common.{◌≡◌, ℕ, ◌≤◌, Bool, true, false, ◌||◌, ◌&&◌, not, List, [], ◌∷◌, refl, sym, ◌∙◌, ap, subst, Option, Some, None}
 use Rattle.std.specs.Prelude.{nat_eq}
-use Rattle.std.specs.Option.{option_map}
-use Rattle.std.proofs.lemmas.Bool.{eqb-true, false≢true, and_parts, or_parts, not-false}
-use Rattle.rollout_machine.specs.Actions.{ActionPlace, action_of, is_action_place, action_places, action_place}
-use Rattle.rollout_machine.specs.ByteStrings.{item_numbered}
-use Rattle.rollout_machine.specs.CommandList.{CommandList}
-use Rattle.rollout_machine.specs.Commands.{DeviceFeedback, DeploymentWord, CancelWord, Command, Cancel, Feedback, CancelFeedback}
-use Rattle.rollout_machine.specs.Effects.{IsInGroup, HasSoundPlan, StartedOnly}
-use Rattle.rollout_machine.specs.Progress.{is_group_started}
-use Rattle.rollout_machine.specs.Records.{action_in, records}
-use Rattle.rollout_model.specs.declared.refusal.Refusal.{Refusal}
-use Rattle.rollout_machine.specs.Rollouts.{Rollout, rollout_at, size_of}
-use Rattle.rollout_machine.specs.StateWords.{has_started, is_started_in, group_is_started, is_for}
-use Rattle.rollout_machine.specs.Verdicts.{first_refusal, verdict_row, verdict, is_device_action, on_action}
+use Rattle.rollout_machine.proofs.Common.{option_map, eqb-true, false≢true, and_parts, or_parts, not-false, ActionPlace, action_of, is_action_place, action_places, action_place, item_numbered, CommandList, DeviceFeedback, DeploymentWord, CancelWord, Command, Cancel, Feedback, CancelFeedback, IsInGroup, HasSoundPlan, StartedOnly, is_group_started, action_in, Refusal, Rollout, rollout_at, size_of, has_started, is_started_in, group_is_started, is_for, first_refusal, verdict_row, verdict, is_device_action, on_action}
+use Rattle.rollout_machine.specs.Records.{records}
 use Rattle.rollout_machine.proofs.Cuts.{IsOwnGroup, group_of, in_its_group, one_group}
 use Rattle.rollout_machine.proofs.Ties.{find_holding}
 use Rattle.rollout_machine.proofs.Actions.{numbered_map}

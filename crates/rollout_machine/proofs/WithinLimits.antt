@@ -1,24 +1,9 @@
 -- The numbers of a desk are within its limits.
 use Rattle.std.proofs.Common.{◌≡◌, ℕ, zero, suc, ◌+◌, ◌<◌, ◌≤◌, Bool, true, false, ◌||◌, List, [], ◌∷◌, map, length, refl, sym, ap, subst, arith, inl, inr, Option, Some, None}
 use Rattle.std.specs.Prelude.{filter, nat_le, slice_get}
-use Rattle.std.proofs.lemmas.Bool.{and_parts, leb-false, leb-true, ltb-false}
-use Rattle.std.proofs.lemmas.List.{length-append, length-map}
+use Rattle.rollout_machine.proofs.Common.{and_parts, leb-false, leb-true, ltb-false, length-append, length-map, Tree, action_places, outcome, CommandList, Make, ◌▸◌, IsWellFormed, is_plan, AddArtifact, Bytes, Command, CreateRollout, PutTargets, RolloutPlan, Good, Bad, Gone, is_outcome, HasSoundPlan, matches, IsCut, filter_of, action_in, added_artifacts, artifacts, group_in, rollout_in, rollouts_in, Rollout, chosen, created, first_of, last_of, members_of, rollout_at, rollouts, size_in, size_of, Target, target_ids, target_in, targets, IsValid, verdict, verdict_row}
 use Rattle.std.proofs.lemmas.List.Sums.{count_by-le-length, length-filter}
-use Rattle.target_filter.specs.Grammar.{Tree}
-use Rattle.rollout_machine.specs.Actions.{action_places, outcome}
-use Rattle.rollout_machine.specs.CommandList.{CommandList, Make, ◌▸◌}
-use Rattle.rollout_machine.specs.CommandRules.{IsWellFormed, is_plan}
-use Rattle.rollout_machine.specs.Commands.{AddArtifact, Bytes, Command, CreateRollout, PutTargets, RolloutPlan, Good, Bad, Gone}
-use Rattle.rollout_machine.specs.Counts.{is_outcome}
-use Rattle.rollout_machine.specs.Effects.{HasSoundPlan}
-use Rattle.rollout_machine.specs.Filters.{matches}
-use Rattle.rollout_machine.specs.Groups.{IsCut}
-use Rattle.target_filter.specs.Profile.{filter_of}
-use Rattle.rollout_machine.specs.Records.{action_in, added_artifacts, artifacts, group_in, rollout_in, records, rollouts_in}
-use Rattle.rollout_machine.specs.Rollouts.{Rollout, chosen, created, first_of, last_of, members_of, rollout_at, rollouts, size_in, size_of}
-use Rattle.rollout_machine.specs.Targets.{Target, target_ids, target_in, targets}
-use Rattle.rollout_machine.specs.Validity.{IsValid}
-use Rattle.rollout_machine.specs.Verdicts.{verdict, verdict_row}
+use Rattle.rollout_machine.specs.Records.{records}
 use Rattle.rollout_machine.specs.WithinLimits.{CountsNoMore, IsWithinLimits, LimitsHold}
 use Rattle.rollout_machine.proofs.Counts.{count_few}
 use Rattle.rollout_machine.proofs.AtNumbers.{of_group, of_rollout}

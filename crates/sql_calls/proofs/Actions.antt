@@ -1,21 +1,10 @@
 -- What foreign keys set off: their actions change tables that have some, and no others.
 use Rattle.std.proofs.Common.{◌≡◌, ◌≢◌, ℤ, ◌+◌, nat_lt, Err, MatchBool, inl, inr, ℕ, zero, suc, ◌==◌, ◌&&◌, Bool, true, false, cond, List, [], ◌∷◌, ◌++◌, Option, Some, None, Ok, refl, sym, ap, subst, ◌∙◌, flat_map, filter_map}
-use Rattle.std.specs.List.{AllByRecursion, list_any}
-use Rattle.sqlite.specs.Order.{Row}
-use Rattle.sqlite.specs.Tree.{Trees}
-use Rattle.sqlite.specs.Table.{Table}
-use Rattle.sqlite.specs.Schema.{Schema}
-use Rattle.sqlite.specs.Edit.{Edit, edited, taken_by, Applies}
+use Rattle.sql_calls.proofs.Common.{AllByRecursion, list_any, Row, Trees, Table, Schema, Edit, edited, taken_by, Applies, Reference, ParentKey, Deed, Has, Work, pairs, loses, work_by, work_for, works, End, Goes, ActsOn, Acts, Leads, AreChildren, action_edit, refuses, max_depth, all_has, all_from, HasNoForeignKey}
 use Rattle.sqlite_schema.specs.declared.schema.Keys.{Keys}
-use Rattle.sqlite_schema.specs.declared.schema.Reference.{Reference}
-use Rattle.sqlite_schema.specs.Rules.{ParentKey}
-use Rattle.sqlite_rules.specs.declared.action.Deed.{Deed}
 use Rattle.sqlite_schema.specs.declared.schema.Constraint.TheVariants.{ForeignKey}
 use Rattle.sqlite_rules.specs.declared.error.Refusal.TheVariants.{Violates, TooDeep}
-use Rattle.sqlite_rules.specs.Lists.{Has}
-use Rattle.sqlite_rules.specs.Action.{Work, pairs, loses, work_by, work_for, works, End, Goes, ActsOn, Acts, Leads, AreChildren, action_edit, refuses, max_depth, Writes as Edits}
-use Rattle.sqlite_rules.proofs.ListLemmas.{all_has, all_from}
-use Rattle.sql_calls.specs.Apart.{HasNoForeignKey}
+use Rattle.sqlite_rules.specs.Action.{Writes as Edits}
 
 its_child : (depth tree : ℕ) (moves : List (Row × Row)) (child : Table) (ref : Reference) (deed : Option Deed) (key : Option ParentKey) (w : Work) → work_by depth tree moves child ref deed key ≡ Some w → w.child ≡ child
 its_child depth tree moves child ref None key w h = absurd cc

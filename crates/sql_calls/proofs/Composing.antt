@@ -1,8 +1,6 @@
 -- Calls in a change one after the other.
 use Rattle.std.proofs.Common.{◌≡◌, Result, Ok, Err, IfOk, arith, subst, sym}
-use Rattle.sqlite.specs.Effect.{Database}
-use Rattle.sqlite.specs.State.{State}
-use Rattle.sql_calls.specs.Standing.{Finds, IsSeeing, Makes}
+use Rattle.sql_calls.proofs.Common.{Database, State, Finds, IsSeeing, Makes}
 
 -- by what is between them
 abbrev pub Then : {R : Type 0} → (R → R → Type 0) → (R → R → Type 0) → R → R → Type 0

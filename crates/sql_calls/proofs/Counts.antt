@@ -1,20 +1,9 @@
 -- What SELECT count(*) shows of a table.
 use Rattle.std.proofs.Common.{◌≡◌, ℕ, ◌+◌, suc, min, pos, List, [], ◌∷◌, map, filter, flat_map, length, Some, false, refl, sym, ap, subst, ◌∙◌, IsPermutation}
-use Rattle.std.specs.List.{list_all, AllZip}
-use Rattle.std.proofs.lemmas.List.{length-map}
-use Rattle.std.proofs.lemmas.List.Sorted.{length_permutation}
-use Rattle.sqlite_value.specs.declared.value.Value.{Value}
-use Rattle.sqlite_value.specs.declared.value.Value.TheVariants.{Null, Int}
+use Rattle.sql_calls.proofs.Common.{list_all, AllZip, length-map, length_permutation, Value, Null, Int, Binary, Trees, Env, lit, col, eval, holds, Query, IsAnswer, Output, output, page, overlay, one_permutation, AreIn, IsHeldBy}
 use Rattle.sqlite_value.specs.Order.{Row}
 use Rattle.sqlite_sql.specs.Group.{Aggregate, Grouping, Summarizes, IsSummary, value_over}
 use Rattle.sqlite_sql.specs.declared.aggregate.AggregateOp.TheVariants.{CountRows}
-use Rattle.sqlite.specs.Collation.TheVariants.{Binary}
-use Rattle.sqlite.specs.Tree.{Trees}
-use Rattle.sqlite.specs.Term.{Env, lit, col, eval, holds}
-use Rattle.sqlite.specs.Query.{Query, IsAnswer, Output, output, page}
-use Rattle.sqlite.specs.Program.{overlay}
-use Rattle.sqlite.proofs.Callers.{one_permutation}
-use Rattle.sql_calls.specs.Keyed.{AreIn, IsHeldBy}
 use Rattle.sql_calls.proofs.Selects.{simple, matched, no_overlay}
 
 abbrev counting : Aggregate

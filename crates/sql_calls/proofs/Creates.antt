@@ -1,15 +1,8 @@
 -- What CREATE TABLE and CREATE INDEX do, for any schema.
 use Rattle.std.proofs.Common.{[], ◌≡◌, ℕ, List, false, None, Ok, sym, ap, subst, ◌∙◌}
-use Rattle.sqlite.specs.Order.{Row}
-use Rattle.sqlite.specs.Table.{Table}
-use Rattle.sqlite.specs.Schema.{Schema}
-use Rattle.sqlite.specs.Command.TheVariants.{CreateTable}
+use Rattle.sql_calls.proofs.Common.{Row, Table, Schema, CreateTable, Index, Tally, lacks_sequence, Database, State, Writes}
 use Rattle.sqlite.specs.Change.{created, indexed, next_tree, KeepsRows}
-use Rattle.sqlite_schema.specs.declared.schema.Index.{Index}
 use Rattle.sqlite.specs.Compile.{table_defined_by}
-use Rattle.sqlite.specs.Does.{Tally, lacks_sequence}
-use Rattle.sqlite.specs.Effect.{Database}
-use Rattle.sqlite.specs.State.{State, Writes}
 use Rattle.sql_calls.proofs.Inserts.{went, same_value}
 
 pub record Created (schema : Schema) (table : Table) (old new : Database) : Type 0 where

@@ -1,10 +1,8 @@
 -- What the texts mean that begin and end a change.
 use Rattle.std.proofs.Common.{refl, codes}
-use Rattle.sqlite.specs.Schema.{Schema}
-use Rattle.sqlite.specs.Command.TheVariants.{Begin, Commit, Rollback}
+use Rattle.sql_calls.proofs.Common.{Schema, Begin, Commit, Rollback, Means}
 use Rattle.sqlite.specs.Listing.{understood}
 use Rattle.sqlite_tied.specs.Compute.{everything}
-use Rattle.sql_calls.specs.Means.{Means}
 
 pub begin_is : (s : Schema) → Means s (codes "BEGIN") Begin
 unfolding understood everything

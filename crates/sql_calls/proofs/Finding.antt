@@ -1,17 +1,8 @@
 -- What one statement of a change answers, and what it makes of what the change sees.
 use Rattle.std.proofs.Common.{◌≡◌, ℕ, Bool, true, false, cond, nat_le, length, List, [], ◌∷◌, Vec, Option, Some, None, Result, Ok, Err, IfOk, sym, subst, ◌∙◌, arith}
-use Rattle.std.specs.declared.alloc.Global.{Global}
-use Rattle.sqlite.specs.Order.{Row}
-use Rattle.sqlite.specs.Command.{Command}
-use Rattle.sqlite.specs.Effect.{Database, Reads as Shows}
-use Rattle.sqlite.specs.Listing.{understood}
-use Rattle.sqlite.specs.State.{State, IsUnchanged, Runs, Writes}
-use Rattle.sqlite.proofs.Callers.{EndsIn, statement_of}
-use Rattle.sql_calls.specs.declared.fault.Fault.{Fault}
+use Rattle.sql_calls.proofs.Common.{Global, Row, Command, Database, understood, State, IsUnchanged, Runs, Writes, EndsIn, statement_of, Fault, RunsText, AsksText, AsksFew, TakesFirst, TakesTo, few_of, Known, Knows, Finds, IsSeeing, Makes}
+use Rattle.sqlite.specs.Effect.{Reads as Shows}
 use Rattle.sql_calls.specs.declared.fault.Fault.TheVariants.{Store}
-use Rattle.sql_calls.specs.Calls.{RunsText, AsksText, AsksFew, TakesFirst, TakesTo, few_of}
-use Rattle.sql_calls.specs.Means.{Known, Knows}
-use Rattle.sql_calls.specs.Standing.{Finds, IsSeeing, Makes}
 use Rattle.sql_calls.proofs.Framing.{took}
 use Rattle.sql_calls.proofs.Leavings.{unchanged_by, first_shown, none_shown, shows_as, runs_plain}
 

@@ -1,14 +1,7 @@
 -- How a change begins and ends, by what it sees and what giving it up leaves.
 use Rattle.std.proofs.Common.{◌≡◌, inl, inr, ℕ, List, [], true, false, Result, Ok, Err, IsTrue, refl, ap, sym, subst, ◌∙◌, arith}
-use Rattle.std.proofs.lemmas.Bool.{both_ways}
-use Rattle.sqlite.specs.Tree.{Trees}
-use Rattle.sqlite.specs.Command.TheVariants.{Begin, Commit, Rollback}
-use Rattle.sqlite.specs.Effect.{Database}
-use Rattle.sqlite.specs.State.{State, HasCleanDisk, Survives, CommitsBy}
-use Rattle.sql_calls.specs.declared.fault.Fault.{Fault}
-use Rattle.sql_calls.specs.Calls.{RunsText}
-use Rattle.sql_calls.specs.Means.{Means}
-use Rattle.sql_calls.specs.Standing.{HoldIn, IsAtRest, IsInDoubt, Opens, Rests, Sees, Shows, Spoiled, Begins, Keeps, Commits, GivesUp}
+use Rattle.sql_calls.proofs.Common.{both_ways, Trees, Begin, Commit, Rollback, Database, State, HasCleanDisk, Survives, Fault, RunsText, Means, HoldIn, IsAtRest, IsInDoubt, Opens, Rests, Sees, Shows, Spoiled, Begins, Keeps, Commits, GivesUp}
+use Rattle.sqlite.specs.State.{CommitsBy}
 use Rattle.sql_calls.proofs.Framing.{schema_of}
 use Rattle.sql_calls.proofs.Leavings.{refused, crash_kept, never_commits_idle, runs_plain, IsSettled}
 

@@ -1,23 +1,7 @@
 -- What one statement leaves of the transaction.
 use Rattle.std.proofs.Common.{◌≡◌, inl, inr, ℕ, true, List, [], Vec, Option, Some, None, Result, Ok, Err, refl, sym, ap, subst, ◌∙◌, arith, slice_get}
-use Rattle.std.specs.declared.alloc.Global.{Global}
-use Rattle.std.proofs.lemmas.Bool.{both_ways}
-use Rattle.sqlite.specs.Order.{Row}
-use Rattle.sqlite.specs.Tree.{Trees}
-use Rattle.sqlite.specs.Schema.{Schema}
-use Rattle.sqlite.specs.Table.{Table}
-use Rattle.sqlite.specs.Command.{Command}
-use Rattle.sqlite.specs.Command.TheVariants.{Insert, InsertOr, Update, Delete}
-use Rattle.sqlite.specs.Does.{Tally, OnRows, AtPlace}
+use Rattle.sql_calls.proofs.Common.{Global, both_ways, Row, Trees, Schema, Table, Command, Insert, InsertOr, Update, Delete, Tally, OnRows, AtPlace, Database, understood, State, HasCleanDisk, IsUnchanged, Survives, Runs, Writes, CommitsShowing, CommitsBy, mode_of, statement_of, Fault, RunsText, AsksText, AsksFew, TakesFirst, TakesTo, few_of, Means, Known, Knows, KnowsWrite, writes_rows, IsInside, IsSpoiled, Opens, Spoiled, FrameTo}
 use Rattle.sqlite.specs.declared.run.Mode.{Mode}
-use Rattle.sqlite.specs.Effect.{Database}
-use Rattle.sqlite.specs.Listing.{understood}
-use Rattle.sqlite.specs.State.{State, HasCleanDisk, IsUnchanged, Survives, Runs, Writes, CommitsShowing, CommitsBy, mode_of}
-use Rattle.sqlite.proofs.Callers.{statement_of}
-use Rattle.sql_calls.specs.declared.fault.Fault.{Fault}
-use Rattle.sql_calls.specs.Calls.{RunsText, AsksText, AsksFew, TakesFirst, TakesTo, few_of}
-use Rattle.sql_calls.specs.Means.{Means, Known, Knows, KnowsWrite, writes_rows}
-use Rattle.sql_calls.specs.Standing.{IsInside, IsSpoiled, Opens, Spoiled, FrameTo}
 use Rattle.sql_calls.proofs.Inserts.{went, same_value}
 use Rattle.sql_calls.proofs.Leavings.{Leaves, refused, unanswered, stays_inside, never_shows_inside, never_commits_inside, crash_kept, unchanged_by, first_unchanged, first_fails, none_shown, runs_plain}
 

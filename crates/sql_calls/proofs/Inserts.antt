@@ -1,25 +1,7 @@
 -- What INSERT .. VALUES does, for any schema.
 use Rattle.std.proofs.Common.{[], ◌∷◌, ◌≡◌, ◌⊎◌, inl, inr, ℕ, ◌/◌, ◌==◌, ◌&&◌, Bool, true, cond, flat_map, filter_map, refl, List, length, slice_get, false, Option, Some, None, Ok, Err, Result, sym, ap, subst, ◌∙◌}
-use Rattle.sqlite.specs.Order.{Row}
-use Rattle.sqlite.specs.Tree.{Trees}
-use Rattle.sqlite.specs.Term.{Term}
-use Rattle.sqlite.specs.Table.{Table}
-use Rattle.sqlite.specs.Schema.{Schema}
-use Rattle.sqlite_schema.specs.declared.schema.Keys.TheVariants.{Enforced}
-use Rattle.sqlite.specs.Source.{Source}
-use Rattle.sqlite.specs.Source.TheVariants.{Values}
-use Rattle.sqlite.specs.Command.TheVariants.{Insert}
-use Rattle.sqlite.specs.Edit.{edit_of}
-use Rattle.sqlite_schema.specs.declared.schema.Reference.{Reference}
-use Rattle.sqlite_schema.specs.Rules.{ParentKey}
-use Rattle.sqlite_rules.specs.declared.action.Deed.{Deed}
-use Rattle.sqlite_rules.specs.Action.{work_by, work_for, works, Writes as Edits}
-use Rattle.sqlite.specs.Rowids.TheVariants.{Chosen}
-use Rattle.sqlite.specs.Does.{Tally, Does, OnRows}
-use Rattle.sqlite.specs.Rows.{Written, Task, Inserts, stamped}
-use Rattle.sqlite.specs.Effect.{Database, IsSource, value_rows}
-use Rattle.sqlite.specs.State.{State, mode_of, Writes}
-use Rattle.sqlite.proofs.Callers.{one_step}
+use Rattle.sql_calls.proofs.Common.{Row, Trees, Term, Table, Schema, Enforced, Source, Values, Insert, edit_of, Reference, ParentKey, Deed, work_by, work_for, works, Chosen, Tally, Does, OnRows, Written, Task, Inserts, stamped, Database, IsSource, value_rows, State, mode_of, Writes, one_step}
+use Rattle.sqlite_rules.specs.Action.{Writes as Edits}
 use Rattle.sql_calls.proofs.Actions.{Rewritten, applied}
 
 pub went : {B E R : Type 0} {b : B} {Stops : E → Type 0} → ((stop : E) × Stops stop × (Ok b ≡ Err stop)) ⊎ R → R

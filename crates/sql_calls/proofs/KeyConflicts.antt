@@ -1,20 +1,8 @@
 -- Which rows meet a new one under a key of one column, where a schema has further indexes.
 use Rattle.std.proofs.Common.{◌≡◌, ◌⊎◌, inl, inr, ℕ, Bool, true, false, ◌&&◌, ◌||◌, List, [], ◌∷◌, Some, refl, sym, ap, ◌∙◌, bytes_eq, slice_get}
-use Rattle.std.specs.List.{list_any}
-use Rattle.std.proofs.lemmas.Bool.{cases_Bool, eq-eqb}
+use Rattle.sql_calls.proofs.Common.{list_any, cases_Bool, eq-eqb, first_key, column, Binary, Schema, Table, Trees, Index, agree, equal, guards, IsSound, automatic, aims, conflicts, shares, Has, all-slice_get}
 use Rattle.std.proofs.lemmas.Slice.Eq.{bytes_eq-Decides}
-use Rattle.sqlite_value.specs.Keys.{first_key}
-use Rattle.sqlite_value.specs.Order.{Row, column}
-use Rattle.sqlite.specs.Collation.TheVariants.{Binary}
-use Rattle.sqlite.specs.Schema.{Schema}
-use Rattle.sqlite.specs.Table.{Table}
-use Rattle.sqlite.specs.Tree.{Trees}
-use Rattle.sqlite_schema.specs.declared.schema.Index.{Index}
-use Rattle.sqlite_schema.specs.Rules.{agree, equal, guards}
-use Rattle.sqlite_catalog.specs.Listing.{IsSound, automatic}
-use Rattle.sqlite_rules.specs.Keys.{aims, conflicts, shares}
-use Rattle.sqlite_rules.specs.Lists.{Has}
-use Rattle.sqlite_keyed.proofs.ListLemmas.{all-slice_get}
+use Rattle.sqlite_value.specs.Order.{Row}
 use Rattle.sql_calls.specs.KeyIndexes.{ComparesBytes}
 
 -- ---- a key of one column

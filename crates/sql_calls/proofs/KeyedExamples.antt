@@ -1,25 +1,11 @@
 -- The statements on two keyed tables, which stand anywhere among tables of others.
 use Rattle.std.proofs.Common.{◌≡◌, ℕ, pos, negsuc, true, false, List, [], ◌∷◌, map, filter, take, not, slice_get, Some, None, codes, refl}
-use Rattle.sqlite_value.specs.declared.value.Value.TheVariants.{Null, Int, Text}
+use Rattle.sql_calls.proofs.Common.{Null, Int, Text, plain, Binary, Table, Term, lit, col, op2, IsAnswer, overlay, Values, Insert, Update, Delete, State, Writes, Database, IsDatabase, agree, cast_all, sort_by, HasNoForeignKey, IsHeldBy, by_column}
 use Rattle.sqlite_value.specs.Order.{Row}
-use Rattle.sqlite_value.specs.Keys.{plain, first_key}
-use Rattle.sqlite.specs.Collation.TheVariants.{Binary}
+use Rattle.sqlite_value.specs.Keys.{first_key}
 use Rattle.sqlite.specs.Kind.TheVariants as kind
-use Rattle.sqlite.specs.Table.{Table}
-use Rattle.sqlite.specs.Term.{Term, lit, col, op2}
-use Rattle.sqlite.specs.Query.{IsAnswer}
-use Rattle.sqlite.specs.Program.{overlay}
-use Rattle.sqlite.specs.Source.TheVariants.{Values}
-use Rattle.sqlite.specs.Command.TheVariants.{Insert, Update, Delete}
-use Rattle.sqlite.specs.State.{State, Writes}
-use Rattle.sqlite.specs.Effect.{Database, IsDatabase}
 use Rattle.sqlite_sql.specs.declared.ops.BinaryOp.TheVariants.{Compare}
 use Rattle.sqlite_sql.specs.declared.ops.CompareOp.TheVariants.{Eq, Gt}
-use Rattle.sqlite_schema.specs.Rules.{agree}
-use Rattle.sqlite_rules.specs.Cast.{cast_all}
-use Rattle.sqlite_keyed.specs.Lists.{sort_by}
-use Rattle.sql_calls.specs.Apart.{HasNoForeignKey}
-use Rattle.sql_calls.specs.Keyed.{IsHeldBy, by_column}
 use Rattle.sql_calls.specs.Tables.{strict, table_of}
 use Rattle.sql_calls.proofs.KeyedRows.{on_content, changed}
 use Rattle.sql_calls.proofs.Selects.{simple, by, passes, shown_of}

@@ -1,29 +1,12 @@
 -- What a SELECT in the order of one column shows of a keyed table.
 use mathlib.Core.Path.{fun_ext}
 use Rattle.std.proofs.Common.{◌≡◌, ℕ, zero, suc, ◌+◌, Bool, true, false, not, ◌&&◌, ◌||◌, List, [], ◌∷◌, ◌++◌, map, filter, slice_get, Option, Some, Ordering, Less, Equal, Greater, true≢false, refl, sym, ap, ◌∙◌, arith}
-use Rattle.std.specs.List.{AllByRecursion}
-use Rattle.std.specs.Ordering.{is_eq, is_gt, ordering_reverse}
-use Rattle.sqlite_value.specs.declared.value.Value.{Value}
-use Rattle.sqlite_value.specs.Order.{Row, column, value_cmp}
-use Rattle.sqlite_value.specs.Keys.{plain, first_key}
-use Rattle.sqlite_value.proofs.OrderLemmas.{then-Equal, value_cmp_total}
-use Rattle.sqlite.specs.Collation.TheVariants.{Binary}
-use Rattle.sqlite.specs.Term.{Term, col}
-use Rattle.sqlite.specs.Query.{Query, IsAnswer, Output, output_cmp, page}
-use Rattle.sqlite.specs.Program.{overlay}
-use Rattle.sqlite.specs.Table.{Table}
-use Rattle.sqlite.specs.Tree.{Trees}
-use Rattle.sqlite.specs.Schema.{Schema}
-use Rattle.sqlite_sql.specs.Ops.{binary, is_null, is_true, from_truth}
+use Rattle.sql_calls.proofs.Common.{AllByRecursion, is_eq, is_gt, ordering_reverse, Value, column, value_cmp, plain, then-Equal, value_cmp_total, Binary, Term, col, Query, IsAnswer, Output, output_cmp, page, overlay, Table, Trees, Schema, is_null, is_true, from_truth, agree, equal, are_present, agree_back, agree_chain, IsAscending, sort_by, insert_sorted, sort_by-map, map-map, IsHeldBy, HaveKeysApart, AreWhole, by_column, Rise}
+use Rattle.sqlite_value.specs.Order.{Row}
+use Rattle.sqlite_value.specs.Keys.{first_key}
+use Rattle.sqlite_sql.specs.Ops.{binary}
 use Rattle.sqlite_schema.specs.declared.schema.Column.{Column}
 use Rattle.sqlite_schema.specs.Names.{is_key}
-use Rattle.sqlite_schema.specs.Rules.{agree, equal, are_present}
-use Rattle.sqlite_rules.proofs.KeyLemmas.{agree_back, agree_chain}
-use Rattle.sqlite_trees.specs.Tree.{IsAscending}
-use Rattle.sqlite_keyed.specs.Lists.{sort_by, insert_sorted}
-use Rattle.sqlite_keyed.proofs.SortLemmas.{sort_by-map}
-use Rattle.sqlite_keyed.proofs.ListLemmas.{map-map}
-use Rattle.sql_calls.specs.Keyed.{IsHeldBy, HaveKeysApart, AreWhole, by_column, Rise}
 use Rattle.sql_calls.proofs.KeyedRows.{IsBlind, on_content}
 use Rattle.sql_calls.proofs.KeyedTables.{reads_in_order}
 use Rattle.sql_calls.proofs.Selects.{simple, by, passes, shown_of, shown_in}

@@ -1,26 +1,10 @@
 -- What the statements on one key do to a table whose rowids nobody knows.
 use Rattle.std.proofs.Common.{◌≡◌, ◌⊎◌, inl, inr, ◌≤◌, ◌<◌, ℕ, ℤ, ◌+◌, ◌+ℤ◌, pos, Bool, true, false, not, ◌||◌, ◌&&◌, cond, List, [], ◌∷◌, ◌++◌, map, filter, fold, refl, sym, ap, ap₂, ◌∙◌, subst, arith, Ordering, Less, Equal, Greater, true≢false, IsPermutation, IsSorted}
-use Rattle.std.specs.List.{AllByRecursion, list_any}
-use Rattle.std.specs.Ordering.{is_eq, ordering_reverse}
-use Rattle.std.proofs.lemmas.Int.{ints}
-use Rattle.std.proofs.lemmas.Bool.{or_parts, both_ways}
-use Rattle.std.proofs.lemmas.Bool.Decides.{nat_tests}
-use Rattle.std.proofs.lemmas.List.Sorted.{IsPermutation-cons, IsPermutation-sym, IsPermutation-trans, IsPermutation-map, IsPermutation-to_front, list_any-IsPermutation}
-use Rattle.sqlite_value.specs.declared.value.Value.{Value}
-use Rattle.sqlite_value.specs.declared.value.Value.TheVariants.{Null, Int}
+use Rattle.sql_calls.proofs.Common.{AllByRecursion, list_any, is_eq, ordering_reverse, ints, or_parts, both_ways, nat_tests, IsPermutation-cons, IsPermutation-sym, IsPermutation-trans, IsPermutation-map, IsPermutation-to_front, list_any-IsPermutation, Value, Null, Int, value_cmp, value_cmp-Int, rowid, has_rowid, put_row, without_rowid, IsAscending, agree, clashes, differ, id_in, next_rowid, without_all, ids_of, filter_all, all_weaker, IsPermutation-filter, along_permutation, sort_by, sorted_is-sort_by, AreIn, IsHeldBy}
 use Rattle.sqlite_value.specs.declared.keys.Order.{Order}
-use Rattle.sqlite_value.specs.Order.{Row, value_cmp}
-use Rattle.sqlite_value.proofs.OrderLemmas.{value_cmp-Int}
-use Rattle.sqlite_trees.specs.Tree.{rowid, has_rowid, put_row, without_rowid, IsAscending}
+use Rattle.sqlite_value.specs.Order.{Row}
 use Rattle.sqlite_sql.specs.Ops.{binary}
-use Rattle.sqlite_schema.specs.Rules.{agree, clashes, differ}
-use Rattle.sqlite_rules.specs.Edit.{id_in, next_rowid, without_all}
-use Rattle.sqlite_rules.specs.Calls.{ids_of}
-use Rattle.sqlite_keyed.proofs.ListLemmas.{filter_all, all_weaker, IsPermutation-filter, along_permutation}
-use Rattle.sqlite_keyed.specs.Lists.{sort_by}
-use Rattle.sqlite_keyed.proofs.SortLemmas.{sorted_is-sort_by}
 use Rattle.std.specs.Cmp.{IsTotalOrder}
-use Rattle.sql_calls.specs.Keyed.{AreIn, IsHeldBy}
 
 ids_less : (m n : ℕ) → m < n → value_cmp (Int (pos m)) (Int (pos n)) ≡ Less
 ids_less m n h = value_cmp-Int (pos m) (pos n) ∙ grind (arith, ints, nat_tests)

@@ -1,44 +1,11 @@
 -- What the usual statements do to a table that has a text or composite key, in contents: rows less their rowids, in any order.
 use Rattle.std.proofs.Common.{get_or, ◌≡◌, ◌⊎◌, inl, inr, ◌≤◌, ℕ, pos, Bool, true, false, not, cond, List, [], ◌∷◌, ◌++◌, map, filter, drop, length, slice_get, Option, Some, None, refl, sym, ap, ap₂, ◌∙◌, subst, arith, IsPermutation}
-use Rattle.std.specs.Ordering.{is_eq}
-use Rattle.std.proofs.lemmas.List.{length-map}
-use Rattle.std.proofs.lemmas.List.Sorted.{IsPermutation-sym, IsPermutation-trans, IsPermutation-map, length_permutation}
-use Rattle.sqlite_value.specs.declared.value.Value.{Value}
-use Rattle.sqlite_value.specs.declared.value.Value.TheVariants.{Null, Int}
-use Rattle.sqlite_value.specs.Order.{Row, value_cmp}
-use Rattle.sqlite.specs.Tree.{Trees}
-use Rattle.sqlite_trees.specs.Tree.{rowid, put_row, without_rowid}
-use Rattle.sqlite.specs.Table.{Table}
-use Rattle.sqlite.specs.Schema.{Schema}
-use Rattle.sqlite_schema.specs.declared.schema.Keys.TheVariants.{Enforced}
+use Rattle.sql_calls.proofs.Common.{is_eq, length-map, IsPermutation-sym, IsPermutation-trans, IsPermutation-map, length_permutation, Value, Null, Int, value_cmp, Trees, rowid, put_row, without_rowid, Table, Schema, Enforced, agree, clashes, are_present, conflicts, AreConflicts, Has, cast, cast_all, cast_row, next_rowid, with_rowid, ids_of, agree_back, agree_chain, Chosen, Given, Term, col, IsAnswer, output_cmp, page, Output, overlay, output_cmp_total, Database, shown, one_permutation, sort_by, all-slice_get, map-map, plain, IsSound, all_from, has_got, IsHeldBy, HaveKeysApart, AreWhole, Key, Program, Integer, id_in}
+use Rattle.sqlite_value.specs.Order.{Row}
 use Rattle.sqlite_schema.specs.declared.schema.Constraint.TheVariants.{NotNull}
-use Rattle.sqlite_schema.specs.Rules.{agree, clashes, are_present}
-use Rattle.sqlite_rules.specs.Keys.{conflicts, AreConflicts}
-use Rattle.sqlite_rules.specs.Lists.{Has}
-use Rattle.sqlite_rules.specs.Cast.{cast, cast_all, cast_row}
-use Rattle.sqlite_rules.specs.Edit.{next_rowid, edit_of, edited, with_rowid, Applies}
-use Rattle.sqlite_rules.specs.Calls.{ids_of}
-use Rattle.sqlite_rules.proofs.KeyLemmas.{agree_back, agree_chain}
-use Rattle.sqlite.specs.Rowids.TheVariants.{Chosen, Given}
-use Rattle.sqlite.specs.Term.{Term, col}
-use Rattle.sqlite.specs.Query.{IsAnswer, output_cmp, page, Output}
-use Rattle.sqlite.specs.Program.{overlay}
-use Rattle.sqlite_sql.proofs.QueryLemmas.{output_cmp_total}
-use Rattle.sqlite.specs.Effect.{Database}
-use Rattle.sqlite.specs.Rows.{shown}
-use Rattle.sqlite.proofs.Callers.{one_permutation}
-use Rattle.sqlite_keyed.specs.Lists.{sort_by}
-use Rattle.sqlite_keyed.proofs.ListLemmas.{all-slice_get, map-map}
-use Rattle.sqlite_value.specs.Keys.{plain}
-use Rattle.sqlite_catalog.specs.Listing.{IsSound}
+use Rattle.sqlite_rules.specs.Edit.{edit_of, edited, Applies}
 use Rattle.sqlite_catalog.proofs.AlterLemmas.{keys_are_unique}
-use Rattle.sqlite_rules.proofs.ListLemmas.{all_from, has_got}
-use Rattle.sql_calls.specs.Keyed.{IsHeldBy, HaveKeysApart, AreWhole}
 use Rattle.sql_calls.proofs.KeyedRows.{IsBlind, on_content, IsKey, changed, held_added, held_seen, held_dropped, held_unchanged, held_changed, one_at_most, no_ties, sorted_of, next_is, found_id}
-use Rattle.sqlite_value.specs.declared.keys.Key.{Key}
-use Rattle.sqlite_schema.specs.declared.program.Program.{Program}
-use Rattle.sqlite.specs.Kind.TheVariants.{Integer}
-use Rattle.sqlite_rules.specs.Edit.{id_in}
 use Rattle.sql_calls.proofs.NumberedRows.{cast_int, cast_null}
 use Rattle.sql_calls.proofs.Selects.{simple, passes, shown_of, simple_rows, by, shown_in, ordered_rows}
 use Rattle.sql_calls.proofs.Inserts.{Inserted, given_rows}

@@ -1,22 +1,14 @@
 -- What a statement leaves, whatever the database holds.
 use Rattle.std.proofs.Common.{◌≡◌, ◌⊎◌, inl, inr, ℕ, Bool, true, false, List, [], ◌∷◌, Option, Some, None, Ok, Err, IsTrue, refl, sym, ap, subst, ◌∙◌, slice_get}
-use Rattle.std.proofs.lemmas.Bool.{cases_Bool, both_ways}
-use Rattle.sqlite.specs.Order.{Row}
-use Rattle.sqlite.specs.Tree.{Trees}
+use Rattle.sql_calls.proofs.Common.{cases_Bool, both_ways, Row, Trees, Command, Select, Rows, Begin, Commit, Rollback, Release, Schema, understood, Database, RefusesToRead, State, HasCleanDisk, IsUnchanged, IsRolledBack, Survives, Executes, IsNoStatement, RunsCommand, Runs, shows_rows, FailsToShow, ShowsRows, MayCommit, store_error, IsPlain, EndsIn, command_of, statement_of, runs_as, reads_as, begins_shown, Means}
 use Rattle.sqlite.specs.declared.error.Error.{Error}
 use Rattle.sqlite.specs.declared.error.Error.TheVariants.{QueryReturnedNoRows}
 use Rattle.sqlite_trees.specs.declared.error.StoreError.{StoreError}
 use Rattle.sqlite_trees.specs.declared.error.StoreError.TheVariants.{OutOfMemory, Io, Corrupt, Full, Broken, Unstorable}
 use Rattle.sqlite_resolve.specs.declared.compiled.Compiled.{Compiled}
 use Rattle.sqlite_schema.specs.declared.command.Returning.{Returning}
-use Rattle.sqlite.specs.Command.{Command}
-use Rattle.sqlite.specs.Command.TheVariants.{Select, Rows, Begin, Commit, Rollback, Release}
-use Rattle.sqlite.specs.Schema.{Schema}
-use Rattle.sqlite.specs.Listing.{understood}
-use Rattle.sqlite.specs.Effect.{Database, Reads as Shows, RefusesToRead}
-use Rattle.sqlite.specs.State.{State, HasCleanDisk, IsUnchanged, IsRolledBack, Survives, Executes, ExecutesIn, IsNotRun, IsNoStatement, RunsCommand, Runs, shows_rows, FailsToQuery, FailsToShow, Shown, ShowsRows, Begins, QueriesRow, CommitsShowing, CommitsBy, MayCommit, store_error}
-use Rattle.sqlite.proofs.Callers.{IsPlain, EndsIn, command_of, statement_of, runs_as, reads_as, begins_shown}
-use Rattle.sql_calls.specs.Means.{Means}
+use Rattle.sqlite.specs.Effect.{Reads as Shows}
+use Rattle.sqlite.specs.State.{ExecutesIn, IsNotRun, FailsToQuery, Shown, Begins, QueriesRow, CommitsShowing, CommitsBy}
 
 -- nothing changed, or the transaction is undone
 abbrev pub Leaves : State → State → Type 0

@@ -1,3 +1,4 @@
+pub mod Common
 pub mod Ends
 pub mod Leavings
 pub mod Framing

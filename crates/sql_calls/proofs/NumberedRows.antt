@@ -1,16 +1,8 @@
 -- The rows of numbered records.
 use Rattle.std.proofs.Common.{◌≡◌, ◌<◌, ℕ, ◌+◌, pos, List, [], ◌∷◌, ◌++◌, length, Bool, true, false, cond, refl, ap, ◌∙◌, arith, Less}
-use Rattle.std.proofs.lemmas.Int.{ints}
-use Rattle.std.proofs.lemmas.Bool.Decides.{nat_tests}
-use Rattle.sqlite_value.specs.declared.value.Value.{Value}
-use Rattle.sqlite_value.specs.declared.value.Value.TheVariants.{Null, Int}
-use Rattle.sqlite_value.specs.Order.{Row, value_cmp}
-use Rattle.sqlite_value.proofs.OrderLemmas.{value_cmp-Int}
-use Rattle.sqlite_trees.specs.Tree.{rowid, put_row}
+use Rattle.sql_calls.proofs.Common.{ints, nat_tests, Value, Null, Int, value_cmp, value_cmp-Int, rowid, put_row, cast, Integer, rows_from}
+use Rattle.sqlite_value.specs.Order.{Row}
 use Rattle.sqlite_sql.specs.Ops.{unary}
-use Rattle.sqlite_rules.specs.Cast.{cast}
-use Rattle.sqlite.specs.Kind.TheVariants.{Integer}
-use Rattle.sql_calls.specs.Keyed.{rows_from}
 
 lower_id : (m n : ℕ) → m < n → value_cmp (Int (pos m)) (Int (pos n)) ≡ Less
 lower_id m n h = value_cmp-Int (pos m) (pos n) ∙ grind (arith, ints, nat_tests)

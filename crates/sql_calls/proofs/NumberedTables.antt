@@ -1,32 +1,8 @@
 -- A table whose k-th row has number k, with any UNIQUE and any index.
 use Rattle.std.proofs.Common.{◌≡◌, ◌<◌, ℕ, zero, suc, ◌+◌, pos, List, [], ◌∷◌, ◌++◌, length, map, filter, take, set, slice_get, Bool, true, false, cond, Option, Some, option_map, refl, sym, ap, ap₂, append-nil, append_assoc, length-append, subst, ◌∙◌, arith, Ordering, Less, Equal, Greater, IsPermutation}
-use Rattle.std.specs.List.{AllByRecursion}
+use Rattle.sql_calls.proofs.Common.{AllByRecursion, is_eq, is_gt, ints, nat_tests, Value, Null, Int, value_cmp, value_cmp-Int, rowid, has_rowid, put_row, without_rowid, IsAscending, Trees, Binary, Schema, Table, cast_all, Term, col, lit, Query, Output, output_cmp, page, IsAnswer, overlay, Database, one_permutation, output_cmp_total, sort_by, insert_sorted, all-append, all_of, filter_all, map-map, sorted_is-sort_by, sorted_unique, rows_from, put_all}
 use Rattle.std.specs.Option.{option_to_list}
-use Rattle.std.specs.Ordering.{is_eq, is_gt}
-use Rattle.std.proofs.lemmas.Int.{ints}
-use Rattle.std.proofs.lemmas.Bool.Decides.{nat_tests}
-use Rattle.sqlite_value.specs.declared.value.Value.{Value}
-use Rattle.sqlite_value.specs.declared.value.Value.TheVariants.{Null, Int}
-use Rattle.sqlite_value.specs.Order.{Row, value_cmp}
-use Rattle.sqlite_value.proofs.OrderLemmas.{value_cmp-Int}
-use Rattle.sqlite_trees.specs.Tree.{rowid, has_rowid, put_row, without_rowid}
-use Rattle.sqlite_trees.specs.Tree.{IsAscending}
-use Rattle.sqlite.specs.Tree.{Trees}
-use Rattle.sqlite.specs.Collation.TheVariants.{Binary}
-use Rattle.sqlite.specs.Schema.{Schema}
-use Rattle.sqlite.specs.Table.{Table}
-use Rattle.sqlite_rules.specs.Cast.{cast_all}
-use Rattle.sqlite.specs.Term.{Term, col, lit}
-use Rattle.sqlite.specs.Query.{Query, Output, output_cmp, page, IsAnswer}
-use Rattle.sqlite.specs.Program.{overlay}
-use Rattle.sqlite.specs.Effect.{Database}
-use Rattle.sqlite.proofs.Callers.{one_permutation}
-use Rattle.sqlite_sql.proofs.QueryLemmas.{output_cmp_total}
-use Rattle.sqlite_keyed.specs.Lists.{sort_by, insert_sorted}
-use Rattle.sqlite_keyed.proofs.ListLemmas.{all-append, all_of, filter_all, map-map}
-use Rattle.sqlite_keyed.proofs.SortLemmas.{sorted_is-sort_by, sorted_unique}
-use Rattle.sql_calls.specs.Keyed.{rows_from}
-use Rattle.sqlite_rules.specs.Edit.{put_all}
+use Rattle.sqlite_value.specs.Order.{Row}
 use Rattle.sql_calls.proofs.NumberedRows.{put_next}
 use Rattle.sql_calls.proofs.Selects.{simple, by, passes, shown_of, shown_in, simple_rows, ordered_rows}
 use Rattle.sql_calls.proofs.Updates.{Updated}

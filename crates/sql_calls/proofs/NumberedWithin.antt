@@ -1,19 +1,7 @@
 -- What a SELECT over a table whose k-th row has number k shows, where WHERE asks whether a second table has a row.
 use Rattle.std.proofs.Common.{◌≡◌, ◌<◌, ℕ, suc, ◌+◌, min, pos, List, [], ◌∷◌, ◌++◌, length, map, filter, flat_map, Bool, true, false, cond, ◌||◌, refl, sym, ap, ap₂, subst, ◌∙◌, arith, Less, IsPermutation}
-use Rattle.std.specs.List.{list_all, list_any}
-use Rattle.std.proofs.lemmas.List.Sorted.{list_any-IsPermutation}
-use Rattle.sqlite_value.specs.declared.value.Value.TheVariants.{Int}
+use Rattle.sql_calls.proofs.Common.{list_all, list_any, list_any-IsPermutation, Int, rowid, Trees, Term, Env, eval_all, holds, Query, Output, inner, counted, end, output, output_cmp, page, IsAnswer, overlay, is_true, output_cmp_total, sorted_unique, map-map, AreIn, IsHeldBy, rows_from}
 use Rattle.sqlite_value.specs.Order.{Row}
-use Rattle.sqlite_trees.specs.Tree.{rowid}
-use Rattle.sqlite.specs.Tree.{Trees}
-use Rattle.sqlite.specs.Term.{Term, Env, eval_all, holds}
-use Rattle.sqlite.specs.Query.{Query, Output, inner, counted, end, output, output_cmp, page, IsAnswer}
-use Rattle.sqlite.specs.Program.{overlay}
-use Rattle.sqlite_sql.specs.Ops.{is_true}
-use Rattle.sqlite_sql.proofs.QueryLemmas.{output_cmp_total}
-use Rattle.sqlite_keyed.proofs.SortLemmas.{sorted_unique}
-use Rattle.sqlite_keyed.proofs.ListLemmas.{map-map}
-use Rattle.sql_calls.specs.Keyed.{AreIn, IsHeldBy, rows_from}
 use Rattle.sql_calls.proofs.KeyedRows.{IsBlind, on_content}
 use Rattle.sql_calls.proofs.NumberedTables.{less, number_query, rises}
 use Rattle.sql_calls.proofs.Selects.{no_overlay}

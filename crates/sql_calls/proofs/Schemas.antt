@@ -1,17 +1,9 @@
 -- Trees list one schema alone.
 use Rattle.std.proofs.Common.{◌≡◌, true, false, filter, slice_get, Some, ◌+◌, pos, List, [], ◌∷◌, Ok, refl, sym, ap, subst, ◌∙◌, arith}
-use Rattle.std.specs.List.{AllZip}
-use Rattle.sqlite_value.specs.declared.value.Value.{Value}
-use Rattle.sqlite_value.specs.declared.value.Value.TheVariants.{Null, Int, Real, Text, Blob}
-use Rattle.sqlite_value.specs.Order.{Row, column}
-use Rattle.sqlite.specs.Tree.{Trees}
-use Rattle.sqlite.specs.Schema.{Schema}
-use Rattle.sqlite.specs.Table.{Table}
-use Rattle.sqlite_schema.specs.declared.schema.Index.{Index}
+use Rattle.sql_calls.proofs.Common.{AllZip, Value, Null, Int, Real, Text, Blob, column, Trees, Schema, Table, Index, IsAscending, IsSound, IsTableRow, IsIndexRow, IsDefined, automatic, is_index_row}
+use Rattle.sqlite_value.specs.Order.{Row}
 use Rattle.sqlite_schema.specs.Names.{same_name}
 use Rattle.sqlite_trees.specs.Objects.{catalog_tree}
-use Rattle.sqlite_trees.specs.Tree.{IsAscending}
-use Rattle.sqlite_catalog.specs.Listing.{IsSound, IsTableRow, IsIndexRow, IsDefined, automatic, is_index_row}
 use Rattle.sqlite_catalog.proofs.StepLemmas.{same_itself, named_once}
 use Rattle.sqlite_catalog.proofs.AlterLemmas.{numbers_differ}
 

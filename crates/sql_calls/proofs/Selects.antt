@@ -1,16 +1,8 @@
 -- What a query over one table answers, for any schema.
 use Rattle.std.proofs.Common.{[], ◌≡◌, ℕ, ◌-◌, ◌^◌, pos, negsuc, List, ◌∷◌, ◌++◌, map, slice_get, flat_map, filter, Bool, true, false, cond, None, refl, sym, ap, subst, ◌∙◌, nat_le, unwrap_or}
-use Rattle.std.specs.List.{list_all}
+use Rattle.sql_calls.proofs.Common.{list_all, IsPermutation-map, Row, Trees, Term, Env, lit, eval_all, holds, Query, inner, end, IsAnswer, output, output_cmp, page, Output, overlay, shown, Key}
 use Rattle.std.specs.List.Sorted.{IsPermutation, IsSorted}
-use Rattle.std.proofs.lemmas.List.Sorted.{IsPermutation-map}
 use Rattle.sqlite.specs.declared.types.Value.TheVariants.{Int}
-use Rattle.sqlite.specs.Order.{Row}
-use Rattle.sqlite.specs.Tree.{Trees}
-use Rattle.sqlite.specs.Term.{Term, Env, lit, eval_all, holds}
-use Rattle.sqlite.specs.Query.{Query, inner, end, IsAnswer, output, output_cmp, page, Output}
-use Rattle.sqlite.specs.Program.{overlay}
-use Rattle.sqlite.specs.Rows.{shown}
-use Rattle.sqlite_value.specs.declared.keys.Key.{Key}
 
 -- SELECT project FROM table WHERE filter
 abbrev pub simple : ℕ → List Term → List Term → Query

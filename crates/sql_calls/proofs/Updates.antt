@@ -1,22 +1,7 @@
 -- What UPDATE and DELETE do to a table that has no foreign key, for any schema, whatever foreign keys refer to the table.
 use Rattle.std.proofs.Common.{[], ◌≡◌, ℕ, List, slice_get, Option, Some, None, Ok, sym, ap, subst}
-use Rattle.sqlite.specs.Order.{Row}
-use Rattle.sqlite.specs.Tree.{Trees}
-use Rattle.sqlite.specs.Table.{Table}
-use Rattle.sqlite.specs.Schema.{Schema}
-use Rattle.sqlite_schema.specs.declared.schema.Keys.TheVariants.{Enforced}
-use Rattle.sqlite_schema.specs.declared.program.Program.{Program}
-use Rattle.sqlite.specs.Command.TheVariants.{Update, Delete}
-use Rattle.sqlite.specs.Edit.{edit_of}
-use Rattle.sqlite_rules.specs.Calls.{ids_of}
+use Rattle.sql_calls.proofs.Common.{Row, Trees, Table, Schema, Enforced, Program, Update, Delete, edit_of, ids_of, Given, Tally, Does, OnRows, Written, Task, Updates, Deletes, Database, Answers, State, mode_of, Writes, has_got, HasNoForeignKey}
 use Rattle.sqlite_rules.specs.Action.{Writes as Edits}
-use Rattle.sqlite.specs.Rowids.TheVariants.{Given}
-use Rattle.sqlite.specs.Does.{Tally, Does, OnRows}
-use Rattle.sqlite.specs.Rows.{Written, Task, Updates, Deletes}
-use Rattle.sqlite.specs.Effect.{Database, Answers}
-use Rattle.sqlite.specs.State.{State, mode_of, Writes}
-use Rattle.sqlite_rules.proofs.ListLemmas.{has_got}
-use Rattle.sql_calls.specs.Apart.{HasNoForeignKey}
 use Rattle.sql_calls.proofs.Actions.{Rewritten, rewritten}
 use Rattle.sql_calls.proofs.Inserts.{went, same_value}
 

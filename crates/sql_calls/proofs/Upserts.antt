@@ -1,36 +1,9 @@
 -- What INSERT .. VALUES of one row with one clause ON CONFLICT does to a table that has no foreign key, for any schema.
 use Rattle.std.proofs.Common.{[], ◌≡◌, ◌≢◌, ◌⊎◌, inl, inr, ℕ, ℤ, List, ◌∷◌, ◌++◌, slice_get, Option, Some, None, Ok, sym, ap, subst, ◌∙◌}
-use Rattle.std.specs.List.{AllByRecursion}
-use Rattle.sqlite_keyed.proofs.ListLemmas.{all_of}
-use Rattle.sqlite.specs.Order.{Row}
-use Rattle.sqlite.specs.Tree.{Trees}
-use Rattle.sqlite.specs.Term.{Term}
-use Rattle.sqlite.specs.Table.{Table}
-use Rattle.sqlite.specs.Schema.{Schema}
-use Rattle.sqlite_schema.specs.declared.schema.Keys.TheVariants.{Enforced}
-use Rattle.sqlite_schema.specs.declared.program.Program.{Program}
-use Rattle.sqlite.specs.Source.TheVariants.{Values}
-use Rattle.sqlite.specs.Command.TheVariants.{InsertOr}
-use Rattle.sqlite.specs.Edit.{edit_of, Applies}
-use Rattle.sqlite_rules.specs.Calls.{ids_of}
+use Rattle.sql_calls.proofs.Common.{AllByRecursion, all_of, Row, Trees, Term, Table, Schema, Enforced, Program, Values, InsertOr, edit_of, Applies, ids_of, Chosen, Given, Tally, Does, OnRows, Written, Task, Updates, shown, rowid, AreConflicts, cast_row, with_rowid, Upsert, Abort, Database, Answers, State, mode_of, Writes, one_step, Has, all_has, all_from, has_got, HasNoForeignKey}
 use Rattle.sqlite_rules.specs.Action.{Writes as Edits}
-use Rattle.sqlite.specs.Rowids.TheVariants.{Chosen, Given}
-use Rattle.sqlite.specs.Does.{Tally, Does, OnRows}
 use Rattle.sqlite.specs.Rows as rows
-use Rattle.sqlite.specs.Rows.{Written, Task, Updates, shown}
-use Rattle.sqlite_trees.specs.Tree.{rowid}
-use Rattle.sqlite_rules.specs.Keys.{AreConflicts}
-use Rattle.sqlite_rules.specs.Cast.{cast_row}
 use Rattle.sqlite_rules.specs.declared.error.Refusal.{Refusal}
-use Rattle.sqlite_rules.specs.Edit.{with_rowid}
-use Rattle.sqlite_schema.specs.declared.command.Upsert.{Upsert}
-use Rattle.sqlite_schema.specs.declared.command.Conflict.TheVariants.{Abort}
-use Rattle.sqlite.specs.Effect.{Database, Answers}
-use Rattle.sqlite.specs.State.{State, mode_of, Writes}
-use Rattle.sqlite.proofs.Callers.{one_step}
-use Rattle.sqlite_rules.specs.Lists.{Has}
-use Rattle.sqlite_rules.proofs.ListLemmas.{all_has, all_from, has_got}
-use Rattle.sql_calls.specs.Apart.{HasNoForeignKey}
 use Rattle.sql_calls.proofs.Actions.{Rewritten, rewritten}
 use Rattle.sql_calls.proofs.Inserts.{went, same_value, no_works, uncounted, given_rows}
 use Rattle.sql_calls.proofs.Updates.{updated_in}

@@ -1,31 +1,9 @@
 -- What INSERT of a query's rows with one clause ON CONFLICT does to a table that has no foreign key, for any schema: the rows are put one after the other.
 use Rattle.std.proofs.Common.{[], ◌≡◌, ◌≢◌, ℕ, ℤ, List, ◌∷◌, slice_get, Option, Some, None, Ok, sym, ap, subst, ◌∙◌}
-use Rattle.sqlite.specs.Order.{Row}
+use Rattle.sql_calls.proofs.Common.{Row, Key, Term, IsAnswer, Trees, Table, Schema, Enforced, Program, Source, InsertOr, Chosen, Tally, Does, OnRows, Written, Task, Updates, shown, stamped, cast_row, with_rowid, Upsert, Abort, Database, IsSource, State, mode_of, Writes, Has, all_has, has_got, HasNoForeignKey}
 use Rattle.sqlite_value.specs.declared.keys.Collation.{Collation}
-use Rattle.sqlite_value.specs.declared.keys.Key.{Key}
-use Rattle.sqlite.specs.Term.{Term}
-use Rattle.sqlite.specs.Query.{IsAnswer}
 use Rattle.sql_calls.proofs.Selects.{by, simple}
-use Rattle.sqlite.specs.Tree.{Trees}
-use Rattle.sqlite.specs.Table.{Table}
-use Rattle.sqlite.specs.Schema.{Schema}
-use Rattle.sqlite_schema.specs.declared.schema.Keys.TheVariants.{Enforced}
-use Rattle.sqlite_schema.specs.declared.program.Program.{Program}
-use Rattle.sqlite.specs.Source.{Source}
-use Rattle.sqlite.specs.Command.TheVariants.{InsertOr}
-use Rattle.sqlite.specs.Rowids.TheVariants.{Chosen}
-use Rattle.sqlite.specs.Does.{Tally, Does, OnRows}
 use Rattle.sqlite.specs.Rows as rows
-use Rattle.sqlite.specs.Rows.{Written, Task, Updates, shown, stamped}
-use Rattle.sqlite_rules.specs.Cast.{cast_row}
-use Rattle.sqlite_rules.specs.Edit.{with_rowid}
-use Rattle.sqlite_schema.specs.declared.command.Upsert.{Upsert}
-use Rattle.sqlite_schema.specs.declared.command.Conflict.TheVariants.{Abort}
-use Rattle.sqlite.specs.Effect.{Database, IsSource}
-use Rattle.sqlite.specs.State.{State, mode_of, Writes}
-use Rattle.sqlite_rules.specs.Lists.{Has}
-use Rattle.sqlite_rules.proofs.ListLemmas.{all_has, has_got}
-use Rattle.sql_calls.specs.Apart.{HasNoForeignKey}
 use Rattle.sql_calls.proofs.Inserts.{went, same_value, uncounted}
 use Rattle.sql_calls.proofs.Upserts.{Puts, tried, upserted_keeps}
 

@@ -1,28 +1,12 @@
 -- UPDATE and DELETE mean the same wherever the table stands in the schema.
 use Rattle.std.proofs.Common.{◌≡◌, refl, sym, subst, ◌∙◌, ℕ, true, false, ◌&&◌, Ok, List, [], ◌∷◌, ◌++◌, Option, Some, None, slice_get}
-use Rattle.std.specs.Bool.{⊤, if◌then◌else◌}
-use Rattle.sqlite_sql.specs.Query.{Query, inner, end}
-use Rattle.sqlite_sql.specs.Term.{Term, col}
-use Rattle.sqlite_ast.specs.declared.Expr.{Expr}
+use Rattle.sql_front.proofs.Common.{⊤, if◌then◌else◌, Query, inner, end, Term, col, Expr, Parsed, Inner, Draft, query_of, Schema, Table, accepts_program, accepts_after, is_count, row_classes, Unsupported, Compiled, ◌>>=◌, and_then, pure, fail, get, take_steps, fresh, max_budget, value_of, Name, Context, first, Stands}
 use Rattle.sqlite_ast.specs.declared.Statement.TheVariants as written
-use Rattle.sqlite_syntax.specs.declared.statement.Parsed.{Parsed}
-use Rattle.sqlite_draft.specs.declared.join.Step.TheVariants.{Inner}
-use Rattle.sqlite_draft.specs.declared.query.Draft.{Draft}
-use Rattle.sqlite_draft.specs.Query.{query_of}
-use Rattle.sqlite_schema.specs.declared.schema.Schema.{Schema}
-use Rattle.sqlite_schema.specs.declared.schema.Table.{Table}
 use Rattle.sqlite_schema.specs.declared.command.Command.TheVariants.{Update, Delete}
-use Rattle.sqlite_typing.specs.Types.{accepts_program, accepts_after, is_count, row_classes}
-use Rattle.sqlite_resolve.specs.declared.error.CompileError.TheVariants.{Unsupported}
-use Rattle.sqlite_resolve.specs.declared.compiled.Compiled.{Compiled}
-use Rattle.sqlite_resolve.specs.Lowering.{◌>>=◌, and_then, pure, fail, get, take_steps, fresh, max_budget}
 use Rattle.sqlite_resolve.specs.Reach.{any_scans}
-use Rattle.sqlite_resolve.specs.Select.{value_of}
-use Rattle.sqlite_resolve.specs.Scope.{Name, Context}
 use Rattle.sqlite_resolve.specs.Write.{over, with_place, sets_from, sets, assigned, picked, row, simple, updated_in, updated, deleted}
 use Rattle.sqlite_resolve.specs.Program.{program}
-use Rattle.sqlite_resolve.specs.Compile.{compiled, first, planned, meaning, timed, returning, command, shows, update, delete}
-use Rattle.sql_front.specs.Stands.{Stands}
+use Rattle.sqlite_resolve.specs.Compile.{compiled, planned, meaning, timed, returning, command, shows, update, delete}
 use Rattle.sql_front.proofs.Lower.{Same, IsPlain, lower_same}
 use Rattle.sql_front.proofs.OneTable.{same_columns}
 use Rattle.sql_front.proofs.Select.{IsPlainTest, tests_same}

@@ -1,17 +1,7 @@
 -- What a table that is made leaves of the tables before it, and how it stands itself.
 use Rattle.std.proofs.Common.{◌≡◌, refl, sym, ap, ◌∙◌, ℕ, zero, suc, ◌+◌, ◌^◌, ◌<◌, ◌==◌, Bool, true, false, cond, List, [], ◌∷◌, ◌++◌, length, Option, Some, None, slice_get, find, arith}
-use Rattle.std.specs.List.{AllByRecursion, position_from}
-use Rattle.std.specs.Option.{is_some}
-use Rattle.std.proofs.lemmas.Bool.{eq-eqb, lt-leb}
-use Rattle.sqlite_schema.specs.declared.schema.Table.{Table}
-use Rattle.sqlite_schema.specs.declared.schema.Index.{Index}
-use Rattle.sqlite_schema.specs.declared.schema.Schema.{Schema}
-use Rattle.sqlite_schema.specs.Names.{same_name, table_named, index_named, view_named}
-use Rattle.sqlite_catalog.specs.Change.{next_tree, is_used, created, automatics}
-use Rattle.sqlite_resolve.specs.Scope.{Name}
-use Rattle.sqlite_catalog.proofs.StepLemmas.{table_below}
+use Rattle.sql_front.proofs.Common.{AllByRecursion, position_from, is_some, eq-eqb, lt-leb, Table, Index, Schema, same_name, table_named, index_named, view_named, next_tree, is_used, created, automatics, Name, table_below, Stands, HasNoForeignKey}
 use Rattle.sqlite_rules.proofs.ListLemmas.{all_from}
-use Rattle.sql_front.specs.Stands.{Stands, HasNoForeignKey}
 use Rattle.sql_front.proofs.Past.{position_past, slice_past, find_past, unused, above_all}
 
 -- ---- tables that are added come last

@@ -1,10 +1,6 @@
 -- A table that is found by its name and by its tree stands there.
 use Rattle.std.proofs.Common.{◌≡◌, refl, sym, ap, subst, ◌∙◌, ℕ, ◌^◌, ◌<◌, ◌==◌, Bool, true, false, cond, List, [], ◌∷◌, Some, slice_get, find}
-use Rattle.std.proofs.lemmas.Bool.{eqb-true, lt-leb, leb-false}
-use Rattle.sqlite_schema.specs.declared.schema.Table.{Table}
-use Rattle.sqlite_schema.specs.declared.schema.Schema.{Schema}
-use Rattle.sqlite_schema.specs.Names.{table_named}
-use Rattle.sql_front.specs.Stands.{HasNoForeignKey}
+use Rattle.sql_front.proofs.Common.{eqb-true, lt-leb, leb-false, Table, Schema, table_named, HasNoForeignKey}
 use Rattle.sql_front.specs.Found.{StandsSomewhere, HasFirst}
 
 find_meets : {X : Type 0} (test : X → Bool) (x : X) (xs : List X) → find test xs ≡ Some x → test x ≡ true

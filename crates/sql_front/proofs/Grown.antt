@@ -1,6 +1,6 @@
 -- What CREATE TABLE makes of a database, where it also makes the list of AUTOINCREMENT's numbers and where it doesn't.
 use Rattle.std.proofs.Common.{◌≡◌, ◌⊎◌, inl, inr, refl, sym, ap, subst, ◌∙◌, ℕ, false, List, [], ◌∷◌, ◌++◌, append-nil, append_assoc, codes, None, Ok, Err, Result, ◌+◌, slice_index_or}
-use Rattle.std.proofs.lemmas.Bool.{cases_Bool}
+use Rattle.sql_front.proofs.Common.{cases_Bool, Index, Table, Has, Schema, same_name, next_tree, is_used, created, automatics, KeepsRows, Name}
 use Rattle.sqlite.specs.Order.{Row}
 use Rattle.sqlite.specs.Tree.{Trees}
 use Rattle.sqlite.specs.Does.{Tally, lacks_sequence, sequence_text, MakesTable, MakesSequence}
@@ -9,15 +9,8 @@ use Rattle.sqlite.specs.State.{State, Writes}
 use Rattle.sqlite.specs.Command.TheVariants.{CreateTable}
 use Rattle.sqlite_tied.specs.Compute.{everything}
 use Rattle.sqlite_value.specs.Keys.{plain}
-use Rattle.sqlite_schema.specs.declared.schema.Index.{Index}
-use Rattle.sqlite_schema.specs.declared.schema.Table.{Table}
-use Rattle.sqlite_rules.specs.Lists.{Has}
 use Rattle.sqlite_rules.proofs.ListLemmas.{has_either}
-use Rattle.sqlite_schema.specs.declared.schema.Schema.{Schema}
-use Rattle.sqlite_schema.specs.Names.{same_name}
-use Rattle.sqlite_catalog.specs.Change.{next_tree, is_used, created, automatics, KeepsRows}
 use Rattle.sqlite_resolve.specs.Compile.{table_defined_by, first, table_in}
-use Rattle.sqlite_resolve.specs.Scope.{Name}
 use Rattle.sqlite_resolve.specs.declared.error.CompileError.{CompileError}
 use Rattle.sqlite_schema.specs.declared.schema.Reference.{Reference}
 use Rattle.sql_front.proofs.Created.{AreKeyless, SparesIndexes, still_free}

@@ -1,3 +1,4 @@
+pub mod Common
 pub mod Lower
 pub mod OneTable
 pub mod Select

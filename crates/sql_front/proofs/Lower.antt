@@ -1,28 +1,18 @@
 -- A plain expression is lowered alike under two contexts that find the same columns.
 use Rattle.std.proofs.Common.{◌≡◌, refl, sym, ◌∙◌, ℕ, zero, suc, false, Option, Some, None}
-use Rattle.std.specs.Bool.{⊤}
-use Rattle.sqlite_sql.specs.Term.{Term, lit, col, op1, op2, case}
+use Rattle.sql_front.proofs.Common.{⊤, Term, lit, col, op1, op2, case, Collation, Expr, out-Expr, Select, Layer, Expr-F, Exists, operator, applied, node_at, is_identity, count_rows, function_named, star_by, counted, again, Name, Context, column, Lowering, ◌>>=◌, ◌>>◌, pure, last, spend, begin, finish, chosen, combine, passes}
 use Rattle.sqlite_sql.specs.declared.ops.BinaryOp.{BinaryOp}
 use Rattle.sqlite_sql.specs.declared.ops.BinaryOp.TheVariants as by
-use Rattle.sqlite_value.specs.declared.keys.Collation.{Collation}
-use Rattle.sqlite_ast.specs.declared.Expr.{Expr, out-Expr}
 use Rattle.sqlite_ast.specs.declared.Binary.{Binary}
-use Rattle.sqlite_ast.specs.declared.Select.{Select}
-use Rattle.sqlite_ast.specs.Layer.{Layer}
-use Rattle.sqlite_ast.specs.declared.Expr.TheOpen.{Expr-F}
 use Rattle.sqlite_sql.specs.declared.aggregate.AggregateOp.TheVariants as folding
 use Rattle.sqlite_resolve.specs.declared.function.Function.{Function}
 use Rattle.sqlite_resolve.specs.declared.function.Function.TheVariants as function
-use Rattle.sqlite_resolve.specs.declared.subquery.Purpose.TheVariants.{Exists}
-use Rattle.sqlite_resolve.specs.Expr.{operator, applied, both, operation, node_at, between, bounded, is_identity, tests_truth, tests_alias, wanted_truth, count_rows, function_named, star, star_by, counted}
-use Rattle.sqlite_resolve.specs.Lowering.{again}
+use Rattle.sqlite_resolve.specs.Expr.{both, operation, between, bounded, tests_truth, tests_alias, wanted_truth, star}
 use Rattle.sqlite_sql.specs.declared.ops.CompareOp.{CompareOp}
 use Rattle.sqlite_sql.specs.declared.ops.CompareOp.TheVariants as compare
 use Rattle.sqlite_resolve.specs.declared.state.Carried.{Carried}
-use Rattle.sqlite_resolve.specs.Scope.{Name, Context, column}
 use Rattle.sqlite_resolve.specs.Compare.{compared, affinity_of, of_column, converted}
-use Rattle.sqlite_resolve.specs.Lowering.{Lowering, ◌>>=◌, ◌>>◌, pure, last, spend, begin, finish, chosen}
-use Rattle.sqlite_resolve.specs.Expr.{lower_to, node, opened, combine, passes}
+use Rattle.sqlite_resolve.specs.Expr.{lower_to, node, opened}
 
 pub record Same (a b : Context) : Type 0 where
   pub columns : (table : Option Name) (name : Name) → column a table name ≡ column b table name

@@ -1,24 +1,11 @@
 -- Over one table a SELECT finds the same columns, wherever the table stands in the schema.
 use Rattle.std.proofs.Common.{◌≡◌, inl, inr, refl, ℕ, zero, suc, ◌^◌, nat_lt, ◌==◌, Bool, true, false, not, ◌&&◌, ◌||◌, Ok, Err, List, [], ◌∷◌, Option, Some, None, slice_get}
-use Rattle.std.proofs.lemmas.Bool.{cases_Bool}
+use Rattle.sql_front.proofs.Common.{cases_Bool, column_named, Output, Bound, Found, Level, Name, Context, alias_of, found_or, is_meant, is_hidden, is_rowid, Checked, ◌>>=◌, lift, and_then, Alias, Column, Rowid, NoSuchColumn, if◌then◌else◌, option_map, is_some, Expr, out-Expr, Expr-F, Layer, found_name, heading_at}
 use Rattle.sqlite.specs.Schema.{Schema}
 use Rattle.sqlite.specs.Table.{Table}
-use Rattle.sqlite_schema.specs.Names.{column_named}
-use Rattle.sqlite_resolve.specs.declared.scope.Output.{Output}
-use Rattle.sqlite_resolve.specs.declared.scope.Bound.{Bound}
-use Rattle.sqlite_resolve.specs.declared.scope.Found.{Found}
-use Rattle.sqlite_resolve.specs.declared.scope.Level.{Level}
-use Rattle.sqlite_resolve.specs.Scope.{Name, Context, column, find, in_level, only, hit, column_in, rowid_in, column_at, term_of, alias_of, found_or, is_meant, is_hidden, is_rowid}
+use Rattle.sqlite_resolve.specs.Scope.{column, find, in_level, only, hit, column_in, rowid_in, column_at, term_of}
 use Rattle.sqlite_resolve.specs.Compare.{of_column}
-use Rattle.sqlite_resolve.specs.Lowering.{Checked, ◌>>=◌, lift, and_then}
-use Rattle.sqlite_resolve.specs.declared.scope.Found.TheVariants.{Alias, Column, Rowid}
-use Rattle.sqlite_resolve.specs.declared.error.CompileError.TheVariants.{NoSuchColumn}
-use Rattle.std.specs.Bool.{if◌then◌else◌}
-use Rattle.std.specs.Option.{option_map, is_some}
-use Rattle.sqlite_ast.specs.declared.Expr.{Expr, out-Expr}
-use Rattle.sqlite_ast.specs.declared.Expr.TheOpen.{Expr-F}
-use Rattle.sqlite_ast.specs.Layer.{Layer}
-use Rattle.sqlite_resolve.specs.Body.{declared, found_name, heading_at, heading}
+use Rattle.sqlite_resolve.specs.Body.{declared, heading}
 use Rattle.sql_front.proofs.Lower.{Same}
 
 abbrev pub one_bound : Name → ℕ → List Name → ℕ → Bound

@@ -1,15 +1,6 @@
 -- How a table is found behind others.
 use Rattle.std.proofs.Common.{◌≡◌, inl, inr, refl, ap, ◌∙◌, ℕ, suc, ◌+◌, ◌<◌, ◌≤◌, ◌==◌, Bool, true, false, cond, ◌||◌, List, [], ◌∷◌, ◌++◌, length, Option, Some, None, slice_get, find, arith}
-use Rattle.std.specs.List.{position_from}
-use Rattle.std.specs.Option.{is_some}
-use Rattle.std.proofs.lemmas.Bool.{ne_eqb}
-use Rattle.sqlite_schema.specs.declared.schema.Table.{Table}
-use Rattle.sqlite_schema.specs.declared.schema.Schema.{Schema}
-use Rattle.sqlite_schema.specs.Names.{table_named, index_named, view_named}
-use Rattle.sqlite_catalog.specs.Change.{next_tree, is_used}
-use Rattle.sqlite_catalog.proofs.StepLemmas.{table_below}
-use Rattle.sqlite_rules.specs.Lists.{Has}
-use Rattle.sqlite_resolve.specs.Scope.{Name}
+use Rattle.sql_front.proofs.Common.{position_from, is_some, ne_eqb, Table, Schema, table_named, index_named, view_named, next_tree, is_used, table_below, Has, Name}
 
 -- ---- the first of a longer list
 

@@ -1,20 +1,12 @@
 -- What a SELECT over one table is compiled to, under any schema that has the table.
 use Rattle.std.proofs.Common.{◌≡◌, ℕ, ◌^◌, nat_le, ◌==◌, true, false, ◌&&◌, Ok, List, [], ◌∷◌, Option, Some, None, find}
-use Rattle.sqlite_sql.specs.Query.{Query, inner, end, counted}
-use Rattle.sqlite_sql.specs.Term.{Term}
-use Rattle.sqlite_ast.specs.declared.Expr.{Expr}
+use Rattle.sql_front.proofs.Common.{Query, inner, end, Term, Expr, Parsed, query_of, Schema, Table, accepts_program, accepts_after, are_tests, integer, is_count, row_classes, Name, named, paging, Shown, first}
+use Rattle.sqlite_sql.specs.Query.{counted}
 use Rattle.sqlite_ast.specs.declared.Select as written_select
 use Rattle.sqlite_ast.specs.declared.Statement.TheVariants as written
-use Rattle.sqlite_syntax.specs.declared.statement.Parsed.{Parsed}
-use Rattle.sqlite_draft.specs.Query.{query_of}
-use Rattle.sqlite_schema.specs.declared.schema.Schema.{Schema}
-use Rattle.sqlite_schema.specs.declared.schema.Table.{Table}
 use Rattle.sqlite_schema.specs.declared.command.Command.TheVariants.{Select}
-use Rattle.sqlite_typing.specs.Types.{accepts_program, accepts_after, are_tests, integer, is_count, row_classes}
-use Rattle.sqlite_resolve.specs.Scope.{Name}
-use Rattle.sqlite_resolve.specs.Select.{named, paging}
-use Rattle.sqlite_resolve.specs.Program.{Shown, query, query_to, level, with, whole, alone, single, sources, source, viewing, program}
-use Rattle.sqlite_resolve.specs.Compile.{compiled, first, planned, meaning, timed, returning, command, read}
+use Rattle.sqlite_resolve.specs.Program.{query, query_to, level, with, whole, alone, single, sources, source, viewing, program}
+use Rattle.sqlite_resolve.specs.Compile.{compiled, planned, meaning, timed, returning, command, read}
 use Rattle.sql_front.proofs.Select.{IsOneTableBut}
 
 -- a text that is one SELECT, with no WITH and no compound

@@ -1,32 +1,13 @@
 -- A SELECT over one table is the same query wherever the table stands in the schema.
 use Rattle.std.proofs.Common.{◌≡◌, refl, ℕ, ◌+◌, ◌==◌, nat_lt, Bool, true, false, not, Ok, Err, List, [], ◌∷◌, ◌++◌, length, Option, Some, None, slice_get}
-use Rattle.std.specs.Bool.{⊤, if◌then◌else◌}
-use Rattle.std.specs.Option.{unwrap_or, is_some}
+use Rattle.sql_front.proofs.Common.{⊤, if◌then◌else◌, unwrap_or, is_some, Term, reads_below, TooBig, Unsupported, Expr, Shown-F, out-Shown, Source, out-Source, Core, out-Core, Select, ShownLayer, Inner, Schema, Table, table_named, Bound, Output, State, Checked, Lowering, ◌>>=◌, fail, pure, lift, last, fresh, max_budget, Name, Context, shown_again, lower, lower_to, counted, Exists, is_column, shown_at, outputs_from}
 use Rattle.sqlite_value.specs.declared.keys.Key.{Key}
-use Rattle.sqlite_sql.specs.Term.{Term, reads_below}
-use Rattle.sqlite_resolve.specs.declared.error.CompileError.TheVariants.{TooBig, Unsupported}
-use Rattle.sqlite_ast.specs.declared.Expr.{Expr}
-use Rattle.sqlite_ast.specs.declared.Expr.TheOpen.{Shown-F}
-use Rattle.sqlite_ast.specs.declared.Shown.{Shown, out-Shown}
-use Rattle.sqlite_ast.specs.declared.Source.{Source, out-Source}
+use Rattle.sqlite_ast.specs.declared.Shown.{Shown}
 use Rattle.sqlite_ast.specs.declared.Origin.TheVariants as origin
-use Rattle.sqlite_ast.specs.declared.Core.{Core, out-Core}
-use Rattle.sqlite_ast.specs.declared.Select.{Select}
 use Rattle.sqlite_ast.specs.declared.Sort.{Sort, out-Sort}
-use Rattle.sqlite_ast.specs.Layer.{ShownLayer}
-use Rattle.sqlite_draft.specs.declared.join.Step.TheVariants.{Inner}
-use Rattle.sqlite_schema.specs.declared.schema.Schema.{Schema}
-use Rattle.sqlite_schema.specs.declared.schema.Table.{Table}
-use Rattle.sqlite_schema.specs.Names.{table_named}
-use Rattle.sqlite_resolve.specs.declared.scope.Bound.{Bound}
-use Rattle.sqlite_resolve.specs.declared.scope.Output.{Output}
-use Rattle.sqlite_resolve.specs.declared.state.State.{State}
-use Rattle.sqlite_resolve.specs.Lowering.{Checked, Lowering, ◌>>=◌, fail, pure, lift, last, fresh, max_budget, take_slot}
-use Rattle.sqlite_resolve.specs.Scope.{Name, Context, shown_again}
+use Rattle.sqlite_resolve.specs.Lowering.{take_slot}
 use Rattle.sqlite_resolve.specs.Terms.{conjuncts}
-use Rattle.sqlite_resolve.specs.Expr.{lower, lower_to, counted}
-use Rattle.sqlite_resolve.specs.declared.subquery.Purpose.TheVariants.{Exists}
-use Rattle.sqlite_resolve.specs.Body.{bounds, bound, table_in, is_column, shown, shown_at, outputs, outputs_from, tests, joins, join, inner_join, shared, result, matching, body}
+use Rattle.sqlite_resolve.specs.Body.{bounds, bound, table_in, shown, outputs, tests, joins, join, inner_join, shared, result, matching, body}
 use Rattle.sqlite_resolve.specs.Order.{keys, key, sort, sorts, sorts_from, peeled, alias_in, aliased_or, is_numeral, place_in, collation_of, placed}
 use Rattle.sqlite_resolve.specs.Select.{having, parts, assembled, named}
 use Rattle.sql_front.proofs.Lower.{Same, IsPlain, IsPlainBut, lower_same, lower_same_but}

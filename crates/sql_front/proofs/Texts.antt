@@ -1,27 +1,10 @@
 -- A text's meaning under any schema that has its table, from its meaning over that table alone.
 use Rattle.std.proofs.Common.{◌≡◌, refl, sym, subst, ◌∙◌, ℕ, true, false, ◌&&◌, Ok, List, [], ◌∷◌, Some, None}
-use Rattle.sqlite_sql.specs.Query.{Query, inner, end}
-use Rattle.sqlite_sql.specs.Term.{Term}
+use Rattle.sql_front.proofs.Common.{Query, inner, end, Term, out-Select, out-Core, Source, out-Source, Parsed, Draft, query_of, Schema, Table, table_named, accepts_program, accepts_after, is_count, row_classes, Name, named, paging, Shown, Compiled, compiled, first, Stands}
 use Rattle.sqlite_ast.specs.declared.Select as written_select
-use Rattle.sqlite_ast.specs.declared.Select.{out-Select}
-use Rattle.sqlite_ast.specs.declared.Core.{out-Core}
-use Rattle.sqlite_ast.specs.declared.Source.{Source, out-Source}
 use Rattle.sqlite_ast.specs.declared.Origin.TheVariants as origin
 use Rattle.sqlite_ast.specs.declared.Statement.TheVariants as written
-use Rattle.sqlite_syntax.specs.declared.statement.Parsed.{Parsed}
-use Rattle.sqlite_draft.specs.declared.query.Draft.{Draft}
-use Rattle.sqlite_draft.specs.Query.{query_of}
-use Rattle.sqlite_schema.specs.declared.schema.Schema.{Schema}
-use Rattle.sqlite_schema.specs.declared.schema.Table.{Table}
 use Rattle.sqlite_schema.specs.declared.command.Command.TheVariants.{Select}
-use Rattle.sqlite_schema.specs.Names.{table_named}
-use Rattle.sqlite_typing.specs.Types.{accepts_program, accepts_after, is_count, row_classes}
-use Rattle.sqlite_resolve.specs.Scope.{Name}
-use Rattle.sqlite_resolve.specs.Select.{named, paging}
-use Rattle.sqlite_resolve.specs.Program.{Shown}
-use Rattle.sqlite_resolve.specs.declared.compiled.Compiled.{Compiled}
-use Rattle.sqlite_resolve.specs.Compile.{compiled, first}
-use Rattle.sql_front.specs.Stands.{Stands}
 use Rattle.sql_front.proofs.Select.{ArePlainShown, ArePlainSorts, IsOneTable, IsPlainTest, same_named}
 use Rattle.sql_front.proofs.Query.{Selects, accepted, select_known}
 

@@ -1,19 +1,8 @@
 -- The meaning of a SELECT over one table with EXISTS over a second, under any schema that has the two, from its meaning over these two alone.
 use Rattle.std.proofs.Common.{◌≡◌, refl, sym, subst, ◌∙◌, ℕ, true, false, ◌&&◌, Ok, List, [], ◌∷◌, Some}
-use Rattle.sqlite_sql.specs.Query.{Query, inner, counted, end}
-use Rattle.sqlite_sql.specs.Term.{Term}
+use Rattle.sql_front.proofs.Common.{Query, inner, end, Term, Parsed, query_of, Schema, Table, table_named, accepts_program, accepts_after, are_tests, integer, is_count, row_classes, Name, named, paging, Shown, compiled, first, Stands}
+use Rattle.sqlite_sql.specs.Query.{counted}
 use Rattle.sqlite_ast.specs.declared.Select as written_select
-use Rattle.sqlite_syntax.specs.declared.statement.Parsed.{Parsed}
-use Rattle.sqlite_draft.specs.Query.{query_of}
-use Rattle.sqlite_schema.specs.declared.schema.Schema.{Schema}
-use Rattle.sqlite_schema.specs.declared.schema.Table.{Table}
-use Rattle.sqlite_schema.specs.Names.{table_named}
-use Rattle.sqlite_typing.specs.Types.{accepts_program, accepts_after, are_tests, integer, is_count, row_classes}
-use Rattle.sqlite_resolve.specs.Scope.{Name}
-use Rattle.sqlite_resolve.specs.Select.{named, paging}
-use Rattle.sqlite_resolve.specs.Program.{Shown}
-use Rattle.sqlite_resolve.specs.Compile.{compiled, first}
-use Rattle.sql_front.specs.Stands.{Stands}
 use Rattle.sql_front.proofs.Select.{IsOneTableBut, IsTestBut, same_named_but, over, same_over, tests_same_but}
 use Rattle.sql_front.proofs.Within.{CountsOne, exists_same}
 use Rattle.sql_front.proofs.Query.{Selects, accepted_within, select_known}

@@ -1,18 +1,7 @@
 -- Where an expression sees a table and, one level out, another, it is lowered alike in each schema that has them, wherever they stand in it.
 use Rattle.std.proofs.Common.{◌≡◌, ◌⊎◌, inl, inr, refl, ℕ, zero, suc, ◌^◌, nat_lt, ◌==◌, Bool, true, false, not, ◌&&◌, ◌||◌, Ok, Err, [], ◌∷◌, Option, Some, None, slice_get}
-use Rattle.std.proofs.lemmas.Bool.{cases_Bool}
-use Rattle.std.specs.Bool.{if◌then◌else◌}
-use Rattle.std.specs.Option.{is_some}
-use Rattle.sqlite_schema.specs.declared.schema.Schema.{Schema}
-use Rattle.sqlite_schema.specs.declared.schema.Table.{Table}
-use Rattle.sqlite_schema.specs.Names.{same_name, column_named}
-use Rattle.sqlite_resolve.specs.declared.scope.Bound.{Bound}
-use Rattle.sqlite_resolve.specs.declared.scope.Level.{Level}
-use Rattle.sqlite_resolve.specs.declared.scope.Found.{Found}
-use Rattle.sqlite_resolve.specs.declared.scope.Found.TheVariants.{Column, Rowid}
-use Rattle.sqlite_resolve.specs.declared.error.CompileError.TheVariants.{NoSuchColumn}
-use Rattle.sqlite_resolve.specs.Lowering.{Checked, ◌>>=◌, lift}
-use Rattle.sqlite_resolve.specs.Scope.{Name, Context, column, find, in_level, only, hit, column_in, rowid_in, column_at, term_of, is_meant, is_hidden, is_among, is_rowid, found_or}
+use Rattle.sql_front.proofs.Common.{cases_Bool, if◌then◌else◌, is_some, Schema, Table, same_name, column_named, Bound, Level, Found, Column, Rowid, NoSuchColumn, Checked, ◌>>=◌, lift, Name, Context, is_meant, is_hidden, is_rowid, found_or}
+use Rattle.sqlite_resolve.specs.Scope.{column, find, in_level, only, hit, column_in, rowid_in, column_at, term_of, is_among}
 use Rattle.sqlite_resolve.specs.Compare.{of_column}
 use Rattle.sqlite_resolve.specs.Given.{nested}
 use Rattle.sql_front.proofs.Lower.{Same}

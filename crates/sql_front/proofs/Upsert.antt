@@ -1,35 +1,19 @@
 -- INSERT .. SELECT .. ON CONFLICT means the same wherever its two tables stand in the schema.
 use Rattle.std.proofs.Common.{◌≡◌, inl, inr, refl, sym, ap, subst, ◌∙◌, ℕ, ◌+◌, ◌==◌, true, false, ◌&&◌, Ok, List, [], ◌∷◌, ◌++◌, length, find, Some, None, slice_get, codes, Bool, cond, ◌||◌, arith}
-use Rattle.std.proofs.lemmas.Bool.{eqb-true, eq-eqb}
-use Rattle.sqlite_value.specs.declared.keys.Collation.{Collation}
-use Rattle.sqlite_sql.specs.Query.{Query, inner, end}
-use Rattle.sqlite_sql.specs.Term.{Term}
+use Rattle.sql_front.proofs.Common.{eqb-true, eq-eqb, Collation, Query, inner, end, Term, Parsed, Draft, query_of, Schema, Table, Index, Has, table_named, accepts_program, accepts_after, is_count, row_classes, Compiled, Name, Context, named, paging, Shown, first, small, Stands}
 use Rattle.sqlite_ast.specs.declared.Rows.TheVariants as rows
 use Rattle.sqlite_ast.specs.declared.Select as written_select
 use Rattle.sqlite_ast.specs.declared.Upsert as written_clause
 use Rattle.sqlite_ast.specs.declared.Conflict.TheVariants as conflict
 use Rattle.sqlite_ast.specs.declared.Statement.TheVariants as written
-use Rattle.sqlite_syntax.specs.declared.statement.Parsed.{Parsed}
-use Rattle.sqlite_draft.specs.declared.query.Draft.{Draft}
-use Rattle.sqlite_draft.specs.Query.{query_of}
-use Rattle.sqlite_schema.specs.declared.schema.Schema.{Schema}
-use Rattle.sqlite_schema.specs.declared.schema.Table.{Table}
-use Rattle.sqlite_schema.specs.declared.schema.Index.{Index}
-use Rattle.sqlite_rules.specs.Lists.{Has}
 use Rattle.sqlite_schema.specs.declared.command.Source.TheVariants as source
 use Rattle.sqlite_schema.specs.declared.command.Upsert.{Upsert}
 use Rattle.sqlite_schema.specs.declared.command.Conflict.TheVariants as how
 use Rattle.sqlite_schema.specs.declared.command.Command.TheVariants.{InsertOr}
-use Rattle.sqlite_schema.specs.Names.{table_named}
-use Rattle.sqlite_typing.specs.Types.{accepts_program, accepts_after, is_count, row_classes}
-use Rattle.sqlite_resolve.specs.declared.compiled.Compiled.{Compiled}
-use Rattle.sqlite_resolve.specs.Scope.{Name, Context}
-use Rattle.sqlite_resolve.specs.Select.{named, paging}
 use Rattle.sqlite_resolve.specs.Write.{places, as_row, inserted, selected, updated_in}
-use Rattle.sqlite_resolve.specs.Program.{Shown, program}
+use Rattle.sqlite_resolve.specs.Program.{program}
 use Rattle.sqlite_resolve.specs.Given.{given, with_given, at_rowid, key_at, is_key_at, are_among, key_meant, do_update, update, upsert, upserts}
-use Rattle.sqlite_resolve.specs.Compile.{compiled, first, planned, meaning, timed, returning, command, shows, insert_or_abort, insert_or, new_rows, source_of, queried, small}
-use Rattle.sql_front.specs.Stands.{Stands}
+use Rattle.sqlite_resolve.specs.Compile.{compiled, planned, meaning, timed, returning, command, shows, insert_or_abort, insert_or, new_rows, source_of, queried}
 use Rattle.sql_front.proofs.Past.{slice_past}
 use Rattle.sql_front.proofs.Created.{slice_front}
 use Rattle.sql_front.proofs.Select.{IsOneTable, IsPlainTest, same_named}

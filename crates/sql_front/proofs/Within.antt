@@ -1,30 +1,12 @@
 -- EXISTS of a query over a second table is the same term wherever the two tables stand in the schema.
 use Rattle.std.proofs.Common.{◌≡◌, inl, inr, refl, ℕ, zero, suc, ◌+◌, ◌==◌, nat_lt, Bool, true, false, Ok, Err, List, [], ◌∷◌, ◌++◌, Option, Some, slice_get}
-use Rattle.std.proofs.lemmas.Bool.{cases_Bool}
-use Rattle.std.specs.Bool.{⊤, if◌then◌else◌}
-use Rattle.std.specs.Option.{unwrap_or, is_some}
-use Rattle.sqlite_sql.specs.Term.{Term}
-use Rattle.sqlite_ast.specs.declared.Expr.{out-Expr}
-use Rattle.sqlite_ast.specs.declared.Expr.TheOpen.{Expr-F, Shown-F}
-use Rattle.sqlite_ast.specs.declared.Shown.{Shown, out-Shown}
-use Rattle.sqlite_ast.specs.declared.Core.{Core, out-Core}
-use Rattle.sqlite_ast.specs.declared.Select.{Select, out-Select}
-use Rattle.sqlite_ast.specs.Layer.{Layer, ShownLayer}
+use Rattle.sql_front.proofs.Common.{cases_Bool, ⊤, if◌then◌else◌, unwrap_or, is_some, Term, out-Expr, Expr-F, Shown-F, out-Shown, Core, out-Core, Select, out-Select, Layer, ShownLayer, Inner, Schema, Table, table_named, NoSuchColumn, Unsupported, Alias, Output, State, Exists, Name, Context, Checked, ◌>>=◌, and_then, pure, lift, last, lateral, fresh, shown_at, tests, joins, is_column, heading_at, lower_to, is_plain}
+use Rattle.sqlite_ast.specs.declared.Shown.{Shown}
 use Rattle.sqlite_draft.specs.declared.join.Step.{Step}
-use Rattle.sqlite_draft.specs.declared.join.Step.TheVariants.{Inner}
-use Rattle.sqlite_schema.specs.declared.schema.Schema.{Schema}
-use Rattle.sqlite_schema.specs.declared.schema.Table.{Table}
-use Rattle.sqlite_schema.specs.Names.{table_named}
-use Rattle.sqlite_resolve.specs.declared.error.CompileError.TheVariants.{NoSuchColumn, Unsupported}
-use Rattle.sqlite_resolve.specs.declared.scope.Found.TheVariants.{Alias}
-use Rattle.sqlite_resolve.specs.declared.scope.Output.{Output}
-use Rattle.sqlite_resolve.specs.declared.state.State.{State}
-use Rattle.sqlite_resolve.specs.declared.subquery.Purpose.TheVariants.{Exists}
-use Rattle.sqlite_resolve.specs.Scope.{Name, Context, column, find, term_of}
+use Rattle.sqlite_resolve.specs.Scope.{column, find, term_of}
 use Rattle.sqlite_resolve.specs.Compare.{of_column}
-use Rattle.sqlite_resolve.specs.Lowering.{Checked, ◌>>=◌, and_then, pure, lift, last, lateral, fresh}
-use Rattle.sqlite_resolve.specs.Body.{body, result, matching, outputs, shown, shown_at, tests, joins, is_column, heading, heading_at}
-use Rattle.sqlite_resolve.specs.Expr.{lower_to, counted, counting, wanted, is_plain}
+use Rattle.sqlite_resolve.specs.Body.{body, result, matching, outputs, shown, heading}
+use Rattle.sqlite_resolve.specs.Expr.{counted, counting, wanted}
 use Rattle.sql_front.proofs.Lower.{Same, IsPlain, lower_same}
 use Rattle.sql_front.proofs.OneTable.{one_bound, one_level, seen_in, seen_alike, found_same, key_same}
 use Rattle.sql_front.proofs.Select.{IsFrom, IsTestBut, bounds_known, no_bounds, joins_known, tests_same_but}

@@ -1,12 +1,7 @@
 -- A message that isn't read to a request.
 use Rattle.std.proofs.Common.{◌≡◌, ◌≢◌, ◌⊎◌, None, inl, inr, refl, sym, ap, ◌∙◌}
-use Rattle.rollout_model.specs.declared.refusal.Refusal.{Refusal}
-use Rattle.rollout_model.specs.declared.refusal.Refusal.TheVariants.{NoMemory, StoreFailed}
-use Rattle.rollout_machine.specs.CommandList.{CommandList}
-use Rattle.rollout_machine.specs.Requests.{Asked, Rejected}
-use Rattle.rollout_machine.specs.Replies.{Refused}
-use Rattle.rollout_machine.specs.Answers.{answer, MayAnswer}
-use Rattle.rollout_machine.specs.Standing.{DeskState, StandsFor, AppliesAt}
+use Rattle.stream_server.proofs.Common.{Refusal, NoMemory, StoreFailed, CommandList, Asked, Rejected, Refused, MayAnswer, DeskState, StandsFor, AppliesAt}
+use Rattle.rollout_machine.specs.Answers.{answer}
 
 rejected_answer : (h : CommandList) (r : Refusal) → record { reply = Refused r; accepted = None } ≡ answer h (Rejected r)
 unfolding answer

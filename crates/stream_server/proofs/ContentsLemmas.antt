@@ -3,27 +3,14 @@ use Rattle.std.proofs.Common.{◌≡◌, ◌≢◌, ◌≤◌, ◌⊎◌, ℕ, f
 use Rattle.std.proofs.Math.Seq.{take-length}
 use Rattle.std.specs.declared.alloc.Global.{Global}
 use Rattle.std.specs.Fmt.{decimal}
-use Rattle.std.specs.Io.KnownBytes.{Appends}
-use Rattle.std.proofs.KnownBytes.{Appends-nil, Appends-trans}
-use Rattle.std.proofs.lemmas.Bool.{false≢true}
-use Rattle.contents_handler.specs.Downloads.{Begins, HandsPieces, Sends, sent}
+use Rattle.stream_server.proofs.Common.{Appends, Appends-nil, Appends-trans, false≢true, HandsPieces, Sends, sent, WireMessage, Refusal, StoreFailed, MayAnswer, CommandList, Bytes, Refused, ContentsShown, DeskState, StandsFor, Interface, ServeFault, reading, Conduct, running, BeginsDownload, Comes, Serves}
+use Rattle.contents_handler.specs.Downloads.{Begins}
 use Rattle.contents_handler.specs.declared.download.Download.{Download}
 use Rattle.contents_handler.specs.declared.answered.Answered.TheVariants.{Contents}
-use Rattle.http_wire.specs.Messages.{WireMessage}
 use Rattle.http_wire.specs.Replies.{reason}
-use Rattle.rollout_model.specs.declared.refusal.Refusal.{Refusal}
-use Rattle.rollout_model.specs.declared.refusal.Refusal.TheVariants.{StoreFailed}
-use Rattle.rollout_machine.specs.Answers.{MayAnswer}
-use Rattle.rollout_machine.specs.CommandList.{CommandList}
-use Rattle.rollout_machine.specs.Commands.{Bytes}
-use Rattle.rollout_machine.specs.Replies.{Refused, ContentsShown}
-use Rattle.rollout_machine.specs.Standing.{DeskState, StandsFor}
-use Rattle.stream_server.specs.declared.interface.Interface.{Interface}
-use Rattle.stream_server.specs.declared.served.ServeFault.{ServeFault}
 use Rattle.stream_server.specs.declared.served.ServeFault.TheVariants as serve_fault
 use Rattle.stream_server.specs.Contents.{contents_head, fault_at, SendsContents, WritesOut}
-use Rattle.stream_server.specs.Interfaces.{reading, reply_text}
-use Rattle.stream_server.specs.Parts.{Conduct, running, BeginsDownload, Comes, Serves}
+use Rattle.stream_server.specs.Interfaces.{reply_text}
 use Rattle.stream_server.proofs.PartLemmas.{whole_one, broken_one}
 
 -- the head is made of what stands before the size, the size, and what stands behind it

@@ -1,26 +1,11 @@
 -- The exits of the loop, for a desk of any conduct.
 use Rattle.std.proofs.Common.{◌≡◌, ◌≢◌, ℕ, ◌+◌, ◌-◌, ◌^◌, ◌<◌, ◌≤◌, min, Bool, true, false, List, [], ◌++◌, length, Option, Some, None, Result, Ok, Err, inl, refl, sym, ap, ◌∙◌, subst, append-nil, arith, length-append}
-use Rattle.std.specs.Io.KnownBytes.{Appends, Consumes, IsAtEnd}
-use Rattle.std.proofs.KnownBytes.{Appends-nil, Consumes-nil, Consumes-trans}
-use Rattle.std.proofs.lemmas.Bool.{false≢true}
+use Rattle.stream_server.proofs.Common.{Appends, Consumes, IsAtEnd, Appends-nil, Consumes-nil, Consumes-trans, false≢true, End, Input, Cut, Fault, WireMessage, IsUndecided, IsFault, Begins, EndsAs, CommandList, Refused, DeskState, ServeFault, Served, end_text, Exchange, messages_of, texts_of, GoesOn, AnswersEnd, Exits, IsTold, Conduct, Answers, SendsPart}
 use Rattle.std.proofs.lemmas.List.{length-map}
 use Rattle.http_wire.specs.declared.fault.WireFault.{WireFault}
-use Rattle.http_wire.specs.declared.stream.End.{End}
-use Rattle.http_wire.specs.declared.stream.End.TheVariants.{Input, Cut, Fault}
-use Rattle.http_wire.specs.Messages.{WireMessage, IsUndecided, IsFault}
-use Rattle.http_wire.specs.Streams.{Begins, EndsAs}
-use Rattle.rollout_machine.specs.CommandList.{CommandList}
-use Rattle.rollout_machine.specs.Replies.{Refused}
-use Rattle.rollout_machine.specs.Standing.{DeskState}
-use Rattle.stream_server.specs.declared.served.ServeFault.{ServeFault}
 use Rattle.stream_server.specs.declared.served.ServeFault.TheVariants as serve_fault
-use Rattle.stream_server.specs.declared.served.Served.{Served}
 use Rattle.http_wire.specs.Faults.{refusal_of}
 use Rattle.http_wire.specs.Replies.{refusal_text}
-use Rattle.stream_server.specs.Interfaces.{end_text}
-use Rattle.stream_server.specs.Run.{Exchange, messages_of, texts_of, GoesOn}
-use Rattle.stream_server.specs.Headline.{AnswersEnd, Exits, IsTold}
-use Rattle.stream_server.specs.Parts.{Conduct, Answers, SendsPart}
 use Rattle.stream_server.specs.Reading.{ReadsOn, GrowsTo}
 use Rattle.stream_server.proofs.HeadlineLemmas.{AtExit, whole_exit, broken_exit}
 

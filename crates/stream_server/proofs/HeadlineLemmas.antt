@@ -1,27 +1,8 @@
 -- The headline from the parts.
 use Rattle.std.proofs.Common.{All, ◌≡◌, ◌≢◌, ℕ, ◌⊎◌, Bool, true, false, List, [], ◌∷◌, ◌++◌, Option, None, Result, Ok, Err, inl, inr, refl, sym, ap, ◌∙◌, subst, append_assoc, append-nil}
-use Rattle.rollout_model.specs.declared.refusal.Refusal.TheVariants.{StoreFailed}
-use Rattle.rollout_machine.specs.Commands.{Command}
-use Rattle.rollout_machine.specs.CommandList.{CommandList, followed_by, Make}
-use Rattle.rollout_machine.specs.Replies.{Reply, Refused}
-use Rattle.rollout_machine.specs.Requests.{one}
-use Rattle.rollout_machine.specs.Standing.{DeskState, IsInDoubt}
-use Rattle.stream_server.specs.declared.interface.Interface.{Interface}
-use Rattle.stream_server.specs.declared.served.ServeFault.{ServeFault}
+use Rattle.stream_server.proofs.Common.{StoreFailed, Command, CommandList, followed_by, Make, Reply, Refused, one, DeskState, IsInDoubt, Interface, ServeFault, Served, Exchange, accepted_in, texts_of, IsRun, AnswersEnd, CutsDownload, Exits, HoldsFirstPart, Stops, Transcript, Headline, IsRefusedAsStopped, BeginsDownload, Conduct, Whole, Broken, CutsReply, running, stopped, ByStopped, Answers, Serves, ServesStream, WireMessage, Begins, End, Input, Appends, Consumes, Appends-trans, All-nil, All-cons, reply_text, end_text}
 use Rattle.stream_server.specs.declared.served.ServeFault.TheVariants as serve_fault
-use Rattle.stream_server.specs.declared.served.Served.{Served}
-use Rattle.stream_server.specs.Run.{Exchange, accepted_in, texts_of, IsRun}
-use Rattle.stream_server.specs.Headline.{AnswersEnd, CutsDownload, Exits, HoldsFirstPart, Stops, Transcript, Headline, IsRefusedAsStopped}
-use Rattle.stream_server.specs.Parts.{BeginsDownload, Conduct, Whole, Broken, CutsReply, running, stopped, ByStopped, Answers, Serves, ServesStream}
-use Rattle.http_wire.specs.Messages.{WireMessage}
-use Rattle.http_wire.specs.Streams.{Begins}
-use Rattle.http_wire.specs.declared.stream.End.{End}
-use Rattle.http_wire.specs.declared.stream.End.TheVariants.{Input}
-use Rattle.std.specs.Io.KnownBytes.{Appends, Consumes}
-use Rattle.std.proofs.KnownBytes.{Appends-trans}
 use Rattle.std.proofs.lemmas.List.{same_from_push}
-use Rattle.std.proofs.lemmas.List.Elements.{All-nil, All-cons}
-use Rattle.stream_server.specs.Interfaces.{reply_text, end_text}
 use Rattle.stream_server.proofs.RunLemmas.{accepted_append, texts_append, led}
 
 is_store_failed : (reply : Reply) → (reply ≡ Refused StoreFailed) ⊎ (reply ≢ Refused StoreFailed)

@@ -1,3 +1,4 @@
+pub mod Common
 pub mod AskLemmas
 pub mod RouteLemmas
 pub mod RunLemmas

@@ -1,24 +1,10 @@
 -- Connections, one after the other: each leaves a desk that keeps the lists that were kept, and accepts what was asked by the interface alone.
 use Rattle.std.proofs.Common.{◌≡◌, ◌++◌, ◌∷◌, ℕ, true, List, [], Option, Some, None, Result, Ok, inl, inr, ap, subst, sym}
 use Rattle.std.specs.List.{All}
-use Rattle.std.proofs.lemmas.List.Elements.{All-append, All-cons, All-head, All-nil, All-tail}
-use Rattle.http_wire.specs.Messages.{WireMessage}
-use Rattle.rollout_model.specs.declared.refusal.Refusal.{Refusal}
-use Rattle.rollout_machine.specs.Answers.{Answer, MayAnswer, answer, command_answer}
-use Rattle.rollout_machine.specs.Commands.{Command}
-use Rattle.rollout_machine.specs.CommandList.{CommandList, followed_by}
-use Rattle.rollout_machine.specs.Replies.{Reply}
-use Rattle.rollout_machine.specs.Requests.{Ask, Asked, Asks, Do, Rejected, one}
-use Rattle.rollout_machine.specs.Standing.{DeskState, StandsFor, StaysStopped}
+use Rattle.stream_server.proofs.Common.{All-append, All-cons, All-head, All-nil, All-tail, WireMessage, Refusal, Answer, MayAnswer, command_answer, Command, CommandList, followed_by, Reply, Ask, Asked, Asks, Do, Rejected, one, DeskState, StandsFor, StaysStopped, Interface, Served, ServeFault, Headline, StoppedThroughout, reading, IsAsked, Keeps, KeepsOn, StopsAtStore, ByMachine, Exchange, IsRun, accepted_in}
+use Rattle.rollout_machine.specs.Answers.{answer}
 use Rattle.rollout_machine.specs.Verdicts.{verdict}
-use Rattle.stream_server.specs.declared.interface.Interface.{Interface}
 use Rattle.stream_server.specs.declared.listening.ListenFault.{ListenFault}
-use Rattle.stream_server.specs.declared.served.Served.{Served}
-use Rattle.stream_server.specs.declared.served.ServeFault.{ServeFault}
-use Rattle.stream_server.specs.Headline.{Headline, StoppedThroughout}
-use Rattle.stream_server.specs.Interfaces.{reading}
-use Rattle.stream_server.specs.Listening.{IsAsked, Keeps, KeepsOn, StopsAtStore}
-use Rattle.stream_server.specs.Run.{ByMachine, Exchange, IsRun, accepted_in}
 use Rattle.stream_server.proofs.RunLemmas.{followed_append}
 use Rattle.stream_server.proofs.PartLemmas.{stays, stays_on}
 

@@ -1,18 +1,9 @@
 -- One message, from what the desk answered and from how much of the reply was written.
 use Rattle.std.proofs.Common.{◌≡◌, ◌≢◌, ℕ, Bool, true, inl, List, [], ◌∷◌, Option, Some, None, refl, sym, append-nil}
-use Rattle.std.specs.Io.KnownBytes.{Appends}
-use Rattle.http_wire.specs.Messages.{WireMessage}
+use Rattle.stream_server.proofs.Common.{Appends, WireMessage, Refusal, StoreFailed, Stopped, CommandList, Reply, Refused, DeskState, StandsFor, Applies, StaysStopped, Interface, ServeFault, reading, Conduct, running, stopped, AnswersOne, Answers, GivesReply, Serves, SendsPart}
 use Rattle.http_wire.specs.Replies.{refusal_text}
-use Rattle.rollout_model.specs.declared.refusal.Refusal.{Refusal}
-use Rattle.rollout_model.specs.declared.refusal.Refusal.TheVariants.{StoreFailed, Stopped}
-use Rattle.rollout_machine.specs.CommandList.{CommandList}
-use Rattle.rollout_machine.specs.Replies.{Reply, Refused}
-use Rattle.rollout_machine.specs.Standing.{DeskState, StandsFor, Applies, StaysStopped}
-use Rattle.stream_server.specs.declared.interface.Interface.{Interface}
-use Rattle.stream_server.specs.declared.served.ServeFault.{ServeFault}
 use Rattle.stream_server.specs.declared.served.ServeFault.TheVariants as serve_fault
-use Rattle.stream_server.specs.Interfaces.{reading, reply_text}
-use Rattle.stream_server.specs.Parts.{Conduct, running, stopped, AnswersOne, Answers, GivesReply, Serves, SendsPart}
+use Rattle.stream_server.specs.Interfaces.{reply_text}
 use Rattle.stream_server.proofs.PartLemmas.{whole_one, broken_one}
 
 -- whatever was asked

@@ -1,19 +1,6 @@
 -- Parts of `serve`: one message, and parts one after the other.
 use Rattle.std.proofs.Common.{◌≡◌, ◌≢◌, ℕ, true, List, [], ◌∷◌, ◌++◌, Option, Some, None, refl, sym, ap, ◌∙◌, subst, append_assoc, append-nil}
-use Rattle.std.proofs.KnownBytes.{Appends-trans, Appends-nil}
-use Rattle.http_wire.specs.Messages.{WireMessage}
-use Rattle.http_wire.specs.Streams.{Begins}
-use Rattle.rollout_model.specs.declared.refusal.Refusal.TheVariants.{StoreFailed}
-use Rattle.rollout_machine.specs.Commands.{Command}
-use Rattle.rollout_machine.specs.CommandList.{CommandList, followed_by}
-use Rattle.rollout_machine.specs.Replies.{Reply, Refused}
-use Rattle.rollout_machine.specs.Requests.{one}
-use Rattle.rollout_machine.specs.Standing.{DeskState, StaysStopped}
-use Rattle.stream_server.specs.declared.interface.Interface.{Interface}
-use Rattle.stream_server.specs.declared.served.ServeFault.{ServeFault}
-use Rattle.stream_server.specs.Interfaces.{reply_text}
-use Rattle.stream_server.specs.Run.{Exchange, messages_of, accepted_in, texts_of, IsRun}
-use Rattle.stream_server.specs.Parts.{Conduct, running, stopped, AnswersOne, Whole, Broken, CutsReply, Comes, Answers, Serves, Takes}
+use Rattle.stream_server.proofs.Common.{Appends-trans, Appends-nil, WireMessage, Begins, StoreFailed, Command, CommandList, followed_by, Reply, Refused, one, DeskState, StaysStopped, Interface, ServeFault, reply_text, Exchange, messages_of, accepted_in, texts_of, IsRun, Conduct, running, stopped, AnswersOne, Whole, Broken, CutsReply, Comes, Answers, Serves, Takes}
 use Rattle.stream_server.proofs.RunLemmas.{messages_append, texts_append, run_append, goes_append, led}
 
 module _ (File : Type 0) (C : Conduct File) where

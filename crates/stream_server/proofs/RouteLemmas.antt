@@ -3,11 +3,10 @@ use Rattle.std.proofs.Common.{◌≡◌, ℕ, List, [], ◌∷◌, Bool, true, f
 use Rattle.std.specs.Prelude.{slice_get}
 use Rattle.std.specs.List.{list_all}
 use Rattle.std.specs.Str.{is_utf8}
-use Rattle.std.proofs.lemmas.Bool.{false≢true}
+use Rattle.stream_server.proofs.Common.{false≢true, WireMessage, manage_route, reading_by}
 use Rattle.std.proofs.lemmas.Slice.Eq.{bytes_eq-Decides}
 use Rattle.request_target.specs.Routes.{segments, is_parameter, stands_for, fits, route_in}
 use Rattle.request_target.proofs.Longest.{both}
-use Rattle.http_wire.specs.Messages.{WireMessage}
 use Rattle.http_wire.specs.Targets.{path_of}
 use Rattle.ddi_api.specs.declared.call.DeviceCall.{DeviceCall}
 use Rattle.ddi_api.specs.Reading.{device_reading}
@@ -15,8 +14,6 @@ use Rattle.ddi_api.specs.Routes.{device_table}
 use Rattle.ddi_api.specs.Table.{device_call}
 use Rattle.mgmt_api.specs.Reading.{manage_reading}
 use Rattle.mgmt_api.specs.Routes.{manage_table}
-use Rattle.mgmt_api.specs.Table.{manage_route}
-use Rattle.stream_server.specs.Interfaces.{reading_by}
 
 -- what stands behind the first slash is such a word
 abbrev opens_by : (List ℕ → Bool) → List (List ℕ) → Bool

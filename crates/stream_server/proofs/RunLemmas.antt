@@ -2,11 +2,7 @@
 use Rattle.std.proofs.Common.{◌≡◌, List, [], ◌∷◌, ◌++◌, refl, sym, ap, ◌∙◌, subst}
 use Rattle.std.proofs.lemmas.List.{map-append}
 use Rattle.std.proofs.lemmas.List.Concat.{flat_map-append}
-use Rattle.rollout_machine.specs.Commands.{Command}
-use Rattle.rollout_machine.specs.CommandList.{CommandList, ◌▸◌, followed_by}
-use Rattle.rollout_machine.specs.Requests.{one}
-use Rattle.stream_server.specs.Interfaces.{reply_text}
-use Rattle.stream_server.specs.Run.{Exchange, messages_of, accepted_in, texts_of, Answering, IsRun, GoesOn}
+use Rattle.stream_server.proofs.Common.{Command, CommandList, ◌▸◌, followed_by, one, reply_text, Exchange, messages_of, accepted_in, texts_of, Answering, IsRun, GoesOn}
 
 pub followed_append : (h : CommandList) (cs ds : List Command) → followed_by h (cs ++ ds) ≡ followed_by (followed_by h cs) ds
 followed_append h [] ds = refl

@@ -1,3 +1,4 @@
+pub mod Common
 pub mod GreedyMatching
 pub mod ScannedTrees
 pub mod Beginnings

@@ -1,10 +1,6 @@
 -- What a filter's tree says is what its text says.
 use Rattle.std.proofs.Common.{◌≡◌, ℕ, List, Bool, ◌∙◌, ap, subst}
-use Rattle.std.specs.Option.{IsSomeAnd}
-use Rattle.rollout_model.specs.declared.target.Target.{Target}
-use Rattle.target_filter.specs.Grammar.{Tree, IsFilter}
-use Rattle.target_filter.specs.Meaning.{holds}
-use Rattle.target_filter.specs.Profile.{IsProfileFilter, filter_of}
+use Rattle.target_filter.proofs.Common.{IsSomeAnd, Target, Tree, IsFilter, holds, IsProfileFilter, filter_of}
 use Rattle.target_filter.proofs.ParsedTrees.{one_tree}
 use Rattle.target_filter.proofs.Profiles.{tree_filter}
 

@@ -1,15 +1,8 @@
 -- What `filter_of` computes is the tree of a text of the profile.
 use Rattle.std.proofs.Common.{◌≡◌, ◌⊎◌, inl, inr, ℕ, ◌+◌, ◌*◌, ◌≤◌, List, [], length, Bool, true, false, cond, ◌&&◌, Option, Some, None, refl, ◌∙◌, ap, subst, arith}
 use Rattle.std.specs.Prelude.{nat_le, nat_eq}
-use Rattle.std.specs.Option.{option_and_then}
-use Rattle.std.specs.Cmp.Lexicographic.{pointwise}
-use Rattle.std.proofs.lemmas.Bool.{false≢true}
-use Rattle.std.proofs.lemmas.Bool.Decides.{nat_tests, Decides-eqb}
-use Rattle.std.proofs.lemmas.Slice.Eq.{slice_eq-Decides}
+use Rattle.target_filter.proofs.Common.{option_and_then, pointwise, false≢true, nat_tests, Decides-eqb, slice_eq-Decides, Tree, IsFilter, OrLevel, is_at, spelling, nesting, or_at, IsProfileFilter, IsInProfile, is_profile_filter, filter_of}
 use Rattle.rollout_model.specs.Limits.{filter_length_limit, filter_depth_limit}
-use Rattle.target_filter.specs.Grammar.{Tree, IsFilter, OrLevel, is_at, spelling, nesting}
-use Rattle.target_filter.specs.Descent.{or_at}
-use Rattle.target_filter.specs.Profile.{IsProfileFilter, IsInProfile, is_profile_filter, filter_of}
 use Rattle.target_filter.proofs.ScannedTrees.{both}
 use Rattle.target_filter.proofs.Beginnings.{all_of}
 use Rattle.target_filter.specs.declared.comparison.ParseFault.{ParseFault}

@@ -1,9 +1,6 @@
 -- From the scanner's answer to the reader's.
 use Rattle.std.proofs.Common.{◌≡◌, ℕ, ◌≤◌, ◌<◌, List, length, arith, ap, None}
-use Rattle.std.specs.Str.{IsUtf8}
-use Rattle.target_filter.specs.Scanner.{Stops, Ends}
-use Rattle.target_filter.specs.Grammar.{Tree, IsInGrammar, IsFilter, nesting}
-use Rattle.target_filter.specs.Profile.{IsProfileFilter, IsInProfile, filter_of}
+use Rattle.target_filter.proofs.Common.{IsUtf8, Stops, Ends, Tree, IsInGrammar, IsFilter, nesting, IsProfileFilter, IsInProfile, filter_of}
 use Rattle.target_filter.specs.Faults.{IsRefused}
 use Rattle.target_filter.specs.declared.fault.FilterFault.TheVariants.{Syntax, TooDeep, Memory}
 use Rattle.target_filter.specs.declared.fault.FilterFault.{FilterFault}

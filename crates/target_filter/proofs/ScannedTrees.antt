@@ -1,13 +1,8 @@
 -- The scanner goes through each filter.
 use Rattle.std.proofs.Common.{◌≡◌, ℕ, zero, suc, ◌+◌, ◌-◌, ◌≤◌, ◌<◌, max, List, [], ◌∷◌, ◌++◌, length, Bool, true, false, cond, ◌&&◌, ltb, leb, Option, Some, None, refl, sym, ◌∙◌, ap, arith, append_assoc, add-zero}
-use Rattle.std.specs.List.{list_all}
+use Rattle.target_filter.proofs.Common.{list_all, false≢true, nat_tests, is_bare_byte, is_quotable_byte, is_nonempty, Field, Id, Name, Tag, Attribute, Value, Bare, Quoted, Tree, Or, And, Group, Comparison, Level, OrLevel, AndLevel, AtomLevel, is_at, allows_or, allows_and, spelling, field_text, value_text, Operator, Equal, NotEqual, operator_byte, nesting, is_field, is_value, is_word_letter, Mode, State, run, next}
 use Rattle.std.specs.Prelude.{nat_le, nat_lt}
-use Rattle.std.proofs.lemmas.Bool.{false≢true}
-use Rattle.std.proofs.lemmas.Bool.Decides.{nat_tests}
-use Rattle.target_filter.specs.Grammar.{is_bare_byte, is_quotable_byte, is_nonempty, Field, Id, Name, Tag, Attribute, Value, Bare, Quoted, Tree, Or, And, Group, Comparison, Level, OrLevel, AndLevel, AtomLevel, is_at, allows_or, allows_and, spelling, field_text, value_text, Operator, Equal, NotEqual, operator_byte, nesting, is_field, is_value}
-use Rattle.rollout_model.specs.Rules.{is_word_letter}
 use Rattle.target_filter.specs.Scanner as scan
-use Rattle.target_filter.specs.Scanner.{Mode, State, run, next}
 
 pub both : (a b : Bool) → (a && b) ≡ true → (a ≡ true) × (b ≡ true)
 both true b h = (refl, h)

@@ -1,18 +1,8 @@
 -- The scanner stops at a character's beginning, and there ends the longest beginning that can go on.
 use Rattle.std.proofs.Common.{◌≡◌, ◌⊎◌, inl, inr, ℕ, zero, suc, ◌+◌, ◌-◌, ◌≤◌, ◌<◌, max, List, [], ◌∷◌, ◌++◌, length, take, drop, get_or, Bool, true, false, cond, ◌&&◌, ◌||◌, ◌==◌, not, ltb, leb, Option, Some, None, refl, sym, ◌∙◌, ap, subst, arith, append_assoc, append-nil, add-zero, length-append}
-use Rattle.std.specs.List.{list_all}
-use Rattle.std.specs.Option.{IfSome, option_and_then}
+use Rattle.target_filter.proofs.Common.{list_all, IfSome, option_and_then, IsUtf8, IsAscii, IsCharBoundary, false≢true, nat_tests, IsCharBoundary-end, IsCharBoundary-start, IsCharBoundary-before_ascii, IsCharBoundary-after_ascii, IsUtf8-nil, take-length, take_more, is_bare_byte, is_quotable_byte, Tree, IsFilter, IsInGrammar, CanContinue, IsLongestBeginning, nesting, is_word_letter, Mode, State, Move, run, next, step, state_after, mode_of_name, at_atom_start, at_operator, at_atom_end, start, accepts, Stops, Ends}
 use Rattle.std.specs.Prelude.{nat_le, nat_lt, codes}
-use Rattle.std.specs.Str.{IsUtf8, IsAscii, IsCharBoundary}
-use Rattle.std.proofs.lemmas.Bool.{false≢true}
-use Rattle.std.proofs.lemmas.Bool.Decides.{nat_tests}
-use Rattle.std.proofs.lemmas.Str.{IsCharBoundary-end, IsCharBoundary-start, IsCharBoundary-before_ascii, IsCharBoundary-after_ascii, IsUtf8-nil}
-use Rattle.std.proofs.Math.Seq.{take-length}
-use Rattle.std.proofs.lemmas.List.{take_more}
-use Rattle.target_filter.specs.Grammar.{is_bare_byte, is_quotable_byte, Tree, IsFilter, IsInGrammar, CanContinue, IsLongestBeginning, nesting}
-use Rattle.rollout_model.specs.Rules.{is_word_letter}
 use Rattle.target_filter.specs.Scanner as scan
-use Rattle.target_filter.specs.Scanner.{Mode, State, Move, run, next, step, state_after, mode_of_name, at_atom_start, at_operator, at_atom_end, start, accepts, Stops, Ends}
 use Rattle.std.proofs.lemmas.Option.{option_and_then_some}
 use Rattle.target_filter.proofs.Beginnings.{Begun}
 use Rattle.target_filter.proofs.ScannerMoves.{eq_true, by_test, accepted, Stands, run_stands, start_stands}

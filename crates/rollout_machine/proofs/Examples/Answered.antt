@@ -1,14 +1,6 @@
 -- Answers at their borders: what is shown, what is not found, pages, offers and downloads.
-use Rattle.rollout_machine.specs.Answers.{query_reply, command_reply}
-use Rattle.rollout_machine.specs.Commands.{ModuleLabel, AddModule, AddArtifact, AddSet, PutTargets, CreateRollout, Cancel, Succeeded}
-use Rattle.rollout_machine.specs.Reports.{OfDeployment}
-use Rattle.rollout_machine.specs.RecordSteps.{no_records, step_records}
-use Rattle.rollout_machine.specs.Records.{ArtifactRecord, Records}
-use Rattle.rollout_machine.specs.Replies.{Refused, ModuleAdded, ArtifactAdded, SetAdded, TargetsPut, PollShown, DeploymentShown, CancelShown, ContentsShown, TargetsShown, ActionsShown, ActionShown, HistoryShown, ModulesShown, ModuleShown, ArtifactsShown, ArtifactShown, RolloutsShown, GroupShown, ActionsTableShown, Module, Artifact, ShownTarget, ShownAction}
-use Rattle.rollout_machine.specs.Requests.{Page, Poll, ShowDeployment, ShowCancel, Download, ShowTargets, ShowTarget, ShowTargetActions, ShowAction, ShowHistory, ShowModules, ShowModule, ShowArtifacts, ShowArtifact, ShowContents, ShowRollouts, ShowGroup, ShowGroupTargets, ShowActionsTable}
-use Rattle.rollout_machine.specs.StateWords.{RunningGroup, ScheduledGroup, RunningAction, ScheduledAction, Unknown}
+use Rattle.rollout_machine.proofs.Common.{query_reply, command_reply, ModuleLabel, AddModule, AddArtifact, AddSet, PutTargets, CreateRollout, Cancel, Succeeded, OfDeployment, no_records, step_records, ArtifactRecord, Records, Refused, ModuleAdded, ArtifactAdded, SetAdded, TargetsPut, PollShown, DeploymentShown, CancelShown, ContentsShown, TargetsShown, ActionsShown, ActionShown, HistoryShown, ModulesShown, ModuleShown, ArtifactsShown, ArtifactShown, RolloutsShown, GroupShown, ActionsTableShown, Module, Artifact, ShownTarget, ShownAction, Page, Poll, ShowDeployment, ShowCancel, Download, ShowTargets, ShowTarget, ShowTargetActions, ShowAction, ShowHistory, ShowModules, ShowModule, ShowArtifacts, ShowArtifact, ShowContents, ShowRollouts, ShowGroup, ShowGroupTargets, ShowActionsTable, RunningGroup, ScheduledGroup, RunningAction, ScheduledAction, Unknown, Unauthorized, NotFound, BadFilter}
 use Rattle.rollout_machine.proofs.Examples.Fleet.{device, token, plan_for, only, everyone, fleet, set_up, rolled_out, by, succeeds, run_of}
-use Rattle.rollout_model.specs.declared.refusal.Refusal.TheVariants.{Unauthorized, NotFound, BadFilter}
 use Rattle.std.proofs.Common.{◌≡◌, ℕ, Bool, true, false, [], ◌∷◌, ◌++◌, Some, None, refl}
 use Rattle.std.specs.Prelude.{map, codes}
 

@@ -1,15 +1,7 @@
 -- A fleet of ten devices, and runs over it: what the worked examples speak of.
 use Rattle.std.specs.Prelude.{ℕ, codes, ◌+◌, replicate, Bool, true, false, ◌&&◌, List, [], ◌∷◌, ◌++◌, map, Option, None, is_none}
-use Rattle.std.specs.Option.{option_map}
+use Rattle.rollout_machine.proofs.Common.{option_map, item_numbered, CommandList, Make, followed_by, Bytes, Credential, TargetRow, RolloutPlan, Command, AddModule, AddSet, PutTargets, CreateRollout, Start, Feedback, CancelFeedback, Succeeded, Failed, RejectedCancel, offer, Offer, step_records, run_records, no_records, GroupRecord, RolloutRecord, Records, RolloutWord, rollout_word, check}
 use Rattle.rollout_model.specs.Groupings.{evenly}
-use Rattle.rollout_machine.specs.ByteStrings.{item_numbered}
-use Rattle.rollout_machine.specs.CommandList.{CommandList, Make, followed_by}
-use Rattle.rollout_machine.specs.Commands.{Bytes, Credential, TargetRow, RolloutPlan, Command, AddModule, AddSet, PutTargets, CreateRollout, Start, Feedback, CancelFeedback, Succeeded, Failed, RejectedCancel}
-use Rattle.rollout_machine.specs.Offers.{offer, Offer}
-use Rattle.rollout_machine.specs.RecordSteps.{step_records, run_records, no_records}
-use Rattle.rollout_machine.specs.Records.{GroupRecord, RolloutRecord, Records}
-use Rattle.rollout_machine.specs.StateWords.{RolloutWord, rollout_word}
-use Rattle.rollout_machine.specs.Verdicts.{check}
 
 abbrev pub device : ℕ → Bytes
 device k = 100 ∷ (96 + k) ∷ []

@@ -1,15 +1,7 @@
 -- Single definitions at their borders: targets, tags, attributes, artifacts, outcomes, cancels, notes, patterns.
-use Rattle.rollout_machine.specs.Actions.{outcome}
-use Rattle.rollout_machine.specs.CommandList.{CommandList, Make, ◌▸◌}
-use Rattle.rollout_machine.specs.Commands.{Command, PutTargets, Tag, Untag, PutAttributes, AddModule, AddArtifact, CreateRollout, Start, Pause, Cancel, Feedback, CancelFeedback, Proceeding, Rejected, Noted, NotedCancel, CanceledCancel, Bad, Gone, Succeeded}
+use Rattle.rollout_machine.proofs.Common.{outcome, CommandList, Make, ◌▸◌, Command, PutTargets, Tag, Untag, PutAttributes, AddModule, AddArtifact, CreateRollout, Start, Pause, Cancel, Feedback, CancelFeedback, Proceeding, Rejected, Noted, NotedCancel, CanceledCancel, Bad, Gone, Succeeded, members_of, step_records, Records, NotFound, Unauthorized, ClosedAction, WrongState, Quota, target_word, InError, target_in, target_ids, verdict, check}
 use Rattle.rollout_machine.specs.Digests.{digest_of}
-use Rattle.rollout_machine.specs.Rollouts.{members_of}
-use Rattle.rollout_machine.specs.RecordSteps.{step_records}
-use Rattle.rollout_machine.specs.Records.{records, Records}
-use Rattle.rollout_model.specs.declared.refusal.Refusal.TheVariants.{NotFound, Unauthorized, ClosedAction, WrongState, Quota}
-use Rattle.rollout_machine.specs.StateWords.{target_word, InError}
-use Rattle.rollout_machine.specs.Targets.{target_in, target_ids}
-use Rattle.rollout_machine.specs.Verdicts.{verdict, check}
+use Rattle.rollout_machine.specs.Records.{records}
 use Rattle.rollout_machine.proofs.TargetTies.{same_refl}
 use Rattle.std.proofs.Common.{◌≡◌, true, false, [], ◌∷◌, ◌++◌, Some, None, refl}
 use Rattle.std.specs.Prelude.{replicate, codes}

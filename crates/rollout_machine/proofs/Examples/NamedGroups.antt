@@ -2,12 +2,8 @@
 use Rattle.std.proofs.Common.{◌≡◌, ℕ, true, false, List, [], ◌∷◌, ◌++◌, Some, None, refl}
 use Rattle.std.specs.Prelude.{map, replicate}
 use Rattle.rollout_model.specs.Groupings.{defined}
-use Rattle.rollout_model.specs.declared.refusal.Refusal.TheVariants.{TooFewTargets}
-use Rattle.rollout_machine.specs.Commands.{Bytes, Command, CreateRollout, RolloutPlan, Start}
+use Rattle.rollout_machine.proofs.Common.{TooFewTargets, Bytes, Command, CreateRollout, RolloutPlan, Start, GroupDefinition, cut_by, leaves_empty, PausedRollout, RunningRollout, check}
 use Rattle.rollout_machine.specs.GroupRules.{rules_of}
-use Rattle.rollout_machine.specs.Groupings.{GroupDefinition, cut_by, leaves_empty}
-use Rattle.rollout_machine.specs.StateWords.{PausedRollout, RunningRollout}
-use Rattle.rollout_machine.specs.Verdicts.{check}
 use Rattle.rollout_machine.proofs.Examples.Fleet.{everyone, fails, only, plan_for, run_of, set_up, shown, succeeds}
 
 abbrev definition : ℕ → ℕ → ℕ → GroupDefinition

@@ -1,14 +1,8 @@
 -- Feedback that bears numbers: what is sent again, what is overtaken, and what both leave.
 use Rattle.std.specs.Prelude.{◌≡◌, ℕ, List, [], ◌∷◌, ◌++◌, None, Option, Some, false, true, map}
 use Rattle.std.proofs.Common.{refl}
-use Rattle.std.specs.Option.{option_map}
-use Rattle.rollout_machine.specs.ByteStrings.{item_numbered}
-use Rattle.rollout_machine.specs.Commands.{Bytes, CancelFeedback, Cancel, Command, DeploymentWord, Feedback, Failed, Noted, Proceeding, RejectedCancel, Succeeded}
-use Rattle.rollout_machine.specs.Records.{ActionRecord, Records}
-use Rattle.rollout_machine.specs.Reports.{Reported}
-use Rattle.rollout_machine.specs.Verdicts.{check}
+use Rattle.rollout_machine.proofs.Common.{option_map, item_numbered, Bytes, CancelFeedback, Cancel, Command, DeploymentWord, Feedback, Failed, Noted, Proceeding, RejectedCancel, Succeeded, ActionRecord, Records, Reported, check, ClosedAction, OldNumber, Unauthorized, NotFound}
 use Rattle.rollout_machine.proofs.Examples.Fleet.{by, device, everyone, offered, rolled_out, run_of}
-use Rattle.rollout_model.specs.declared.refusal.Refusal.TheVariants.{ClosedAction, OldNumber, Unauthorized, NotFound}
 
 abbrev says : ℕ → ℕ → DeploymentWord → List Bytes → ℕ → Command
 says k a word details n = Feedback (record { credential = by k; action = a; word = word; details = details; number = Some n })

@@ -1,9 +1,6 @@
 -- The rules of a command's parts at their borders.
 use Rattle.rollout_model.specs.Rules.{are_details}
-use Rattle.rollout_machine.specs.CommandRules.{is_well_formed}
-use Rattle.rollout_machine.specs.Commands.{PutTargets, Command, Bytes, PutAttributes, CreateRollout, AddSet}
-use Rattle.rollout_machine.specs.Ranges.{each_from}
-use Rattle.rollout_machine.specs.Records.{modules}
+use Rattle.rollout_machine.proofs.Common.{is_well_formed, PutTargets, Command, Bytes, PutAttributes, CreateRollout, AddSet, each_from, modules}
 use Rattle.std.proofs.Common.{◌≡◌, ◌+◌, ℕ, true, false, List, [], ◌∷◌, ◌++◌, refl}
 use Rattle.std.specs.Prelude.{map, replicate, codes}
 use Rattle.std.specs.Str.{is_utf8, chars}

@@ -1,12 +1,8 @@
 use Rattle.std.specs.Prelude.{map}
 use Rattle.rollout_machine.proofs.Examples.Fleet.{fleet, run_of, only}
 use Rattle.std.proofs.Common.{◌≡◌, ℕ, List, [], ◌∷◌, ◌++◌, Some, None, true, false, refl}
-use Rattle.rollout_machine.specs.CommandList.{◌▸◌}
-use Rattle.rollout_machine.specs.Commands.{Cancel, Command, PutTargets, CreateRollout, Start, Pause, Resume, TriggerNext, PutAttributes, Tag}
-use Rattle.rollout_machine.specs.RecordSteps.{step_records}
+use Rattle.rollout_machine.proofs.Common.{◌▸◌, Cancel, Command, PutTargets, CreateRollout, Start, Pause, Resume, TriggerNext, PutAttributes, Tag, step_records, without_repeats, RunningRollout, PausedRollout}
 use Rattle.rollout_machine.specs.Records.{records}
-use Rattle.rollout_machine.specs.Repeats.{without_repeats}
-use Rattle.rollout_machine.specs.StateWords.{RunningRollout, PausedRollout}
 use Rattle.rollout_machine.proofs.Examples.Fleet.{device, row_for, plan_for, everyone, set_up, rolled_out, by, succeeds, fails, history_of, shown, offered}
 
 abbrev R : ℕ → ℕ → ℕ → List Command

@@ -1,19 +1,8 @@
 -- Small rollouts worked by hand: how members are cut, too few of them, the words of groups, and feedback.
 use Rattle.std.proofs.Common.{◌≡◌, ℕ, List, [], ◌∷◌, ◌++◌, Option, Some, None, refl}
-use Rattle.std.specs.Option.{option_map}
+use Rattle.rollout_machine.proofs.Common.{option_map, query_reply, item_numbered, Bytes, Command, CreateRollout, Pause, Resume, cut, RolloutRecord, ShownGroup, ReportShown, ShowReport, RolloutWord, FinishedRollout, PausedRollout, RunningRollout, GroupWord, FinishedGroup, RunningGroup, ScheduledGroup, rollout_word, group_word, check, Bounds, TooFewTargets}
 use Rattle.std.specs.Prelude.{map, codes}
-use Rattle.rollout_machine.specs.Answers.{query_reply}
-use Rattle.rollout_machine.specs.ByteStrings.{item_numbered}
-use Rattle.rollout_machine.specs.Commands.{Bytes, Command, CreateRollout, Pause, Resume}
-use Rattle.rollout_machine.specs.Groups.{cut}
-use Rattle.rollout_machine.specs.Records.{RolloutRecord}
-use Rattle.rollout_machine.specs.Replies.{ShownGroup, ReportShown}
-use Rattle.rollout_machine.specs.Requests.{ShowReport}
-use Rattle.rollout_machine.specs.StateWords.{RolloutWord, FinishedRollout, PausedRollout, RunningRollout, GroupWord, FinishedGroup, RunningGroup, ScheduledGroup, rollout_word, group_word}
-use Rattle.rollout_machine.specs.Verdicts.{check}
-use Rattle.rollout_machine.specs.declared.bounds.Bounds.{Bounds}
 use Rattle.rollout_machine.proofs.Examples.Fleet.{plan_for, everyone, only, set_up, rolled_out, succeeds, fails, run_of}
-use Rattle.rollout_model.specs.declared.refusal.Refusal.TheVariants.{TooFewTargets}
 
 abbrev three_groups : List Command
 three_groups = rolled_out everyone 3 50 100

@@ -1,13 +1,6 @@
 -- Each test of each row of the table of verdicts at its border, and the order of the tests.
-use Rattle.rollout_machine.specs.Commands.{Bytes, ModuleLabel, Upload, SetLabel, Command, AddModule, AddArtifact, AddSet, PutTargets, Tag, Untag, PutAttributes, CreateRollout, Approve, Deny, Start, Pause, Resume, TriggerNext, Cancel}
-use Rattle.rollout_machine.specs.Ranges.{each_from}
-use Rattle.rollout_machine.specs.RecordSteps.{no_records, step_records, run_records}
-use Rattle.rollout_machine.specs.Records.{ArtifactRecord, Records, RolloutRecord, GroupRecord, Given, Waiting, Denied}
+use Rattle.rollout_machine.proofs.Common.{Bytes, ModuleLabel, Upload, SetLabel, Command, AddModule, AddArtifact, AddSet, PutTargets, Tag, Untag, PutAttributes, CreateRollout, Approve, Deny, Start, Pause, Resume, TriggerNext, Cancel, each_from, no_records, step_records, run_records, ArtifactRecord, Records, RolloutRecord, GroupRecord, Given, Waiting, Denied, Refusal, Unauthorized, NotFound, Exists, Locked, WrongState, ClosedAction, Quota, BadFilter, TooFewTargets, WrongDigest, rollout_word, group_word, FinishedRollout, PausedRollout, ApprovalDenied, WaitingForApproval, ReadyGroup, FinishedGroup, ErrorGroup, RunningGroup, target_word, Unknown, Pending, check}
 use Rattle.rollout_model.specs.Refusals.{refusal_row}
-use Rattle.rollout_model.specs.declared.refusal.Refusal.{Refusal}
-use Rattle.rollout_model.specs.declared.refusal.Refusal.TheVariants.{Unauthorized, NotFound, Exists, Locked, WrongState, ClosedAction, Quota, BadFilter, TooFewTargets, WrongDigest}
-use Rattle.rollout_machine.specs.StateWords.{rollout_word, group_word, FinishedRollout, PausedRollout, ApprovalDenied, WaitingForApproval, ReadyGroup, FinishedGroup, ErrorGroup, RunningGroup, target_word, Unknown, Pending}
-use Rattle.rollout_machine.specs.Verdicts.{check}
 use Rattle.std.proofs.Common.{◌≡◌, ℕ, ◌/◌, ◌%◌, Bool, true, false, List, [], ◌∷◌, ◌++◌, Option, Some, None, refl}
 use Rattle.sha2.specs.Sha256.{sha256, digest_bytes}
 use Rattle.std.specs.Prelude.{map, replicate}

@@ -1,9 +1,7 @@
 -- The same examples, computed over the history: nothing is stored.
 use Rattle.std.proofs.Common.{◌≡◌, ℕ, true, false, List, [], ◌∷◌, ◌++◌, Some, refl}
-use Rattle.rollout_machine.specs.Commands.{Command, Pause, Resume, TriggerNext, Cancel, CreateRollout, Start}
+use Rattle.rollout_machine.proofs.Common.{Command, Pause, Resume, TriggerNext, Cancel, CreateRollout, Start, FinishedRollout, RunningRollout, IsValid}
 use Rattle.rollout_machine.specs.Records.{records}
-use Rattle.rollout_machine.specs.StateWords.{FinishedRollout, RunningRollout}
-use Rattle.rollout_machine.specs.Validity.{IsValid}
 use Rattle.std.specs.Str.{is_utf8, chars}
 use lib.Utf8.{encode}
 use Rattle.rollout_machine.proofs.Examples.Fleet.{rolled_out, everyone, only, device, plan_for, succeeds, fails, rejects, history_of, shown, offered}

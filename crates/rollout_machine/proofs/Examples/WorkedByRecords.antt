@@ -1,10 +1,6 @@
 -- Worked examples, computed over the records.
 use Rattle.std.proofs.Common.{◌≡◌, ℕ, true, false, List, [], ◌∷◌, ◌++◌, Some, None, refl}
-use Rattle.rollout_machine.specs.Commands.{Command, Pause, Resume, Cancel, CreateRollout, Start}
-use Rattle.rollout_machine.specs.RecordSteps.{no_records}
-use Rattle.rollout_model.specs.declared.refusal.Refusal.TheVariants.{ClosedAction, WrongState}
-use Rattle.rollout_machine.specs.StateWords.{FinishedRollout, PausedRollout, RunningRollout}
-use Rattle.rollout_machine.specs.Verdicts.{check}
+use Rattle.rollout_machine.proofs.Common.{Command, Pause, Resume, Cancel, CreateRollout, Start, no_records, ClosedAction, WrongState, FinishedRollout, PausedRollout, RunningRollout, check}
 use Rattle.rollout_machine.proofs.Examples.Fleet.{rolled_out, everyone, only, device, plan_for, succeeds, fails, rejects, run_of, all_accepted, shown, offered}
 
 abbrev R : ℕ → ℕ → ℕ → List Command

@@ -1,6 +1,5 @@
 use Rattle.std.proofs.Common.{◌≡◌, ◌+◌, drop}
-use Rattle.rollout_machine.specs.Groupings.{percentages}
-use Rattle.rollout_machine.specs.Splits.{first_empty, first_empty_from}
+use Rattle.campaign_core.proofs.Common.{percentages, first_empty, first_empty_from}
 use Rattle.campaign_core.proofs.groupings.runs_out.Given as goal
 
 -- none of the groups so far is empty

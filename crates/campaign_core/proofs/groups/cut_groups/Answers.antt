@@ -1,6 +1,5 @@
 use Rattle.std.proofs.Common.{◌≡◌, ◌+◌, ◌++◌, ◌∷◌, [], sym, ◌∙◌, ap, arith}
-use Rattle.rollout_machine.specs.Groups.{bounds_of}
-use Rattle.rollout_machine.proofs.Lists.{each_from_more}
+use Rattle.campaign_core.proofs.Common.{bounds_of, each_from_more}
 use Rattle.campaign_core.proofs.groups.cut_groups.Goals as goal
 
 pub loop-i-preserved : goal.loop-i-preserved

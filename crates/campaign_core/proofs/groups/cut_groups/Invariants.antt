@@ -1,6 +1,5 @@
 use Rattle.std.proofs.Common.{◌≡◌}
-use Rattle.rollout_machine.specs.Groups.{bounds_of}
-use Rattle.rollout_machine.specs.Ranges.{each_from}
+use Rattle.campaign_core.proofs.Common.{bounds_of, each_from}
 use Rattle.campaign_core.proofs.groups.cut_groups.Given as goal
 
 -- the groups so far

@@ -1,8 +1,5 @@
 use Rattle.std.proofs.Common.{◌≡◌, ◌<◌, ◌+◌, ◌++◌, ◌∷◌, [], Some, slice_get, refl, sym, ap, ◌∙◌, arith}
-use Rattle.std.proofs.lemmas.Option.{slice_get_read}
-use Rattle.rollout_machine.specs.Splits.{split_bounds_of, split_last}
-use Rattle.rollout_machine.proofs.Lists.{each_from_more}
-use Rattle.rollout_machine.proofs.Splits.{bounds_from, none_here, one_further, one_more_bounds}
+use Rattle.campaign_core.proofs.Common.{slice_get_read, split_bounds_of, split_last, each_from_more, bounds_from, none_here, one_further, one_more_bounds}
 use Rattle.campaign_core.proofs.splits.split_groups.Goals as goal
 
 pub loop-percentage-preserved : goal.loop-percentage-preserved

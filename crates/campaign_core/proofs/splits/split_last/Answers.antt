@@ -1,6 +1,5 @@
 use Rattle.std.proofs.Common.{◌≡◌, Some, slice_get, refl, arith}
-use Rattle.std.proofs.lemmas.Option.{slice_get_read}
-use Rattle.rollout_machine.proofs.Splits.{one_further}
+use Rattle.campaign_core.proofs.Common.{slice_get_read, one_further}
 use Rattle.campaign_core.proofs.splits.split_last.Goals as goal
 
 pub loop-i-preserved : goal.loop-i-preserved

@@ -1,5 +1,5 @@
 use Rattle.std.proofs.Common.{◌≡◌}
-use Rattle.rollout_machine.specs.Splits.{split_last}
+use Rattle.campaign_core.proofs.Common.{split_last}
 use Rattle.campaign_core.proofs.splits.split_last.Given as goal
 
 -- the last position of the group so far

@@ -1,7 +1,5 @@
 use Rattle.std.proofs.Common.{◌≡◌, ◌++◌, List, Some}
-use Rattle.serde_json.specs.View.{members_view}
-use Rattle.serde_json.proofs.Views.{Entry}
-use Rattle.ddi_api.specs.ConfigBodies.{attributes_in}
+use Rattle.ddi_api.proofs.Common.{members_view, Entry, attributes_in}
 use Rattle.ddi_api.proofs.config_body.read_attributes.Given as goal
 
 -- those before were read

@@ -1,7 +1,6 @@
 use Rattle.std.proofs.Common.{arith}
-use Rattle.serde_json.specs.View.{view}
+use Rattle.ddi_api.proofs.Common.{view, detail_in}
 use Rattle.mgmt_objects.proofs.TraverseLemmas.{traverse_more, traverse_refuses}
-use Rattle.ddi_api.specs.FeedbackBodies.{detail_in}
 use Rattle.ddi_api.proofs.feedback_body.read_all.Goals as goal
 
 pub returns-in-Err : goal.returns-in-Err

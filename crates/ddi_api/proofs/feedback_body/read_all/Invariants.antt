@@ -1,7 +1,5 @@
 use Rattle.std.proofs.Common.{◌≡◌, Some, map, take}
-use Rattle.serde_json.specs.View.{view}
-use Rattle.mgmt_objects.specs.Traverse.{traverse}
-use Rattle.ddi_api.specs.FeedbackBodies.{detail_in}
+use Rattle.ddi_api.proofs.Common.{view, traverse, detail_in}
 use Rattle.ddi_api.proofs.feedback_body.read_all.Given as goal
 
 abbrev pub invariant-loop-value : goal.invariant-loop-value

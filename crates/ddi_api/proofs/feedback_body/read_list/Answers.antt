@@ -1,6 +1,5 @@
-use Rattle.serde_json.specs.View.{view}
+use Rattle.ddi_api.proofs.Common.{view, detail_in}
 use Rattle.mgmt_objects.proofs.TraverseLemmas.{array_listed}
-use Rattle.ddi_api.specs.FeedbackBodies.{detail_in}
 use Rattle.ddi_api.proofs.feedback_body.read_list.Goals as goal
 
 pub returns-in-Some : goal.returns-in-Some

@@ -1,6 +1,5 @@
 use Rattle.std.proofs.Common.{◌≡◌, map, take}
-use Rattle.serde_json.specs.View.{view}
-use Rattle.ddi_api.specs.Objects.{artifact_data}
+use Rattle.ddi_api.proofs.Common.{view, artifact_data}
 use Rattle.ddi_api.proofs.object.artifact_values.Given as goal
 
 abbrev pub invariant-loop-artifact : goal.invariant-loop-artifact

@@ -1,6 +1,5 @@
 use Rattle.std.proofs.Common.{◌≡◌, map, take}
-use Rattle.serde_json.specs.View.{view}
-use Rattle.ddi_api.specs.Objects.{shown_chunk}
+use Rattle.ddi_api.proofs.Common.{view, shown_chunk}
 use Rattle.ddi_api.proofs.object.chunk_values.Given as goal
 
 abbrev pub invariant-loop-chunk : goal.invariant-loop-chunk

@@ -1,5 +1,4 @@
-use Rattle.std.proofs.lemmas.Result.{IfOk-weaker}
-use Rattle.rollout_machine.specs.Views.{deployment}
+use Rattle.ddi_api.proofs.Common.{IfOk-weaker, deployment}
 use Rattle.ddi_api.proofs.ObjectLemmas.{deployment_has_no_float}
 use Rattle.ddi_api.proofs.object.deployment_text.Goals as goal
 

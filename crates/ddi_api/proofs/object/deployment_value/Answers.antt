@@ -1,8 +1,5 @@
 use Rattle.std.proofs.Common.{◌≡◌, map, ap, ◌∙◌}
-use Rattle.std.proofs.lemmas.Result.{IfOk-weaker}
-use Rattle.serde_json.specs.View.{view}
-use Rattle.rollout_machine.specs.Views.{chunk}
-use Rattle.ddi_api.specs.Objects.{chunk_data, deployment_object}
+use Rattle.ddi_api.proofs.Common.{IfOk-weaker, view, chunk, chunk_data, deployment_object}
 use Rattle.ddi_api.proofs.ObjectLemmas.{map-shown_chunk}
 use Rattle.ddi_api.proofs.object.deployment_value.Goals as goal
 

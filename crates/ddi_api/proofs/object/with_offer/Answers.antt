@@ -1,6 +1,5 @@
 use Rattle.std.proofs.Common.{rules, ◌≡◌, ℕ, List, [], ◌++◌, codes, ◌∙◌, append-nil, append_assoc}
-use Rattle.json.specs.Print.{quoted}
-use Rattle.ddi_api.specs.Objects.{action_path, offer_kind}
+use Rattle.ddi_api.proofs.Common.{quoted, action_path, offer_kind}
 use Rattle.ddi_api.proofs.object.with_offer.Goals as goal
 
 regroup : (old a b c d e : List ℕ) → old ++ a ++ b ++ c ++ d ++ e ≡ old ++ (a ++ (b ++ (c ++ (d ++ (e ++ [])))))

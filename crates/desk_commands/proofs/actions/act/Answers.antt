@@ -1,4 +1,4 @@
-use Rattle.sql_calls.proofs.Composing.{makes_three}
+use Rattle.desk_commands.proofs.Common.{makes_three}
 use Rattle.desk_commands.proofs.TellingLemmas.{acting_parts}
 use Rattle.desk_commands.proofs.actions.act.Goals as goal
 

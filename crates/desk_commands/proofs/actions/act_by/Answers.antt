@@ -1,4 +1,4 @@
-use Rattle.sql_calls.proofs.Composing.{makes_as}
+use Rattle.desk_commands.proofs.Common.{makes_as}
 use Rattle.desk_commands.proofs.TellingLemmas.{acts_after}
 use Rattle.desk_commands.proofs.actions.act_by.Goals as goal
 

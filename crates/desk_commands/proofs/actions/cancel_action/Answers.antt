@@ -1,8 +1,6 @@
-use Rattle.desk_store.proofs.LedgersOfRecords.{ledger_made}
+use Rattle.desk_commands.proofs.Common.{ledger_made, records_are_sound, records}
 use Rattle.desk_commands.proofs.ComposeLemmas.{accepted_at, refused_at}
 use Rattle.std.proofs.Common.{refl}
-use Rattle.campaign_core.proofs.SoundLemmas.{records_are_sound}
-use Rattle.rollout_machine.specs.Records.{records}
 use Rattle.desk_commands.proofs.ActingSteps.{cancel_accepted, cancel_acts}
 use Rattle.desk_commands.proofs.KnownActions.{cancel_viewed}
 use Rattle.desk_commands.proofs.actions.cancel_action.Goals as goal

@@ -1,4 +1,4 @@
-use Rattle.sql_calls.proofs.Composing.{makes_as, makes_nothing}
+use Rattle.desk_commands.proofs.Common.{makes_as, makes_nothing}
 use Rattle.std.proofs.Common.{sym, ◌∙◌}
 use Rattle.desk_commands.proofs.TellingLemmas.{offered_anew, offered_still}
 use Rattle.desk_commands.proofs.actions.offer_next.Goals as goal

@@ -1,16 +1,9 @@
-use Rattle.desk_store.proofs.LedgersOfRecords.{ledger_made}
+use Rattle.desk_commands.proofs.Common.{ledger_made, records_are_sound, CancelFeedback, records, OfCancel, reported, canceling_after, does_act, feedback_view_seen}
 use Rattle.desk_commands.proofs.ComposeLemmas.{accepted_at, refused_at}
 use Rattle.std.proofs.Common.{refl}
-use Rattle.campaign_core.proofs.SoundLemmas.{records_are_sound}
 use Rattle.rollout_machine.specs.Actions.{outcome_of_cancel}
-use Rattle.rollout_machine.specs.Commands.{CancelFeedback}
-use Rattle.rollout_machine.specs.Records.{records}
-use Rattle.rollout_machine.specs.Reports.{OfCancel, reported}
 use Rattle.campaign_core.specs.declared.rollout_checks.RolloutChange.TheVariants as change
 use Rattle.campaign_core.specs.declared.rollout_checks.RolloutCommandView.TheVariants as view
-use Rattle.campaign_core.specs.RolloutChecks.{canceling_after}
-use Rattle.desk_commands.specs.ActionSteps.{does_act}
-use Rattle.desk_commands.specs.SeenActions.{feedback_view_seen}
 use Rattle.desk_commands.proofs.ActingSteps.{acts_on_fresh, feedback_taken}
 use Rattle.desk_commands.proofs.KnownActions.{feedback_viewed}
 use Rattle.desk_commands.proofs.WorkLemmas.{taken_within}

@@ -1,4 +1,4 @@
-use Rattle.sql_calls.proofs.Composing.{makes_as}
+use Rattle.desk_commands.proofs.Common.{makes_as}
 use Rattle.std.proofs.Common.{refl}
 use Rattle.desk_commands.proofs.actions.write_feedback.Goals as goal
 

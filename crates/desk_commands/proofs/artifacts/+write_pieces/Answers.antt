@@ -1,6 +1,5 @@
-use Rattle.sql_calls.proofs.Composing.{makes_nothing, makes_then}
+use Rattle.desk_commands.proofs.Common.{makes_nothing, makes_then, nat_tests}
 use Rattle.std.proofs.Common.{◌≡◌, ◌≤◌, length, arith}
-use Rattle.std.proofs.lemmas.Bool.Decides.{nat_tests}
 use Rattle.desk_commands.proofs.ArtifactLemmas.{adds_first_piece, adds_no_bytes}
 use Rattle.desk_commands.proofs.artifacts.+write_pieces.Goals as goal
 

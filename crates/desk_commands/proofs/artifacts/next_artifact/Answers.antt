@@ -1,7 +1,5 @@
-use Rattle.sql_calls.proofs.Composing.{both_found, finds_as}
+use Rattle.desk_commands.proofs.Common.{both_found, finds_as, wrong_digest, Artifact}
 use Rattle.std.proofs.Common.{◌≡◌, true, false, ◌∙◌, sym, ap}
-use Rattle.rollout_machine.specs.Verdicts.{wrong_digest}
-use Rattle.rollout_model.specs.declared.artifact.Artifact.{Artifact}
 use Rattle.desk_commands.proofs.ArtifactLemmas.{refused_first, is_quota, is_wrong, is_accepted}
 use Rattle.desk_commands.proofs.artifacts.next_artifact.Goals as goal
 

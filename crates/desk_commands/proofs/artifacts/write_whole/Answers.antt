@@ -1,4 +1,4 @@
-use Rattle.sql_calls.proofs.Composing.{makes_then}
+use Rattle.desk_commands.proofs.Common.{makes_then}
 use Rattle.desk_commands.proofs.ArtifactLemmas.{adds_parts}
 use Rattle.desk_commands.proofs.artifacts.write_whole.Goals as goal
 

@@ -1,6 +1,5 @@
 use Rattle.std.proofs.Common.{◌≡◌, ◌≤◌, ◌+◌, true, length, take}
-use Rattle.desk_records.specs.Targets.{in_byte_order, keys_of}
-use Rattle.desk_commands.specs.Attributes.{keys_after}
+use Rattle.desk_commands.proofs.Common.{in_byte_order, keys_of, keys_after}
 use Rattle.desk_commands.proofs.attributes.count_new.Given as goal
 
 -- of the attributes before this index so many have a new key

@@ -1,6 +1,5 @@
-use Rattle.sql_calls.proofs.Composing.{makes_as, makes_nothing}
+use Rattle.desk_commands.proofs.Common.{makes_as, makes_nothing, GivesAttribute}
 use Rattle.desk_commands.proofs.ComposeLemmas.{in_order}
-use Rattle.desk_commands.specs.Attributes.{GivesAttribute}
 use Rattle.desk_commands.proofs.AttributeLemmas.{adds_one, keeps_one, sets_one}
 use Rattle.desk_commands.proofs.attributes.give_attribute.Goals as goal
 

@@ -1,6 +1,5 @@
-use Rattle.sql_calls.proofs.Composing.{makes_nothing, makes_then}
+use Rattle.desk_commands.proofs.Common.{makes_nothing, makes_then, GivesAttributes}
 use Rattle.std.proofs.Common.{take, subst, rules}
-use Rattle.desk_commands.specs.Attributes.{GivesAttributes}
 use Rattle.desk_commands.proofs.AttributeLemmas.{more_attributes, no_attributes}
 use Rattle.desk_commands.proofs.PutLemmas.{one_more}
 use Rattle.desk_commands.proofs.attributes.give_attributes.Goals as goal

@@ -1,7 +1,5 @@
 use Rattle.std.proofs.Common.{Ok, take}
-use Rattle.sql_calls.specs.declared.fault.Fault.{Fault}
-use Rattle.desk_store.specs.Changing.{MakesIn, StaysIn}
-use Rattle.desk_commands.specs.Attributes.{GivesAttributes}
+use Rattle.desk_commands.proofs.Common.{Fault, MakesIn, StaysIn, GivesAttributes}
 use Rattle.desk_commands.proofs.attributes.give_attributes.Given as goal
 
 -- the attributes before this index are given

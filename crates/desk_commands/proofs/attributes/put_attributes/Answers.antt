@@ -1,4 +1,4 @@
-use Rattle.sql_calls.proofs.Composing.{both_found, found_held}
+use Rattle.desk_commands.proofs.Common.{both_found, found_held}
 use Rattle.desk_commands.proofs.ComposeLemmas.{accepted, refused}
 use Rattle.std.proofs.Common.{◌≤◌, ◌<◌, ◌+◌, length, refl, ap, arith}
 use Rattle.desk_commands.proofs.AttributeLemmas.{gives_all, not_too_many, too_many, unauthorized}

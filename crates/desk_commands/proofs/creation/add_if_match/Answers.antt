@@ -1,4 +1,4 @@
-use Rattle.sql_calls.proofs.Composing.{finds_as}
+use Rattle.desk_commands.proofs.Common.{finds_as}
 use Rattle.std.proofs.Common.{ap, ◌∙◌}
 use Rattle.std.specs.Result.{is_ok}
 use Rattle.desk_commands.proofs.CreationLemmas.{id_added, id_left}

@@ -1,4 +1,4 @@
-use Rattle.sql_calls.proofs.Composing.{both_found, finds_as, found_held}
+use Rattle.desk_commands.proofs.Common.{both_found, finds_as, found_held}
 use Rattle.desk_commands.proofs.CreationLemmas.{all_chosen}
 use Rattle.desk_commands.proofs.creation.all_matching.Goals as goal
 

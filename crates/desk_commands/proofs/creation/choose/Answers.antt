@@ -1,6 +1,5 @@
-use Rattle.sql_calls.proofs.Composing.{finds_as}
+use Rattle.desk_commands.proofs.Common.{finds_as, filter_of}
 use Rattle.std.proofs.Common.{refl, sym, ap, ◌∙◌}
-use Rattle.target_filter.specs.Profile.{filter_of}
 use Rattle.desk_commands.proofs.CreationLemmas.{by_filter}
 use Rattle.desk_commands.proofs.creation.choose.Goals as goal
 

@@ -1,5 +1,4 @@
-use Rattle.sql_calls.proofs.Composing.{both_found}
-use Rattle.desk_store.proofs.LedgersOfRecords.{ledger_made}
+use Rattle.desk_commands.proofs.Common.{both_found, ledger_made}
 use Rattle.desk_commands.proofs.ComposeLemmas.{accepted_at, refused}
 use Rattle.std.proofs.Common.{ap, ◌∙◌, length}
 use Rattle.desk_commands.proofs.CreationLemmas.{creates, judged, ready, shown_added}

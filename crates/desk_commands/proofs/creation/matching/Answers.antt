@@ -1,8 +1,6 @@
-use Rattle.sql_calls.proofs.Composing.{both_found, finds_as}
+use Rattle.desk_commands.proofs.Common.{both_found, finds_as, target_listed, ids_matching}
 use Rattle.std.proofs.Common.{map, ap, ◌∙◌, rules}
-use Rattle.desk_reads.specs.Targets.{target_listed}
 use Rattle.desk_reads.proofs.ListedTargets.{all_given}
-use Rattle.desk_commands.specs.Creations.{ids_matching}
 use Rattle.desk_commands.proofs.CreationLemmas.{one_more_matched}
 use Rattle.desk_commands.proofs.creation.matching.Goals as goal
 

@@ -1,10 +1,5 @@
 use Rattle.std.proofs.Common.{◌≡◌, Some, Ok, map}
-use Rattle.sql_calls.specs.declared.fault.Fault.{Fault}
-use Rattle.target_filter.specs.Grammar.{Tree}
-use Rattle.target_filter.specs.Profile.{filter_of}
-use Rattle.desk_store.specs.Changing.{FindsIn, StaysIn}
-use Rattle.desk_reads.specs.Targets.{target_listed}
-use Rattle.desk_commands.specs.Creations.{ids_matching}
+use Rattle.desk_commands.proofs.Common.{Fault, Tree, filter_of, FindsIn, StaysIn, target_listed, ids_matching}
 use Rattle.desk_commands.proofs.creation.matching.Given as goal
 
 -- the members so far are those that match of the ones that were gone through

@@ -1,5 +1,4 @@
-use Rattle.sql_calls.proofs.Composing.{both_found, finds_as}
-use Rattle.desk_store.proofs.LedgersOfRecords.{ledger_found}
+use Rattle.desk_commands.proofs.Common.{both_found, finds_as, ledger_found}
 use Rattle.std.proofs.Common.{◌∙◌, subst, ◌≤◌, ap}
 use Rattle.std.specs.Prelude.{length, nat_lt}
 use Rattle.desk_commands.proofs.CreationLemmas.{set_missing}

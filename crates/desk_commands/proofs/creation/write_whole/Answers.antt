@@ -1,6 +1,5 @@
-use Rattle.sql_calls.proofs.Composing.{makes_as, makes_then}
+use Rattle.desk_commands.proofs.Common.{makes_as, makes_then, CreatesRollout, first_rules, in_part}
 use Rattle.std.proofs.Common.{◌≡◌, ◌<◌, [], arith, length, subst, sym, rules, ◌∙◌}
-use Rattle.desk_commands.specs.Creations.{CreatesRollout, first_rules, in_part}
 use Rattle.desk_commands.proofs.CreationLemmas.{begins, one_group, one_member, one_rule, within}
 use Rattle.desk_commands.proofs.creation.write_whole.Goals as goal
 

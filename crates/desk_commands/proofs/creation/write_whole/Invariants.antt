@@ -1,8 +1,5 @@
 use Rattle.std.proofs.Common.{[], Ok, take, length}
-use Rattle.sql_calls.specs.declared.fault.Fault.{Fault}
-use Rattle.desk_store.specs.Changing.{MakesLedger, StaysIn}
-use Rattle.rollout_machine.specs.GroupRules.{rules_of}
-use Rattle.desk_commands.specs.Creations.{CreatesRollout, first_rules, in_part}
+use Rattle.desk_commands.proofs.Common.{Fault, MakesLedger, StaysIn, rules_of, CreatesRollout, first_rules, in_part}
 use Rattle.desk_commands.proofs.creation.write_whole.Given as goal
 
 -- so many groups are written, with what is said of them

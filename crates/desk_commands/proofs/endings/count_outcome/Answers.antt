@@ -1,4 +1,4 @@
-use Rattle.sql_calls.proofs.Composing.{makes_as}
+use Rattle.desk_commands.proofs.Common.{makes_as}
 use Rattle.desk_commands.proofs.EndingLemmas.{outcome_set}
 use Rattle.desk_commands.proofs.endings.count_outcome.Goals as goal
 

@@ -1,4 +1,4 @@
-use Rattle.sql_calls.proofs.Composing.{makes_then}
+use Rattle.desk_commands.proofs.Common.{makes_then}
 use Rattle.desk_commands.proofs.EndingLemmas.{ending_parts}
 use Rattle.desk_commands.proofs.endings.follow_ending.Goals as goal
 

@@ -1,4 +1,4 @@
-use Rattle.sql_calls.proofs.Composing.{makes_as, makes_nothing}
+use Rattle.desk_commands.proofs.Common.{makes_as, makes_nothing}
 use Rattle.desk_commands.proofs.EndingLemmas.{pause_set}
 use Rattle.desk_commands.proofs.endings.write_following.Goals as goal
 

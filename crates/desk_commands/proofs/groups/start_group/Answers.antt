@@ -1,6 +1,5 @@
-use Rattle.sql_calls.proofs.Composing.{makes_then}
+use Rattle.desk_commands.proofs.Common.{makes_then, started, with_group}
 use Rattle.std.proofs.Common.{refl}
-use Rattle.desk_commands.specs.GroupStarts.{started, with_group}
 use Rattle.desk_commands.proofs.groups.start_group.Goals as goal
 
 pub returns-clause-writes : goal.returns-clause-writes

@@ -1,4 +1,4 @@
-use Rattle.sql_calls.proofs.Composing.{both_found}
+use Rattle.desk_commands.proofs.Common.{both_found}
 use Rattle.desk_commands.proofs.ComposeLemmas.{accepted, refused}
 use Rattle.desk_commands.proofs.AdditionLemmas.{module_added, module_is_step}
 use Rattle.desk_commands.proofs.modules.add_module.Goals as goal

@@ -1,4 +1,4 @@
-use Rattle.sql_calls.proofs.Composing.{both_found, finds_as}
+use Rattle.desk_commands.proofs.Common.{both_found, finds_as}
 use Rattle.std.proofs.Common.{◌≡◌, ◌+◌, ◌∙◌, sym, arith}
 use Rattle.desk_commands.proofs.AdditionLemmas.{module_exists, modules_full, module_accepted, some_number}
 use Rattle.desk_commands.proofs.modules.next_module.Goals as goal

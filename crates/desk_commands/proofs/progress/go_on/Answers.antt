@@ -1,10 +1,6 @@
-use Rattle.sql_calls.proofs.Composing.{both_found}
-use Rattle.desk_store.proofs.LedgersOfRecords.{ledger_made}
+use Rattle.desk_commands.proofs.Common.{both_found, ledger_made, ledger_of, records, GoesOn}
 use Rattle.desk_commands.proofs.ComposeLemmas.{accepted_at, refused_at}
 use Rattle.std.proofs.Common.{Ok, ◌∙◌}
-use Rattle.desk_records.specs.Holds.{ledger_of}
-use Rattle.rollout_machine.specs.Records.{records}
-use Rattle.desk_commands.specs.Standings.{GoesOn}
 use Rattle.desk_commands.proofs.ProgressLemmas.{cant_go, gone_on, gone_reply}
 use Rattle.desk_commands.proofs.StandingLemmas.{none_there, of_list, seen_there}
 use Rattle.desk_commands.proofs.progress.go_on.Goals as goal

@@ -1,6 +1,5 @@
 use Rattle.std.proofs.Common.{ap, ◌∙◌}
-use Rattle.std.proofs.lemmas.List.{take_all}
-use Rattle.rollout_machine.specs.RecordSteps.{last_started}
+use Rattle.desk_commands.proofs.Common.{take_all, last_started}
 use Rattle.desk_commands.proofs.ProgressLemmas.{last_step}
 use Rattle.desk_commands.proofs.progress.last_started.Goals as goal
 

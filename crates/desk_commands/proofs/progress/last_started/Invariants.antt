@@ -1,5 +1,5 @@
 use Rattle.std.proofs.Common.{◌≡◌, take}
-use Rattle.rollout_machine.specs.RecordSteps.{last_started}
+use Rattle.desk_commands.proofs.Common.{last_started}
 use Rattle.desk_commands.proofs.progress.last_started.Given as goal
 
 -- that of the groups before this index

@@ -1,8 +1,5 @@
-use Rattle.sql_calls.proofs.Composing.{finds_as, known}
-use Rattle.desk_store.proofs.LedgersOfRecords.{ledger_found}
+use Rattle.desk_commands.proofs.Common.{finds_as, known, ledger_found, rule_at, said_of}
 use Rattle.std.proofs.Common.{sym, ap, ◌∙◌}
-use Rattle.rollout_machine.specs.GroupRules.{rule_at}
-use Rattle.desk_reads.proofs.RuleLemmas.{said_of}
 use Rattle.desk_commands.proofs.ProgressLemmas.{none_said}
 use Rattle.desk_commands.proofs.SeenLemmas.{ok_or_some}
 use Rattle.desk_commands.proofs.progress.read_last_rule.Goals as goal

@@ -1,8 +1,5 @@
-use Rattle.sql_calls.proofs.Composing.{finds_as}
+use Rattle.desk_commands.proofs.Common.{finds_as, item_numbered, last_started, Records}
 use Rattle.std.proofs.Common.{sym, ap, ◌∙◌}
-use Rattle.rollout_machine.specs.ByteStrings.{item_numbered}
-use Rattle.rollout_machine.specs.RecordSteps.{last_started}
-use Rattle.rollout_machine.specs.Records.{Records}
 use Rattle.desk_commands.proofs.ProgressLemmas.{seen_view}
 use Rattle.desk_commands.proofs.progress.read_view.Goals as goal
 

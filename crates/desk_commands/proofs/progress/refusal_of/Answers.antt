@@ -1,8 +1,6 @@
 use Rattle.std.proofs.Common.{Some}
-use Rattle.rollout_machine.specs.Commands.{Resume, TriggerNext}
-use Rattle.rollout_machine.specs.Records.{records}
+use Rattle.desk_commands.proofs.Common.{Resume, TriggerNext, records, records_are_sound}
 use Rattle.campaign_core.specs.declared.rollout_checks.RolloutCommandView.TheVariants as view
-use Rattle.campaign_core.proofs.SoundLemmas.{records_are_sound}
 use Rattle.desk_commands.proofs.ProgressLemmas.{resume_view, trigger_view}
 use Rattle.desk_commands.proofs.StandingLemmas.{judged}
 use Rattle.desk_commands.proofs.progress.refusal_of.Goals as goal

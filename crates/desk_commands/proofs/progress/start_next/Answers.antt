@@ -1,6 +1,5 @@
-use Rattle.sql_calls.proofs.Composing.{makes_as}
+use Rattle.desk_commands.proofs.Common.{makes_as, StartsIf}
 use Rattle.std.proofs.Common.{subst, sym, ◌∙◌}
-use Rattle.desk_commands.specs.Standings.{StartsIf}
 use Rattle.desk_commands.proofs.ProgressLemmas.{the_group}
 use Rattle.desk_commands.proofs.SeenLemmas.{ok_or_some}
 use Rattle.desk_commands.proofs.progress.start_next.Goals as goal

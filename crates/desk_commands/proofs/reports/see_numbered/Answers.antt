@@ -1,5 +1,4 @@
-use Rattle.sql_calls.proofs.Composing.{both_found, finds_as}
-use Rattle.desk_store.proofs.LedgersOfRecords.{ledger_found}
+use Rattle.desk_commands.proofs.Common.{both_found, finds_as, ledger_found}
 use Rattle.desk_commands.proofs.ReportLemmas.{none_at, stands_at}
 use Rattle.desk_commands.proofs.reports.see_numbered.Goals as goal
 

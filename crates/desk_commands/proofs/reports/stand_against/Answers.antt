@@ -1,6 +1,5 @@
-use Rattle.sql_calls.proofs.Composing.{finds_as}
+use Rattle.desk_commands.proofs.Common.{finds_as, ledger_found}
 use Rattle.std.proofs.Common.{true, false, sym, ◌∙◌}
-use Rattle.desk_store.proofs.LedgersOfRecords.{ledger_found}
 use Rattle.desk_reads.proofs.HistoryKept.{details_kept}
 use Rattle.desk_commands.proofs.ReportLemmas.{stands_equal}
 use Rattle.desk_commands.proofs.SeenLemmas.{ok_or_some}

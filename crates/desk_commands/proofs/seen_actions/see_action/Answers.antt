@@ -1,4 +1,4 @@
-use Rattle.sql_calls.proofs.Composing.{both_found, finds_as}
+use Rattle.desk_commands.proofs.Common.{both_found, finds_as}
 use Rattle.desk_commands.proofs.SeenLemmas.{not_there, seen_there}
 use Rattle.desk_commands.proofs.seen_actions.see_action.Goals as goal
 

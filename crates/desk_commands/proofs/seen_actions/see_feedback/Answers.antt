@@ -1,7 +1,5 @@
-use Rattle.sql_calls.proofs.Composing.{both_found, finds_as}
-use Rattle.desk_store.proofs.LedgersOfRecords.{ledger_found}
+use Rattle.desk_commands.proofs.Common.{both_found, finds_as, ledger_found, only_started}
 use Rattle.std.proofs.Common.{not, ap, ◌∙◌}
-use Rattle.desk_commands.specs.SeenActions.{only_started}
 use Rattle.desk_commands.proofs.seen_actions.see_feedback.Goals as goal
 
 pub returns-clause-reads : goal.returns-clause-reads

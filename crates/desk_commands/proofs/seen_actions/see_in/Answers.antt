@@ -1,4 +1,4 @@
-use Rattle.sql_calls.proofs.Composing.{both_found, finds_as}
+use Rattle.desk_commands.proofs.Common.{both_found, finds_as}
 use Rattle.std.proofs.Common.{sym, rules, ◌∙◌}
 use Rattle.desk_commands.proofs.SeenLemmas.{ok_or_some, sees}
 use Rattle.desk_commands.proofs.seen_actions.see_in.Goals as goal

@@ -1,6 +1,5 @@
-use Rattle.sql_calls.proofs.Composing.{makes_nothing, makes_then}
+use Rattle.desk_commands.proofs.Common.{makes_nothing, makes_then, AddsModules}
 use Rattle.std.proofs.Common.{subst}
-use Rattle.desk_commands.specs.Additions.{AddsModules}
 use Rattle.desk_commands.proofs.AdditionLemmas.{adds_front, adds_none}
 use Rattle.desk_commands.proofs.TagLemmas.{none_left}
 use Rattle.desk_commands.proofs.sets.+write_modules.Goals as goal

@@ -1,4 +1,4 @@
-use Rattle.sql_calls.proofs.Composing.{finds_as}
+use Rattle.desk_commands.proofs.Common.{finds_as}
 use Rattle.desk_commands.proofs.AdditionLemmas.{lacks}
 use Rattle.desk_commands.proofs.sets.lacks_a_module.Goals as goal
 

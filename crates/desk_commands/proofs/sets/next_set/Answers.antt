@@ -1,4 +1,4 @@
-use Rattle.sql_calls.proofs.Composing.{both_found, finds_as}
+use Rattle.desk_commands.proofs.Common.{both_found, finds_as}
 use Rattle.std.proofs.Common.{◌≡◌, ◌+◌, ◌∙◌, sym, arith}
 use Rattle.desk_commands.proofs.AdditionLemmas.{set_lacks, set_exists, sets_full, set_accepted, some_number}
 use Rattle.desk_commands.proofs.sets.next_set.Goals as goal

@@ -1,9 +1,6 @@
-use Rattle.desk_store.proofs.LedgersOfRecords.{ledger_made}
+use Rattle.desk_commands.proofs.Common.{ledger_made, ledger_of, records, WritesSaid}
 use Rattle.desk_commands.proofs.ComposeLemmas.{accepted_at, refused_at}
 use Rattle.std.proofs.Common.{Ok, ◌∙◌}
-use Rattle.desk_records.specs.Holds.{ledger_of}
-use Rattle.rollout_machine.specs.Records.{records}
-use Rattle.desk_commands.specs.Standings.{WritesSaid}
 use Rattle.desk_commands.proofs.StandingLemmas.{none_there, not_there, said_reply, said_written, seen_there}
 use Rattle.desk_commands.proofs.standing.say.Goals as goal
 

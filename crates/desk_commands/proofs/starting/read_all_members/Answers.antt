@@ -1,4 +1,4 @@
-use Rattle.sql_calls.proofs.Composing.{finds_as}
+use Rattle.desk_commands.proofs.Common.{finds_as}
 use Rattle.desk_commands.proofs.StartLemmas.{all_members}
 use Rattle.desk_commands.proofs.starting.read_all_members.Goals as goal
 

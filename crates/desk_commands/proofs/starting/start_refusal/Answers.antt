@@ -1,8 +1,6 @@
 use Rattle.std.proofs.Common.{Some}
-use Rattle.rollout_machine.specs.Commands.{Start}
-use Rattle.rollout_machine.specs.Records.{records}
+use Rattle.desk_commands.proofs.Common.{Start, records, records_are_sound}
 use Rattle.campaign_core.specs.declared.rollout_checks.RolloutCommandView.TheVariants as view
-use Rattle.campaign_core.proofs.SoundLemmas.{records_are_sound}
 use Rattle.desk_commands.proofs.StandingLemmas.{judged, standing_view}
 use Rattle.desk_commands.proofs.starting.start_refusal.Goals as goal
 

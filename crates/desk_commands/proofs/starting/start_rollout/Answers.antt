@@ -1,10 +1,6 @@
-use Rattle.sql_calls.proofs.Composing.{both_found}
-use Rattle.desk_store.proofs.LedgersOfRecords.{ledger_found, ledger_made}
+use Rattle.desk_commands.proofs.Common.{both_found, ledger_found, ledger_made, records, ledger_of, StartsWhole}
 use Rattle.desk_commands.proofs.ComposeLemmas.{accepted_at, refused_at}
 use Rattle.std.proofs.Common.{Ok, refl, sym, ◌∙◌}
-use Rattle.rollout_machine.specs.Records.{records}
-use Rattle.desk_records.specs.Holds.{ledger_of}
-use Rattle.desk_commands.specs.Starts.{StartsWhole}
 use Rattle.desk_commands.proofs.StandingLemmas.{none_there, seen_there}
 use Rattle.desk_commands.proofs.StartLemmas.{not_there, starts_whole}
 use Rattle.desk_commands.proofs.SeenLemmas.{ok_or_some}

@@ -1,4 +1,4 @@
-use Rattle.sql_calls.proofs.Composing.{makes_nothing, makes_then}
+use Rattle.desk_commands.proofs.Common.{makes_nothing, makes_then}
 use Rattle.std.proofs.Common.{◌∙◌, sym, rules}
 use Rattle.desk_commands.proofs.AdditionLemmas.{some_number}
 use Rattle.desk_commands.proofs.StartLemmas.{no_action, one_action}

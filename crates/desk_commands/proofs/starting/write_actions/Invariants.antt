@@ -1,7 +1,5 @@
 use Rattle.std.proofs.Common.{Ok}
-use Rattle.sql_calls.specs.declared.fault.Fault.{Fault}
-use Rattle.desk_store.specs.Changing.{MakesLedger, StaysIn}
-use Rattle.desk_commands.specs.Starts.{AddsActions}
+use Rattle.desk_commands.proofs.Common.{Fault, MakesLedger, StaysIn, AddsActions}
 use Rattle.desk_commands.proofs.starting.write_actions.Given as goal
 
 -- the members before this index have their actions

@@ -1,5 +1,4 @@
-use Rattle.sql_calls.proofs.Composing.{finds_as}
-use Rattle.rollout_machine.specs.Verdicts.{target_of}
+use Rattle.desk_commands.proofs.Common.{finds_as, target_of}
 use Rattle.desk_commands.proofs.TagStepLemmas.{lacks_it}
 use Rattle.desk_commands.proofs.tags.lacks_target.Goals as goal
 

@@ -1,7 +1,6 @@
-use Rattle.sql_calls.proofs.Composing.{both_found, found_held, makes_nothing}
+use Rattle.desk_commands.proofs.Common.{both_found, found_held, makes_nothing, Fault}
 use Rattle.desk_commands.proofs.ComposeLemmas.{accepted, refused}
 use Rattle.std.proofs.Common.{◌≡◌, refl, sym, ◌∙◌, arith}
-use Rattle.sql_calls.specs.declared.fault.Fault.{Fault}
 use Rattle.desk_commands.proofs.TagLemmas.{any_word}
 use Rattle.desk_commands.proofs.TagStepLemmas.{had_accepted, had_is_step, no_target_to_tag, tag_accepted, tag_is_step, tags_full}
 use Rattle.desk_commands.proofs.tags.tag_target.Goals as goal

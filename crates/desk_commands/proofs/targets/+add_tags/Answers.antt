@@ -1,6 +1,5 @@
-use Rattle.sql_calls.proofs.Composing.{makes_as, makes_nothing, makes_then}
+use Rattle.desk_commands.proofs.Common.{makes_as, makes_nothing, makes_then, AddsTags}
 use Rattle.std.proofs.Common.{sym, subst, ◌∙◌}
-use Rattle.desk_commands.specs.Imports.{AddsTags}
 use Rattle.desk_commands.proofs.TagLemmas.{none_left, adds_none, adds_front, has_front}
 use Rattle.desk_commands.proofs.targets.+add_tags.Goals as goal
 

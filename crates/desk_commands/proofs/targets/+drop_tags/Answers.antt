@@ -1,6 +1,5 @@
-use Rattle.sql_calls.proofs.Composing.{makes_as, makes_nothing, makes_then}
+use Rattle.desk_commands.proofs.Common.{makes_as, makes_nothing, makes_then, DropsTags}
 use Rattle.std.proofs.Common.{sym, subst, ◌∙◌}
-use Rattle.desk_commands.specs.Imports.{DropsTags}
 use Rattle.desk_commands.proofs.TagLemmas.{none_left, drops_none, drops_front, keeps_front}
 use Rattle.desk_commands.proofs.targets.+drop_tags.Goals as goal
 

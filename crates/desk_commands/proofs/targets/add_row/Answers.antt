@@ -1,7 +1,6 @@
-use Rattle.sql_calls.proofs.Composing.{makes_then}
+use Rattle.desk_commands.proofs.Common.{makes_then, PutsOver}
 use Rattle.desk_commands.proofs.ComposeLemmas.{in_order}
 use Rattle.std.proofs.Common.{None}
-use Rattle.desk_commands.specs.Imports.{PutsOver}
 use Rattle.desk_commands.proofs.ImportLemmas.{adds_row_parts}
 use Rattle.desk_commands.proofs.TagLemmas.{tags_distinct}
 use Rattle.desk_commands.proofs.targets.add_row.Goals as goal

@@ -1,7 +1,6 @@
-use Rattle.sql_calls.proofs.Composing.{makes_then}
+use Rattle.desk_commands.proofs.Common.{makes_then, PutsOver}
 use Rattle.desk_commands.proofs.ComposeLemmas.{in_order}
 use Rattle.std.proofs.Common.{Some}
-use Rattle.desk_commands.specs.Imports.{PutsOver}
 use Rattle.desk_commands.proofs.ImportLemmas.{changes_row_parts}
 use Rattle.desk_commands.proofs.targets.change_row.Goals as goal
 

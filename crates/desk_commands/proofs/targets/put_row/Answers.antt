@@ -1,6 +1,5 @@
-use Rattle.sql_calls.proofs.Composing.{both_found, found_held}
+use Rattle.desk_commands.proofs.Common.{both_found, found_held, PutsOver}
 use Rattle.std.proofs.Common.{◌≡◌, ◌≤◌, None, Some, refl, arith}
-use Rattle.desk_commands.specs.Imports.{PutsOver}
 use Rattle.desk_commands.proofs.PutLemmas.{room_kept, room_taken, row_put, row_refused, too_many}
 use Rattle.desk_commands.proofs.targets.put_row.Goals as goal
 

@@ -1,5 +1,5 @@
 use Rattle.std.proofs.Common.{take, Ok}
-use Rattle.desk_store.specs.Changing.{seen_in, StaysIn}
+use Rattle.desk_commands.proofs.Common.{seen_in, StaysIn}
 use Rattle.desk_commands.proofs.PutLemmas.{PutsSoFar}
 use Rattle.desk_commands.proofs.targets.put_rows.Given as goal
 

@@ -1,5 +1,5 @@
 use Rattle.std.proofs.Common.{ap}
-use Rattle.rollout_machine.specs.Replies.{TargetsPut}
+use Rattle.desk_commands.proofs.Common.{TargetsPut}
 use Rattle.desk_commands.proofs.targets.put_targets.Goals as goal
 
 pub returns-in-Some-2-clause-steps : goal.returns-in-Some-2-clause-steps

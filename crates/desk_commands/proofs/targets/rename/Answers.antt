@@ -1,7 +1,6 @@
-use Rattle.sql_calls.proofs.Composing.{makes_as, makes_nothing}
+use Rattle.desk_commands.proofs.Common.{makes_as, makes_nothing, Renames}
 use Rattle.desk_commands.proofs.ComposeLemmas.{in_order}
 use Rattle.std.proofs.Common.{sym, ◌∙◌}
-use Rattle.desk_commands.specs.Imports.{Renames}
 use Rattle.desk_commands.proofs.ImportLemmas.{renames_nothing}
 use Rattle.desk_commands.proofs.TagLemmas.{pointwise_is}
 use Rattle.desk_commands.proofs.targets.rename.Goals as goal

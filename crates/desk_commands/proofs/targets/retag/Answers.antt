@@ -1,9 +1,6 @@
-use Rattle.sql_calls.proofs.Composing.{found_then_makes, makes_then}
+use Rattle.desk_commands.proofs.Common.{found_then_makes, makes_then, are_sorted, tags_of, target_of, Retags}
 use Rattle.desk_commands.proofs.ComposeLemmas.{in_order}
 use Rattle.std.proofs.Common.{◌≡◌, true}
-use Rattle.desk_records.specs.Targets.{are_sorted}
-use Rattle.rollout_machine.specs.Verdicts.{tags_of, target_of}
-use Rattle.desk_commands.specs.Imports.{Retags}
 use Rattle.desk_commands.proofs.TagLemmas.{retags_parts, tags_distinct}
 use Rattle.desk_commands.proofs.targets.retag.Goals as goal
 

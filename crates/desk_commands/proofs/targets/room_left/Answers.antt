@@ -1,6 +1,5 @@
-use Rattle.sql_calls.proofs.Composing.{finds_as}
+use Rattle.desk_commands.proofs.Common.{finds_as, LeavesRoom}
 use Rattle.std.proofs.Common.{◌≡◌, ◌-◌, sym, subst, arith}
-use Rattle.desk_commands.specs.Imports.{LeavesRoom}
 use Rattle.desk_commands.proofs.PutLemmas.{room_counted}
 use Rattle.desk_commands.proofs.targets.room_left.Goals as goal
 

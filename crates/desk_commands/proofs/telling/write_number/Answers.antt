@@ -1,4 +1,4 @@
-use Rattle.sql_calls.proofs.Composing.{makes_as, makes_nothing}
+use Rattle.desk_commands.proofs.Common.{makes_as, makes_nothing}
 use Rattle.desk_commands.proofs.TellingLemmas.{no_number, number_adds}
 use Rattle.desk_commands.proofs.telling.write_number.Goals as goal
 

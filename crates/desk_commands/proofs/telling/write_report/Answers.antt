@@ -1,4 +1,4 @@
-use Rattle.sql_calls.proofs.Composing.{makes_then}
+use Rattle.desk_commands.proofs.Common.{makes_then}
 use Rattle.desk_commands.proofs.TellingLemmas.{told_parts}
 use Rattle.desk_commands.proofs.telling.write_report.Goals as goal
 

@@ -1,4 +1,4 @@
-use Rattle.sql_calls.proofs.Composing.{makes_nothing}
+use Rattle.desk_commands.proofs.Common.{makes_nothing}
 use Rattle.desk_commands.proofs.TellingLemmas.{none_told}
 use Rattle.desk_commands.proofs.telling.write_told.Goals as goal
 

@@ -1,4 +1,4 @@
-use Rattle.desk_files.specs.Imports.{records_of}
+use Rattle.desk_files.proofs.Common.{records_of}
 use Rattle.desk_files.proofs.ImportFacts.{Imported}
 use Rattle.desk_files.proofs.import.read_targets.Given as goal
 

@@ -1,4 +1,4 @@
-use Rattle.csv.specs.Records.{fields_of}
+use Rattle.desk_files.proofs.Common.{fields_of}
 use Rattle.desk_files.proofs.ReaderFacts.{next_gives}
 use Rattle.desk_files.proofs.record_reader.next_record.Goals as goal
 

@@ -1,8 +1,5 @@
 use Rattle.std.proofs.Common.{[], ◌∷◌, pos, Ok}
-use Rattle.sqlite_value.specs.declared.value.Value.TheVariants.{Int}
-use Rattle.sqlite.specs.Held.{state}
-use Rattle.sql_calls.specs.Calls.{TakesFirst}
-use Rattle.desk_records.specs.declared.rollout_texts.TheConstants.{GET_ROLLOUT}
+use Rattle.desk_opening.proofs.Common.{Int, state, TakesFirst, GET_ROLLOUT}
 use Rattle.desk_opening.proofs.FillLemmas.{rollout_found, rollout_stays, rollout_unread}
 use Rattle.desk_opening.proofs.filling.read_rollout.Goals as goal
 

@@ -1,7 +1,5 @@
 use Rattle.std.proofs.Common.{None, Ok}
-use Rattle.sqlite.specs.Held.{state}
-use Rattle.sql_calls.specs.declared.fault.Fault.{Fault}
-use Rattle.desk_opening.specs.Filling.{MakesLedger, Stays, WritesCopies}
+use Rattle.desk_opening.proofs.Common.{state, Fault, MakesLedger, Stays, WritesCopies}
 use Rattle.desk_opening.proofs.filling.write_copies.Given as goal
 
 -- the first i groups

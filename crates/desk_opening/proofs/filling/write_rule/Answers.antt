@@ -1,11 +1,6 @@
 use Rattle.std.proofs.Common.{◌≡◌, None}
-use Rattle.sqlite.specs.Held.{state}
+use Rattle.desk_opening.proofs.Common.{state, Null, RunsText, GroupRule, rule_row, PUT_RULE}
 use Rattle.sqlite_value.specs.Value.{owned}
-use Rattle.sqlite_value.specs.declared.value.Value.TheVariants.{Null}
-use Rattle.sql_calls.specs.Calls.{RunsText}
-use Rattle.rollout_model.specs.declared.group_rule.GroupRule.{GroupRule}
-use Rattle.desk_records.specs.Rollouts.{rule_row}
-use Rattle.desk_records.specs.declared.rollout_texts.TheConstants.{PUT_RULE}
 use Rattle.desk_opening.proofs.FillLemmas.{put_stays, rule_put}
 use Rattle.desk_opening.proofs.filling.write_rule.Goals as goal
 

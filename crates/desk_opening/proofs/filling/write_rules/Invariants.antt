@@ -1,7 +1,5 @@
 use Rattle.std.proofs.Common.{Ok}
-use Rattle.sqlite.specs.Held.{state}
-use Rattle.sql_calls.specs.declared.fault.Fault.{Fault}
-use Rattle.desk_opening.specs.Filling.{MakesLedger, Stays, WritesUpTo}
+use Rattle.desk_opening.proofs.Common.{state, Fault, MakesLedger, Stays, WritesUpTo}
 use Rattle.desk_opening.proofs.filling.write_rules.Given as goal
 
 -- of the first k rollouts

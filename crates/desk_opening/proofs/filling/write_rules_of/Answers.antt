@@ -1,6 +1,5 @@
 use Rattle.std.proofs.Common.{None}
-use Rattle.sqlite.specs.Held.{state}
-use Rattle.desk_opening.specs.Filling.{MakesLedger, WritesCopies}
+use Rattle.desk_opening.proofs.Common.{state, MakesLedger, WritesCopies}
 use Rattle.desk_opening.proofs.FillLemmas.{rollout_filled}
 use Rattle.desk_opening.proofs.filling.write_rules_of.Goals as goal
 

@@ -1,8 +1,5 @@
 use Rattle.std.proofs.Common.{[], ◌∷◌, Ok, Err, pos, if◌then◌else◌}
-use Rattle.sqlite_value.specs.declared.value.Value.TheVariants.{Int}
-use Rattle.sqlite.specs.Held.{state}
-use Rattle.sql_calls.specs.Calls.{RunsText}
-use Rattle.desk_records.specs.declared.texts.TheConstants.{PUT_DESK}
+use Rattle.desk_opening.proofs.Common.{Int, state, RunsText, PUT_DESK}
 use Rattle.desk_opening.proofs.MakeLemmas.{not_begun, no_tables, no_row, no_commit, whole_made}
 use Rattle.desk_opening.proofs.Places.{names_apart}
 use Rattle.desk_opening.proofs.making.fill.Goals as goal

@@ -1,6 +1,5 @@
 use Rattle.std.proofs.Common.{map}
-use Rattle.sqlite.specs.Held.{state}
-use Rattle.desk_opening.specs.Places.{place_of}
+use Rattle.desk_opening.proofs.Common.{state, place_of}
 use Rattle.desk_opening.proofs.MakeLemmas.{HasMade}
 use Rattle.desk_opening.proofs.making.make_tables.Given as goal
 

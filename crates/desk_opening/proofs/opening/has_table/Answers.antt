@@ -1,8 +1,6 @@
 use Rattle.std.proofs.Common.{◌∙◌, ap, sym, subst}
 use Rattle.sqlite.specs.Compile.{table_defined_by}
-use Rattle.sql_front.specs.Bare.{IsBareTable}
-use Rattle.sql_front.specs.Found.{StandsSomewhere}
-use Rattle.desk_opening.specs.Places.{place_of}
+use Rattle.desk_opening.proofs.Common.{IsBareTable, StandsSomewhere, place_of}
 use Rattle.desk_opening.proofs.Places.{is_place}
 use Rattle.desk_opening.proofs.Tables.{defined_as}
 use Rattle.desk_opening.proofs.opening.has_table.Goals as goal

@@ -1,8 +1,5 @@
 use Rattle.std.proofs.Common.{take}
-use Rattle.std.specs.List.{AllByRecursion}
-use Rattle.sql_front.specs.Found.{StandsSomewhere}
-use Rattle.desk_records.specs.Schema.{table_at}
-use Rattle.desk_opening.specs.Places.{place_of}
+use Rattle.desk_opening.proofs.Common.{AllByRecursion, StandsSomewhere, table_at, place_of}
 use Rattle.desk_opening.proofs.opening.has_tables_of.Given as goal
 
 abbrev pub invariant-loop-table : goal.invariant-loop-table

@@ -1,7 +1,5 @@
 use Rattle.std.proofs.Common.{Ok, Err, subst}
-use Rattle.sqlite.specs.Held.{state}
-use Rattle.sql_front.specs.Free.{LeavesFree}
-use Rattle.desk_records.specs.Schema.{desk_names}
+use Rattle.desk_opening.proofs.Common.{state, LeavesFree, desk_names}
 use Rattle.desk_opening.proofs.ChoiceLemmas.{adopts_ok, adopts_err, makes_new, makes_ok, makes_err}
 use Rattle.desk_opening.proofs.opening.open_desk.Goals as goal
 

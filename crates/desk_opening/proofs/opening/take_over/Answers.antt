@@ -1,7 +1,5 @@
 use Rattle.std.proofs.Common.{subst}
-use Rattle.sql_front.specs.Found.{StandsSomewhere}
-use Rattle.desk_records.specs.Schema.{desk_table}
-use Rattle.desk_opening.specs.Opening.{HasDeskTables}
+use Rattle.desk_opening.proofs.Common.{StandsSomewhere, desk_table, HasDeskTables}
 use Rattle.desk_opening.proofs.AdoptLemmas.{adopts_lacking, adopts_renewed}
 use Rattle.desk_opening.proofs.OpeningLemmas.{has_tables, lacks_tables}
 use Rattle.desk_opening.proofs.opening.take_over.Goals as goal

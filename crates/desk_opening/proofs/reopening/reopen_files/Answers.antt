@@ -1,6 +1,5 @@
 use Rattle.std.proofs.Common.{inl}
-use Rattle.sqlite.specs.Files.{image_of, file_state}
-use Rattle.sqlite_wal.specs.Files.{outcomes}
+use Rattle.desk_opening.proofs.Common.{image_of, file_state, outcomes}
 use Rattle.desk_opening.proofs.ReopenLemmas.{begins_plain, left_unharmed, reopens}
 use Rattle.desk_opening.proofs.SparingLemmas.{spares}
 use Rattle.desk_opening.proofs.reopening.reopen_files.Goals as goal

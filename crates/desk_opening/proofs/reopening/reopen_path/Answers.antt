@@ -1,6 +1,5 @@
 use Rattle.std.proofs.Common.{◌≡◌, Ok, Err}
-use Rattle.sqlite.specs.Files.{file_state}
-use Rattle.sqlite.specs.WalFiles.{image_at}
+use Rattle.desk_opening.proofs.Common.{file_state, image_at}
 use Rattle.desk_opening.proofs.ReopenLemmas.{begins_plain, left_unharmed, reopens}
 use Rattle.desk_opening.proofs.reopening.reopen_path.Goals as goal
 

@@ -1,5 +1,5 @@
 use Rattle.std.proofs.Common.{◌∙◌}
-use Rattle.sql_calls.proofs.Composing.{finds_as, found_held}
+use Rattle.desk_reads.proofs.Common.{finds_as, found_held}
 use Rattle.desk_reads.proofs.KnownDevices.{known_by, unknown}
 use Rattle.desk_reads.proofs.devices.knows_device.Goals as goal
 

@@ -1,5 +1,5 @@
 use Rattle.std.proofs.Common.{ap}
-use Rattle.desk_reads.specs.Rollouts.{last_in}
+use Rattle.desk_reads.proofs.Common.{last_in}
 use Rattle.desk_reads.proofs.rollouts.last_place.Goals as goal
 
 pub returns-in-Some : goal.returns-in-Some

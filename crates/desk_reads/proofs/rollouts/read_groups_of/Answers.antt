@@ -1,6 +1,5 @@
 use Rattle.std.proofs.Common.{refl}
-use Rattle.sql_calls.proofs.Composing.{finds_as}
-use Rattle.desk_store.proofs.LedgersOfRecords.{ledger_found}
+use Rattle.desk_reads.proofs.Common.{finds_as, ledger_found}
 use Rattle.desk_reads.proofs.SeenRollouts.{seen_is}
 use Rattle.desk_reads.proofs.rollouts.read_groups_of.Goals as goal
 

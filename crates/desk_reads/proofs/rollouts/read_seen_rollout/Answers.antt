@@ -1,6 +1,4 @@
-use Rattle.sql_calls.proofs.Composing.{both_found, finds_as}
-use Rattle.rollout_machine.specs.ByteStrings.{item_numbered}
-use Rattle.desk_store.proofs.LedgersOfRecords.{ledger_found}
+use Rattle.desk_reads.proofs.Common.{both_found, finds_as, item_numbered, ledger_found}
 use Rattle.desk_reads.proofs.SeenRollouts.{none_seen, one_seen}
 use Rattle.desk_reads.proofs.rollouts.read_seen_rollout.Goals as goal
 

@@ -1,5 +1,5 @@
 use Rattle.std.proofs.Common.{◌∙◌}
-use Rattle.sql_calls.proofs.Composing.{both_found, finds_as}
+use Rattle.desk_reads.proofs.Common.{both_found, finds_as}
 use Rattle.desk_reads.proofs.ListedTargets.{listed_is}
 use Rattle.desk_reads.proofs.targets.read_listed.Goals as goal
 

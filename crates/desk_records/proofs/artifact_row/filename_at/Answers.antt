@@ -1,6 +1,5 @@
 use Rattle.std.proofs.Common.{arith}
-use Rattle.std.proofs.lemmas.Grind.{common_steps}
-use Rattle.rollout_model.proofs.RuleLemmas.{spelled_is_utf8}
+use Rattle.desk_records.proofs.Common.{common_steps, spelled_is_utf8}
 use Rattle.desk_records.proofs.artifact_row.filename_at.Goals as goal
 
 -- a text that isn't UTF-8 is no filename

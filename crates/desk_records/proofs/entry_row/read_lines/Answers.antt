@@ -1,8 +1,6 @@
 use Rattle.std.proofs.Common.{rules, ◌++◌, ◌∷◌, [], Some, None, sym, ap, ◌∙◌, arith}
-use Rattle.std.specs.List.{list_all}
+use Rattle.desk_records.proofs.Common.{list_all, is_detail, lines_of}
 use Rattle.std.proofs.lemmas.Str.Pattern.{split_parts}
-use Rattle.rollout_model.specs.Rules.{is_detail}
-use Rattle.desk_records.specs.Actions.{lines_of}
 use Rattle.desk_records.proofs.DetailLines.{all_or_none, begins_badly, detail_is, ends_nowhere, goes_too_far, holds_none, line_more, no_detail, one_more}
 use Rattle.desk_records.proofs.entry_row.read_lines.Goals as goal
 

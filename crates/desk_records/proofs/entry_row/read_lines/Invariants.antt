@@ -1,9 +1,7 @@
 use Rattle.std.proofs.Common.{◌≡◌, ◌++◌, true, length}
-use Rattle.std.specs.List.{list_all}
-use Rattle.rollout_model.specs.Rules.{is_detail}
+use Rattle.desk_records.proofs.Common.{list_all, is_detail, lines_of}
 use denote.Text.{Utf8}
 use denote.Shadow.{shadow}
-use Rattle.desk_records.specs.Actions.{lines_of}
 use Rattle.desk_records.proofs.entry_row.read_lines.Given as goal
 
 -- the text is the lines so far, which are details, and the rest

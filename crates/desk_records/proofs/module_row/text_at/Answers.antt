@@ -1,5 +1,5 @@
 use Rattle.desk_records.proofs.RowLemmas.{fails_at, unread}
-use Rattle.desk_records.specs.ModuleRow.{has_text}
+use Rattle.desk_records.proofs.Common.{has_text}
 use Rattle.desk_records.proofs.module_row.text_at.Goals as goal
 
 pub returns-in-Err-clause-err : goal.returns-in-Err-clause-err

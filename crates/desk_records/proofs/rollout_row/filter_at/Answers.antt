@@ -1,8 +1,6 @@
 use Rattle.std.proofs.Common.{◌≡◌, true, ap, ◌∙◌, subst}
-use Rattle.std.specs.Str.{is_utf8}
-use Rattle.std.proofs.lemmas.Str.{is_utf8-from_IsUtf8}
+use Rattle.desk_records.proofs.Common.{is_utf8, is_utf8-from_IsUtf8, has_filter}
 use Rattle.desk_records.proofs.RowLemmas.{fails_at, unread_filter}
-use Rattle.desk_records.specs.RolloutRow.{has_filter}
 use Rattle.desk_records.proofs.rollout_row.filter_at.Goals as goal
 
 pub returns-in-Err-clause-err : goal.returns-in-Err-clause-err

@@ -1,5 +1,5 @@
 use Rattle.desk_records.proofs.RowLemmas.{fails_at, unread_value}
-use Rattle.desk_records.specs.TargetRow.{has_value}
+use Rattle.desk_records.proofs.Common.{has_value}
 use Rattle.desk_records.proofs.target_row.value_at.Goals as goal
 
 pub returns-in-Err-clause-err : goal.returns-in-Err-clause-err

@@ -1,5 +1,5 @@
 use Rattle.std.proofs.Common.{Some, None, sym, ◌∙◌, append-nil}
-use Rattle.desk_records.specs.CheckedRows.{counted_of}
+use Rattle.desk_store.proofs.Common.{counted_of}
 use Rattle.desk_store.proofs.ReadLemmas.{pick_more}
 use Rattle.desk_store.proofs.raw_actions.read_counted.Goals as goal
 

@@ -1,6 +1,5 @@
 use Rattle.std.proofs.Common.{Err, ap, ◌∙◌}
-use Rattle.std.proofs.lemmas.Result.{err_from_is_err_and}
-use Rattle.sqlite_rules.proofs.ListLemmas.{has_at}
+use Rattle.desk_store.proofs.Common.{err_from_is_err_and, has_at}
 use Rattle.desk_store.proofs.ReadLemmas.{read_more, told_broken}
 use Rattle.desk_store.proofs.reading.read_all.Goals as goal
 

@@ -1,5 +1,5 @@
 use Rattle.std.proofs.Common.{take}
-use Rattle.desk_store.specs.Rows.{AreReadAs}
+use Rattle.desk_store.proofs.Common.{AreReadAs}
 use Rattle.desk_store.proofs.reading.read_all.Given as goal
 
 -- what the rows so far are read as

@@ -1,7 +1,5 @@
 use Rattle.std.proofs.Common.{Err, ap, refl, ◌∙◌}
-use Rattle.std.proofs.lemmas.Option.{slice_get_read}
-use Rattle.std.proofs.lemmas.Result.{err_from_is_err_and}
-use Rattle.sqlite_rules.proofs.ListLemmas.{has_at}
+use Rattle.desk_store.proofs.Common.{slice_get_read, err_from_is_err_and, has_at}
 use Rattle.desk_store.proofs.ReadLemmas.{told_broken}
 use Rattle.desk_store.proofs.reading.read_at.Goals as goal
 

@@ -1,8 +1,5 @@
 use Rattle.std.proofs.Common.{Err, ap, ◌∙◌}
-use Rattle.std.proofs.lemmas.Result.{err_from_is_err_and}
-use Rattle.sqlite_rules.proofs.ListLemmas.{has_at}
-use Rattle.desk_records.specs.TargetRow.{IsAttributeRow, broken_attribute_column}
-use Rattle.desk_store.specs.Rows.{BreaksRule}
+use Rattle.desk_store.proofs.Common.{err_from_is_err_and, has_at, IsAttributeRow, broken_attribute_column, BreaksRule}
 use Rattle.desk_store.proofs.ReadLemmas.{read_more, told_broken}
 use Rattle.desk_store.proofs.reading.read_attributes.Goals as goal
 

@@ -1,6 +1,5 @@
 use Rattle.std.proofs.Common.{take}
-use Rattle.desk_records.specs.TargetRow.{IsAttributeRow}
-use Rattle.desk_store.specs.Rows.{AreReadAs}
+use Rattle.desk_store.proofs.Common.{IsAttributeRow, AreReadAs}
 use Rattle.desk_store.proofs.reading.read_attributes.Given as goal
 
 -- the attributes of the rows so far

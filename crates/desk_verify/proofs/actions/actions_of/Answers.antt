@@ -1,8 +1,5 @@
 use Rattle.std.proofs.Common.{◌≡◌, false, Err, map, sym, ◌∙◌}
-use Rattle.sql_calls.specs.declared.fault.Fault.TheVariants.{Store}
-use Rattle.desk_records.specs.declared.rollout_row.ListedAction.{ListedAction}
-use Rattle.desk_store.specs.Unreadable.{rise, twin_actions}
-use Rattle.desk_store.proofs.BlameLemmas.{blamed}
+use Rattle.desk_verify.proofs.Common.{Store, ListedAction, rise, twin_actions, blamed}
 use Rattle.desk_verify.proofs.Causes.{together}
 use Rattle.desk_verify.proofs.actions.actions_of.Goals as goal
 

@@ -1,7 +1,5 @@
 use Rattle.std.proofs.Common.{◌≡◌, false, Err, sym, ◌∙◌}
-use Rattle.sql_calls.specs.declared.fault.Fault.TheVariants.{Store}
-use Rattle.desk_store.proofs.BlameLemmas.{blamed}
-use Rattle.desk_verify.specs.ActionChecks.{count_on}
+use Rattle.desk_verify.proofs.Common.{Store, blamed, count_on}
 use Rattle.desk_verify.proofs.Causes.{twin_place}
 use Rattle.desk_verify.proofs.Follow.{breaks}
 use Rattle.desk_verify.proofs.actions.members_of.Goals as goal

@@ -1,4 +1,4 @@
-use Rattle.sql_calls.proofs.Composing.{finds_as, found_then}
+use Rattle.desk_verify.proofs.Common.{finds_as, found_then}
 use Rattle.desk_verify.proofs.ArtifactLemmas.{by_each, row_broken}
 use Rattle.desk_verify.proofs.artifacts.check_artifacts.Goals as goal
 

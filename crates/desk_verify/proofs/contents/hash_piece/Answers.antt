@@ -1,5 +1,5 @@
 use Rattle.std.proofs.Common.{◌≡◌, length, sym, ap, ◌∙◌}
-use Rattle.sql_calls.proofs.Composing.{finds_as}
+use Rattle.desk_verify.proofs.Common.{finds_as}
 use Rattle.desk_verify.proofs.PieceChecks.{other_length}
 use Rattle.desk_verify.proofs.contents.hash_piece.Goals as goal
 

@@ -1,6 +1,5 @@
 use Rattle.std.proofs.Common.{◌<◌, arith, rules}
-use Rattle.artifact_pieces.specs.Pieces.{piece_count}
-use Rattle.sql_calls.proofs.Composing.{both_found, finds_as}
+use Rattle.desk_verify.proofs.Common.{piece_count, both_found, finds_as}
 use Rattle.desk_verify.proofs.PieceChecks.{more_hashed, none_fits}
 use Rattle.desk_verify.proofs.contents.hash_pieces.Goals as goal
 

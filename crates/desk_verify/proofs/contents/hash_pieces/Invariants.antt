@@ -1,7 +1,5 @@
 use Rattle.std.proofs.Common.{Ok}
-use Rattle.sql_calls.specs.declared.fault.Fault.{Fault}
-use Rattle.desk_store.specs.Blaming.{Blames}
-use Rattle.desk_store.specs.Changing.{FindsTables, StaysIn}
+use Rattle.desk_verify.proofs.Common.{Fault, Blames, FindsTables, StaysIn}
 use Rattle.desk_verify.proofs.PieceChecks.{IsHashedTo}
 use Rattle.desk_verify.proofs.contents.hash_pieces.Given as goal
 

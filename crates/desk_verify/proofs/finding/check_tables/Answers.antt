@@ -1,6 +1,5 @@
 use Rattle.std.proofs.Common.{Err, ap, ◌∙◌}
-use Rattle.std.proofs.lemmas.Result.{err_from_is_err_and}
-use Rattle.sql_calls.proofs.Composing.{both_found, finds_as}
+use Rattle.desk_verify.proofs.Common.{err_from_is_err_and, both_found, finds_as}
 use Rattle.desk_verify.proofs.Causes.{blamed_when, so_far}
 use Rattle.desk_verify.proofs.Naming.{all_named, first_named}
 use Rattle.desk_verify.proofs.finding.check_tables.Goals as goal

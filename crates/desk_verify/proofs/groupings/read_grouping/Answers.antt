@@ -1,8 +1,5 @@
 use Rattle.std.proofs.Common.{◌≡◌, Some, None, Err, sym, ap, ◌∙◌}
-use Rattle.sql_calls.proofs.Composing.{finds_as}
-use Rattle.sql_calls.specs.declared.fault.Fault.TheVariants.{Store}
-use Rattle.desk_store.proofs.BlameLemmas.{blamed}
-use Rattle.desk_store.specs.RuleTables.{definitions_in, grouping_with}
+use Rattle.desk_verify.proofs.Common.{finds_as, Store, blamed, definitions_in, grouping_with}
 use Rattle.desk_verify.proofs.RuleLemmas.{cut_only, none_made}
 use Rattle.desk_verify.proofs.groupings.read_grouping.Goals as goal
 

@@ -1,10 +1,6 @@
 use Rattle.std.proofs.Common.{◌≡◌, ◌+◌, ◌∷◌, [], length, Err, sym, ap, subst, arith, rules}
 use Rattle.std.proofs.lemmas.List.{length-append}
-use Rattle.sql_calls.proofs.Composing.{both_found, finds_as}
-use Rattle.sql_calls.specs.declared.fault.Fault.TheVariants.{Store}
-use Rattle.desk_store.proofs.BlameLemmas.{blamed}
-use Rattle.desk_store.specs.Unreadable.{missing_rule}
-use Rattle.desk_verify.specs.GroupChecks.{HasOnlyRule, HaveOnlyRules}
+use Rattle.desk_verify.proofs.Common.{both_found, finds_as, Store, blamed, missing_rule, HasOnlyRule, HaveOnlyRules}
 use Rattle.desk_verify.proofs.Causes.{grown}
 use Rattle.desk_verify.proofs.RuleLemmas.{found_count, one_rule_more}
 use Rattle.desk_verify.proofs.groupings.read_rules.Goals as goal

@@ -1,9 +1,5 @@
 use Rattle.std.proofs.Common.{◌≡◌, Ok, length}
-use Rattle.sql_calls.specs.declared.fault.Fault.{Fault}
-use Rattle.desk_store.specs.Blaming.{BlamesGiven}
-use Rattle.desk_store.specs.Changing.{FindsTables, StaysIn}
-use Rattle.desk_verify.specs.GroupChecks.{HaveOnlyRules}
-use Rattle.desk_verify.specs.RolloutChecks.{HasRollout}
+use Rattle.desk_verify.proofs.Common.{Fault, BlamesGiven, FindsTables, StaysIn, HaveOnlyRules, HasRollout}
 use Rattle.desk_verify.proofs.groupings.read_rules.Given as goal
 
 -- the rules of the groups so far

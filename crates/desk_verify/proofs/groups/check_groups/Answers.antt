@@ -1,4 +1,4 @@
-use Rattle.sql_calls.proofs.Composing.{both_found, finds_as}
+use Rattle.desk_verify.proofs.Common.{both_found, finds_as}
 use Rattle.desk_verify.proofs.GroupLemmas.{agrees}
 use Rattle.desk_verify.proofs.groups.check_groups.Goals as goal
 

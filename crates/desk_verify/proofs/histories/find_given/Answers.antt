@@ -1,11 +1,6 @@
 use Rattle.std.proofs.Common.{◌≡◌, true, false, map, Err, sym, ap, subst, ◌∙◌}
-use Rattle.sql_calls.proofs.Composing.{finds_as}
-use Rattle.sql_calls.specs.declared.fault.Fault.TheVariants.{Store}
-use Rattle.desk_records.specs.declared.entry_row.SequencedEntry.{SequencedEntry}
-use Rattle.desk_store.specs.Unreadable.{rise, twin_entries}
-use Rattle.desk_store.proofs.BlameLemmas.{blamed}
+use Rattle.desk_verify.proofs.Common.{finds_as, Store, SequencedEntry, rise, twin_entries, blamed, IsGiven, first_said, sequences_rise}
 use Rattle.desk_verify.proofs.Causes.{together}
-use Rattle.desk_verify.specs.ActionChecks.{IsGiven, first_said, sequences_rise}
 use Rattle.desk_verify.proofs.HistoryLemmas.{given}
 use Rattle.desk_verify.proofs.histories.find_given.Goals as goal
 

@@ -1,9 +1,5 @@
 use Rattle.std.proofs.Common.{Ok, take}
-use Rattle.std.specs.List.{AllByRecursion}
-use Rattle.sql_calls.specs.declared.fault.Fault.{Fault}
-use Rattle.desk_store.specs.Blaming.{Blames}
-use Rattle.desk_store.specs.Changing.{FindsTables, StaysIn}
-use Rattle.desk_verify.specs.ActionChecks.{PassesHistory}
+use Rattle.desk_verify.proofs.Common.{AllByRecursion, Fault, Blames, FindsTables, StaysIn, PassesHistory}
 use Rattle.desk_verify.proofs.histories.fit_histories.Given as goal
 
 -- those so far pass

@@ -1,7 +1,5 @@
 use Rattle.std.proofs.Common.{sym, subst}
-use Rattle.sql_calls.proofs.Composing.{both_found, finds_as}
-use Rattle.desk_verify.specs.ActionChecks.{FitsHistory, PassesHistory}
-use Rattle.desk_verify.specs.Agreement.{Settles}
+use Rattle.desk_verify.proofs.Common.{both_found, finds_as, FitsHistory, PassesHistory, Settles}
 use Rattle.desk_verify.proofs.HistoryLemmas.{settles}
 use Rattle.desk_verify.proofs.histories.fits_history.Goals as goal
 

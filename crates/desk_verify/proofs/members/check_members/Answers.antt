@@ -1,4 +1,4 @@
-use Rattle.sql_calls.proofs.Composing.{both_found, finds_as}
+use Rattle.desk_verify.proofs.Common.{both_found, finds_as}
 use Rattle.desk_verify.proofs.MemberLemmas.{agrees}
 use Rattle.desk_verify.proofs.members.check_members.Goals as goal
 

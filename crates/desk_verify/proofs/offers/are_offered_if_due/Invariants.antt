@@ -1,10 +1,5 @@
 use Rattle.std.proofs.Common.{Ok, take}
-use Rattle.std.specs.List.{AllByRecursion}
-use Rattle.sql_calls.specs.declared.fault.Fault.{Fault}
-use Rattle.desk_store.specs.Blaming.{BlamesGiven}
-use Rattle.desk_store.specs.Changing.{FindsTables, StaysIn}
-use Rattle.desk_store.specs.RawLists.{AreOffers}
-use Rattle.desk_verify.specs.OfferChecks.{IsOfferedIfDue}
+use Rattle.desk_verify.proofs.Common.{AllByRecursion, Fault, BlamesGiven, FindsTables, StaysIn, AreOffers, IsOfferedIfDue}
 use Rattle.desk_verify.proofs.offers.are_offered_if_due.Given as goal
 
 -- those so far are offered where they are due

@@ -1,6 +1,5 @@
-use Rattle.sqlite_rules.proofs.ListLemmas.{all_has, has_at}
-use Rattle.sql_calls.proofs.Composing.{both_found, finds_as}
-use Rattle.desk_verify.specs.OfferChecks.{IsRight}
+use Rattle.desk_verify.proofs.Common.{all_has, both_found, finds_as, IsRight}
+use Rattle.sqlite_rules.proofs.ListLemmas.{has_at}
 use Rattle.desk_verify.proofs.offers.are_right.Goals as goal
 
 pub returns-then-not-branch-clause-judges : goal.returns-then-not-branch-clause-judges

@@ -1,10 +1,5 @@
 use Rattle.std.proofs.Common.{Ok, take}
-use Rattle.std.specs.List.{AllByRecursion}
-use Rattle.sql_calls.specs.declared.fault.Fault.{Fault}
-use Rattle.desk_store.specs.Blaming.{BlamesGiven}
-use Rattle.desk_store.specs.Changing.{FindsTables, StaysIn}
-use Rattle.desk_verify.specs.OfferChecks.{IsRight}
-use Rattle.desk_verify.specs.Agreement.{AgreeBefore}
+use Rattle.desk_verify.proofs.Common.{AllByRecursion, Fault, BlamesGiven, FindsTables, StaysIn, IsRight, AgreeBefore}
 use Rattle.desk_verify.specs.declared.damage.CheckedTable.TheVariants.{Offer}
 use Rattle.desk_verify.proofs.offers.are_right.Given as goal
 

@@ -1,8 +1,5 @@
 use Rattle.std.proofs.Common.{Err, sym, ap, subst, ◌∙◌}
-use Rattle.std.proofs.lemmas.Result.{err_from_is_err_and}
-use Rattle.sql_calls.proofs.Composing.{both_found, finds_as}
-use Rattle.desk_verify.specs.Agreement.{Decides}
-use Rattle.desk_verify.specs.Offers.{AgreesOffers}
+use Rattle.desk_verify.proofs.Common.{err_from_is_err_and, both_found, finds_as, Decides, AgreesOffers}
 use Rattle.desk_verify.proofs.Causes.{all_offers, blamed_when, grown}
 use Rattle.desk_verify.proofs.OfferLemmas.{agrees, one_wrong, row_broken}
 use Rattle.desk_verify.proofs.offers.check_offers.Goals as goal

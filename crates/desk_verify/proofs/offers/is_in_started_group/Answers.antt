@@ -1,11 +1,6 @@
 use Rattle.std.proofs.Common.{◌≡◌, Err, sym, subst}
-use Rattle.sql_calls.proofs.Composing.{finds_as}
-use Rattle.sql_calls.specs.declared.fault.Fault.TheVariants.{Store}
-use Rattle.desk_store.proofs.BlameLemmas.{blamed}
+use Rattle.desk_verify.proofs.Common.{finds_as, Store, blamed, Decides, holds_started, IsInStartedGroup}
 use Rattle.desk_verify.proofs.GroupLemmas.{fails_broken}
-use Rattle.desk_verify.specs.Agreement.{Decides}
-use Rattle.desk_verify.specs.OfferChecks.{holds_started}
-use Rattle.desk_verify.specs.Offers.{IsInStartedGroup}
 use Rattle.desk_verify.proofs.OfferLemmas.{started_tells}
 use Rattle.desk_verify.proofs.offers.is_in_started_group.Goals as goal
 

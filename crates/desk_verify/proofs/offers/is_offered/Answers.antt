@@ -1,4 +1,4 @@
-use Rattle.sql_calls.proofs.Composing.{finds_as}
+use Rattle.desk_verify.proofs.Common.{finds_as}
 use Rattle.desk_verify.proofs.OfferLemmas.{no_offer}
 use Rattle.desk_verify.proofs.offers.is_offered.Goals as goal
 

@@ -1,6 +1,5 @@
 use Rattle.std.proofs.Common.{sym, ◌∙◌}
-use Rattle.sql_calls.specs.declared.fault.Fault.{Fault}
-use Rattle.sql_calls.proofs.Composing.{found_then, known}
+use Rattle.desk_verify.proofs.Common.{Fault, found_then, known}
 use Rattle.desk_verify.proofs.OfferLemmas.{if_due}
 use Rattle.desk_verify.proofs.offers.is_offered_if_due.Goals as goal
 

@@ -1,4 +1,4 @@
-use Rattle.sql_calls.proofs.Composing.{finds_as, found_then}
+use Rattle.desk_verify.proofs.Common.{finds_as, found_then}
 use Rattle.desk_verify.proofs.OfferLemmas.{by_group, other_action}
 use Rattle.desk_verify.proofs.offers.is_right.Goals as goal
 

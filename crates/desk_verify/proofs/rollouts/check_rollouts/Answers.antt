@@ -1,10 +1,5 @@
 use Rattle.std.proofs.Common.{◌≡◌, ◌≤◌, ◌+◌, ◌^◌, Err, arith, rules, refl, ap, subst, ◌∙◌}
-use Rattle.std.proofs.lemmas.Result.{err_from_is_err_and}
-use Rattle.sql_calls.specs.declared.fault.Fault.TheVariants.{Store}
-use Rattle.sql_calls.proofs.Composing.{both_found, finds_as}
-use Rattle.desk_verify.specs.RolloutChecks.{AreChecked}
-use Rattle.desk_store.proofs.BlameLemmas.{blamed}
-use Rattle.desk_verify.specs.Judged.{within}
+use Rattle.desk_verify.proofs.Common.{err_from_is_err_and, Store, both_found, finds_as, AreChecked, blamed, within}
 use Rattle.desk_verify.proofs.Causes.{blamed_when, grown, listed_many, up_to}
 use Rattle.desk_verify.proofs.RolloutLemmas.{none_yet, one_more}
 use Rattle.desk_verify.proofs.rollouts.check_rollouts.Goals as goal

@@ -1,10 +1,5 @@
 use Rattle.std.proofs.Common.{Ok}
-use Rattle.sql_calls.specs.declared.fault.Fault.{Fault}
-use Rattle.desk_records.specs.Listings.{IsLast}
-use Rattle.desk_records.specs.Schema.{Rollouts}
-use Rattle.desk_store.specs.Blaming.{BlamesGiven}
-use Rattle.desk_store.specs.Changing.{FindsTables, StaysIn}
-use Rattle.desk_verify.specs.RolloutChecks.{AreChecked}
+use Rattle.desk_verify.proofs.Common.{Fault, IsLast, Rollouts, BlamesGiven, FindsTables, StaysIn, AreChecked}
 use Rattle.desk_verify.proofs.rollouts.check_rollouts.Given as goal
 
 -- so many rows were listed, and those of the rollouts so far are as they are to be

@@ -1,10 +1,5 @@
 use Rattle.std.proofs.Common.{◌≡◌, Err, None, sym, subst, ◌∙◌}
-use Rattle.sql_calls.specs.declared.fault.Fault.TheVariants.{Store}
-use Rattle.sql_calls.proofs.Composing.{known}
-use Rattle.rollout_model.specs.Rules.{number_of}
-use Rattle.desk_store.specs.Unreadable.{missing_rollout}
-use Rattle.desk_store.proofs.BlameLemmas.{blamed}
-use Rattle.desk_verify.specs.RolloutChecks.{IsUpTo}
+use Rattle.desk_verify.proofs.Common.{Store, known, number_of, missing_rollout, blamed, IsUpTo}
 use Rattle.desk_verify.proofs.Causes.{even, past_limit, same_number}
 use Rattle.desk_verify.proofs.rollouts.rollout_of.Goals as goal
 

@@ -1,5 +1,5 @@
 use Rattle.std.proofs.Common.{◌≡◌, drop}
-use Rattle.desk_verify.specs.ActionChecks.{count_on}
+use Rattle.desk_verify.proofs.Common.{count_on}
 use Rattle.desk_verify.proofs.turns.count_on.Given as goal
 
 -- the rest counts on where all do

@@ -1,7 +1,5 @@
 use Rattle.std.proofs.Common.{◌≡◌, drop, map}
-use Rattle.desk_records.specs.declared.rollout_row.ListedAction.{ListedAction}
-use Rattle.desk_store.specs.Unreadable.{rise}
-use Rattle.desk_verify.specs.ActionChecks.{numbers_rise}
+use Rattle.desk_verify.proofs.Common.{ListedAction, rise, numbers_rise}
 use Rattle.desk_verify.proofs.turns.numbers_rise.Given as goal
 
 -- the rest rises where all do

@@ -1,7 +1,5 @@
 use Rattle.std.proofs.Common.{◌≡◌, drop, map}
-use Rattle.desk_records.specs.declared.entry_row.SequencedEntry.{SequencedEntry}
-use Rattle.desk_store.specs.Unreadable.{rise}
-use Rattle.desk_verify.specs.ActionChecks.{sequences_rise}
+use Rattle.desk_verify.proofs.Common.{SequencedEntry, rise, sequences_rise}
 use Rattle.desk_verify.proofs.turns.sequences_rise.Given as goal
 
 -- the rest rises where all do

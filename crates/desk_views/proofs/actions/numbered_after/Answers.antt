@@ -1,10 +1,6 @@
 use Rattle.std.proofs.Common.{◌+◌, sym, ap, ◌∙◌, arith, ◌++◌, ◌∷◌, []}
-use Rattle.std.proofs.lemmas.List.{length-append}
-use Rattle.std.specs.Result.{is_ok}
-use Rattle.rollout_machine.specs.Objects.{numbered}
-use Rattle.desk_views.specs.Actions.{entry_by}
+use Rattle.desk_views.proofs.Common.{length-append, is_ok, numbered, entry_by, all_given}
 use Rattle.desk_views.proofs.HistoryViews.{numbered_more}
-use Rattle.desk_reads.proofs.ListedTargets.{all_given}
 use Rattle.desk_views.proofs.actions.numbered_after.Goals as goal
 
 pub loop-entry-preserved : goal.loop-entry-preserved

@@ -1,6 +1,5 @@
 use Rattle.std.proofs.Common.{◌≡◌, ◌+◌, length}
-use Rattle.rollout_machine.specs.Objects.{numbered}
-use Rattle.desk_views.specs.Actions.{entry_by}
+use Rattle.desk_views.proofs.Common.{numbered, entry_by}
 use Rattle.desk_views.proofs.actions.numbered_after.Given as goal
 
 -- those that were gone through

@@ -1,8 +1,5 @@
 use Rattle.std.proofs.Common.{map, ap, ◌∙◌, arith, rules}
-use Rattle.std.proofs.lemmas.List.{take_all}
-use Rattle.std.specs.Result.{is_ok}
-use Rattle.sql_calls.proofs.Composing.{both_found, finds_as}
-use Rattle.desk_views.specs.Actions.{listed_shown}
+use Rattle.desk_views.proofs.Common.{take_all, is_ok, both_found, finds_as, listed_shown}
 use Rattle.desk_views.proofs.ActionViews.{more_shown}
 use Rattle.desk_views.proofs.actions.read_all_shown.Goals as goal
 

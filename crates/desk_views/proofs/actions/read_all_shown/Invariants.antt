@@ -1,8 +1,5 @@
 use Rattle.std.proofs.Common.{◌≡◌, Ok, map, take}
-use Rattle.sql_calls.specs.declared.fault.Fault.{Fault}
-use Rattle.desk_views.specs.Actions.{listed_shown}
-use Rattle.desk_reads.specs.AtLists.{FindsAtListsIn}
-use Rattle.desk_store.specs.Changing.{StaysIn}
+use Rattle.desk_views.proofs.Common.{Fault, listed_shown, FindsAtListsIn, StaysIn}
 use Rattle.desk_views.proofs.actions.read_all_shown.Given as goal
 
 -- those so far

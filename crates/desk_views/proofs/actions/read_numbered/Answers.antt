@@ -1,7 +1,5 @@
 use Rattle.std.proofs.Common.{◌≡◌, ◌∙◌, arith, length}
-use Rattle.std.proofs.lemmas.Bool.Decides.{nat_tests}
-use Rattle.sql_calls.proofs.Composing.{both_found, finds_as}
-use Rattle.desk_store.proofs.LedgersOfRecords.{ledger_found}
+use Rattle.desk_views.proofs.Common.{nat_tests, both_found, finds_as, ledger_found}
 use Rattle.desk_views.proofs.HistoryViews.{none_numbered, page_numbered}
 use Rattle.desk_views.proofs.actions.read_numbered.Goals as goal
 

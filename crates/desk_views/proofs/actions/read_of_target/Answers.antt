@@ -1,7 +1,5 @@
 use Rattle.std.proofs.Common.{sym, ◌∙◌}
-use Rattle.sql_calls.proofs.Composing.{finds_as}
-use Rattle.rollout_machine.specs.ByteStrings.{item_numbered}
-use Rattle.desk_store.proofs.LedgersOfRecords.{ledger_found}
+use Rattle.desk_views.proofs.Common.{finds_as, item_numbered, ledger_found}
 use Rattle.desk_views.proofs.ActionViews.{no_action, one_action, stored_at}
 use Rattle.desk_views.proofs.actions.read_of_target.Goals as goal
 

@@ -1,9 +1,5 @@
 use Rattle.std.proofs.Common.{ap, ◌∙◌}
-use Rattle.sql_calls.proofs.Composing.{finds_as}
-use Rattle.rollout_machine.specs.StateWords.{group_holding}
-use Rattle.desk_store.proofs.LedgersOfRecords.{ledger_found}
-use Rattle.desk_views.specs.Actions.{shown_in}
-use Rattle.desk_reads.proofs.ListLemmas.{groups_are}
+use Rattle.desk_views.proofs.Common.{finds_as, group_holding, ledger_found, shown_in, groups_are}
 use Rattle.desk_views.proofs.actions.read_shown.Goals as goal
 
 pub returns-clause-reads : goal.returns-clause-reads

@@ -1,8 +1,4 @@
-use Rattle.sql_calls.proofs.Composing.{both_found, finds_as}
-use Rattle.rollout_machine.specs.Answers.{action_of_target}
-use Rattle.rollout_machine.specs.Objects.{action_shown}
-use Rattle.rollout_machine.specs.Replies.{ActionShown}
-use Rattle.desk_views.specs.Actions.{stored_in}
+use Rattle.desk_views.proofs.Common.{both_found, finds_as, action_of_target, action_shown, ActionShown, stored_in}
 use Rattle.desk_views.proofs.ActionViews.{action_replied, not_found}
 use Rattle.desk_views.proofs.actions.show_action.Goals as goal
 

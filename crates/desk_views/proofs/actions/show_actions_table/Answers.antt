@@ -1,14 +1,6 @@
 use Rattle.std.proofs.Common.{sym, ap, ◌∙◌, not, map, length}
-use Rattle.std.specs.Option.{is_some}
-use Rattle.sql_calls.proofs.Composing.{both_found, finds_as}
-use Rattle.desk_records.specs.RolloutRow.{stored_rollout}
-use Rattle.rollout_machine.specs.ByteStrings.{item_numbered}
-use Rattle.rollout_machine.specs.Objects.{actions_of_rollout}
-use Rattle.rollout_machine.specs.Replies.{ActionsTableShown}
-use Rattle.desk_store.proofs.LedgersOfRecords.{ledger_found}
-use Rattle.desk_views.specs.Actions.{shown_among}
+use Rattle.desk_views.proofs.Common.{is_some, both_found, finds_as, stored_rollout, item_numbered, actions_of_rollout, ActionsTableShown, ledger_found, shown_among, groups_are}
 use Rattle.desk_views.proofs.ActionViews.{all_listed, none_there, of_rollout_is, one_there}
-use Rattle.desk_reads.proofs.ListLemmas.{groups_are}
 use Rattle.desk_views.proofs.actions.show_actions_table.Goals as goal
 
 pub returns-then-is_none-clause-shows : goal.returns-then-is_none-clause-shows

@@ -1,9 +1,4 @@
-use Rattle.sql_calls.proofs.Composing.{both_found, finds_as}
-use Rattle.rollout_machine.specs.Answers.{action_of_target}
-use Rattle.rollout_machine.specs.ByteStrings.{item_numbered}
-use Rattle.rollout_machine.specs.Objects.{entry_shown, numbered, page_of}
-use Rattle.rollout_machine.specs.Replies.{HistoryShown}
-use Rattle.desk_views.specs.Actions.{stored_in}
+use Rattle.desk_views.proofs.Common.{both_found, finds_as, action_of_target, item_numbered, entry_shown, numbered, page_of, HistoryShown, stored_in}
 use Rattle.desk_views.proofs.ActionViews.{not_found}
 use Rattle.desk_views.proofs.HistoryViews.{history_replied}
 use Rattle.desk_views.proofs.actions.show_history.Goals as goal

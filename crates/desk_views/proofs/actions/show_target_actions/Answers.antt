@@ -1,12 +1,5 @@
 use Rattle.std.proofs.Common.{sym, ap, ◌∙◌, not, map, take, drop, length}
-use Rattle.std.specs.Option.{is_some}
-use Rattle.sql_calls.proofs.Composing.{both_found, finds_as}
-use Rattle.desk_records.specs.TargetRow.{stored_target}
-use Rattle.rollout_machine.specs.Objects.{actions_of_target, page_of}
-use Rattle.rollout_machine.specs.Replies.{ActionsShown}
-use Rattle.rollout_machine.specs.Verdicts.{target_of}
-use Rattle.desk_store.proofs.LedgersOfRecords.{ledger_found}
-use Rattle.desk_views.specs.Actions.{listed_shown}
+use Rattle.desk_views.proofs.Common.{is_some, both_found, finds_as, stored_target, actions_of_target, page_of, ActionsShown, target_of, ledger_found, listed_shown}
 use Rattle.desk_views.proofs.ActionViews.{all_listed, none_there, of_target_is, one_there, page_is}
 use Rattle.desk_views.proofs.TargetViews.{id_found}
 use Rattle.desk_views.proofs.actions.show_target_actions.Goals as goal

@@ -1,4 +1,4 @@
-use Rattle.sql_calls.proofs.Composing.{found_if}
+use Rattle.desk_views.proofs.Common.{found_if}
 use Rattle.std.proofs.Common.{◌∙◌}
 use Rattle.desk_views.proofs.artifacts.read_contents.Goals as goal
 

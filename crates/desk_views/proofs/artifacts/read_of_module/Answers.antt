@@ -1,6 +1,5 @@
 use Rattle.std.proofs.Common.{sym, ◌∙◌}
-use Rattle.sql_calls.proofs.Composing.{finds_as}
-use Rattle.rollout_machine.specs.ByteStrings.{item_numbered}
+use Rattle.desk_views.proofs.Common.{finds_as, item_numbered}
 use Rattle.desk_views.proofs.ArtifactViews.{no_artifact, of_another, of_this, same_module}
 use Rattle.desk_views.proofs.artifacts.read_of_module.Goals as goal
 

@@ -1,7 +1,5 @@
 use Rattle.std.proofs.Common.{◌++◌, sym, ap, ◌∙◌, arith, rules}
-use Rattle.sql_calls.proofs.Composing.{both_found, finds_as}
-use Rattle.desk_records.specs.Artifacts.{pieces_of_artifact}
-use Rattle.rollout_machine.specs.ByteStrings.{item_numbered}
+use Rattle.desk_views.proofs.Common.{both_found, finds_as, pieces_of_artifact, item_numbered}
 use Rattle.desk_views.proofs.ArtifactViews.{pieces_end, pieces_grow}
 use Rattle.desk_views.proofs.artifacts.read_pieces.Goals as goal
 

@@ -1,9 +1,6 @@
 use Rattle.std.proofs.Common.{◌≡◌, ◌≤◌, ◌-◌, Ok, take}
-use Rattle.sql_calls.specs.declared.fault.Fault.{Fault}
-use Rattle.desk_records.specs.Artifacts.{pieces_of_artifact}
-use Rattle.rollout_machine.specs.ByteStrings.{item_numbered}
+use Rattle.desk_views.proofs.Common.{Fault, pieces_of_artifact, item_numbered, FindsIn, StaysIn}
 use Rattle.desk_views.proofs.ArtifactViews.{together}
-use Rattle.desk_store.specs.Changing.{FindsIn, StaysIn}
 use Rattle.desk_views.proofs.artifacts.read_pieces.Given as goal
 
 -- the bytes so far are those of the first pieces

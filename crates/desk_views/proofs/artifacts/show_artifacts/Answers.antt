@@ -1,6 +1,5 @@
 use Rattle.std.proofs.Common.{sym, ap, ◌∙◌, not, drop, length, take}
-use Rattle.sql_calls.proofs.Composing.{both_found, finds_as}
-use Rattle.rollout_machine.specs.Objects.{artifacts_shown}
+use Rattle.desk_views.proofs.Common.{both_found, finds_as, artifacts_shown}
 use Rattle.desk_views.proofs.ArtifactViews.{no_module, page_shown}
 use Rattle.desk_views.proofs.artifacts.show_artifacts.Goals as goal
 

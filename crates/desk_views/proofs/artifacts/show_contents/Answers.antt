@@ -1,7 +1,5 @@
 use Rattle.std.proofs.Common.{sym, arith}
-use Rattle.sql_calls.proofs.Composing.{both_found, finds_as}
-use Rattle.rollout_machine.specs.Answers.{artifact_of_module}
-use Rattle.rollout_machine.specs.ByteStrings.{item_numbered}
+use Rattle.desk_views.proofs.Common.{both_found, finds_as, artifact_of_module, item_numbered}
 use Rattle.desk_views.proofs.ArtifactViews.{contents_replied, no_contents}
 use Rattle.desk_views.proofs.artifacts.show_contents.Goals as goal
 

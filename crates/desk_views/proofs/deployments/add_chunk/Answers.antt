@@ -1,4 +1,4 @@
-use Rattle.sql_calls.proofs.Composing.{both_found, finds_as, found_if}
+use Rattle.desk_views.proofs.Common.{both_found, finds_as, found_if}
 use Rattle.std.proofs.Common.{refl}
 use Rattle.desk_views.proofs.DeviceViews.{no_chunk, one_chunk}
 use Rattle.desk_views.proofs.deployments.add_chunk.Goals as goal

@@ -1,7 +1,5 @@
 use Rattle.std.proofs.Common.{◌∙◌, IfOk, ap, subst, sym}
-use Rattle.sql_calls.proofs.Composing.{both_found, finds_as}
-use Rattle.desk_views.specs.Downloads.{named}
-use Rattle.desk_views.specs.Sizes.{IsOfName}
+use Rattle.desk_views.proofs.Common.{both_found, finds_as, named, IsOfName}
 use Rattle.desk_views.proofs.DeviceViews.{is_named, named_said, not_among, not_known}
 use Rattle.desk_views.proofs.deployments.find_download.Goals as goal
 

@@ -1,6 +1,5 @@
-use Rattle.sql_calls.proofs.Composing.{found_then}
+use Rattle.desk_views.proofs.Common.{found_then, chunks_of}
 use Rattle.std.proofs.Common.{ap, ◌∙◌}
-use Rattle.rollout_machine.specs.Objects.{chunks_of}
 use Rattle.desk_views.proofs.deployments.read_chunks.Goals as goal
 
 pub returns-clause-reads : goal.returns-clause-reads

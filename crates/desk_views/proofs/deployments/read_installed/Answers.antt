@@ -1,4 +1,4 @@
-use Rattle.sql_calls.proofs.Composing.{known}
+use Rattle.desk_views.proofs.Common.{known}
 use Rattle.desk_views.proofs.deployments.read_installed.Goals as goal
 
 pub returns-then-offer-clause-reads : goal.returns-then-offer-clause-reads

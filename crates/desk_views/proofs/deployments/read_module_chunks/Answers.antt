@@ -1,8 +1,6 @@
 use Rattle.std.proofs.Common.{ap, ◌∙◌, rules}
-use Rattle.sql_calls.proofs.Composing.{both_found, finds_as}
-use Rattle.rollout_machine.specs.Objects.{chunks_of}
+use Rattle.desk_views.proofs.Common.{both_found, finds_as, chunks_of, all_given}
 use Rattle.desk_views.proofs.DeviceViews.{chunks_grow}
-use Rattle.desk_reads.proofs.ListedTargets.{all_given}
 use Rattle.desk_views.proofs.deployments.read_module_chunks.Goals as goal
 
 pub loop-module_number-preserved : goal.loop-module_number-preserved

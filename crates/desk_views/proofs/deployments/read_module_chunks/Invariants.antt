@@ -1,8 +1,5 @@
 use Rattle.std.proofs.Common.{◌≡◌, Ok, map}
-use Rattle.sql_calls.specs.declared.fault.Fault.{Fault}
-use Rattle.rollout_machine.specs.Objects.{chunks_of}
-use Rattle.rollout_machine.specs.Views.{chunk}
-use Rattle.desk_store.specs.Changing.{FindsIn, StaysIn}
+use Rattle.desk_views.proofs.Common.{Fault, chunks_of, chunk, FindsIn, StaysIn}
 use Rattle.desk_views.proofs.deployments.read_module_chunks.Given as goal
 
 -- the chunks so far are those of the modules that were gone through

@@ -1,7 +1,5 @@
-use Rattle.sql_calls.proofs.Composing.{finds_as, found_then}
+use Rattle.desk_views.proofs.Common.{finds_as, found_then, ledger_found, modules_offered}
 use Rattle.std.proofs.Common.{◌∙◌, ap}
-use Rattle.desk_store.proofs.LedgersOfRecords.{ledger_found}
-use Rattle.rollout_machine.specs.Answers.{modules_offered}
 use Rattle.desk_views.proofs.deployments.read_offered_modules.Goals as goal
 
 pub returns-in-Some-clause-reads : goal.returns-in-Some-clause-reads

@@ -1,6 +1,5 @@
-use Rattle.sql_calls.proofs.Composing.{finds_as, found_then}
+use Rattle.desk_views.proofs.Common.{finds_as, found_then, ledger_found}
 use Rattle.std.proofs.Common.{◌∙◌}
-use Rattle.desk_store.proofs.LedgersOfRecords.{ledger_found}
 use Rattle.desk_views.proofs.DeviceViews.{no_rollout_modules, rollout_modules}
 use Rattle.desk_views.proofs.deployments.read_rollout_modules.Goals as goal
 

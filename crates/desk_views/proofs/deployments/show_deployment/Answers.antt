@@ -1,7 +1,5 @@
 use Rattle.std.proofs.Common.{List, false, ap, ◌∙◌}
-use Rattle.sql_calls.proofs.Composing.{both_found, finds_as}
-use Rattle.desk_store.proofs.LedgersOfRecords.{ledger_found}
-use Rattle.rollout_machine.specs.Replies.{Chunk, DeploymentShown}
+use Rattle.desk_views.proofs.Common.{both_found, finds_as, ledger_found, Chunk, DeploymentShown}
 use Rattle.desk_views.proofs.DeviceViews.{not_offered, offered, turned_away}
 use Rattle.desk_views.proofs.deployments.show_deployment.Goals as goal
 

@@ -1,5 +1,5 @@
 use Rattle.std.proofs.Common.{sym, arith}
-use Rattle.sql_calls.proofs.Composing.{both_found, finds_as}
+use Rattle.desk_views.proofs.Common.{both_found, finds_as}
 use Rattle.desk_views.proofs.DeviceViews.{answered_by, downloaded}
 use Rattle.desk_views.proofs.deployments.show_download.Goals as goal
 

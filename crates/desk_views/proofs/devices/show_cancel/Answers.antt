@@ -1,6 +1,5 @@
 use Rattle.std.proofs.Common.{true}
-use Rattle.sql_calls.proofs.Composing.{both_found, finds_as}
-use Rattle.desk_store.proofs.LedgersOfRecords.{ledger_found}
+use Rattle.desk_views.proofs.Common.{both_found, finds_as, ledger_found}
 use Rattle.desk_views.proofs.DeviceViews.{not_offered, offered, turned_away}
 use Rattle.desk_views.proofs.devices.show_cancel.Goals as goal
 

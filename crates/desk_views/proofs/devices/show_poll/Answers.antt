@@ -1,7 +1,5 @@
 use Rattle.std.proofs.Common.{ap, ◌∙◌}
-use Rattle.sql_calls.proofs.Composing.{both_found, finds_as}
-use Rattle.desk_store.proofs.LedgersOfRecords.{ledger_found}
-use Rattle.rollout_machine.specs.Replies.{PollShown}
+use Rattle.desk_views.proofs.Common.{both_found, finds_as, ledger_found, PollShown}
 use Rattle.desk_views.proofs.DeviceViews.{answered, turned_away}
 use Rattle.desk_views.proofs.devices.show_poll.Goals as goal
 

@@ -1,5 +1,4 @@
-use Rattle.sql_calls.proofs.Composing.{finds_as}
-use Rattle.rollout_machine.specs.Verdicts.{target_of}
+use Rattle.desk_views.proofs.Common.{finds_as, target_of}
 use Rattle.desk_views.proofs.MemberViews.{none_added, one_added}
 use Rattle.desk_views.proofs.groups.add_target.Goals as goal
 

@@ -1,8 +1,5 @@
 use Rattle.std.proofs.Common.{◌≡◌, map, take}
-use Rattle.rollout_machine.specs.GroupRules.{rules_of}
-use Rattle.rollout_machine.specs.Objects.{group_shown}
-use Rattle.rollout_machine.specs.declared.records.RolloutRecord.{RolloutRecord}
-use Rattle.desk_reads.specs.Rollouts.{IsSeenOf}
+use Rattle.desk_views.proofs.Common.{rules_of, group_shown, RolloutRecord, IsSeenOf}
 use Rattle.desk_views.proofs.groups.all_shown.Given as goal
 
 -- those so far

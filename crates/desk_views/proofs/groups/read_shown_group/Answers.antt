@@ -1,6 +1,4 @@
-use Rattle.sql_calls.proofs.Composing.{found_if}
-use Rattle.desk_store.proofs.LedgersOfRecords.{ledger_found}
-use Rattle.desk_reads.proofs.RuleLemmas.{said_of}
+use Rattle.desk_views.proofs.Common.{found_if, ledger_found, said_of}
 use Rattle.desk_views.proofs.groups.read_shown_group.Goals as goal
 
 pub returns-in-Some-clause-reads : goal.returns-in-Some-clause-reads

@@ -1,9 +1,6 @@
 use Rattle.std.proofs.Common.{ap, ◌∙◌, rules}
-use Rattle.sql_calls.proofs.Composing.{both_found, finds_as}
-use Rattle.rollout_machine.specs.Answers.{targets_of}
-use Rattle.rollout_machine.specs.Objects.{targets_shown}
+use Rattle.desk_views.proofs.Common.{both_found, finds_as, targets_of, targets_shown, all_given}
 use Rattle.desk_views.proofs.MemberViews.{targets_grow}
-use Rattle.desk_reads.proofs.ListedTargets.{all_given}
 use Rattle.desk_views.proofs.groups.read_targets.Goals as goal
 
 pub loop-id-preserved : goal.loop-id-preserved

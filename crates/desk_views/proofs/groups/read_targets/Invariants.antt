@@ -1,9 +1,5 @@
 use Rattle.std.proofs.Common.{◌≡◌, Ok, map}
-use Rattle.sql_calls.specs.declared.fault.Fault.{Fault}
-use Rattle.rollout_machine.specs.Answers.{targets_of}
-use Rattle.rollout_machine.specs.Objects.{targets_shown}
-use Rattle.rollout_machine.specs.Views.{shown_target}
-use Rattle.desk_store.specs.Changing.{FindsIn, StaysIn}
+use Rattle.desk_views.proofs.Common.{Fault, targets_of, targets_shown, shown_target, FindsIn, StaysIn}
 use Rattle.desk_views.proofs.groups.read_targets.Given as goal
 
 -- the targets of the ids that were gone through

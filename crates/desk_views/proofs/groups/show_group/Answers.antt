@@ -1,15 +1,6 @@
 use Rattle.std.proofs.Common.{Some, ap, subst, ◌∙◌}
-use Rattle.sql_calls.proofs.Composing.{both_found, finds_as}
-use Rattle.campaign_core.specs.RolloutChecks.{BothOrNone}
-use Rattle.rollout_machine.specs.Answers.{group_reply}
-use Rattle.rollout_machine.specs.ByteStrings.{item_numbered}
-use Rattle.rollout_machine.specs.Objects.{group_shown}
-use Rattle.rollout_machine.specs.Replies.{GroupShown}
-use Rattle.rollout_machine.specs.StateWords.{group_numbered}
-use Rattle.desk_store.proofs.LedgersOfRecords.{ledger_found}
-use Rattle.desk_reads.specs.Rollouts.{IsSeenOf}
+use Rattle.desk_views.proofs.Common.{both_found, finds_as, BothOrNone, group_reply, item_numbered, group_shown, GroupShown, group_numbered, ledger_found, IsSeenOf, groups_are}
 use Rattle.desk_views.proofs.GroupViews.{no_group, one_group}
-use Rattle.desk_reads.proofs.ListLemmas.{groups_are}
 use Rattle.desk_views.proofs.RolloutViews.{none_replied}
 use Rattle.desk_views.proofs.groups.show_group.Goals as goal
 

@@ -1,13 +1,6 @@
 use Rattle.std.proofs.Common.{ap, ◌∙◌}
-use Rattle.sql_calls.proofs.Composing.{both_found, finds_as}
-use Rattle.rollout_machine.specs.Answers.{targets_of}
-use Rattle.rollout_machine.specs.ByteStrings.{item_numbered}
-use Rattle.rollout_machine.specs.Objects.{members_in, page_of, targets_shown}
-use Rattle.rollout_machine.specs.Replies.{TargetsShown}
-use Rattle.rollout_machine.specs.StateWords.{group_numbered}
-use Rattle.desk_store.proofs.LedgersOfRecords.{ledger_found}
+use Rattle.desk_views.proofs.Common.{both_found, finds_as, targets_of, item_numbered, members_in, page_of, targets_shown, TargetsShown, group_numbered, ledger_found, groups_are}
 use Rattle.desk_views.proofs.GroupViews.{no_group, one_group}
-use Rattle.desk_reads.proofs.ListLemmas.{groups_are}
 use Rattle.desk_views.proofs.MemberViews.{members_paged}
 use Rattle.desk_views.proofs.groups.show_group_targets.Goals as goal
 

@@ -1,5 +1,5 @@
 use Rattle.std.proofs.Common.{Some, sym}
-use Rattle.sql_calls.proofs.Composing.{finds_as}
+use Rattle.desk_views.proofs.Common.{finds_as}
 use Rattle.desk_views.proofs.ModuleViews.{entry_is}
 use Rattle.desk_views.proofs.PageLemmas.{same_number}
 use Rattle.desk_views.proofs.modules.read_entry.Goals as goal

@@ -1,7 +1,5 @@
 use Rattle.std.proofs.Common.{◌≡◌, Ok, drop, take}
-use Rattle.sql_calls.specs.declared.fault.Fault.{Fault}
-use Rattle.rollout_machine.specs.Objects.{modules_shown}
-use Rattle.desk_store.specs.Changing.{FindsIn, StaysIn}
+use Rattle.desk_views.proofs.Common.{Fault, modules_shown, FindsIn, StaysIn}
 use Rattle.desk_views.proofs.modules.read_page.Given as goal
 
 -- the entries so far are the first of the page

@@ -1,5 +1,5 @@
 use Rattle.std.proofs.Common.{refl, sym}
-use Rattle.sql_calls.proofs.Composing.{both_found, finds_as}
+use Rattle.desk_views.proofs.Common.{both_found, finds_as}
 use Rattle.desk_views.proofs.ModuleViews.{module_is}
 use Rattle.desk_views.proofs.modules.read_shown.Goals as goal
 

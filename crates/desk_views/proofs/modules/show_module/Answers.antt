@@ -1,5 +1,5 @@
 use Rattle.std.proofs.Common.{Some, None}
-use Rattle.sql_calls.proofs.Composing.{finds_as}
+use Rattle.desk_views.proofs.Common.{finds_as}
 use Rattle.desk_views.proofs.ModuleViews.{replied}
 use Rattle.desk_views.proofs.modules.show_module.Goals as goal
 

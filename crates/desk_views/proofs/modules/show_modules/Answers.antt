@@ -1,4 +1,4 @@
-use Rattle.sql_calls.proofs.Composing.{both_found, finds_as}
+use Rattle.desk_views.proofs.Common.{both_found, finds_as}
 use Rattle.desk_views.proofs.ModuleViews.{page_replied}
 use Rattle.desk_views.proofs.modules.show_modules.Goals as goal
 

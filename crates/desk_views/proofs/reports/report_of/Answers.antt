@@ -1,5 +1,5 @@
 use Rattle.std.proofs.Common.{sym, ap, ◌∙◌, map}
-use Rattle.rollout_machine.specs.Objects.{group_shown}
+use Rattle.desk_views.proofs.Common.{group_shown}
 use Rattle.desk_views.proofs.GroupViews.{groups_mapped}
 use Rattle.desk_views.proofs.reports.report_of.Goals as goal
 

@@ -1,10 +1,5 @@
 use Rattle.std.proofs.Common.{ap, ◌∙◌}
-use Rattle.sql_calls.proofs.Composing.{both_found, finds_as}
-use Rattle.rollout_machine.specs.ByteStrings.{item_numbered}
-use Rattle.rollout_machine.specs.Objects.{report_of}
-use Rattle.rollout_machine.specs.Replies.{ReportShown}
-use Rattle.desk_store.proofs.LedgersOfRecords.{ledger_found}
-use Rattle.desk_reads.proofs.RuleLemmas.{rules_there}
+use Rattle.desk_views.proofs.Common.{both_found, finds_as, item_numbered, report_of, ReportShown, ledger_found, rules_there}
 use Rattle.desk_views.proofs.RolloutViews.{none_replied, one_replied}
 use Rattle.desk_views.proofs.reports.show_report.Goals as goal
 

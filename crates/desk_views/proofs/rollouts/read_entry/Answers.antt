@@ -1,5 +1,5 @@
 use Rattle.std.proofs.Common.{sym}
-use Rattle.sql_calls.proofs.Composing.{finds_as}
+use Rattle.desk_views.proofs.Common.{finds_as}
 use Rattle.desk_views.proofs.PageLemmas.{same_number}
 use Rattle.desk_views.proofs.RolloutViews.{entry_is}
 use Rattle.desk_views.proofs.rollouts.read_entry.Goals as goal

@@ -1,7 +1,5 @@
 use Rattle.std.proofs.Common.{sym, ap, ◌∙◌, arith, rules}
-use Rattle.std.specs.Result.{is_ok}
-use Rattle.sql_calls.proofs.Composing.{both_found, finds_as}
-use Rattle.rollout_machine.specs.Objects.{rollouts_shown}
+use Rattle.desk_views.proofs.Common.{is_ok, both_found, finds_as, rollouts_shown}
 use Rattle.desk_views.proofs.PageLemmas.{page_ends, page_grows}
 use Rattle.desk_views.proofs.RolloutViews.{shown_count}
 use Rattle.desk_views.proofs.rollouts.read_page.Goals as goal

@@ -1,8 +1,5 @@
 use Rattle.std.proofs.Common.{◌≡◌, Ok, drop, take}
-use Rattle.sql_calls.specs.declared.fault.Fault.{Fault}
-use Rattle.rollout_machine.specs.Objects.{rollouts_shown}
-use Rattle.desk_reads.specs.AtLists.{FindsAtListsIn}
-use Rattle.desk_store.specs.Changing.{StaysIn}
+use Rattle.desk_views.proofs.Common.{Fault, rollouts_shown, FindsAtListsIn, StaysIn}
 use Rattle.desk_views.proofs.rollouts.read_page.Given as goal
 
 -- the entries so far are the first of the page

@@ -1,8 +1,5 @@
 use Rattle.std.proofs.Common.{ap}
-use Rattle.sql_calls.proofs.Composing.{finds_as}
-use Rattle.rollout_machine.specs.ByteStrings.{item_numbered}
-use Rattle.rollout_machine.specs.Objects.{rollout_shown}
-use Rattle.rollout_machine.specs.Replies.{RolloutShown}
+use Rattle.desk_views.proofs.Common.{finds_as, item_numbered, rollout_shown, RolloutShown}
 use Rattle.desk_views.proofs.RolloutViews.{none_replied, one_replied}
 use Rattle.desk_views.proofs.rollouts.show_rollout.Goals as goal
 

@@ -1,5 +1,4 @@
-use Rattle.sql_calls.proofs.Composing.{both_found, finds_as}
-use Rattle.desk_store.proofs.LedgersOfRecords.{ledger_found}
+use Rattle.desk_views.proofs.Common.{both_found, finds_as, ledger_found}
 use Rattle.desk_views.proofs.RolloutViews.{page_replied}
 use Rattle.desk_views.proofs.rollouts.show_rollouts.Goals as goal
 

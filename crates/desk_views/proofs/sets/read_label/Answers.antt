@@ -1,6 +1,5 @@
 use Rattle.std.proofs.Common.{◌∙◌}
-use Rattle.sql_calls.proofs.Composing.{both_found, finds_as}
-use Rattle.rollout_machine.specs.ByteStrings.{item_numbered}
+use Rattle.desk_views.proofs.Common.{both_found, finds_as, item_numbered}
 use Rattle.desk_views.proofs.SetViews.{no_set, one_set}
 use Rattle.desk_views.proofs.sets.read_label.Goals as goal
 

@@ -1,5 +1,5 @@
 use Rattle.std.proofs.Common.{Some, None}
-use Rattle.sql_calls.proofs.Composing.{finds_as}
+use Rattle.desk_views.proofs.Common.{finds_as}
 use Rattle.desk_views.proofs.SetViews.{replied}
 use Rattle.desk_views.proofs.sets.show_set.Goals as goal
 

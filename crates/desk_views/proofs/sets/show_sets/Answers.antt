@@ -1,4 +1,4 @@
-use Rattle.sql_calls.proofs.Composing.{both_found, finds_as}
+use Rattle.desk_views.proofs.Common.{both_found, finds_as}
 use Rattle.desk_views.proofs.SetViews.{page_replied}
 use Rattle.desk_views.proofs.sets.show_sets.Goals as goal
 

@@ -1,6 +1,5 @@
-use Rattle.sql_calls.proofs.Composing.{found_if, known}
+use Rattle.desk_views.proofs.Common.{found_if, known, worded}
 use Rattle.std.proofs.Common.{◌++◌, ◌∷◌, [], false, true, ap, ◌∙◌, refl, rules, sym}
-use Rattle.desk_views.specs.Targets.{worded}
 use Rattle.desk_views.proofs.TargetPages.{page_with}
 use Rattle.desk_views.proofs.target_pages.add.Goals as goal
 

@@ -1,6 +1,5 @@
 use Rattle.std.proofs.Common.{ap, ◌∙◌}
-use Rattle.sql_calls.proofs.Composing.{both_found, finds_as, found_held}
-use Rattle.rollout_machine.specs.Objects.{page_of}
+use Rattle.desk_views.proofs.Common.{both_found, finds_as, found_held, page_of}
 use Rattle.desk_views.proofs.TargetPages.{chunk_matched}
 use Rattle.desk_views.proofs.target_pages.add_chunk.Goals as goal
 

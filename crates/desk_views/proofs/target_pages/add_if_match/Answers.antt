@@ -1,6 +1,5 @@
 use Rattle.std.proofs.Common.{ap, ◌∙◌}
-use Rattle.sql_calls.proofs.Composing.{both_found, finds_as}
-use Rattle.rollout_machine.specs.Objects.{page_of}
+use Rattle.desk_views.proofs.Common.{both_found, finds_as, page_of}
 use Rattle.desk_views.proofs.TargetPages.{match_added, match_left}
 use Rattle.desk_views.proofs.target_pages.add_if_match.Goals as goal
 

@@ -1,9 +1,5 @@
 use Rattle.std.proofs.Common.{◌++◌, map, ap, ◌∙◌, rules}
-use Rattle.sql_calls.proofs.Composing.{both_found, finds_as}
-use Rattle.rollout_machine.specs.Objects.{page_of}
-use Rattle.desk_views.specs.Targets.{matching_shown}
-use Rattle.desk_reads.specs.Targets.{target_listed}
-use Rattle.desk_reads.proofs.ListedTargets.{all_given}
+use Rattle.desk_views.proofs.Common.{both_found, finds_as, page_of, matching_shown, target_listed, all_given}
 use Rattle.desk_views.proofs.TargetPages.{matching_grow}
 use Rattle.desk_views.proofs.target_pages.add_matching.Goals as goal
 

@@ -1,13 +1,5 @@
 use Rattle.std.proofs.Common.{◌≡◌, ◌++◌, List, Some, Ok, map}
-use Rattle.sql_calls.specs.declared.fault.Fault.{Fault}
-use Rattle.rollout_machine.specs.Objects.{page_of}
-use Rattle.rollout_machine.specs.Views.{listed}
-use Rattle.rollout_model.specs.declared.shown_target.ShownTarget.{ShownTarget}
-use Rattle.target_filter.specs.Grammar.{Tree}
-use Rattle.target_filter.specs.Profile.{filter_of}
-use Rattle.desk_store.specs.Changing.{FindsIn, StaysIn}
-use Rattle.desk_views.specs.Targets.{matching_shown}
-use Rattle.desk_reads.specs.Targets.{target_listed}
+use Rattle.desk_views.proofs.Common.{Fault, page_of, listed, ShownTarget, Tree, filter_of, FindsIn, StaysIn, matching_shown, target_listed}
 use Rattle.desk_views.proofs.target_pages.add_matching.Given as goal
 
 -- those that match of the ones that were gone through are added

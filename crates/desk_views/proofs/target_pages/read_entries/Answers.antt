@@ -1,9 +1,5 @@
 use Rattle.std.proofs.Common.{map, ap, ◌∙◌, rules}
-use Rattle.std.specs.Result.{is_ok}
-use Rattle.sql_calls.proofs.Composing.{both_found, finds_as}
-use Rattle.desk_reads.specs.Targets.{target_listed}
-use Rattle.desk_views.specs.Targets.{worded}
-use Rattle.desk_reads.proofs.ListedTargets.{all_given}
+use Rattle.desk_views.proofs.Common.{is_ok, both_found, finds_as, target_listed, worded, all_given}
 use Rattle.desk_views.proofs.TargetPages.{entries_grow}
 use Rattle.desk_views.proofs.target_pages.read_entries.Goals as goal
 

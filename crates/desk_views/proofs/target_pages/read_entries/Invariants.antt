@@ -1,8 +1,5 @@
 use Rattle.std.proofs.Common.{◌≡◌, Ok, map}
-use Rattle.sql_calls.specs.declared.fault.Fault.{Fault}
-use Rattle.desk_reads.specs.Targets.{target_listed}
-use Rattle.desk_views.specs.Targets.{worded}
-use Rattle.desk_store.specs.Changing.{FindsIn, StaysIn}
+use Rattle.desk_views.proofs.Common.{Fault, target_listed, worded, FindsIn, StaysIn}
 use Rattle.desk_views.proofs.target_pages.read_entries.Given as goal
 
 -- the content so far are those that were gone through

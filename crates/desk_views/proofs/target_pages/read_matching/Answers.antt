@@ -1,5 +1,5 @@
 use Rattle.std.proofs.Common.{arith, rules}
-use Rattle.sql_calls.proofs.Composing.{both_found, finds_as}
+use Rattle.desk_views.proofs.Common.{both_found, finds_as}
 use Rattle.desk_views.proofs.TargetPages.{last_chunk, next_chunk, nothing_yet}
 use Rattle.desk_views.proofs.target_pages.read_matching.Goals as goal
 

@@ -1,12 +1,5 @@
 use Rattle.std.proofs.Common.{◌≡◌, ◌*◌, Some, Ok, length, map, take}
-use Rattle.sql_calls.specs.declared.fault.Fault.{Fault}
-use Rattle.rollout_machine.specs.Filters.{seen}
-use Rattle.rollout_machine.specs.Objects.{page_of}
-use Rattle.rollout_machine.specs.Views.{listed}
-use Rattle.target_filter.specs.Grammar.{Tree}
-use Rattle.target_filter.specs.Profile.{filter_of}
-use Rattle.desk_store.specs.Changing.{FindsIn, StaysIn}
-use Rattle.desk_views.specs.Targets.{matching_shown}
+use Rattle.desk_views.proofs.Common.{Fault, seen, page_of, listed, Tree, filter_of, FindsIn, StaysIn, matching_shown}
 use Rattle.desk_views.proofs.target_pages.read_matching.Given as goal
 
 -- of the chunks so far those that match are on the page

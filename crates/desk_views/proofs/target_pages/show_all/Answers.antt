@@ -1,4 +1,4 @@
-use Rattle.sql_calls.proofs.Composing.{both_found, finds_as, found_held}
+use Rattle.desk_views.proofs.Common.{both_found, finds_as, found_held}
 use Rattle.desk_views.proofs.TargetPages.{all_replied}
 use Rattle.desk_views.proofs.target_pages.show_all.Goals as goal
 

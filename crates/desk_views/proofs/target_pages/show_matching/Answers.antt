@@ -1,6 +1,5 @@
 use Rattle.std.proofs.Common.{sym, ap, ◌∙◌}
-use Rattle.sql_calls.proofs.Composing.{finds_as}
-use Rattle.target_filter.specs.Profile.{filter_of}
+use Rattle.desk_views.proofs.Common.{finds_as, filter_of}
 use Rattle.desk_views.proofs.TargetPages.{matching_replied}
 use Rattle.desk_views.proofs.target_pages.show_matching.Goals as goal
 

@@ -1,6 +1,5 @@
 use Rattle.std.proofs.Common.{arith}
-use Rattle.sql_calls.proofs.Composing.{finds_as}
-use Rattle.desk_store.proofs.LedgersOfRecords.{ledger_found}
+use Rattle.desk_views.proofs.Common.{finds_as, ledger_found}
 use Rattle.desk_views.proofs.WordViews.{all_listed, listed_from}
 use Rattle.desk_views.proofs.target_words.read_actions.Goals as goal
 

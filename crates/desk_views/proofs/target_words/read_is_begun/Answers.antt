@@ -1,7 +1,5 @@
 use Rattle.std.proofs.Common.{ap}
-use Rattle.sql_calls.proofs.Composing.{finds_as}
-use Rattle.desk_store.proofs.LedgersOfRecords.{ledger_found}
-use Rattle.rollout_machine.specs.StateWords.{group_is_started}
+use Rattle.desk_views.proofs.Common.{finds_as, ledger_found, group_is_started}
 use Rattle.desk_views.proofs.target_words.read_is_begun.Goals as goal
 
 pub returns-in-Some-clause-reads : goal.returns-in-Some-clause-reads

@@ -1,6 +1,5 @@
 use Rattle.std.proofs.Common.{None, rules, ap, ◌∙◌, arith}
-use Rattle.sql_calls.proofs.Composing.{both_found, finds_as}
-use Rattle.desk_views.specs.TargetWords.{last_ending}
+use Rattle.desk_views.proofs.Common.{both_found, finds_as, last_ending}
 use Rattle.desk_views.proofs.WordViews.{it_is, it_is_not, none_left}
 use Rattle.desk_views.proofs.target_words.read_last_ending.Goals as goal
 

@@ -1,7 +1,5 @@
 use Rattle.std.proofs.Common.{◌≡◌, None, Ok, vec_len}
-use Rattle.sql_calls.specs.declared.fault.Fault.{Fault}
-use Rattle.desk_store.specs.Changing.{FindsIn, StaysIn}
-use Rattle.desk_views.specs.TargetWords.{last_ending}
+use Rattle.desk_views.proofs.Common.{Fault, FindsIn, StaysIn, last_ending}
 use Rattle.desk_views.proofs.target_words.read_last_ending.Given as goal
 
 -- of those that are left the last ending is that of all

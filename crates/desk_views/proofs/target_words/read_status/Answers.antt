@@ -1,5 +1,4 @@
-use Rattle.sql_calls.proofs.Composing.{both_found, finds_as}
-use Rattle.desk_store.proofs.LedgersOfRecords.{ledger_found}
+use Rattle.desk_views.proofs.Common.{both_found, finds_as, ledger_found}
 use Rattle.desk_views.proofs.WordViews.{word_ended, word_pending}
 use Rattle.desk_views.proofs.target_words.read_status.Goals as goal
 

@@ -1,5 +1,5 @@
 use Rattle.std.proofs.Common.{◌∙◌}
-use Rattle.sql_calls.proofs.Composing.{finds_as}
+use Rattle.desk_views.proofs.Common.{finds_as}
 use Rattle.desk_views.proofs.target_words.read_target_word.Goals as goal
 
 pub returns-clause-reads : goal.returns-clause-reads

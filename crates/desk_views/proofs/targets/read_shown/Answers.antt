@@ -1,5 +1,4 @@
-use Rattle.sql_calls.proofs.Composing.{both_found, finds_as}
-use Rattle.rollout_machine.specs.Verdicts.{target_of}
+use Rattle.desk_views.proofs.Common.{both_found, finds_as, target_of}
 use Rattle.desk_views.proofs.TargetViews.{no_target, one_target}
 use Rattle.desk_views.proofs.targets.read_shown.Goals as goal
 

@@ -1,6 +1,5 @@
 use Rattle.std.proofs.Common.{ap, ◌∙◌}
-use Rattle.sql_calls.proofs.Composing.{finds_as}
-use Rattle.rollout_machine.specs.StateWords.{TargetWord}
+use Rattle.desk_views.proofs.Common.{finds_as, TargetWord}
 use Rattle.desk_views.proofs.targets.with_word.Goals as goal
 
 pub returns-clause-reads : goal.returns-clause-reads

@@ -1,13 +1,8 @@
 use Rattle.std.proofs.Common.{◌≡◌, ℕ, ◌+◌, ◌*◌, ◌<◌, true, List, length, get_or, take, sym, ◌∙◌, arith, Err}
 use Rattle.std.specs.Char.{is_ascii_digit, digit_value}
-use Rattle.std.specs.Str.Parse.{digits_value}
-use Rattle.std.proofs.lemmas.Bool.{and_parts, lt-ltb, cond-true}
-use Rattle.std.proofs.lemmas.List.Sums.{AllPass-from_list_all}
+use Rattle.http_wire.proofs.Common.{digits_value, and_parts, lt-ltb, cond-true, AllPass-from_list_all, body_length_limit, TooLarge, is_digits, length_of}
 use Rattle.std.proofs.lemmas.Int.Digits.{digits_value_more}
 use Rattle.std.proofs.lemmas.Str.Parse.{digits_value-take-le}
-use Rattle.rollout_model.specs.Limits.{body_length_limit}
-use Rattle.http_wire.specs.Faults.{TooLarge}
-use Rattle.http_wire.specs.BodyLengths.{is_digits, length_of}
 use Rattle.http_wire.proofs.body_length.length_of.Goals as goal
 
 digit_at : (text : List ℕ) (i : ℕ) → true ≡ is_digits text → i < length text → is_ascii_digit (get_or text i 0) ≡ true

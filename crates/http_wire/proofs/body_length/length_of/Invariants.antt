@@ -1,6 +1,5 @@
 use Rattle.std.proofs.Common.{◌≡◌, ◌≤◌, take}
-use Rattle.std.specs.Str.Parse.{digits_value}
-use Rattle.rollout_model.specs.Limits.{body_length_limit}
+use Rattle.http_wire.proofs.Common.{digits_value, body_length_limit}
 use Rattle.http_wire.proofs.body_length.length_of.Given as goal
 
 abbrev pub invariant-loop-b : goal.invariant-loop-b

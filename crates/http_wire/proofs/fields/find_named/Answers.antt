@@ -1,12 +1,6 @@
 use Rattle.std.proofs.Common.{◌≡◌, ℕ, ◌+◌, ◌<◌, ◌≤◌, true, Option, Some, None, List, [], ◌∷◌, ◌++◌, length, map, take, drop, get_or, sym, ap, ◌∙◌, arith, option_map}
-use Rattle.std.specs.Option.{is_some, option_to_list}
-use Rattle.std.proofs.lemmas.Bool.{cond-true}
-use Rattle.std.proofs.lemmas.List.{length-append, take-append-drop, take-map, length-map, get_or-map}
+use Rattle.http_wire.proofs.Common.{is_some, option_to_list, cond-true, length-append, take-append-drop, take-map, length-map, get_or-map, Field, NameAndValue, is_named, fields_named, field_view}
 use Rattle.std.proofs.lemmas.List.Elements.{filter-append, filter_more}
-use Rattle.http_wire.specs.declared.message.Field.{Field}
-use Rattle.http_wire.specs.Heads.{NameAndValue}
-use Rattle.http_wire.specs.Fields.{is_named, fields_named}
-use Rattle.http_wire.specs.Inbox.{field_view}
 use Rattle.http_wire.proofs.fields.find_named.Goals as goal
 
 -- a front has no more fields of the name than all

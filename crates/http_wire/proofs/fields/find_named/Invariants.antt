@@ -1,7 +1,5 @@
 use Rattle.std.proofs.Common.{◌≡◌, map, take, option_map}
-use Rattle.std.specs.Option.{option_to_list}
-use Rattle.http_wire.specs.Fields.{fields_named}
-use Rattle.http_wire.specs.Inbox.{field_view}
+use Rattle.http_wire.proofs.Common.{option_to_list, fields_named, field_view}
 use Rattle.http_wire.proofs.fields.find_named.Given as goal
 
 -- the one that was found so far

@@ -1,6 +1,5 @@
 use Rattle.std.proofs.Common.{◌≡◌, ◌&&◌, drop}
-use Rattle.std.specs.List.{list_all}
-use Rattle.http_wire.specs.Heads.{is_target_byte}
+use Rattle.http_wire.proofs.Common.{list_all, is_target_byte}
 use Rattle.http_wire.proofs.head.are_target_bytes.Given as goal
 
 -- the bytes that are left decide

@@ -1,6 +1,5 @@
 use Rattle.std.proofs.Common.{rules, sym, ◌∙◌}
-use Rattle.std.proofs.lemmas.List.Sums.{AllPass-from_list_all, list_all-from_AllPass}
-use Rattle.http_wire.specs.Heads.{is_target_byte}
+use Rattle.http_wire.proofs.Common.{AllPass-from_list_all, list_all-from_AllPass, is_target_byte}
 use Rattle.http_wire.proofs.head.is_origin_form.Goals as goal
 
 pub returns-then-eq : goal.returns-then-eq

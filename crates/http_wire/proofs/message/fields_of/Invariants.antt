@@ -1,7 +1,6 @@
 use Rattle.std.proofs.Common.{◌≡◌, length, map, take}
 use Rattle.httparse.specs.Spans.{header_bytes}
-use Rattle.http_wire.specs.Inbox.{field_view}
-use Rattle.rollout_model.specs.Limits.{field_limit}
+use Rattle.http_wire.proofs.Common.{field_view, field_limit}
 use Rattle.http_wire.proofs.message.fields_of.Given as goal
 
 -- the fields so far

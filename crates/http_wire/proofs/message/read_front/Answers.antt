@@ -1,6 +1,5 @@
 use Rattle.std.proofs.Common.{◌≡◌, ◌+◌, drop, inl, ap, ◌∙◌, arith}
-use Rattle.std.proofs.lemmas.List.{drop-drop}
-use Rattle.http_wire.specs.Regions.{HasRegion}
+use Rattle.http_wire.proofs.Common.{drop-drop, HasRegion}
 use Rattle.http_wire.proofs.MessageLemmas.{fits, missing_head, missing_body, whole_message}
 use Rattle.http_wire.proofs.message.read_front.Goals as goal
 

@@ -1,7 +1,5 @@
 use Rattle.std.proofs.Common.{◌≡◌, ◌+◌, ◌≤◌, ◌&&◌, length}
-use Rattle.std.specs.List.{list_all}
-use Rattle.http_wire.specs.Regions.{line_ends}
-use Rattle.http_wire.specs.Parse.{lf_follows_cr}
+use Rattle.http_wire.proofs.Common.{list_all, line_ends, lf_follows_cr}
 use Rattle.http_wire.proofs.LineLemmas.{follows, pairs_at}
 use Rattle.http_wire.proofs.region.line_ends.Given as goal
 

@@ -1,8 +1,5 @@
 use Rattle.std.proofs.Common.{◌≡◌, ℕ, ◌+◌, ◌<◌, ◌≤◌, List, [], ◌∷◌, ◌++◌, length, arith, rules}
-use Rattle.std.proofs.lemmas.List.{length-append}
-use Rattle.http_wire.specs.Messages.{WireMessage, IsMessage}
-use Rattle.http_wire.specs.Streams.{Begins}
-use Rattle.http_wire.specs.Inbox.{message_of}
+use Rattle.http_wire.proofs.Common.{length-append, WireMessage, IsMessage, Begins, message_of}
 use Rattle.http_wire.proofs.MessageLemmas.{begins_push, message_shorter, undecided_yet}
 use Rattle.http_wire.proofs.stream.reading_of.Goals as goal
 

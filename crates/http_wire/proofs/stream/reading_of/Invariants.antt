@@ -1,6 +1,5 @@
 use Rattle.std.proofs.Common.{◌≡◌, List, length, ◌+◌, ◌≤◌}
-use Rattle.http_wire.specs.Messages.{WireMessage}
-use Rattle.http_wire.specs.Streams.{Begins}
+use Rattle.http_wire.proofs.Common.{WireMessage, Begins}
 use Rattle.http_wire.proofs.stream.reading_of.Given as goal
 
 abbrev pub invariant-loop-rest : goal.invariant-loop-rest

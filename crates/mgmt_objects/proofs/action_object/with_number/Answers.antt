@@ -1,8 +1,5 @@
 use Rattle.std.proofs.Common.{◌≡◌, ◌∙◌, ap, codes, refl, string_bytes, rules}
-use Rattle.serde_json.specs.Data.{object, put}
-use Rattle.serde_json.specs.View.{view, members_view}
-use Rattle.serde_json.proofs.Views.{members_view-insert_entry, view-Object}
-use Rattle.mgmt_objects.specs.Pages.{whole}
+use Rattle.mgmt_objects.proofs.Common.{object, put, view, members_view, members_view-insert_entry, view-Object, whole}
 use Rattle.mgmt_objects.proofs.action_object.with_number.Goals as goal
 
 pub returns-in_ok-insert-in-Object : goal.returns-in_ok-insert-in-Object

@@ -1,4 +1,4 @@
-use Rattle.serde_json.specs.View.{view}
+use Rattle.mgmt_objects.proofs.Common.{view}
 use Rattle.mgmt_objects.proofs.TraverseLemmas.{array_listed}
 use Rattle.mgmt_objects.proofs.list.read_array.Goals as goal
 

@@ -1,5 +1,5 @@
 use Rattle.std.proofs.Common.{arith}
-use Rattle.serde_json.specs.View.{view}
+use Rattle.mgmt_objects.proofs.Common.{view}
 use Rattle.mgmt_objects.proofs.TraverseLemmas.{traverse_more, traverse_refuses}
 use Rattle.mgmt_objects.proofs.list.read_list.Goals as goal
 

@@ -1,6 +1,5 @@
 use Rattle.std.proofs.Common.{◌≡◌, Some, map, take}
-use Rattle.serde_json.specs.View.{view}
-use Rattle.mgmt_objects.specs.Traverse.{traverse}
+use Rattle.mgmt_objects.proofs.Common.{view, traverse}
 use Rattle.mgmt_objects.proofs.list.read_list.Given as goal
 
 abbrev pub invariant-loop-value : goal.invariant-loop-value

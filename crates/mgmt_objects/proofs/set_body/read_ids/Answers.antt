@@ -1,5 +1,5 @@
 use Rattle.mgmt_objects.proofs.SetLemmas.{ids_listed}
-use Rattle.serde_json.specs.View.{view}
+use Rattle.mgmt_objects.proofs.Common.{view}
 use Rattle.mgmt_objects.proofs.set_body.read_ids.Goals as goal
 
 pub returns-in-Some : goal.returns-in-Some

@@ -1,10 +1,5 @@
 use Rattle.std.proofs.Common.{◌≡◌, map, ap, ◌∙◌}
-use Rattle.std.proofs.lemmas.Result.{IfOk-weaker}
-use Rattle.serde_json.specs.Data.{array}
-use Rattle.serde_json.specs.View.{view, items_of}
-use Rattle.serde_json.specs.declared.value.Value.{Array}
-use Rattle.serde_json.proofs.Views.{view-Array}
-use Rattle.mgmt_objects.specs.Floats.{items_have_float-map}
+use Rattle.mgmt_objects.proofs.Common.{IfOk-weaker, array, view, items_of, Array, view-Array, items_have_float-map}
 use Rattle.mgmt_objects.proofs.shown.array_text.Goals as goal
 
 pub returns : goal.returns

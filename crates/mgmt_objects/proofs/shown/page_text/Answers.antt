@@ -1,8 +1,5 @@
 use Rattle.std.proofs.Common.{◌≡◌, map, ap, ◌∙◌}
-use Rattle.std.proofs.lemmas.Result.{IfOk-weaker}
-use Rattle.serde_json.specs.View.{view}
-use Rattle.mgmt_objects.specs.Pages.{page_data}
-use Rattle.mgmt_objects.specs.Floats.{items_have_float-map}
+use Rattle.mgmt_objects.proofs.Common.{IfOk-weaker, view, page_data, items_have_float-map}
 use Rattle.mgmt_objects.proofs.PageLemmas.{has_float-page_data}
 use Rattle.mgmt_objects.proofs.shown.page_text.Goals as goal
 

@@ -1,5 +1,5 @@
 use Rattle.std.proofs.Common.{◌≡◌, map, take}
-use Rattle.serde_json.specs.View.{view}
+use Rattle.mgmt_objects.proofs.Common.{view}
 use Rattle.mgmt_objects.proofs.shown.values.Given as goal
 
 abbrev pub invariant-loop-shown : goal.invariant-loop-shown

@@ -1,9 +1,6 @@
 use Rattle.std.proofs.Common.{◌≡◌, ◌∙◌, ap, sym, arith, string_bytes, drop, rules}
 use Rattle.std.proofs.lemmas.List.{at_drop_all}
-use Rattle.serde_json.specs.Data.{object, put, string}
-use Rattle.serde_json.specs.View.{view, members_view}
-use Rattle.serde_json.proofs.Views.{members_view-insert_entry, view-Object}
-use Rattle.mgmt_objects.specs.TargetObjects.{with_attributes}
+use Rattle.mgmt_objects.proofs.Common.{object, put, string, view, members_view, members_view-insert_entry, view-Object, with_attributes}
 use Rattle.mgmt_objects.proofs.TargetLemmas.{with_attributes_more}
 use Rattle.mgmt_objects.proofs.target_object.attributes_value.Goals as goal
 

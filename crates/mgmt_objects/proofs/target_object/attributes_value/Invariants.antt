@@ -1,7 +1,5 @@
 use Rattle.std.proofs.Common.{◌≡◌, drop}
-use Rattle.serde_json.specs.Data.{no_members}
-use Rattle.serde_json.specs.View.{members_view}
-use Rattle.mgmt_objects.specs.TargetObjects.{with_attributes}
+use Rattle.mgmt_objects.proofs.Common.{no_members, members_view, with_attributes}
 use Rattle.mgmt_objects.proofs.target_object.attributes_value.Given as goal
 
 -- those that are left, put into those that are there, give them all

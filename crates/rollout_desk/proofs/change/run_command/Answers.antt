@@ -1,10 +1,5 @@
 use Rattle.std.proofs.Common.{◌≡◌, subst, rules}
-use Rattle.sqlite.specs.Held.{state}
-use Rattle.sql_calls.specs.Standing.{Keeps}
-use Rattle.desk_records.specs.Holds.{HoldsLedger, HoldsRecords}
-use Rattle.rollout_machine.specs.Requests.{Do}
-use Rattle.rollout_machine.specs.Views.{command_of, reply_of}
-use Rattle.rollout_desk.specs.Changes.{Handles}
+use Rattle.rollout_desk.proofs.Common.{state, Keeps, HoldsLedger, HoldsRecords, Do, command_of, reply_of, Handles}
 use Rattle.rollout_desk.proofs.ApplyLemmas.{fault_fails, unbegun, accepted, refused, broken}
 use Rattle.rollout_desk.proofs.change.run_command.Goals as goal
 

@@ -1,12 +1,6 @@
 use Rattle.std.proofs.Common.{◌≡◌, subst, rules}
-use Rattle.sqlite.specs.Held.{state}
-use Rattle.sql_calls.specs.Standing.{Keeps}
-use Rattle.desk_records.specs.Holds.{HoldsLedger, HoldsRecords}
-use Rattle.rollout_machine.specs.Requests.{Ask}
-use Rattle.rollout_machine.specs.Views.{query_of, reply_of}
-use Rattle.rollout_desk.specs.Changes.{Handles}
+use Rattle.rollout_desk.proofs.Common.{state, Keeps, HoldsLedger, HoldsRecords, Ask, query_of, reply_of, Handles, KeepsSizes}
 use Rattle.rollout_desk.proofs.ApplyLemmas.{fault_fails, unbegun, shown, unshown}
-use Rattle.rollout_desk.specs.Sizes.{KeepsSizes}
 use Rattle.rollout_desk.proofs.SizeLemmas.{refused_sized, shown_sized}
 use Rattle.rollout_desk.proofs.change.run_query.Goals as goal
 

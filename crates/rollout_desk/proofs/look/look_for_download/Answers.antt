@@ -1,8 +1,5 @@
 use Rattle.std.proofs.Common.{◌≡◌, subst, rules}
-use Rattle.sqlite.specs.Held.{state}
-use Rattle.sql_calls.specs.Standing.{Keeps}
-use Rattle.desk_records.specs.Holds.{HoldsLedger, HoldsRecords}
-use Rattle.rollout_desk.specs.Looks.{FindsDownload}
+use Rattle.rollout_desk.proofs.Common.{state, Keeps, HoldsLedger, HoldsRecords, FindsDownload}
 use Rattle.rollout_desk.proofs.DownloadLemmas.{looked_for, looked_in_vain, not_looked}
 use Rattle.rollout_desk.proofs.look.look_for_download.Goals as goal
 

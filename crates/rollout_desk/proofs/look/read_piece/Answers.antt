@@ -1,9 +1,5 @@
 use Rattle.std.proofs.Common.{◌≡◌, subst, rules}
-use Rattle.sqlite.specs.Held.{state}
-use Rattle.sql_calls.specs.Standing.{Keeps}
-use Rattle.desk_records.specs.Artifacts.{piece_numbered}
-use Rattle.desk_records.specs.Holds.{HoldsLedger, HoldsRecords}
-use Rattle.rollout_desk.specs.Looks.{Looks, bytes_of}
+use Rattle.rollout_desk.proofs.Common.{state, Keeps, piece_numbered, HoldsLedger, HoldsRecords, Looks, bytes_of}
 use Rattle.rollout_desk.proofs.LookLemmas.{look_failed, looked, read, unbegun}
 use Rattle.rollout_desk.proofs.look.read_piece.Goals as goal
 

@@ -1,4 +1,4 @@
-use Rattle.sqlite.specs.Held.{state}
+use Rattle.rollout_desk.proofs.Common.{state}
 use Rattle.rollout_desk.proofs.CrashLemmas.{goes_on_before, goes_on_after}
 use Rattle.rollout_desk.proofs.opening.goes_on_after_crash.Goals as goal
 

@@ -1,10 +1,5 @@
 use Rattle.std.proofs.Common.{◌≡◌, ◌≤◌, Err, subst, arith, rules}
-use Rattle.sqlite.specs.Held.{state}
-use Rattle.sql_calls.specs.Standing.{Keeps}
-use Rattle.desk_records.specs.Holds.{HoldsLedger, HoldsRecords}
-use Rattle.rollout_model.specs.declared.refusal.Refusal.TheVariants.{StoreFailed}
-use Rattle.rollout_desk.specs.Looks.{Looks}
-use Rattle.rollout_desk.specs.Verifying.{FindsDamage, HasCause, IsNeverDamaged}
+use Rattle.rollout_desk.proofs.Common.{state, Keeps, HoldsLedger, HoldsRecords, StoreFailed, Looks, FindsDamage, HasCause, IsNeverDamaged}
 use Rattle.rollout_desk.proofs.LookLemmas.{look_failed, looked, unbegun}
 use Rattle.rollout_desk.proofs.VerifyLemmas.{judged, never_damaged, none_found, read_in_vain}
 use Rattle.rollout_desk.proofs.verify.look_for_damage.Goals as goal

@@ -1,5 +1,5 @@
 use Rattle.std.proofs.Common.{◌≡◌, Some, sym, subst}
-use Rattle.sqlite_schema.specs.Names.{table_named}
+use Rattle.sql_front.proofs.Common.{table_named}
 use Rattle.sql_front.proofs.Found.{stands_by, stands_first}
 use Rattle.sql_front.proofs.standing.stands.Goals as goal
 

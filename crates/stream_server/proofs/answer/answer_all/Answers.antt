@@ -1,7 +1,5 @@
 use Rattle.std.proofs.Common.{◌≡◌, ℕ, ◌+◌, ◌-◌, ◌^◌, min, List, [], ◌∷◌, ◌++◌, length, Some, None, refl, ◌∙◌, arith, length-append}
-use Rattle.http_wire.specs.Messages.{WireMessage}
-use Rattle.http_wire.specs.Inbox.{message_of}
-use Rattle.std.proofs.lemmas.Result.{err_from_is_err_and}
+use Rattle.stream_server.proofs.Common.{WireMessage, message_of, err_from_is_err_and}
 use Rattle.stream_server.proofs.PartLemmas.{serves_append, serves_nil, takes_more, takes_nil}
 use Rattle.stream_server.proofs.answer.answer_all.Goals as goal
 

@@ -1,7 +1,5 @@
 use Rattle.std.proofs.Common.{◌≡◌, ◌+◌, ◌-◌, ◌^◌, min, List, length, None}
-use Rattle.http_wire.specs.Messages.{WireMessage}
-use Rattle.http_wire.specs.Watched.{inner_of, has_failed}
-use Rattle.stream_server.specs.Parts.{Serves, Takes}
+use Rattle.stream_server.proofs.Common.{WireMessage, inner_of, has_failed, Serves, Takes}
 use Rattle.stream_server.proofs.answer.answer_all.Given as goal
 
 -- the messages so far were answered

@@ -1,4 +1,4 @@
-use Rattle.std.proofs.lemmas.Result.{IfErr-weaker}
+use Rattle.stream_server.proofs.Common.{IfErr-weaker}
 use Rattle.stream_server.proofs.MessageLemmas.{serves_reply}
 use Rattle.stream_server.proofs.ContentsLemmas.{serves_download}
 use Rattle.stream_server.proofs.answer.answer_one.Goals as goal

@@ -1,15 +1,11 @@
 use Rattle.std.proofs.Common.{◌≡◌, ◌≢◌, ℕ, List, true, false, Result, Ok, Err, IfOk, refl, sym, ◌∙◌}
-use Rattle.rollout_model.specs.declared.refusal.Refusal.{Refusal}
-use Rattle.rollout_machine.specs.Replies.{Reply, Refused, PollShown, DeploymentShown, CancelShown}
+use Rattle.stream_server.proofs.Common.{Refusal, Reply, Refused, PollShown, DeploymentShown, CancelShown, message_of, WireMessage, is_for_devices, IsToldWhole}
 use Rattle.rollout_machine.specs.Views.{reply_of}
-use Rattle.http_wire.specs.Inbox.{message_of}
-use Rattle.http_wire.specs.Messages.{WireMessage}
 use Rattle.http_wire.specs.Replies.{answer_text}
 use Rattle.http_wire.specs.declared.reply.Answer.{Answer}
 use Rattle.ddi_api.specs.Replies.{parts_of as device_parts, reply_text as device_text}
 use Rattle.mgmt_api.specs.Replies.{parts_to, reply_text as manage_text}
-use Rattle.stream_server.specs.Interfaces.{is_for_devices, reply_text}
-use Rattle.stream_server.specs.Parts.{IsToldWhole}
+use Rattle.stream_server.specs.Interfaces.{reply_text}
 use Rattle.stream_server.proofs.bytes.answer_to.Goals as goal
 
 -- the connection goes on after a reply that is no refusal

@@ -1,6 +1,5 @@
 use Rattle.std.proofs.Common.{◌≡◌, ◌-◌}
-use Rattle.contents_handler.specs.Downloads.{sent}
-use Rattle.http_wire.specs.Watched.{inner_of, has_failed}
+use Rattle.stream_server.proofs.Common.{sent, inner_of, has_failed}
 use Rattle.stream_server.proofs.ContentsLemmas.{HandedOn}
 use Rattle.stream_server.proofs.download.send_contents.Given as goal
 

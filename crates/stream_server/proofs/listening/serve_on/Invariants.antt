@@ -1,5 +1,5 @@
 use Rattle.std.proofs.Common.{◌≤◌, Ok}
-use Rattle.stream_server.specs.Listening.{KeepsOn}
+use Rattle.stream_server.proofs.Common.{KeepsOn}
 use Rattle.stream_server.proofs.listening.serve_on.Given as goal
 
 abbrev pub invariant-loop : goal.invariant-loop

@@ -1,4 +1,4 @@
-use Rattle.http_wire.specs.Inbox.{message_of}
+use Rattle.stream_server.proofs.Common.{message_of}
 use Rattle.stream_server.proofs.MessageLemmas.{refused_text}
 use Rattle.stream_server.proofs.reply.write_reply.Goals as goal
 

@@ -1,10 +1,6 @@
 use Rattle.std.proofs.Common.{◌≡◌, ℕ, ◌<◌, List, [], ◌++◌, length, Some, None, Ok, Err, refl, sym, ◌∙◌, subst, rules, arith}
-use Rattle.std.proofs.KnownBytes.{Consumes-nil, Consumes-trans}
-use Rattle.std.proofs.lemmas.Bool.{false≢true}
+use Rattle.stream_server.proofs.Common.{Consumes-nil, Consumes-trans, false≢true, err_from_is_err_and, IsUndecided, Begins}
 use Rattle.std.proofs.lemmas.List.{nil_from_length}
-use Rattle.std.proofs.lemmas.Result.{err_from_is_err_and}
-use Rattle.http_wire.specs.Messages.{IsUndecided}
-use Rattle.http_wire.specs.Streams.{Begins}
 use Rattle.stream_server.proofs.PartLemmas.{serves_nil, serves_append}
 use Rattle.stream_server.proofs.HeadlineLemmas.{both}
 use Rattle.stream_server.proofs.ExitLemmas.{exits_broken, exits_fault, exits_fault_part, exits_unread, exits_input, exits_cut, too_many, counts_on, read_end, read_piece, no_more, longer, some_left}

@@ -1,11 +1,5 @@
 use Rattle.std.proofs.Common.{◌≡◌, ℕ, ◌-◌, ◌≤◌, ◌^◌, min, List, length, Option, None}
-use Rattle.std.specs.Io.KnownBytes.{Consumes}
-use Rattle.http_wire.specs.Messages.{WireMessage}
-use Rattle.http_wire.specs.Streams.{Begins}
-use Rattle.rollout_machine.specs.Standing.{DeskState}
-use Rattle.stream_server.specs.declared.interface.Interface.{Interface}
-use Rattle.http_wire.specs.Watched.{inner_of, has_failed}
-use Rattle.stream_server.specs.Parts.{Serves}
+use Rattle.stream_server.proofs.Common.{Consumes, WireMessage, Begins, DeskState, Interface, inner_of, has_failed, Serves}
 use Rattle.stream_server.proofs.stream.serve_stream.Given as goal
 
 -- what was read begins with the messages that were answered, and then what the inbox holds

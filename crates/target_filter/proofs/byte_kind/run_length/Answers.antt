@@ -1,8 +1,5 @@
 use Rattle.std.proofs.Common.{◌≡◌, sym, ap, ◌∙◌, arith, true}
-use Rattle.std.specs.List.{list_all}
-use Rattle.std.proofs.lemmas.List.{take_all}
-use Rattle.std.proofs.Math.Seq.{take-length, drop-length}
-use Rattle.target_filter.specs.ByteKinds.{is_of}
+use Rattle.target_filter.proofs.Common.{list_all, take_all, take-length, drop-length, is_of}
 use Rattle.target_filter.proofs.ByteRuns.{front_to, behind_to, front_all, behind_all}
 use Rattle.target_filter.proofs.byte_kind.run_length.Goals as goal
 

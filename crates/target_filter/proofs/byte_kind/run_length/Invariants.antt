@@ -1,6 +1,5 @@
 use Rattle.std.proofs.Common.{◌≡◌, take, true}
-use Rattle.std.specs.List.{list_all}
-use Rattle.target_filter.specs.ByteKinds.{is_of}
+use Rattle.target_filter.proofs.Common.{list_all, is_of}
 use Rattle.target_filter.proofs.byte_kind.run_length.Given as goal
 
 abbrev pub invariant-loop-at : goal.invariant-loop-at

@@ -1,4 +1,4 @@
-use Rattle.target_filter.specs.Views.{tree_of}
+use Rattle.target_filter.proofs.Common.{tree_of}
 use Rattle.target_filter.proofs.Profiles.{tree_found, none_missing}
 use Rattle.target_filter.proofs.filter_text.tree_at.Goals as goal
 

@@ -1,6 +1,5 @@
 use Rattle.std.proofs.Common.{◌≡◌, ◌+◌, ap, sym, ◌∙◌, Some, None, take, drop}
-use Rattle.target_filter.specs.Patterns.{pieces}
-use Rattle.target_filter.specs.Greedy.{after, greedy}
+use Rattle.target_filter.proofs.Common.{pieces, after, greedy}
 use Rattle.target_filter.proofs.GreedyMatching.{greedy_none, greedy_some}
 use Rattle.target_filter.proofs.pattern.+matches_behind.Goals as goal
 

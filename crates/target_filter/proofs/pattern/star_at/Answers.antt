@@ -1,7 +1,5 @@
 use Rattle.std.proofs.Common.{◌≡◌, arith, get_or, length, true, sym, ap, ◌∙◌}
-use Rattle.std.specs.List.{list_all}
-use Rattle.std.proofs.lemmas.List.{take_all}
-use Rattle.target_filter.specs.Patterns.{pieces}
+use Rattle.target_filter.proofs.Common.{list_all, take_all, pieces}
 use Rattle.target_filter.proofs.GreedyMatching.{cut, one_piece, no_star}
 use Rattle.target_filter.proofs.pattern.star_at.Goals as goal
 

@@ -1,5 +1,5 @@
 use Rattle.std.proofs.Common.{◌≡◌, take, true}
-use Rattle.std.specs.List.{list_all}
+use Rattle.target_filter.proofs.Common.{list_all}
 use Rattle.target_filter.proofs.GreedyMatching.{no_star}
 use Rattle.target_filter.proofs.pattern.star_at.Given as goal
 

@@ -1,7 +1,5 @@
 use Rattle.std.proofs.Common.{◌≡◌, ◌≤◌, ◌<◌, length, inl, inr, refl, sym, ap, ◌∙◌, arith, get_or, take, Some}
-use Rattle.std.proofs.Math.Seq.{take-length}
-use Rattle.target_filter.specs.Scanner.{run, start}
-use Rattle.target_filter.specs.ScannerViews.{state_of}
+use Rattle.target_filter.proofs.Common.{take-length, run, start, state_of}
 use Rattle.target_filter.proofs.LongestBeginnings.{run_more, run_all}
 use Rattle.target_filter.proofs.scanner.scan.Goals as goal
 

@@ -1,6 +1,5 @@
 use Rattle.std.proofs.Common.{◌≡◌, ◌≤◌, take, Some}
-use Rattle.target_filter.specs.Scanner.{run, start}
-use Rattle.target_filter.specs.ScannerViews.{state_of}
+use Rattle.target_filter.proofs.Common.{run, start, state_of}
 use Rattle.target_filter.proofs.scanner.scan.Given as goal
 
 abbrev pub invariant-loop-at : goal.invariant-loop-at

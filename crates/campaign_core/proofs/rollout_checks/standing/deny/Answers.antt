@@ -1,7 +1,5 @@
 use Rattle.std.proofs.Common.{None}
-use Rattle.rollout_machine.specs.Records.{Denied}
-use Rattle.rollout_machine.specs.Verdicts.{is_waiting}
-use Rattle.campaign_core.specs.RolloutChecks.{decided}
+use Rattle.campaign_core.proofs.Common.{Denied, is_waiting, decided}
 use Rattle.campaign_core.proofs.RolloutLemmas.{changes_rollout, word_row}
 use Rattle.campaign_core.proofs.rollout_checks.standing.deny.Goals as goal
 

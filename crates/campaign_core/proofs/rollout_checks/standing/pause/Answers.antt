@@ -1,6 +1,5 @@
 use Rattle.std.proofs.Common.{None}
-use Rattle.rollout_machine.specs.Verdicts.{is_running}
-use Rattle.campaign_core.specs.RolloutChecks.{paused}
+use Rattle.campaign_core.proofs.Common.{is_running, paused}
 use Rattle.campaign_core.proofs.RolloutLemmas.{changes_rollout, word_row}
 use Rattle.campaign_core.proofs.rollout_checks.standing.pause.Goals as goal
 

@@ -1,6 +1,5 @@
 use Rattle.std.proofs.Common.{◌∙◌, sym, ap}
-use Rattle.request_target.specs.Routes.{route_in}
-use Rattle.ddi_api.specs.Routes.{device_table}
+use Rattle.ddi_api.proofs.Common.{route_in, device_table}
 use Rattle.ddi_api.proofs.Facts.{device_table_is_good, device_call-text, device_call-no_text}
 use Rattle.ddi_api.proofs.routes.DeviceRoutes.find.Goals as goal
 

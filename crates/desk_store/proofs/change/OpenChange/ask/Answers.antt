@@ -1,6 +1,6 @@
 use Rattle.std.proofs.Common.{rules}
 use Rattle.sql_calls.proofs.Framing.{ask_frames}
-use Rattle.desk_records.specs.Holds.{HoldsLedger}
+use Rattle.desk_store.proofs.Common.{HoldsLedger}
 use Rattle.desk_store.proofs.Known.{in_ledgers}
 use Rattle.desk_store.proofs.ReadLemmas.{ask_keeps}
 use Rattle.desk_store.proofs.change.OpenChange.ask.Goals as goal

@@ -1,7 +1,4 @@
-use Rattle.sqlite.specs.Held.{state}
-use Rattle.sql_calls.specs.Calls.{RunsText}
-use Rattle.desk_records.specs.declared.action_texts.TheConstants.{SET_ACTION}
-use Rattle.desk_records.proofs.LedgerWrites.{acted_params}
+use Rattle.desk_store.proofs.Common.{state, RunsText, SET_ACTION, acted_params}
 use Rattle.desk_store.proofs.WriteCalls.{action_changed, knows_set_action}
 use Rattle.desk_store.proofs.change.OpenChange.change_action.Goals as goal
 

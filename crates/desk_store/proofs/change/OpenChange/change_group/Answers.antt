@@ -1,7 +1,4 @@
-use Rattle.sqlite.specs.Held.{state}
-use Rattle.sql_calls.specs.Calls.{RunsText}
-use Rattle.desk_records.specs.declared.rollout_texts.TheConstants.{SET_GROUP}
-use Rattle.desk_records.proofs.PartWrites.{counted_params}
+use Rattle.desk_store.proofs.Common.{state, RunsText, SET_GROUP, counted_params}
 use Rattle.desk_store.proofs.WriteCalls.{group_changed, knows_set_group}
 use Rattle.desk_store.proofs.change.OpenChange.change_group.Goals as goal
 

@@ -1,7 +1,4 @@
-use Rattle.sqlite.specs.Held.{state}
-use Rattle.sql_calls.specs.Calls.{RunsText}
-use Rattle.desk_records.specs.declared.action_texts.TheConstants.{SET_OFFER}
-use Rattle.desk_records.proofs.OfferWrites.{offered_params}
+use Rattle.desk_store.proofs.Common.{state, RunsText, SET_OFFER, offered_params}
 use Rattle.desk_store.proofs.WriteCalls.{knows_set_offer, offer_changed}
 use Rattle.desk_store.proofs.change.OpenChange.change_offer.Goals as goal
 

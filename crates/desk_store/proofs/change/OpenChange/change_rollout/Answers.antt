@@ -1,7 +1,4 @@
-use Rattle.sqlite.specs.Held.{state}
-use Rattle.sql_calls.specs.Calls.{RunsText}
-use Rattle.desk_records.specs.declared.rollout_texts.TheConstants.{SET_ROLLOUT}
-use Rattle.desk_records.proofs.LedgerWrites.{turned_params}
+use Rattle.desk_store.proofs.Common.{state, RunsText, SET_ROLLOUT, turned_params}
 use Rattle.desk_store.proofs.WriteCalls.{knows_set_rollout, rollout_changed}
 use Rattle.desk_store.proofs.change.OpenChange.change_rollout.Goals as goal
 

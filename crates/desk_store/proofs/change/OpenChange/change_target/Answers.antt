@@ -1,6 +1,4 @@
-use Rattle.sqlite.specs.Held.{state}
-use Rattle.sql_calls.specs.Calls.{RunsText}
-use Rattle.desk_records.specs.declared.target_texts.TheConstants.{SET_TARGET}
+use Rattle.desk_store.proofs.Common.{state, RunsText, SET_TARGET}
 use Rattle.desk_store.proofs.TargetCalls.{named_row, setting, target_changed}
 use Rattle.desk_store.proofs.change.OpenChange.change_target.Goals as goal
 

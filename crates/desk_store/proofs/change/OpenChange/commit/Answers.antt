@@ -1,7 +1,7 @@
 use Rattle.sql_calls.proofs.Ends.{commit_is}
 use Rattle.sql_calls.proofs.FrameEnds.{commits}
 use Rattle.std.proofs.Common.{codes}
-use Rattle.desk_records.specs.Holds.{HoldsLedger}
+use Rattle.desk_store.proofs.Common.{HoldsLedger}
 use Rattle.desk_store.proofs.EndLemmas.{commits_as_store}
 use Rattle.desk_store.proofs.change.OpenChange.commit.Goals as goal
 

@@ -1,6 +1,4 @@
-use Rattle.desk_records.specs.Schema.{Actions}
-use Rattle.desk_records.specs.declared.action_texts.TheConstants.{COUNT_ACTIONS}
-use Rattle.desk_records.proofs.ActionMeaning.{count_actions_is}
+use Rattle.desk_store.proofs.Common.{Actions, COUNT_ACTIONS, count_actions_is}
 use Rattle.desk_store.proofs.RawCalls.{count_read, counted}
 use Rattle.desk_store.proofs.RawBlames.{count_blamed}
 use Rattle.desk_store.proofs.change.OpenChange.count_actions.Goals as goal

@@ -1,6 +1,4 @@
-use Rattle.desk_records.specs.Schema.{Groups}
-use Rattle.desk_records.specs.declared.rollout_texts.TheConstants.{COUNT_GROUPS}
-use Rattle.desk_records.proofs.RolloutMeaning.{count_groups_is}
+use Rattle.desk_store.proofs.Common.{Groups, COUNT_GROUPS, count_groups_is}
 use Rattle.desk_store.proofs.RawCalls.{count_read, counted}
 use Rattle.desk_store.proofs.RawBlames.{count_blamed}
 use Rattle.desk_store.proofs.change.OpenChange.count_groups.Goals as goal

@@ -1,6 +1,4 @@
-use Rattle.desk_records.specs.Schema.{Members}
-use Rattle.desk_records.specs.declared.rollout_texts.TheConstants.{COUNT_MEMBERS}
-use Rattle.desk_records.proofs.RolloutMeaning.{count_members_is}
+use Rattle.desk_store.proofs.Common.{Members, COUNT_MEMBERS, count_members_is}
 use Rattle.desk_store.proofs.RawCalls.{count_read, counting}
 use Rattle.desk_store.proofs.RawBlames.{count_blamed}
 use Rattle.desk_store.proofs.change.OpenChange.count_members.Goals as goal

@@ -1,8 +1,5 @@
 use Rattle.std.proofs.Common.{[], ◌∷◌}
-use Rattle.sqlite_value.specs.declared.value.Value.TheVariants.{Text}
-use Rattle.sqlite.specs.Held.{state}
-use Rattle.sql_calls.specs.Calls.{RunsText}
-use Rattle.desk_records.specs.declared.action_texts.TheConstants.{DROP_OFFER}
+use Rattle.desk_store.proofs.Common.{Text, state, RunsText, DROP_OFFER}
 use Rattle.desk_store.proofs.WriteCalls.{knows_drop_offer, offer_dropped}
 use Rattle.desk_store.proofs.change.OpenChange.drop_offer.Goals as goal
 

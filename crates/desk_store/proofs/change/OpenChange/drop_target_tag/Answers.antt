@@ -1,7 +1,4 @@
-use Rattle.sqlite.specs.Held.{state}
-use Rattle.sql_calls.specs.Calls.{RunsText}
-use Rattle.desk_records.specs.declared.target_texts.TheConstants.{DROP_TARGET_TAG}
-use Rattle.desk_records.proofs.Targets.{tag_row}
+use Rattle.desk_store.proofs.Common.{state, RunsText, DROP_TARGET_TAG, tag_row}
 use Rattle.desk_store.proofs.TargetCalls.{dropping, tag_dropped}
 use Rattle.desk_store.proofs.change.OpenChange.drop_target_tag.Goals as goal
 

@@ -1,8 +1,5 @@
 use Rattle.std.proofs.Common.{[], ◌∷◌, pos, Ok}
-use Rattle.sqlite_value.specs.declared.value.Value.TheVariants.{Int}
-use Rattle.sqlite.specs.Held.{state}
-use Rattle.sql_calls.specs.Calls.{AsksFew}
-use Rattle.desk_records.specs.declared.action_texts.TheConstants.{GET_ACTION}
+use Rattle.desk_store.proofs.Common.{Int, state, AsksFew, GET_ACTION}
 use Rattle.desk_store.proofs.ActionCalls.{getting}
 use Rattle.desk_store.proofs.RawFinds.{action_read}
 use Rattle.desk_store.proofs.RawBlames.{action_blamed}

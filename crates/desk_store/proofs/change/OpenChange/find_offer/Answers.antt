@@ -1,9 +1,5 @@
 use Rattle.std.proofs.Common.{◌≡◌, [], ◌∷◌, true, Ok, subst}
-use Rattle.sqlite_value.specs.declared.value.Value.TheVariants.{Text}
-use Rattle.sqlite.specs.Held.{state}
-use Rattle.sql_calls.specs.Calls.{AsksFew}
-use Rattle.rollout_model.specs.Rules.{is_word}
-use Rattle.desk_records.specs.declared.action_texts.TheConstants.{GET_OFFER}
+use Rattle.desk_store.proofs.Common.{Text, state, AsksFew, is_word, GET_OFFER}
 use Rattle.desk_store.proofs.ActionCalls.{offered}
 use Rattle.desk_store.proofs.RawFinds.{offer_read}
 use Rattle.desk_store.proofs.RawBlames.{offer_blamed}

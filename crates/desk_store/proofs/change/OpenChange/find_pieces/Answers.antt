@@ -1,8 +1,5 @@
 use Rattle.std.proofs.Common.{[], ◌∷◌, pos, Ok}
-use Rattle.sqlite_value.specs.declared.value.Value.TheVariants.{Int}
-use Rattle.sqlite.specs.Held.{state}
-use Rattle.sql_calls.specs.Calls.{AsksText}
-use Rattle.desk_records.specs.declared.artifact_texts.TheConstants.{GET_PIECE}
+use Rattle.desk_store.proofs.Common.{Int, state, AsksText, GET_PIECE}
 use Rattle.desk_store.proofs.ArtifactCalls.{taking}
 use Rattle.desk_store.proofs.RawPieces.{pieces_read}
 use Rattle.desk_store.proofs.RawBlames.{pieces_blamed}

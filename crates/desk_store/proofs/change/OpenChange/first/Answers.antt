@@ -1,6 +1,6 @@
 use Rattle.std.proofs.Common.{rules}
 use Rattle.sql_calls.proofs.Framing.{first_frames}
-use Rattle.desk_records.specs.Holds.{HoldsLedger}
+use Rattle.desk_store.proofs.Common.{HoldsLedger}
 use Rattle.desk_store.proofs.Known.{in_ledgers}
 use Rattle.desk_store.proofs.ReadLemmas.{first_keeps}
 use Rattle.desk_store.proofs.change.OpenChange.first.Goals as goal

@@ -1,7 +1,7 @@
 use Rattle.sql_calls.proofs.Ends.{rollback_is}
 use Rattle.sql_calls.proofs.FrameEnds.{gives_up}
 use Rattle.std.proofs.Common.{codes}
-use Rattle.desk_records.specs.Holds.{HoldsLedger}
+use Rattle.desk_store.proofs.Common.{HoldsLedger}
 use Rattle.desk_store.proofs.EndLemmas.{errors_as_store, gives_up_as_store}
 use Rattle.desk_store.proofs.change.OpenChange.give_up.Goals as goal
 

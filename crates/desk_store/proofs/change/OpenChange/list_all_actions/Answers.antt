@@ -1,7 +1,5 @@
 use Rattle.std.proofs.Common.{Ok}
-use Rattle.sqlite.specs.Held.{state}
-use Rattle.sql_calls.specs.Calls.{AsksText}
-use Rattle.desk_records.specs.declared.action_texts.TheConstants.{LIST_ACTIONS}
+use Rattle.desk_store.proofs.Common.{state, AsksText, LIST_ACTIONS}
 use Rattle.desk_store.proofs.ActionCalls.{listing}
 use Rattle.desk_store.proofs.RawLists.{actions_in_order, actions_read, all_of}
 use Rattle.desk_store.proofs.RawBlames.{actions_blamed}

@@ -1,7 +1,5 @@
 use Rattle.std.proofs.Common.{Ok}
-use Rattle.sqlite.specs.Held.{state}
-use Rattle.sql_calls.specs.Calls.{AsksText}
-use Rattle.desk_records.specs.declared.action_texts.TheConstants.{LIST_ENTRIES}
+use Rattle.desk_store.proofs.Common.{state, AsksText, LIST_ENTRIES}
 use Rattle.desk_store.proofs.ActionCalls.{listing_entries}
 use Rattle.desk_store.proofs.RawLists.{all_of, history_in_order, history_read}
 use Rattle.desk_store.proofs.RawBlames.{history_blamed}

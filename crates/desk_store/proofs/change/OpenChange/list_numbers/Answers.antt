@@ -1,8 +1,5 @@
 use Rattle.std.proofs.Common.{[], ◌∷◌, pos, Ok}
-use Rattle.sqlite_value.specs.declared.value.Value.TheVariants.{Int}
-use Rattle.sqlite.specs.Held.{state}
-use Rattle.sql_calls.specs.Calls.{AsksText}
-use Rattle.desk_records.specs.declared.action_texts.TheConstants.{LIST_NUMBERS}
+use Rattle.desk_store.proofs.Common.{Int, state, AsksText, LIST_NUMBERS}
 use Rattle.desk_store.proofs.NumberCalls.{listing_numbers}
 use Rattle.desk_store.proofs.RawLists.{numbers_read}
 use Rattle.desk_store.proofs.RawBlames.{numbers_blamed}

@@ -1,9 +1,5 @@
 use Rattle.std.proofs.Common.{◌≡◌, [], ◌∷◌, pos, Ok, subst, true}
-use Rattle.sqlite_value.specs.declared.value.Value.TheVariants.{Int}
-use Rattle.rollout_model.specs.Rules.{is_number}
-use Rattle.sqlite.specs.Held.{state}
-use Rattle.sql_calls.specs.Calls.{AsksText}
-use Rattle.desk_records.specs.declared.rollout_texts.TheConstants.{LIST_PLACES}
+use Rattle.desk_store.proofs.Common.{Int, is_number, state, AsksText, LIST_PLACES}
 use Rattle.desk_store.proofs.RawCalls.{listing, places_read}
 use Rattle.desk_store.proofs.RawBlames.{places_blamed}
 use Rattle.desk_store.proofs.change.OpenChange.list_places.Goals as goal

@@ -1,8 +1,5 @@
 use Rattle.std.proofs.Common.{[], ◌∷◌, pos, subst, ◌≤◌, Ok}
-use Rattle.sqlite_value.specs.declared.value.Value.TheVariants.{Int}
-use Rattle.sqlite.specs.Held.{state}
-use Rattle.sql_calls.specs.Calls.{TakesFirst}
-use Rattle.desk_records.specs.declared.action_texts.TheConstants.{GET_ACTION}
+use Rattle.desk_store.proofs.Common.{Int, state, TakesFirst, GET_ACTION}
 use Rattle.desk_store.proofs.ActionCalls.{action_read, getting}
 use Rattle.desk_store.proofs.change.OpenChange.read_action.Goals as goal
 

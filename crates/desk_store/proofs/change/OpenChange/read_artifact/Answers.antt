@@ -1,8 +1,5 @@
 use Rattle.std.proofs.Common.{[], ◌∷◌, Ok, pos, subst, ◌≤◌}
-use Rattle.sqlite_value.specs.declared.value.Value.TheVariants.{Int}
-use Rattle.sqlite.specs.Held.{state}
-use Rattle.sql_calls.specs.Calls.{TakesFirst}
-use Rattle.desk_records.specs.declared.artifact_texts.TheConstants.{GET_ARTIFACT}
+use Rattle.desk_store.proofs.Common.{Int, state, TakesFirst, GET_ARTIFACT}
 use Rattle.desk_store.proofs.ArtifactCalls.{artifact_read, getting}
 use Rattle.desk_store.proofs.RawFinds.{artifact_told}
 use Rattle.desk_store.proofs.change.OpenChange.read_artifact.Goals as goal

@@ -1,9 +1,5 @@
 use Rattle.std.proofs.Common.{◌≡◌, [], ◌∷◌, pos, suc, ◌-◌, subst, ◌≤◌, Ok, arith}
-use Rattle.std.proofs.lemmas.Bool.Decides.{nat_tests}
-use Rattle.sqlite_value.specs.declared.value.Value.TheVariants.{Int}
-use Rattle.sqlite.specs.Held.{state}
-use Rattle.sql_calls.specs.Calls.{TakesFirst}
-use Rattle.desk_records.specs.declared.action_texts.TheConstants.{LIST_ENTRIES}
+use Rattle.desk_store.proofs.Common.{nat_tests, Int, state, TakesFirst, LIST_ENTRIES}
 use Rattle.desk_store.proofs.ActionCalls.{entry_read, listing_entries}
 use Rattle.desk_store.proofs.change.OpenChange.read_entry.Goals as goal
 

@@ -1,8 +1,5 @@
 use Rattle.std.proofs.Common.{[], ◌∷◌, pos, subst, ◌≤◌, Ok}
-use Rattle.sqlite_value.specs.declared.value.Value.TheVariants.{Int}
-use Rattle.sqlite.specs.Held.{state}
-use Rattle.sql_calls.specs.Calls.{AsksFew}
-use Rattle.desk_records.specs.declared.rollout_texts.TheConstants.{GROUP_AND_NEXT}
+use Rattle.desk_store.proofs.Common.{Int, state, AsksFew, GROUP_AND_NEXT}
 use Rattle.desk_store.proofs.RolloutCalls.{group_and_next_known, group_and_next_read}
 use Rattle.desk_store.proofs.change.OpenChange.read_group_and_next.Goals as goal
 

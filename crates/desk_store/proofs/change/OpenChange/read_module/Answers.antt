@@ -1,8 +1,5 @@
 use Rattle.std.proofs.Common.{[], ◌∷◌, Ok, pos, subst, ◌≤◌}
-use Rattle.sqlite_value.specs.declared.value.Value.TheVariants.{Int}
-use Rattle.sqlite.specs.Held.{state}
-use Rattle.sql_calls.specs.Calls.{TakesFirst}
-use Rattle.desk_records.specs.declared.texts.TheConstants.{GET_MODULE}
+use Rattle.desk_store.proofs.Common.{Int, state, TakesFirst, GET_MODULE}
 use Rattle.desk_store.proofs.ModuleCalls.{getting, module_read}
 use Rattle.desk_store.proofs.change.OpenChange.read_module.Goals as goal
 

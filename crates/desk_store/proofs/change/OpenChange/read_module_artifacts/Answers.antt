@@ -1,8 +1,5 @@
 use Rattle.std.proofs.Common.{[], ◌∷◌, Ok, pos}
-use Rattle.sqlite_value.specs.declared.value.Value.TheVariants.{Int}
-use Rattle.sqlite.specs.Held.{state}
-use Rattle.sql_calls.specs.Calls.{AsksText}
-use Rattle.desk_records.specs.declared.artifact_texts.TheConstants.{LIST_ARTIFACTS}
+use Rattle.desk_store.proofs.Common.{Int, state, AsksText, LIST_ARTIFACTS}
 use Rattle.desk_store.proofs.ArtifactCalls.{artifacts_read, listing}
 use Rattle.desk_store.proofs.RawLists.{module_artifacts_read}
 use Rattle.desk_store.proofs.change.OpenChange.read_module_artifacts.Goals as goal

@@ -1,8 +1,5 @@
 use Rattle.std.proofs.Common.{[], ◌∷◌, Ok, pos}
-use Rattle.sqlite_value.specs.declared.value.Value.TheVariants.{Int}
-use Rattle.sqlite.specs.Held.{state}
-use Rattle.sql_calls.specs.Calls.{TakesFirst}
-use Rattle.desk_records.specs.declared.set_texts.TheConstants.{MODULE_LOCKED}
+use Rattle.desk_store.proofs.Common.{Int, state, TakesFirst, MODULE_LOCKED}
 use Rattle.desk_store.proofs.SetCalls.{locked, locking}
 use Rattle.desk_store.proofs.change.OpenChange.read_module_is_locked.Goals as goal
 

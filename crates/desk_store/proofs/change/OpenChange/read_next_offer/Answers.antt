@@ -1,8 +1,5 @@
 use Rattle.std.proofs.Common.{[], ◌∷◌, Ok}
-use Rattle.sqlite_value.specs.declared.value.Value.TheVariants.{Text}
-use Rattle.sqlite.specs.Held.{state}
-use Rattle.sql_calls.specs.Calls.{TakesFirst}
-use Rattle.desk_records.specs.declared.action_texts.TheConstants.{NEXT_OFFER}
+use Rattle.desk_store.proofs.Common.{Text, state, TakesFirst, NEXT_OFFER}
 use Rattle.desk_store.proofs.NextOfferCalls.{next, next_offer_read}
 use Rattle.desk_store.proofs.change.OpenChange.read_next_offer.Goals as goal
 

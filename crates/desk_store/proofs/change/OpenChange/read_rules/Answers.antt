@@ -1,8 +1,5 @@
 use Rattle.std.proofs.Common.{[], ◌∷◌, pos, subst, ◌≤◌, Ok}
-use Rattle.sqlite_value.specs.declared.value.Value.TheVariants.{Int}
-use Rattle.sqlite.specs.Held.{state}
-use Rattle.sql_calls.specs.Calls.{AsksText}
-use Rattle.desk_records.specs.declared.rollout_texts.TheConstants.{LIST_RULES}
+use Rattle.desk_store.proofs.Common.{Int, state, AsksText, LIST_RULES}
 use Rattle.desk_store.proofs.RolloutCalls.{listing_rules, rules_read}
 use Rattle.desk_store.proofs.change.OpenChange.read_rules.Goals as goal
 

@@ -1,8 +1,5 @@
 use Rattle.std.proofs.Common.{Ok}
-use Rattle.sqlite.specs.Held.{state}
-use Rattle.sql_calls.specs.Calls.{TakesFirst}
-use Rattle.desk_records.specs.declared.artifact_texts.TheConstants.{FIND_ARTIFACT}
-use Rattle.desk_records.specs.Artifacts.{file_of}
+use Rattle.desk_store.proofs.Common.{state, TakesFirst, FIND_ARTIFACT, file_of}
 use Rattle.desk_store.proofs.ArtifactCalls.{finding, found}
 use Rattle.desk_store.proofs.change.OpenChange.read_same_artifact.Goals as goal
 

@@ -1,8 +1,5 @@
 use Rattle.std.proofs.Common.{Ok}
-use Rattle.sqlite.specs.Held.{state}
-use Rattle.sql_calls.specs.Calls.{TakesFirst}
-use Rattle.desk_records.specs.declared.texts.TheConstants.{FIND_MODULE}
-use Rattle.desk_records.specs.Modules.{words_of}
+use Rattle.desk_store.proofs.Common.{state, TakesFirst, FIND_MODULE, words_of}
 use Rattle.desk_store.proofs.ModuleCalls.{finding, found}
 use Rattle.desk_store.proofs.change.OpenChange.read_same_module.Goals as goal
 

@@ -1,8 +1,5 @@
 use Rattle.std.proofs.Common.{[], ◌∷◌, Ok}
-use Rattle.sqlite_value.specs.declared.value.Value.TheVariants.{Text}
-use Rattle.sqlite.specs.Held.{state}
-use Rattle.sql_calls.specs.Calls.{TakesFirst}
-use Rattle.desk_records.specs.declared.rollout_texts.TheConstants.{FIND_ROLLOUT}
+use Rattle.desk_store.proofs.Common.{Text, state, TakesFirst, FIND_ROLLOUT}
 use Rattle.desk_store.proofs.RolloutCalls.{finding, found}
 use Rattle.desk_store.proofs.change.OpenChange.read_same_rollout.Goals as goal
 

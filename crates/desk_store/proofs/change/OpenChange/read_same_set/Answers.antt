@@ -1,8 +1,5 @@
 use Rattle.std.proofs.Common.{Ok}
-use Rattle.sqlite.specs.Held.{state}
-use Rattle.sql_calls.specs.Calls.{TakesFirst}
-use Rattle.desk_records.specs.declared.set_texts.TheConstants.{FIND_SET}
-use Rattle.desk_records.specs.Sets.{names_of}
+use Rattle.desk_store.proofs.Common.{state, TakesFirst, FIND_SET, names_of}
 use Rattle.desk_store.proofs.SetCalls.{finding, found}
 use Rattle.desk_store.proofs.change.OpenChange.read_same_set.Goals as goal
 

@@ -1,8 +1,5 @@
 use Rattle.std.proofs.Common.{[], ◌∷◌, Ok, pos, subst, ◌≤◌}
-use Rattle.sqlite_value.specs.declared.value.Value.TheVariants.{Int}
-use Rattle.sqlite.specs.Held.{state}
-use Rattle.sql_calls.specs.Calls.{AsksText}
-use Rattle.desk_records.specs.declared.set_texts.TheConstants.{LIST_SET_MODULES}
+use Rattle.desk_store.proofs.Common.{Int, state, AsksText, LIST_SET_MODULES}
 use Rattle.desk_store.proofs.SetCalls.{listing, modules_read}
 use Rattle.desk_store.proofs.change.OpenChange.read_set_modules.Goals as goal
 

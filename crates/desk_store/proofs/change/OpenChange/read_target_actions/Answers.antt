@@ -1,8 +1,5 @@
 use Rattle.std.proofs.Common.{[], ◌∷◌, pos, Ok}
-use Rattle.sqlite_value.specs.declared.value.Value.TheVariants.{Int, Text}
-use Rattle.sqlite.specs.Held.{state}
-use Rattle.sql_calls.specs.Calls.{AsksText}
-use Rattle.desk_records.specs.declared.action_texts.TheConstants.{LIST_TARGET_ACTIONS}
+use Rattle.desk_store.proofs.Common.{Int, Text, state, AsksText, LIST_TARGET_ACTIONS}
 use Rattle.desk_store.proofs.ActionCalls.{listing_targets, target_actions_read}
 use Rattle.desk_store.proofs.change.OpenChange.read_target_actions.Goals as goal
 

@@ -1,8 +1,5 @@
 use Rattle.std.proofs.Common.{[], ◌∷◌, Ok}
-use Rattle.sqlite_value.specs.declared.value.Value.TheVariants.{Text}
-use Rattle.sqlite.specs.Held.{state}
-use Rattle.sql_calls.specs.Calls.{AsksText}
-use Rattle.desk_records.specs.declared.target_texts.TheConstants.{LIST_TARGET_TAGS}
+use Rattle.desk_store.proofs.Common.{Text, state, AsksText, LIST_TARGET_TAGS}
 use Rattle.desk_store.proofs.TargetCalls.{listing, tags_read}
 use Rattle.desk_store.proofs.change.OpenChange.read_target_tags.Goals as goal
 

@@ -1,8 +1,5 @@
 use Rattle.std.proofs.Common.{[], ◌∷◌, Ok, pos}
-use Rattle.sqlite_value.specs.declared.value.Value.TheVariants.{Int}
-use Rattle.sqlite.specs.Held.{state}
-use Rattle.sql_calls.specs.Calls.{AsksText}
-use Rattle.desk_records.specs.declared.target_texts.TheConstants.{LIST_TARGETS}
+use Rattle.desk_store.proofs.Common.{Int, state, AsksText, LIST_TARGETS}
 use Rattle.desk_store.proofs.TargetCalls.{paging, targets_read}
 use Rattle.desk_store.proofs.change.OpenChange.read_targets.Goals as goal
 

@@ -1,6 +1,6 @@
 use Rattle.std.proofs.Common.{rules}
 use Rattle.sql_calls.proofs.Framing.{run_frames}
-use Rattle.desk_records.specs.Holds.{HoldsLedger}
+use Rattle.desk_store.proofs.Common.{HoldsLedger}
 use Rattle.desk_store.proofs.change.OpenChange.run.Goals as goal
 
 pub returns-clause-stays : goal.returns-clause-stays

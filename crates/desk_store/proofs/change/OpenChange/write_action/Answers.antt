@@ -1,7 +1,4 @@
-use Rattle.sqlite.specs.Held.{state}
-use Rattle.sql_calls.specs.Calls.{RunsText}
-use Rattle.desk_records.specs.declared.action_texts.TheConstants.{PUT_ACTION}
-use Rattle.desk_records.proofs.LedgerWrites.{scheduled_params}
+use Rattle.desk_store.proofs.Common.{state, RunsText, PUT_ACTION, scheduled_params}
 use Rattle.desk_store.proofs.WriteCalls.{action_written, knows_put_action}
 use Rattle.desk_store.proofs.change.OpenChange.write_action.Goals as goal
 

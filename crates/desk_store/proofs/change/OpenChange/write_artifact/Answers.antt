@@ -1,9 +1,5 @@
 use Rattle.std.proofs.Common.{◌∷◌, pos}
-use Rattle.sqlite_value.specs.declared.value.Value.TheVariants.{Int}
-use Rattle.sqlite.specs.Held.{state}
-use Rattle.sql_calls.specs.Calls.{RunsText}
-use Rattle.desk_records.specs.declared.artifact_texts.TheConstants.{PUT_ARTIFACT}
-use Rattle.desk_records.specs.Artifacts.{told_of, artifact_filed}
+use Rattle.desk_store.proofs.Common.{Int, state, RunsText, PUT_ARTIFACT, told_of, artifact_filed}
 use Rattle.desk_store.proofs.ArtifactCalls.{artifact_written, putting}
 use Rattle.desk_store.proofs.change.OpenChange.write_artifact.Goals as goal
 

@@ -1,7 +1,4 @@
-use Rattle.sqlite.specs.Held.{state}
-use Rattle.sql_calls.specs.Calls.{RunsText}
-use Rattle.desk_records.specs.declared.action_texts.TheConstants.{PUT_FEEDBACK}
-use Rattle.desk_records.proofs.PartWrites.{entry_params}
+use Rattle.desk_store.proofs.Common.{state, RunsText, PUT_FEEDBACK, entry_params}
 use Rattle.desk_store.proofs.WriteCalls.{entry_written, knows_put_feedback}
 use Rattle.desk_store.proofs.change.OpenChange.write_entry.Goals as goal
 

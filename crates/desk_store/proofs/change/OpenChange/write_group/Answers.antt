@@ -1,7 +1,4 @@
-use Rattle.sqlite.specs.Held.{state}
-use Rattle.sql_calls.specs.Calls.{RunsText}
-use Rattle.desk_records.specs.declared.rollout_texts.TheConstants.{PUT_GROUP}
-use Rattle.desk_records.proofs.PartWrites.{cut_params}
+use Rattle.desk_store.proofs.Common.{state, RunsText, PUT_GROUP, cut_params}
 use Rattle.desk_store.proofs.WriteCalls.{group_written, knows_put_group}
 use Rattle.desk_store.proofs.change.OpenChange.write_group.Goals as goal
 

@@ -1,7 +1,4 @@
-use Rattle.sqlite.specs.Held.{state}
-use Rattle.sql_calls.specs.Calls.{RunsText}
-use Rattle.desk_records.specs.declared.action_texts.TheConstants.{PUT_GROUP_OFFERS}
-use Rattle.desk_records.proofs.GroupOfferWrites.{group_params}
+use Rattle.desk_store.proofs.Common.{state, RunsText, PUT_GROUP_OFFERS, group_params}
 use Rattle.desk_store.proofs.GroupOfferCalls.{group_offers_written, knows_put_group_offers}
 use Rattle.desk_store.proofs.change.OpenChange.write_group_offers.Goals as goal
 

@@ -1,7 +1,4 @@
-use Rattle.sqlite.specs.Held.{state}
-use Rattle.sql_calls.specs.Calls.{RunsText}
-use Rattle.desk_records.specs.declared.rollout_texts.TheConstants.{PUT_MEMBER}
-use Rattle.desk_records.specs.Rollouts.{member_row}
+use Rattle.desk_store.proofs.Common.{state, RunsText, PUT_MEMBER, member_row}
 use Rattle.desk_store.proofs.WriteCalls.{knows_put_member, member_written}
 use Rattle.desk_store.proofs.change.OpenChange.write_member.Goals as goal
 

@@ -1,9 +1,5 @@
 use Rattle.std.proofs.Common.{◌∷◌, pos}
-use Rattle.sqlite_value.specs.declared.value.Value.TheVariants.{Int}
-use Rattle.sqlite.specs.Held.{state}
-use Rattle.sql_calls.specs.Calls.{RunsText}
-use Rattle.desk_records.specs.declared.texts.TheConstants.{PUT_MODULE}
-use Rattle.desk_records.specs.Modules.{words_of}
+use Rattle.desk_store.proofs.Common.{Int, state, RunsText, PUT_MODULE, words_of}
 use Rattle.desk_store.proofs.ModuleCalls.{module_written, putting}
 use Rattle.desk_store.proofs.change.OpenChange.write_module.Goals as goal
 

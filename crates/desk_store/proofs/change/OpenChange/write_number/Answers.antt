@@ -1,7 +1,4 @@
-use Rattle.sqlite.specs.Held.{state}
-use Rattle.sql_calls.specs.Calls.{RunsText}
-use Rattle.desk_records.specs.FeedbackNumbers.{number_row}
-use Rattle.desk_records.specs.declared.action_texts.TheConstants.{PUT_NUMBER}
+use Rattle.desk_store.proofs.Common.{state, RunsText, number_row, PUT_NUMBER}
 use Rattle.desk_store.proofs.NumberCalls.{knows_put_number, number_written}
 use Rattle.desk_store.proofs.change.OpenChange.write_number.Goals as goal
 

@@ -1,7 +1,4 @@
-use Rattle.sqlite.specs.Held.{state}
-use Rattle.sql_calls.specs.Calls.{RunsText}
-use Rattle.desk_records.specs.declared.artifact_texts.TheConstants.{PUT_PIECE}
-use Rattle.desk_records.specs.Artifacts.{piece_row}
+use Rattle.desk_store.proofs.Common.{state, RunsText, PUT_PIECE, piece_row}
 use Rattle.desk_store.proofs.ArtifactCalls.{piece_written, placing}
 use Rattle.desk_store.proofs.change.OpenChange.write_piece.Goals as goal
 

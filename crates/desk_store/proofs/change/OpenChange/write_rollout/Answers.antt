@@ -1,7 +1,4 @@
-use Rattle.sqlite.specs.Held.{state}
-use Rattle.sql_calls.specs.Calls.{RunsText}
-use Rattle.desk_records.specs.declared.rollout_texts.TheConstants.{PUT_ROLLOUT}
-use Rattle.desk_records.proofs.LedgerWrites.{created_params}
+use Rattle.desk_store.proofs.Common.{state, RunsText, PUT_ROLLOUT, created_params}
 use Rattle.desk_store.proofs.WriteCalls.{knows_put_rollout, rollout_written}
 use Rattle.desk_store.proofs.change.OpenChange.write_rollout.Goals as goal
 

@@ -1,11 +1,6 @@
 use Rattle.std.proofs.Common.{◌≡◌, ℕ, pos, Option, Some, None, refl}
-use Rattle.sqlite.specs.Held.{state}
-use Rattle.sqlite.specs.Values.{bound_value, or_null}
+use Rattle.desk_store.proofs.Common.{state, bound_value, or_null, Int, RunsText, rule_row, PUT_RULE}
 use Rattle.sqlite_value.specs.Value.{owned}
-use Rattle.sqlite_value.specs.declared.value.Value.TheVariants.{Int}
-use Rattle.sql_calls.specs.Calls.{RunsText}
-use Rattle.desk_records.specs.Rollouts.{rule_row}
-use Rattle.desk_records.specs.declared.rollout_texts.TheConstants.{PUT_RULE}
 use Rattle.desk_store.proofs.WriteCalls.{knows_put_rule, rule_written}
 use Rattle.desk_store.proofs.change.OpenChange.write_rule.Goals as goal
 

@@ -1,9 +1,5 @@
 use Rattle.std.proofs.Common.{◌∷◌, pos}
-use Rattle.sqlite_value.specs.declared.value.Value.TheVariants.{Int}
-use Rattle.sqlite.specs.Held.{state}
-use Rattle.sql_calls.specs.Calls.{RunsText}
-use Rattle.desk_records.specs.declared.set_texts.TheConstants.{PUT_SET}
-use Rattle.desk_records.specs.Sets.{names_of}
+use Rattle.desk_store.proofs.Common.{Int, state, RunsText, PUT_SET, names_of}
 use Rattle.desk_store.proofs.SetCalls.{putting, set_written}
 use Rattle.desk_store.proofs.change.OpenChange.write_set.Goals as goal
 

@@ -1,7 +1,4 @@
-use Rattle.sqlite.specs.Held.{state}
-use Rattle.sql_calls.specs.Calls.{RunsText}
-use Rattle.desk_records.specs.declared.set_texts.TheConstants.{PUT_SET_MODULE}
-use Rattle.desk_records.specs.Sets.{place_row}
+use Rattle.desk_store.proofs.Common.{state, RunsText, PUT_SET_MODULE, place_row}
 use Rattle.desk_store.proofs.SetCalls.{placing, set_module_written}
 use Rattle.desk_store.proofs.change.OpenChange.write_set_module.Goals as goal
 

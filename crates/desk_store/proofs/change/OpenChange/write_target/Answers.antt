@@ -1,6 +1,4 @@
-use Rattle.sqlite.specs.Held.{state}
-use Rattle.sql_calls.specs.Calls.{RunsText}
-use Rattle.desk_records.specs.declared.target_texts.TheConstants.{PUT_TARGET}
+use Rattle.desk_store.proofs.Common.{state, RunsText, PUT_TARGET}
 use Rattle.desk_store.proofs.TargetCalls.{named_row, putting, target_written}
 use Rattle.desk_store.proofs.change.OpenChange.write_target.Goals as goal
 

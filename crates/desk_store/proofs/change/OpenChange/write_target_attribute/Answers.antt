@@ -1,7 +1,4 @@
-use Rattle.sqlite.specs.Held.{state}
-use Rattle.sql_calls.specs.Calls.{RunsText}
-use Rattle.desk_records.specs.declared.target_texts.TheConstants.{PUT_TARGET_ATTRIBUTE}
-use Rattle.desk_records.proofs.Attributes.{attribute_row}
+use Rattle.desk_store.proofs.Common.{state, RunsText, PUT_TARGET_ATTRIBUTE, attribute_row}
 use Rattle.desk_store.proofs.AttributeCalls.{attribute_written, putting}
 use Rattle.desk_store.proofs.change.OpenChange.write_target_attribute.Goals as goal
 

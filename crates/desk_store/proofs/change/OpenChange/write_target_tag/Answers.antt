@@ -1,7 +1,4 @@
-use Rattle.sqlite.specs.Held.{state}
-use Rattle.sql_calls.specs.Calls.{RunsText}
-use Rattle.desk_records.specs.declared.target_texts.TheConstants.{PUT_TARGET_TAG}
-use Rattle.desk_records.proofs.Targets.{tag_row}
+use Rattle.desk_store.proofs.Common.{state, RunsText, PUT_TARGET_TAG, tag_row}
 use Rattle.desk_store.proofs.TargetCalls.{tag_written, tagging}
 use Rattle.desk_store.proofs.change.OpenChange.write_target_tag.Goals as goal
 

@@ -1,10 +1,7 @@
 use Rattle.std.proofs.Common.{refl}
-use Rattle.sqlite.specs.Held.{state}
-use Rattle.sql_calls.specs.Standing.{Begins, Keeps}
+use Rattle.desk_store.proofs.Common.{state, Begins, Keeps, HoldsLedger, HoldsTables}
 use Rattle.sql_calls.proofs.Ends.{begin_is}
 use Rattle.sql_calls.proofs.FrameEnds.{begins, fails_to_begin}
-use Rattle.desk_records.specs.Holds.{HoldsLedger}
-use Rattle.desk_records.specs.Tables.{HoldsTables}
 use Rattle.desk_store.specs.Texts.{begin_text}
 use Rattle.desk_store.proofs.store.DeskStore.begin.Goals as goal
 

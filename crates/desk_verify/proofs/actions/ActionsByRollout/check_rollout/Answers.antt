@@ -1,13 +1,6 @@
 use Rattle.std.proofs.Common.{◌≡◌, ◌≤◌, ◌^◌, arith, Err, true, false, length, sym, ap, subst, ◌∙◌}
-use Rattle.sql_calls.proofs.Composing.{both_found, finds_as}
-use Rattle.sql_calls.specs.declared.fault.Fault.TheVariants.{Store}
-use Rattle.desk_records.specs.Listings.{has_at}
-use Rattle.desk_store.proofs.BlameLemmas.{blamed}
+use Rattle.desk_verify.proofs.Common.{both_found, finds_as, Store, has_at, blamed, Actions, AreWhole, are_for, count_none, AgreesActions, IsRightAction, JudgesOne}
 use Rattle.desk_verify.proofs.Causes.{grown, listed_many}
-use Rattle.desk_records.specs.Schema.{Actions}
-use Rattle.desk_verify.specs.ActionChecks.{AreWhole, are_for, count_none}
-use Rattle.desk_verify.specs.Actions.{AgreesActions, IsRightAction}
-use Rattle.desk_verify.specs.RolloutChecks.{JudgesOne}
 use Rattle.desk_verify.proofs.ActionLemmas.{fails, fails_broken, fails_history, fits, waiting}
 use Rattle.desk_verify.proofs.actions.ActionsByRollout.check_rollout.Goals as goal
 

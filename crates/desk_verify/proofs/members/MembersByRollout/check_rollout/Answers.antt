@@ -1,11 +1,6 @@
 use Rattle.std.proofs.Common.{◌≡◌, ◌≤◌, ◌^◌, true, false, length, Err, sym, ap, ◌∙◌, arith}
-use Rattle.sql_calls.proofs.Composing.{finds_as}
-use Rattle.sql_calls.specs.declared.fault.Fault.TheVariants.{Store}
-use Rattle.desk_records.specs.PlaceLists.{is_of}
-use Rattle.desk_records.specs.Schema.{Members}
-use Rattle.desk_store.proofs.BlameLemmas.{blamed}
+use Rattle.desk_verify.proofs.Common.{finds_as, Store, is_of, Members, blamed, follow}
 use Rattle.desk_verify.proofs.Causes.{listed_many}
-use Rattle.desk_verify.specs.Following.{follow}
 use Rattle.desk_verify.proofs.Follow.{breaks, differs}
 use Rattle.desk_verify.proofs.MemberLemmas.{fits}
 use Rattle.desk_verify.proofs.RolloutLemmas.{rollout_there}

@@ -1,9 +1,5 @@
 use Rattle.std.proofs.Common.{◌≡◌, ◌≤◌, ◌^◌, arith, Err, length, sym, ap, ◌∙◌}
-use Rattle.sql_calls.proofs.Composing.{both_found, finds_as}
-use Rattle.sql_calls.specs.declared.fault.Fault.TheVariants.{Store}
-use Rattle.desk_records.specs.Listings.{has_at}
-use Rattle.desk_records.specs.Schema.{Actions}
-use Rattle.desk_store.proofs.BlameLemmas.{blamed}
+use Rattle.desk_verify.proofs.Common.{both_found, finds_as, Store, has_at, Actions, blamed}
 use Rattle.desk_verify.proofs.ActionLemmas.{fails_broken as no_actions}
 use Rattle.desk_verify.proofs.Causes.{grown, listed_many}
 use Rattle.desk_verify.proofs.GroupLemmas.{fails_broken as no_groups}

@@ -1,7 +1,6 @@
 use Rattle.std.proofs.Common.{◌≡◌, ◌++◌, List, ℕ, subst, rules, arith}
 use Rattle.std.proofs.lemmas.Grind.{common_steps}
-use Rattle.http_wire.specs.Streams.{Begins}
-use Rattle.http_wire.specs.Messages.{IsFault}
+use Rattle.http_wire.proofs.Common.{Begins, IsFault}
 use Rattle.http_wire.proofs.MessageLemmas.{begins_append, fault_append}
 use Rattle.http_wire.proofs.inbox.Inbox.feed.Goals as goal
 

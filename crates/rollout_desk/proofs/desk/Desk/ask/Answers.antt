@@ -1,10 +1,5 @@
 use Rattle.std.proofs.Common.{refl}
-use Rattle.sqlite.specs.Held.{state}
-use Rattle.desk_records.specs.Holds.{HoldsRecords}
-use Rattle.rollout_machine.specs.Requests.{Ask}
-use Rattle.rollout_machine.specs.Views.{query_of, reply_of}
-use Rattle.rollout_desk.specs.DeskStates.{desk_state}
-use Rattle.rollout_desk.specs.Desks.{desk_state_at}
+use Rattle.rollout_desk.proofs.Common.{state, HoldsRecords, Ask, query_of, reply_of, desk_state, desk_state_at}
 use Rattle.rollout_desk.proofs.DeskLemmas.{answers}
 use Rattle.rollout_desk.proofs.PromiseLemmas.{offers_kept, contents_whole}
 use Rattle.rollout_desk.proofs.SizeLemmas.{refused_sized}

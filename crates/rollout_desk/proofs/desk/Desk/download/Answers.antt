@@ -1,5 +1,4 @@
-use Rattle.rollout_machine.specs.Views.{query_of}
-use Rattle.rollout_desk.specs.DeskStates.{desk_state}
+use Rattle.rollout_desk.proofs.Common.{query_of, desk_state}
 use Rattle.rollout_desk.proofs.DownloadLemmas.{begun_offered}
 use Rattle.rollout_desk.proofs.desk.Desk.download.Goals as goal
 

@@ -1,12 +1,5 @@
 use Rattle.std.proofs.Common.{◌≡◌, subst}
-use Rattle.rollout_machine.specs.Replies.{Refused}
-use Rattle.rollout_model.specs.declared.refusal.Refusal.TheVariants.{Stopped}
-use Rattle.rollout_machine.specs.Requests.{Asks, Ask, ShowArtifact, ShowContents}
-use Rattle.rollout_machine.specs.Standing.{Applies}
-use Rattle.rollout_machine.specs.StoreFailures.{is_failed_store}
-use Rattle.rollout_machine.specs.Views.{reply_of}
-use Rattle.rollout_desk.specs.DeskStates.{desk_state}
-use Rattle.rollout_desk.specs.Downloads.{RefusesContents}
+use Rattle.rollout_desk.proofs.Common.{Refused, Stopped, Asks, Ask, ShowArtifact, ShowContents, Applies, is_failed_store, reply_of, desk_state, RefusesContents}
 use Rattle.rollout_desk.specs.Working.{TellsFailures}
 use Rattle.rollout_desk.proofs.DownloadLemmas.{begun, contents_refused, other_reply, refuses, shown_reply}
 use Rattle.rollout_desk.proofs.desk.Desk.find_artifact.Goals as goal

@@ -1,4 +1,4 @@
-use Rattle.sqlite.specs.Held.{state}
+use Rattle.rollout_desk.proofs.Common.{state}
 use Rattle.rollout_desk.proofs.DownloadLemmas.{offered_begins, offered_refused}
 use Rattle.rollout_desk.proofs.desk.Desk.find_offered.Goals as goal
 

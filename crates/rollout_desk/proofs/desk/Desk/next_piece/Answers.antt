@@ -1,6 +1,5 @@
 use Rattle.std.proofs.Common.{◌≤◌, refl, rules}
-use Rattle.sqlite.specs.Held.{state}
-use Rattle.contents_handler.specs.Downloads.{next_length}
+use Rattle.rollout_desk.proofs.Common.{state, next_length}
 use Rattle.rollout_desk.proofs.DownloadLemmas.{handed, own_piece}
 use Rattle.rollout_desk.proofs.LookLemmas.{interrupted}
 use Rattle.rollout_desk.proofs.desk.Desk.next_piece.Goals as goal

@@ -1,12 +1,5 @@
 use Rattle.std.proofs.Common.{inl, inr, refl, sym, map, ◌∙◌, rules}
-use Rattle.std.proofs.lemmas.Bool.{false≢true}
-use Rattle.sqlite.specs.Held.{state}
-use Rattle.desk_records.specs.Holds.{HoldsRecords}
-use Rattle.rollout_machine.specs.CommandList.{CommandList}
-use Rattle.rollout_machine.specs.Standing.{StandsFor}
-use Rattle.rollout_machine.specs.Views.{request_of, reply_of}
-use Rattle.rollout_desk.specs.DeskStates.{desk_state}
-use Rattle.rollout_desk.specs.Runs.{EndsRun}
+use Rattle.rollout_desk.proofs.Common.{false≢true, state, HoldsRecords, CommandList, StandsFor, request_of, reply_of, desk_state, EndsRun}
 use Rattle.rollout_desk.proofs.OnceLemmas.{ends_once}
 use Rattle.rollout_desk.proofs.RunLemmas.{nothing_ran, none_failed_yet, none_failed_more, goes_on, ends, all_ran}
 use Rattle.rollout_desk.proofs.desk.Desk.run.Goals as goal

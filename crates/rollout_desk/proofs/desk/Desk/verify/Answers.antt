@@ -1,6 +1,5 @@
 use Rattle.std.proofs.Common.{◌≡◌, Err, ap, inr, refl}
-use Rattle.sqlite.specs.Held.{state}
-use Rattle.rollout_model.specs.declared.refusal.Refusal.TheVariants.{StoreFailed}
+use Rattle.rollout_desk.proofs.Common.{state, StoreFailed}
 use Rattle.rollout_desk.proofs.LookLemmas.{becomes_refused, interrupted}
 use Rattle.rollout_desk.proofs.desk.Desk.verify.Goals as goal
 

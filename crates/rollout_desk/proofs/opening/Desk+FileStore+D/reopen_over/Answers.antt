@@ -1,8 +1,4 @@
-use Rattle.sqlite.specs.Files.{image_of, file_state}
-use Rattle.desk_records.specs.Holds.{HoldsRecords}
-use Rattle.desk_opening.specs.Reopening.{BeginsPlain}
-use Rattle.rollout_desk.specs.Desks.{desk_state_at}
-use Rattle.rollout_desk.specs.Openings.{ReopensDesk}
+use Rattle.rollout_desk.proofs.Common.{image_of, file_state, HoldsRecords, BeginsPlain, desk_state_at, ReopensDesk}
 use Rattle.rollout_desk.proofs.OpeningLemmas.{over_it, reopened_desk}
 use Rattle.rollout_desk.proofs.opening.Desk+FileStore+D.reopen_over.Goals as goal
 

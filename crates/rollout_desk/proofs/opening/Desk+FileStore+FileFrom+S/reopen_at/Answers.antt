@@ -1,9 +1,5 @@
-use Rattle.sqlite.specs.Files.{file_state}
+use Rattle.rollout_desk.proofs.Common.{file_state, HoldsRecords, BeginsPlain, desk_state_at, ReopensDesk}
 use Rattle.sqlite.specs.WalFiles.{image_at}
-use Rattle.desk_records.specs.Holds.{HoldsRecords}
-use Rattle.desk_opening.specs.Reopening.{BeginsPlain}
-use Rattle.rollout_desk.specs.Desks.{desk_state_at}
-use Rattle.rollout_desk.specs.Openings.{ReopensDesk}
 use Rattle.rollout_desk.proofs.OpeningLemmas.{over_it, reopened_desk}
 use Rattle.rollout_desk.proofs.opening.Desk+FileStore+FileFrom+S.reopen_at.Goals as goal
 

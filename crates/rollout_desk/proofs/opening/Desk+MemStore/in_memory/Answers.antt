@@ -1,10 +1,6 @@
-use Rattle.sqlite.specs.Held.{state}
+use Rattle.rollout_desk.proofs.Common.{state, HoldsRecords, Make, StandsFor, desk_state_at}
 use Rattle.sqlite.specs.Steps.{over_memory}
 use Rattle.sqlite.proofs.Callers.{memory_is_clean}
-use Rattle.desk_records.specs.Holds.{HoldsRecords}
-use Rattle.rollout_machine.specs.CommandList.{Make}
-use Rattle.rollout_machine.specs.Standing.{StandsFor}
-use Rattle.rollout_desk.specs.Desks.{desk_state_at}
 use Rattle.rollout_desk.proofs.OpeningLemmas.{over_it, made_desk, fails_alone}
 use Rattle.rollout_desk.proofs.opening.Desk+MemStore.in_memory.Goals as goal
 

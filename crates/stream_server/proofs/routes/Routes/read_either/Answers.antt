@@ -1,9 +1,6 @@
 use Rattle.std.proofs.Common.{◌≡◌, ◌⊎◌, ℕ, List, None, IfOk, IfErr, sym, subst}
-use Rattle.http_wire.specs.Inbox.{message_of}
-use Rattle.rollout_model.specs.declared.refusal.Refusal.TheVariants.{NoMemory}
-use Rattle.rollout_machine.specs.Requests.{Asked, Asks, Rejected}
+use Rattle.stream_server.proofs.Common.{message_of, NoMemory, Asked, Asks, Rejected, manage_route}
 use Rattle.rollout_machine.specs.Views.{request_of}
-use Rattle.mgmt_api.specs.Table.{manage_route}
 use Rattle.stream_server.proofs.RouteLemmas.{as_of_device}
 use Rattle.stream_server.proofs.routes.Routes.read_either.Goals as goal
 

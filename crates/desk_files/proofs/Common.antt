@@ -1,0 +1,16 @@
+-- The names of other modules that the proofs here cite, passed on from one place. Declares nothing.
+pub use Rattle.std.proofs.lemmas.Bool.{false≢true, true≢false}
+pub use Rattle.std.proofs.lemmas.Bool.Decides.{nat_tests}
+pub use Rattle.std.proofs.lemmas.List.{append-nil, map-append, take_more}
+pub use Rattle.std.proofs.lemmas.List.Folds.{list_all-map, list_all_at, list_any-append}
+pub use Rattle.std.specs.List.{ends_with, find, flat_map, list_all, list_any, range_with_len, slice_split}
+pub use Rattle.csv.specs.Records.{fields_of}
+pub use Rattle.csv.specs.declared.reader.Reader.{Reader}
+pub use Rattle.rollout_model.proofs.RuleLemmas.{both, spelled_is_utf8}
+pub use Rattle.rollout_model.specs.Rules.{are_distinct_words, is_between, is_spelled, is_text, is_text_letter, is_token, is_word, is_word_letter, tag_list_of, text_of, token_of, word_of}
+pub use Rattle.rollout_model.specs.declared.target_row.TargetRow.{TargetRow}
+pub use Rattle.desk_files.specs.ImportSteps.{HasIds, Pushes, TakesRow, has_id, if_new, row_behind}
+pub use Rattle.desk_files.specs.Imports.{distinct_rows, each_row, faulty_line, ids_of, import_of, is_header, records_of, rows_of, targets_of}
+pub use Rattle.desk_files.specs.RecordReaders.{Gives, GivesNext, known}
+pub use Rattle.desk_files.specs.TargetRecords.{Record, row_of, tags_of}
+pub use Rattle.desk_files.specs.declared.imported_rows.ImportedRows.{ImportedRows}

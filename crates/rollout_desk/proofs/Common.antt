@@ -1,0 +1,55 @@
+-- The names of other modules that the proofs here cite, passed on from one place. Declares nothing.
+pub use Rattle.std.proofs.lemmas.Bool.{and_parts, cases_Bool, eqb-true, false≢true}
+pub use Rattle.std.specs.Option.{option_map, unwrap_or}
+pub use Rattle.std.specs.declared.alloc.Global.{Global}
+pub use Rattle.sqlite.specs.Effect.{Database}
+pub use Rattle.sqlite.specs.FileStore.{faults, files, is_shielded, recovers, view}
+pub use Rattle.sqlite.specs.Files.{HoldsDatabase, IsClosed, file_state, image_of}
+pub use Rattle.sqlite.specs.Held.{AreDatabases, Held, state}
+pub use Rattle.sqlite.specs.Recovery.{Image}
+pub use Rattle.sqlite.specs.State.{HasCleanDisk, State}
+pub use Rattle.sqlite.specs.Store.{Ghosts}
+pub use Rattle.sqlite.specs.Tree.{Trees}
+pub use Rattle.sqlite.specs.WalReads.{AreClean}
+pub use Rattle.sqlite_disk.specs.declared.Files.{Files}
+pub use Rattle.sqlite_store.specs.declared.store.FileStore.{FileStore}
+pub use Rattle.rollout_model.specs.Limits.{piece_length}
+pub use Rattle.rollout_model.specs.declared.refusal.Refusal.{Refusal}
+pub use Rattle.rollout_model.specs.declared.refusal.Refusal.TheVariants.{NoMemory, NotFound, Stopped, StoreFailed, Unauthorized}
+pub use Rattle.rollout_machine.proofs.Answering.{accepted_step, query_answer, refused_answer}
+pub use Rattle.rollout_machine.proofs.Main.{records_step}
+pub use Rattle.rollout_machine.proofs.StoreFailures.{answer_never_stores, failed_true}
+pub use Rattle.rollout_machine.specs.Answers.{Answer, MayAnswer, action_of_target, answer, artifact_if, artifact_named, artifact_of_module, download, for_device, if_found, is_offer_of, modules_offered, query_reply, targets_matching, targets_reply}
+pub use Rattle.rollout_machine.specs.ByteStrings.{contains_word, item_numbered, same_bytes}
+pub use Rattle.rollout_machine.specs.CommandList.{CommandList, Make, followed_by, ◌▸◌}
+pub use Rattle.rollout_machine.specs.Commands.{Bytes, Command, Credential, TargetRow}
+pub use Rattle.rollout_machine.specs.RecordSteps.{step_records}
+pub use Rattle.rollout_machine.specs.Records.{ArtifactRecord, Records, added_artifacts, artifacts, records}
+pub use Rattle.rollout_machine.specs.Replies.{ArtifactShown, CancelShown, ContentsShown, DeploymentShown, PollShown, Refused, Reply}
+pub use Rattle.rollout_machine.specs.Requests.{Ask, Asked, Asks, Do, Download, Page, Poll, Query, Request, ShowAction, ShowActionsTable, ShowArtifact, ShowArtifacts, ShowCancel, ShowContents, ShowDeployment, ShowGroup, ShowGroupTargets, ShowGroups, ShowHistory, ShowModule, ShowModules, ShowReport, ShowRollout, ShowRollouts, ShowSet, ShowSets, ShowTarget, ShowTargetActions, ShowTargets, one}
+pub use Rattle.rollout_machine.specs.Standing.{Applies, AppliesAt, Becomes, DeskState, IsInDoubt, StandsFor, StaysStopped}
+pub use Rattle.rollout_machine.specs.StoreFailures.{is_failed_store, is_store}
+pub use Rattle.rollout_machine.specs.Validity.{IsValid}
+pub use Rattle.rollout_machine.specs.Views.{command_of, query_of, reply_of, request_of}
+pub use Rattle.contents_handler.specs.Downloads.{BeginsAt, HandsPieces, next_length, sent}
+pub use Rattle.sql_calls.proofs.FrameEnds.{rest_shows}
+pub use Rattle.sql_calls.specs.Standing.{Begins, Doubts, Finds, HoldIn, IsAtRest, Keeps, Opens, Rests, Sees, Spoiled, Wears}
+pub use Rattle.sql_calls.specs.declared.fault.Fault.{Fault}
+pub use Rattle.sql_calls.specs.declared.fault.Fault.TheVariants.{Memory, Store}
+pub use Rattle.desk_records.proofs.WholeArtifacts.{IsWhole, all_whole}
+pub use Rattle.desk_records.specs.Artifacts.{piece_numbered, pieces_in, pieces_of_artifact}
+pub use Rattle.desk_records.specs.Holds.{HoldsLedger, HoldsRecords, Ledger, ledger_of}
+pub use Rattle.desk_records.specs.Readable.{HoldsReadable}
+pub use Rattle.desk_records.specs.Tables.{HoldsTables, Tables}
+pub use Rattle.desk_store.specs.declared.change.OpenChange.{OpenChange}
+pub use Rattle.desk_opening.specs.Reopening.{BeginsPlain, Reopens}
+pub use Rattle.rollout_desk.specs.Changes.{EndsByCommit, EndsByRollback, Handles, refusal_of_fault}
+pub use Rattle.rollout_desk.specs.DeskStates.{desk_state}
+pub use Rattle.rollout_desk.specs.Desks.{HoldsList, desk_state_at}
+pub use Rattle.rollout_desk.specs.Downloads.{BeginsOffered, DownloadsGoOn, HandsItsArtifact, IsNextOf, RefusesContents, artifact_in}
+pub use Rattle.rollout_desk.specs.Looks.{EndsLook, FindsDownload, Looks, bytes_of}
+pub use Rattle.rollout_desk.specs.Openings.{AllHold, GivesBack, GoesOnOver, ReopensDesk}
+pub use Rattle.rollout_desk.specs.Promises.{Describes, DownloadsItsOffer, IsPromised, IsTarget, KeepsToOffers, NamesItsOffer, ShowsWhole, asker, offer_named}
+pub use Rattle.rollout_desk.specs.Runs.{BreaksOff, EndsRun, Exchange, GoesOn, IsRun, RunsThrough, accepted_in}
+pub use Rattle.rollout_desk.specs.Sizes.{AnswersIn, KeepsSizes}
+pub use Rattle.rollout_desk.specs.Verifying.{FindsDamage, HasCause, IsNeverDamaged}
