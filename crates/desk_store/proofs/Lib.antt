@@ -23,4 +23,5 @@ mod RawFinds
 mod RawPieces
 mod RawActionCalls
 pub mod BlameLemmas
+pub mod FailLemmas
 mod RawBlames

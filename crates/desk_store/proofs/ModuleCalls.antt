@@ -6,7 +6,7 @@ use Rattle.desk_records.specs.ModuleRow.{IsLabelRow}
 use Rattle.desk_records.proofs.Meaning.{same_label, label_columns, last_module_query, module_terms, find_module_is, last_module_is, get_module_is, put_module_is}
 use Rattle.desk_records.proofs.Modules.{finds_module, lasts_module, gets_module, adds_module}
 use Rattle.desk_store.proofs.ReadLemmas.{takes_one}
-use Rattle.desk_store.proofs.Known.{in_ledgers, ledger_writes, tables_know}
+use Rattle.desk_store.proofs.Known.{OneTable, in_ledgers, ledger_writes, tables_know}
 
 -- ---- what the texts mean where the records are held
 
@@ -18,6 +18,9 @@ ending = tables_know Modules LAST_MODULE.now (λ at tree. Select (record { lets 
 
 abbrev pub getting : Knows HoldsTables GET_MODULE.now
 getting = tables_know Modules GET_MODULE.now (λ at tree. Select (record { lets = []; body = simple tree (at_key 0 0 ∷ []) label_columns }) (codes "name" ∷ codes "type" ∷ codes "version" ∷ [])) get_module_is
+
+abbrev pub get_module : OneTable GET_MODULE.now
+get_module = record { place = Modules; query = λ tree. simple tree (at_key 0 0 ∷ []) label_columns; names = codes "name" ∷ codes "type" ∷ codes "version" ∷ []; means = get_module_is; shape = λ tree. refl }
 
 abbrev pub putting : KnowsWrite HoldsLedger PUT_MODULE.now
 putting = ledger_writes Modules PUT_MODULE.now (λ at tree. Insert at (Values module_terms 5)) put_module_is (λ at tree. refl)

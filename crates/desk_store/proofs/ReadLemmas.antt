@@ -2,7 +2,7 @@
 use Rattle.std.proofs.Common.{◌≡◌, ◌<◌, ◌++◌, ◌+◌, ℕ, get_or, take, List, [], ◌∷◌, length, map, Option, Some, None, option_map, Ok, Err, Result, IfErr, IfOk, Vec, refl, sym, ap₂, subst, filter_map, ap, ◌∙◌, arith}
 use Rattle.std.proofs.lemmas.List.{take_more}
 use Rattle.std.proofs.lemmas.Slice.Zip.{all_zipped_more}
-use Rattle.desk_store.proofs.Common.{cons_option, Global, Row, Database, HasCleanDisk, IsUnchanged, State, Fault, AsksText, TakesFirst, Finds, Sees, Wears, Known, Knows, ShowsFirst, ask_finds, first_finds, HoldsLedger, Ledger, HoldsTables, Tables, Has, Memory, Store, KeepsTo, AreReadAs, HasBroken, IfStore, IsReadAs}
+use Rattle.desk_store.proofs.Common.{cons_option, Global, Row, Database, HasCleanDisk, IsUnchanged, State, Fault, AsksFew, AsksText, TakesFirst, Finds, Sees, Wears, Known, Knows, ShowsFirst, ask_finds, few_finds, first_finds, HoldsLedger, Ledger, HoldsTables, Has, Memory, Store, KeepsTo, AreReadAs, HasBroken, IfStore, IsReadAs}
 use Rattle.sqlite.specs.Effect.{Reads as Shows}
 use Rattle.sqlite.proofs.Callers.{EndsIn}
 use Rattle.sql_calls.proofs.Framing.{took}
@@ -100,19 +100,29 @@ told_broken {A = A} broken rows row among fault told out is = subst (λ (o : Res
 
 -- ---- what a read leaves
 
-module _ {sql : List ℕ} (params : Row) (old new : State) (knows : Knows HoldsTables sql) where
-  still_seen : Wears old new → ((k : Known old.now.schema sql) → HasCleanDisk new → IsUnchanged old new) → (t : Tables) → Sees HoldsTables old t → Sees HoldsTables new t
-  still_seen wears same t was = record {
+module _ {R : Type 0} (Holds : Database → R → Type 0) {sql : List ℕ} (params : Row) (old new : State) (knows : Knows Holds sql) where
+  still_seen : Wears old new → ((k : Known old.now.schema sql) → HasCleanDisk new → IsUnchanged old new) → (r : R) → Sees Holds old r → Sees Holds new r
+  still_seen wears same r was = record {
     sees = λ clean.
         let first = was.sees (omega (arith, clean, wears)) in
-        let it = same (knows old.now t first.now_holds) clean in
-        record { mode = it.0.mode ∙ first.mode; is_open = it.0.is_open; now_holds = subst (λ db. HoldsTables db t) (sym it.0.now_is) first.now_holds };
+        let it = same (knows old.now r first.now_holds) clean in
+        record { mode = it.0.mode ∙ first.mode; is_open = it.0.is_open; now_holds = subst (λ db. Holds db r) (sym it.0.now_is) first.now_holds };
   }
 
+  pub first_sees : (row : Option Row) → TakesFirst old new sql params (Ok row) → (r : R) → Sees Holds old r → Sees Holds new r
+  first_sees row h = still_seen h.survives.clean (λ k clean. took Holds sql params old new knows row k (h.answers clean))
+
+  pub ask_sees : (rows : Vec Row Global) → AsksText old new sql params (Ok rows) → (r : R) → Sees Holds old r → Sees Holds new r
+  ask_sees rows h = still_seen h.survives.clean (λ k clean. unchanged_by sql k.command params old new k.means rows.items (h.answers clean))
+
+  pub few_sees : (most : ℕ) (rows : Vec Row Global) → AsksFew old new sql params most (Ok rows) → (r : R) → Sees Holds old r → Sees Holds new r
+  few_sees most rows h r was = ((few_finds Holds (λ (r : R). r) sql params old new {A = Unit {0}} {E = Fault} (λ r u. Unit {0}) knows most rows h (Ok tt) (λ db now holds shown. tt)).finds r was).0
+
+module _ {sql : List ℕ} (params : Row) (old new : State) (knows : Knows HoldsTables sql) where
   pub first_keeps : (out : Result (Option Row) Fault) → TakesFirst old new sql params out → KeepsTo old new out
-  first_keeps (Ok row) h = still_seen h.survives.clean (λ k clean. took HoldsTables sql params old new knows row k (h.answers clean))
+  first_keeps (Ok row) h = first_sees HoldsTables params old new knows row h
   first_keeps (Err fault) h = tt
 
   pub ask_keeps : (out : Result (Vec Row Global) Fault) → AsksText old new sql params out → KeepsTo old new out
-  ask_keeps (Ok rows) h = still_seen h.survives.clean (λ k clean. unchanged_by sql k.command params old new k.means rows.items (h.answers clean))
+  ask_keeps (Ok rows) h = ask_sees HoldsTables params old new knows rows h
   ask_keeps (Err fault) h = tt

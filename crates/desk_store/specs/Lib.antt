@@ -9,3 +9,5 @@ pub mod RawLists
 pub mod RuleTables
 pub mod Unreadable
 pub mod Blaming
+pub mod Readable
+pub mod Failing

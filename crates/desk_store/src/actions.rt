@@ -13,6 +13,7 @@ ghost use Rattle.desk_records.specs.RolloutRow.{broken_action_column, broken_lis
 ghost use Rattle.desk_store.specs.Counting.{AddsIn};
 ghost use Rattle.desk_store.specs.Changing.{FindsLedger, KeepsTables, MakesLedger, StaysIn};
 ghost use Rattle.desk_store.specs.Rows.{BreaksRule};
+ghost use Rattle.desk_store.specs.Failing.{CountsIn, FailsIn};
 
 use crate::change::OpenChange;
 use crate::codes::{code_of_outcome, flag_code};
@@ -90,6 +91,7 @@ impl<'a, S: Alter> OpenChange<'a, S> {
     pub fn read_last_action(&mut self) -> Result<u32, Fault>
         ensures stays { StaysIn S.Store self.old self.new result }
         ensures reads { FindsLedger S.Store self.old self.new result (λ l last. last ≡ length (zip l.records.actions l.tallies)) }
+        ensures fails { FailsIn S.Store self.old self.new result }
         ensures work { AddsIn 1 1 self.old self.new }
     {
         let row = self.first(LAST_ACTION, &[])?;
@@ -102,6 +104,7 @@ impl<'a, S: Alter> OpenChange<'a, S> {
         ensures keeps { KeepsTables S.Store self.old self.new result }
         ensures reads { FindsLedger S.Store self.old self.new result
             (λ l found. found ≡ option_map (stored_action l.records.rollouts) (item_numbered (zip l.records.actions l.tallies) number)) }
+        ensures fails { FailsIn S.Store self.old self.new result }
         ensures work { AddsIn 1 1 self.old self.new }
     {
         let alloc = self.store.alloc;
@@ -118,6 +121,7 @@ impl<'a, S: Alter> OpenChange<'a, S> {
         ensures stays { StaysIn S.Store self.old self.new result }
         ensures reads { FindsLedger S.Store self.old self.new result
             (λ l found. found.items ≡ take page.limit (drop page.offset (actions_of l.records.rollouts number 1 (zip l.records.actions l.tallies)))) }
+        ensures fails { FailsIn S.Store self.old self.new result }
         ensures work { self.new.store.now.calls.work.statements ≤ self.old.store.now.calls.work.statements + 1 }
     {
         let alloc = self.store.alloc;
@@ -134,6 +138,7 @@ impl<'a, S: Alter> OpenChange<'a, S> {
         ensures stays { StaysIn S.Store self.old self.new result }
         ensures reads { FindsLedger S.Store self.old self.new result
             (λ l found. found.items ≡ take page.limit (drop page.offset (actions_for l.records.rollouts id.now 1 (zip l.records.actions l.tallies)))) }
+        ensures fails { FailsIn S.Store self.old self.new result }
         ensures work { self.new.store.now.calls.work.statements ≤ self.old.store.now.calls.work.statements + 1 }
     {
         let alloc = self.store.alloc;
@@ -150,6 +155,7 @@ impl<'a, S: Alter> OpenChange<'a, S> {
         ensures reads { FindsLedger S.Store self.old self.new result
             (λ l found. list_all keeps_details (history_of (item_numbered l.records.actions number)) ≡ true
             → found.items ≡ take page.limit (drop page.offset (history_of (item_numbered l.records.actions number)))) }
+        ensures fails { FailsIn S.Store self.old self.new result }
         ensures work { self.new.store.now.calls.work.statements ≤ self.old.store.now.calls.work.statements + 1 }
     {
         let alloc = self.store.alloc;
@@ -167,6 +173,7 @@ impl<'a, S: Alter> OpenChange<'a, S> {
         ensures reads { FindsLedger S.Store self.old self.new result
             (λ l found. list_all keeps_details (history_of (item_numbered l.records.actions number)) ≡ true
             → found ≡ item_numbered (history_of (item_numbered l.records.actions number)) sequence) }
+        ensures fails { FailsIn S.Store self.old self.new result }
         ensures work { AddsIn 1 1 self.old self.new }
     {
         if sequence == 0 {
@@ -182,6 +189,7 @@ impl<'a, S: Alter> OpenChange<'a, S> {
         ensures stays { StaysIn S.Store self.old self.new result }
         ensures keeps { KeepsTables S.Store self.old self.new result }
         ensures reads { FindsLedger S.Store self.old self.new result (λ l found. found ≡ l.offers id.now) }
+        ensures fails { FailsIn S.Store self.old self.new result }
         ensures work { AddsIn 1 1 self.old self.new }
     {
         let alloc = self.store.alloc;
@@ -212,6 +220,7 @@ impl<'a, S: Alter> OpenChange<'a, S> {
     ) -> Result<(), Fault>
         ensures stays { StaysIn S.Store self.old self.new result }
         ensures writes { MakesLedger S.Store self.old self.new result (AddsAction number rollout place id.now) }
+        ensures counts { CountsIn S.Store self.old self.new result }
         ensures work { AddsIn 1 0 self.old self.new }
     {
         self.run(
@@ -231,6 +240,7 @@ impl<'a, S: Alter> OpenChange<'a, S> {
     ) -> Result<(), Fault>
         ensures stays { StaysIn S.Store self.old self.new result }
         ensures writes { MakesLedger S.Store self.old self.new result (SetsAction number canceling outcome (record { notes = notes; entries = entries })) }
+        ensures counts { CountsIn S.Store self.old self.new result }
         ensures work { AddsIn 1 0 self.old self.new }
     {
         let canceling_code = flag_code(canceling);
@@ -250,6 +260,7 @@ impl<'a, S: Alter> OpenChange<'a, S> {
     ) -> Result<(), Fault>
         ensures stays { StaysIn S.Store self.old self.new result }
         ensures writes { MakesLedger S.Store self.old self.new result (AddsEntry number sequence entry.now) }
+        ensures counts { CountsIn S.Store self.old self.new result }
         ensures work { AddsIn 1 0 self.old self.new }
     {
         self.run(
@@ -268,6 +279,7 @@ impl<'a, S: Alter> OpenChange<'a, S> {
     pub fn change_offer(&mut self, id: &ControllerId, offer: Offer) -> Result<(), Fault>
         ensures stays { StaysIn S.Store self.old self.new result }
         ensures writes { MakesLedger S.Store self.old self.new result (SetsOffer id.now offer) }
+        ensures counts { CountsIn S.Store self.old self.new result }
         ensures work { AddsIn 1 0 self.old self.new }
     {
         let canceling = flag_code(offer.canceling);
@@ -281,6 +293,7 @@ impl<'a, S: Alter> OpenChange<'a, S> {
     pub fn drop_offer(&mut self, id: &ControllerId) -> Result<(), Fault>
         ensures stays { StaysIn S.Store self.old self.new result }
         ensures writes { MakesLedger S.Store self.old self.new result (λ l next. next ≡ with_offer l id.now None) }
+        ensures counts { CountsIn S.Store self.old self.new result }
         ensures work { AddsIn 1 0 self.old self.new }
     {
         self.run(DROP_OFFER, params![id.as_str()])

@@ -10,6 +10,7 @@ ghost use Rattle.desk_records.specs.Artifacts.{is_same_artifact, piece_numbered,
 ghost use Rattle.desk_store.specs.Counting.{AddsIn};
 ghost use Rattle.desk_store.specs.Changing.{FindsIn, FindsTables, MakesIn, StaysIn};
 ghost use Rattle.desk_store.specs.RawLists.{AreListed, HasNumbered};
+ghost use Rattle.desk_store.specs.Failing.{CountsIn, FailsIn};
 
 use crate::change::OpenChange;
 use crate::reading::{last_number, read_all, read_optional};
@@ -31,6 +32,7 @@ impl<'a, S: Alter> OpenChange<'a, S> {
         ensures stays { StaysIn S.Store self.old self.new result }
         ensures reads { FindsIn S.Store self.old self.new result
             (λ r found. found ≡ list_any (is_same_artifact module_number filename.now) r.artifacts) }
+        ensures fails { FailsIn S.Store self.old self.new result }
         ensures work { AddsIn 1 1 self.old self.new }
     {
         let row = self.first(
@@ -44,6 +46,7 @@ impl<'a, S: Alter> OpenChange<'a, S> {
     pub fn read_last_artifact(&mut self) -> Result<u32, Fault>
         ensures stays { StaysIn S.Store self.old self.new result }
         ensures reads { FindsIn S.Store self.old self.new result (λ r last. last ≡ length r.artifacts) }
+        ensures fails { FailsIn S.Store self.old self.new result }
         ensures work { AddsIn 1 1 self.old self.new }
     {
         let row = self.first(LAST_ARTIFACT, &[])?;
@@ -55,6 +58,7 @@ impl<'a, S: Alter> OpenChange<'a, S> {
         ensures stays { StaysIn S.Store self.old self.new result }
         ensures reads { FindsIn S.Store self.old self.new result (λ r found. found ≡ option_map stored (item_numbered r.artifacts number)) }
         ensures tells { FindsTables S.Store self.old self.new result (λ t found. IfSome found (HasNumbered t number)) }
+        ensures fails { FailsIn S.Store self.old self.new result }
         ensures work { AddsIn 1 1 self.old self.new }
     {
         let alloc = self.store.alloc;
@@ -67,6 +71,7 @@ impl<'a, S: Alter> OpenChange<'a, S> {
         ensures stays { StaysIn S.Store self.old self.new result }
         ensures reads { FindsIn S.Store self.old self.new result (λ r artifacts. artifacts.items ≡ artifacts_shown module_number 1 r.artifacts) }
         ensures tells { FindsTables S.Store self.old self.new result (λ t artifacts. AreListed t module_number artifacts.items) }
+        ensures fails { FailsIn S.Store self.old self.new result }
         ensures work { self.new.store.now.calls.work.statements ≤ self.old.store.now.calls.work.statements + 1 }
     {
         let alloc = self.store.alloc;
@@ -84,6 +89,7 @@ impl<'a, S: Alter> OpenChange<'a, S> {
         ensures stays { StaysIn S.Store self.old self.new result }
         ensures reads { FindsIn S.Store self.old self.new result
             (λ r found. option_map vec_items found ≡ piece_numbered r.artifacts number sequence) }
+        ensures fails { FailsIn S.Store self.old self.new result }
         ensures work { AddsIn 1 1 self.old self.new }
     {
         let alloc = self.store.alloc;
@@ -103,6 +109,7 @@ impl<'a, S: Alter> OpenChange<'a, S> {
         ensures stays { StaysIn S.Store self.old self.new result }
         ensures writes { MakesIn S.Store self.old self.new result
             (λ r next. (number ≡ length r.artifacts + 1) × (next ≡ with_artifact r module_number filename.now size digest.now)) }
+        ensures counts { CountsIn S.Store self.old self.new result }
         ensures work { AddsIn 1 0 self.old self.new }
     {
         self.run(
@@ -127,6 +134,7 @@ impl<'a, S: Alter> OpenChange<'a, S> {
         ensures stays { StaysIn S.Store self.old self.new result }
         ensures writes { MakesIn S.Store self.old self.new result
             (AddsPiece number sequence bytes.now) }
+        ensures counts { CountsIn S.Store self.old self.new result }
         ensures work { AddsIn 1 0 self.old self.new }
     {
         self.run(PUT_PIECE, params![number.get(), sequence, bytes])

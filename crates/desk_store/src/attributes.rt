@@ -5,6 +5,7 @@ ghost use Rattle.rollout_machine.specs.Verdicts.{target_of};
 ghost use Rattle.desk_records.specs.Targets.{AddsAttribute, SetsAttribute, attributes_of};
 ghost use Rattle.desk_store.specs.Counting.{AddsIn};
 ghost use Rattle.desk_store.specs.Changing.{FindsIn, MakesIn, StaysIn};
+ghost use Rattle.desk_store.specs.Failing.{CountsIn, FailsIn};
 
 use crate::change::OpenChange;
 use crate::reading::read_attributes;
@@ -19,6 +20,7 @@ impl<'a, S: Alter> OpenChange<'a, S> {
     pub fn read_target_attributes(&mut self, id: &ControllerId) -> Result<Attributes, Fault>
         ensures stays { StaysIn S.Store self.old self.new result }
         ensures reads { FindsIn S.Store self.old self.new result (λ r attributes. attributes ≡ attributes_of (target_of r id.now)) }
+        ensures fails { FailsIn S.Store self.old self.new result }
         ensures work { self.new.store.now.calls.work.statements ≤ self.old.store.now.calls.work.statements + 1 }
     {
         let alloc = self.store.alloc;
@@ -35,6 +37,7 @@ impl<'a, S: Alter> OpenChange<'a, S> {
         ensures stays { StaysIn S.Store self.old self.new result }
         ensures writes { MakesIn S.Store self.old self.new result
             (AddsAttribute id.now attribute.now) }
+        ensures counts { CountsIn S.Store self.old self.new result }
         ensures work { AddsIn 1 0 self.old self.new }
     {
         self.run(
@@ -56,6 +59,7 @@ impl<'a, S: Alter> OpenChange<'a, S> {
         ensures stays { StaysIn S.Store self.old self.new result }
         ensures writes { MakesIn S.Store self.old self.new result
             (SetsAttribute id.now attribute.now) }
+        ensures counts { CountsIn S.Store self.old self.new result }
         ensures work { AddsIn 1 0 self.old self.new }
     {
         self.run(

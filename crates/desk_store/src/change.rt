@@ -10,6 +10,7 @@ ghost use Rattle.desk_records.specs.Holds.{HoldsLedger};
 ghost use Rattle.desk_records.specs.Modules.{is_same, with_module};
 ghost use Rattle.desk_store.specs.Counting.{AddsIn};
 ghost use Rattle.desk_store.specs.Changing.{FindsIn, MakesIn, StaysIn};
+ghost use Rattle.desk_store.specs.Failing.{CountsIn, FailsIn};
 
 use crate::reading::{finished, last_number, read_optional};
 use crate::store::DeskStore;
@@ -34,6 +35,7 @@ impl<'a, S: Alter> OpenChange<'a, S> {
     pub fn read_same_module(&mut self, label: &ModuleLabel) -> Result<bool, Fault>
         ensures stays { StaysIn S.Store self.old self.new result }
         ensures reads { FindsIn S.Store self.old self.new result (λ r found. found ≡ list_any (is_same label.now) r.modules) }
+        ensures fails { FailsIn S.Store self.old self.new result }
         ensures work { AddsIn 1 1 self.old self.new }
     {
         let row = self.first(
@@ -51,6 +53,7 @@ impl<'a, S: Alter> OpenChange<'a, S> {
     pub fn read_last_module(&mut self) -> Result<u32, Fault>
         ensures stays { StaysIn S.Store self.old self.new result }
         ensures reads { FindsIn S.Store self.old self.new result (λ r last. last ≡ length r.modules) }
+        ensures fails { FailsIn S.Store self.old self.new result }
         ensures work { AddsIn 1 1 self.old self.new }
     {
         let row = self.first(LAST_MODULE, &[])?;
@@ -61,6 +64,7 @@ impl<'a, S: Alter> OpenChange<'a, S> {
     pub fn read_module(&mut self, number: ModuleNo) -> Result<Option<ModuleLabel>, Fault>
         ensures stays { StaysIn S.Store self.old self.new result }
         ensures reads { FindsIn S.Store self.old self.new result (λ r found. found ≡ item_numbered r.modules number) }
+        ensures fails { FailsIn S.Store self.old self.new result }
         ensures work { AddsIn 1 1 self.old self.new }
     {
         let alloc = self.store.alloc;
@@ -72,6 +76,7 @@ impl<'a, S: Alter> OpenChange<'a, S> {
     pub fn write_module(&mut self, number: ModuleNo, label: &ModuleLabel) -> Result<(), Fault>
         ensures stays { StaysIn S.Store self.old self.new result }
         ensures writes { MakesIn S.Store self.old self.new result (λ r next. (number ≡ length r.modules + 1) × (next ≡ with_module r label.now)) }
+        ensures counts { CountsIn S.Store self.old self.new result }
         ensures work { AddsIn 1 0 self.old self.new }
     {
         self.run(

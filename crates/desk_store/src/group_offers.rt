@@ -4,6 +4,7 @@ ghost use Rattle.std.specs.Prelude.{◌≡◌, ◌≤◌, ◌+◌};
 ghost use Rattle.desk_records.specs.LedgerSteps.{OffersGroup};
 ghost use Rattle.desk_store.specs.Counting.{AddsIn};
 ghost use Rattle.desk_store.specs.Changing.{MakesLedger, StaysIn};
+ghost use Rattle.desk_store.specs.Failing.{CountsIn};
 
 use crate::change::OpenChange;
 use desk_records::PUT_GROUP_OFFERS;
@@ -17,6 +18,7 @@ impl<'a, S: Alter> OpenChange<'a, S> {
     pub fn write_group_offers(&mut self, number: RolloutNo, bounds: Bounds) -> Result<(), Fault>
         ensures stays { StaysIn S.Store self.old self.new result }
         ensures writes { MakesLedger S.Store self.old self.new result (OffersGroup number bounds) }
+        ensures counts { CountsIn S.Store self.old self.new result }
         ensures work { AddsIn 1 0 self.old self.new }
     {
         self.run(

@@ -7,6 +7,7 @@ ghost use Rattle.desk_records.specs.NumberRow.{IsLastNumberRow, IsNumberRow, bro
 ghost use Rattle.desk_store.specs.Counting.{AddsIn};
 ghost use Rattle.desk_store.specs.Rows.{BreaksRule};
 ghost use Rattle.desk_store.specs.Changing.{FindsLedger, MakesLedger, StaysIn};
+ghost use Rattle.desk_store.specs.Failing.{CountsIn, FailsIn};
 
 use crate::change::OpenChange;
 use crate::from_row::FromRow;
@@ -47,6 +48,7 @@ impl<'a, S: Alter> OpenChange<'a, S> {
     pub fn read_last_number(&mut self, action: ActionNo) -> Result<Option<LastNumber>, Fault>
         ensures stays { StaysIn S.Store self.old self.new result }
         ensures reads { FindsLedger S.Store self.old self.new result (λ l found. found ≡ last_number (numbers_numbered l.numbers action)) }
+        ensures fails { FailsIn S.Store self.old self.new result }
         ensures work { AddsIn 1 1 self.old self.new }
     {
         let alloc = self.store.alloc;
@@ -59,6 +61,7 @@ impl<'a, S: Alter> OpenChange<'a, S> {
     pub fn read_numbers(&mut self, action: ActionNo) -> Result<Vec<PlacedNumber>, Fault>
         ensures stays { StaysIn S.Store self.old self.new result }
         ensures reads { FindsLedger S.Store self.old self.new result (λ l found. found.items ≡ numbers_numbered l.numbers action) }
+        ensures fails { FailsIn S.Store self.old self.new result }
         ensures work { self.new.store.now.calls.work.statements ≤ self.old.store.now.calls.work.statements + 1 }
     {
         let alloc = self.store.alloc;
@@ -75,6 +78,7 @@ impl<'a, S: Alter> OpenChange<'a, S> {
     ) -> Result<(), Fault>
         ensures stays { StaysIn S.Store self.old self.new result }
         ensures writes { MakesLedger S.Store self.old self.new result (AddsNumber action place it.now) }
+        ensures counts { CountsIn S.Store self.old self.new result }
         ensures work { AddsIn 1 0 self.old self.new }
     {
         self.run(

@@ -15,6 +15,7 @@ ghost use Rattle.desk_store.specs.Counting.{AddsIn};
 ghost use Rattle.desk_store.specs.GroupPairs.{group_and_next};
 ghost use Rattle.desk_store.specs.Rows.{BreaksRule, HasBroken, IfStore, IsReadAs};
 ghost use Rattle.desk_store.specs.Changing.{FindsLedger, KeepsTables, MakesLedger, StaysIn};
+ghost use Rattle.desk_store.specs.Failing.{CountsIn, FailsIn};
 
 use crate::change::OpenChange;
 use crate::codes::{code_of_approval, flag_code};
@@ -86,6 +87,7 @@ impl<'a, S: Alter> OpenChange<'a, S> {
     pub fn read_approval(&mut self) -> Result<bool, Fault>
         ensures stays { StaysIn S.Store self.old self.new result }
         ensures reads { FindsLedger S.Store self.old self.new result (λ l approval. approval ≡ l.records.approval) }
+        ensures fails { FailsIn S.Store self.old self.new result }
         ensures work { AddsIn 1 1 self.old self.new }
     {
         let row = self.first(GET_DESK, &[])?;
@@ -96,6 +98,7 @@ impl<'a, S: Alter> OpenChange<'a, S> {
     pub fn read_same_rollout(&mut self, name: &Text) -> Result<bool, Fault>
         ensures stays { StaysIn S.Store self.old self.new result }
         ensures reads { FindsLedger S.Store self.old self.new result (λ l found. found ≡ list_any (is_called name.now) l.records.rollouts) }
+        ensures fails { FailsIn S.Store self.old self.new result }
         ensures work { AddsIn 1 1 self.old self.new }
     {
         let row = self.first(FIND_ROLLOUT, params![name.as_str()])?;
@@ -106,6 +109,7 @@ impl<'a, S: Alter> OpenChange<'a, S> {
     pub fn read_last_rollout(&mut self) -> Result<u32, Fault>
         ensures stays { StaysIn S.Store self.old self.new result }
         ensures reads { FindsLedger S.Store self.old self.new result (λ l last. last ≡ length l.records.rollouts) }
+        ensures fails { FailsIn S.Store self.old self.new result }
         ensures work { AddsIn 1 1 self.old self.new }
     {
         let row = self.first(LAST_ROLLOUT, &[])?;
@@ -117,6 +121,7 @@ impl<'a, S: Alter> OpenChange<'a, S> {
         ensures stays { StaysIn S.Store self.old self.new result }
         ensures keeps { KeepsTables S.Store self.old self.new result }
         ensures reads { FindsLedger S.Store self.old self.new result (λ l found. found ≡ option_map stored_rollout (item_numbered l.records.rollouts number)) }
+        ensures fails { FailsIn S.Store self.old self.new result }
         ensures work { AddsIn 1 1 self.old self.new }
     {
         let alloc = self.store.alloc;
@@ -129,6 +134,7 @@ impl<'a, S: Alter> OpenChange<'a, S> {
         ensures stays { StaysIn S.Store self.old self.new result }
         ensures reads { FindsLedger S.Store self.old self.new result
             (λ l found. found.items ≡ map stored_rollout (take page.limit (drop page.offset l.records.rollouts))) }
+        ensures fails { FailsIn S.Store self.old self.new result }
         ensures work { self.new.store.now.calls.work.statements ≤ self.old.store.now.calls.work.statements + 1 }
     {
         let alloc = self.store.alloc;
@@ -146,6 +152,7 @@ impl<'a, S: Alter> OpenChange<'a, S> {
         ensures stays { StaysIn S.Store self.old self.new result }
         ensures reads { FindsLedger S.Store self.old self.new result
             (λ l found. found.items ≡ take page.limit (drop page.offset (members_of (item_numbered l.records.rollouts number)))) }
+        ensures fails { FailsIn S.Store self.old self.new result }
         ensures work { self.new.store.now.calls.work.statements ≤ self.old.store.now.calls.work.statements + 1 }
     {
         let alloc = self.store.alloc;
@@ -158,6 +165,7 @@ impl<'a, S: Alter> OpenChange<'a, S> {
     pub fn read_groups(&mut self, number: RolloutNo) -> Result<Vec<GroupRecord>, Fault>
         ensures stays { StaysIn S.Store self.old self.new result }
         ensures reads { FindsLedger S.Store self.old self.new result (λ l groups. groups.items ≡ groups_of (item_numbered l.records.rollouts number)) }
+        ensures fails { FailsIn S.Store self.old self.new result }
         ensures work { self.new.store.now.calls.work.statements ≤ self.old.store.now.calls.work.statements + 1 }
     {
         let alloc = self.store.alloc;
@@ -174,6 +182,7 @@ impl<'a, S: Alter> OpenChange<'a, S> {
         ensures stays { StaysIn S.Store self.old self.new result }
         ensures reads { FindsLedger S.Store self.old self.new result
             (λ l found. found ≡ group_numbered group (groups_of (item_numbered l.records.rollouts number))) }
+        ensures fails { FailsIn S.Store self.old self.new result }
         ensures work { AddsIn 1 1 self.old self.new }
     {
         let alloc = self.store.alloc;
@@ -190,6 +199,7 @@ impl<'a, S: Alter> OpenChange<'a, S> {
         ensures stays { StaysIn S.Store self.old self.new result }
         ensures reads { FindsLedger S.Store self.old self.new result
             (λ l found. found ≡ group_holding place (groups_of (item_numbered l.records.rollouts number))) }
+        ensures fails { FailsIn S.Store self.old self.new result }
         ensures work { AddsIn 1 1 self.old self.new }
     {
         let alloc = self.store.alloc;
@@ -207,6 +217,7 @@ impl<'a, S: Alter> OpenChange<'a, S> {
         ensures stays { StaysIn S.Store self.old self.new result }
         ensures reads { FindsLedger S.Store self.old self.new result
             (λ l found. found ≡ group_and_next place (groups_of (item_numbered l.records.rollouts number))) }
+        ensures fails { FailsIn S.Store self.old self.new result }
         ensures work { AddsIn 1 2 self.old self.new }
     {
         let alloc = self.store.alloc;
@@ -223,6 +234,7 @@ impl<'a, S: Alter> OpenChange<'a, S> {
     ) -> Result<(), Fault>
         ensures stays { StaysIn S.Store self.old self.new result }
         ensures writes { MakesLedger S.Store self.old self.new result (AddsRollout number plan.now approval) }
+        ensures counts { CountsIn S.Store self.old self.new result }
         ensures work { AddsIn 1 0 self.old self.new }
     {
         let success = u32::from(plan.success.get());
@@ -253,6 +265,7 @@ impl<'a, S: Alter> OpenChange<'a, S> {
     ) -> Result<(), Fault>
         ensures stays { StaysIn S.Store self.old self.new result }
         ensures writes { MakesLedger S.Store self.old self.new result (SetsRollout number approval started paused) }
+        ensures counts { CountsIn S.Store self.old self.new result }
         ensures work { AddsIn 1 0 self.old self.new }
     {
         let approval_code = code_of_approval(approval);
@@ -273,6 +286,7 @@ impl<'a, S: Alter> OpenChange<'a, S> {
     ) -> Result<(), Fault>
         ensures stays { StaysIn S.Store self.old self.new result }
         ensures writes { MakesLedger S.Store self.old self.new result (AddsMember number place id.now) }
+        ensures counts { CountsIn S.Store self.old self.new result }
         ensures work { AddsIn 1 0 self.old self.new }
     {
         self.run(PUT_MEMBER, params![number.get(), place, id.as_str()])
@@ -287,6 +301,7 @@ impl<'a, S: Alter> OpenChange<'a, S> {
     ) -> Result<(), Fault>
         ensures stays { StaysIn S.Store self.old self.new result }
         ensures writes { MakesLedger S.Store self.old self.new result (AddsGroup number group bounds) }
+        ensures counts { CountsIn S.Store self.old self.new result }
         ensures work { AddsIn 1 0 self.old self.new }
     {
         self.run(
@@ -307,6 +322,7 @@ impl<'a, S: Alter> OpenChange<'a, S> {
     ) -> Result<(), Fault>
         ensures stays { StaysIn S.Store self.old self.new result }
         ensures writes { MakesLedger S.Store self.old self.new result (SetsGroup number group started ok bad gone) }
+        ensures counts { CountsIn S.Store self.old self.new result }
         ensures work { AddsIn 1 0 self.old self.new }
     {
         let started_code = flag_code(started);

@@ -7,6 +7,7 @@ ghost use Rattle.desk_records.specs.RuleRow.{IsRuleRow, broken_rule_column};
 ghost use Rattle.desk_store.specs.Counting.{AddsIn};
 ghost use Rattle.desk_store.specs.Rows.{BreaksRule};
 ghost use Rattle.desk_store.specs.Changing.{FindsLedger, MakesLedger, StaysIn};
+ghost use Rattle.desk_store.specs.Failing.{CountsIn, FailsIn};
 
 use crate::change::OpenChange;
 use crate::from_row::FromRow;
@@ -33,6 +34,7 @@ impl<'a, S: Alter> OpenChange<'a, S> {
     pub fn read_rule(&mut self, number: RolloutNo, group: u32) -> Result<Option<GroupRule>, Fault>
         ensures stays { StaysIn S.Store self.old self.new result }
         ensures reads { FindsLedger S.Store self.old self.new result (λ l found. found ≡ rule_numbered l.rules number group) }
+        ensures fails { FailsIn S.Store self.old self.new result }
         ensures work { AddsIn 1 1 self.old self.new }
     {
         let alloc = self.store.alloc;
@@ -45,6 +47,7 @@ impl<'a, S: Alter> OpenChange<'a, S> {
     pub fn read_rules(&mut self, number: RolloutNo) -> Result<Vec<GroupRule>, Fault>
         ensures stays { StaysIn S.Store self.old self.new result }
         ensures reads { FindsLedger S.Store self.old self.new result (λ l found. found.items ≡ rules_numbered l.rules number) }
+        ensures fails { FailsIn S.Store self.old self.new result }
         ensures work { self.new.store.now.calls.work.statements ≤ self.old.store.now.calls.work.statements + 1 }
     {
         let alloc = self.store.alloc;
@@ -61,6 +64,7 @@ impl<'a, S: Alter> OpenChange<'a, S> {
     ) -> Result<(), Fault>
         ensures stays { StaysIn S.Store self.old self.new result }
         ensures writes { MakesLedger S.Store self.old self.new result (AddsRule number group rule.now) }
+        ensures counts { CountsIn S.Store self.old self.new result }
         ensures work { AddsIn 1 0 self.old self.new }
     {
         let percentage = percent_of(&rule.percentage);

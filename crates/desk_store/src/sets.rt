@@ -10,6 +10,7 @@ ghost use Rattle.desk_records.specs.Sets.{is_same_set, with_set, AddsSetModule};
 ghost use Rattle.desk_records.specs.SetRow.{called};
 ghost use Rattle.desk_store.specs.Counting.{AddsIn};
 ghost use Rattle.desk_store.specs.Changing.{FindsIn, KeepsTables, MakesIn, StaysIn};
+ghost use Rattle.desk_store.specs.Failing.{CountsIn, FailsIn};
 
 use crate::change::OpenChange;
 use crate::reading::{last_number, read_all, read_optional};
@@ -25,6 +26,7 @@ impl<'a, S: Alter> OpenChange<'a, S> {
     pub fn read_same_set(&mut self, name: &Text, version: &Text) -> Result<bool, Fault>
         ensures stays { StaysIn S.Store self.old self.new result }
         ensures reads { FindsIn S.Store self.old self.new result (λ r found. found ≡ list_any (is_same_set name.now version.now) r.sets) }
+        ensures fails { FailsIn S.Store self.old self.new result }
         ensures work { AddsIn 1 1 self.old self.new }
     {
         let row = self.first(FIND_SET, params![name.as_str(), version.as_str()])?;
@@ -35,6 +37,7 @@ impl<'a, S: Alter> OpenChange<'a, S> {
     pub fn read_last_set(&mut self) -> Result<u32, Fault>
         ensures stays { StaysIn S.Store self.old self.new result }
         ensures reads { FindsIn S.Store self.old self.new result (λ r last. last ≡ length r.sets) }
+        ensures fails { FailsIn S.Store self.old self.new result }
         ensures work { AddsIn 1 1 self.old self.new }
     {
         let row = self.first(LAST_SET, &[])?;
@@ -45,6 +48,7 @@ impl<'a, S: Alter> OpenChange<'a, S> {
     pub fn read_set(&mut self, number: SetNo) -> Result<Option<SetName>, Fault>
         ensures stays { StaysIn S.Store self.old self.new result }
         ensures reads { FindsIn S.Store self.old self.new result (λ r found. found ≡ option_map called (item_numbered r.sets number)) }
+        ensures fails { FailsIn S.Store self.old self.new result }
         ensures work { AddsIn 1 1 self.old self.new }
     {
         let alloc = self.store.alloc;
@@ -57,6 +61,7 @@ impl<'a, S: Alter> OpenChange<'a, S> {
         ensures stays { StaysIn S.Store self.old self.new result }
         ensures keeps { KeepsTables S.Store self.old self.new result }
         ensures reads { FindsIn S.Store self.old self.new result (λ r modules. modules.items ≡ modules_of_set (item_numbered r.sets number)) }
+        ensures fails { FailsIn S.Store self.old self.new result }
         ensures work { self.new.store.now.calls.work.statements ≤ self.old.store.now.calls.work.statements + 1 }
     {
         let alloc = self.store.alloc;
@@ -68,6 +73,7 @@ impl<'a, S: Alter> OpenChange<'a, S> {
     pub fn read_module_is_locked(&mut self, number: ModuleNo) -> Result<bool, Fault>
         ensures stays { StaysIn S.Store self.old self.new result }
         ensures reads { FindsIn S.Store self.old self.new result (λ r locked. locked ≡ is_named_by_set r.sets number) }
+        ensures fails { FailsIn S.Store self.old self.new result }
         ensures work { AddsIn 1 1 self.old self.new }
     {
         let row = self.first(MODULE_LOCKED, params![number.get()])?;
@@ -79,6 +85,7 @@ impl<'a, S: Alter> OpenChange<'a, S> {
         ensures stays { StaysIn S.Store self.old self.new result }
         ensures writes { MakesIn S.Store self.old self.new result
             (λ r next. (number ≡ length r.sets + 1) × (next ≡ with_set r name.now version.now)) }
+        ensures counts { CountsIn S.Store self.old self.new result }
         ensures work { AddsIn 1 0 self.old self.new }
     {
         self.run(
@@ -97,6 +104,7 @@ impl<'a, S: Alter> OpenChange<'a, S> {
         ensures stays { StaysIn S.Store self.old self.new result }
         ensures writes { MakesIn S.Store self.old self.new result
             (AddsSetModule number place added) }
+        ensures counts { CountsIn S.Store self.old self.new result }
         ensures work { AddsIn 1 0 self.old self.new }
     {
         self.run(PUT_SET_MODULE, params![number.get(), place, added.get()])

@@ -9,6 +9,7 @@ ghost use Rattle.desk_records.specs.Tables.{HoldsTables};
 ghost use Rattle.desk_store.specs.Blaming.{HasCause, Watches};
 ghost use Rattle.desk_store.specs.Changing.{KeepsTables, StaysIn, seen_in};
 ghost use Rattle.desk_store.specs.Counting.{AddsIn};
+ghost use Rattle.desk_store.specs.Failing.{CountsIn, FailsIn};
 
 use crate::change::OpenChange;
 use sql_calls::Fault;
@@ -22,6 +23,7 @@ impl<'a, S: Alter> OpenChange<'a, S> {
         ensures stays { StaysIn S.Store self.old self.new result }
         ensures keeps { KeepsTables S.Store self.old self.new result }
         ensures blames { IfErr result (λ fault. (watch : _) → Watches S.Store self.old watch → HasCause S.Store self.new watch fault) }
+        ensures fails { FailsIn S.Store self.old self.new result }
         ensures takes { TakesFirst (seen_in S.Store self.old) (seen_in S.Store self.new) sql.now (bound params.now) result }
         ensures work { self.new.store.now.calls.work ≡ counts self.old.store.now.calls.work (row_in result) }
     {
@@ -34,6 +36,7 @@ impl<'a, S: Alter> OpenChange<'a, S> {
         ensures stays { StaysIn S.Store self.old self.new result }
         ensures keeps { KeepsTables S.Store self.old self.new result }
         ensures blames { IfErr result (λ fault. (watch : _) → Watches S.Store self.old watch → HasCause S.Store self.new watch fault) }
+        ensures fails { FailsIn S.Store self.old self.new result }
         ensures asks { AsksText (seen_in S.Store self.old) (seen_in S.Store self.new) sql.now (bound params.now) result }
         ensures work { self.new.store.now.calls.work ≡ counts self.old.store.now.calls.work (rows_in result) }
     {
@@ -51,6 +54,7 @@ impl<'a, S: Alter> OpenChange<'a, S> {
         ensures stays { StaysIn S.Store self.old self.new result }
         ensures asks { AsksFew (seen_in S.Store self.old) (seen_in S.Store self.new) sql.now (bound params.now) most result }
         ensures blames { IfErr result (λ fault. (watch : _) → Watches S.Store self.old watch → HasCause S.Store self.new watch fault) }
+        ensures fails { FailsIn S.Store self.old self.new result }
         ensures work { AddsIn 1 most self.old self.new }
     {
         self.store.calls.few(sql, params, most)
@@ -61,6 +65,7 @@ impl<'a, S: Alter> OpenChange<'a, S> {
         requires { KnowsWrite HoldsLedger sql.now }
         ensures stays { StaysIn S.Store self.old self.new result }
         ensures runs { RunsText (seen_in S.Store self.old) (seen_in S.Store self.new) sql.now (bound params.now) result }
+        ensures counts { CountsIn S.Store self.old self.new result }
         ensures work { self.new.store.now.calls.work ≡ counts self.old.store.now.calls.work 0 }
     {
         self.store.calls.run(sql, params)

@@ -1,8 +1,9 @@
-use Rattle.std.proofs.Common.{rules}
+use Rattle.std.proofs.Common.{rules, subst}
 use Rattle.sql_calls.proofs.Framing.{first_frames}
-use Rattle.desk_store.proofs.Common.{HoldsLedger}
+use Rattle.desk_store.proofs.Common.{TakesFirst, HoldsLedger}
 use Rattle.desk_store.proofs.Known.{in_ledgers}
-use Rattle.desk_store.proofs.ReadLemmas.{first_keeps}
+use Rattle.desk_store.proofs.ReadLemmas.{first_keeps, first_sees}
+use Rattle.desk_store.proofs.FailLemmas.{call_fails}
 use Rattle.desk_store.proofs.change.OpenChange.first.Goals as goal
 
 pub returns-clause-stays : goal.returns-clause-stays
@@ -10,3 +11,6 @@ returns-clause-stays g c = record { same_reference = search rules; grows = searc
 
 pub returns-clause-keeps : goal.returns-clause-keeps
 returns-clause-keeps g c = record { to = first_keeps _ _ _ c.requires c.first.result c.first.ensures.takes }
+
+pub returns-clause-fails : goal.returns-clause-fails
+returns-clause-fails g c = call_fails c.first.result c.first.ensures.failures (λ x is. first_sees HoldsLedger _ _ _ (in_ledgers c.requires) x (subst (TakesFirst _ _ _ _) is c.first.ensures.takes))

@@ -1,0 +1,136 @@
+-- Why a call over a ledger that can be read is no failed store by itself.
+use Rattle.std.proofs.Common.{◌≡◌, ◌≤◌, ◌<◌, ◌^◌, ◌+◌, ◌-◌, ℕ, Bool, true, false, zero, suc, inl, inr, nat_lt, List, [], ◌∷◌, take, drop, filter, map, Option, Some, None, Ok, Err, Result, IfErr, Vec, refl, sym, ap, subst, ◌∙◌, arith}
+use Rattle.desk_store.proofs.Common.{Global, Null, Row, Query, Output, page, Database, Term, Ghosts, Has, has_filtered, Fault, Memory, Store, AsksFew, AsksText, TakesFirst, ShowsFirst, first_finds, ask_finds, few_finds, IsOrdered, by, ordered_rows, passes, shown_in, shown_of, simple, HoldsLedger, Ledger, HoldsTables, Tables, IfStore, HasBroken, seen_in, OpenChange}
+use Rattle.sqlite.specs.Effect.{Reads as Shows}
+use Rattle.std.proofs.lemmas.Bool.Decides.{nat_tests}
+use Rattle.sql_calls.specs.Calls.{capped, failures_in, failures_of, fails}
+use Rattle.sql_calls.specs.Standing.{Sees}
+use Rattle.desk_store.specs.Blaming.{FailedBefore, HasFailed}
+use Rattle.std.proofs.lemmas.List.Sorted.{IsPermutation-sym}
+use Rattle.sqlite.specs.Program.{overlay}
+use Rattle.sqlite.specs.Query.{IsAnswer, as_count, limited}
+use Rattle.sqlite.specs.Term.{eval}
+use Rattle.std.specs.Option.{unwrap_or}
+use Rattle.desk_records.proofs.HeldTables.{rows_of}
+use Rattle.desk_records.proofs.Membership.{has_mapped, has_permuted}
+use Rattle.desk_store.specs.Changing.{FindsLedger}
+use Rattle.desk_store.specs.Failing.{CountsIn, FailsIn, HasCall, Sight}
+use Rattle.desk_store.specs.Readable.{BreaksColumn, IsReadable}
+use Rattle.desk_store.specs.Rows.{IsBroken}
+use Rattle.desk_store.proofs.Known.{OneTable, in_ledgers, known}
+
+-- ---- one call
+
+more_failed : (failed before now : ℕ) → failed ≤ before → now ≡ capped (before + 1) → HasFailed failed now
+more_failed failed before now least is = go (nat_lt before (2 ^ 64 - 1)) refl
+  where
+    go : (b : Bool) → nat_lt before (2 ^ 64 - 1) ≡ b → HasFailed failed now
+    go true room = inl (grind (arith, nat_tests, least, is, room))
+    go false full = inr (grind (arith, nat_tests, least, is, full))
+
+module _ {S : Type 0} {g : Ghosts S} {old new : OpenChange S} where
+  has_call : (fault : Fault) → new.store.now.calls.failures ≡ fails (failures_of fault) old.store.now.calls.failures → (failed : ℕ) → FailedBefore g old failed → HasCall g new failed fault
+  has_call Memory counted failed was = record { call = λ is clean. absurd cc }
+  has_call Store counted failed was = record { call = λ is clean. more_failed failed old.store.now.calls.failures new.store.now.calls.failures was.failures counted }
+
+  -- a query that leaves the ledger as it is
+  pub call_fails : {A : Type 0} (out : Result A Fault) → new.store.now.calls.failures ≡ fails (failures_in out) old.store.now.calls.failures
+      → ((x : A) → out ≡ Ok x → (l : Ledger) → Sees HoldsLedger (seen_in g old) l → Sees HoldsLedger (seen_in g new) l) → FailsIn g old new out
+  call_fails (Ok x) counted keeps = record { to = λ sight was. record { sees = keeps x refl sight.ledger was.sees; before = record { failures = omega (arith, was.before.failures, counted) } } }
+  call_fails (Err fault) counted keeps = record { to = λ sight was. has_call fault counted sight.failed was.before }
+
+  pub call_counts : {A : Type 0} (out : Result A Fault) → new.store.now.calls.failures ≡ fails (failures_in out) old.store.now.calls.failures → CountsIn g old new out
+  call_counts (Ok x) counted = record { to = λ failed was. record { failures = omega (arith, was.failures, counted) } }
+  call_counts (Err fault) counted = record { to = λ failed was. has_call fault counted failed was }
+
+-- ---- by what was found
+
+module _ {S A B : Type 0} {g : Ghosts S} {old new : OpenChange S} {x : A} {P : Ledger → A → Type 0} where
+  -- where no call failed: what was found leaves no such fault
+  pub fails_never : FindsLedger g {E = Fault} old new (Ok x) P → old.store.now.calls.failures ≤ new.store.now.calls.failures
+      → (out : Result B Fault) → IfErr out (λ fault. IfStore fault ((l : Ledger) → P l x → IsReadable l → ⊥)) → FailsIn g old new out
+  fails_never read grows (Ok y) why = record { to = λ sight was. record { sees = (read.finds sight.ledger was.sees).0; before = record { failures = omega (arith, was.before.failures, grows) } } }
+  fails_never read grows (Err Memory) why = record { to = λ sight was. record { call = λ is clean. absurd cc } }
+  fails_never read grows (Err Store) why = record { to = λ sight was. record { call = λ is clean. absurd (why sight.ledger ((read.finds sight.ledger was.sees).1 clean) sight.readable) } }
+
+-- ---- by the rows of one table
+
+has_dropped : {X : Type 0} (n : ℕ) (xs : List X) (x : X) → Has (drop n xs) x → Has xs x
+has_dropped zero xs x among = among
+has_dropped (suc n) [] x among = among
+has_dropped (suc n) (y ∷ xs) x among = inr (has_dropped n xs x among)
+
+has_taken : {X : Type 0} (n : ℕ) (xs : List X) (x : X) → Has (take n xs) x → Has xs x
+has_taken zero xs x among = absurd among
+has_taken (suc n) [] x among = among
+has_taken (suc n) (y ∷ xs) x (inl same) = inl same
+has_taken (suc n) (y ∷ xs) x (inr among) = inr (has_taken n xs x among)
+
+has_limited : {X : Type 0} (limit : Option ℕ) (xs : List X) (x : X) → Has (limited limit xs) x → Has xs x
+has_limited None xs x among = among
+has_limited (Some n) xs x among = has_taken n xs x among
+
+has_page : {X : Type 0} (q : Query) (params : Row) (xs : List X) (x : X) → Has (page q params xs) x → Has xs x
+has_page q params xs x among =
+    let before = unwrap_or (as_count (eval q.offset (params ∷ []))) 0 in
+    has_dropped before xs x (has_limited (as_count (eval q.limit (params ∷ []))) (drop before xs) x among)
+
+module _ {sql : List ℕ} (text : OneTable sql) where
+  abbrev columns : List Term
+  columns = (text.query 0).project
+
+  -- each row that is shown is one of the table
+  from_table : (params : Row) (db : Database) (t : Tables) (holds : HoldsTables db t) (shown : List Row) → Shows (known text db t holds).command db params shown → (x : Row) → Has shown x
+      → (row : Row) × Has (t text.place) row × (x ≡ shown_of columns params row)
+  from_table params db t holds shown shows x among =
+      let output = has_mapped (λ (o : Output). o.1) it.ordered x (has_page q params (map (λ (o : Output). o.1) it.ordered) x (subst (λ l. Has l x) it.is among)) in
+      let source = has_mapped (shown_in q params) _ output.0 (has_permuted _ _ output.0 (IsPermutation-sym _ _ it.same) output.1) in
+      (source.0, subst (λ l. Has l source.0) (sym (holds.rows text.place)) (has_filtered (passes q.filter params) (db.trees tree) source.0 source.1).0, output.2 ∙ ap (λ (o : Output). o.1) source.2)
+    where
+      tree : ℕ
+      tree = (holds.spot text.place).tree
+
+      q : Query
+      q = by (simple tree (text.query 0).filter columns) (text.query 0).order (text.query 0).limit (text.query 0).offset
+
+      it : IsOrdered q params (filter (passes (text.query 0).filter params) (db.trees tree)) shown
+      it = ordered_rows tree (text.query 0).filter columns (text.query 0).order (text.query 0).limit (text.query 0).offset params db.trees shown (subst (λ b. IsAnswer b (overlay db.trees []) params shown) (text.shape tree) (shows.answer Null))
+
+  -- .. which can be read
+  module _ (is_broken : Row → Type 0) (rule : (params row : Row) → (BreaksColumn text.place row → ⊥) → is_broken (shown_of columns params row) → ⊥) (params : Row) where
+    kept : (db : Database) (l : Ledger) (holds : HoldsLedger db l) (shown : List Row) → Shows (in_ledgers (known text) db l holds).command db params shown → IsReadable l → (x : Row) → Has shown x → is_broken x → ⊥
+    kept db l holds shown shows readable x among broken =
+        let its = from_table params db (rows_of db l holds) (record { sound = holds.sound; spot = holds.spot; stands = holds.stands; rows = λ p. refl }) shown shows x among in
+        rule params its.0 (readable.keep text.place (db.trees (holds.spot text.place).tree) (holds.rows text.place) its.0 its.1) (subst is_broken its.2 broken)
+
+    module _ {S B : Type 0} {g : Ghosts S} {old new : OpenChange S} (grows : old.store.now.calls.failures ≤ new.store.now.calls.failures) where
+      -- the first row
+      pub first_fails : (row : Option Row) → TakesFirst (seen_in g old) (seen_in g new) sql params (Ok row) → (out : Result B Fault) → IfErr out (λ fault. IfStore fault (IsBroken is_broken row)) → FailsIn g old new out
+      first_fails row h out broken =
+          fails_never (first_finds HoldsLedger (λ (l : Ledger). l) sql params (seen_in g old) (seen_in g new) (λ l u. IsReadable l → IsBroken is_broken row → ⊥) (in_ledgers (known text)) (λ db l holds at given. tt) row h (Ok (tt {0})) (λ db l holds shown. go db l holds row shown)) grows out
+          (never out broken)
+        where
+          go : (db : Database) (l : Ledger) (holds : HoldsLedger db l) (row : Option Row) → ShowsFirst (in_ledgers (known text) db l holds).command db params row → IsReadable l → IsBroken is_broken row → ⊥
+          go db l holds None shown readable b = b
+          go db l holds (Some x) shown readable b = kept db l holds (x ∷ shown.0) shown.1 readable x (inl refl) b
+
+          never : (out : Result B Fault) → IfErr out (λ fault. IfStore fault (IsBroken is_broken row)) → IfErr out (λ fault. IfStore fault ((l : Ledger) → (IsReadable l → IsBroken is_broken row → ⊥) → IsReadable l → ⊥))
+          never (Ok y) is = tt
+          never (Err Memory) is = tt
+          never (Err Store) is = λ l said readable. said readable is
+
+      module _ (rows : Vec Row Global) (out : Result B Fault) (broken : IfErr out (λ fault. IfStore fault (HasBroken is_broken rows.items))) where
+        found : FindsLedger g {E = Fault} old new (Ok (tt {0})) (λ l u. IsReadable l → HasBroken is_broken rows.items → ⊥) → FailsIn g old new out
+        found read = fails_never read grows out (never out broken)
+          where
+            never : (out : Result B Fault) → IfErr out (λ fault. IfStore fault (HasBroken is_broken rows.items)) → IfErr out (λ fault. IfStore fault ((l : Ledger) → (IsReadable l → HasBroken is_broken rows.items → ⊥) → IsReadable l → ⊥))
+            never (Ok y) is = tt
+            never (Err Memory) is = tt
+            never (Err Store) is = λ l said readable. said readable is
+
+        -- each row
+        pub all_fails : AsksText (seen_in g old) (seen_in g new) sql params (Ok rows) → FailsIn g old new out
+        all_fails h = found (ask_finds HoldsLedger (λ (l : Ledger). l) sql params (seen_in g old) (seen_in g new) _ (in_ledgers (known text)) rows h (Ok (tt {0})) (λ db l holds shown readable b. kept db l holds rows.items shown readable b.row b.among b.broken))
+
+        pub few_fails : (most : ℕ) → AsksFew (seen_in g old) (seen_in g new) sql params most (Ok rows) → FailsIn g old new out
+        few_fails most h = found (few_finds HoldsLedger (λ (l : Ledger). l) sql params (seen_in g old) (seen_in g new) _ (in_ledgers (known text)) most rows h (Ok (tt {0})) (λ db l holds shown readable b. kept db l holds rows.items shown readable b.row b.among b.broken))

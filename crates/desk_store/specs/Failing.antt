@@ -1,0 +1,44 @@
+-- When a call of a change is a failed store: where the ledger that is seen can be read, only where a call of the database failed, which is counted.
+use Rattle.std.specs.Prelude.{◌≡◌, ◌≤◌, ℕ, Result, Ok, Err}
+use Rattle.sqlite.specs.Store.{Ghosts}
+use Rattle.sqlite.specs.State.{HasCleanDisk}
+use Rattle.sql_calls.specs.Standing.{Sees}
+use Rattle.sql_calls.specs.declared.fault.Fault.{Fault}
+use Rattle.sql_calls.specs.declared.fault.Fault.TheVariants.{Store}
+use Rattle.desk_records.specs.Holds.{HoldsLedger, Ledger}
+use Rattle.desk_store.specs.Blaming.{FailedBefore, HasFailed}
+use Rattle.desk_store.specs.Changing.{seen_in}
+use Rattle.desk_store.specs.Readable.{IsReadable}
+use Rattle.desk_store.specs.declared.change.OpenChange.{OpenChange}
+
+-- a ledger that can be read, and how many calls had failed before
+pub record Sight : Type 0 where
+  pub ledger : Ledger
+  pub readable : IsReadable ledger
+  pub failed : ℕ
+
+module _ {S : Type 0} (g : Ghosts S) where
+  -- the change sees the ledger, and so many calls failed at least
+  pub record HasSight (change : OpenChange S) (sight : Sight) : Type 0 where
+    pub sees : Sees HoldsLedger (seen_in g change) sight.ledger
+    pub before : FailedBefore g change sight.failed
+
+  -- a failed store is a call that failed since
+  pub record HasCall (change : OpenChange S) (failed : ℕ) (fault : Fault) : Type 0 where
+    pub call : fault ≡ Store → HasCleanDisk (seen_in g change) → HasFailed failed change.store.now.calls.failures
+
+  abbrev pub FailsTo : {A : Type 0} → OpenChange S → OpenChange S → Result A Fault → Type 0
+  FailsTo old new (Ok a) = (sight : Sight) → HasSight old sight → HasSight new sight
+  FailsTo old new (Err fault) = (sight : Sight) → HasSight old sight → HasCall new sight.failed fault
+
+  -- what reads: at Ok the ledger stays as it is, and where it can be read, a failed store is a call that failed
+  pub record FailsIn {A : Type 0} (old new : OpenChange S) (result : Result A Fault) : Type 0 where
+    pub to : FailsTo old new result
+
+  abbrev pub CountsTo : {A : Type 0} → OpenChange S → OpenChange S → Result A Fault → Type 0
+  CountsTo old new (Ok a) = (failed : ℕ) → FailedBefore g old failed → FailedBefore g new failed
+  CountsTo old new (Err fault) = (failed : ℕ) → FailedBefore g old failed → HasCall new failed fault
+
+  -- what writes: a failed store is a call that failed, whatever is seen
+  pub record CountsIn {A : Type 0} (old new : OpenChange S) (result : Result A Fault) : Type 0 where
+    pub to : CountsTo old new result

@@ -1,0 +1,73 @@
+-- Ledgers that can be read: no row of their tables breaks the rule of a column, and their rows can be counted.
+use Rattle.std.specs.Prelude.{◌≡◌, ◌<◌, ◌^◌, ◌⊎◌, false, List, [], ◌∷◌, length, None}
+use Rattle.sqlite_value.specs.Order.{Row, column}
+use Rattle.sqlite_rules.specs.Lists.{Has}
+use Rattle.desk_records.specs.ArtifactRow.{broken_artifact_column, broken_stored_column, has_bytes, has_size}
+use Rattle.desk_records.specs.Codes.{flag_in}
+use Rattle.desk_records.specs.EntryRow.{BreaksEntry}
+use Rattle.desk_records.specs.Holds.{IsHeld, Ledger}
+use Rattle.desk_records.specs.ModuleRow.{broken_column}
+use Rattle.desk_records.specs.NumberRow.{broken_last_number_column, broken_number_column}
+use Rattle.desk_records.specs.RolloutRow.{broken_action_column, broken_group_column, broken_listed_action_column, broken_offer_column}
+use Rattle.desk_records.specs.RolloutRow.{broken_rollout_column}
+use Rattle.desk_records.specs.RuleRow.{broken_rule_column}
+use Rattle.desk_records.specs.Schema.{Actions, Artifacts, Desk, Feedbacks, Groups, Members, Modules, Numbers, Offers, Pieces, Place, Rollouts, Rules}
+use Rattle.desk_records.specs.Schema.{SetModules, Sets, TargetAttributes, TargetTags, Targets}
+use Rattle.desk_records.specs.SetRow.{broken_set_column, has_number}
+use Rattle.desk_records.specs.TableRows.{action_shown, artifact_shown, entry_shown, group_shown, number_shown, offer_shown, rollout_shown, rule_shown}
+use Rattle.desk_records.specs.TargetRow.{broken_attribute_column, broken_listed_column, broken_target_column, has_word}
+use Rattle.desk_records.specs.declared.module_row.Column.{Column}
+use Rattle.desk_store.specs.RawLists.{listed_shown}
+use Rattle.desk_store.specs.Rows.{BreaksRule}
+
+-- ---- what is shown of a row
+
+-- the second column and the third
+abbrev pub second_shown : Row → Row
+second_shown row = column row 1 ∷ column row 2 ∷ []
+
+-- the third and the fourth
+abbrev pub third_shown : Row → Row
+third_shown row = column row 2 ∷ column row 3 ∷ []
+
+abbrev pub label_shown : Row → Row
+label_shown row = column row 2 ∷ column row 3 ∷ column row 4 ∷ []
+
+-- a number of feedback with its place at the end
+abbrev pub placed_shown : Row → Row
+placed_shown row = column row 3 ∷ column row 4 ∷ column row 2 ∷ []
+
+-- an action with the kind of what is offered of it
+abbrev pub next_shown : Row → Row
+next_shown row = column row 0 ∷ column row 5 ∷ []
+
+-- ---- rows that can't be read
+
+-- the row's own number isn't one of 32 bits
+abbrev pub HasNoKey : Row → Type 0
+HasNoKey row = has_size (column row 0) ≡ false
+
+-- a row of the table breaks the rule of a column that is read
+abbrev pub BreaksColumn : Place → Row → Type 0
+BreaksColumn Desk row = flag_in (column row 4) ≡ None
+BreaksColumn Modules row = HasNoKey row ⊎ BreaksRule (broken_column (label_shown row))
+BreaksColumn Sets row = HasNoKey row ⊎ BreaksRule (broken_set_column (third_shown row))
+BreaksColumn SetModules row = has_number (column row 3) ≡ false
+BreaksColumn Artifacts row = HasNoKey row ⊎ (BreaksRule (broken_stored_column (artifact_shown row)) ⊎ BreaksRule (broken_artifact_column (listed_shown row)))
+BreaksColumn Pieces row = has_bytes (column row 3) ≡ false
+BreaksColumn Targets row = BreaksRule (broken_target_column (third_shown row)) ⊎ BreaksRule (broken_listed_column (second_shown row))
+BreaksColumn TargetTags row = has_word (column row 2) ≡ false
+BreaksColumn TargetAttributes row = BreaksRule (broken_attribute_column (third_shown row))
+BreaksColumn Rollouts row = HasNoKey row ⊎ BreaksRule (broken_rollout_column (rollout_shown row))
+BreaksColumn Members row = has_word (column row 3) ≡ false
+BreaksColumn Groups row = BreaksRule (broken_group_column (group_shown row))
+BreaksColumn Actions row = HasNoKey row ⊎ (BreaksRule (broken_action_column (action_shown row)) ⊎ BreaksRule (broken_listed_action_column (action_shown row)))
+BreaksColumn Feedbacks row = (c : Column) × BreaksEntry (entry_shown row) c
+BreaksColumn Offers row = BreaksRule (broken_offer_column (offer_shown row))
+BreaksColumn Rules row = BreaksRule (broken_rule_column (rule_shown row))
+BreaksColumn Numbers row = BreaksRule (broken_number_column (number_shown row)) ⊎ BreaksRule (broken_last_number_column (placed_shown row))
+
+-- none does, and no table has more rows than 32 bits count
+pub record IsReadable (l : Ledger) : Type 0 where
+  pub keep : (p : Place) (rows : List Row) → IsHeld l p rows → (row : Row) → Has rows row → BreaksColumn p row → ⊥
+  pub few : (p : Place) (rows : List Row) → IsHeld l p rows → length rows < 2 ^ 32
