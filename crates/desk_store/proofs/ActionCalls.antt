@@ -4,57 +4,57 @@ use Rattle.desk_store.proofs.Common.{list_all, zip, Global, Int, Text, Row, Sele
 use Rattle.sqlite.specs.Effect.{Reads as Shows}
 use Rattle.sqlite_keyed.proofs.ListLemmas.{first_taken}
 use Rattle.desk_records.proofs.EntryRecords.{lists_entries, told_part}
-use Rattle.desk_store.proofs.Known.{in_ledgers, tables_know}
+use Rattle.desk_store.proofs.Known.{OneTable, in_ledgers, known}
 use Rattle.desk_store.proofs.LedgerReads.{both_mapped, one_action, one_entry, one_listed, one_offer, same_entries}
 use Rattle.desk_store.proofs.ModuleCalls.{one_last}
 use Rattle.desk_store.proofs.ReadLemmas.{asks_all, one_read, read_parts, takes_one}
 
 -- ---- what the texts mean where a ledger is held
 
-abbrev pub ending : Knows HoldsTables LAST_ACTION.now
-ending = tables_know Actions LAST_ACTION.now (λ at tree. Select (record { lets = []; body = last_action_query tree }) (codes "number" ∷ [])) last_action_is
+abbrev pub ending : OneTable LAST_ACTION.now
+ending = record { place = Actions; query = λ tree. last_action_query tree; names = (codes "number" ∷ []); means = last_action_is; shape = λ tree. refl }
 
-abbrev pub getting : Knows HoldsTables GET_ACTION.now
-getting = tables_know Actions GET_ACTION.now (λ at tree. Select (record { lets = []; body = simple tree (at_key 0 0 ∷ []) action_columns }) action_names) get_action_is
+abbrev pub getting : OneTable GET_ACTION.now
+getting = record { place = Actions; query = λ tree. simple tree (at_key 0 0 ∷ []) action_columns; names = action_names; means = get_action_is; shape = λ tree. refl }
 
-abbrev pub listing : Knows HoldsTables LIST_ACTIONS.now
-listing = tables_know Actions LIST_ACTIONS.now (λ at tree. Select (record { lets = []; body = list_actions_query tree }) listed_names) list_actions_is
+abbrev pub listing : OneTable LIST_ACTIONS.now
+listing = record { place = Actions; query = λ tree. list_actions_query tree; names = listed_names; means = list_actions_is; shape = λ tree. refl }
 
-abbrev pub listing_targets : Knows HoldsTables LIST_TARGET_ACTIONS.now
-listing_targets = tables_know Actions LIST_TARGET_ACTIONS.now (λ at tree. Select (record { lets = []; body = list_target_actions_query tree }) listed_names) list_target_actions_is
+abbrev pub listing_targets : OneTable LIST_TARGET_ACTIONS.now
+listing_targets = record { place = Actions; query = λ tree. list_target_actions_query tree; names = listed_names; means = list_target_actions_is; shape = λ tree. refl }
 
-abbrev pub listing_entries : Knows HoldsTables LIST_ENTRIES.now
-listing_entries = tables_know Feedbacks LIST_ENTRIES.now (λ at tree. Select (record { lets = []; body = list_entries_query tree }) entry_names) list_entries_is
+abbrev pub listing_entries : OneTable LIST_ENTRIES.now
+listing_entries = record { place = Feedbacks; query = λ tree. list_entries_query tree; names = entry_names; means = list_entries_is; shape = λ tree. refl }
 
-abbrev pub offered : Knows HoldsTables GET_OFFER.now
-offered = tables_know Offers GET_OFFER.now (λ at tree. Select (record { lets = []; body = simple tree of_controller offer_columns }) (codes "action" ∷ codes "kind" ∷ [])) get_offer_is
+abbrev pub offered : OneTable GET_OFFER.now
+offered = record { place = Offers; query = λ tree. simple tree of_controller offer_columns; names = (codes "action" ∷ codes "kind" ∷ []); means = get_offer_is; shape = λ tree. refl }
 
 -- ---- actions
 
 lasts : (row : Option Row) (out : Result ℕ Fault) → IfOk out (λ n. IsLastRow n row)
-    → IfOk out (λ n. (db : Database) (l : Ledger) (holds : HoldsLedger db l) → ShowsFirst (in_ledgers ending db l holds).command db [] row → n ≡ length (zip l.records.actions l.tallies))
+    → IfOk out (λ n. (db : Database) (l : Ledger) (holds : HoldsLedger db l) → ShowsFirst (in_ledgers (known ending) db l holds).command db [] row → n ≡ length (zip l.records.actions l.tallies))
 lasts row (Ok n) h = λ db l holds shown. one_last row n (length (zip l.records.actions l.tallies)) h (lasts_action db l holds (codes "number" ∷ []) row shown)
 lasts row (Err e) h = tt
 
 pub last_read : (old new : State) (row : Option Row) → TakesFirst old new LAST_ACTION.now [] (Ok row) → (out : Result ℕ Fault) → IfOk out (λ n. IsLastRow n row) → Finds HoldsLedger (λ (l : Ledger). l) old new out (λ l last. last ≡ length (zip l.records.actions l.tallies))
-last_read old new row h out is = first_finds HoldsLedger (λ (l : Ledger). l) LAST_ACTION.now [] old new (λ l last. last ≡ length (zip l.records.actions l.tallies)) (in_ledgers ending) (λ db l holds at given. tt) row h out (lasts row out is)
+last_read old new row h out is = first_finds HoldsLedger (λ (l : Ledger). l) LAST_ACTION.now [] old new (λ l last. last ≡ length (zip l.records.actions l.tallies)) (in_ledgers (known ending)) (λ db l holds at given. tt) row h out (lasts row out is)
 
 pub action_read : (number : ℕ) → 1 ≤ number → (old new : State) (row : Option Row) → TakesFirst old new GET_ACTION.now (Int (pos number) ∷ []) (Ok row) → (out : Result (Option StoredAction) Fault) → IfOk out (λ found. IsReadAs IsActionRow found row)
     → Finds HoldsLedger (λ (l : Ledger). l) old new out (λ l found. found ≡ option_map (stored_action l.records.rollouts) (item_numbered (zip l.records.actions l.tallies) number))
 action_read number least old new row =
-    takes_one (λ (l : Ledger). l) IsActionRow shown_action GET_ACTION.now (Int (pos number) ∷ []) old new getting (λ l. option_map (stored_action l.records.rollouts) (item_numbered (zip l.records.actions l.tallies) number)) ◌≡◌ refl (λ a b h. ap Some (one_action a b h)) (λ db l holds at given. tt) row
+    takes_one (λ (l : Ledger). l) IsActionRow shown_action GET_ACTION.now (Int (pos number) ∷ []) old new (known getting) (λ l. option_map (stored_action l.records.rollouts) (item_numbered (zip l.records.actions l.tallies) number)) ◌≡◌ refl (λ a b h. ap Some (one_action a b h)) (λ db l holds at given. tt) row
     (λ db l holds shown. gets_action db l holds action_names number least row shown ∙ both_mapped shown_action (stored_action l.records.rollouts) _)
 
 pub actions_read : (number limit offset : ℕ) (old new : State) (rows : Vec Row Global) → AsksText old new LIST_ACTIONS.now (Int (pos number) ∷ Int (pos limit) ∷ Int (pos offset) ∷ []) (Ok rows) → (out : Result (Vec ListedAction Global) Fault) → IfOk out (λ found. AreReadAs IsListedActionRow rows.items found.items)
     → Finds HoldsLedger (λ (l : Ledger). l) old new out (λ l found. found.items ≡ take limit (drop offset (actions_of l.records.rollouts number 1 (zip l.records.actions l.tallies))))
 actions_read number limit offset old new rows =
-    asks_all (λ (l : Ledger). l) vec_items IsListedActionRow told_listed one_listed LIST_ACTIONS.now (Int (pos number) ∷ Int (pos limit) ∷ Int (pos offset) ∷ []) old new listing (λ l. take limit (drop offset (actions_of l.records.rollouts number 1 (zip l.records.actions l.tallies)))) rows
+    asks_all (λ (l : Ledger). l) vec_items IsListedActionRow told_listed one_listed LIST_ACTIONS.now (Int (pos number) ∷ Int (pos limit) ∷ Int (pos offset) ∷ []) old new (known listing) (λ l. take limit (drop offset (actions_of l.records.rollouts number 1 (zip l.records.actions l.tallies)))) rows
     (λ db l holds shown. lists_actions db l holds listed_names number limit offset rows.items shown)
 
 pub target_actions_read : (id : Bytes) (limit offset : ℕ) (old new : State) (rows : Vec Row Global) → AsksText old new LIST_TARGET_ACTIONS.now (Text id ∷ Int (pos limit) ∷ Int (pos offset) ∷ []) (Ok rows) → (out : Result (Vec ListedAction Global) Fault)
     → IfOk out (λ found. AreReadAs IsListedActionRow rows.items found.items) → Finds HoldsLedger (λ (l : Ledger). l) old new out (λ l found. found.items ≡ take limit (drop offset (actions_for l.records.rollouts id 1 (zip l.records.actions l.tallies))))
 target_actions_read id limit offset old new rows =
-    asks_all (λ (l : Ledger). l) vec_items IsListedActionRow told_listed one_listed LIST_TARGET_ACTIONS.now (Text id ∷ Int (pos limit) ∷ Int (pos offset) ∷ []) old new listing_targets (λ l. take limit (drop offset (actions_for l.records.rollouts id 1 (zip l.records.actions l.tallies)))) rows
+    asks_all (λ (l : Ledger). l) vec_items IsListedActionRow told_listed one_listed LIST_TARGET_ACTIONS.now (Text id ∷ Int (pos limit) ∷ Int (pos offset) ∷ []) old new (known listing_targets) (λ l. take limit (drop offset (actions_for l.records.rollouts id 1 (zip l.records.actions l.tallies)))) rows
     (λ db l holds shown. lists_target_actions db l holds listed_names id limit offset rows.items shown)
 
 -- ---- histories
@@ -74,13 +74,13 @@ pub entries_read : (number limit offset : ℕ) → 1 ≤ number → (old new : S
     → Finds HoldsLedger (λ (l : Ledger). l) old new out (λ l found. list_all keeps_details (history_of (item_numbered l.records.actions number)) ≡ true → found.items ≡ take limit (drop offset (history_of (item_numbered l.records.actions number))))
 entries_read number limit offset least old new rows h out are_read =
     ask_finds HoldsLedger (λ (l : Ledger). l) LIST_ENTRIES.now (Int (pos number) ∷ Int (pos limit) ∷ Int (pos offset) ∷ []) old new (λ l found. list_all keeps_details (history_of (item_numbered l.records.actions number)) ≡ true → found.items ≡ part l)
-    (in_ledgers listing_entries) rows h out (answers out are_read)
+    (in_ledgers (known listing_entries)) rows h out (answers out are_read)
   where
     part : Ledger → List HistoryEntry
     part l = take limit (drop offset (history_of (item_numbered l.records.actions number)))
 
     answers : (out : Result (Vec HistoryEntry Global) Fault) → IfOk out (λ found. AreReadAs IsEntryRow rows.items found.items)
-        → IfOk out (λ found. (db : Database) (l : Ledger) (holds : HoldsLedger db l) → Shows (in_ledgers listing_entries db l holds).command db (Int (pos number) ∷ Int (pos limit) ∷ Int (pos offset) ∷ []) rows.items
+        → IfOk out (λ found. (db : Database) (l : Ledger) (holds : HoldsLedger db l) → Shows (in_ledgers (known listing_entries) db l holds).command db (Int (pos number) ∷ Int (pos limit) ∷ Int (pos offset) ∷ []) rows.items
         → list_all keeps_details (history_of (item_numbered l.records.actions number)) ≡ true → found.items ≡ part l)
     answers (Ok found) is = λ db l holds shown keep.
         let all = history_of (item_numbered l.records.actions number) in
@@ -114,27 +114,27 @@ module _ (number sequence before : ℕ) (least : 1 ≤ number) (behind : sequenc
   abbrev IsAt : Ledger → Option HistoryEntry → Type 0
   IsAt l found = list_all keeps_details (its l) ≡ true → found ≡ item_numbered (its l) sequence
 
-  entry_shown : (db : Database) (l : Ledger) (holds : HoldsLedger db l) (row : Option Row) → ShowsFirst (in_ledgers listing_entries db l holds).command db page_of_one row → option_map told_part row ≡ option_map told_entry (slice_get (its l) before)
+  entry_shown : (db : Database) (l : Ledger) (holds : HoldsLedger db l) (row : Option Row) → ShowsFirst (in_ledgers (known listing_entries) db l holds).command db page_of_one row → option_map told_part row ≡ option_map told_entry (slice_get (its l) before)
   entry_shown db l holds row shown = go row shown
     where
-      first : (rows : List Row) → Shows (in_ledgers listing_entries db l holds).command db page_of_one rows → slice_get (map told_part rows) 0 ≡ option_map told_entry (slice_get (its l) before)
+      first : (rows : List Row) → Shows (in_ledgers (known listing_entries) db l holds).command db page_of_one rows → slice_get (map told_part rows) 0 ≡ option_map told_entry (slice_get (its l) before)
       first rows shows =
           ap (λ (rs : List Row). slice_get rs 0) (lists_entries db l holds entry_names number 1 before least rows shows) ∙ slice_get-map told_entry (take 1 (drop before (its l))) 0
           ∙ ap (option_map told_entry) (first_taken (drop before (its l)) ∙ first_from before (its l))
 
-      go : (row : Option Row) → ShowsFirst (in_ledgers listing_entries db l holds).command db page_of_one row → option_map told_part row ≡ option_map told_entry (slice_get (its l) before)
+      go : (row : Option Row) → ShowsFirst (in_ledgers (known listing_entries) db l holds).command db page_of_one row → option_map told_part row ≡ option_map told_entry (slice_get (its l) before)
       go None shown = first [] shown
       go (Some row) shown = first (row ∷ shown.0) shown.1
 
   pub entry_read : (old new : State) (row : Option Row) → TakesFirst old new LIST_ENTRIES.now page_of_one (Ok row) → (out : Result (Option HistoryEntry) Fault) → IfOk out (λ found. IsReadAs IsEntryRow found row)
       → Finds HoldsLedger (λ (l : Ledger). l) old new out IsAt
-  entry_read old new row h out is_read = first_finds HoldsLedger (λ (l : Ledger). l) LIST_ENTRIES.now page_of_one old new IsAt (in_ledgers listing_entries) (λ db l holds at given. tt) row h out (answers out is_read)
+  entry_read old new row h out is_read = first_finds HoldsLedger (λ (l : Ledger). l) LIST_ENTRIES.now page_of_one old new IsAt (in_ledgers (known listing_entries)) (λ db l holds at given. tt) row h out (answers out is_read)
     where
       Tells : Option HistoryEntry → Option HistoryEntry → Type 0
       Tells found wanted = ((e : HistoryEntry) → wanted ≡ Some e → keeps_details e ≡ true) → found ≡ wanted
 
       answers : (out : Result (Option HistoryEntry) Fault) → IfOk out (λ found. IsReadAs IsEntryRow found row)
-          → IfOk out (λ found. (db : Database) (l : Ledger) (holds : HoldsLedger db l) → ShowsFirst (in_ledgers listing_entries db l holds).command db page_of_one row → IsAt l found)
+          → IfOk out (λ found. (db : Database) (l : Ledger) (holds : HoldsLedger db l) → ShowsFirst (in_ledgers (known listing_entries) db l holds).command db page_of_one row → IsAt l found)
       answers (Ok found) is = λ db l holds shown keep.
           one_read IsEntryRow told_entry Tells (λ kept. refl) (λ a b same kept. ap Some (one_entry a b (kept b refl) same)) found (slice_get (its l) before) (option_map told_part row) (part_read found row is)
           (entry_shown db l holds row shown) (λ e at. kept_at keeps_details before (its l) e keep at) ∙ ap (item_numbered (its l)) (sym behind)
@@ -145,5 +145,5 @@ module _ (number sequence before : ℕ) (least : 1 ≤ number) (behind : sequenc
 pub offer_read : (id : Bytes) (old new : State) (row : Option Row) → TakesFirst old new GET_OFFER.now (Text id ∷ []) (Ok row) → (out : Result (Option Offer) Fault) → IfOk out (λ found. IsReadAs IsOfferRow found row)
     → Finds HoldsLedger (λ (l : Ledger). l) old new out (λ l found. found ≡ l.offers id)
 offer_read id old new row =
-    takes_one (λ (l : Ledger). l) IsOfferRow told_offer GET_OFFER.now (Text id ∷ []) old new offered (λ l. l.offers id) ◌≡◌ refl (λ a b h. ap Some (one_offer a b h)) (λ db l holds at given. tt) row
+    takes_one (λ (l : Ledger). l) IsOfferRow told_offer GET_OFFER.now (Text id ∷ []) old new (known offered) (λ l. l.offers id) ◌≡◌ refl (λ a b h. ap Some (one_offer a b h)) (λ db l holds at given. tt) row
     (λ db l holds shown. gets_offer db l holds (codes "action" ∷ codes "kind" ∷ []) id row shown)

@@ -5,24 +5,24 @@ use Rattle.rollout_machine.specs.Objects.{artifacts_shown}
 use Rattle.desk_records.proofs.ArtifactRecords.{finds_artifact, lasts_artifact, gets_artifact, lists_artifacts, gets_piece, adds_artifact, adds_piece}
 use Rattle.desk_store.proofs.ReadLemmas.{asks_all, takes_one}
 use Rattle.desk_store.proofs.ModuleCalls.{one_last}
-use Rattle.desk_store.proofs.Known.{in_ledgers, ledger_writes, tables_know}
+use Rattle.desk_store.proofs.Known.{OneTable, in_ledgers, known, ledger_writes}
 
 -- ---- what the texts mean where the records are held
 
-abbrev pub finding : Knows HoldsTables FIND_ARTIFACT.now
-finding = tables_know Artifacts FIND_ARTIFACT.now (λ at tree. Select (record { lets = []; body = simple tree same_file (col 1 0 ∷ []) }) (codes "number" ∷ [])) find_artifact_is
+abbrev pub finding : OneTable FIND_ARTIFACT.now
+finding = record { place = Artifacts; query = λ tree. simple tree same_file (col 1 0 ∷ []); names = (codes "number" ∷ []); means = find_artifact_is; shape = λ tree. refl }
 
-abbrev pub ending : Knows HoldsTables LAST_ARTIFACT.now
-ending = tables_know Artifacts LAST_ARTIFACT.now (λ at tree. Select (record { lets = []; body = last_artifact_query tree }) (codes "number" ∷ [])) last_artifact_is
+abbrev pub ending : OneTable LAST_ARTIFACT.now
+ending = record { place = Artifacts; query = λ tree. last_artifact_query tree; names = (codes "number" ∷ []); means = last_artifact_is; shape = λ tree. refl }
 
-abbrev pub getting : Knows HoldsTables GET_ARTIFACT.now
-getting = tables_know Artifacts GET_ARTIFACT.now (λ at tree. Select (record { lets = []; body = simple tree (at_key 0 0 ∷ []) told_columns }) told_names) get_artifact_is
+abbrev pub getting : OneTable GET_ARTIFACT.now
+getting = record { place = Artifacts; query = λ tree. simple tree (at_key 0 0 ∷ []) told_columns; names = told_names; means = get_artifact_is; shape = λ tree. refl }
 
-abbrev pub listing : Knows HoldsTables LIST_ARTIFACTS.now
-listing = tables_know Artifacts LIST_ARTIFACTS.now (λ at tree. Select (record { lets = []; body = artifacts_query tree }) shown_names) list_artifacts_is
+abbrev pub listing : OneTable LIST_ARTIFACTS.now
+listing = record { place = Artifacts; query = λ tree. artifacts_query tree; names = shown_names; means = list_artifacts_is; shape = λ tree. refl }
 
-abbrev pub taking : Knows HoldsTables GET_PIECE.now
-taking = tables_know Pieces GET_PIECE.now (λ at tree. Select (record { lets = []; body = simple tree at_piece (col 1 3 ∷ []) }) (codes "bytes" ∷ [])) get_piece_is
+abbrev pub taking : OneTable GET_PIECE.now
+taking = record { place = Pieces; query = λ tree. simple tree at_piece (col 1 3 ∷ []); names = (codes "bytes" ∷ []); means = get_piece_is; shape = λ tree. refl }
 
 abbrev pub putting : KnowsWrite HoldsLedger PUT_ARTIFACT.now
 putting = ledger_writes Artifacts PUT_ARTIFACT.now (λ at tree. Insert at (Values artifact_terms 6)) put_artifact_is (λ at tree. refl)
@@ -37,7 +37,7 @@ FindsSame m filename r found = found ≡ list_any (is_same_artifact m filename) 
 
 pub found : {E : Type 0} (m : ℕ) (filename : Bytes) (old new : State) (row : Option Row) → TakesFirst old new FIND_ARTIFACT.now (file_of m filename) (Ok row) → Finds HoldsLedger ledger_of {E = E} old new (Ok (is_some row)) (FindsSame m filename)
 found m filename old new row h =
-    first_finds HoldsLedger ledger_of FIND_ARTIFACT.now (file_of m filename) old new (FindsSame m filename) (in_ledgers finding) (λ db r holds at given. tt) row h (Ok (is_some row)) (λ db now holds shown. finds_artifact db now holds (codes "number" ∷ []) m filename row shown)
+    first_finds HoldsLedger ledger_of FIND_ARTIFACT.now (file_of m filename) old new (FindsSame m filename) (in_ledgers (known finding)) (λ db r holds at given. tt) row h (Ok (is_some row)) (λ db now holds shown. finds_artifact db now holds (codes "number" ∷ []) m filename row shown)
 
 -- ---- the last number
 
@@ -45,12 +45,12 @@ abbrev pub IsLast : Records → ℕ → Type 0
 IsLast r last = last ≡ length r.artifacts
 
 lasts : (row : Option Row) (out : Result ℕ Fault) → IfOk out (λ n. IsLastRow n row)
-    → IfOk out (λ n. (db : Database) (now : Records) (holds : HoldsRecords db now) → ShowsFirst (in_ledgers ending db (ledger_of now) holds).command db [] row → n ≡ length now.artifacts)
+    → IfOk out (λ n. (db : Database) (now : Records) (holds : HoldsRecords db now) → ShowsFirst (in_ledgers (known ending) db (ledger_of now) holds).command db [] row → n ≡ length now.artifacts)
 lasts row (Ok n) h = λ db now holds shown. one_last row n (length now.artifacts) h (lasts_artifact db now holds (codes "number" ∷ []) row shown)
 lasts row (Err e) h = tt
 
 pub last_read : (old new : State) (row : Option Row) → TakesFirst old new LAST_ARTIFACT.now [] (Ok row) → (out : Result ℕ Fault) → IfOk out (λ n. IsLastRow n row) → Finds HoldsLedger ledger_of old new out IsLast
-last_read old new row h out is = first_finds HoldsLedger ledger_of LAST_ARTIFACT.now [] old new IsLast (in_ledgers ending) (λ db r holds at given. tt) row h out (lasts row out is)
+last_read old new row h out is = first_finds HoldsLedger ledger_of LAST_ARTIFACT.now [] old new IsLast (in_ledgers (known ending)) (λ db r holds at given. tt) row h out (lasts row out is)
 
 -- ---- an artifact by its number
 
@@ -73,7 +73,7 @@ one_told told a h =
 pub artifact_read : (number : ℕ) → 1 ≤ number → (old new : State) (row : Option Row) → TakesFirst old new GET_ARTIFACT.now (Int (pos number) ∷ []) (Ok row) → (out : Result (Option StoredArtifact) Fault)
     → IfOk out (λ found. IsReadAs IsStoredRow found row) → Finds HoldsLedger ledger_of old new out (Gets number)
 artifact_read number least old new row =
-    takes_one ledger_of IsStoredRow told_of GET_ARTIFACT.now (Int (pos number) ∷ []) old new getting (λ r. item_numbered r.artifacts number) (λ found a. found ≡ option_map stored a) refl (λ told a h. ap Some (one_told told a h)) (λ db r holds at given. tt) row
+    takes_one ledger_of IsStoredRow told_of GET_ARTIFACT.now (Int (pos number) ∷ []) old new (known getting) (λ r. item_numbered r.artifacts number) (λ found a. found ≡ option_map stored a) refl (λ told a h. ap Some (one_told told a h)) (λ db r holds at given. tt) row
     (λ db now holds. gets_artifact db now holds told_names number least row)
 
 -- ---- the artifacts of a module
@@ -100,7 +100,7 @@ one_shown a b h =
 pub artifacts_read : (m : ℕ) (old new : State) (rows : Vec Row Global) → AsksText old new LIST_ARTIFACTS.now (Int (pos m) ∷ []) (Ok rows) → (out : Result (Vec Artifact Global) Fault)
     → IfOk out (λ artifacts. AreReadAs IsArtifactRow rows.items artifacts.items) → Finds HoldsLedger ledger_of old new out (Lists m)
 artifacts_read m old new rows =
-    asks_all ledger_of vec_items IsArtifactRow shown_row one_shown LIST_ARTIFACTS.now (Int (pos m) ∷ []) old new listing (λ r. artifacts_shown m 1 r.artifacts) rows (λ db now holds. lists_artifacts db now holds shown_names m rows.items)
+    asks_all ledger_of vec_items IsArtifactRow shown_row one_shown LIST_ARTIFACTS.now (Int (pos m) ∷ []) old new (known listing) (λ r. artifacts_shown m 1 r.artifacts) rows (λ db now holds. lists_artifacts db now holds shown_names m rows.items)
 
 -- ---- a piece
 
@@ -117,7 +117,7 @@ one_piece a b h = let same : Blob b ≡ Blob a.items = h in cc
 pub piece_read : (number sequence : ℕ) → 1 ≤ number → (old new : State) (row : Option Row) → TakesFirst old new GET_PIECE.now (Int (pos number) ∷ Int (pos sequence) ∷ []) (Ok row) → (out : Result (Option (Vec ℕ Global)) Fault)
     → IfOk out (λ found. IsReadAs IsPieceRow found row) → Finds HoldsLedger ledger_of old new out (Takes number sequence)
 piece_read number sequence least old new row =
-    takes_one ledger_of IsPieceRow (λ bytes. Blob bytes ∷ []) GET_PIECE.now (Int (pos number) ∷ Int (pos sequence) ∷ []) old new taking (λ r. piece_numbered r.artifacts number sequence) (λ found bytes. option_map vec_items found ≡ bytes) refl
+    takes_one ledger_of IsPieceRow (λ bytes. Blob bytes ∷ []) GET_PIECE.now (Int (pos number) ∷ Int (pos sequence) ∷ []) old new (known taking) (λ r. piece_numbered r.artifacts number sequence) (λ found bytes. option_map vec_items found ≡ bytes) refl
     (λ a b h. ap Some (one_piece a b h)) (λ db r holds at given. tt) row (λ db now holds. gets_piece db now holds (codes "bytes" ∷ []) number sequence least row)
 
 -- ---- a new artifact, and a further piece of it

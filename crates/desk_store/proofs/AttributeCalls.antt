@@ -5,12 +5,12 @@ use Rattle.desk_records.specs.Targets.{attributes_of, AddsAttribute, SetsAttribu
 use Rattle.desk_records.proofs.TargetMeaning.{attributes_query, attribute_terms, set_attribute_query, list_target_attributes_is, put_target_attribute_is, set_target_attribute_is}
 use Rattle.desk_records.proofs.AttributeRecords.{lists_target_attributes, adds_attribute, sets_attribute}
 use Rattle.desk_store.proofs.ReadLemmas.{asks_all}
-use Rattle.desk_store.proofs.Known.{ledger_writes, tables_know}
+use Rattle.desk_store.proofs.Known.{OneTable, known, ledger_writes}
 
 -- ---- what the texts mean where the records are held
 
-abbrev pub listing : Knows HoldsTables LIST_TARGET_ATTRIBUTES.now
-listing = tables_know TargetAttributes LIST_TARGET_ATTRIBUTES.now (λ at tree. Select (record { lets = []; body = attributes_query tree }) (codes "key" ∷ codes "value" ∷ [])) list_target_attributes_is
+abbrev pub listing : OneTable LIST_TARGET_ATTRIBUTES.now
+listing = record { place = TargetAttributes; query = λ tree. attributes_query tree; names = (codes "key" ∷ codes "value" ∷ []); means = list_target_attributes_is; shape = λ tree. refl }
 
 abbrev pub putting : KnowsWrite HoldsLedger PUT_TARGET_ATTRIBUTE.now
 putting = ledger_writes TargetAttributes PUT_TARGET_ATTRIBUTE.now (λ at tree. Insert at (Values attribute_terms 4)) put_target_attribute_is (λ at tree. refl)
@@ -38,7 +38,7 @@ one_shown a b h =
 pub attributes_read : (id : Bytes) (old new : State) (rows : Vec Row Global) → AsksText old new LIST_TARGET_ATTRIBUTES.now (Text id ∷ []) (Ok rows) → (out : Result (List Attribute) Fault) → IfOk out (AreReadAs IsAttributeRow rows.items)
     → Finds HoldsLedger ledger_of old new out (Lists id)
 attributes_read id old new rows =
-    asks_all ledger_of (λ l. l) IsAttributeRow shown_row one_shown LIST_TARGET_ATTRIBUTES.now (Text id ∷ []) old new listing (λ r. attributes_of (target_of r id)) rows (λ db now holds. lists_target_attributes db now holds (codes "key" ∷ codes "value" ∷ []) id rows.items)
+    asks_all ledger_of (λ l. l) IsAttributeRow shown_row one_shown LIST_TARGET_ATTRIBUTES.now (Text id ∷ []) old new (known listing) (λ r. attributes_of (target_of r id)) rows (λ db now holds. lists_target_attributes db now holds (codes "key" ∷ codes "value" ∷ []) id rows.items)
 
 -- ---- what is written
 

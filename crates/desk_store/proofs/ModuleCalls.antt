@@ -6,21 +6,18 @@ use Rattle.desk_records.specs.ModuleRow.{IsLabelRow}
 use Rattle.desk_records.proofs.Meaning.{same_label, label_columns, last_module_query, module_terms, find_module_is, last_module_is, get_module_is, put_module_is}
 use Rattle.desk_records.proofs.Modules.{finds_module, lasts_module, gets_module, adds_module}
 use Rattle.desk_store.proofs.ReadLemmas.{takes_one}
-use Rattle.desk_store.proofs.Known.{OneTable, in_ledgers, ledger_writes, tables_know}
+use Rattle.desk_store.proofs.Known.{OneTable, in_ledgers, known, ledger_writes}
 
 -- ---- what the texts mean where the records are held
 
-abbrev pub finding : Knows HoldsTables FIND_MODULE.now
-finding = tables_know Modules FIND_MODULE.now (λ at tree. Select (record { lets = []; body = simple tree same_label (col 1 0 ∷ []) }) (codes "number" ∷ [])) find_module_is
+abbrev pub finding : OneTable FIND_MODULE.now
+finding = record { place = Modules; query = λ tree. simple tree same_label (col 1 0 ∷ []); names = (codes "number" ∷ []); means = find_module_is; shape = λ tree. refl }
 
-abbrev pub ending : Knows HoldsTables LAST_MODULE.now
-ending = tables_know Modules LAST_MODULE.now (λ at tree. Select (record { lets = []; body = last_module_query tree }) (codes "number" ∷ [])) last_module_is
+abbrev pub ending : OneTable LAST_MODULE.now
+ending = record { place = Modules; query = λ tree. last_module_query tree; names = (codes "number" ∷ []); means = last_module_is; shape = λ tree. refl }
 
-abbrev pub getting : Knows HoldsTables GET_MODULE.now
-getting = tables_know Modules GET_MODULE.now (λ at tree. Select (record { lets = []; body = simple tree (at_key 0 0 ∷ []) label_columns }) (codes "name" ∷ codes "type" ∷ codes "version" ∷ [])) get_module_is
-
-abbrev pub get_module : OneTable GET_MODULE.now
-get_module = record { place = Modules; query = λ tree. simple tree (at_key 0 0 ∷ []) label_columns; names = codes "name" ∷ codes "type" ∷ codes "version" ∷ []; means = get_module_is; shape = λ tree. refl }
+abbrev pub getting : OneTable GET_MODULE.now
+getting = record { place = Modules; query = λ tree. simple tree (at_key 0 0 ∷ []) label_columns; names = (codes "name" ∷ codes "type" ∷ codes "version" ∷ []); means = get_module_is; shape = λ tree. refl }
 
 abbrev pub putting : KnowsWrite HoldsLedger PUT_MODULE.now
 putting = ledger_writes Modules PUT_MODULE.now (λ at tree. Insert at (Values module_terms 5)) put_module_is (λ at tree. refl)
@@ -31,7 +28,7 @@ abbrev pub FindsSame : ModuleLabel → Records → Bool → Type 0
 FindsSame label r found = found ≡ list_any (is_same label) r.modules
 
 pub found : {E : Type 0} (label : ModuleLabel) (old new : State) (row : Option Row) → TakesFirst old new FIND_MODULE.now (words_of label) (Ok row) → Finds HoldsLedger ledger_of {E = E} old new (Ok (is_some row)) (FindsSame label)
-found label old new row h = first_finds HoldsLedger ledger_of FIND_MODULE.now (words_of label) old new (FindsSame label) (in_ledgers finding) (λ db r holds at given. tt) row h (Ok (is_some row)) (λ db now holds shown. finds_module label db now holds (codes "number" ∷ []) row shown)
+found label old new row h = first_finds HoldsLedger ledger_of FIND_MODULE.now (words_of label) old new (FindsSame label) (in_ledgers (known finding)) (λ db r holds at given. tt) row h (Ok (is_some row)) (λ db now holds shown. finds_module label db now holds (codes "number" ∷ []) row shown)
 
 -- ---- the last number
 
@@ -43,12 +40,12 @@ one_last None m n h k = h ∙ sym k
 one_last (Some row) m n h k = let both : Int (pos m) ≡ Int (pos n) = sym h ∙ k in cc
 
 lasts : (row : Option Row) (out : Result ℕ Fault) → IfOk out (λ n. IsLastRow n row)
-    → IfOk out (λ n. (db : Database) (now : Records) (holds : HoldsRecords db now) → ShowsFirst (in_ledgers ending db (ledger_of now) holds).command db [] row → n ≡ length now.modules)
+    → IfOk out (λ n. (db : Database) (now : Records) (holds : HoldsRecords db now) → ShowsFirst (in_ledgers (known ending) db (ledger_of now) holds).command db [] row → n ≡ length now.modules)
 lasts row (Ok n) h = λ db now holds shown. one_last row n (length now.modules) h (lasts_module db now holds (codes "number" ∷ []) row shown)
 lasts row (Err e) h = tt
 
 pub last_read : (old new : State) (row : Option Row) → TakesFirst old new LAST_MODULE.now [] (Ok row) → (out : Result ℕ Fault) → IfOk out (λ n. IsLastRow n row) → Finds HoldsLedger ledger_of old new out IsLast
-last_read old new row h out is = first_finds HoldsLedger ledger_of LAST_MODULE.now [] old new IsLast (in_ledgers ending) (λ db r holds at given. tt) row h out (lasts row out is)
+last_read old new row h out is = first_finds HoldsLedger ledger_of LAST_MODULE.now [] old new IsLast (in_ledgers (known ending)) (λ db r holds at given. tt) row h out (lasts row out is)
 
 -- ---- a module by its number
 
@@ -68,7 +65,7 @@ one_label a b h =
 
 pub module_read : (number : ℕ) → 1 ≤ number → (old new : State) (row : Option Row) → TakesFirst old new GET_MODULE.now (Int (pos number) ∷ []) (Ok row) → (out : Result (Option ModuleLabel) Fault) → IfOk out (λ found. IsReadAs IsLabelRow found row)
     → Finds HoldsLedger ledger_of old new out (Gets number)
-module_read number least old new row = takes_one ledger_of IsLabelRow words_of GET_MODULE.now (Int (pos number) ∷ []) old new getting (λ r. item_numbered r.modules number) ◌≡◌ refl (λ a b h. ap Some (one_label a b h)) (λ db r holds at given. tt) row
+module_read number least old new row = takes_one ledger_of IsLabelRow words_of GET_MODULE.now (Int (pos number) ∷ []) old new (known getting) (λ r. item_numbered r.modules number) ◌≡◌ refl (λ a b h. ap Some (one_label a b h)) (λ db r holds at given. tt) row
     (λ db now holds. gets_module number least db now holds (codes "name" ∷ codes "type" ∷ codes "version" ∷ []) row)
 
 -- ---- a new module

@@ -10,24 +10,24 @@ use Rattle.desk_records.proofs.SetMeaning.{same_names, last_set_query, name_colu
 use Rattle.desk_records.proofs.SetRecords.{finds_set, lasts_set, gets_set, lists_set_modules, finds_lock, adds_set, adds_set_module}
 use Rattle.desk_store.proofs.ReadLemmas.{asks_all, takes_one}
 use Rattle.desk_store.proofs.ModuleCalls.{one_last}
-use Rattle.desk_store.proofs.Known.{in_ledgers, ledger_writes, tables_know}
+use Rattle.desk_store.proofs.Known.{OneTable, in_ledgers, known, ledger_writes}
 
 -- ---- what the texts mean where the records are held
 
-abbrev pub finding : Knows HoldsTables FIND_SET.now
-finding = tables_know Sets FIND_SET.now (λ at tree. Select (record { lets = []; body = simple tree same_names (col 1 0 ∷ []) }) (codes "number" ∷ [])) find_set_is
+abbrev pub finding : OneTable FIND_SET.now
+finding = record { place = Sets; query = λ tree. simple tree same_names (col 1 0 ∷ []); names = (codes "number" ∷ []); means = find_set_is; shape = λ tree. refl }
 
-abbrev pub ending : Knows HoldsTables LAST_SET.now
-ending = tables_know Sets LAST_SET.now (λ at tree. Select (record { lets = []; body = last_set_query tree }) (codes "number" ∷ [])) last_set_is
+abbrev pub ending : OneTable LAST_SET.now
+ending = record { place = Sets; query = λ tree. last_set_query tree; names = (codes "number" ∷ []); means = last_set_is; shape = λ tree. refl }
 
-abbrev pub getting : Knows HoldsTables GET_SET.now
-getting = tables_know Sets GET_SET.now (λ at tree. Select (record { lets = []; body = simple tree (at_key 0 0 ∷ []) name_columns }) (codes "name" ∷ codes "version" ∷ [])) get_set_is
+abbrev pub getting : OneTable GET_SET.now
+getting = record { place = Sets; query = λ tree. simple tree (at_key 0 0 ∷ []) name_columns; names = (codes "name" ∷ codes "version" ∷ []); means = get_set_is; shape = λ tree. refl }
 
-abbrev pub listing : Knows HoldsTables LIST_SET_MODULES.now
-listing = tables_know SetModules LIST_SET_MODULES.now (λ at tree. Select (record { lets = []; body = set_modules_query tree }) (codes "module" ∷ [])) list_set_modules_is
+abbrev pub listing : OneTable LIST_SET_MODULES.now
+listing = record { place = SetModules; query = λ tree. set_modules_query tree; names = (codes "module" ∷ []); means = list_set_modules_is; shape = λ tree. refl }
 
-abbrev pub locking : Knows HoldsTables MODULE_LOCKED.now
-locking = tables_know SetModules MODULE_LOCKED.now (λ at tree. Select (record { lets = []; body = locked_query tree }) (codes "dset" ∷ [])) module_locked_is
+abbrev pub locking : OneTable MODULE_LOCKED.now
+locking = record { place = SetModules; query = λ tree. locked_query tree; names = (codes "dset" ∷ []); means = module_locked_is; shape = λ tree. refl }
 
 abbrev pub putting : KnowsWrite HoldsLedger PUT_SET.now
 putting = ledger_writes Sets PUT_SET.now (λ at tree. Insert at (Values set_terms 4)) put_set_is (λ at tree. refl)
@@ -42,7 +42,7 @@ FindsSame name version r found = found ≡ list_any (is_same_set name version) r
 
 pub found : {E : Type 0} (name version : Bytes) (old new : State) (row : Option Row) → TakesFirst old new FIND_SET.now (names_of name version) (Ok row) → Finds HoldsLedger ledger_of {E = E} old new (Ok (is_some row)) (FindsSame name version)
 found name version old new row h =
-    first_finds HoldsLedger ledger_of FIND_SET.now (names_of name version) old new (FindsSame name version) (in_ledgers finding) (λ db r holds at given. tt) row h (Ok (is_some row)) (λ db now holds shown. finds_set db now holds (codes "number" ∷ []) name version row shown)
+    first_finds HoldsLedger ledger_of FIND_SET.now (names_of name version) old new (FindsSame name version) (in_ledgers (known finding)) (λ db r holds at given. tt) row h (Ok (is_some row)) (λ db now holds shown. finds_set db now holds (codes "number" ∷ []) name version row shown)
 
 -- ---- the last number
 
@@ -50,12 +50,12 @@ abbrev pub IsLast : Records → ℕ → Type 0
 IsLast r last = last ≡ length r.sets
 
 lasts : (row : Option Row) (out : Result ℕ Fault) → IfOk out (λ n. IsLastRow n row)
-    → IfOk out (λ n. (db : Database) (now : Records) (holds : HoldsRecords db now) → ShowsFirst (in_ledgers ending db (ledger_of now) holds).command db [] row → n ≡ length now.sets)
+    → IfOk out (λ n. (db : Database) (now : Records) (holds : HoldsRecords db now) → ShowsFirst (in_ledgers (known ending) db (ledger_of now) holds).command db [] row → n ≡ length now.sets)
 lasts row (Ok n) h = λ db now holds shown. one_last row n (length now.sets) h (lasts_set db now holds (codes "number" ∷ []) row shown)
 lasts row (Err e) h = tt
 
 pub last_read : (old new : State) (row : Option Row) → TakesFirst old new LAST_SET.now [] (Ok row) → (out : Result ℕ Fault) → IfOk out (λ n. IsLastRow n row) → Finds HoldsLedger ledger_of old new out IsLast
-last_read old new row h out is = first_finds HoldsLedger ledger_of LAST_SET.now [] old new IsLast (in_ledgers ending) (λ db r holds at given. tt) row h out (lasts row out is)
+last_read old new row h out is = first_finds HoldsLedger ledger_of LAST_SET.now [] old new IsLast (in_ledgers (known ending)) (λ db r holds at given. tt) row h out (lasts row out is)
 
 -- ---- a set's name by its number
 
@@ -74,7 +74,7 @@ one_name name set h =
 pub set_read : (number : ℕ) → 1 ≤ number → (old new : State) (row : Option Row) → TakesFirst old new GET_SET.now (Int (pos number) ∷ []) (Ok row) → (out : Result (Option SetName) Fault) → IfOk out (λ found. IsReadAs IsSetNameRow found row)
     → Finds HoldsLedger ledger_of old new out (Gets number)
 set_read number least old new row =
-    takes_one ledger_of IsSetNameRow (λ (set : SetLabel). names_of set.name set.version) GET_SET.now (Int (pos number) ∷ []) old new getting (λ r. item_numbered r.sets number) (λ found set. found ≡ option_map called set) refl (λ a b h. ap Some (one_name a b h))
+    takes_one ledger_of IsSetNameRow (λ (set : SetLabel). names_of set.name set.version) GET_SET.now (Int (pos number) ∷ []) old new (known getting) (λ r. item_numbered r.sets number) (λ found set. found ≡ option_map called set) refl (λ a b h. ap Some (one_name a b h))
     (λ db r holds at given. tt) row (λ db now holds. gets_set db now holds (codes "name" ∷ codes "version" ∷ []) number least row)
 
 -- ---- a set's modules
@@ -91,7 +91,7 @@ one_number a b h = let same : Int (pos b) ≡ Int (pos a) = h in cc
 
 pub modules_read : (number : ℕ) → 1 ≤ number → (old new : State) (rows : Vec Row Global) → AsksText old new LIST_SET_MODULES.now (Int (pos number) ∷ []) (Ok rows) → (out : Result (Vec (Number ModuleKind) Global) Fault)
     → IfOk out (λ ms. AreReadAs IsNumberRow rows.items ms.items) → Finds HoldsLedger ledger_of old new out (Lists number)
-modules_read number least old new rows = asks_all ledger_of vec_items IsNumberRow (λ m. Int (pos m) ∷ []) one_number LIST_SET_MODULES.now (Int (pos number) ∷ []) old new listing (λ r. modules_of_set (item_numbered r.sets number)) rows
+modules_read number least old new rows = asks_all ledger_of vec_items IsNumberRow (λ m. Int (pos m) ∷ []) one_number LIST_SET_MODULES.now (Int (pos number) ∷ []) old new (known listing) (λ r. modules_of_set (item_numbered r.sets number)) rows
     (λ db now holds. lists_set_modules db now holds (codes "module" ∷ []) number least rows.items)
 
 -- ---- whether a set names a module
@@ -101,7 +101,7 @@ Locks number r locked = locked ≡ is_named_by_set r.sets number
 
 pub locked : {E : Type 0} (number : ℕ) (old new : State) (row : Option Row) → TakesFirst old new MODULE_LOCKED.now (Int (pos number) ∷ []) (Ok row) → Finds HoldsLedger ledger_of {E = E} old new (Ok (is_some row)) (Locks number)
 locked number old new row h =
-    first_finds HoldsLedger ledger_of MODULE_LOCKED.now (Int (pos number) ∷ []) old new (Locks number) (in_ledgers locking) (λ db r holds at given. tt) row h (Ok (is_some row)) (λ db now holds shown. finds_lock db now holds (codes "dset" ∷ []) number row shown)
+    first_finds HoldsLedger ledger_of MODULE_LOCKED.now (Int (pos number) ∷ []) old new (Locks number) (in_ledgers (known locking)) (λ db r holds at given. tt) row h (Ok (is_some row)) (λ db now holds shown. finds_lock db now holds (codes "dset" ∷ []) number row shown)
 
 -- ---- a new set, and a further module of it
 

@@ -10,21 +10,21 @@ use Rattle.desk_records.specs.Targets.{AddsTag, AddsTarget, renamed, untagged, w
 use Rattle.desk_records.proofs.TargetMeaning.{of_target, target_columns, target_terms, set_target_query, targets_query, tags_query, tag_terms, drop_tag_query, get_target_is, count_targets_is, list_targets_is, list_target_tags_is, put_target_is, set_target_is, put_target_tag_is, drop_target_tag_is}
 use Rattle.desk_records.proofs.TargetRecords.{told_target, listed_row, gets_target, counts_targets, lists_targets, lists_target_tags, adds_target, sets_target, adds_tag, drops_tag}
 use Rattle.desk_store.proofs.ReadLemmas.{asks_all, takes_one}
-use Rattle.desk_store.proofs.Known.{in_ledgers, ledger_writes, tables_know}
+use Rattle.desk_store.proofs.Known.{OneTable, in_ledgers, known, ledger_writes, tables_know}
 
 -- ---- what the texts mean where the records are held
 
-abbrev pub getting : Knows HoldsTables GET_TARGET.now
-getting = tables_know Targets GET_TARGET.now (λ at tree. Select (record { lets = []; body = simple tree of_target target_columns }) (codes "name" ∷ codes "digest" ∷ [])) get_target_is
+abbrev pub getting : OneTable GET_TARGET.now
+getting = record { place = Targets; query = λ tree. simple tree of_target target_columns; names = (codes "name" ∷ codes "digest" ∷ []); means = get_target_is; shape = λ tree. refl }
 
 abbrev pub counting : Knows HoldsTables COUNT_TARGETS.now
 counting = tables_know Targets COUNT_TARGETS.now (λ at tree. Select (record { lets = []; body = count_query tree }) (codes "count(*)" ∷ [])) count_targets_is
 
-abbrev pub paging : Knows HoldsTables LIST_TARGETS.now
-paging = tables_know Targets LIST_TARGETS.now (λ at tree. Select (record { lets = []; body = targets_query tree }) (codes "controller" ∷ codes "name" ∷ [])) list_targets_is
+abbrev pub paging : OneTable LIST_TARGETS.now
+paging = record { place = Targets; query = λ tree. targets_query tree; names = (codes "controller" ∷ codes "name" ∷ []); means = list_targets_is; shape = λ tree. refl }
 
-abbrev pub listing : Knows HoldsTables LIST_TARGET_TAGS.now
-listing = tables_know TargetTags LIST_TARGET_TAGS.now (λ at tree. Select (record { lets = []; body = tags_query tree }) (codes "tag" ∷ [])) list_target_tags_is
+abbrev pub listing : OneTable LIST_TARGET_TAGS.now
+listing = record { place = TargetTags; query = λ tree. tags_query tree; names = (codes "tag" ∷ []); means = list_target_tags_is; shape = λ tree. refl }
 
 abbrev pub putting : KnowsWrite HoldsLedger PUT_TARGET.now
 putting = ledger_writes Targets PUT_TARGET.now (λ at tree. Insert at (Values target_terms 4)) put_target_is (λ at tree. refl)
@@ -55,7 +55,7 @@ one_told told t h =
 pub target_read : (id : Bytes) (old new : State) (row : Option Row) → TakesFirst old new GET_TARGET.now (Text id ∷ []) (Ok row) → (out : Result (Option StoredTarget) Fault) → IfOk out (λ found. IsReadAs IsTargetRow found row)
     → Finds HoldsLedger ledger_of old new out (Gets id)
 target_read id old new row =
-    takes_one ledger_of IsTargetRow told_target GET_TARGET.now (Text id ∷ []) old new getting (λ r. target_of r id) (λ found t. found ≡ option_map stored_target t) refl (λ told t h. ap Some (one_told told t h)) (λ db r holds at given. tt) row
+    takes_one ledger_of IsTargetRow told_target GET_TARGET.now (Text id ∷ []) old new (known getting) (λ r. target_of r id) (λ found t. found ≡ option_map stored_target t) refl (λ told t h. ap Some (one_told told t h)) (λ db r holds at given. tt) row
     (λ db now holds. gets_target db now holds (codes "name" ∷ codes "digest" ∷ []) id row)
 
 -- ---- how many there are
@@ -104,7 +104,7 @@ rows_listed (t ∷ ts) = ap (λ l. listed_row t ∷ l) (rows_listed ts)
 pub targets_read : (limit offset : ℕ) (old new : State) (rows : Vec Row Global) → AsksText old new LIST_TARGETS.now (Int (pos limit) ∷ Int (pos offset) ∷ []) (Ok rows) → (out : Result (Vec ListedTarget Global) Fault)
     → IfOk out (λ targets. AreReadAs IsListedTargetRow rows.items targets.items) → Finds HoldsLedger ledger_of old new out (Pages limit offset)
 targets_read limit offset old new rows =
-    asks_all ledger_of vec_items IsListedTargetRow row_of one_listed LIST_TARGETS.now (Int (pos limit) ∷ Int (pos offset) ∷ []) old new paging (λ r. map listed_target (take limit (drop offset r.targets))) rows
+    asks_all ledger_of vec_items IsListedTargetRow row_of one_listed LIST_TARGETS.now (Int (pos limit) ∷ Int (pos offset) ∷ []) old new (known paging) (λ r. map listed_target (take limit (drop offset r.targets))) rows
     (λ db now holds shown. lists_targets db now holds (codes "controller" ∷ codes "name" ∷ []) limit offset rows.items shown ∙ rows_listed _)
 
 -- ---- the tags of a target
@@ -122,7 +122,7 @@ one_tag a b h = let same : Text b ≡ Text a = h in cc
 pub tags_read : (id : Bytes) (old new : State) (rows : Vec Row Global) → AsksText old new LIST_TARGET_TAGS.now (Text id ∷ []) (Ok rows) → (out : Result (Vec (Word LabelKind) Global) Fault) → IfOk out (λ tags. AreReadAs IsTagRow rows.items tags.items)
     → Finds HoldsLedger ledger_of old new out (Lists id)
 tags_read id old new rows =
-    asks_all ledger_of vec_items IsTagRow (λ w. Text w ∷ []) one_tag LIST_TARGET_TAGS.now (Text id ∷ []) old new listing (λ r. tags_of (target_of r id)) rows (λ db now holds. lists_target_tags db now holds (codes "tag" ∷ []) id rows.items)
+    asks_all ledger_of vec_items IsTagRow (λ w. Text w ∷ []) one_tag LIST_TARGET_TAGS.now (Text id ∷ []) old new (known listing) (λ r. tags_of (target_of r id)) rows (λ db now holds. lists_target_tags db now holds (codes "tag" ∷ []) id rows.items)
 
 -- ---- what is written
 

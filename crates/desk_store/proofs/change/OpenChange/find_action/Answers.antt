@@ -3,6 +3,7 @@ use Rattle.desk_store.proofs.Common.{Int, state, AsksFew, GET_ACTION}
 use Rattle.desk_store.proofs.ActionCalls.{getting}
 use Rattle.desk_store.proofs.RawFinds.{action_read}
 use Rattle.desk_store.proofs.RawBlames.{action_blamed}
+use Rattle.desk_store.proofs.Known.{known}
 use Rattle.desk_store.proofs.change.OpenChange.find_action.Goals as goal
 
 pub returns-clause-reads : goal.returns-clause-reads
@@ -18,4 +19,4 @@ returns-clause-blames g c =
     action_blamed g.S.Store _ _ c.in_ok-rows.rows c.in_ok-rows.ensures.stays.grows.failures c.read_at.result c.args.number (rw c.deref.ensures.value at c.read_at.ensures.err) it
 
 pub few-requires : goal.few-requires
-few-requires g c = getting
+few-requires g c = known getting

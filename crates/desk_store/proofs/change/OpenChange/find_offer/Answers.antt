@@ -3,6 +3,7 @@ use Rattle.desk_store.proofs.Common.{Text, state, AsksFew, is_word, GET_OFFER}
 use Rattle.desk_store.proofs.ActionCalls.{offered}
 use Rattle.desk_store.proofs.RawFinds.{offer_read}
 use Rattle.desk_store.proofs.RawBlames.{offer_blamed}
+use Rattle.desk_store.proofs.Known.{known}
 use Rattle.desk_store.proofs.change.OpenChange.find_offer.Goals as goal
 
 pub returns-clause-reads : goal.returns-clause-reads
@@ -18,4 +19,4 @@ returns-clause-blames g c =
     offer_blamed g.S.Store _ _ c.in_ok-rows.rows c.in_ok-rows.ensures.stays.grows.failures c.read_at.result c.args.id.now (rw c.deref.ensures.value at c.read_at.ensures.err) it
 
 pub few-requires : goal.few-requires
-few-requires g c = offered
+few-requires g c = known offered

@@ -3,6 +3,7 @@ use Rattle.desk_store.proofs.Common.{Int, state, AsksText, GET_PIECE}
 use Rattle.desk_store.proofs.ArtifactCalls.{taking}
 use Rattle.desk_store.proofs.RawPieces.{pieces_read}
 use Rattle.desk_store.proofs.RawBlames.{pieces_blamed}
+use Rattle.desk_store.proofs.Known.{known}
 use Rattle.desk_store.proofs.change.OpenChange.find_pieces.Goals as goal
 
 pub returns-clause-reads : goal.returns-clause-reads
@@ -18,4 +19,4 @@ returns-clause-blames g c =
     pieces_blamed g.S.Store _ _ c.in_ok-rows.rows c.in_ok-rows.ensures.stays.grows.failures c.read_all.result c.args.number c.args.place (rw c.deref.ensures.value at c.read_all.ensures.err) it
 
 pub ask-requires : goal.ask-requires
-ask-requires g c = taking
+ask-requires g c = known taking

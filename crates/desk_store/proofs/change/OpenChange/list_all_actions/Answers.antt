@@ -3,6 +3,7 @@ use Rattle.desk_store.proofs.Common.{state, AsksText, LIST_ACTIONS}
 use Rattle.desk_store.proofs.ActionCalls.{listing}
 use Rattle.desk_store.proofs.RawLists.{actions_in_order, actions_read, all_of}
 use Rattle.desk_store.proofs.RawBlames.{actions_blamed}
+use Rattle.desk_store.proofs.Known.{known}
 use Rattle.desk_store.proofs.change.OpenChange.list_all_actions.Goals as goal
 
 pub returns-clause-reads : goal.returns-clause-reads
@@ -24,4 +25,4 @@ returns-clause-blames g c =
     actions_blamed g.S.Store _ _ c.in_ok-rows.rows c.in_ok-rows.ensures.stays.grows.failures c.read_checked.result c.args.number (rw c.deref.ensures.value at c.read_checked.ensures.err) it
 
 pub ask-requires : goal.ask-requires
-ask-requires g c = listing
+ask-requires g c = known listing

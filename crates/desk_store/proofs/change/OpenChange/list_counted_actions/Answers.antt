@@ -4,6 +4,7 @@ use Rattle.desk_store.proofs.ActionCalls.{listing}
 use Rattle.desk_store.proofs.RawActionCalls.{counted_read}
 use Rattle.desk_store.proofs.RawLists.{all_of}
 use Rattle.desk_store.proofs.RawBlames.{counted_blamed}
+use Rattle.desk_store.proofs.Known.{known}
 use Rattle.desk_store.proofs.change.OpenChange.list_counted_actions.Goals as goal
 
 pub returns-clause-reads : goal.returns-clause-reads
@@ -19,4 +20,4 @@ returns-clause-blames g c =
     counted_blamed g.S.Store _ _ c.in_ok-rows.rows c.in_ok-rows.ensures.stays.grows.failures c.read_counted.result c.args.number c.read_counted.ensures.err it
 
 pub ask-requires : goal.ask-requires
-ask-requires g c = listing
+ask-requires g c = known listing

@@ -3,6 +3,7 @@ use Rattle.desk_store.proofs.Common.{Int, is_number, state, AsksText, LIST_GROUP
 use Rattle.desk_store.proofs.RawLists.{groups_read}
 use Rattle.desk_store.proofs.RolloutCalls.{listing}
 use Rattle.desk_store.proofs.RawBlames.{groups_blamed}
+use Rattle.desk_store.proofs.Known.{known}
 use Rattle.desk_store.proofs.change.OpenChange.list_groups.Goals as goal
 
 pub returns-clause-reads : goal.returns-clause-reads
@@ -18,4 +19,4 @@ returns-clause-blames g c =
     groups_blamed g.S.Store _ _ c.in_ok-rows.rows c.in_ok-rows.ensures.stays.grows.failures c.read_checked.result c.args.number (rw c.deref.ensures.value at c.read_checked.ensures.err) it
 
 pub ask-requires : goal.ask-requires
-ask-requires g c = listing
+ask-requires g c = known listing

@@ -3,6 +3,7 @@ use Rattle.desk_store.proofs.Common.{state, AsksText, LIST_ENTRIES}
 use Rattle.desk_store.proofs.ActionCalls.{listing_entries}
 use Rattle.desk_store.proofs.RawLists.{all_of, history_in_order, history_read}
 use Rattle.desk_store.proofs.RawBlames.{history_blamed}
+use Rattle.desk_store.proofs.Known.{known}
 use Rattle.desk_store.proofs.change.OpenChange.list_history.Goals as goal
 
 pub returns-clause-reads : goal.returns-clause-reads
@@ -24,4 +25,4 @@ returns-clause-blames g c =
     history_blamed g.S.Store _ _ c.in_ok-rows.rows c.in_ok-rows.ensures.stays.grows.failures c.read_all.result c.args.number (rw c.deref.ensures.value at c.read_all.ensures.err) it
 
 pub ask-requires : goal.ask-requires
-ask-requires g c = listing_entries
+ask-requires g c = known listing_entries

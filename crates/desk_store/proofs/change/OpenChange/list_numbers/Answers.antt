@@ -3,6 +3,7 @@ use Rattle.desk_store.proofs.Common.{Int, state, AsksText, LIST_NUMBERS}
 use Rattle.desk_store.proofs.NumberCalls.{listing_numbers}
 use Rattle.desk_store.proofs.RawLists.{numbers_read}
 use Rattle.desk_store.proofs.RawBlames.{numbers_blamed}
+use Rattle.desk_store.proofs.Known.{known}
 use Rattle.desk_store.proofs.change.OpenChange.list_numbers.Goals as goal
 
 pub returns-clause-reads : goal.returns-clause-reads
@@ -18,4 +19,4 @@ returns-clause-blames g c =
     numbers_blamed g.S.Store _ _ c.in_ok-rows.rows c.in_ok-rows.ensures.stays.grows.failures c.read_all.result c.args.action (rw c.deref.ensures.value at c.read_all.ensures.err) it
 
 pub ask-requires : goal.ask-requires
-ask-requires g c = listing_numbers
+ask-requires g c = known listing_numbers

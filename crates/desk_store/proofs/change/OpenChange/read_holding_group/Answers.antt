@@ -1,6 +1,8 @@
 use Rattle.std.proofs.Common.{[], ◌∷◌, pos, subst, ◌≤◌, Ok}
 use Rattle.desk_store.proofs.Common.{Int, state, TakesFirst, HOLDING_GROUP}
 use Rattle.desk_store.proofs.RolloutCalls.{holding_group, holding_read}
+use Rattle.desk_store.proofs.Known.{known}
+use Rattle.desk_store.proofs.FailLemmas.{first_fails}
 use Rattle.desk_store.proofs.change.OpenChange.read_holding_group.Goals as goal
 
 pub returns-clause-reads : goal.returns-clause-reads
@@ -9,5 +11,8 @@ returns-clause-reads g c =
     rw (c.params-to_sql.ensures, c.params-to_sql-2.ensures, c.get.ensures.value) at c.in_ok-row.ensures.takes in
     holding_read c.args.number c.args.place (subst (λ n. 1 ≤ n) c.get.ensures.value c.get.ensures.least) _ _ c.in_ok-row.row it c.read_optional.result c.read_optional.ensures.ok
 
+pub returns-clause-fails : goal.returns-clause-fails
+returns-clause-fails g c = first_fails holding_group _ (λ params row kept is. kept is) _ c.in_ok-row.ensures.stays.grows.failures c.in_ok-row.row c.in_ok-row.ensures.takes c.read_optional.result c.read_optional.ensures.err
+
 pub first-requires : goal.first-requires
-first-requires g c = holding_group
+first-requires g c = known holding_group

@@ -1,7 +1,8 @@
 use Rattle.std.proofs.Common.{inr, [], ◌∷◌, Ok, pos, subst, ◌≤◌}
 use Rattle.desk_store.proofs.Common.{Int, state, TakesFirst, GET_MODULE}
-use Rattle.desk_store.proofs.ModuleCalls.{get_module, getting, module_read}
+use Rattle.desk_store.proofs.ModuleCalls.{getting, module_read}
 use Rattle.desk_store.proofs.FailLemmas.{first_fails}
+use Rattle.desk_store.proofs.Known.{known}
 use Rattle.desk_store.proofs.change.OpenChange.read_module.Goals as goal
 
 pub returns-clause-reads : goal.returns-clause-reads
@@ -10,8 +11,8 @@ returns-clause-reads g c =
     rw (c.params-to_sql.ensures, c.get.ensures.value) at c.in_ok-row.ensures.takes in
     module_read c.args.number (subst (λ n. 1 ≤ n) c.get.ensures.value c.get.ensures.least) _ _ c.in_ok-row.row taken c.read_optional.result c.read_optional.ensures.ok
 
-pub first-requires : goal.first-requires
-first-requires g c = getting
-
 pub returns-clause-fails : goal.returns-clause-fails
-returns-clause-fails g c = first_fails get_module _ (λ params row kept is. kept (inr is)) _ c.in_ok-row.ensures.stays.grows.failures c.in_ok-row.row c.in_ok-row.ensures.takes c.read_optional.result c.read_optional.ensures.err
+returns-clause-fails g c = first_fails getting _ (λ params row kept is. kept (inr is)) _ c.in_ok-row.ensures.stays.grows.failures c.in_ok-row.row c.in_ok-row.ensures.takes c.read_optional.result c.read_optional.ensures.err
+
+pub first-requires : goal.first-requires
+first-requires g c = known getting

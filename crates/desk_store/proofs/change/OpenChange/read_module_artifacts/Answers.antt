@@ -1,7 +1,9 @@
-use Rattle.std.proofs.Common.{[], ◌∷◌, Ok, pos}
+use Rattle.std.proofs.Common.{inr, [], ◌∷◌, Ok, pos}
 use Rattle.desk_store.proofs.Common.{Int, state, AsksText, LIST_ARTIFACTS}
 use Rattle.desk_store.proofs.ArtifactCalls.{artifacts_read, listing}
 use Rattle.desk_store.proofs.RawLists.{module_artifacts_read}
+use Rattle.desk_store.proofs.Known.{known}
+use Rattle.desk_store.proofs.FailLemmas.{all_fails}
 use Rattle.desk_store.proofs.change.OpenChange.read_module_artifacts.Goals as goal
 
 pub returns-clause-reads : goal.returns-clause-reads
@@ -16,5 +18,8 @@ returns-clause-tells g c =
     rw (c.params-to_sql.ensures, c.get.ensures.value) at c.in_ok-rows.ensures.asks in
     module_artifacts_read c.args.module_number _ _ c.in_ok-rows.rows asked c.read_all.result (rw c.deref.ensures.value at c.read_all.ensures.ok)
 
+pub returns-clause-fails : goal.returns-clause-fails
+returns-clause-fails g c = all_fails listing _ (λ params row kept is. kept (inr (inr is))) _ c.in_ok-rows.ensures.stays.grows.failures c.in_ok-rows.rows c.read_all.result (rw c.deref.ensures.value at c.read_all.ensures.err) c.in_ok-rows.ensures.asks
+
 pub ask-requires : goal.ask-requires
-ask-requires g c = listing
+ask-requires g c = known listing

@@ -1,6 +1,7 @@
 use Rattle.std.proofs.Common.{[], ◌∷◌, Ok, pos}
 use Rattle.desk_store.proofs.Common.{Int, state, TakesFirst, MODULE_LOCKED}
 use Rattle.desk_store.proofs.SetCalls.{locked, locking}
+use Rattle.desk_store.proofs.Known.{known}
 use Rattle.desk_store.proofs.change.OpenChange.read_module_is_locked.Goals as goal
 
 pub returns-clause-reads : goal.returns-clause-reads
@@ -10,4 +11,4 @@ returns-clause-reads g c =
     rw c.is_some.ensures (locked c.args.number _ _ c.in_ok-row.row taken)
 
 pub first-requires : goal.first-requires
-first-requires g c = locking
+first-requires g c = known locking

@@ -1,6 +1,7 @@
 use Rattle.std.proofs.Common.{Ok}
 use Rattle.desk_store.proofs.Common.{state, TakesFirst, FIND_MODULE, words_of}
 use Rattle.desk_store.proofs.ModuleCalls.{finding, found}
+use Rattle.desk_store.proofs.Known.{known}
 use Rattle.desk_store.proofs.change.OpenChange.read_same_module.Goals as goal
 
 pub returns-clause-reads : goal.returns-clause-reads
@@ -10,4 +11,4 @@ returns-clause-reads g c =
     rw c.is_some.ensures (found c.args.label.now _ _ c.in_ok-row.row taken)
 
 pub first-requires : goal.first-requires
-first-requires g c = finding
+first-requires g c = known finding

@@ -1,6 +1,8 @@
 use Rattle.std.proofs.Common.{[], ◌∷◌, Ok}
 use Rattle.desk_store.proofs.Common.{Text, state, AsksText, LIST_TARGET_ATTRIBUTES}
 use Rattle.desk_store.proofs.AttributeCalls.{attributes_read, listing}
+use Rattle.desk_store.proofs.Known.{known}
+use Rattle.desk_store.proofs.FailLemmas.{all_fails}
 use Rattle.desk_store.proofs.change.OpenChange.read_target_attributes.Goals as goal
 
 pub returns-clause-reads : goal.returns-clause-reads
@@ -9,5 +11,8 @@ returns-clause-reads g c =
     rw (c.params-to_sql.ensures, c.as_str.ensures.value) at c.in_ok-rows.ensures.asks in
     attributes_read c.args.id.now _ _ c.in_ok-rows.rows asked c.read_attributes.result (rw c.deref.ensures.value at c.read_attributes.ensures.ok)
 
+pub returns-clause-fails : goal.returns-clause-fails
+returns-clause-fails g c = all_fails listing _ (λ params row kept is. kept is) _ c.in_ok-rows.ensures.stays.grows.failures c.in_ok-rows.rows c.read_attributes.result (rw c.deref.ensures.value at c.read_attributes.ensures.err) c.in_ok-rows.ensures.asks
+
 pub ask-requires : goal.ask-requires
-ask-requires g c = listing
+ask-requires g c = known listing
