@@ -1,6 +1,7 @@
 //! Devices by what they show.
 
 ghost use Rattle.std.specs.Prelude.{◌≡◌, false};
+ghost use Rattle.desk_reads.specs.AtLists.{FailsAtListsIn};
 ghost use Rattle.rollout_machine.specs.Verdicts.{is_known};
 ghost use Rattle.desk_store.specs.Counting.{AddsIn};
 ghost use Rattle.desk_store.specs.Changing.{FindsIn, KeepsTables, StaysIn};
@@ -17,6 +18,7 @@ pub fn knows_device<S: Alter>(
     ensures stays { StaysIn S.Store change.old change.new result }
     ensures keeps { KeepsTables S.Store change.old change.new result }
     ensures reads { FindsIn S.Store change.old change.new result (λ now known. known ≡ is_known now device.now) }
+    ensures fails { FailsAtListsIn S.Store change.old change.new result }
     ensures work { AddsIn 1 1 change.old change.new }
 {
     let found = change.read_target(&device.id)?;

@@ -8,7 +8,7 @@ ghost use Rattle.rollout_machine.specs.StateWords.{all_final, rollout_word, size
 ghost use Rattle.campaign_core.specs.RolloutChecks.{BothOrNone};
 ghost use Rattle.desk_records.specs.RolloutRow.{stored_rollout};
 ghost use Rattle.desk_reads.specs.Rollouts.{IsSeenOf, last_place};
-ghost use Rattle.desk_reads.specs.AtLists.{FindsAtListsIn};
+ghost use Rattle.desk_reads.specs.AtLists.{FailsAtListsIn, FindsAtListsIn};
 ghost use Rattle.desk_store.specs.Changing.{StaysIn};
 
 use campaign_core::{GroupStatus, RolloutStatus, rollout_word};
@@ -102,6 +102,7 @@ pub fn read_seen_rollout<S: Alter>(
 ) -> Result<Option<SeenRollout>, Fault>
     ensures stays { StaysIn S.Store change.old change.new result }
     ensures reads { FindsAtListsIn S.Store change.old change.new result (λ now found. BothOrNone IsSeenOf found (item_numbered now.rollouts number)) }
+    ensures fails { FailsAtListsIn S.Store change.old change.new result }
 {
     let stored = match change.read_rollout(number)? {
         Some(stored) => stored,
@@ -120,6 +121,7 @@ pub(crate) fn read_groups_of<S: Alter>(
     ensures stays { StaysIn S.Store change.old change.new result }
     ensures reads { FindsAtListsIn S.Store change.old change.new result
         (λ now seen. (x : RolloutRecord) → item_numbered now.rollouts number ≡ Some x → stored ≡ stored_rollout x → IsSeenOf seen x) }
+    ensures fails { FailsAtListsIn S.Store change.old change.new result }
 {
     let groups = change.read_groups(number)?;
     Ok(seen_as(number, stored, groups))

@@ -1,6 +1,7 @@
 //! Targets with their tags and attributes.
 
 ghost use Rattle.std.specs.Prelude.{◌≡◌, false, MatchResult};
+ghost use Rattle.desk_reads.specs.AtLists.{FailsAtListsIn};
 ghost use Rattle.rollout_model.specs.Rules.{is_tag_list};
 ghost use Rattle.sql_calls.specs.declared.fault.Fault.TheVariants.{Store};
 ghost use Rattle.desk_reads.specs.Targets.{target_listed};
@@ -17,6 +18,7 @@ pub fn read_listed<S: Alter>(
 ) -> Result<Target, Fault>
     ensures stays { StaysIn S.Store change.old change.new result }
     ensures reads { FindsIn S.Store change.old change.new result (λ now target. target ≡ target_listed now listed) }
+    ensures fails { FailsAtListsIn S.Store change.old change.new result }
 {
     let words = change.read_target_tags(&listed.id)?;
     let attributes = change.read_target_attributes(&listed.id)?;

@@ -14,7 +14,7 @@ use Rattle.std.specs.Option.{unwrap_or}
 use Rattle.desk_records.proofs.HeldTables.{rows_of}
 use Rattle.desk_records.proofs.Membership.{has_mapped, has_permuted}
 use Rattle.desk_store.specs.Changing.{FindsLedger}
-use Rattle.desk_store.specs.Failing.{CountsIn, FailsIn, HasCall, Sight}
+use Rattle.desk_store.specs.Failing.{CountsIn, FailsGiven, FailsIn, HasCall, Sight}
 use Rattle.desk_records.specs.declared.texts.TheConstants.{GET_DESK}
 use Rattle.desk_records.proofs.DeskRecords.{gets_desk, told_desk}
 use Rattle.desk_records.proofs.NumberColumns.{small_is}
@@ -42,7 +42,7 @@ module _ {S : Type 0} {g : Ghosts S} {old new : OpenChange S} where
   pub call_fails : {A : Type 0} (out : Result A Fault) → new.store.now.calls.failures ≡ fails (failures_in out) old.store.now.calls.failures
       → ((x : A) → out ≡ Ok x → (l : Ledger) → Sees HoldsLedger (seen_in g old) l → Sees HoldsLedger (seen_in g new) l) → FailsIn g old new out
   call_fails (Ok x) counted keeps = record { to = λ sight was. record { sees = keeps x refl sight.ledger was.sees; before = record { failures = omega (arith, was.before.failures, counted) } } }
-  call_fails (Err fault) counted keeps = record { to = λ sight was. has_call fault counted sight.failed was.before }
+  call_fails (Err fault) counted keeps = record { to = λ sight was given. has_call fault counted sight.failed was.before }
 
   pub call_counts : {A : Type 0} (out : Result A Fault) → new.store.now.calls.failures ≡ fails (failures_in out) old.store.now.calls.failures → CountsIn g old new out
   call_counts (Ok x) counted = record { to = λ failed was. record { failures = omega (arith, was.failures, counted) } }
@@ -50,19 +50,19 @@ module _ {S : Type 0} {g : Ghosts S} {old new : OpenChange S} where
 
 -- ---- by what was found
 
-module _ {S A B : Type 0} {g : Ghosts S} {old new : OpenChange S} {x : A} {P : Ledger → A → Type 0} where
+module _ {S A B : Type 0} {g : Ghosts S} {Given : Ledger → Type 0} {old new : OpenChange S} {x : A} {P : Ledger → A → Type 0} where
   -- where no call failed: what was found leaves no such fault
   pub fails_never : FindsLedger g {E = Fault} old new (Ok x) P → old.store.now.calls.failures ≤ new.store.now.calls.failures
-      → (out : Result B Fault) → IfErr out (λ fault. IfStore fault ((l : Ledger) → P l x → IsReadable l → ⊥)) → FailsIn g old new out
+      → (out : Result B Fault) → IfErr out (λ fault. IfStore fault ((l : Ledger) → P l x → IsReadable l → Given l → ⊥)) → FailsGiven g Given old new out
   fails_never read grows (Ok y) why = record { to = λ sight was. record { sees = (read.finds sight.ledger was.sees).0; before = record { failures = omega (arith, was.before.failures, grows) } } }
-  fails_never read grows (Err Memory) why = record { to = λ sight was. record { call = λ is clean. absurd cc } }
-  fails_never read grows (Err Store) why = record { to = λ sight was. record { call = λ is clean. absurd (why sight.ledger ((read.finds sight.ledger was.sees).1 clean) sight.readable) } }
+  fails_never read grows (Err Memory) why = record { to = λ sight was given. record { call = λ is clean. absurd cc } }
+  fails_never read grows (Err Store) why = record { to = λ sight was given. record { call = λ is clean. absurd (why sight.ledger ((read.finds sight.ledger was.sees).1 clean) sight.readable given) } }
 
 -- where what was found leaves no such fault
-told_never : {B : Type 0} (Why : Type 0) (out : Result B Fault) → IfErr out (λ fault. IfStore fault Why) → IfErr out (λ fault. IfStore fault ((l : Ledger) → (IsReadable l → Why → ⊥) → IsReadable l → ⊥))
+told_never : {B : Type 0} (Why : Type 0) (out : Result B Fault) → IfErr out (λ fault. IfStore fault Why) → IfErr out (λ fault. IfStore fault ((l : Ledger) → (IsReadable l → Why → ⊥) → IsReadable l → Unit {0} → ⊥))
 told_never Why (Ok y) is = tt
 told_never Why (Err Memory) is = tt
-told_never Why (Err Store) is = λ l said readable. said readable is
+told_never Why (Err Store) is = λ l said readable given. said readable is
 
 -- ---- by the rows of one table
 

@@ -27,13 +27,18 @@ module _ {S : Type 0} (g : Ghosts S) where
   pub record HasCall (change : OpenChange S) (failed : ℕ) (fault : Fault) : Type 0 where
     pub call : fault ≡ Store → HasCleanDisk (seen_in g change) → HasFailed failed change.store.now.calls.failures
 
-  abbrev pub FailsTo : {A : Type 0} → OpenChange S → OpenChange S → Result A Fault → Type 0
-  FailsTo old new (Ok a) = (sight : Sight) → HasSight old sight → HasSight new sight
-  FailsTo old new (Err fault) = (sight : Sight) → HasSight old sight → HasCall new sight.failed fault
+  module _ (Given : Ledger → Type 0) where
+    abbrev pub FailsTo : {A : Type 0} → OpenChange S → OpenChange S → Result A Fault → Type 0
+    FailsTo old new (Ok a) = (sight : Sight) → HasSight old sight → HasSight new sight
+    FailsTo old new (Err fault) = (sight : Sight) → HasSight old sight → Given sight.ledger → HasCall new sight.failed fault
 
-  -- what reads: at Ok the ledger stays as it is, and where it can be read, a failed store is a call that failed
-  pub record FailsIn {A : Type 0} (old new : OpenChange S) (result : Result A Fault) : Type 0 where
-    pub to : FailsTo old new result
+    -- What reads: at Ok the ledger stays as it is. Where it can be read, and is as given, a failed store is a call that failed.
+    pub record FailsGiven {A : Type 0} (old new : OpenChange S) (result : Result A Fault) : Type 0 where
+      pub to : FailsTo old new result
+
+  -- whatever it is
+  abbrev pub FailsIn : {A : Type 0} → OpenChange S → OpenChange S → Result A Fault → Type 0
+  FailsIn = FailsGiven (λ l. Unit {0})
 
   abbrev pub CountsTo : {A : Type 0} → OpenChange S → OpenChange S → Result A Fault → Type 0
   CountsTo old new (Ok a) = (failed : ℕ) → FailedBefore g old failed → FailedBefore g new failed
