@@ -24,4 +24,5 @@ mod RawPieces
 mod RawActionCalls
 pub mod BlameLemmas
 pub mod FailLemmas
+mod RowFails
 mod RawBlames

@@ -1,4 +1,4 @@
--- Ledgers that can be read: no row of their tables breaks the rule of a column, and their rows can be counted.
+-- Ledgers that can be read: no row of their tables breaks the rule of a column, and their targets can be counted.
 use Rattle.std.specs.Prelude.{◌≡◌, ◌<◌, ◌^◌, ◌⊎◌, false, List, [], ◌∷◌, length, None}
 use Rattle.sqlite_value.specs.Order.{Row, column}
 use Rattle.sqlite_rules.specs.Lists.{Has}
@@ -67,7 +67,7 @@ BreaksColumn Offers row = BreaksRule (broken_offer_column (offer_shown row))
 BreaksColumn Rules row = BreaksRule (broken_rule_column (rule_shown row))
 BreaksColumn Numbers row = BreaksRule (broken_number_column (number_shown row)) ⊎ BreaksRule (broken_last_number_column (placed_shown row))
 
--- none does, and no table has more rows than 32 bits count
+-- none does, and there are no more targets than 32 bits count
 pub record IsReadable (l : Ledger) : Type 0 where
   pub keep : (p : Place) (rows : List Row) → IsHeld l p rows → (row : Row) → Has rows row → BreaksColumn p row → ⊥
-  pub few : (p : Place) (rows : List Row) → IsHeld l p rows → length rows < 2 ^ 32
+  pub few : (rows : List Row) → IsHeld l Targets rows → length rows < 2 ^ 32
