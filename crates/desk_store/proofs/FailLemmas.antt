@@ -1,6 +1,6 @@
 -- Why a call over a ledger that can be read is no failed store by itself.
-use Rattle.std.proofs.Common.{◌≡◌, ◌⊎◌, ◌≤◌, ◌<◌, ◌^◌, min, length, codes, ◌+◌, ◌-◌, ℕ, pos, Bool, true, false, zero, suc, inl, inr, nat_lt, List, [], ◌∷◌, take, drop, filter, map, Option, Some, None, Ok, Err, Result, IfErr, Vec, refl, sym, ap, subst, ◌∙◌, arith}
-use Rattle.desk_store.proofs.Common.{is_some, Global, Select, Schema, Means, count_query, Stands, Place, name_of, table_at, flag_in, Value, Null, Int, Row, column, has_size, small_number, HasNoNumber, Query, Output, page, Database, Term, Ghosts, Has, has_filtered, Fault, Memory, Store, AsksFew, AsksText, TakesFirst, ShowsFirst, first_finds, ask_finds, few_finds, IsOrdered, by, ordered_rows, passes, shown_in, shown_of, simple, HoldsLedger, Ledger, HoldsTables, Tables, IfStore, HasBroken, seen_in, OpenChange}
+use Rattle.std.proofs.Common.{◌≡◌, ◌≤◌, ◌^◌, ◌+◌, ◌-◌, ℕ, Bool, true, false, zero, suc, inl, inr, nat_lt, List, [], ◌∷◌, take, drop, filter, map, Option, Some, None, Ok, Err, Result, IfErr, Vec, refl, sym, ap, subst, ◌∙◌, arith}
+use Rattle.desk_store.proofs.Common.{Global, Null, Row, Query, Output, page, Database, Term, Ghosts, Has, has_filtered, Fault, Memory, Store, AsksFew, AsksText, TakesFirst, ShowsFirst, first_finds, ask_finds, few_finds, IsOrdered, by, ordered_rows, passes, shown_in, shown_of, simple, HoldsLedger, Ledger, HoldsTables, Tables, IfStore, HasBroken, seen_in, OpenChange}
 use Rattle.sqlite.specs.Effect.{Reads as Shows}
 use Rattle.std.proofs.lemmas.Bool.Decides.{nat_tests}
 use Rattle.sql_calls.specs.Calls.{capped, failures_in, failures_of, fails}
@@ -14,7 +14,7 @@ use Rattle.std.specs.Option.{unwrap_or}
 use Rattle.desk_records.proofs.HeldTables.{rows_of}
 use Rattle.desk_records.proofs.Membership.{has_mapped, has_permuted}
 use Rattle.desk_store.specs.Changing.{FindsLedger}
-use Rattle.desk_store.specs.Failing.{CountsIn, FailsGiven, FailsIn, HasCall, Sight}
+use Rattle.desk_store.specs.Failing.{CountsIn, FailsGiven, FailsIn, HasCall}
 use Rattle.desk_store.specs.Readable.{BreaksColumn, IsReadable}
 use Rattle.desk_store.specs.Rows.{IsBroken}
 use Rattle.desk_store.proofs.Known.{OneTable, in_ledgers, known}

@@ -14,7 +14,6 @@ pub mod ActionCalls
 pub mod NumberCalls
 pub mod WriteCalls
 pub mod LedgersOfRecords
-pub mod CountingLemmas
 mod NextOfferCalls
 pub mod GroupOfferCalls
 mod RawCalls
