@@ -52,7 +52,8 @@ module _ {S : Type 0} (g : Ghosts S) where
   module _ (Given : Ledger → Type 0) where
     abbrev pub FailsSeeingTo : {A : Type 0} → OpenChange S → OpenChange S → Result A Fault → Type 0
     FailsSeeingTo old new (Ok a) = Unit {0}
-    FailsSeeingTo old new (Err fault) = (l : Ledger) → Sees HoldsLedger (seen_in g old) l → Given l → (failed : ℕ) → FailedBefore g old failed → HasCall new failed fault
+    FailsSeeingTo old new (Err fault) =
+        (l : Ledger) → Sees HoldsLedger (seen_in g old) l → Given l → (failed : ℕ) → FailedBefore g old failed → HasCall new failed fault
 
     -- what reads: where a ledger is as given, a failed store is a call that failed, whether or not all of it can be read
     pub record FailsSeeing {A : Type 0} (old new : OpenChange S) (result : Result A Fault) : Type 0 where
