@@ -15,12 +15,12 @@ use Rattle.rollout_desk.specs.Desks.{desk_state_at}
 use Rattle.rollout_desk.specs.declared.desk.Desk.{Desk}
 
 module _ {S : Type 0} (g : Ghosts S) where
-  -- Where the calls' records are those of a list, whose histories are counted, and the disk is clean.
+  -- Of a store that stands for a list whose histories are counted, on a clean disk.
   abbrev pub FailsByCalls : Calls S → Calls S → Type 0
-  FailsByCalls old new = (h : CommandList) → HasCleanDisk (state g new.conn) → AreCounted (records h) → StandsFor (desk_state_at HoldsRecords false (state g old.conn)) h
-      → HasFailed old.failures new.failures
+  FailsByCalls old new = (h : CommandList) → HasCleanDisk (state g new.conn) → AreCounted (records h)
+      → StandsFor (desk_state_at HoldsRecords false (state g old.conn)) h → HasFailed old.failures new.failures
 
-  -- The same of a desk that stands for the list.
+  -- the same of a desk
   abbrev pub FailsByCall : Desk S → Desk S → Type 0
   FailsByCall old new = (h : CommandList) → (desk_state g new).is_clean → AreCounted (records h) → StandsFor (desk_state g old) h
       → HasFailed old.store.calls.failures new.store.calls.failures
