@@ -5,3 +5,5 @@ pub mod RuleLemmas
 pub mod ListedTargets
 pub mod KnownDevices
 pub mod HistoryKept
+pub mod TargetRules
+pub mod ListFailLemmas
