@@ -7,3 +7,6 @@ pub mod KnownDevices
 pub mod HistoryKept
 pub mod TargetRules
 pub mod ListFailLemmas
+pub mod ReadableRows
+pub mod LabelRules
+pub mod ReadableArtifacts
