@@ -10,3 +10,5 @@ pub mod ListFailLemmas
 pub mod ReadableRows
 pub mod LabelRules
 pub mod ReadableArtifacts
+pub mod ListMembers
+pub mod ReadableTargets

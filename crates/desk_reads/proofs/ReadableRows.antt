@@ -1,12 +1,15 @@
 -- What the rows of a table are made of where a ledger is held, and when a row breaks no column.
-use Rattle.std.proofs.Common.{◌≡◌, ◌<◌, ◌^◌, ℕ, suc, pos, Bool, true, false, List, ◌∷◌, slice_get, Option, Some, None, true≢false, sym, ap, subst, ◌∙◌, arith}
+use Rattle.std.proofs.Common.{◌≡◌, inl, inr, ◌<◌, ◌^◌, ℕ, suc, pos, Bool, true, false, List, [], ◌∷◌, map, slice_get, Option, Some, None, true≢false, refl, sym, ap, subst, ◌∙◌, arith}
 use Rattle.desk_reads.proofs.Common.{Records, ledger_of}
+use Rattle.std.specs.List.{flat_map}
 use Rattle.std.specs.Option.{is_some}
+use Rattle.sqlite_rules.proofs.ListLemmas.{has_either}
 use Rattle.sqlite_rules.specs.Lists.{Has}
 use Rattle.sqlite_value.specs.Order.{Row}
 use Rattle.sqlite_value.specs.declared.value.Value.TheVariants.{Int}
 use Rattle.sql_calls.specs.Keyed.{IsHeldBy, rows_from}
 use Rattle.desk_records.proofs.HeldTables.{numbered, of_part, wanted_of}
+use Rattle.desk_records.proofs.Membership.{has_mapped}
 use Rattle.desk_records.proofs.NumberColumns.{is_small}
 use Rattle.desk_records.specs.ArtifactRow.{has_size}
 use Rattle.desk_records.specs.Holds.{IsHeld}
@@ -15,6 +18,13 @@ use Rattle.desk_records.specs.RowFaults.{BreaksRule}
 use Rattle.desk_records.specs.Schema.{Place}
 use Rattle.desk_records.specs.declared.module_row.Column.{Column}
 use Rattle.desk_store.specs.Readable.{BreaksColumn}
+
+has_flat : {X Y : Type 0} (f : X → List Y) (xs : List X) (y : Y) → Has (flat_map f xs) y → (x : X) × Has xs x × Has (f x) y
+has_flat f [] y among = absurd among
+has_flat f (x ∷ xs) y among = elim (has_either (f x) (flat_map f xs) y among) [
+  | inl here ↦ (x, inl refl, here)
+  | inr later ↦ (let it = has_flat f xs y later in (it.0, inr it.1, it.2))
+]
 
 -- ---- what is so of each row
 
@@ -43,6 +53,21 @@ module _ (P : Row → Type 0) where
           let place : item.at ≡ suc item.index = (let k = item.at_is in omega (arith, k)) in
           let own : x ≡ f (suc of.index) (suc item.index) item.one = item.is ∙ ap (λ k. f k item.at item.one) at ∙ ap (λ k. f (suc of.index) k item.one) place in
           subst (λ (z : Row). P (Int (pos n) ∷ z)) (sym own) (each n of.index item.index of.whole item.one of.got item.got)
+
+  -- .. that are made of a list
+  pub of_mapped : {X : Type 0} (f : X → Row) (xs : List X) (rows : List Row) → IsHeldBy rows (map f xs) → ((n : ℕ) (x : X) → Has xs x → P (Int (pos n) ∷ f x)) → (row : Row) → Has rows row → P row
+  of_mapped f xs rows held each = of_unordered (map f xs) rows held (λ n y among. let source = has_mapped f xs y among in subst (λ (z : Row). P (Int (pos n) ∷ z)) (sym source.2) (each n source.0 source.1))
+
+  -- .. of the lists that each of a list has
+  pub of_lists : {X Y : Type 0} (f : X → Y → Row) (items : X → List Y) (xs : List X) (rows : List Row) → IsHeldBy rows (flat_map (λ x. map (f x) (items x)) xs)
+      → ((n : ℕ) (x : X) (y : Y) → Has xs x → Has (items x) y → P (Int (pos n) ∷ f x y)) → (row : Row) → Has rows row → P row
+  of_lists f items xs rows held each = of_unordered (flat_map (λ x. map (f x) (items x)) xs) rows held one
+    where
+      one : (n : ℕ) (row : Row) → Has (flat_map (λ x. map (f x) (items x)) xs) row → P (Int (pos n) ∷ row)
+      one n row among =
+          let its = has_flat (λ x. map (f x) (items x)) xs row among in
+          let source = has_mapped (f its.0) (items its.0) row its.2 in
+          subst (λ (z : Row). P (Int (pos n) ∷ z)) (sym source.2) (each n its.0 source.0 its.1 source.1)
 
 -- ---- rows that break no column
 
