@@ -12,3 +12,5 @@ pub mod LabelRules
 pub mod ReadableArtifacts
 pub mod ListMembers
 pub mod ReadableTargets
+pub mod PlanRules
+pub mod ReadableRollouts

@@ -1,5 +1,5 @@
 -- The tables of modules, sets and artifacts can be read where records of accepted commands are held.
-use Rattle.std.proofs.Common.{◌≡◌, inl, inr, ◌<◌, ◌^◌, ◌&&◌, List, [], ◌∷◌, subst, ℕ, suc, pos, Bool, true, false, slice_get, Some, None, true≢false, refl, sym, ap, ◌∙◌, arith}
+use Rattle.std.proofs.Common.{◌≡◌, inl, inr, ◌<◌, ◌^◌, ◌&&◌, List, [], ◌∷◌, subst, ℕ, suc, pos, Bool, true, slice_get, Some, None, true≢false, refl, sym, ap, ◌∙◌, arith}
 use Rattle.desk_reads.proofs.Common.{and_parts, CommandList, IsValid}
 use Rattle.std.proofs.lemmas.List.Elements.{All-contains}
 use Rattle.std.specs.List.{list_all}
@@ -15,26 +15,20 @@ use Rattle.desk_records.specs.ArtifactRow.{broken_artifact_column, broken_stored
 use Rattle.desk_records.specs.Artifacts.{artifact_row, piece_row, pieces_in}
 use Rattle.desk_records.specs.Holds.{desk_row, module_row}
 use Rattle.desk_records.specs.ModuleRow.{broken_column}
-use Rattle.desk_records.specs.Rollouts.{flag}
 use Rattle.desk_records.specs.Schema.{Artifacts, Desk, Modules, Pieces, SetModules, Sets}
 use Rattle.desk_records.specs.SetRow.{broken_set_column}
 use Rattle.desk_records.specs.Sets.{place_row, set_row}
 use Rattle.desk_records.specs.TableRows.{artifact_shown}
 use Rattle.desk_records.specs.Versions.{newest}
-use Rattle.desk_records.specs.Codes.{flag_in}
 use Rattle.desk_store.specs.RawLists.{listed_shown}
 use Rattle.desk_store.specs.Readable.{BreaksColumn, label_shown, third_shown}
 use Rattle.sqlite_rules.specs.Lists.{Has}
 use Rattle.sqlite_value.specs.Order.{Row}
 use Rattle.sqlite_value.specs.declared.value.Value.TheVariants.{Int}
 use Rattle.desk_reads.proofs.LabelRules.{few_modules, few_sets, labels_keep, sets_keep}
-use Rattle.desk_reads.proofs.ReadableRows.{Keeps, fails_not, is_sized, of_ordered, of_parts, unbroken}
+use Rattle.desk_reads.proofs.ReadableRows.{Keeps, fails_not, flag_is, is_sized, of_ordered, of_parts, unbroken}
 
 -- ---- the desk
-
-pub flag_is : (b : Bool) → flag_in (Int (pos (flag b))) ≡ Some b
-flag_is true = refl
-flag_is false = refl
 
 desk_is_told : (b : Bool) → BreaksColumn Desk (desk_row newest b) → ⊥
 desk_is_told b none = let told : Some b ≡ None = sym (flag_is b) ∙ none in absurd cc
