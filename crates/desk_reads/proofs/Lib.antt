@@ -14,3 +14,5 @@ pub mod ListMembers
 pub mod ReadableTargets
 pub mod PlanRules
 pub mod ReadableRollouts
+pub mod HistoryRules
+pub mod ReadableActions
