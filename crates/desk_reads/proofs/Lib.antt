@@ -16,3 +16,4 @@ pub mod PlanRules
 pub mod ReadableRollouts
 pub mod HistoryRules
 pub mod ReadableActions
+pub mod ReadableRecords
