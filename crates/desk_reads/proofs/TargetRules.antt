@@ -136,10 +136,10 @@ room h u x accepted new =
     elim (found_target h u (target_ids h)) [
       | inl none ↦ absurd (true≢false (sym (ap is_none none) ∙ row.0))
       | inr some ↦ (
-        let there : (not (contains_word x (tags_in u h)) && nat_le tag_limit (length (tags_in u h))) ≡ false = sym (ap (λ o. not (contains_word x (tags_of o)) && nat_le tag_limit (length (tags_of o))) some) ∙ row.1.0 in
-        let full : nat_le tag_limit (length (tags_in u h)) ≡ false = ap (λ b. not b && nat_le tag_limit (length (tags_in u h))) (sym new) ∙ there in
-        leb-false tag_limit (length (tags_in u h)) full
-        )
+          let there : (not (contains_word x (tags_in u h)) && nat_le tag_limit (length (tags_in u h))) ≡ false = sym (ap (λ o. not (contains_word x (tags_of o)) && nat_le tag_limit (length (tags_of o))) some) ∙ row.1.0 in
+          let full : nat_le tag_limit (length (tags_in u h)) ≡ false = ap (λ b. not b && nat_le tag_limit (length (tags_in u h))) (sym new) ∙ there in
+          leb-false tag_limit (length (tags_in u h)) full
+          )
     ]
 
 -- ---- the law
