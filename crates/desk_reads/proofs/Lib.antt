@@ -8,6 +8,7 @@ pub mod HistoryKept
 pub mod TargetRules
 pub mod ListFailLemmas
 pub mod ReadableRows
+pub mod CodeLemmas
 pub mod LabelRules
 pub mod ReadableArtifacts
 pub mod ListMembers

@@ -1,11 +1,6 @@
 -- The plans of accepted commands: each is well formed, and leaves no group of its members empty.
-use Rattle.std.proofs.Common.{◌≡◌, ◌≤◌, ◌^◌, ℕ, pos, true, false, length, nat_le, nat_lt, Some, None, refl, sym, ap, subst, arith}
+use Rattle.std.proofs.Common.{◌≡◌, ℕ, true, false, length, Some, None, refl, sym, ap, subst}
 use Rattle.desk_reads.proofs.Common.{option_map, and_parts, item_numbered, CommandList, IsValid, RolloutRecord}
-use Rattle.std.proofs.lemmas.Bool.{leb-true}
-use Rattle.std.proofs.lemmas.Bool.Decides.{nat_tests}
-use Rattle.sqlite_value.specs.declared.value.Value.TheVariants.{Int}
-use Rattle.rollout_model.specs.Limits.{percentage_limit}
-use Rattle.rollout_model.specs.Rules.{is_percentage}
 use Rattle.rollout_machine.proofs.AtNumbers.{of_rollout}
 use Rattle.rollout_machine.proofs.Groupings.{each_rule}
 use Rattle.rollout_machine.proofs.Valid.{NoneHolds, none_holds}
@@ -17,9 +12,9 @@ use Rattle.rollout_machine.specs.Groupings.{leaves_empty}
 use Rattle.rollout_machine.specs.Records.{records}
 use Rattle.rollout_machine.specs.Rollouts.{Rollout, members_of, size_of}
 use Rattle.rollout_machine.specs.Verdicts.{verdict, verdict_row}
-use Rattle.desk_records.specs.Codes.{percentage_in}
 use Rattle.desk_records.specs.Rollouts.{told_rule}
 use Rattle.desk_records.specs.RuleRow.{IsRuleRow}
+use Rattle.desk_reads.proofs.CodeLemmas.{percentage_is}
 
 -- ---- plans
 
@@ -38,12 +33,6 @@ pub plans_are : (h : CommandList) → IsValid h → (r : ℕ) (y : RolloutRecord
 plans_are h valid r y e = let of = of_rollout h r y e in subst (λ (z : RolloutRecord). IsPlanned z.plan (length z.members)) (sym of.is) (each_created IsPlannedRollout new_is_planned h valid r of.rollout of.there)
 
 -- ---- the rules of a plan, as rows say them
-
-pub percentage_is : (p : ℕ) → is_percentage p ≡ true → percentage_in (Int (pos p)) ≡ Some p
-percentage_is p good =
-    let high : p ≤ percentage_limit = leb-true p percentage_limit (and_parts (nat_le 1 p) (nat_le p percentage_limit) good).1 in
-    let few : nat_lt p (2 ^ 32) ≡ true = grind (arith, nat_tests, high) in
-    rw (few, good) refl
 
 pub rule_told : (plan : RolloutPlan) (i : ℕ) → is_plan plan ≡ true → IsRuleRow (told_rule (rule_at plan i)) (rule_at plan i)
 rule_told plan i formed =

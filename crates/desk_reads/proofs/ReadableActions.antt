@@ -1,7 +1,6 @@
 -- The tables of actions, histories, offers and numbers can be read where records of accepted commands are held that can be counted.
-use Rattle.std.proofs.Common.{◌≡◌, inl, inr, ◌≤◌, ◌<◌, ◌^◌, ℕ, zero, suc, pos, true, false, List, [], ◌∷◌, length, map, nat_eq, nat_lt, slice_get, unwrap_or, zip, Option, Some, None, refl, sym, ap, subst, ◌∙◌, arith}
+use Rattle.std.proofs.Common.{◌≡◌, inl, inr, ◌≤◌, ◌<◌, ◌^◌, ℕ, zero, suc, pos, true, List, [], ◌∷◌, length, map, slice_get, unwrap_or, zip, Option, Some, None, refl, sym, ap, subst, ◌∙◌, arith}
 use Rattle.desk_reads.proofs.Common.{item_numbered, CommandList, IsValid}
-use Rattle.std.proofs.lemmas.Bool.Decides.{nat_tests}
 use Rattle.std.proofs.lemmas.List.{length-map}
 use Rattle.std.proofs.lemmas.List.Sums.{count_by-le-length, length-filter}
 use Rattle.std.specs.List.{list_all}
@@ -15,27 +14,25 @@ use Rattle.rollout_machine.proofs.Offers.{offered_one}
 use Rattle.rollout_machine.proofs.TargetTies.{same_refl}
 use Rattle.rollout_machine.proofs.WithinLimits.{limits_hold}
 use Rattle.rollout_machine.specs.CommandRules.{is_feedback_number_or_none}
-use Rattle.rollout_machine.specs.Commands.{Bytes, CancelWord, CanceledCancel, ClosedCancel, DeploymentWord, Failed, Noted, NotedCancel, Proceeding, Rejected, RejectedCancel, Resumed, Scheduled, Succeeded}
+use Rattle.rollout_machine.specs.Commands.{Bytes}
 use Rattle.rollout_machine.specs.Kinds.{TargetOffer, offer_to}
 use Rattle.rollout_machine.specs.MemberActions.{IsOfMember}
 use Rattle.rollout_machine.specs.Offers.{offer}
 use Rattle.rollout_machine.specs.Records.{records}
-use Rattle.rollout_machine.specs.Reports.{HistoryEntry, OfCancel, OfDeployment, Said, entries_in}
+use Rattle.rollout_machine.specs.Reports.{HistoryEntry, entries_in}
 use Rattle.rollout_machine.specs.StateWords.{member_at}
 use Rattle.rollout_machine.specs.Verdicts.{is_note, notes_of}
 use Rattle.rollout_machine.specs.WithinLimits.{AreWithinLimits, IsWithinLimits}
-use Rattle.rollout_machine.specs.declared.outcome.Outcome.{Outcome}
-use Rattle.rollout_machine.specs.declared.outcome.Outcome.TheVariants.{Bad, Gone, Good}
 use Rattle.rollout_machine.specs.declared.records.ActionRecord.{ActionRecord}
 use Rattle.rollout_model.specs.Rules.{is_feedback_number, is_number, is_word}
 use Rattle.rollout_model.specs.declared.rollout.Offer.{Offer}
 use Rattle.desk_records.proofs.HeldCounts.{has_place, place_within}
 use Rattle.desk_records.proofs.Membership.{has_mapped}
 use Rattle.desk_records.proofs.NumberColumns.{is_in_range, is_number_in}
-use Rattle.desk_records.specs.Actions.{Tally, action_row, actor_of, entries_of, entry_row, history_of, kind_code, outcome_code, tally_of, told_entry, word_code}
+use Rattle.desk_records.specs.Actions.{Tally, action_row, actor_of, entries_of, entry_row, history_of, tally_of, told_entry}
 use Rattle.desk_records.specs.ArtifactRow.{has_size}
-use Rattle.desk_records.specs.Codes.{feedback_number_in, first_broken, flag_in, number_in, outcome_in, place_in}
-use Rattle.desk_records.specs.EntryRow.{BreaksEntry, broken_word, keeps_details, said_by}
+use Rattle.desk_records.specs.Codes.{feedback_number_in, first_broken, number_in, place_in}
+use Rattle.desk_records.specs.EntryRow.{BreaksEntry, broken_word, keeps_details}
 use Rattle.desk_records.specs.FeedbackNumbers.{number_row, numbers_of}
 use Rattle.desk_records.specs.Offers.{HoldsOffers, is_to, offer_row}
 use Rattle.desk_records.specs.RolloutRow.{IsActionRow, broken_action_column, broken_listed_action_column, broken_offer_column, stored_action}
@@ -49,49 +46,11 @@ use Rattle.desk_records.specs.declared.number_row.PlacedNumber.{PlacedNumber}
 use Rattle.desk_records.specs.declared.rollout_row.StoredAction.{StoredAction}
 use Rattle.desk_store.specs.Readable.{BreaksColumn, placed_shown}
 use Rattle.desk_reads.specs.Counted.{AreCounted}
+use Rattle.desk_reads.proofs.CodeLemmas.{feedback_number_is, flag_is, is_sized, kind_is, outcome_is, place_is, said_is}
 use Rattle.desk_reads.proofs.HistoryKept.{details_kept}
 use Rattle.desk_reads.proofs.HistoryRules.{few_numbers, is_borne, keeps_number, numbers_kept}
 use Rattle.desk_reads.proofs.ListMembers.{member_ids}
-use Rattle.desk_reads.proofs.ReadableRows.{Keeps, fails_not, few_is, flag_is, is_sized, of_mapped, of_ordered, of_parts, unbroken}
-
--- ---- codes
-
-outcome_is : (o : Option Outcome) → outcome_in (Int (pos (outcome_code o))) ≡ Some o
-outcome_is None = refl
-outcome_is (Some Good) = refl
-outcome_is (Some Bad) = refl
-outcome_is (Some Gone) = refl
-
-deployment_is : (w : DeploymentWord) → said_by (Some false) (Int (pos (word_code (OfDeployment w)))) ≡ Some (OfDeployment w)
-deployment_is Succeeded = refl
-deployment_is Failed = refl
-deployment_is Rejected = refl
-deployment_is (Noted Proceeding) = refl
-deployment_is (Noted Scheduled) = refl
-deployment_is (Noted Resumed) = refl
-
-cancel_is : (w : CancelWord) → said_by (Some true) (Int (pos (word_code (OfCancel w)))) ≡ Some (OfCancel w)
-cancel_is ClosedCancel = refl
-cancel_is CanceledCancel = refl
-cancel_is RejectedCancel = refl
-cancel_is (NotedCancel Proceeding) = refl
-cancel_is (NotedCancel Scheduled) = refl
-cancel_is (NotedCancel Resumed) = refl
-
--- the row of an entry says what was said
-said_is : (s : Said) → said_by (flag_in (Int (pos (kind_code s)))) (Int (pos (word_code s))) ≡ Some s
-said_is (OfDeployment w) = deployment_is w
-said_is (OfCancel w) = cancel_is w
-
-kind_is : (s : Said) → is_some (flag_in (Int (pos (kind_code s)))) ≡ true
-kind_is (OfDeployment w) = refl
-kind_is (OfCancel w) = refl
-
-place_is : (n : ℕ) → 1 ≤ n → n < 2 ^ 32 → place_in (Int (pos n)) ≡ Some n
-place_is n low few = let some : nat_eq n 0 ≡ false = grind (arith, nat_tests, low) in rw (few_is n few, some) refl
-
-feedback_number_is : (n : ℕ) → is_feedback_number n ≡ true → feedback_number_in (Int (pos n)) ≡ Some n
-feedback_number_is n good = let few : nat_lt n (2 ^ 32) ≡ true = grind (arith, nat_tests, good) in rw (few, good) refl
+use Rattle.desk_reads.proofs.ReadableRows.{Keeps, fails_not, of_mapped, of_ordered, of_parts, unbroken}
 
 -- ---- places in lists
 

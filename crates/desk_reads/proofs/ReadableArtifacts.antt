@@ -25,8 +25,9 @@ use Rattle.desk_store.specs.Readable.{BreaksColumn, label_shown, third_shown}
 use Rattle.sqlite_rules.specs.Lists.{Has}
 use Rattle.sqlite_value.specs.Order.{Row}
 use Rattle.sqlite_value.specs.declared.value.Value.TheVariants.{Int}
+use Rattle.desk_reads.proofs.CodeLemmas.{flag_is, is_sized}
 use Rattle.desk_reads.proofs.LabelRules.{few_modules, few_sets, labels_keep, sets_keep}
-use Rattle.desk_reads.proofs.ReadableRows.{Keeps, fails_not, flag_is, is_sized, of_ordered, of_parts, unbroken}
+use Rattle.desk_reads.proofs.ReadableRows.{Keeps, fails_not, of_ordered, of_parts, unbroken}
 
 -- ---- the desk
 

@@ -1,7 +1,6 @@
 -- The tables of rollouts, groups and rules can be read where records of accepted commands are held.
-use Rattle.std.proofs.Common.{◌≡◌, inl, inr, ◌≤◌, ◌<◌, ◌^◌, ◌&&◌, ℕ, suc, ◌+◌, ◌-◌, pos, Bool, true, false, List, [], ◌∷◌, length, map, nat_lt, slice_get, Some, None, refl, sym, ap, subst, arith}
+use Rattle.std.proofs.Common.{◌≡◌, inl, inr, ◌≤◌, ◌<◌, ◌&&◌, ℕ, suc, ◌+◌, ◌-◌, pos, true, List, ◌∷◌, length, map, slice_get, Some, None, refl, sym, ap, subst, arith}
 use Rattle.desk_reads.proofs.Common.{and_parts, numbered_each, CommandList, IsValid, RolloutRecord}
-use Rattle.std.proofs.lemmas.Bool.Decides.{nat_tests}
 use Rattle.std.specs.Str.{is_utf8}
 use Rattle.sqlite_rules.proofs.ListLemmas.{has_got}
 use Rattle.sqlite_value.specs.Order.{Row}
@@ -18,41 +17,22 @@ use Rattle.rollout_machine.specs.WithinLimits.{IsWithinLimits}
 use Rattle.rollout_machine.specs.declared.bounds.Bounds.{Bounds}
 use Rattle.rollout_machine.specs.declared.records.GroupRecord.{GroupRecord}
 use Rattle.rollout_model.specs.Groupings.{is_grouping}
-use Rattle.rollout_model.specs.Limits.{group_limit}
-use Rattle.rollout_model.specs.Rules.{is_group_count, is_number, is_percentage, is_text}
-use Rattle.rollout_model.specs.declared.approval.Approval.{Approval}
-use Rattle.rollout_model.specs.declared.approval.Approval.TheVariants.{Denied, Given, Waiting}
+use Rattle.rollout_model.specs.Rules.{is_number, is_percentage, is_text}
 use Rattle.desk_records.proofs.HeldCounts.{has_place, place_within}
 use Rattle.desk_records.proofs.Membership.{has_mapped}
 use Rattle.desk_records.proofs.NumberColumns.{is_number_in}
-use Rattle.desk_records.specs.Codes.{approval_in, group_count_in}
 use Rattle.desk_records.specs.RolloutRow.{IsRolloutRow, broken_group_column, broken_rollout_column, stored_rollout}
-use Rattle.desk_records.specs.Rollouts.{approval_code, flag, group_row, rollout_row, rule_row, told_rollout, told_rule}
+use Rattle.desk_records.specs.Rollouts.{group_row, rollout_row, rule_row, told_rollout, told_rule}
 use Rattle.desk_records.specs.RuleRow.{IsRuleRow, broken_rule_column}
 use Rattle.desk_records.specs.Schema.{Groups, Rollouts, Rules}
 use Rattle.desk_records.specs.TableRows.{group_shown, rollout_shown, rule_shown}
 use Rattle.desk_records.specs.declared.rollout_row.StoredRollout.{StoredRollout}
 use Rattle.desk_store.specs.Readable.{BreaksColumn}
-use Rattle.desk_reads.proofs.PlanRules.{IsPlanned, percentage_is, plans_are, rule_told}
-use Rattle.desk_reads.proofs.ReadableRows.{Keeps, fails_not, few_is, flag_is, is_sized, of_ordered, of_parts, unbroken}
+use Rattle.desk_reads.proofs.CodeLemmas.{approval_is, flag_is, group_count_is, is_sized, kept_group, percentage_is}
+use Rattle.desk_reads.proofs.PlanRules.{IsPlanned, plans_are, rule_told}
+use Rattle.desk_reads.proofs.ReadableRows.{Keeps, fails_not, of_ordered, of_parts, unbroken}
 
 -- ---- rollouts
-
-approval_is : (a : Approval) → approval_in (Int (pos (approval_code a))) ≡ Some a
-approval_is Waiting = refl
-approval_is Given = refl
-approval_is Denied = refl
-
-group_count_is : (n : ℕ) → 1 ≤ n → n ≤ group_limit → group_count_in (Int (pos n)) ≡ Some n
-group_count_is n low high =
-    let good : is_group_count n ≡ true = grind (arith, nat_tests, low, high) in
-    let few : nat_lt n (2 ^ 32) ≡ true = grind (arith, nat_tests, high) in
-    rw (few, good) refl
-
-kept_group : (i first last ok bad gone : ℕ) (b : Bool) → i < 2 ^ 32 → first < 2 ^ 32 → last < 2 ^ 32 → ok < 2 ^ 32 → bad < 2 ^ 32 → gone < 2 ^ 32
-    → broken_group_column (Int (pos i) ∷ Int (pos first) ∷ Int (pos last) ∷ Int (pos (flag b)) ∷ Int (pos ok) ∷ Int (pos bad) ∷ Int (pos gone) ∷ []) ≡ None
-kept_group i first last ok bad gone true a b c d e f = rw (few_is i a, few_is first b, few_is last c, few_is ok d, few_is bad e, few_is gone f) refl
-kept_group i first last ok bad gone false a b c d e f = rw (few_is i a, few_is first b, few_is last c, few_is ok d, few_is bad e, few_is gone f) refl
 
 -- a row that says a rollout
 whole_rollout : (row : Row) (x : StoredRollout) → IsRolloutRow row x → is_text x.plan.name ≡ true → is_utf8 x.plan.filter_text ≡ true → broken_rollout_column row ≡ None

@@ -1,9 +1,7 @@
 -- What the rows of a table are made of where a ledger is held, and when a row breaks no column.
-use Rattle.std.proofs.Common.{◌≡◌, inl, inr, ◌<◌, ◌^◌, ℕ, suc, pos, Bool, true, false, List, [], ◌∷◌, map, nat_lt, slice_get, Option, Some, None, true≢false, refl, sym, ap, subst, ◌∙◌, arith}
+use Rattle.std.proofs.Common.{◌≡◌, inl, inr, ℕ, suc, pos, Bool, true, false, List, [], ◌∷◌, map, slice_get, Option, Some, None, true≢false, refl, sym, ap, subst, ◌∙◌, arith}
 use Rattle.desk_reads.proofs.Common.{Records, ledger_of}
-use Rattle.std.proofs.lemmas.Bool.Decides.{nat_tests}
 use Rattle.std.specs.List.{flat_map}
-use Rattle.std.specs.Option.{is_some}
 use Rattle.sqlite_rules.proofs.ListLemmas.{has_either}
 use Rattle.sqlite_rules.specs.Lists.{Has}
 use Rattle.sqlite_value.specs.Order.{Row}
@@ -11,13 +9,9 @@ use Rattle.sqlite_value.specs.declared.value.Value.TheVariants.{Int}
 use Rattle.sql_calls.specs.Keyed.{IsHeldBy, rows_from}
 use Rattle.desk_records.proofs.HeldTables.{numbered, of_part, wanted_of}
 use Rattle.desk_records.proofs.Membership.{has_mapped}
-use Rattle.desk_records.proofs.NumberColumns.{is_small}
-use Rattle.desk_records.specs.ArtifactRow.{has_size}
-use Rattle.desk_records.specs.Codes.{flag_in}
 use Rattle.desk_records.specs.Holds.{IsHeld}
 use Rattle.desk_records.specs.Parts.{parts_from}
 use Rattle.desk_records.specs.RowFaults.{BreaksRule}
-use Rattle.desk_records.specs.Rollouts.{flag}
 use Rattle.desk_records.specs.Schema.{Place}
 use Rattle.desk_records.specs.declared.module_row.Column.{Column}
 use Rattle.desk_store.specs.Readable.{BreaksColumn}
@@ -83,15 +77,3 @@ unbroken column none broken = let told : None ≡ Some broken.first = sym none �
 
 pub fails_not : (test : Bool) → test ≡ true → test ≡ false → ⊥
 fails_not test good bad = true≢false (sym good ∙ bad)
-
-pub is_sized : (n : ℕ) → n < 2 ^ 32 → has_size (Int (pos n)) ≡ true
-is_sized n few = ap is_some (is_small n few)
-
--- ---- codes
-
-pub flag_is : (b : Bool) → flag_in (Int (pos (flag b))) ≡ Some b
-flag_is true = refl
-flag_is false = refl
-
-pub few_is : (n : ℕ) → n < 2 ^ 32 → nat_lt n (2 ^ 32) ≡ true
-few_is n few = grind (arith, nat_tests, few)
