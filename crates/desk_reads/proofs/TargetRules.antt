@@ -1,22 +1,28 @@
--- The tags of the targets of accepted commands keep their rule: few words, none of them twice.
-use Rattle.std.proofs.Common.{◌≡◌, ◌⊎◌, inl, inr, ◌≤◌, ◌<◌, suc, Bool, true, false, cond, ◌&&◌, not, nat_eq, nat_le, List, [], ◌∷◌, length, map, find, is_none, Option, Some, None, refl, sym, ap, subst, ◌∙◌, arith, true≢false}
+-- The targets of accepted commands keep their rules: of their tags, that they are few words and none stands twice.
+use Rattle.std.proofs.Common.{◌≡◌, ◌⊎◌, inl, inr, ◌≤◌, ◌<◌, suc, Bool, true, false, cond, ◌&&◌, ◌||◌, not, nat_eq, nat_le, List, [], ◌∷◌, length, map, find, is_none, Option, Some, None, refl, sym, ap, subst, ◌∙◌, arith, true≢false}
 use Rattle.desk_reads.proofs.Common.{and_parts, contains_word, same_bytes, CommandList, Make, ◌▸◌, Target, IsSorted, IsValid, tags_of, target_of}
 use Rattle.std.proofs.lemmas.Bool.{and_from, le-leb, leb-false, leb-true}
 use Rattle.std.specs.Cmp.Lexicographic.{pointwise}
 use Rattle.std.specs.List.{list_all, list_any}
-use Rattle.std.specs.Option.{option_or}
+use Rattle.std.specs.Option.{is_some, option_or, unwrap_or}
+use Rattle.sqlite_rules.specs.Lists.{Has}
 use Rattle.rollout_machine.proofs.Imports.{AllAbove, below_apart, sorted_with, with_there}
 use Rattle.rollout_machine.proofs.Orders.{sorted_all, sorted_without}
-use Rattle.rollout_machine.proofs.TargetTies.{same_pointwise, same_sym, same_true}
+use Rattle.rollout_machine.proofs.TargetMeanings.{targets_are_named}
+use Rattle.rollout_machine.proofs.TargetTies.{same_by, same_pointwise, same_sym, same_true}
 use Rattle.rollout_machine.proofs.Valid.{NoneHolds, none_holds}
 use Rattle.rollout_machine.specs.ByteStrings.{bytes_below, sorted_words, with_word, without_word}
-use Rattle.rollout_machine.specs.Commands.{Bytes, PutTargets, Tag, TargetRow, Untag}
+use Rattle.rollout_machine.specs.CommandRules.{IsWellFormed, is_credential}
+use Rattle.rollout_machine.specs.Commands.{Attribute, Bytes, Command, PutAttributes, PutTargets, Tag, TargetRow, Untag}
 use Rattle.rollout_machine.specs.Records.{records}
-use Rattle.rollout_machine.specs.Targets.{last_row_for, tags_by_row, tags_in, target_ids, target_in}
+use Rattle.rollout_machine.specs.Targets.{attributes_in, import_rows_of, last_row_for, last_row_of, tags_by_row, tags_in, target_ids, target_in, with_attribute, with_attributes}
 use Rattle.rollout_machine.specs.Verdicts.{verdict, verdict_row}
-use Rattle.rollout_model.specs.Limits.{tag_limit}
+use Rattle.rollout_model.specs.Limits.{attribute_limit, tag_limit}
+use Rattle.rollout_model.specs.Pairs.{is_attribute}
 use Rattle.rollout_model.specs.Rows.{is_target_row}
 use Rattle.rollout_model.specs.Rules.{are_distinct_words, is_digest, is_tag_list, is_text, is_word}
+use Rattle.desk_records.proofs.Membership.{has_mapped}
+use Rattle.desk_reads.proofs.ListMembers.{target_words}
 
 -- ---- words in byte order
 
@@ -130,10 +136,10 @@ room h u x accepted new =
     elim (found_target h u (target_ids h)) [
       | inl none ↦ absurd (true≢false (sym (ap is_none none) ∙ row.0))
       | inr some ↦ (
-        let there : (not (contains_word x (tags_in u h)) && nat_le tag_limit (length (tags_in u h))) ≡ false = sym (ap (λ o. not (contains_word x (tags_of o)) && nat_le tag_limit (length (tags_of o))) some) ∙ row.1.0 in
-        let full : nat_le tag_limit (length (tags_in u h)) ≡ false = ap (λ b. not b && nat_le tag_limit (length (tags_in u h))) (sym new) ∙ there in
-        leb-false tag_limit (length (tags_in u h)) full
-        )
+          let there : (not (contains_word x (tags_in u h)) && nat_le tag_limit (length (tags_in u h))) ≡ false = sym (ap (λ o. not (contains_word x (tags_of o)) && nat_le tag_limit (length (tags_of o))) some) ∙ row.1.0 in
+          let full : nat_le tag_limit (length (tags_in u h)) ≡ false = ap (λ b. not b && nat_le tag_limit (length (tags_in u h))) (sym new) ∙ there in
+          leb-false tag_limit (length (tags_in u h)) full
+          )
     ]
 
 -- ---- the law
@@ -169,3 +175,83 @@ tags_keep h valid t = elim (found_target h t (target_ids h)) [
   | inl none ↦ ap (λ o. is_tag_list (tags_of o)) none
   | inr some ↦ ap (λ o. is_tag_list (tags_of o)) some ∙ tags_are_list (tags_in t h) (keeps_tags h valid t)
 ]
+
+-- ---- the row and the attributes of a target
+
+row_in : (c : Command) → IsWellFormed c → (t : Bytes) (row : TargetRow) → last_row_for t (import_rows_of c) ≡ Some row → is_target_row row ≡ true
+row_in (PutTargets rows) good t row is = row_for t rows good row is
+row_in c good t row is = absurd cc
+
+last_keeps : (h : CommandList) → IsValid h → (t : Bytes) (row : TargetRow) → last_row_of t h ≡ Some row → is_target_row row ≡ true
+last_keeps (Make approval) valid t row is = absurd cc
+last_keeps (h ▸ c) valid t row is = go (last_row_for t (import_rows_of c)) is (row_in c valid.1 t row) (last_keeps h valid.0 t row)
+  where
+    go : (now : Option TargetRow) → option_or now (last_row_of t h) ≡ Some row → (now ≡ Some row → is_target_row row ≡ true) → (last_row_of t h ≡ Some row → is_target_row row ≡ true) → is_target_row row ≡ true
+    go None is new old = old is
+    go (Some x) is new old = new is
+
+contains_it : (t : Bytes) (ws : List Bytes) → Has ws t → contains_word t ws ≡ true
+contains_it t [] among = absurd among
+contains_it t (w ∷ ws) (inl same) = rw (same_by t w same) refl
+contains_it t (w ∷ ws) (inr among) = go (same_bytes t w) (contains_it t ws among)
+  where
+    go : (same : Bool) → contains_word t ws ≡ true → (same || contains_word t ws) ≡ true
+    go true it = refl
+    go false it = it
+
+-- a target that is there has one
+has_last : (h : CommandList) (t : Bytes) → Has (target_ids h) t → (row : TargetRow) × (last_row_of t h ≡ Some row)
+has_last h t among = go (last_row_of t h) refl (sym (targets_are_named t h) ∙ contains_it t (target_ids h) among)
+  where
+    go : (found : Option TargetRow) → last_row_of t h ≡ found → is_some found ≡ true → (row : TargetRow) × (last_row_of t h ≡ Some row)
+    go None is there = absurd (true≢false (sym there))
+    go (Some row) is there = (row, is)
+
+attributes_with : (a : Attribute) (bs : List Attribute) → is_attribute a ≡ true → list_all is_attribute bs ≡ true → list_all is_attribute (with_attribute a bs) ≡ true
+attributes_with a [] one all = and_from (is_attribute a) true one refl
+attributes_with a (b ∷ bs) one all = let parts = and_parts (is_attribute b) (list_all is_attribute bs) all in go (same_bytes a.key b.key) (bytes_below a.key b.key) parts.0 parts.1 (attributes_with a bs one parts.1)
+  where
+    go : (same below : Bool) → is_attribute b ≡ true → list_all is_attribute bs ≡ true → list_all is_attribute (with_attribute a bs) ≡ true → list_all is_attribute (cond same (a ∷ bs) (cond below (a ∷ b ∷ bs) (b ∷ with_attribute a bs))) ≡ true
+    go true below first rest later = and_from (is_attribute a) (list_all is_attribute bs) one rest
+    go false true first rest later = and_from (is_attribute a) _ one (and_from (is_attribute b) (list_all is_attribute bs) first rest)
+    go false false first rest later = and_from (is_attribute b) (list_all is_attribute (with_attribute a bs)) first later
+
+all_attributes_with : (new bs : List Attribute) → list_all is_attribute new ≡ true → list_all is_attribute bs ≡ true → list_all is_attribute (with_attributes new bs) ≡ true
+all_attributes_with [] bs good all = all
+all_attributes_with (a ∷ more) bs good all = let parts = and_parts (is_attribute a) (list_all is_attribute more) good in all_attributes_with more (with_attribute a bs) parts.1 (attributes_with a bs parts.0 all)
+
+attributes_keep : (h : CommandList) → IsValid h → (t : Bytes) → list_all is_attribute (attributes_in t h) ≡ true
+attributes_keep (Make approval) valid t = refl
+attributes_keep (h ▸ PutAttributes device new) valid t = go (same_bytes t device.id) (attributes_keep h valid.0 t)
+  where
+    good : list_all is_attribute new ≡ true
+    good = (and_parts (nat_le (length new) attribute_limit) (list_all is_attribute new) (and_parts (is_credential device) _ valid.1).1).1
+
+    go : (same : Bool) → list_all is_attribute (attributes_in t h) ≡ true → list_all is_attribute (cond same (with_attributes new (attributes_in t h)) (attributes_in t h)) ≡ true
+    go true all = all_attributes_with new (attributes_in t h) good all
+    go false all = all
+attributes_keep (h ▸ _) valid t = attributes_keep h valid.0 t
+
+pub record KeepsTarget (x : Target) : Type 0 where
+  pub id : is_word x.id ≡ true
+  pub name : is_text x.name ≡ true
+  pub digest : is_digest x.digest ≡ true
+  pub tags : list_all is_word x.tags ≡ true
+  pub attributes : list_all is_attribute x.attributes ≡ true
+
+target_keeps : (h : CommandList) → IsValid h → (t : Bytes) → Has (target_ids h) t → KeepsTarget (target_in h t)
+target_keeps h valid t among =
+    let last = has_last h t among in
+    let parts = and_parts (is_word last.0.id) (is_text last.0.name && (is_digest last.0.digest && is_tag_list last.0.tags)) (last_keeps h valid t last.0 last.1) in
+    let rest = and_parts (is_text last.0.name) (is_digest last.0.digest && is_tag_list last.0.tags) parts.1 in
+    record {
+      id = target_words h valid t among;
+      name = ap (λ (o : Option TargetRow). is_text (unwrap_or (elim o [ None ↦ None | Some row ↦ Some row.name ]) [])) last.1 ∙ rest.0;
+      digest = ap (λ (o : Option TargetRow). is_digest (unwrap_or (elim o [ None ↦ None | Some row ↦ Some row.digest ]) [])) last.1 ∙ (and_parts (is_digest last.0.digest) (is_tag_list last.0.tags) rest.1).0;
+      tags = (keeps_tags h valid t).words;
+      attributes = attributes_keep h valid t;
+    }
+
+pub targets_keep : (h : CommandList) → IsValid h → (x : Target) → Has (records h).targets x → KeepsTarget x
+unfolding records
+targets_keep h valid x among = let source = has_mapped (target_in h) (target_ids h) x among in subst KeepsTarget (sym source.2) (target_keeps h valid source.0 source.1)

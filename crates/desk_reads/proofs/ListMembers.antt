@@ -1,0 +1,85 @@
+-- The members of the rollouts of a list of accepted commands are ids.
+use Rattle.std.proofs.Common.{◌≡◌, ◌⊎◌, inl, inr, ℕ, suc, Bool, true, false, cond, List, [], ◌∷◌, map, filter, Option, Some, None, refl, sym, ap, subst, ◌∙◌}
+use Rattle.desk_reads.proofs.Common.{and_parts, same_bytes, CommandList, Make, ◌▸◌, rollouts_in, IsValid, RolloutRecord, Target}
+use Rattle.sqlite_rules.proofs.ListLemmas.{has_either, has_filtered, test_has}
+use Rattle.sqlite_rules.specs.Lists.{Has}
+use Rattle.rollout_model.specs.Rows.{is_target_row}
+use Rattle.rollout_model.specs.Rules.{is_word}
+use Rattle.rollout_machine.specs.ByteStrings.{bytes_below, with_word, with_words}
+use Rattle.rollout_machine.specs.CommandRules.{IsWellFormed}
+use Rattle.rollout_machine.specs.Commands.{Bytes, Command, CreateRollout, PutTargets, TargetRow}
+use Rattle.rollout_machine.specs.Filters.{matches}
+use Rattle.rollout_machine.specs.Records.{records}
+use Rattle.rollout_machine.specs.Rollouts.{Rollout, chosen, created, rollouts}
+use Rattle.rollout_machine.specs.Targets.{import_rows_of, target_ids, target_in, targets}
+use Rattle.target_filter.specs.Grammar.{Tree}
+use Rattle.target_filter.specs.Profile.{filter_of}
+use Rattle.desk_records.proofs.Membership.{has_mapped}
+
+-- ---- targets
+
+with_word_has : (w : Bytes) (vs : List Bytes) (x : Bytes) → Has (with_word w vs) x → (x ≡ w) ⊎ Has vs x
+with_word_has w [] x (inl same) = inl same
+with_word_has w [] x (inr none) = absurd none
+with_word_has w (v ∷ vs) x among = go (same_bytes w v) (bytes_below w v) (with_word_has w vs x) among
+  where
+    go : (same below : Bool) → (Has (with_word w vs) x → (x ≡ w) ⊎ Has vs x) → Has (cond same (v ∷ vs) (cond below (w ∷ v ∷ vs) (v ∷ with_word w vs))) x → (x ≡ w) ⊎ Has (v ∷ vs) x
+    go true below later it = inr it
+    go false true later (inl is) = inl is
+    go false true later (inr it) = inr it
+    go false false later (inl is) = inr (inl is)
+    go false false later (inr it) = elim (later it) [ inl is ↦ inl is | inr behind ↦ inr (inr behind) ]
+
+with_words_has : (ws vs : List Bytes) (x : Bytes) → Has (with_words ws vs) x → Has ws x ⊎ Has vs x
+with_words_has [] vs x among = inr among
+with_words_has (w ∷ ws) vs x among = elim (with_words_has ws (with_word w vs) x among) [
+  | inl it ↦ inl (inr it)
+  | inr it ↦ elim (with_word_has w vs x it) [ inl is ↦ inl (inl is) | inr behind ↦ inr behind ]
+]
+
+new_words : (c : Command) → IsWellFormed c → (id : Bytes) → Has (map (λ (row : TargetRow). row.id) (import_rows_of c)) id → is_word id ≡ true
+new_words (PutTargets rows) good id among =
+    let row = has_mapped (λ (row : TargetRow). row.id) rows id among in
+    ap is_word row.2 ∙ (and_parts _ _ (test_has is_target_row rows row.0 good row.1)).0
+new_words c good id among = absurd among
+
+pub target_words : (h : CommandList) → IsValid h → (id : Bytes) → Has (target_ids h) id → is_word id ≡ true
+target_words (Make approval) valid id among = absurd among
+target_words (h ▸ c) valid id among = elim (with_words_has (map (λ (row : TargetRow). row.id) (import_rows_of c)) (target_ids h) id among) [
+  | inl it ↦ new_words c valid.1 id it
+  | inr it ↦ target_words h valid.0 id it
+]
+
+-- ---- rollouts
+
+-- each is an id
+abbrev pub AreIds : List Bytes → Type 0
+AreIds members = (id : Bytes) → Has members id → is_word id ≡ true
+
+are_chosen : (h : CommandList) → IsValid h → (filter_tree : Option Tree) → AreIds (chosen filter_tree (targets h))
+are_chosen h valid None id among = absurd among
+are_chosen h valid (Some f) id among =
+    let target = has_mapped (λ (t : Target). t.id) (filter (matches f) (targets h)) id among in
+    let source = has_mapped (target_in h) (target_ids h) target.0 (has_filtered (matches f) (targets h) target.0 target.1).0 in
+    ap is_word (target.2 ∙ ap (λ (t : Target). t.id) source.2) ∙ target_words h valid source.0 source.1
+
+new_ids : (h : CommandList) (c : Command) → IsValid h → (x : Rollout) → Has (created h c) x → AreIds x.members
+new_ids h (CreateRollout plan) valid x (inl same) = subst (λ (y : Rollout). AreIds y.members) (sym same) (are_chosen h valid (filter_of plan.filter_text))
+new_ids h (CreateRollout plan) valid x (inr none) = absurd none
+new_ids h c valid x among = absurd among
+
+rollout_ids : (h : CommandList) → IsValid h → (x : Rollout) → Has (rollouts h) x → AreIds x.members
+rollout_ids (Make approval) valid x among = absurd among
+rollout_ids (h ▸ c) valid x among = elim (has_either (rollouts h) (created h c) x among) [
+  | inl it ↦ rollout_ids h valid.0 x it
+  | inr it ↦ new_ids h c valid.0 x it
+]
+
+pub member_ids : (h : CommandList) → IsValid h → (x : RolloutRecord) → Has (records h).rollouts x → AreIds x.members
+unfolding records
+member_ids h valid x among = go 1 (rollouts h) (λ y its. rollout_ids h valid y its) x among
+  where
+    go : (r : ℕ) (xs : List Rollout) → ((y : Rollout) → Has xs y → AreIds y.members) → (x : RolloutRecord) → Has (rollouts_in h r xs) x → AreIds x.members
+    go r [] each x among = absurd among
+    go r (y ∷ xs) each x (inl same) = subst (λ (z : RolloutRecord). AreIds z.members) (sym same) (each y (inl refl))
+    go r (y ∷ xs) each x (inr among) = go (suc r) xs (λ z its. each z (inr its)) x among
