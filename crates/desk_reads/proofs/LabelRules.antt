@@ -1,17 +1,9 @@
 -- The modules and sets of accepted commands keep their rules, and are no more than their limits.
 use Rattle.std.proofs.Common.{◌≡◌, inl, inr, ◌+◌, ◌≤◌, ◌<◌, Bool, true, ◌&&◌, length, None, ap, arith, ◌∙◌}
-use Rattle.desk_reads.proofs.Common.{CommandList, Make, ◌▸◌, IsValid}
-use Rattle.std.proofs.lemmas.Bool.{leb-false}
+use Rattle.desk_reads.proofs.Common.{CommandList, Make, ◌▸◌, IsValid, leb-false, has_either, Has, NoneHolds, none_holds, IsWellFormed, is_set_label, AddModule, AddSet, Command, ModuleLabel, SetLabel, added_modules, added_sets, modules, sets, verdict, verdict_row, is_text}
 use Rattle.std.proofs.lemmas.List.{length-append}
-use Rattle.sqlite_rules.proofs.ListLemmas.{has_either}
-use Rattle.sqlite_rules.specs.Lists.{Has}
-use Rattle.rollout_machine.proofs.Valid.{NoneHolds, none_holds}
-use Rattle.rollout_machine.specs.CommandRules.{IsWellFormed, is_set_label}
-use Rattle.rollout_machine.specs.Commands.{AddModule, AddSet, Command, ModuleLabel, SetLabel}
-use Rattle.rollout_machine.specs.Records.{added_modules, added_sets, modules, records, sets}
-use Rattle.rollout_machine.specs.Verdicts.{verdict, verdict_row}
+use Rattle.rollout_machine.specs.Records.{records}
 use Rattle.rollout_model.specs.Limits.{module_limit, set_limit}
-use Rattle.rollout_model.specs.Rules.{is_text}
 
 -- ---- modules
 

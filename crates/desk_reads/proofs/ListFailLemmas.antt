@@ -1,14 +1,12 @@
 -- Why a read at a list of accepted commands is no failed store by itself.
 use Rattle.std.proofs.Common.{Result, Ok, Err, subst}
-use Rattle.desk_reads.proofs.Common.{CommandList, IsValid, Records, HoldsLedger}
+use Rattle.desk_reads.proofs.Common.{CommandList, IsValid, Records, records, HoldsLedger, FailsAtListsIn}
 use Rattle.std.specs.Result.{IsErr}
 use Rattle.sqlite.specs.Store.{Ghosts}
-use Rattle.rollout_machine.specs.Records.{records}
 use Rattle.sql_calls.specs.Standing.{Sees}
 use Rattle.sql_calls.specs.declared.fault.Fault.{Fault}
 use Rattle.desk_store.specs.Changing.{FindsIn, seen_in}
 use Rattle.desk_store.specs.declared.change.OpenChange.{OpenChange}
-use Rattle.desk_reads.specs.AtLists.{FailsAtListsIn}
 
 module _ {S A B : Type 0} {g : Ghosts S} {old new : OpenChange S} {x : A} {P : Records → A → Type 0} where
   -- where no call failed: what was found at such a list leaves no such fault

@@ -1,20 +1,10 @@
 -- The members of the rollouts of a list of accepted commands are ids.
 use Rattle.std.proofs.Common.{◌≡◌, ◌⊎◌, inl, inr, ℕ, suc, Bool, true, false, cond, List, [], ◌∷◌, map, filter, Option, Some, None, refl, sym, ap, subst, ◌∙◌}
-use Rattle.desk_reads.proofs.Common.{and_parts, same_bytes, CommandList, Make, ◌▸◌, rollouts_in, IsValid, RolloutRecord, Target}
-use Rattle.sqlite_rules.proofs.ListLemmas.{has_either, has_filtered, test_has}
-use Rattle.sqlite_rules.specs.Lists.{Has}
-use Rattle.rollout_model.specs.Rows.{is_target_row}
-use Rattle.rollout_model.specs.Rules.{is_word}
-use Rattle.rollout_machine.specs.ByteStrings.{bytes_below, with_word, with_words}
-use Rattle.rollout_machine.specs.CommandRules.{IsWellFormed}
-use Rattle.rollout_machine.specs.Commands.{Bytes, Command, CreateRollout, PutTargets, TargetRow}
-use Rattle.rollout_machine.specs.Filters.{matches}
+use Rattle.desk_reads.proofs.Common.{and_parts, same_bytes, bytes_below, with_word, with_words, CommandList, Make, ◌▸◌, rollouts_in, IsValid, RolloutRecord, Target, import_rows_of, target_ids, target_in, targets, has_either, has_filtered, test_has, Has, is_target_row, is_word, IsWellFormed, Bytes, Command, CreateRollout, PutTargets, TargetRow, Rollout, chosen, created, rollouts, has_mapped}
 use Rattle.rollout_machine.specs.Records.{records}
-use Rattle.rollout_machine.specs.Rollouts.{Rollout, chosen, created, rollouts}
-use Rattle.rollout_machine.specs.Targets.{import_rows_of, target_ids, target_in, targets}
+use Rattle.rollout_machine.specs.Filters.{matches}
 use Rattle.target_filter.specs.Grammar.{Tree}
 use Rattle.target_filter.specs.Profile.{filter_of}
-use Rattle.desk_records.proofs.Membership.{has_mapped}
 
 -- ---- targets
 

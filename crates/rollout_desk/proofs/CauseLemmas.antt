@@ -7,7 +7,7 @@ use Rattle.desk_commands.specs.Steps.{Steps}
 use Rattle.desk_commands.specs.declared.step.Step.TheVariants as step
 use Rattle.desk_reads.specs.AtLists.{AreOfList}
 use Rattle.desk_reads.specs.Counted.{AreCounted}
-use Rattle.desk_reads.proofs.ReadableRecords.{readable}
+use Rattle.desk_verify.proofs.ReadableRecords.{readable}
 use Rattle.desk_store.specs.Blaming.{HasFailed}
 use Rattle.desk_store.specs.Changing.{seen_in}
 use Rattle.desk_store.specs.Failing.{HasCall, HasSight, Sight}

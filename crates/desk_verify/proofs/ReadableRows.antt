@@ -1,20 +1,7 @@
 -- What the rows of a table are made of where a ledger is held, and when a row breaks no column.
 use Rattle.std.proofs.Common.{◌≡◌, inl, inr, ℕ, suc, pos, Bool, true, false, List, [], ◌∷◌, map, slice_get, Option, Some, None, true≢false, refl, sym, ap, subst, ◌∙◌, arith}
-use Rattle.desk_reads.proofs.Common.{Records, ledger_of}
-use Rattle.std.specs.List.{flat_map}
-use Rattle.sqlite_rules.proofs.ListLemmas.{has_either}
-use Rattle.sqlite_rules.specs.Lists.{Has}
-use Rattle.sqlite_value.specs.Order.{Row}
-use Rattle.sqlite_value.specs.declared.value.Value.TheVariants.{Int}
-use Rattle.sql_calls.specs.Keyed.{IsHeldBy, rows_from}
-use Rattle.desk_records.proofs.HeldTables.{numbered, of_part, wanted_of}
-use Rattle.desk_records.proofs.Membership.{has_mapped}
-use Rattle.desk_records.specs.Holds.{IsHeld}
-use Rattle.desk_records.specs.Parts.{parts_from}
+use Rattle.desk_verify.proofs.Common.{Records, ledger_of, IsHeld, flat_map, has_either, Has, Row, Int, IsHeldBy, rows_from, numbered, of_part, wanted_of, has_mapped, parts_from, Place, Column, BreaksColumn}
 use Rattle.desk_records.specs.RowFaults.{BreaksRule}
-use Rattle.desk_records.specs.Schema.{Place}
-use Rattle.desk_records.specs.declared.module_row.Column.{Column}
-use Rattle.desk_store.specs.Readable.{BreaksColumn}
 
 has_flat : {X Y : Type 0} (f : X → List Y) (xs : List X) (y : Y) → Has (flat_map f xs) y → (x : X) × Has xs x × Has (f x) y
 has_flat f [] y among = absurd among

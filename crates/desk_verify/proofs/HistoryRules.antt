@@ -1,19 +1,9 @@
 -- The numbers of feedback in histories: each is in its range, and they are no more than the entries.
 use Rattle.std.proofs.Common.{◌≡◌, inl, inr, ◌≤◌, ◌<◌, ℕ, suc, ◌+◌, Bool, true, false, cond, List, [], ◌∷◌, ◌++◌, length, Option, Some, None, refl, sym, ap, subst, ◌∙◌, arith}
-use Rattle.desk_reads.proofs.Common.{and_parts, item_numbered, CommandList, Make, ◌▸◌, IsValid}
+use Rattle.desk_verify.proofs.Common.{and_parts, item_numbered, CommandList, Make, ◌▸◌, IsValid, list_all, Has, history, IsWellFormed, is_credential, is_device_feedback, is_feedback_number_or_none, CancelFeedback, Command, DeviceFeedback, Feedback, records, Reported, reported_by, ActionRecord, are_details, is_number, PlacedNumber}
 use Rattle.std.proofs.lemmas.List.Folds.{list_all-append}
-use Rattle.std.specs.List.{list_all}
-use Rattle.sqlite_rules.specs.Lists.{Has}
 use Rattle.rollout_machine.proofs.AtNumbers.{has_place}
-use Rattle.rollout_machine.specs.Actions.{history}
-use Rattle.rollout_machine.specs.CommandRules.{IsWellFormed, is_credential, is_device_feedback, is_feedback_number_or_none}
-use Rattle.rollout_machine.specs.Commands.{CancelFeedback, Command, DeviceFeedback, Feedback}
-use Rattle.rollout_machine.specs.Records.{records}
-use Rattle.rollout_machine.specs.Reports.{Reported, reported_by}
-use Rattle.rollout_machine.specs.declared.records.ActionRecord.{ActionRecord}
-use Rattle.rollout_model.specs.Rules.{are_details, is_number}
 use Rattle.desk_records.specs.FeedbackNumbers.{borne_at, numbers_from}
-use Rattle.desk_records.specs.declared.number_row.PlacedNumber.{PlacedNumber}
 
 -- ---- the numbers of accepted feedback
 

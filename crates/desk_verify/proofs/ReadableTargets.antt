@@ -1,25 +1,12 @@
 -- The tables of targets and members can be read where records of accepted commands are held.
 use Rattle.std.proofs.Common.{◌≡◌, inl, inr, ◌<◌, ◌^◌, ℕ, pos, List, [], ◌∷◌, length, None, refl, arith}
-use Rattle.desk_reads.proofs.Common.{and_parts, CommandList, IsValid, RolloutRecord, Target, ledger_of}
-use Rattle.std.proofs.lemmas.List.{length-map}
-use Rattle.sqlite_rules.proofs.ListLemmas.{has_got, test_has}
-use Rattle.sqlite_rules.specs.Lists.{Has}
-use Rattle.sqlite_value.specs.Order.{Row}
-use Rattle.sqlite_value.specs.declared.value.Value.TheVariants.{Int, Text}
+use Rattle.desk_verify.proofs.Common.{and_parts, CommandList, IsValid, RolloutRecord, ledger_of, IsHeld, length-map, has_got, test_has, Has, Row, Int, Text, limits_hold, Attribute, Bytes, records, is_value, is_word, member_row, Members, TargetAttributes, TargetTags, Targets, BreaksColumn, second_shown, third_shown, member_ids}
+use Rattle.rollout_machine.specs.Targets.{Target}
 use Rattle.sql_calls.proofs.Counts.{length_held}
-use Rattle.rollout_machine.proofs.WithinLimits.{limits_hold}
-use Rattle.rollout_machine.specs.Commands.{Attribute, Bytes}
-use Rattle.rollout_machine.specs.Records.{records}
 use Rattle.rollout_model.specs.Pairs.{is_attribute}
-use Rattle.rollout_model.specs.Rules.{is_value, is_word}
-use Rattle.desk_records.specs.Holds.{IsHeld}
-use Rattle.desk_records.specs.Rollouts.{member_row}
-use Rattle.desk_records.specs.Schema.{Members, TargetAttributes, TargetTags, Targets}
 use Rattle.desk_records.specs.TargetRow.{broken_attribute_column, broken_listed_column, broken_target_column}
 use Rattle.desk_records.specs.Targets.{target_row}
-use Rattle.desk_store.specs.Readable.{BreaksColumn, second_shown, third_shown}
-use Rattle.desk_reads.proofs.ListMembers.{member_ids}
-use Rattle.desk_reads.proofs.ReadableRows.{Keeps, fails_not, of_lists, of_mapped, of_parts, unbroken}
+use Rattle.desk_verify.proofs.ReadableRows.{Keeps, fails_not, of_lists, of_mapped, of_parts, unbroken}
 use Rattle.desk_reads.proofs.TargetRules.{targets_keep}
 
 -- ---- targets

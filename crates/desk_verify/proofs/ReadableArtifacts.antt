@@ -1,33 +1,13 @@
 -- The tables of modules, sets and artifacts can be read where records of accepted commands are held.
 use Rattle.std.proofs.Common.{◌≡◌, inl, inr, ◌<◌, ◌^◌, ◌&&◌, List, [], ◌∷◌, subst, ℕ, suc, pos, Bool, true, slice_get, Some, None, true≢false, refl, sym, ap, ◌∙◌, arith}
-use Rattle.desk_reads.proofs.Common.{and_parts, CommandList, IsValid}
-use Rattle.std.proofs.lemmas.List.Elements.{All-contains}
-use Rattle.std.specs.List.{list_all}
-use Rattle.sqlite_rules.proofs.ListLemmas.{contains_had, has_got, test_has}
-use Rattle.rollout_machine.proofs.WithinLimits.{limits_hold}
-use Rattle.rollout_machine.specs.Commands.{Bytes, ModuleLabel, SetLabel}
-use Rattle.rollout_machine.specs.Records.{ArtifactRecord, records}
-use Rattle.rollout_model.specs.Rules.{are_distinct_numbers, is_digest, is_module_list, is_number, is_text}
-use Rattle.desk_records.proofs.HeldCounts.{place_within}
-use Rattle.desk_records.proofs.NumberColumns.{is_in_range, is_small}
-use Rattle.desk_records.proofs.WholeArtifacts.{IsWhole, KeepsRules, all_keep, all_whole, digest_is_one}
-use Rattle.desk_records.specs.ArtifactRow.{broken_artifact_column, broken_stored_column}
-use Rattle.desk_records.specs.Artifacts.{artifact_row, piece_row, pieces_in}
-use Rattle.desk_records.specs.Holds.{desk_row, module_row}
+use Rattle.desk_verify.proofs.Common.{and_parts, CommandList, IsValid, All-contains, list_all, contains_had, has_got, test_has, limits_hold, Bytes, ModuleLabel, SetLabel, ArtifactRecord, records, are_distinct_numbers, is_digest, is_module_list, is_number, is_text, place_within, is_in_range, is_small, IsWhole, KeepsRules, all_keep, all_whole, digest_is_one, broken_artifact_column, broken_stored_column, artifact_row, piece_row, pieces_in, desk_row, module_row, Artifacts, Desk, Modules, Pieces, SetModules, Sets, artifact_shown, listed_shown, BreaksColumn, label_shown, third_shown, Has, Row, Int}
 use Rattle.desk_records.specs.ModuleRow.{broken_column}
-use Rattle.desk_records.specs.Schema.{Artifacts, Desk, Modules, Pieces, SetModules, Sets}
 use Rattle.desk_records.specs.SetRow.{broken_set_column}
 use Rattle.desk_records.specs.Sets.{place_row, set_row}
-use Rattle.desk_records.specs.TableRows.{artifact_shown}
 use Rattle.desk_records.specs.Versions.{newest}
-use Rattle.desk_store.specs.RawLists.{listed_shown}
-use Rattle.desk_store.specs.Readable.{BreaksColumn, label_shown, third_shown}
-use Rattle.sqlite_rules.specs.Lists.{Has}
-use Rattle.sqlite_value.specs.Order.{Row}
-use Rattle.sqlite_value.specs.declared.value.Value.TheVariants.{Int}
-use Rattle.desk_reads.proofs.CodeLemmas.{flag_is, is_sized}
+use Rattle.desk_verify.proofs.CodeLemmas.{flag_is, is_sized}
 use Rattle.desk_reads.proofs.LabelRules.{few_modules, few_sets, labels_keep, sets_keep}
-use Rattle.desk_reads.proofs.ReadableRows.{Keeps, fails_not, of_ordered, of_parts, unbroken}
+use Rattle.desk_verify.proofs.ReadableRows.{Keeps, fails_not, of_ordered, of_parts, unbroken}
 
 -- ---- the desk
 

@@ -1,36 +1,10 @@
 -- The tables of rollouts, groups and rules can be read where records of accepted commands are held.
 use Rattle.std.proofs.Common.{◌≡◌, inl, inr, ◌≤◌, ◌<◌, ◌&&◌, ℕ, suc, ◌+◌, ◌-◌, pos, true, List, ◌∷◌, length, map, slice_get, Some, None, refl, sym, ap, subst, arith}
-use Rattle.desk_reads.proofs.Common.{and_parts, numbered_each, CommandList, IsValid, RolloutRecord}
+use Rattle.desk_verify.proofs.Common.{and_parts, numbered_each, CommandList, IsValid, RolloutRecord, has_got, Row, Int, groups_are_counted, grouping_is_cut, limits_hold, HasCountedGroups, IsCountedGroup, GroupRule, rule_at, rules_of, last_by, IsCut, records, IsWithinLimits, Bounds, GroupRecord, is_grouping, is_number, is_percentage, is_text, has_place, place_within, has_mapped, is_number_in, IsRolloutRow, broken_group_column, broken_rollout_column, stored_rollout, group_row, rollout_row, rule_row, told_rollout, told_rule, IsRuleRow, broken_rule_column, Groups, Rollouts, Rules, group_shown, rollout_shown, rule_shown, StoredRollout, BreaksColumn}
 use Rattle.std.specs.Str.{is_utf8}
-use Rattle.sqlite_rules.proofs.ListLemmas.{has_got}
-use Rattle.sqlite_value.specs.Order.{Row}
-use Rattle.sqlite_value.specs.declared.value.Value.TheVariants.{Int}
-use Rattle.rollout_machine.proofs.GroupCounts.{groups_are_counted}
-use Rattle.rollout_machine.proofs.Groupings.{grouping_is_cut}
-use Rattle.rollout_machine.proofs.WithinLimits.{limits_hold}
-use Rattle.rollout_machine.specs.GroupCounts.{HasCountedGroups, IsCountedGroup}
-use Rattle.rollout_machine.specs.GroupRules.{GroupRule, rule_at, rules_of}
-use Rattle.rollout_machine.specs.Groupings.{last_by}
-use Rattle.rollout_machine.specs.Groups.{IsCut}
-use Rattle.rollout_machine.specs.Records.{records}
-use Rattle.rollout_machine.specs.WithinLimits.{IsWithinLimits}
-use Rattle.rollout_machine.specs.declared.bounds.Bounds.{Bounds}
-use Rattle.rollout_machine.specs.declared.records.GroupRecord.{GroupRecord}
-use Rattle.rollout_model.specs.Groupings.{is_grouping}
-use Rattle.rollout_model.specs.Rules.{is_number, is_percentage, is_text}
-use Rattle.desk_records.proofs.HeldCounts.{has_place, place_within}
-use Rattle.desk_records.proofs.Membership.{has_mapped}
-use Rattle.desk_records.proofs.NumberColumns.{is_number_in}
-use Rattle.desk_records.specs.RolloutRow.{IsRolloutRow, broken_group_column, broken_rollout_column, stored_rollout}
-use Rattle.desk_records.specs.Rollouts.{group_row, rollout_row, rule_row, told_rollout, told_rule}
-use Rattle.desk_records.specs.RuleRow.{IsRuleRow, broken_rule_column}
-use Rattle.desk_records.specs.Schema.{Groups, Rollouts, Rules}
-use Rattle.desk_records.specs.TableRows.{group_shown, rollout_shown, rule_shown}
-use Rattle.desk_records.specs.declared.rollout_row.StoredRollout.{StoredRollout}
-use Rattle.desk_store.specs.Readable.{BreaksColumn}
-use Rattle.desk_reads.proofs.CodeLemmas.{approval_is, flag_is, group_count_is, is_sized, kept_group, percentage_is}
-use Rattle.desk_reads.proofs.PlanRules.{IsPlanned, plans_are, rule_told}
-use Rattle.desk_reads.proofs.ReadableRows.{Keeps, fails_not, of_ordered, of_parts, unbroken}
+use Rattle.desk_verify.proofs.CodeLemmas.{approval_is, flag_is, group_count_is, is_sized, kept_group, percentage_is}
+use Rattle.desk_verify.proofs.PlanLaw.{IsPlanned, plans_are, rule_told}
+use Rattle.desk_verify.proofs.ReadableRows.{Keeps, fails_not, of_ordered, of_parts, unbroken}
 
 -- ---- rollouts
 

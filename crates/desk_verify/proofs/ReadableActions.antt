@@ -1,67 +1,18 @@
 -- The tables of actions, histories, offers and numbers can be read where records of accepted commands are held that can be counted.
 use Rattle.std.proofs.Common.{◌≡◌, inl, inr, ◌≤◌, ◌<◌, ◌^◌, ℕ, zero, suc, pos, true, List, [], ◌∷◌, length, map, slice_get, unwrap_or, zip, Option, Some, None, refl, sym, ap, subst, ◌∙◌, arith}
-use Rattle.desk_reads.proofs.Common.{item_numbered, CommandList, IsValid}
-use Rattle.std.proofs.lemmas.List.{length-map}
-use Rattle.std.proofs.lemmas.List.Sums.{count_by-le-length, length-filter}
-use Rattle.std.specs.List.{list_all}
-use Rattle.std.specs.Option.{is_some, option_or}
-use Rattle.sqlite_rules.proofs.ListLemmas.{has_got, has_kept, test_has}
-use Rattle.sqlite_rules.specs.Lists.{Has}
-use Rattle.sqlite_value.specs.Order.{Row, column}
-use Rattle.sqlite_value.specs.declared.value.Value.TheVariants.{Int}
-use Rattle.rollout_machine.proofs.MemberActions.{actions_follow_members}
-use Rattle.rollout_machine.proofs.Offers.{offered_one}
-use Rattle.rollout_machine.proofs.TargetTies.{same_refl}
-use Rattle.rollout_machine.proofs.WithinLimits.{limits_hold}
-use Rattle.rollout_machine.specs.CommandRules.{is_feedback_number_or_none}
-use Rattle.rollout_machine.specs.Commands.{Bytes}
-use Rattle.rollout_machine.specs.Kinds.{TargetOffer, offer_to}
-use Rattle.rollout_machine.specs.MemberActions.{IsOfMember}
-use Rattle.rollout_machine.specs.Offers.{offer}
-use Rattle.rollout_machine.specs.Records.{records}
-use Rattle.rollout_machine.specs.Reports.{HistoryEntry, entries_in}
-use Rattle.rollout_machine.specs.StateWords.{member_at}
+use Rattle.desk_verify.proofs.Common.{item_numbered, CommandList, IsValid, length-map, count_by-le-length, length-filter, list_all, is_some, option_or, has_got, has_kept, test_has, Has, Row, column, Int, actions_follow_members, offered_one, same_refl, limits_hold, is_feedback_number_or_none, Bytes, TargetOffer, offer_to, IsOfMember, offer, records, HistoryEntry, entries_in, member_at, AreWithinLimits, IsWithinLimits, ActionRecord, is_feedback_number, is_number, is_word, Offer, has_place, place_within, has_mapped, is_in_range, is_number_in, Tally, action_row, actor_of, entries_of, entry_row, history_of, tally_of, told_entry, has_size, feedback_number_in, first_broken, number_in, place_in, BreaksEntry, broken_word, keeps_details, HoldsOffers, is_to, offer_row, IsActionRow, broken_action_column, broken_listed_action_column, broken_offer_column, stored_action, Actions, Feedbacks, Numbers, Offers, action_shown, number_shown, offer_shown, Column, PlacedNumber, StoredAction, BreaksColumn, placed_shown, AreCounted, member_ids}
 use Rattle.rollout_machine.specs.Verdicts.{is_note, notes_of}
-use Rattle.rollout_machine.specs.WithinLimits.{AreWithinLimits, IsWithinLimits}
-use Rattle.rollout_machine.specs.declared.records.ActionRecord.{ActionRecord}
-use Rattle.rollout_model.specs.Rules.{is_feedback_number, is_number, is_word}
-use Rattle.rollout_model.specs.declared.rollout.Offer.{Offer}
-use Rattle.desk_records.proofs.HeldCounts.{has_place, place_within}
-use Rattle.desk_records.proofs.Membership.{has_mapped}
-use Rattle.desk_records.proofs.NumberColumns.{is_in_range, is_number_in}
-use Rattle.desk_records.specs.Actions.{Tally, action_row, actor_of, entries_of, entry_row, history_of, tally_of, told_entry}
-use Rattle.desk_records.specs.ArtifactRow.{has_size}
-use Rattle.desk_records.specs.Codes.{feedback_number_in, first_broken, number_in, place_in}
-use Rattle.desk_records.specs.EntryRow.{BreaksEntry, broken_word, keeps_details}
 use Rattle.desk_records.specs.FeedbackNumbers.{number_row, numbers_of}
-use Rattle.desk_records.specs.Offers.{HoldsOffers, is_to, offer_row}
-use Rattle.desk_records.specs.RolloutRow.{IsActionRow, broken_action_column, broken_listed_action_column, broken_offer_column, stored_action}
-use Rattle.desk_records.specs.Schema.{Actions, Feedbacks, Numbers, Offers}
-use Rattle.desk_records.specs.TableRows.{action_shown, number_shown, offer_shown}
 use Rattle.desk_records.specs.NumberRow.{broken_last_number_column, broken_number_column}
 use Rattle.desk_records.specs.TargetRow.{has_word}
-use Rattle.desk_records.specs.declared.module_row.Column.{Column}
 use Rattle.desk_records.specs.declared.module_row.Column.TheVariants as rule
-use Rattle.desk_records.specs.declared.number_row.PlacedNumber.{PlacedNumber}
-use Rattle.desk_records.specs.declared.rollout_row.StoredAction.{StoredAction}
-use Rattle.desk_store.specs.Readable.{BreaksColumn, placed_shown}
-use Rattle.desk_reads.specs.Counted.{AreCounted}
-use Rattle.desk_reads.proofs.CodeLemmas.{feedback_number_is, flag_is, is_sized, kind_is, outcome_is, place_is, said_is}
+use Rattle.desk_verify.proofs.CodeLemmas.{feedback_number_is, flag_is, is_sized, kind_is, outcome_is, place_is, said_is}
 use Rattle.desk_reads.proofs.HistoryKept.{details_kept}
-use Rattle.desk_reads.proofs.HistoryRules.{few_numbers, is_borne, keeps_number, numbers_kept}
-use Rattle.desk_reads.proofs.ListMembers.{member_ids}
-use Rattle.desk_reads.proofs.ReadableRows.{Keeps, fails_not, of_mapped, of_ordered, of_parts, unbroken}
+use Rattle.desk_verify.proofs.HistoryRules.{few_numbers, is_borne, keeps_number, numbers_kept}
+use Rattle.desk_verify.proofs.ReadableRows.{Keeps, fails_not, of_mapped, of_ordered, of_parts, unbroken}
+use Rattle.desk_verify.proofs.ActionLaw.{item_at, its_tally}
 
 -- ---- places in lists
-
-item_at : {X : Type 0} (xs : List X) (n : ℕ) (x : X) → item_numbered xs n ≡ Some x → (d : ℕ) × (n ≡ suc d) × (slice_get xs d ≡ Some x)
-item_at xs zero x e = absurd cc
-item_at xs (suc d) x e = (d, refl, e)
-
-its_tally : (actions : List ActionRecord) (d : ℕ) (it : ActionRecord × Tally) → slice_get (zip actions (map tally_of actions)) d ≡ Some it → (a : ActionRecord) × (slice_get actions d ≡ Some a) × (it ≡ (a, tally_of a))
-its_tally [] d it e = absurd cc
-its_tally (b ∷ actions) zero it e = let same : (b, tally_of b) ≡ it = cc in (b, refl, sym same)
-its_tally (b ∷ actions) (suc d) it e = its_tally actions d it e
 
 -- ---- one action
 

@@ -1,15 +1,10 @@
 -- The ledger of accepted commands can be read, where the histories can be counted.
-use Rattle.desk_reads.proofs.Common.{CommandList, IsValid, ledger_of}
-use Rattle.rollout_machine.specs.Records.{records}
-use Rattle.desk_records.specs.Schema.{Actions, Artifacts, Desk, Feedbacks, Groups, Members, Modules, Numbers, Offers, Pieces, Place, Rollouts, Rules}
-use Rattle.desk_records.specs.Schema.{SetModules, Sets, TargetAttributes, TargetTags, Targets}
-use Rattle.desk_store.specs.Readable.{IsReadable}
-use Rattle.desk_reads.specs.Counted.{AreCounted}
-use Rattle.desk_reads.proofs.ReadableActions.{keeps_actions, keeps_feedbacks, keeps_numbers, keeps_offers}
-use Rattle.desk_reads.proofs.ReadableArtifacts.{keeps_artifacts, keeps_desk, keeps_modules, keeps_pieces, keeps_set_modules, keeps_sets}
-use Rattle.desk_reads.proofs.ReadableRollouts.{keeps_groups, keeps_rollouts, keeps_rules}
-use Rattle.desk_reads.proofs.ReadableRows.{Keeps}
-use Rattle.desk_reads.proofs.ReadableTargets.{few_targets, keeps_members, keeps_target_attributes, keeps_target_tags, keeps_targets}
+use Rattle.desk_verify.proofs.Common.{CommandList, IsValid, ledger_of, records, Actions, Artifacts, Desk, Feedbacks, Groups, Members, Modules, Numbers, Offers, Pieces, Place, Rollouts, Rules, SetModules, Sets, TargetAttributes, TargetTags, Targets, IsReadable, AreCounted}
+use Rattle.desk_verify.proofs.ReadableActions.{keeps_actions, keeps_feedbacks, keeps_numbers, keeps_offers}
+use Rattle.desk_verify.proofs.ReadableArtifacts.{keeps_artifacts, keeps_desk, keeps_modules, keeps_pieces, keeps_set_modules, keeps_sets}
+use Rattle.desk_verify.proofs.ReadableRollouts.{keeps_groups, keeps_rollouts, keeps_rules}
+use Rattle.desk_verify.proofs.ReadableRows.{Keeps}
+use Rattle.desk_verify.proofs.ReadableTargets.{few_targets, keeps_members, keeps_target_attributes, keeps_target_tags, keeps_targets}
 
 keeps_each : (h : CommandList) → IsValid h → AreCounted (records h) → (p : Place) → Keeps (records h) p
 keeps_each h valid counted Desk = keeps_desk h

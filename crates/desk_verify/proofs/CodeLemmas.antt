@@ -1,25 +1,8 @@
 -- What codes and numbers are read as that the program writes.
 use Rattle.std.proofs.Common.{◌≡◌, ◌≤◌, ◌<◌, ◌^◌, ℕ, pos, Bool, true, false, [], ◌∷◌, nat_eq, nat_le, nat_lt, Option, Some, None, refl, arith, ap}
-use Rattle.desk_reads.proofs.Common.{and_parts}
-use Rattle.std.proofs.lemmas.Bool.{leb-true}
-use Rattle.std.proofs.lemmas.Bool.Decides.{nat_tests}
-use Rattle.std.specs.Option.{is_some}
-use Rattle.sqlite_value.specs.declared.value.Value.TheVariants.{Int}
-use Rattle.rollout_machine.specs.Commands.{CancelWord, CanceledCancel, ClosedCancel, DeploymentWord, Failed, Noted, NotedCancel, Proceeding, Rejected, RejectedCancel, Resumed, Scheduled, Succeeded}
-use Rattle.rollout_machine.specs.Reports.{OfCancel, OfDeployment, Said}
-use Rattle.rollout_machine.specs.declared.outcome.Outcome.{Outcome}
-use Rattle.rollout_machine.specs.declared.outcome.Outcome.TheVariants.{Bad, Gone, Good}
-use Rattle.rollout_model.specs.Limits.{group_limit, percentage_limit}
-use Rattle.rollout_model.specs.Rules.{is_feedback_number, is_group_count, is_percentage}
+use Rattle.desk_verify.proofs.Common.{and_parts, leb-true, nat_tests, is_some, Int, CancelWord, CanceledCancel, ClosedCancel, DeploymentWord, Failed, Noted, NotedCancel, Proceeding, Rejected, RejectedCancel, Resumed, Scheduled, Succeeded, OfCancel, OfDeployment, Said, Outcome, Bad, Gone, Good, group_limit, percentage_limit, is_feedback_number, is_group_count, is_percentage, is_small, kind_code, outcome_code, word_code, has_size, approval_in, feedback_number_in, flag_in, group_count_in, outcome_in, percentage_in, place_in, said_by, broken_group_column, approval_code, flag}
 use Rattle.rollout_model.specs.declared.approval.Approval.{Approval}
 use Rattle.rollout_model.specs.declared.approval.Approval.TheVariants.{Denied, Given, Waiting}
-use Rattle.desk_records.proofs.NumberColumns.{is_small}
-use Rattle.desk_records.specs.Actions.{kind_code, outcome_code, word_code}
-use Rattle.desk_records.specs.ArtifactRow.{has_size}
-use Rattle.desk_records.specs.Codes.{approval_in, feedback_number_in, flag_in, group_count_in, outcome_in, percentage_in, place_in}
-use Rattle.desk_records.specs.EntryRow.{said_by}
-use Rattle.desk_records.specs.RolloutRow.{broken_group_column}
-use Rattle.desk_records.specs.Rollouts.{approval_code, flag}
 
 -- ---- numbers
 
