@@ -87,7 +87,7 @@ keeps_actions h valid counted rows are = of_ordered (λ row. BreaksColumn Action
     each d it at =
         let own = its_tally (records h).actions d it at in
         subst (λ (x : ActionRecord × Tally). BreaksColumn Actions (action_row (records h).rollouts (suc d) x) → ⊥) (sym own.2)
-        (one_action h valid d own.0 own.1 (counted.few own.0 (has_got (records h).actions d own.0 own.1)))
+        (one_action h valid d own.0 own.1 (omega (arith, counted.few own.0 (has_got (records h).actions d own.0 own.1))))
 
 -- ---- histories
 
@@ -148,7 +148,7 @@ keeps_numbers h valid counted rows held = of_parts (λ row. BreaksColumn Numbers
         let borne = is_borne 1 a.history it (has_got (numbers_of a) k it own) in
         let kept : keeps_number borne.report ≡ true = test_has keeps_number a.history borne.report (numbers_kept h valid (suc place.0) a place.1) borne.among in
         let good : is_feedback_number it.number ≡ true = subst (λ (o : Option ℕ). is_feedback_number_or_none o ≡ true) borne.number kept in
-        let few = counted.few a source.1 in
+        let few : length a.history < 2 ^ 32 = omega (arith, counted.few a source.1) in
         let less = place_within (numbers_of a) k it own in
         let fewer = few_numbers 1 a.history in
         whole_number (suc k) it (place_is it.sequence borne.low (omega (arith, borne.high, few))) (feedback_number_is it.number good) (place_is (suc k) (omega arith) (omega (arith, less, fewer, few))) n (suc d)
