@@ -1,4 +1,5 @@
 pub mod Common
+pub mod FailingViews
 pub mod HistoryViews
 pub mod ActionViews
 pub mod MemberViews
