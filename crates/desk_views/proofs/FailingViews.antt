@@ -1,17 +1,20 @@
 -- Why a view of a list of accepted commands is no failed store by itself.
-use Rattle.std.proofs.Common.{◌≡◌, ◌≤◌, ℕ, Result, Ok, Err, IfErr, refl, sym, ap, subst, arith}
+use Rattle.std.proofs.Common.{◌≡◌, ◌≤◌, ◌<◌, ℕ, zero, suc, true, List, [], ◌∷◌, length, slice_get, Some, None, Result, Ok, Err, IfErr, refl, sym, ap, subst, arith}
 use Rattle.sqlite.specs.Store.{Ghosts}
 use Rattle.sql_calls.specs.Standing.{Sees, Wears}
 use Rattle.sql_calls.specs.declared.fault.Fault.TheVariants.{Memory, Store}
+use Rattle.rollout_model.specs.Limits.{number_limit}
+use Rattle.rollout_model.specs.Rules.{is_number, number_of}
 use Rattle.rollout_machine.specs.Records.{records}
 use Rattle.desk_records.specs.Holds.{HoldsLedger, Ledger, ledger_of}
+use Rattle.desk_records.proofs.NumberColumns.{is_in_range}
 use Rattle.desk_store.specs.Changing.{seen_in}
 use Rattle.desk_store.specs.Failing.{FailsGiven, HasSight}
 use Rattle.desk_store.specs.Readable.{IsReadable}
 use Rattle.desk_store.specs.Rows.{IfStore}
 use Rattle.desk_store.specs.declared.change.OpenChange.{OpenChange}
 use Rattle.desk_reads.specs.AtLists.{IsOfList}
-use Rattle.desk_views.proofs.Common.{Records, Fault, FindsIn, AreOfList}
+use Rattle.desk_views.proofs.Common.{item_numbered, Records, Fault, FindsIn, AreOfList}
 use Rattle.desk_views.specs.Failing.{IsOfListWith}
 
 -- the ledger of such records
@@ -90,3 +93,22 @@ pub never_answers : {S B C : Type 0} {g : Ghosts S} {Given G : Ledger → Type 0
     → FailsGiven g Given old new out
 never_answers kept (Ok z) why failed = record { to = kept.to }
 never_answers kept (Err fault) why failed = failed fault why refl
+
+-- ---- entries of lists
+
+-- a number of an entry is one
+pub numbered_so : (n most : ℕ) → None ≡ number_of n → 1 ≤ n → n ≤ most → most ≤ number_limit → ⊥
+numbered_so n most none low high few =
+    let good : is_number n ≡ true = is_in_range n low (omega (arith, high, few)) in
+    let some : None ≡ Some n = rw good at none in
+    absurd (cc)
+
+-- .. of which there is one
+pub entry_there : {X : Type 0} (xs : List X) (n : ℕ) → 1 ≤ n → n ≤ length xs → item_numbered xs n ≡ None → ⊥
+entry_there xs zero low high none = omega (arith, low)
+entry_there xs (suc i) low high none = go xs i (omega (arith, high)) none
+  where
+    go : {X : Type 0} (xs : List X) (i : ℕ) → i < length xs → slice_get xs i ≡ None → ⊥
+    go [] i within none = omega (arith, within)
+    go (x ∷ xs) zero within none = cc
+    go (x ∷ xs) (suc i) within none = go xs i (omega (arith, within)) none
