@@ -1,26 +1,27 @@
 -- Why the actions of a list and their histories can be counted.
-use Rattle.std.proofs.Common.{◌≡◌, ◌≤◌, ◌<◌, ◌^◌, ◌⊎◌, ◌+◌, ℕ, pos, zero, suc, Bool, true, false, not, cond, nat_lt, List, [], ◌∷◌, length, map, take, drop, slice_get, Option, Some, None, inl, inr, refl, sym, ap, subst, ◌∙◌, arith}
+use Rattle.std.proofs.Common.{◌≡◌, ◌≤◌, ◌^◌, ◌+◌, ℕ, pos, zero, suc, Bool, true, false, cond, nat_lt, List, [], ◌∷◌, ◌++◌, length, map, take, drop, slice_get, Option, Some, None, inl, inr, refl, sym, ap, subst, arith}
 use Rattle.std.specs.List.{zip}
 use Rattle.std.specs.Option.{is_some}
 use Rattle.std.proofs.lemmas.List.{length-drop, length-map, length-take}
-use Rattle.std.proofs.lemmas.Bool.{cases_lt}
 use Rattle.std.proofs.lemmas.Bool.Decides.{nat_tests}
 use Rattle.sqlite_value.specs.declared.value.Value.TheVariants.{Int}
-use Rattle.sqlite_value.specs.Order.{Row}
+use Rattle.sqlite_value.specs.Order.{Row, column}
 use Rattle.sqlite_rules.specs.Lists.{Has}
 use Rattle.sql_calls.specs.Keyed.{rows_from}
-use Rattle.rollout_machine.specs.Reports.{HistoryEntry, Reported, entries_in}
+use Rattle.rollout_machine.specs.Reports.{HistoryEntry, Reported}
 use Rattle.rollout_machine.proofs.WithinLimits.{limits_hold}
 use Rattle.desk_records.specs.Actions.{Tally, action_row, history_of, tally_of}
 use Rattle.desk_records.specs.ArtifactRow.{has_size}
-use Rattle.desk_records.specs.Codes.{first_broken}
+use Rattle.desk_records.specs.Codes.{first_broken, flag_in, number_in, outcome_in}
 use Rattle.desk_records.specs.Holds.{ledger_of}
-use Rattle.desk_records.specs.RolloutRow.{broken_action_column, listed_where}
+use Rattle.desk_records.specs.RolloutRow.{broken_action_column, listed_where, stored_action}
 use Rattle.desk_records.specs.RowFaults.{BreaksRule}
 use Rattle.desk_records.specs.Schema.{Actions}
 use Rattle.desk_records.specs.TableRows.{action_shown}
 use Rattle.desk_records.specs.declared.module_row.Column.{Column}
+use Rattle.desk_records.specs.declared.module_row.Column.TheVariants.{ActionCanceling, ActionEntries, ActionNotes, ActionOutcome, ActionPlace, ActionRollout, TargetId}
 use Rattle.desk_records.specs.declared.rollout_row.ListedAction.{ListedAction}
+use Rattle.desk_records.specs.TargetRow.{has_word}
 use Rattle.desk_store.specs.Readable.{IsReadable}
 use Rattle.desk_views.proofs.Common.{item_numbered, Records, ActionRecord, RolloutRecord, AreOfList}
 
@@ -28,11 +29,11 @@ use Rattle.desk_views.proofs.Common.{item_numbered, Records, ActionRecord, Rollo
 
 few_listed : (test : ActionRecord × Tally → Bool) (rollouts : List RolloutRecord) (n : ℕ) (its : List (ActionRecord × Tally)) → length (listed_where test rollouts n its) ≤ length its
 few_listed test rollouts n [] = omega arith
-few_listed test rollouts n (it ∷ more) = go (test it) (few_listed test rollouts (n + 1) more)
+few_listed test rollouts n (it ∷ more) = go (record { number = n; action = stored_action rollouts it }) (listed_where test rollouts (n + 1) more) (test it) (few_listed test rollouts (n + 1) more)
   where
-    go : (b : Bool) → length (listed_where test rollouts (n + 1) more) ≤ length more → length (cond b (record { number = n; action = _ } ∷ listed_where test rollouts (n + 1) more) (listed_where test rollouts (n + 1) more)) ≤ suc (length more)
-    go true few = omega (arith, few)
-    go false few = omega (arith, few)
+    go : (one : ListedAction) (rest : List ListedAction) (b : Bool) → length rest ≤ length more → length (cond b (one ∷ rest) rest) ≤ suc (length more)
+    go one rest true few = omega (arith, few)
+    go one rest false few = omega (arith, few)
 
 zip_few : {X Y : Type 0} (xs : List X) (ys : List Y) → length (zip xs ys) ≤ length xs
 zip_few [] ys = omega arith
@@ -63,12 +64,15 @@ row_there f n [] i x is = absurd cc
 row_there f n (y ∷ xs) zero x is = let same : y ≡ x = cc in (n, inl (ap (f n) (sym same)))
 row_there f n (y ∷ xs) (suc i) x is = let it = row_there f (n + 1) xs i x is in (it.0, inr it.1)
 
--- a column that breaks its rule is among those that do
-breaks_at : (tests : List (Bool × Column)) (c : Column) → Has tests (false, c) → BreaksRule (first_broken tests)
-breaks_at [] c among = absurd among
-breaks_at ((kept, d) ∷ more) c (inl same) = let broken : kept ≡ false = sym (ap (λ (t : Bool × Column). t.0) same) in record { first = d; is = rw broken refl }
-breaks_at ((true, d) ∷ more) c (inr among) = breaks_at more c among
-breaks_at ((false, d) ∷ more) c (inr among) = record { first = d; is = refl }
+-- the last of these columns breaks its rule, if none before it does
+breaks_last : (tests : List (Bool × Column)) (c : Column) (kept : Bool) → kept ≡ false → BreaksRule (first_broken (tests ++ (kept, c) ∷ []))
+breaks_last [] c kept broken = record { first = c; is = rw broken refl }
+breaks_last ((true, d) ∷ more) c kept broken = breaks_last more c kept broken
+breaks_last ((false, d) ∷ more) c kept broken = record { first = d; is = refl }
+
+unread_entries : (row : Row) → has_size (column row 6) ≡ false → BreaksRule (broken_action_column row)
+unread_entries row unread = breaks_last ((is_some (number_in (column row 0)), ActionRollout) ∷ (has_size (column row 1), ActionPlace) ∷ (has_word (column row 2), TargetId) ∷ (is_some (flag_in (column row 3)), ActionCanceling)
+    ∷ (is_some (outcome_in (column row 4)), ActionOutcome) ∷ (has_size (column row 5), ActionNotes) ∷ []) ActionEntries (has_size (column row 6)) unread
 
 no_size : (n : ℕ) → 2 ^ 32 ≤ n → has_size (Int (pos n)) ≡ false
 no_size n large = let test : nat_lt n (2 ^ 32) ≡ false = grind (arith, nat_tests, large) in rw test refl
@@ -88,7 +92,7 @@ history_few r readable (suc i) large = go (slice_get r.actions i) refl large
         let wide : 2 ^ 32 ≤ length a.history = omega (arith, large, length-map a.history (λ (it : Reported). it.entry)) in
         let unread : has_size (Int (pos (length a.history))) ≡ false = no_size (length a.history) wide in
         readable.keep Actions (rows_from (action_row r.rollouts) 1 its) refl (action_row r.rollouts row.0 (a, tally_of a)) row.1
-        (inr (inl (breaks_at _ _ (inr (inr (inr (inr (inr (inr (inl (ap (λ b. (b, _)) (sym unread))))))))))))
+        (inr (inl (unread_entries (action_shown (action_row r.rollouts row.0 (a, tally_of a))) unread)))
 
 -- so the places of a page of it are counted
 pub places_few : (r : Records) → IsReadable (ledger_of r) → (k limit offset : ℕ) (entries : List HistoryEntry) → entries ≡ take limit (drop offset (history_of (item_numbered r.actions k))) → 1 ≤ length entries → 2 ^ 32 ≤ offset + length entries → ⊥

@@ -1,10 +1,11 @@
 -- Why the groups of a rollout of a list can be shown.
-use Rattle.std.proofs.Common.{◌≡◌, ◌≤◌, ◌<◌, ◌^◌, ◌⊎◌, ◌+◌, ◌-◌, ℕ, zero, suc, nat_eq, Bool, true, false, cond, List, [], ◌∷◌, length, take, drop, Option, Some, None, inl, inr, refl, sym, ap, subst, ◌∙◌, arith}
+use Rattle.std.proofs.Common.{◌≡◌, ◌≤◌, ◌<◌, ◌^◌, ◌⊎◌, ◌+◌, ℕ, zero, suc, nat_eq, Bool, true, false, cond, List, [], ◌∷◌, length, take, drop, Option, Some, None, inl, inr, refl, sym, ap, subst, ◌∙◌, arith}
 use Rattle.sqlite_rules.specs.Lists.{Has}
 use Rattle.rollout_machine.specs.Effects.{HasSoundPlan}
 use Rattle.rollout_machine.specs.Ranges.{each_from}
-use Rattle.rollout_machine.specs.Records.{group_in, records}
+use Rattle.rollout_machine.specs.Records.{group_in}
 use Rattle.rollout_machine.specs.Rollouts.{Rollout, size_in, size_of}
+use Rattle.rollout_machine.specs.WithinLimits.{IsWithinLimits}
 use Rattle.rollout_machine.proofs.Lists.{length_each}
 use Rattle.rollout_machine.proofs.WithinLimits.{limits_hold}
 use Rattle.desk_records.specs.Holds.{ledger_of}
@@ -45,21 +46,19 @@ size_few : (y : Rollout) (k : ℕ) → HasSoundPlan y → 1 ≤ k → k ≤ y.pl
 size_few y k sound low high = omega (arith, sound.cut.rises k y.plan.groups.count high, sound.cut.whole)
 
 module _ (r : Records) (of : AreOfList r) (number : ℕ) (x : RolloutRecord) (there : item_numbered r.rollouts number ≡ Some x) where
-  few_members : length x.members ≤ 10000
-  few_members = ((limits_hold of.list of.valid).each number x (ap (λ (q : Records). item_numbered q.rollouts number) (sym of.are) ∙ there)).members
+  limits : IsWithinLimits x
+  limits = (limits_hold of.list of.valid).each number x (ap (λ (q : Records). item_numbered q.rollouts number) (sym of.are) ∙ there)
 
   few_groups : length x.groups ≤ 50
   few_groups =
       let it = made r of number x there in
-      let count = ((limits_hold of.list of.valid).each number x (ap (λ (q : Records). item_numbered q.rollouts number) (sym of.are) ∙ there)).groups in
-      let plan : x.plan ≡ it.made.plan = ap (λ (q : RolloutRecord). q.plan) it.is in
+      let plan : x.plan.groups.count ≡ it.made.plan.groups.count = ap (λ (q : RolloutRecord). q.plan.groups.count) it.is in
       let all : length x.groups ≡ it.made.plan.groups.count = ap (λ (q : RolloutRecord). length q.groups) it.is ∙ length_each (group_in it.made number of.list) 1 it.made.plan.groups.count in
-      let same : x.plan.groups.count ≡ it.made.plan.groups.count = ap (λ p. p.groups.count) plan in
-      omega (arith, count, all, same)
+      omega (arith, limits.groups, plan, all)
 
   -- something is said of each, and it has no more members than are counted
-  pub each_shown : (group : GroupRecord) → Has x.groups group → (item_numbered (rules_of x.plan) group.number ≡ None) ⊎ (2 ^ 32 ≤ size_of_group group) → ⊥
-  each_shown group among why =
+  pub each_showable : (group : GroupRecord) → Has x.groups group → (item_numbered (rules_of x.plan) group.number ≡ None) ⊎ (2 ^ 32 ≤ size_of_group group) → ⊥
+  each_showable group among why =
       let it = made r of number x there in
       let found = has_each (group_in it.made number of.list) 1 it.made.plan.groups.count group (subst (λ (q : RolloutRecord). Has q.groups group) it.is among) in
       let at : group.number ≡ found.0 = ap (λ (q : GroupRecord). q.number) found.3 in
@@ -67,19 +66,19 @@ module _ (r : Records) (of : AreOfList r) (number : ℕ) (x : RolloutRecord) (th
       let size : size_of_group group ≡ size_in it.made found.0 = ap size_of_group found.3 in
       let members : length x.members ≡ size_of it.made = ap (λ (q : RolloutRecord). length q.members) it.is in
       let few = size_few it.made found.0 it.sound found.1 (omega (arith, found.2)) in
-      go (rule_there x.plan group.number (omega (arith, at, found.1)) (omega (arith, at, plan, found.2))) (omega (arith, size, members, few, few_members)) why
+      go (rule_there x.plan group.number (omega (arith, at, found.1)) (omega (arith, at, plan, found.2))) (omega (arith, size, members, few, limits.members)) why
     where
       go : {rule : GroupRule} → item_numbered (rules_of x.plan) group.number ≡ Some rule → size_of_group group ≤ 10000 → (item_numbered (rules_of x.plan) group.number ≡ None) ⊎ (2 ^ 32 ≤ size_of_group group) → ⊥
       go said small (inl none) = cc
       go said small (inr large) = omega (arith, small, large)
 
-  all_shown : (rules : List GroupRule) (groups : List GroupRecord) → rules ≡ rules_numbered (ledger_of r).rules number → ((group : GroupRecord) → Has groups group → Has x.groups group) → HasUnshown rules groups → ⊥
-  all_shown rules groups are within bad =
-      each_shown bad.group (within bad.group bad.among) (subst (λ rules. (item_numbered rules bad.group.number ≡ None) ⊎ (2 ^ 32 ≤ size_of_group bad.group)) (are ∙ rules_there r number x there) bad.unshown)
+  all_showable : (rules : List GroupRule) (groups : List GroupRecord) → rules ≡ rules_numbered (ledger_of r).rules number → ((group : GroupRecord) → Has groups group → Has x.groups group) → HasUnshown rules groups → ⊥
+  all_showable rules groups are within bad =
+      each_showable bad.group (within bad.group bad.among) (subst (λ rules. (item_numbered rules bad.group.number ≡ None) ⊎ (2 ^ 32 ≤ size_of_group bad.group)) (are ∙ rules_there r number x there) bad.unshown)
 
-  part_shown : (rules : List GroupRule) (groups : List GroupRecord) (limit offset : ℕ) → groups ≡ x.groups → rules ≡ rules_numbered (ledger_of r).rules number → (2 ^ 32 ≤ length groups) ⊎ HasUnshown rules (take limit (drop offset groups)) → ⊥
-  part_shown rules groups limit offset its are (inl many) = omega (arith, many, few_groups, ap length its)
-  part_shown rules groups limit offset its are (inr bad) = all_shown rules (take limit (drop offset groups)) are (λ group among. subst (λ gs. Has gs group) its (has_dropped offset groups group (has_taken limit (drop offset groups) group among))) bad
+  part_showable : (rules : List GroupRule) (groups : List GroupRecord) (limit offset : ℕ) → groups ≡ x.groups → rules ≡ rules_numbered (ledger_of r).rules number → (2 ^ 32 ≤ length groups) ⊎ HasUnshown rules (take limit (drop offset groups)) → ⊥
+  part_showable rules groups limit offset its are (inl many) = omega (arith, many, few_groups, ap length its)
+  part_showable rules groups limit offset its are (inr bad) = all_showable rules (take limit (drop offset groups)) are (λ group among. subst (λ gs. Has gs group) its (has_dropped offset groups group (has_taken limit (drop offset groups) group among))) bad
 
 -- ---- of a rollout that was seen
 
@@ -92,11 +91,11 @@ module _ (r : Records) (of : AreOfList r) (number : ℕ) (seen : SeenRollout) (r
       go (Some x) there it = never x there it.groups bad
 
   -- its groups, all of them and those of a page
-  pub groups_shown : HasUnshown rules seen.groups.items → ⊥
-  groups_shown = seen_there _ (λ x there its. all_shown r of number x there rules seen.groups.items are (λ group among. subst (λ gs. Has gs group) its among))
+  pub groups_showable : HasUnshown rules seen.groups.items → ⊥
+  groups_showable = seen_there _ (λ x there its. all_showable r of number x there rules seen.groups.items are (λ group among. subst (λ gs. Has gs group) its among))
 
-  pub page_shown : (limit offset : ℕ) → (2 ^ 32 ≤ length seen.groups.items) ⊎ HasUnshown rules (take limit (drop offset seen.groups.items)) → ⊥
-  page_shown limit offset = seen_there _ (λ x there its. part_shown r of number x there rules seen.groups.items limit offset its are)
+  pub page_showable : (limit offset : ℕ) → (2 ^ 32 ≤ length seen.groups.items) ⊎ HasUnshown rules (take limit (drop offset seen.groups.items)) → ⊥
+  page_showable limit offset = seen_there _ (λ x there its. part_showable r of number x there rules seen.groups.items limit offset its are)
 
 -- ---- one group
 
@@ -111,7 +110,7 @@ group_there r of number i group is = go (item_numbered r.rollouts number) refl (
 module _ (r : Records) (of : AreOfList r) (number : ℕ) (group : GroupRecord) (it : IsGroupOf number group r) where
   -- .. of which something is said
   pub group_ruled : None ≡ rule_numbered (ledger_of r).rules number group.number → ⊥
-  group_ruled none = each_shown r of number it.rollout it.there group it.among (inl (ap (λ rules. item_numbered rules group.number) (sym (rules_there r number it.rollout it.there)) ∙ sym none))
+  group_ruled none = each_showable r of number it.rollout it.there group it.among (inl (ap (λ rules. item_numbered rules group.number) (sym (rules_there r number it.rollout it.there)) ∙ sym none))
 
   pub group_small : 2 ^ 32 ≤ size_of_group group → ⊥
-  group_small large = each_shown r of number it.rollout it.there group it.among (inr large)
+  group_small large = each_showable r of number it.rollout it.there group it.among (inr large)

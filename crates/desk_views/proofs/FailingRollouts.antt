@@ -1,5 +1,5 @@
 -- Why the rollouts of a list can be shown by their numbers.
-use Rattle.std.proofs.Common.{◌≡◌, ◌≤◌, ℕ, length, Option, Some, None, refl, sym, ap, subst, ◌∙◌, arith}
+use Rattle.std.proofs.Common.{◌≡◌, ◌≤◌, ℕ, length, Option, Some, None, refl, sym, subst, arith}
 use Rattle.rollout_model.specs.Rules.{number_of}
 use Rattle.rollout_machine.proofs.WithinLimits.{limits_hold}
 use Rattle.desk_views.proofs.Common.{BothOrNone, item_numbered, Records, RolloutRecord, AreOfList, IsSeenOf}

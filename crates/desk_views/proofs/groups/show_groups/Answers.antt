@@ -1,7 +1,7 @@
 use Rattle.std.proofs.Common.{Err, ap, ◌∙◌}
 use Rattle.std.proofs.lemmas.Result.{err_from_is_err_and}
 use Rattle.desk_views.proofs.Common.{both_found, finds_as, item_numbered, groups_shown, page_of, GroupsShown, ledger_found, rules_there}
-use Rattle.desk_views.proofs.FailingGroups.{page_shown}
+use Rattle.desk_views.proofs.FailingGroups.{page_showable}
 use Rattle.desk_views.proofs.FailingViews.{never_fails}
 use Rattle.desk_views.proofs.GroupViews.{groups_paged}
 use Rattle.desk_views.proofs.RolloutViews.{none_replied, one_replied}
@@ -21,5 +21,5 @@ pub returns-in_err-shown-clause-fails : goal.returns-in_err-shown-clause-fails
 returns-in_err-shown-clause-fails g c =
     let out = err_from_is_err_and c.from_residual-in_err-shown.result c.from_residual-in_err-shown.ensures.1 in
     never_fails (both_found (rw c.in-Some.is at c.in_ok-seen.ensures.reads) (ledger_found _ c.in_ok-rules.ensures.reads)) c.in_err-shown.field-0.0 c.in_err-shown.ensures.err
-    (λ r is of readable bad. page_shown r of c.args.number c.in-Some.seen c.deref.result.now (c.deref.ensures.value ∙ is.1) (is.0 of) c.args.page.limit c.args.page.offset bad)
+    (λ r is of readable bad. page_showable r of c.args.number c.in-Some.seen c.deref.result.now (c.deref.ensures.value ∙ is.1) (is.0 of) c.args.page.limit c.args.page.offset bad)
     c.from_residual-in_err-shown.result (out.1 ∙ ap Err out.2)

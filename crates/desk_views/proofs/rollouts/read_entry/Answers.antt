@@ -1,4 +1,4 @@
-use Rattle.std.proofs.Common.{Err, Ok, refl, sym, ◌∙◌}
+use Rattle.std.proofs.Common.{Err, refl, sym}
 use Rattle.sql_calls.specs.declared.fault.Fault.TheVariants.{Store}
 use Rattle.desk_views.proofs.Common.{finds_as, known}
 use Rattle.desk_views.proofs.FailingRollouts.{entry_seen, few_numbered}

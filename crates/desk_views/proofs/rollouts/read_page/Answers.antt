@@ -1,4 +1,4 @@
-use Rattle.std.proofs.Common.{Err, sym, ap, ◌∙◌, arith, rules}
+use Rattle.std.proofs.Common.{◌≡◌, length, Err, sym, ap, ◌∙◌, arith, rules}
 use Rattle.std.proofs.lemmas.Result.{err_from_is_err_and}
 use Rattle.desk_views.proofs.Common.{is_ok, both_found, finds_as, rollouts_shown}
 use Rattle.desk_views.proofs.FailingViews.{listed, with_when}
@@ -23,5 +23,5 @@ pub returns-in_err-entry-clause-fails : goal.returns-in_err-entry-clause-fails
 returns-in_err-entry-clause-fails g c =
     let out = err_from_is_err_and c.from_residual.result c.from_residual.ensures.1 in
     with_when c.loop-place.invariant.reads c.loop-place.invariant.stays.grows.failures c.in_err-entry.ensures.reads.wears c.in_err-entry.field-0.0 c.in_err-entry.ensures.fails
-    (λ r is of count. record { of_list = listed of; wanted = (omega arith, omega (arith, count, c.count_on-place-end.ensures, c.loop-place-test.true)) })
+    (λ r is of (count : c.args.total ≡ length r.rollouts). record { of_list = listed of; wanted = (omega arith, omega (arith, count, c.count_on-place-end.ensures, c.loop-place-test.true)) })
     c.from_residual.result (out.1 ∙ ap Err out.2)
