@@ -1,4 +1,8 @@
 pub mod Common
+pub mod FailingViews
+pub mod FailingGroups
+pub mod FailingRollouts
+pub mod FailingActions
 pub mod HistoryViews
 pub mod ActionViews
 pub mod MemberViews

@@ -7,6 +7,7 @@ ghost use Rattle.rollout_machine.specs.Answers.{artifact_of_module, query_reply}
 ghost use Rattle.rollout_machine.specs.ByteStrings.{item_numbered};
 ghost use Rattle.rollout_machine.specs.Requests.{ShowArtifacts, ShowArtifact, ShowContents};
 ghost use Rattle.rollout_machine.specs.Views.{reply_of};
+ghost use Rattle.desk_reads.specs.AtLists.{FailsAtListsIn};
 ghost use Rattle.desk_views.specs.Contents.{contents_found};
 ghost use Rattle.rollout_model.specs.Limits.{artifact_size_limit, piece_length};
 ghost use Rattle.rollout_model.specs.Rules.{is_contents};
@@ -33,6 +34,7 @@ pub fn show_artifacts<S: Alter>(
 ) -> Result<Reply, Fault>
     ensures stays { StaysIn S.Store change.old change.new result }
     ensures reads { FindsIn S.Store change.old change.new result (λ now reply. reply_of reply ≡ query_reply now (ShowArtifacts module_number page)) }
+    ensures fails { FailsAtListsIn S.Store change.old change.new result }
 {
     if change.read_module(module_number)?.is_none() {
         return Ok(Reply::Refused(Refusal::NotFound));
@@ -50,6 +52,7 @@ pub fn show_artifact<S: Alter>(
 ) -> Result<Reply, Fault>
     ensures stays { StaysIn S.Store change.old change.new result }
     ensures reads { FindsIn S.Store change.old change.new result (λ now reply. reply_of reply ≡ query_reply now (ShowArtifact module_number number)) }
+    ensures fails { FailsAtListsIn S.Store change.old change.new result }
 {
     match read_of_module(change, module_number, number)? {
         Some(found) => Ok(Reply::Artifact(shown_as(number, found))),
@@ -67,6 +70,7 @@ pub fn show_contents<S: Alter>(
 ) -> Result<Reply, Fault>
     ensures stays { StaysIn S.Store change.old change.new result }
     ensures reads { FindsIn S.Store change.old change.new result (λ now reply. reply_of reply ≡ query_reply now (ShowContents module_number number)) }
+    ensures fails { FailsAtListsIn S.Store change.old change.new result }
     ensures sized { AgreesIn S.Store change.old change.new result (λ t reply. KeepsSize t (ShowContents module_number number) (reply_of reply)) }
 {
     let found = match read_of_module(change, module_number, number)? {
@@ -86,6 +90,7 @@ pub(crate) fn read_contents<S: Alter>(
 ) -> Result<Contents, Fault>
     ensures stays { StaysIn S.Store change.old change.new result }
     ensures reads { FindsIn S.Store change.old change.new result (λ now contents. contents ≡ contents_found (item_numbered now.artifacts number)) }
+    ensures fails { FailsAtListsIn S.Store change.old change.new result }
     ensures sized { IfOk result (λ contents. length contents ≡ size) }
 {
     let bytes = read_pieces(alloc, change, number)?;
@@ -118,6 +123,7 @@ fn read_of_module<S: Alter>(
     ensures stays { StaysIn S.Store change.old change.new result }
     ensures reads { FindsIn S.Store change.old change.new result
         (λ now found. found ≡ option_map stored (artifact_of_module now module_number number)) }
+    ensures fails { FailsAtListsIn S.Store change.old change.new result }
     ensures agrees { AgreesIn S.Store change.old change.new result (λ t found. IfSome found (IsOfNumber t module_number number)) }
 {
     let found = match change.read_artifact(number)? {
@@ -150,6 +156,7 @@ fn read_pieces<S: Alter>(
 ) -> Result<Vec<u8>, Fault>
     ensures stays { StaysIn S.Store change.old change.new result }
     ensures reads { FindsIn S.Store change.old change.new result (λ now bytes. bytes.items ≡ contents_found (item_numbered now.artifacts number)) }
+    ensures fails { FailsAtListsIn S.Store change.old change.new result }
 {
     let mut bytes = Vec::new(alloc);
     let mut pieces = 0;

@@ -8,6 +8,7 @@ ghost use Rattle.rollout_machine.specs.Requests.{ShowSet, ShowSets};
 ghost use Rattle.rollout_machine.specs.Views.{reply_of};
 ghost use Rattle.rollout_model.specs.Rules.{is_module_list};
 ghost use Rattle.sql_calls.specs.declared.fault.Fault.TheVariants.{Store};
+ghost use Rattle.desk_reads.specs.AtLists.{FailsAtListsIn};
 ghost use Rattle.desk_store.specs.Changing.{FindsIn, StaysIn};
 
 use crate::pages::count_on;
@@ -22,6 +23,7 @@ use std::alloc::Global;
 pub fn show_set<S: Alter>(change: &mut OpenChange<'_, S>, number: SetNo) -> Result<Reply, Fault>
     ensures stays { StaysIn S.Store change.old change.new result }
     ensures reads { FindsIn S.Store change.old change.new result (λ now reply. reply_of reply ≡ query_reply now (ShowSet number)) }
+    ensures fails { FailsAtListsIn S.Store change.old change.new result }
 {
     match read_label(change, number)? {
         Some(label) => Ok(Reply::Set(DistributionSet { number, label })),
@@ -37,6 +39,7 @@ pub fn show_sets<S: Alter>(
 ) -> Result<Reply, Fault>
     ensures stays { StaysIn S.Store change.old change.new result }
     ensures reads { FindsIn S.Store change.old change.new result (λ now reply. reply_of reply ≡ query_reply now (ShowSets page)) }
+    ensures fails { FailsAtListsIn S.Store change.old change.new result }
 {
     let total = change.read_last_set()?;
     let content = read_page(alloc, change, page, total)?;
@@ -53,6 +56,7 @@ fn read_page<S: Alter>(
     ensures stays { StaysIn S.Store change.old change.new result }
     ensures reads { FindsIn S.Store change.old change.new result
         (λ now content. total ≡ length now.sets → content.items ≡ take page.limit (drop page.offset (numbered set_shown 1 now.sets))) }
+    ensures fails { FailsAtListsIn S.Store change.old change.new result }
 {
     let mut content = Vec::new(alloc);
     for place in 0..count_on(page, total) {
@@ -72,6 +76,7 @@ fn read_entry<S: Alter>(
 ) -> Result<DistributionSet, Fault>
     ensures stays { StaysIn S.Store change.old change.new result }
     ensures reads { FindsIn S.Store change.old change.new result (λ now shown. item_numbered (numbered set_shown 1 now.sets) number ≡ Some shown) }
+    ensures fails { FailsAtListsIn S.Store change.old change.new result }
 {
     let Some(number) = SetNo::new(number) else {
         return Err(Fault::Store);
@@ -89,6 +94,7 @@ fn read_label<S: Alter>(
 ) -> Result<Option<SetLabel>, Fault>
     ensures stays { StaysIn S.Store change.old change.new result }
     ensures reads { FindsIn S.Store change.old change.new result (λ now found. found ≡ item_numbered now.sets number) }
+    ensures fails { FailsAtListsIn S.Store change.old change.new result }
 {
     let called = match change.read_set(number)? {
         Some(called) => called,
