@@ -1,5 +1,5 @@
 -- Why a request's failed store is a call that failed: what was blamed inside its change, and how the change ended.
-use Rattle.std.proofs.Common.{◌≡◌, ◌≢◌, ◌≤◌, ◌⊎◌, inl, inr, false, Option, Some, None, Ok, refl, sym, subst, ap, ◌∙◌, arith}
+use Rattle.std.proofs.Common.{◌≡◌, ◌≢◌, ◌≤◌, ◌⊎◌, inl, inr, Bool, false, Option, Some, None, Ok, refl, sym, subst, ap, ◌∙◌, arith}
 use Rattle.rollout_desk.proofs.Common.{state, Ghosts, State, HasCleanDisk, Begins, Finds, Sees, Wears, Fault, rest_shows, HoldsLedger, HoldsRecords, Ledger, ledger_of, OpenChange, Answer, answer, CommandList, Command, records, Reply, Refused, Refusal, Request, Do, Ask, Query, Asks, query_reply, reply_of, query_answer, refused_answer, accepted_step, IsValid, StandsFor, StoreFailed, answer_never_stores, refusal_of_fault, desk_state_at}
 use Rattle.rollout_model.specs.declared.request.Reply as model
 use Rattle.sql_calls.specs.declared.calls.Calls.{Calls}
@@ -52,3 +52,7 @@ module _ {E : Type 0} {b c : State} (h : CommandList) (valid : IsValid h) (seen 
   accepted_never command rust steps =
       let facts = (steps.steps h valid seen).1 clean in
       never_answered h (Do command) (reply_of rust) (Some command) (ap (λ (x : Reply). record { reply = x; accepted = Some command }) facts.1 ∙ sym (accepted_step h command valid facts.0))
+
+-- a desk that isn't stopped stands by its connection
+pub stands_running : (s : State) (was : Bool) (h : CommandList) → was ≡ false → StandsFor (desk_state_at HoldsRecords was s) h → StandsFor (desk_state_at HoldsRecords false s) h
+stands_running s was h runs stands = subst (λ (b : Bool). StandsFor (desk_state_at HoldsRecords b s) h) runs stands
