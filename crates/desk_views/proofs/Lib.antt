@@ -1,4 +1,8 @@
 pub mod Common
+pub mod FailingViews
+pub mod ListRules
+pub mod FewActions
+pub mod FailingReads
 pub mod HistoryViews
 pub mod ActionViews
 pub mod MemberViews
