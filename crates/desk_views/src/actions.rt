@@ -12,7 +12,7 @@ ghost use Rattle.desk_records.specs.Actions.{history_of};
 ghost use Rattle.desk_views.specs.Actions.{entry_by, listed_shown, number_at, reports_of, shown_among, shown_in, stored_in};
 ghost use Rattle.desk_reads.specs.AtLists.{FailsAtListsIn, FindsAtListsIn};
 ghost use Rattle.desk_views.specs.Showing.{ShowsIn};
-ghost use Rattle.sql_calls.specs.declared.fault.Fault.TheVariants.{Store};
+ghost use Rattle.sql_calls.specs.declared.fault.Fault.TheVariants.{Memory, Store};
 ghost use Rattle.desk_store.specs.Rows.{IfStore};
 ghost use Rattle.desk_store.specs.Changing.{FindsIn, StaysIn};
 
@@ -247,7 +247,8 @@ fn all_shown_among(
     groups: &[GroupRecord],
     listed: &[ListedAction],
 ) -> Result<Vec<Action>, Fault>
-    ensures { IfOk result (λ all. all.items ≡ map (shown_among groups.now) listed.now) }
+    ensures ok { IfOk result (λ all. all.items ≡ map (shown_among groups.now) listed.now) }
+    ensures err { IfErr result (λ fault. fault ≡ Memory) }
 {
     let mut all = Vec::new(alloc);
     for one in listed {

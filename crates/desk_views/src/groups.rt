@@ -13,9 +13,10 @@ ghost use Rattle.rollout_machine.specs.Views.{listed, shown_target};
 ghost use Rattle.rollout_machine.specs.declared.records.RolloutRecord.{RolloutRecord};
 ghost use Rattle.desk_reads.specs.AtLists.{FailsAtListsIn};
 ghost use Rattle.desk_reads.specs.Rollouts.{IsSeenOf};
-ghost use Rattle.sql_calls.specs.declared.fault.Fault.TheVariants.{Store};
+ghost use Rattle.sql_calls.specs.declared.fault.Fault.TheVariants.{Memory, Store};
 ghost use Rattle.desk_store.specs.Rows.{IfStore};
-ghost use Rattle.desk_views.specs.Groups.{HasUnshown};
+ghost use Rattle.desk_views.specs.Failing.{FailsWith};
+ghost use Rattle.desk_views.specs.Groups.{HasUnshown, IsGroupOf};
 ghost use Rattle.desk_views.specs.Showing.{ShowsIn};
 ghost use Rattle.desk_store.specs.Changing.{FindsIn, StaysIn};
 
@@ -83,7 +84,7 @@ fn read_shown_group<S: Alter>(
     ensures stays { StaysIn S.Store change.old change.new result }
     ensures reads { FindsIn S.Store change.old change.new result
         (λ now shown. (x : RolloutRecord) → item_numbered now.rollouts number ≡ Some x → IsSeenOf seen.now x → shown ≡ group_shown x group.now) }
-    ensures fails { FailsAtListsIn S.Store change.old change.new result }
+    ensures fails { FailsWith S.Store (IsGroupOf number group.now) change.old change.new result }
 {
     match change.read_rule(number, group.number)? {
         Some(rule) => shown_in(seen, rule, group),
@@ -164,7 +165,8 @@ fn add_target<S: Alter>(
 }
 
 fn push(content: &mut Vec<ShownTarget>, shown: ShownTarget) -> Result<(), Fault>
-    ensures { IfOk result (λ _. content.new.items ≡ content.old.items ++ shown ∷ []) }
+    ensures ok { IfOk result (λ _. content.new.items ≡ content.old.items ++ shown ∷ []) }
+    ensures err { IfErr result (λ fault. fault ≡ Memory) }
 {
     match content.push(shown) {
         Ok(()) => Ok(()),
