@@ -1,5 +1,8 @@
 pub mod Common
 pub mod FailingViews
+pub mod ListRules
+pub mod FewActions
+pub mod FailingReads
 pub mod FailingGroups
 pub mod FailingRollouts
 pub mod FailingActions

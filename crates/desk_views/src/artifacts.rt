@@ -9,9 +9,10 @@ ghost use Rattle.rollout_machine.specs.Requests.{ShowArtifacts, ShowArtifact, Sh
 ghost use Rattle.rollout_machine.specs.Views.{reply_of};
 ghost use Rattle.desk_reads.specs.AtLists.{FailsAtListsIn};
 ghost use Rattle.desk_views.specs.Contents.{contents_found};
+ghost use Rattle.desk_views.specs.Failing.{FailsWith};
 ghost use Rattle.rollout_model.specs.Limits.{artifact_size_limit, piece_length};
 ghost use Rattle.rollout_model.specs.Rules.{is_contents};
-ghost use Rattle.sql_calls.specs.declared.fault.Fault.TheVariants.{Store};
+ghost use Rattle.sql_calls.specs.declared.fault.Fault.TheVariants.{Memory, Store};
 ghost use Rattle.desk_store.specs.Rows.{IfStore};
 ghost use Rattle.desk_views.specs.Sizes.{AgreesIn, IsOfNumber, KeepsSize};
 ghost use Rattle.desk_store.specs.Changing.{FindsIn, StaysIn};
@@ -90,7 +91,7 @@ pub(crate) fn read_contents<S: Alter>(
 ) -> Result<Contents, Fault>
     ensures stays { StaysIn S.Store change.old change.new result }
     ensures reads { FindsIn S.Store change.old change.new result (λ now contents. contents ≡ contents_found (item_numbered now.artifacts number)) }
-    ensures fails { FailsAtListsIn S.Store change.old change.new result }
+    ensures fails { FailsWith S.Store (λ now. size ≡ length (contents_found (item_numbered now.artifacts number))) change.old change.new result }
     ensures sized { IfOk result (λ contents. length contents ≡ size) }
 {
     let bytes = read_pieces(alloc, change, number)?;
@@ -184,7 +185,8 @@ fn within_limit(before: u32, found: Option<Vec<u8>>) -> Result<Option<Vec<u8>>, 
 }
 
 fn append(bytes: &mut Vec<u8>, piece: &[u8]) -> Result<(), Fault>
-    ensures { IfOk result (λ _. bytes.new.items ≡ bytes.old.items ++ piece.now) }
+    ensures ok { IfOk result (λ _. bytes.new.items ≡ bytes.old.items ++ piece.now) }
+    ensures err { IfErr result (λ fault. fault ≡ Memory) }
 {
     match bytes.extend_from_slice(piece) {
         Ok(()) => Ok(()),

@@ -1,6 +1,6 @@
 //! Software modules.
 
-ghost use Rattle.std.specs.Prelude.{◌≡◌, length, take, drop, Some};
+ghost use Rattle.std.specs.Prelude.{◌≡◌, ◌≤◌, length, take, drop, Some};
 ghost use Rattle.std.specs.Option.{option_map};
 ghost use Rattle.rollout_machine.specs.Answers.{query_reply};
 ghost use Rattle.rollout_machine.specs.ByteStrings.{item_numbered};
@@ -8,6 +8,7 @@ ghost use Rattle.rollout_machine.specs.Objects.{module_shown, modules_shown};
 ghost use Rattle.rollout_machine.specs.Requests.{ShowModule, ShowModules};
 ghost use Rattle.rollout_machine.specs.Views.{reply_of};
 ghost use Rattle.desk_reads.specs.AtLists.{FailsAtListsIn};
+ghost use Rattle.desk_views.specs.Failing.{FailsWith};
 ghost use Rattle.desk_store.specs.Changing.{FindsIn, StaysIn};
 
 use crate::pages::count_on;
@@ -56,7 +57,7 @@ fn read_page<S: Alter>(
     ensures stays { StaysIn S.Store change.old change.new result }
     ensures reads { FindsIn S.Store change.old change.new result
         (λ now content. total ≡ length now.modules → content.items ≡ take page.limit (drop page.offset (modules_shown now))) }
-    ensures fails { FailsAtListsIn S.Store change.old change.new result }
+    ensures fails { FailsWith S.Store (λ now. total ≡ length now.modules) change.old change.new result }
 {
     let mut content = Vec::new(alloc);
     for place in 0..count_on(page, total) {
@@ -73,7 +74,7 @@ fn read_page<S: Alter>(
 fn read_entry<S: Alter>(change: &mut OpenChange<'_, S>, number: u32) -> Result<Module, Fault>
     ensures stays { StaysIn S.Store change.old change.new result }
     ensures reads { FindsIn S.Store change.old change.new result (λ now shown. item_numbered (modules_shown now) number ≡ Some shown) }
-    ensures fails { FailsAtListsIn S.Store change.old change.new result }
+    ensures fails { FailsWith S.Store (λ now. (1 ≤ number) × (number ≤ length now.modules)) change.old change.new result }
 {
     let Some(number) = ModuleNo::new(number) else {
         return Err(Fault::Store);

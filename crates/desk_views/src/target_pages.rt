@@ -1,6 +1,6 @@
 //! Pages of targets: of all, or of those that match a filter.
 
-ghost use Rattle.std.specs.Prelude.{◌≡◌, ◌+◌, ◌++◌, [], ◌∷◌, List, map, take, IfOk, Some, None};
+ghost use Rattle.std.specs.Prelude.{◌≡◌, ◌≤◌, ◌<◌, ◌^◌, ◌+◌, ◌++◌, [], ◌∷◌, List, length, map, take, IfErr, IfOk, Some, None};
 ghost use Rattle.rollout_machine.specs.Answers.{query_reply};
 ghost use Rattle.rollout_machine.specs.Filters.{seen};
 ghost use Rattle.rollout_machine.specs.Objects.{page_of};
@@ -9,7 +9,9 @@ ghost use Rattle.rollout_machine.specs.Views.{listed, reply_of};
 ghost use Rattle.rollout_model.specs.declared.shown_target.ShownTarget.{ShownTarget};
 ghost use Rattle.target_filter.specs.Grammar.{Tree};
 ghost use Rattle.target_filter.specs.Profile.{filter_of};
+ghost use Rattle.sql_calls.specs.declared.fault.Fault.TheVariants.{Memory};
 ghost use Rattle.desk_reads.specs.AtLists.{FailsAtListsIn};
+ghost use Rattle.desk_views.specs.Failing.{FailsWith};
 ghost use Rattle.desk_views.specs.Targets.{matching_shown, worded};
 ghost use Rattle.desk_reads.specs.Targets.{target_listed};
 ghost use Rattle.desk_store.specs.Changing.{FindsIn, StaysIn};
@@ -144,7 +146,7 @@ fn add_chunk<S: Alter>(
     ensures reads { FindsIn S.Store change.old change.new result
         (λ now _. (f : Tree) → filter_of filter.now ≡ Some f → listed shown.old ≡ page_of page (matching_shown now f (map seen (take offset now.targets)))
         → listed shown.new ≡ page_of page (matching_shown now f (map seen (take (offset + 10000) now.targets)))) }
-    ensures fails { FailsAtListsIn S.Store change.old change.new result }
+    ensures fails { FailsWith S.Store (λ now. shown.old.total + 10000 < 2 ^ 32) change.old change.new result }
 {
     let entries = change.read_targets(Page {
         offset,
@@ -166,7 +168,7 @@ fn add_matching<S: Alter>(
     ensures reads { FindsIn S.Store change.old change.new result
         (λ now _. (f : Tree) → filter_of filter.now ≡ Some f → (all : List ShownTarget) → listed shown.old ≡ page_of page all
         → listed shown.new ≡ page_of page (all ++ matching_shown now f (map (target_listed now) entries.items))) }
-    ensures fails { FailsAtListsIn S.Store change.old change.new result }
+    ensures fails { FailsWith S.Store (λ now. shown.old.total + length entries.items < 2 ^ 32) change.old change.new result }
 {
     for entry in entries {
         add_if_match(change, filter, page, entry, shown)?;
@@ -186,7 +188,8 @@ fn add_if_match<S: Alter>(
     ensures reads { FindsIn S.Store change.old change.new result
         (λ now _. (f : Tree) → filter_of filter.now ≡ Some f → (all : List ShownTarget) → listed shown.old ≡ page_of page all
         → listed shown.new ≡ page_of page (all ++ matching_shown now f (target_listed now entry ∷ []))) }
-    ensures fails { FailsAtListsIn S.Store change.old change.new result }
+    ensures fails { FailsWith S.Store (λ now. shown.old.total + 1 < 2 ^ 32) change.old change.new result }
+    ensures counts { IfOk result (λ _. shown.new.total ≤ shown.old.total + 1) }
 {
     let target = read_listed(change, entry)?;
     let matches = filter.matches(&target);
@@ -207,7 +210,8 @@ fn add<S: Alter>(
     ensures stays { StaysIn S.Store change.old change.new result }
     ensures reads { FindsIn S.Store change.old change.new result
         (λ now _. (all : List ShownTarget) → listed shown.old ≡ page_of page all → listed shown.new ≡ page_of page (all ++ worded now target ∷ [])) }
-    ensures fails { FailsAtListsIn S.Store change.old change.new result }
+    ensures fails { FailsWith S.Store (λ now. shown.old.total + 1 < 2 ^ 32) change.old change.new result }
+    ensures counts { IfOk result (λ _. shown.new.total ≤ shown.old.total + 1) }
 {
     let place = shown.total;
     let Some(total) = place.checked_add(1) else {
@@ -222,7 +226,8 @@ fn add<S: Alter>(
 }
 
 fn push(content: &mut Vec<ShownTarget>, entry: ShownTarget) -> Result<(), Fault>
-    ensures { IfOk result (λ _. content.new.items ≡ content.old.items ++ entry ∷ []) }
+    ensures ok { IfOk result (λ _. content.new.items ≡ content.old.items ++ entry ∷ []) }
+    ensures err { IfErr result (λ fault. fault ≡ Memory) }
 {
     match content.push(entry) {
         Ok(()) => Ok(()),
