@@ -1,29 +1,15 @@
 -- Why the actions of a list and their histories can be counted.
 use Rattle.std.proofs.Common.{◌≡◌, ◌≤◌, ◌^◌, ◌+◌, ℕ, pos, zero, suc, Bool, true, false, cond, nat_lt, List, [], ◌∷◌, ◌++◌, length, map, take, drop, slice_get, Option, Some, None, inl, inr, refl, sym, ap, subst, arith}
-use Rattle.std.specs.List.{zip}
-use Rattle.std.specs.Option.{is_some}
-use Rattle.std.proofs.lemmas.List.{length-drop, length-map, length-take}
-use Rattle.std.proofs.lemmas.Bool.Decides.{nat_tests}
+use Rattle.desk_views.proofs.Common.{zip, is_some, length-drop, length-map, length-take, nat_tests, Has, HistoryEntry, Reported, limits_hold, Tally, action_row, history_of, tally_of, has_size, ledger_of, broken_action_column, listed_where, stored_action, ListedAction, has_word, IsReadable, item_numbered, Records, ActionRecord, RolloutRecord, AreOfList}
 use Rattle.sqlite_value.specs.declared.value.Value.TheVariants.{Int}
 use Rattle.sqlite_value.specs.Order.{Row, column}
-use Rattle.sqlite_rules.specs.Lists.{Has}
 use Rattle.sql_calls.specs.Keyed.{rows_from}
-use Rattle.rollout_machine.specs.Reports.{HistoryEntry, Reported}
-use Rattle.rollout_machine.proofs.WithinLimits.{limits_hold}
-use Rattle.desk_records.specs.Actions.{Tally, action_row, history_of, tally_of}
-use Rattle.desk_records.specs.ArtifactRow.{has_size}
 use Rattle.desk_records.specs.Codes.{first_broken, flag_in, number_in, outcome_in}
-use Rattle.desk_records.specs.Holds.{ledger_of}
-use Rattle.desk_records.specs.RolloutRow.{broken_action_column, listed_where, stored_action}
 use Rattle.desk_records.specs.RowFaults.{BreaksRule}
 use Rattle.desk_records.specs.Schema.{Actions}
 use Rattle.desk_records.specs.TableRows.{action_shown}
 use Rattle.desk_records.specs.declared.module_row.Column.{Column}
 use Rattle.desk_records.specs.declared.module_row.Column.TheVariants.{ActionCanceling, ActionEntries, ActionNotes, ActionOutcome, ActionPlace, ActionRollout, TargetId}
-use Rattle.desk_records.specs.declared.rollout_row.ListedAction.{ListedAction}
-use Rattle.desk_records.specs.TargetRow.{has_word}
-use Rattle.desk_store.specs.Readable.{IsReadable}
-use Rattle.desk_views.proofs.Common.{item_numbered, Records, ActionRecord, RolloutRecord, AreOfList}
 
 -- ---- actions
 

@@ -1,18 +1,10 @@
 -- Why the groups of a rollout of a list can be shown.
 use Rattle.std.proofs.Common.{◌≡◌, ◌≤◌, ◌<◌, ◌^◌, ◌⊎◌, ◌+◌, ℕ, zero, suc, nat_eq, Bool, true, false, cond, List, [], ◌∷◌, length, take, drop, Option, Some, None, inl, inr, refl, sym, ap, subst, ◌∙◌, arith}
-use Rattle.sqlite_rules.specs.Lists.{Has}
+use Rattle.desk_views.proofs.Common.{Has, group_in, Records, Rollout, size_in, size_of, limits_hold, ledger_of, groups_of, rule_numbered, rules_numbered, rule_there, rules_there, BothOrNone, item_numbered, GroupRule, rules_of, group_numbered, size_of_group, GroupRecord, RolloutRecord, parts_of, groups_are, made, AreOfList, IsSeenOf, SeenRollout, HasUnshown, IsGroupOf}
 use Rattle.rollout_machine.specs.Effects.{HasSoundPlan}
 use Rattle.rollout_machine.specs.Ranges.{each_from}
-use Rattle.rollout_machine.specs.Records.{group_in}
-use Rattle.rollout_machine.specs.Rollouts.{Rollout, size_in, size_of}
 use Rattle.rollout_machine.specs.WithinLimits.{IsWithinLimits}
 use Rattle.rollout_machine.proofs.Lists.{length_each}
-use Rattle.rollout_machine.proofs.WithinLimits.{limits_hold}
-use Rattle.desk_records.specs.Holds.{ledger_of}
-use Rattle.desk_records.specs.Rollouts.{groups_of, rule_numbered, rules_numbered}
-use Rattle.desk_reads.proofs.RuleLemmas.{rule_there}
-use Rattle.desk_views.proofs.Common.{BothOrNone, item_numbered, Records, GroupRule, rules_of, group_numbered, size_of_group, GroupRecord, RolloutRecord, parts_of, groups_are, made, rules_there, AreOfList, IsSeenOf, SeenRollout}
-use Rattle.desk_views.specs.Groups.{HasUnshown, IsGroupOf}
 
 -- ---- members of lists
 

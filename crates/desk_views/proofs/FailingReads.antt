@@ -1,22 +1,10 @@
 -- Why reads of modules, sets, artifacts and targets of a list of accepted commands are no failed stores by themselves.
 use Rattle.std.proofs.Common.{◌≡◌, ◌≤◌, ◌<◌, ◌+◌, ◌*◌, ◌^◌, ◌≢◌, ◌⊎◌, inl, inr, ℕ, suc, nat_eq, Bool, true, false, cond, List, [], ◌∷◌, map, length, take, drop, Option, Some, None, Result, Err, refl, sym, ap, ◌∙◌, arith}
-use Rattle.desk_views.proofs.Common.{false≢true, length-map, length-take, option_map, listed_target, Target, artifact_if, artifact_of_module, artifact_shown, artifacts_shown, modules_of_set, item_numbered, ArtifactRecord, Records, Artifact, SetLabel, AreOfList, Fault, contents_found}
+use Rattle.desk_views.proofs.Common.{false≢true, length-map, length-take, option_map, IsSome, listed_target, Target, artifact_if, artifact_of_module, artifact_shown, artifacts_shown, modules_of_set, item_numbered, ArtifactRecord, Records, Artifact, SetLabel, AreOfList, Fault, contents_found, IsErrAnd, div_ceil_times, err_from_is_err_and, artifact_size_limit, piece_length, is_contents, is_module_list, number_of, stored, piece_numbered, called, StoredArtifact, ListedTarget, SetName}
 use Rattle.std.specs.Int.{div_ceil}
 use Rattle.std.specs.Iterator.{Yields}
-use Rattle.std.specs.Option.{IsSome}
-use Rattle.std.specs.Result.{IsErrAnd}
 use Rattle.std.specs.Vec.Iter.{into_iter_items, into_iter_steps}
 use Rattle.std.specs.declared.vec.IntoIter.{IntoIter}
-use Rattle.std.proofs.lemmas.Grind.{div_ceil_times}
-use Rattle.std.proofs.lemmas.Result.{err_from_is_err_and}
-use Rattle.rollout_model.specs.Limits.{artifact_size_limit, piece_length}
-use Rattle.rollout_model.specs.Rules.{is_contents, is_module_list, number_of}
-use Rattle.desk_records.specs.ArtifactRow.{stored}
-use Rattle.desk_records.specs.Artifacts.{piece_numbered}
-use Rattle.desk_records.specs.SetRow.{called}
-use Rattle.desk_records.specs.declared.artifact_row.StoredArtifact.{StoredArtifact}
-use Rattle.desk_records.specs.declared.target_row.ListedTarget.{ListedTarget}
-use Rattle.desk_records.specs.declared.set_row.SetName.{SetName}
 use Rattle.desk_views.proofs.FailingViews.{entry_there, numbered_so}
 use Rattle.desk_views.proofs.ListRules.{few_artifacts, few_modules, few_sets, few_targets, keeps_contents, keeps_list, keeps_size, no_piece}
 

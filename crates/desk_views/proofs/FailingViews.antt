@@ -2,20 +2,10 @@
 use Rattle.std.proofs.Common.{◌≡◌, ◌≤◌, ◌<◌, ℕ, zero, suc, true, List, [], ◌∷◌, length, slice_get, Some, None, Result, Ok, Err, IfErr, refl, sym, ap, subst, arith}
 use Rattle.sqlite.specs.Store.{Ghosts}
 use Rattle.sql_calls.specs.Standing.{Sees, Wears}
-use Rattle.sql_calls.specs.declared.fault.Fault.TheVariants.{Memory, Store}
-use Rattle.rollout_model.specs.Limits.{number_limit}
-use Rattle.rollout_model.specs.Rules.{is_number, number_of}
-use Rattle.rollout_machine.specs.Records.{records}
-use Rattle.desk_records.specs.Holds.{HoldsLedger, Ledger, ledger_of}
+use Rattle.desk_views.proofs.Common.{Memory, Store, number_limit, is_number, number_of, records, Records, HoldsLedger, Ledger, ledger_of, seen_in, FindsIn, IsReadable, IfStore, IsOfList, AreOfList, item_numbered, Fault, IsOfListWith}
 use Rattle.desk_records.proofs.NumberColumns.{is_in_range}
-use Rattle.desk_store.specs.Changing.{seen_in}
 use Rattle.desk_store.specs.Failing.{FailsGiven, HasSight}
-use Rattle.desk_store.specs.Readable.{IsReadable}
-use Rattle.desk_store.specs.Rows.{IfStore}
 use Rattle.desk_store.specs.declared.change.OpenChange.{OpenChange}
-use Rattle.desk_reads.specs.AtLists.{IsOfList}
-use Rattle.desk_views.proofs.Common.{item_numbered, Records, Fault, FindsIn, AreOfList}
-use Rattle.desk_views.specs.Failing.{IsOfListWith}
 
 -- the ledger of such records
 pub listed : {r : Records} → AreOfList r → IsOfList (ledger_of r)

@@ -1,21 +1,13 @@
 -- A target has no more actions than there are rollouts.
 use Rattle.std.proofs.Common.{◌≡◌, inl, inr, ◌≤◌, ◌<◌, ◌+◌, ℕ, zero, suc, nat_eq, nat_le, Bool, true, false, cond, ◌&&◌, List, [], ◌∷◌, map, filter, length, take, Some, refl, sym, ap, subst, ◌∙◌, arith}
 use Rattle.std.specs.Prelude.{slice_get}
-use Rattle.desk_views.proofs.Common.{nat_tests, and_parts, length-take, zip, unwrap_or, same_true, same_refl, tally_of, actions_for, ListedAction, item_numbered, same_bytes, Bytes, Records, ActionRecord, RolloutRecord, AreOfList}
-use Rattle.std.proofs.lemmas.Bool.{cases_order, false≢true}
-use Rattle.desk_records.specs.Actions.{actor_of}
-use Rattle.rollout_machine.specs.ByteStrings.{bytes_below}
-use Rattle.rollout_machine.specs.CommandList.{CommandList}
+use Rattle.desk_views.proofs.Common.{nat_tests, and_parts, cases_order, false≢true, length-take, zip, unwrap_or, same_true, same_refl, tally_of, actor_of, actions_for, ListedAction, item_numbered, same_bytes, bytes_below, Bytes, Records, records, ActionRecord, RolloutRecord, AreOfList, CommandList, member_at, IsValid, limits_hold}
 use Rattle.rollout_machine.specs.MemberActions.{FollowMembers, IsOfMember}
 use Rattle.rollout_machine.specs.Orders.{ListsRise}
-use Rattle.rollout_machine.specs.Records.{records}
-use Rattle.rollout_machine.specs.StateWords.{member_at}
-use Rattle.rollout_machine.specs.Validity.{IsValid}
 use Rattle.rollout_machine.proofs.AtNumbers.{item_within}
 use Rattle.rollout_machine.proofs.Imports.{below_apart}
 use Rattle.rollout_machine.proofs.MemberActions.{actions_follow_members}
 use Rattle.rollout_machine.proofs.Orders.{lists_rise_in_order}
-use Rattle.rollout_machine.proofs.WithinLimits.{limits_hold}
 
 -- ---- how many pass a test, where no two that pass have one key
 

@@ -1,22 +1,13 @@
 -- What accepted commands keep: few modules and sets, the rule of the modules of each set, and that of the contents of each artifact.
 use Rattle.std.proofs.Common.{◌≡◌, ◌≤◌, ◌<◌, ◌+◌, ◌-◌, ◌*◌, ℕ, zero, suc, true, List, [], length, All, Option, Some, None, refl, sym, subst, ap, ◌∙◌, arith, nat_le}
-use Rattle.desk_views.proofs.Common.{and_parts, leb-false, leb-true, list_all, length-append, length-map, pieces_of_artifact, item_numbered, ArtifactRecord, Command, Records, SetLabel, AreOfList, contents_found}
-use Rattle.std.proofs.lemmas.Grind.{div_ceil_times}
+use Rattle.desk_views.proofs.Common.{and_parts, leb-false, leb-true, list_all, length-append, length-map, pieces_of_artifact, item_numbered, ArtifactRecord, Records, added_artifacts, added_modules, added_sets, artifacts, modules, sets, Command, SetLabel, AddArtifact, AddModule, AddSet, AreOfList, contents_found, div_ceil_times, piece_at, piece_bytes, piece_count, pieces_of, artifact_size_limit, piece_length, is_byte, is_contents, is_filename, is_module_list, is_number, is_text, CommandList, Make, ◌▸◌, IsValid, verdict, verdict_row, limits_hold}
+use Rattle.rollout_machine.specs.Records.{records}
 use Rattle.std.proofs.lemmas.List.Elements.{All-append, All-cons, All-get_or, All-nil}
 use Rattle.std.proofs.lemmas.List.FromFn.{length-map-range_with_len}
 use Rattle.std.proofs.lemmas.Option.{slice_get-get_or, slice_get_within}
 use Rattle.std.proofs.Math.ListN.{get_or}
-use Rattle.artifact_pieces.specs.Pieces.{piece_at, piece_bytes, piece_count, pieces_of}
-use Rattle.rollout_model.specs.Limits.{artifact_size_limit, piece_length}
-use Rattle.rollout_model.specs.Rules.{is_byte, is_contents, is_filename, is_module_list, is_number, is_text}
-use Rattle.rollout_machine.specs.CommandList.{CommandList, Make, ◌▸◌}
 use Rattle.rollout_machine.specs.CommandRules.{IsWellFormed, is_digest_or_none}
-use Rattle.rollout_machine.specs.Commands.{AddArtifact, AddModule, AddSet}
-use Rattle.rollout_machine.specs.Records.{added_artifacts, added_modules, added_sets, artifacts, modules, records, sets}
-use Rattle.rollout_machine.specs.Validity.{IsValid}
-use Rattle.rollout_machine.specs.Verdicts.{verdict, verdict_row}
 use Rattle.rollout_machine.proofs.Valid.{NoneHolds, none_holds}
-use Rattle.rollout_machine.proofs.WithinLimits.{limits_hold}
 use Rattle.desk_records.proofs.WholeArtifacts.{IsWhole, all_whole}
 
 -- what is so of the records of each list of accepted commands

@@ -1,6 +1,5 @@
 use Rattle.std.proofs.Common.{◌≡◌, Ok, map, take}
-use Rattle.desk_views.proofs.Common.{Fault, listed_shown, FindsAtListsIn, StaysIn}
-use Rattle.desk_reads.specs.AtLists.{FailsAtListsIn}
+use Rattle.desk_views.proofs.Common.{Fault, listed_shown, FindsAtListsIn, FailsAtListsIn, StaysIn}
 use Rattle.desk_views.proofs.actions.read_all_shown.Given as goal
 
 -- those so far

@@ -1,6 +1,5 @@
 use Rattle.std.proofs.Common.{◌≡◌, ◌≤◌, Err, ap, ◌∙◌, arith, length}
-use Rattle.std.proofs.lemmas.Result.{err_from_is_err_and}
-use Rattle.desk_views.proofs.Common.{nat_tests, both_found, finds_as, ledger_found}
+use Rattle.desk_views.proofs.Common.{err_from_is_err_and, nat_tests, both_found, finds_as, ledger_found}
 use Rattle.desk_views.proofs.FailingActions.{places_few}
 use Rattle.desk_views.proofs.FailingViews.{never_fails}
 use Rattle.desk_views.proofs.HistoryViews.{none_numbered, page_numbered}

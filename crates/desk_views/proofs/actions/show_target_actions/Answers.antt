@@ -1,8 +1,5 @@
 use Rattle.std.proofs.Common.{Err, arith, sym, ap, ◌∙◌, not, map, take, drop, length}
-use Rattle.std.proofs.lemmas.Result.{err_from_is_err_and}
-use Rattle.rollout_machine.specs.ByteStrings.{same_bytes}
-use Rattle.desk_records.specs.Actions.{actor_of}
-use Rattle.desk_views.proofs.Common.{is_some, both_found, finds_as, stored_target, actions_of_target, page_of, ActionsShown, target_of, ledger_found, listed_shown}
+use Rattle.desk_views.proofs.Common.{err_from_is_err_and, same_bytes, actor_of, is_some, both_found, finds_as, stored_target, actions_of_target, page_of, ActionsShown, target_of, ledger_found, listed_shown}
 use Rattle.desk_views.proofs.ActionViews.{all_listed, none_there, of_target_is, one_there, page_is}
 use Rattle.desk_views.proofs.FailingActions.{listed_few}
 use Rattle.desk_views.proofs.FailingViews.{never_fails, told}

@@ -1,8 +1,6 @@
 use Rattle.std.proofs.Common.{◌≤◌, ◌*◌, ◌++◌, sym, ap, ◌∙◌, arith, rules}
-use Rattle.std.specs.Option.{IsSome}
+use Rattle.desk_views.proofs.Common.{IsSome, artifact_size_limit, piece_length, both_found, finds_as, pieces_of_artifact, item_numbered}
 use Rattle.std.specs.Vec.{vec_items}
-use Rattle.rollout_model.specs.Limits.{artifact_size_limit, piece_length}
-use Rattle.desk_views.proofs.Common.{both_found, finds_as, pieces_of_artifact, item_numbered}
 use Rattle.desk_views.proofs.ArtifactViews.{pieces_end, pieces_grow}
 use Rattle.desk_views.proofs.FailingReads.{none_behind, passed}
 use Rattle.desk_views.proofs.FailingViews.{never_fails, told}

@@ -1,6 +1,5 @@
 use Rattle.std.proofs.Common.{◌≡◌, ◌≤◌, ◌-◌, Ok, take}
-use Rattle.desk_views.proofs.Common.{Fault, pieces_of_artifact, item_numbered, FindsIn, StaysIn}
-use Rattle.desk_reads.specs.AtLists.{FailsAtListsIn}
+use Rattle.desk_views.proofs.Common.{Fault, pieces_of_artifact, item_numbered, FindsIn, StaysIn, FailsAtListsIn}
 use Rattle.desk_views.proofs.ArtifactViews.{together}
 use Rattle.desk_views.proofs.artifacts.read_pieces.Given as goal
 

@@ -1,6 +1,5 @@
 use Rattle.std.proofs.Common.{◌≡◌, Ok, map}
-use Rattle.desk_views.proofs.Common.{Fault, chunks_of, chunk, FindsIn, StaysIn}
-use Rattle.desk_reads.specs.AtLists.{FailsAtListsIn}
+use Rattle.desk_views.proofs.Common.{Fault, chunks_of, chunk, FindsIn, StaysIn, FailsAtListsIn}
 use Rattle.desk_views.proofs.deployments.read_module_chunks.Given as goal
 
 -- the chunks so far are those of the modules that were gone through

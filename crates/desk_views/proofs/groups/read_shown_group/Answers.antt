@@ -1,6 +1,5 @@
 use Rattle.std.proofs.Common.{Err, refl}
-use Rattle.sql_calls.specs.declared.fault.Fault.TheVariants.{Store}
-use Rattle.desk_views.proofs.Common.{found_if, ledger_found, said_of}
+use Rattle.desk_views.proofs.Common.{Store, found_if, ledger_found, said_of}
 use Rattle.desk_views.proofs.FailingGroups.{group_ruled, group_small}
 use Rattle.desk_views.proofs.FailingViews.{never_answers, never_with, told}
 use Rattle.desk_views.proofs.groups.read_shown_group.Goals as goal

@@ -1,6 +1,5 @@
 use Rattle.std.proofs.Common.{◌≡◌, Ok, map}
-use Rattle.desk_views.proofs.Common.{Fault, targets_of, targets_shown, shown_target, FindsIn, StaysIn}
-use Rattle.desk_reads.specs.AtLists.{FailsAtListsIn}
+use Rattle.desk_views.proofs.Common.{Fault, targets_of, targets_shown, shown_target, FindsIn, StaysIn, FailsAtListsIn}
 use Rattle.desk_views.proofs.groups.read_targets.Given as goal
 
 -- the targets of the ids that were gone through

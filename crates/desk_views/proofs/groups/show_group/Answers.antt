@@ -1,6 +1,5 @@
 use Rattle.std.proofs.Common.{Err, Some, ap, subst, ◌∙◌}
-use Rattle.std.proofs.lemmas.Result.{err_from_is_err_and}
-use Rattle.desk_views.proofs.Common.{both_found, finds_as, BothOrNone, group_reply, item_numbered, group_shown, GroupShown, group_numbered, ledger_found, IsSeenOf, groups_are}
+use Rattle.desk_views.proofs.Common.{err_from_is_err_and, both_found, finds_as, BothOrNone, group_reply, item_numbered, group_shown, GroupShown, group_numbered, ledger_found, IsSeenOf, groups_are}
 use Rattle.desk_views.proofs.FailingGroups.{group_there}
 use Rattle.desk_views.proofs.FailingViews.{fails_when, grown, listed}
 use Rattle.desk_views.proofs.GroupViews.{no_group, one_group}

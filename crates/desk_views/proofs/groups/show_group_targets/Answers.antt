@@ -1,6 +1,5 @@
 use Rattle.std.proofs.Common.{Err, ap, ◌∙◌}
-use Rattle.std.proofs.lemmas.Result.{err_from_is_err_and}
-use Rattle.desk_views.proofs.Common.{both_found, finds_as, targets_of, item_numbered, members_in, page_of, targets_shown, TargetsShown, group_numbered, ledger_found, groups_are}
+use Rattle.desk_views.proofs.Common.{err_from_is_err_and, both_found, finds_as, targets_of, item_numbered, members_in, page_of, targets_shown, TargetsShown, group_numbered, ledger_found, groups_are}
 use Rattle.desk_views.proofs.FailingGroups.{group_small, group_there}
 use Rattle.desk_views.proofs.FailingViews.{never_fails, told}
 use Rattle.desk_views.proofs.GroupViews.{no_group, one_group}

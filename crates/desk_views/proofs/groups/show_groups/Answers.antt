@@ -1,6 +1,5 @@
 use Rattle.std.proofs.Common.{Err, ap, ◌∙◌}
-use Rattle.std.proofs.lemmas.Result.{err_from_is_err_and}
-use Rattle.desk_views.proofs.Common.{both_found, finds_as, item_numbered, groups_shown, page_of, GroupsShown, ledger_found, rules_there}
+use Rattle.desk_views.proofs.Common.{err_from_is_err_and, both_found, finds_as, item_numbered, groups_shown, page_of, GroupsShown, ledger_found, rules_there}
 use Rattle.desk_views.proofs.FailingGroups.{page_showable}
 use Rattle.desk_views.proofs.FailingViews.{never_fails}
 use Rattle.desk_views.proofs.GroupViews.{groups_paged}

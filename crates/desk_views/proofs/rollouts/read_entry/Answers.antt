@@ -1,6 +1,5 @@
 use Rattle.std.proofs.Common.{Err, refl, sym}
-use Rattle.sql_calls.specs.declared.fault.Fault.TheVariants.{Store}
-use Rattle.desk_views.proofs.Common.{finds_as, known}
+use Rattle.desk_views.proofs.Common.{Store, finds_as, known}
 use Rattle.desk_views.proofs.FailingRollouts.{entry_seen, few_numbered}
 use Rattle.desk_views.proofs.FailingViews.{never_with}
 use Rattle.desk_views.proofs.PageLemmas.{same_number}

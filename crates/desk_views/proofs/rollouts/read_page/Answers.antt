@@ -1,6 +1,5 @@
 use Rattle.std.proofs.Common.{◌≡◌, length, Err, sym, ap, ◌∙◌, arith, rules}
-use Rattle.std.proofs.lemmas.Result.{err_from_is_err_and}
-use Rattle.desk_views.proofs.Common.{is_ok, both_found, finds_as, rollouts_shown}
+use Rattle.desk_views.proofs.Common.{err_from_is_err_and, is_ok, both_found, finds_as, rollouts_shown}
 use Rattle.desk_views.proofs.FailingViews.{listed, with_when}
 use Rattle.desk_views.proofs.PageLemmas.{page_ends, page_grows}
 use Rattle.desk_views.proofs.RolloutViews.{shown_count}

@@ -1,6 +1,5 @@
 use Rattle.std.proofs.Common.{◌≡◌, Ok, drop, take}
-use Rattle.desk_views.proofs.Common.{Fault, rollouts_shown, FindsAtListsIn, StaysIn}
-use Rattle.desk_reads.specs.AtLists.{FailsAtListsIn}
+use Rattle.desk_views.proofs.Common.{Fault, rollouts_shown, FindsAtListsIn, FailsAtListsIn, StaysIn}
 use Rattle.desk_views.proofs.rollouts.read_page.Given as goal
 
 -- the entries so far are the first of the page

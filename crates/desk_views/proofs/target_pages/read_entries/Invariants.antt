@@ -1,6 +1,5 @@
 use Rattle.std.proofs.Common.{◌≡◌, Ok, map}
-use Rattle.desk_views.proofs.Common.{Fault, target_listed, worded, FindsIn, StaysIn}
-use Rattle.desk_reads.specs.AtLists.{FailsAtListsIn}
+use Rattle.desk_views.proofs.Common.{Fault, target_listed, worded, FindsIn, StaysIn, FailsAtListsIn}
 use Rattle.desk_views.proofs.target_pages.read_entries.Given as goal
 
 -- the content so far are those that were gone through

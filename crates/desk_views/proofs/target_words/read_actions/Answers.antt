@@ -1,9 +1,8 @@
 use Rattle.std.proofs.Common.{Err, refl, arith}
-use Rattle.desk_views.proofs.Common.{finds_as, ledger_found}
+use Rattle.desk_views.proofs.Common.{finds_as, ledger_found, Store}
 use Rattle.desk_views.proofs.WordViews.{all_listed, listed_from}
 use Rattle.desk_views.proofs.FewActions.{few_actions_for, too_many}
 use Rattle.desk_views.proofs.FailingViews.{never_fails}
-use Rattle.sql_calls.specs.declared.fault.Fault.TheVariants.{Store}
 use Rattle.desk_views.proofs.target_words.read_actions.Goals as goal
 
 pub returns-clause-reads : goal.returns-clause-reads

@@ -1,6 +1,5 @@
 use Rattle.std.proofs.Common.{◌≡◌, None, Ok, vec_len}
-use Rattle.desk_views.proofs.Common.{Fault, FindsIn, StaysIn, last_ending}
-use Rattle.desk_reads.specs.AtLists.{FailsAtListsIn}
+use Rattle.desk_views.proofs.Common.{Fault, FindsIn, StaysIn, last_ending, FailsAtListsIn}
 use Rattle.desk_views.proofs.target_words.read_last_ending.Given as goal
 
 -- of those that are left the last ending is that of all
