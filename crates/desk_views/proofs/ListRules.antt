@@ -8,7 +8,9 @@ use Rattle.std.proofs.lemmas.Option.{slice_get-get_or, slice_get_within}
 use Rattle.std.proofs.Math.ListN.{get_or}
 use Rattle.rollout_machine.specs.CommandRules.{IsWellFormed, is_digest_or_none}
 use Rattle.rollout_machine.proofs.Valid.{NoneHolds, none_holds}
+use Rattle.sqlite_rules.proofs.ListLemmas.{has_got}
 use Rattle.desk_records.proofs.WholeArtifacts.{IsWhole, all_whole}
+use Rattle.desk_reads.proofs.LabelRules.{few_modules as modules_few, few_sets as sets_few, sets_keep}
 
 -- what is so of the records of each list of accepted commands
 at_list : (P : Records → Type 0) → ((h : CommandList) → IsValid h → P (records h)) → (r : Records) → AreOfList r → P r
@@ -25,36 +27,10 @@ each_numbered P xs all (suc i) x is =
 
 -- ---- how many
 
-modules_few : (h : CommandList) → IsValid h → length (modules h) ≤ 1000
-unfolding records
-modules_few (Make approval) valid = omega arith
-modules_few (h ▸ c) valid = rw (length-append (modules h) (added_modules c)) (go c valid.2 (modules_few h valid.0))
-  where
-    go : (c : Command) → verdict h c ≡ None → length (modules h) ≤ 1000 → length (modules h) + length (added_modules c) ≤ 1000
-    go (AddModule label) accepted few =
-        let row : NoneHolds (verdict_row (records h) (AddModule label)) = none_holds (verdict_row (records h) (AddModule label)) accepted in
-        let less : length (modules h) < 1000 = leb-false 1000 (length (modules h)) row.1.0 in
-        omega (arith, less)
-    go _ accepted few = omega (arith, few)
-
 pub few_modules : (r : Records) → AreOfList r → length r.modules ≤ 1000
-unfolding records
 few_modules = at_list (λ r. length r.modules ≤ 1000) modules_few
 
-sets_few : (h : CommandList) → IsValid h → length (sets h) ≤ 1000
-unfolding records
-sets_few (Make approval) valid = omega arith
-sets_few (h ▸ c) valid = rw (length-append (sets h) (added_sets c)) (go c valid.2 (sets_few h valid.0))
-  where
-    go : (c : Command) → verdict h c ≡ None → length (sets h) ≤ 1000 → length (sets h) + length (added_sets c) ≤ 1000
-    go (AddSet label) accepted few =
-        let row : NoneHolds (verdict_row (records h) (AddSet label)) = none_holds (verdict_row (records h) (AddSet label)) accepted in
-        let less : length (sets h) < 1000 = leb-false 1000 (length (sets h)) row.1.1.0 in
-        omega (arith, less)
-    go _ accepted few = omega (arith, few)
-
 pub few_sets : (r : Records) → AreOfList r → length r.sets ≤ 1000
-unfolding records
 few_sets = at_list (λ r. length r.sets ≤ 1000) sets_few
 
 pub few_artifacts : (r : Records) → AreOfList r → length r.artifacts ≤ 256
@@ -65,20 +41,12 @@ few_targets = at_list (λ r. length r.targets ≤ 10000) (λ h valid. (limits_ho
 
 -- ---- the modules of a set
 
-abbrev KeepsList : SetLabel → Type 0
-KeepsList s = is_module_list s.modules ≡ true
-
-added_lists : (c : Command) → IsWellFormed c → All KeepsList (added_sets c)
-added_lists (AddSet label) good = All-cons KeepsList label [] (and_parts (is_text label.version) (is_module_list label.modules) (and_parts (is_text label.name) _ good).1).1 (All-nil KeepsList)
-added_lists _ good = All-nil KeepsList
-
-lists_keep : (h : CommandList) → IsValid h → All KeepsList (sets h)
-lists_keep (Make approval) valid = All-nil KeepsList
-lists_keep (h ▸ c) valid = All-append KeepsList (sets h) (added_sets c) (lists_keep h valid.0) (added_lists c valid.1)
-
 pub keeps_list : (r : Records) → AreOfList r → (k : ℕ) (s : SetLabel) → item_numbered r.sets k ≡ Some s → is_module_list s.modules ≡ true
-unfolding records
-keeps_list = at_list (λ r. (k : ℕ) (s : SetLabel) → item_numbered r.sets k ≡ Some s → is_module_list s.modules ≡ true) (λ h valid. each_numbered KeepsList (sets h) (lists_keep h valid))
+keeps_list = at_list (λ r. (k : ℕ) (s : SetLabel) → item_numbered r.sets k ≡ Some s → is_module_list s.modules ≡ true) (λ h valid. go h valid)
+  where
+    go : (h : CommandList) → IsValid h → (k : ℕ) (s : SetLabel) → item_numbered (records h).sets k ≡ Some s → is_module_list s.modules ≡ true
+    go h valid zero s is = absurd cc
+    go h valid (suc i) s is = (and_parts (is_text s.version) (is_module_list s.modules) (and_parts (is_text s.name) _ (sets_keep h valid s (has_got (records h).sets i s is))).1).1
 
 -- ---- the contents of an artifact
 
