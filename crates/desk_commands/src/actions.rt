@@ -8,6 +8,7 @@ ghost use Rattle.desk_commands.specs.ActionSteps.{Acts, ActsBy, Follows, MayAct,
 ghost use Rattle.desk_commands.specs.ActionSteps.{action_change_of, canceling_by, does_act, outcome_by, stays_offered};
 ghost use Rattle.desk_commands.specs.Offering.{MayReoffer};
 ghost use Rattle.desk_commands.specs.Telling.{if_numbered, number_in};
+ghost use Rattle.desk_commands.specs.Failures.{CanTell, CountsIf};
 ghost use Rattle.desk_store.specs.Counting.{AddsIn};
 ghost use Rattle.desk_store.specs.Changing.{MakesLedger, StaysIn};
 ghost use Rattle.desk_commands.specs.Changing.{StepsIn};
@@ -55,6 +56,7 @@ fn tell_action<S: Alter>(
 ) -> Result<(), Fault>
     ensures stays { StaysIn S.Store change.old change.new result }
     ensures writes { MakesLedger S.Store change.old change.new result (TellsAction seen.now after.now told.now) }
+    ensures counts { CountsIf S.Store (CanTell seen.now told.now) change.old change.new result }
     ensures work { AddsIn (2 + if_numbered (number_in told.now) 1) 0 change.old change.new }
 {
     let notes = notes_with(seen.action.notes, told)?;

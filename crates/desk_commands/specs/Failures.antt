@@ -1,0 +1,90 @@
+-- When a step of a command is a failed store: where the ledger that is seen can be read, only where a call of the database failed, which is
+-- counted.
+use Rattle.std.specs.Prelude.{◌≡◌, ◌<◌, ◌^◌, ℕ, ◌+◌, length, Option, Some, Result, Ok, Err}
+use Rattle.sqlite.specs.Store.{Ghosts}
+use Rattle.sql_calls.specs.declared.fault.Fault.{Fault}
+use Rattle.rollout_machine.specs.ByteStrings.{item_numbered}
+use Rattle.rollout_machine.specs.declared.outcome.Outcome.{Outcome}
+use Rattle.rollout_machine.specs.declared.records.ActionRecord.{ActionRecord}
+use Rattle.rollout_machine.specs.declared.records.GroupRecord.{GroupRecord}
+use Rattle.campaign_core.specs.declared.own_group.Following.{Following}
+use Rattle.campaign_core.specs.declared.own_group.Following.TheVariants.{StartsNext}
+use Rattle.campaign_core.specs.declared.rollout_checks.actions.Ending.{Ending}
+use Rattle.desk_records.specs.Holds.{Ledger}
+use Rattle.desk_store.specs.Blaming.{FailedBefore}
+use Rattle.desk_store.specs.Failing.{HasCall, HasSight, Sight}
+use Rattle.desk_store.specs.declared.change.OpenChange.{OpenChange}
+use Rattle.desk_reads.specs.AtLists.{IsOfList}
+use Rattle.desk_commands.specs.Endings.{outcomes_in}
+use Rattle.desk_commands.specs.Telling.{entries_by, notes_by}
+use Rattle.desk_commands.specs.declared.seen_actions.SeenAction.{SeenAction}
+use Rattle.desk_commands.specs.declared.telling.Told.{Told}
+
+module _ {S : Type 0} (g : Ghosts S) where
+  module _ (Given : Ledger → Type 0) where
+    abbrev pub WritingTo : {A : Type 0} → OpenChange S → OpenChange S → Result A Fault → Type 0
+    WritingTo old new (Ok a) = (sight : Sight) → HasSight g old sight → FailedBefore g new sight.failed
+    WritingTo old new (Err fault) = (sight : Sight) → HasSight g old sight → Given sight.ledger → HasCall g new sight.failed fault
+
+    -- What reads and then writes: where the ledger before can be read, and is as given, a failed store is a call that failed.
+    pub record FailsWriting {A : Type 0} (old new : OpenChange S) (result : Result A Fault) : Type 0 where
+      pub to : WritingTo old new result
+
+  module _ (If : Type 0) where
+    abbrev pub CountsIfTo : {A : Type 0} → OpenChange S → OpenChange S → Result A Fault → Type 0
+    CountsIfTo old new (Ok a) = (failed : ℕ) → FailedBefore g old failed → FailedBefore g new failed
+    CountsIfTo old new (Err fault) = (failed : ℕ) → FailedBefore g old failed → If → HasCall g new failed fault
+
+    -- what writes: if this is so, a failed store is a call that failed, whatever is seen
+    pub record CountsIf {A : Type 0} (old new : OpenChange S) (result : Result A Fault) : Type 0 where
+      pub to : CountsIfTo old new result
+
+-- ---- the action that was seen
+
+-- its group counts one more of this outcome
+pub record CanCount (seen : SeenAction) (o : Outcome) : Type 0 where
+  pub room : outcomes_in o seen.own + 1 < 2 ^ 32
+
+-- the group behind its own is there
+pub record HasNext (seen : SeenAction) : Type 0 where
+  pub next : GroupRecord
+  pub is_there : seen.next ≡ Some next
+
+-- .. where it is to start
+pub record CanFollow (seen : SeenAction) (following : Following) : Type 0 where
+  pub next : following ≡ StartsNext → HasNext seen
+
+pub record CanEnd (seen : SeenAction) (e : Ending) : Type 0 where
+  pub counts : CanCount seen e.outcome
+  pub follows : CanFollow seen e.following
+
+-- ---- what is told
+
+-- the numbers of the action are counted with the one that is told
+pub record CanNumber (told : Told) : Type 0 where
+  pub room : (number : ℕ) → told.entry.number ≡ Some number → told.numbers + 1 < 2 ^ 32
+
+pub record MayNumber (told : Option Told) : Type 0 where
+  pub numbers : (it : Told) → told ≡ Some it → CanNumber it
+
+-- .. and so are the notes and the entries
+pub record CanTell (seen : SeenAction) (told : Option Told) : Type 0 where
+  pub notes : notes_by told seen.action.notes < 2 ^ 32
+  pub entries : entries_by told seen.action.entries < 2 ^ 32
+  pub numbers : MayNumber told
+
+-- ---- steps
+
+-- No history of an action is so long that 32 bits count no further entry. Nothing but the disk limits it.
+pub record HasPlaces (l : Ledger) : Type 0 where
+  pub places : (k : ℕ) (a : ActionRecord) → item_numbered l.records.actions k ≡ Some a → length a.history + 1 < 2 ^ 32
+
+-- the ledger is that of a list of accepted commands, and has such histories
+pub record TakesSteps (l : Ledger) : Type 0 where
+  pub of_list : IsOfList l
+  pub places : HasPlaces l
+
+module _ {S : Type 0} (g : Ghosts S) where
+  -- a step: where such a ledger is seen and can be read, a failed store is a call that failed
+  abbrev pub FailsStepIn : {A : Type 0} → OpenChange S → OpenChange S → Result A Fault → Type 0
+  FailsStepIn = FailsWriting g TakesSteps
