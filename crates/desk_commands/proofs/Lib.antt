@@ -25,3 +25,5 @@ pub mod ActingEnds
 pub mod ActingSteps
 pub mod CreationLemmas
 pub mod StartLemmas
+pub mod FailureLemmas
+pub mod ActionGroups

@@ -1,6 +1,7 @@
 -- When a step of a command is a failed store: where the ledger that is seen can be read, only where a call of the database failed, which is
 -- counted.
-use Rattle.std.specs.Prelude.{◌≡◌, ◌<◌, ◌^◌, ℕ, ◌+◌, length, Option, Some, Result, Ok, Err}
+use Rattle.std.specs.Prelude.{◌≡◌, ◌<◌, ◌^◌, ℕ, ◌+◌, length, Option, Some, option_map, Result, Ok, Err}
+use Rattle.std.specs.List.{zip}
 use Rattle.sqlite.specs.Store.{Ghosts}
 use Rattle.sql_calls.specs.declared.fault.Fault.{Fault}
 use Rattle.rollout_machine.specs.ByteStrings.{item_numbered}
@@ -10,7 +11,11 @@ use Rattle.rollout_machine.specs.declared.records.GroupRecord.{GroupRecord}
 use Rattle.campaign_core.specs.declared.own_group.Following.{Following}
 use Rattle.campaign_core.specs.declared.own_group.Following.TheVariants.{StartsNext}
 use Rattle.campaign_core.specs.declared.rollout_checks.actions.Ending.{Ending}
+use Rattle.desk_records.specs.FeedbackNumbers.{last_number, numbers_numbered}
 use Rattle.desk_records.specs.Holds.{Ledger}
+use Rattle.desk_records.specs.RolloutRow.{stored_action}
+use Rattle.desk_records.specs.declared.rollout_row.StoredAction.{StoredAction}
+use Rattle.desk_records.specs.declared.number_row.PlacedNumber.{PlacedNumber}
 use Rattle.desk_store.specs.Blaming.{FailedBefore}
 use Rattle.desk_store.specs.Failing.{HasCall, HasSight, Sight}
 use Rattle.desk_store.specs.declared.change.OpenChange.{OpenChange}
@@ -40,6 +45,17 @@ module _ {S : Type 0} (g : Ghosts S) where
       pub to : CountsIfTo old new result
 
 -- ---- the action that was seen
+
+-- the ledger is that of a list of accepted commands, and this is its action k
+pub record IsActionOf (k : ℕ) (action : StoredAction) (l : Ledger) : Type 0 where
+  pub of_list : IsOfList l
+  pub is_there : Some action ≡ option_map (stored_action l.records.rollouts) (item_numbered (zip l.records.actions l.tallies) k)
+
+-- .. and this is the last number of action k
+pub record IsLastOf (k : ℕ) (last : PlacedNumber) (l : Ledger) : Type 0 where
+  pub of_list : IsOfList l
+  pub place : ℕ
+  pub is_last : Some (record { place = place; it = last }) ≡ last_number (numbers_numbered l.numbers k)
 
 -- its group counts one more of this outcome
 pub record CanCount (seen : SeenAction) (o : Outcome) : Type 0 where

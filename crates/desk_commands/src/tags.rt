@@ -5,6 +5,7 @@ ghost use Rattle.rollout_machine.specs.Commands.{Tag, Untag};
 ghost use Rattle.rollout_machine.specs.Verdicts.{target_of};
 ghost use Rattle.desk_store.specs.Counting.{AddsIn};
 ghost use Rattle.desk_store.specs.Changing.{FindsIn, StaysIn};
+ghost use Rattle.desk_reads.specs.AtLists.{FailsAtListsIn};
 ghost use Rattle.desk_commands.specs.Changing.{StepsIn};
 
 use crate::step::Step;
@@ -20,6 +21,7 @@ pub(crate) fn lacks_target<S: Alter>(
 ) -> Result<bool, Fault>
     ensures stays { StaysIn S.Store change.old change.new result }
     ensures reads { FindsIn S.Store change.old change.new result (λ r lacks. lacks ≡ is_none (target_of r id.now)) }
+    ensures fails { FailsAtListsIn S.Store change.old change.new result }
     ensures work { AddsIn 1 1 change.old change.new }
 {
     let found = change.read_target(id)?;
