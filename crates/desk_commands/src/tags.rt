@@ -7,6 +7,7 @@ ghost use Rattle.desk_store.specs.Counting.{AddsIn};
 ghost use Rattle.desk_store.specs.Changing.{FindsIn, StaysIn};
 ghost use Rattle.desk_reads.specs.AtLists.{FailsAtListsIn};
 ghost use Rattle.desk_commands.specs.Changing.{StepsIn};
+ghost use Rattle.desk_commands.specs.Failures.{FailsStepIn};
 
 use crate::step::Step;
 use desk_store::{Fault, OpenChange};
@@ -36,6 +37,7 @@ pub(crate) fn tag_target<S: Alter>(
 ) -> Result<Step, Fault>
     ensures stays { StaysIn S.Store change.old change.new result }
     ensures steps { StepsIn S.Store change.old change.new (Tag id.now tag.now) result }
+    ensures fails { FailsStepIn S.Store change.old change.new result }
 {
     if lacks_target(change, id)? {
         return Ok(Step::Refused(Refusal::NotFound));
@@ -59,6 +61,7 @@ pub(crate) fn untag_target<S: Alter>(
 ) -> Result<Step, Fault>
     ensures stays { StaysIn S.Store change.old change.new result }
     ensures steps { StepsIn S.Store change.old change.new (Untag id.now tag.now) result }
+    ensures fails { FailsStepIn S.Store change.old change.new result }
 {
     if lacks_target(change, id)? {
         return Ok(Step::Refused(Refusal::NotFound));
