@@ -27,3 +27,4 @@ pub mod CreationLemmas
 pub mod StartLemmas
 pub mod FailureLemmas
 pub mod ActionGroups
+pub mod RolloutExits

@@ -1,13 +1,15 @@
 -- When a step of a command is a failed store: where the ledger that is seen can be read, only where a call of the database failed, which is
 -- counted.
-use Rattle.std.specs.Prelude.{◌≡◌, ◌<◌, ◌^◌, ℕ, ◌+◌, length, Option, Some, option_map, Result, Ok, Err}
+use Rattle.std.specs.Prelude.{◌≡◌, ◌<◌, ◌^◌, ℕ, ◌+◌, List, length, Option, Some, option_map, Result, Ok, Err}
 use Rattle.std.specs.List.{zip}
 use Rattle.sqlite.specs.Store.{Ghosts}
 use Rattle.sql_calls.specs.declared.fault.Fault.{Fault}
 use Rattle.rollout_machine.specs.ByteStrings.{item_numbered}
+use Rattle.rollout_machine.specs.RecordSteps.{last_started}
 use Rattle.rollout_machine.specs.declared.outcome.Outcome.{Outcome}
 use Rattle.rollout_machine.specs.declared.records.ActionRecord.{ActionRecord}
 use Rattle.rollout_machine.specs.declared.records.GroupRecord.{GroupRecord}
+use Rattle.rollout_machine.specs.declared.records.RolloutRecord.{RolloutRecord}
 use Rattle.campaign_core.specs.declared.own_group.Following.{Following}
 use Rattle.campaign_core.specs.declared.own_group.Following.TheVariants.{StartsNext}
 use Rattle.campaign_core.specs.declared.rollout_checks.actions.Ending.{Ending}
@@ -20,6 +22,8 @@ use Rattle.desk_store.specs.Blaming.{FailedBefore}
 use Rattle.desk_store.specs.Failing.{HasCall, HasSight, Sight}
 use Rattle.desk_store.specs.declared.change.OpenChange.{OpenChange}
 use Rattle.desk_reads.specs.AtLists.{IsOfList}
+use Rattle.desk_reads.specs.Rollouts.{IsSeenOf}
+use Rattle.desk_reads.specs.declared.rollouts.SeenRollout.{SeenRollout}
 use Rattle.desk_commands.specs.Endings.{outcomes_in}
 use Rattle.desk_commands.specs.Telling.{entries_by, notes_by}
 use Rattle.desk_commands.specs.declared.seen_actions.SeenAction.{SeenAction}
@@ -73,6 +77,28 @@ pub record CanFollow (seen : SeenAction) (following : Following) : Type 0 where
 pub record CanEnd (seen : SeenAction) (e : Ending) : Type 0 where
   pub counts : CanCount seen e.outcome
   pub follows : CanFollow seen e.following
+
+-- ---- the rollout that was seen
+
+-- the ledger is that of a list of accepted commands, and this is its rollout r
+pub record IsSeenIn (r : ℕ) (seen : SeenRollout) (l : Ledger) : Type 0 where
+  pub of_list : IsOfList l
+  pub rollout : RolloutRecord
+  pub is_there : item_numbered l.records.rollouts r ≡ Some rollout
+  pub is_seen : IsSeenOf seen rollout
+
+-- .. and this is the number of its last started group
+pub record IsSeenFrom (r : ℕ) (seen : SeenRollout) (last : ℕ) (l : Ledger) : Type 0 where
+  pub sees : IsSeenIn r seen l
+  pub last_is : last ≡ last_started seen.groups.items
+
+pub record HasItem (groups : List GroupRecord) (i : ℕ) : Type 0 where
+  pub group : GroupRecord
+  pub is_there : item_numbered groups i ≡ Some group
+
+-- the group that is to start is there
+pub record CanStart (groups : List GroupRecord) (starts : Option ℕ) : Type 0 where
+  pub group : (i : ℕ) → starts ≡ Some i → HasItem groups i
 
 -- ---- what is told
 

@@ -3,7 +3,7 @@ use Rattle.std.proofs.Common.{true, false, sym, ◌∙◌}
 use Rattle.desk_reads.proofs.HistoryKept.{details_kept}
 use Rattle.desk_commands.proofs.ReportLemmas.{entry_kept, stands_equal}
 use Rattle.desk_commands.proofs.SeenLemmas.{ok_or_some}
-use Rattle.desk_commands.proofs.FailureLemmas.{fails_so, never_missing}
+use Rattle.desk_commands.proofs.FailureLemmas.{never, never_missing, reads_end}
 use Rattle.desk_commands.proofs.reports.stand_against.Goals as goal
 
 pub returns-then-same_entry-clause-reads : goal.returns-then-same_entry-clause-reads
@@ -20,5 +20,5 @@ returns-clause-reads g c =
 
 pub returns-in_err-entry-clause-fails : goal.returns-in_err-entry-clause-fails
 returns-in_err-entry-clause-fails g c =
-    fails_so c.in_ok-read_entry.ensures.reads _ _ c.from_residual-in_err-entry.ensures.1
-    (λ l is given. let it = entry_kept c.args.given.now.action c.args.last.now l given in never_missing _ _ _ it.entry c.in_err-entry.ensures.value (is it.keeps ∙ it.is_there))
+    reads_end (never c.in_ok-read_entry.ensures.reads
+    (λ l is given. let it = entry_kept c.args.given.now.action c.args.last.now l given in never_missing _ _ _ it.entry c.in_err-entry.ensures.value (is it.keeps ∙ it.is_there))) _ c.from_residual-in_err-entry.ensures.1
