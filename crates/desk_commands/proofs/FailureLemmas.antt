@@ -86,5 +86,11 @@ pub counts_never : {S B : Type 0} {g : Ghosts S} {If : Type 0} {old new : OpenCh
 counts_never why fault (Ok y) is = absurd is
 counts_never why fault (Err e) is = record { to = λ failed before so. absurd (why so) }
 
+-- where it is that of a call
+pub writes_last : {S B : Type 0} {g : Ghosts S} {Given : Ledger → Type 0} {If : Type 0} {old mid new : OpenChange S} → ((failed : ℕ) → FailedBefore g old failed → FailedBefore g mid failed) → ((l : Ledger) → Given l → If) → (out : Result B Fault) → CountsIf g If mid new out
+    → FailsWriting g Given old new out
+writes_last before means (Ok y) w = record { to = λ sight was. w.to sight.failed (before sight.failed was.before) }
+writes_last before means (Err fault) w = record { to = λ sight was given. w.to sight.failed (before sight.failed was.before) (means sight.ledger given) }
+
 pub counted : {S A : Type 0} {g : Ghosts S} {If : Type 0} {old new : OpenChange S} {fault : Fault} → CountsIf g If {A = A} old new (Err fault) → Exits g (λ l. If) old new fault
 counted w = λ sight was so. w.to sight.failed was.before so

@@ -28,3 +28,4 @@ pub mod StartLemmas
 pub mod FailureLemmas
 pub mod ActionGroups
 pub mod RolloutExits
+pub mod ActingExits

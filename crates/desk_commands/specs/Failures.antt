@@ -7,11 +7,12 @@ use Rattle.sql_calls.specs.declared.fault.Fault.{Fault}
 use Rattle.rollout_machine.specs.ByteStrings.{item_numbered}
 use Rattle.rollout_machine.specs.RecordSteps.{last_started}
 use Rattle.rollout_machine.specs.declared.outcome.Outcome.{Outcome}
-use Rattle.rollout_machine.specs.declared.records.ActionRecord.{ActionRecord}
 use Rattle.rollout_machine.specs.declared.records.GroupRecord.{GroupRecord}
 use Rattle.rollout_machine.specs.declared.records.RolloutRecord.{RolloutRecord}
 use Rattle.campaign_core.specs.declared.own_group.Following.{Following}
 use Rattle.campaign_core.specs.declared.own_group.Following.TheVariants.{StartsNext}
+use Rattle.campaign_core.specs.declared.rollout_checks.actions.ActionChange.{ActionChange}
+use Rattle.campaign_core.specs.declared.rollout_checks.actions.ActionChange.TheVariants.{Ends}
 use Rattle.campaign_core.specs.declared.rollout_checks.actions.Ending.{Ending}
 use Rattle.desk_records.specs.FeedbackNumbers.{last_number, numbers_numbered}
 use Rattle.desk_records.specs.Holds.{Ledger}
@@ -24,6 +25,7 @@ use Rattle.desk_store.specs.declared.change.OpenChange.{OpenChange}
 use Rattle.desk_reads.specs.AtLists.{IsOfList}
 use Rattle.desk_reads.specs.Rollouts.{IsSeenOf}
 use Rattle.desk_reads.specs.declared.rollouts.SeenRollout.{SeenRollout}
+use Rattle.desk_commands.specs.Counted.{AreCounted}
 use Rattle.desk_commands.specs.Endings.{outcomes_in}
 use Rattle.desk_commands.specs.Telling.{entries_by, notes_by}
 use Rattle.desk_commands.specs.declared.seen_actions.SeenAction.{SeenAction}
@@ -47,6 +49,24 @@ module _ {S : Type 0} (g : Ghosts S) where
     -- what writes: if this is so, a failed store is a call that failed, whatever is seen
     pub record CountsIf {A : Type 0} (old new : OpenChange S) (result : Result A Fault) : Type 0 where
       pub to : CountsIfTo old new result
+
+-- ---- steps
+
+-- the ledger is that of a list of accepted commands, with a further place in each history
+pub record TakesSteps (l : Ledger) : Type 0 where
+  pub of_list : IsOfList l
+  pub counted : AreCounted l.records
+
+-- .. from which the change leads to another one
+pub record Leads (Change : Ledger → Ledger → Type 0) (l : Ledger) : Type 0 where
+  pub takes : TakesSteps l
+  pub next : Ledger
+  pub changes : Change l next
+
+module _ {S : Type 0} (g : Ghosts S) where
+  -- a step: where such a ledger is seen and can be read, a failed store is a call that failed
+  abbrev pub FailsStepIn : {A : Type 0} → OpenChange S → OpenChange S → Result A Fault → Type 0
+  FailsStepIn = FailsWriting g TakesSteps
 
 -- ---- the action that was seen
 
@@ -77,6 +97,9 @@ pub record CanFollow (seen : SeenAction) (following : Following) : Type 0 where
 pub record CanEnd (seen : SeenAction) (e : Ending) : Type 0 where
   pub counts : CanCount seen e.outcome
   pub follows : CanFollow seen e.following
+
+pub record CanEndBy (seen : SeenAction) (after : ActionChange) : Type 0 where
+  pub ends : (e : Ending) → after ≡ Ends e → CanEnd seen e
 
 -- ---- the rollout that was seen
 
@@ -114,19 +137,3 @@ pub record CanTell (seen : SeenAction) (told : Option Told) : Type 0 where
   pub notes : notes_by told seen.action.notes < 2 ^ 32
   pub entries : entries_by told seen.action.entries < 2 ^ 32
   pub numbers : MayNumber told
-
--- ---- steps
-
--- No history of an action is so long that 32 bits count no further entry. Nothing but the disk limits it.
-pub record HasPlaces (l : Ledger) : Type 0 where
-  pub places : (k : ℕ) (a : ActionRecord) → item_numbered l.records.actions k ≡ Some a → length a.history + 1 < 2 ^ 32
-
--- the ledger is that of a list of accepted commands, and has such histories
-pub record TakesSteps (l : Ledger) : Type 0 where
-  pub of_list : IsOfList l
-  pub places : HasPlaces l
-
-module _ {S : Type 0} (g : Ghosts S) where
-  -- a step: where such a ledger is seen and can be read, a failed store is a call that failed
-  abbrev pub FailsStepIn : {A : Type 0} → OpenChange S → OpenChange S → Result A Fault → Type 0
-  FailsStepIn = FailsWriting g TakesSteps
