@@ -1,15 +1,11 @@
 -- The details in the histories of accepted commands keep their rule.
 use Rattle.std.proofs.Common.{◌≡◌, ℕ, Bool, true, false, cond, [], Option, Some, None, refl, ap, ◌∙◌}
-use Rattle.std.specs.List.{list_all}
-use Rattle.desk_reads.proofs.Common.{option_map, and_parts, item_numbered, CommandList, Make, ◌▸◌, Records, action_in, IsValid, AreOfList}
+use Rattle.desk_reads.proofs.Common.{list_all, option_map, and_parts, item_numbered, CommandList, Make, ◌▸◌, Records, action_in, IsValid, AreOfList, IsWellFormed, is_credential, is_device_feedback, Command, DeviceFeedback, Feedback, CancelFeedback, are_details, is_number}
+use Rattle.rollout_machine.specs.Records.{records}
 use Rattle.std.proofs.lemmas.List.Folds.{list_all-append}
 use Rattle.rollout_machine.specs.Actions.{ActionPlace, action_place, action_places, history}
-use Rattle.rollout_machine.specs.CommandRules.{IsWellFormed, is_credential, is_device_feedback}
-use Rattle.rollout_machine.specs.Commands.{Command, DeviceFeedback, Feedback, CancelFeedback}
-use Rattle.rollout_machine.specs.Records.{records}
 use Rattle.rollout_machine.specs.Reports.{entries_in, reported_by}
 use Rattle.rollout_machine.proofs.Actions.{entries_both, numbered_map}
-use Rattle.rollout_model.specs.Rules.{are_details, is_number}
 use Rattle.desk_records.specs.Actions.{history_of}
 use Rattle.desk_records.specs.EntryRow.{keeps_details}
 

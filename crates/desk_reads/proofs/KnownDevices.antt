@@ -1,12 +1,8 @@
 -- Whether a device is known, by the target of its id.
 use Rattle.std.proofs.Common.{◌≡◌, Bool, true, false, cond, ◌&&◌, ◌||◌, nat_eq, List, [], ◌∷◌, find, Some, None, refl, sym, ap, ◌∙◌}
-use Rattle.desk_reads.proofs.Common.{or_parts, and_parts, option_map, sorted_from, has_id, are_sorted, ids_of, in_byte_order, IsSorted, not_above, contains_word, same_bytes, Records, Target, is_known, target_of}
-use Rattle.std.specs.Cmp.Lexicographic.{pointwise}
-use Rattle.std.specs.List.{list_any}
+use Rattle.desk_reads.proofs.Common.{or_parts, and_parts, option_map, sorted_from, has_id, are_sorted, ids_of, in_byte_order, IsSorted, not_above, contains_word, same_bytes, Records, Target, is_known, target_of, pointwise, list_any, same_pointwise, same_sym, same_true, Credential}
 use Rattle.desk_records.specs.TargetRow.{stored_target}
 use Rattle.desk_records.specs.declared.target_row.StoredTarget.{StoredTarget}
-use Rattle.rollout_machine.proofs.TargetTies.{same_pointwise, same_sym, same_true}
-use Rattle.rollout_machine.specs.Commands.{Credential}
 
 -- ---- the device
 

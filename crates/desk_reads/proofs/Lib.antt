@@ -5,3 +5,7 @@ pub mod RuleLemmas
 pub mod ListedTargets
 pub mod KnownDevices
 pub mod HistoryKept
+pub mod TargetRules
+pub mod ListFailLemmas
+pub mod LabelRules
+pub mod ListMembers

@@ -3,11 +3,10 @@ use Rattle.std.proofs.Common.{◌≡◌, ◌≤◌, ◌<◌, ◌-◌, ℕ, zero,
 use Rattle.std.specs.Prelude.{slice_get}
 use Rattle.sqlite.specs.State.{State}
 use Rattle.sql_calls.specs.Standing.{Finds}
-use Rattle.desk_reads.proofs.Common.{finds_as, item_numbered, CommandList, Records, group_in, rollout_in, rollouts_in, IsValid, RolloutRecord, each_there, length_each, HoldsLedger, ledger_of, parts_of, groups_of, numbered_from, AreOfList, last_in, last_place}
+use Rattle.desk_reads.proofs.Common.{finds_as, item_numbered, CommandList, Records, group_in, rollout_in, rollouts_in, IsValid, RolloutRecord, each_there, length_each, HoldsLedger, ledger_of, parts_of, groups_of, numbered_from, AreOfList, last_in, last_place, Rollout, first_of, rollout_at, rollouts, size_in, size_of}
+use Rattle.rollout_machine.specs.Records.{records}
 use Rattle.rollout_machine.specs.Effects.{HasSoundPlan}
 use Rattle.rollout_machine.specs.Ranges.{each_from}
-use Rattle.rollout_machine.specs.Records.{records}
-use Rattle.rollout_machine.specs.Rollouts.{Rollout, first_of, rollout_at, rollouts, size_in, size_of}
 use Rattle.rollout_machine.specs.StateWords.{group_numbered, size_of_group}
 use Rattle.rollout_machine.specs.declared.records.GroupRecord.{GroupRecord}
 use Rattle.rollout_machine.proofs.Induction.{invariant_of, no_record}

@@ -1,8 +1,7 @@
 -- What is said of the groups of a rollout, as it is read.
 use Rattle.std.proofs.Common.{◌≡◌, ◌≤◌, ℕ, zero, suc, Some, refl, sym, ap, ◌∙◌, arith}
 use Rattle.std.proofs.lemmas.Option.{slice_get-map}
-use Rattle.desk_reads.proofs.Common.{item_numbered, Records, RolloutRecord, each_there, numbered_each, ledger_of, rule_numbered, rules_numbered}
-use Rattle.rollout_machine.specs.Commands.{RolloutPlan}
+use Rattle.desk_reads.proofs.Common.{item_numbered, Records, RolloutRecord, each_there, numbered_each, ledger_of, rule_numbered, rules_numbered, RolloutPlan}
 use Rattle.rollout_machine.specs.GroupRules.{GroupRule, rule_at, rules_of}
 
 -- those of a rollout that is there are its plan's

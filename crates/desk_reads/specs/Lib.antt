@@ -1,3 +1,4 @@
 pub mod Targets
 pub mod AtLists
 pub mod Rollouts
+pub mod Counted

@@ -1,13 +1,12 @@
 -- The calls on actions and offers.
 use Rattle.std.proofs.Common.{◌≡◌, ◌≤◌, ℕ, zero, suc, pos, take, drop, Bool, true, List, [], ◌∷◌, length, Option, Some, None, Ok, Err, Result, IfOk, option_map, Vec, vec_items, refl, sym, ap, subst, map, slice_get, ◌∙◌, codes}
-use Rattle.desk_store.proofs.Common.{list_all, zip, Global, Int, Text, Row, Select, Database, State, Fault, AsksText, TakesFirst, Finds, Knows, ShowsFirst, simple, ask_finds, first_finds, and_parts, slice_get-map, HistoryEntry, item_numbered, Bytes, Offer, LAST_ACTION, GET_ACTION, LIST_ACTIONS, LIST_TARGET_ACTIONS, LIST_ENTRIES, GET_OFFER, ListedAction, StoredAction, history_of, told_entry, IsEntryRow, keeps_details, HoldsLedger, Ledger, IsLastRow, IsActionRow, IsListedActionRow, IsOfferRow, actions_for, actions_of, stored_action, Actions, Feedbacks, Offers, HoldsTables, at_key, last_action_query, action_columns, action_names, listed_names, list_actions_query, list_target_actions_query, list_entries_query, entry_names, of_controller, offer_columns, last_action_is, get_action_is, list_actions_is, list_target_actions_is, list_entries_is, get_offer_is, shown_action, told_listed, lasts_action, gets_action, lists_actions, lists_target_actions, told_offer, gets_offer, AreReadAs, IsReadAs}
+use Rattle.desk_store.proofs.Common.{list_all, zip, Global, Int, Text, Row, Database, State, Fault, AsksText, TakesFirst, Finds, ShowsFirst, simple, ask_finds, first_finds, and_parts, slice_get-map, HistoryEntry, item_numbered, Bytes, Offer, LAST_ACTION, GET_ACTION, LIST_ACTIONS, LIST_TARGET_ACTIONS, LIST_ENTRIES, GET_OFFER, ListedAction, StoredAction, history_of, told_entry, IsEntryRow, keeps_details, HoldsLedger, Ledger, IsLastRow, IsActionRow, IsListedActionRow, IsOfferRow, actions_for, actions_of, stored_action, Actions, Feedbacks, Offers, at_key, last_action_query, action_columns, action_names, listed_names, list_actions_query, list_target_actions_query, list_entries_query, entry_names, of_controller, offer_columns, last_action_is, get_action_is, list_actions_is, list_target_actions_is, list_entries_is, get_offer_is, shown_action, told_listed, lasts_action, gets_action, lists_actions, lists_target_actions, told_offer, gets_offer, AreReadAs, IsReadAs}
 use Rattle.sqlite.specs.Effect.{Reads as Shows}
 use Rattle.sqlite_keyed.proofs.ListLemmas.{first_taken}
 use Rattle.desk_records.proofs.EntryRecords.{lists_entries, told_part}
 use Rattle.desk_store.proofs.Known.{OneTable, in_ledgers, known}
 use Rattle.desk_store.proofs.LedgerReads.{both_mapped, one_action, one_entry, one_listed, one_offer, same_entries}
-use Rattle.desk_store.proofs.ModuleCalls.{one_last}
-use Rattle.desk_store.proofs.ReadLemmas.{asks_all, one_read, read_parts, takes_one}
+use Rattle.desk_store.proofs.ReadLemmas.{asks_all, one_read, read_parts, takes_last, takes_one}
 
 -- ---- what the texts mean where a ledger is held
 
@@ -31,13 +30,8 @@ offered = record { place = Offers; query = λ tree. simple tree of_controller of
 
 -- ---- actions
 
-lasts : (row : Option Row) (out : Result ℕ Fault) → IfOk out (λ n. IsLastRow n row)
-    → IfOk out (λ n. (db : Database) (l : Ledger) (holds : HoldsLedger db l) → ShowsFirst (in_ledgers (known ending) db l holds).command db [] row → n ≡ length (zip l.records.actions l.tallies))
-lasts row (Ok n) h = λ db l holds shown. one_last row n (length (zip l.records.actions l.tallies)) h (lasts_action db l holds (codes "number" ∷ []) row shown)
-lasts row (Err e) h = tt
-
 pub last_read : (old new : State) (row : Option Row) → TakesFirst old new LAST_ACTION.now [] (Ok row) → (out : Result ℕ Fault) → IfOk out (λ n. IsLastRow n row) → Finds HoldsLedger (λ (l : Ledger). l) old new out (λ l last. last ≡ length (zip l.records.actions l.tallies))
-last_read old new row h out is = first_finds HoldsLedger (λ (l : Ledger). l) LAST_ACTION.now [] old new (λ l last. last ≡ length (zip l.records.actions l.tallies)) (in_ledgers (known ending)) (λ db l holds at given. tt) row h out (lasts row out is)
+last_read old new row = takes_last (λ (l : Ledger). l) LAST_ACTION.now old new (known ending) (λ l. length (zip l.records.actions l.tallies)) (λ db r holds at given. tt) row (λ db l holds. lasts_action db l holds (codes "number" ∷ []) row)
 
 pub action_read : (number : ℕ) → 1 ≤ number → (old new : State) (row : Option Row) → TakesFirst old new GET_ACTION.now (Int (pos number) ∷ []) (Ok row) → (out : Result (Option StoredAction) Fault) → IfOk out (λ found. IsReadAs IsActionRow found row)
     → Finds HoldsLedger (λ (l : Ledger). l) old new out (λ l found. found ≡ option_map (stored_action l.records.rollouts) (item_numbered (zip l.records.actions l.tallies) number))

@@ -1,10 +1,9 @@
 -- The calls on artifacts and their pieces.
 use Rattle.std.proofs.Common.{◌≡◌, ◌≤◌, ℕ, ◌+◌, pos, [], ◌∷◌, length, Bool, Option, Some, Ok, Err, Result, IfOk, option_map, Vec, vec_items, refl, sym, ap, subst, codes}
-use Rattle.desk_store.proofs.Common.{list_any, Global, is_some, Int, Text, Blob, Row, column, Select, Insert, Values, col, Database, State, Fault, RunsText, AsksText, TakesFirst, Finds, Makes, Knows, KnowsWrite, ShowsFirst, simple, first_finds, run_makes, item_numbered, Bytes, ArtifactRecord, Records, Artifact, FIND_ARTIFACT, LAST_ARTIFACT, GET_ARTIFACT, LIST_ARTIFACTS, GET_PIECE, PUT_ARTIFACT, PUT_PIECE, StoredArtifact, Artifacts, Pieces, HoldsLedger, HoldsRecords, ledger_of, IsLastRow, told_of, piece_row, is_same_artifact, file_of, piece_numbered, artifact_filed, with_artifact, AddsPiece, IsStoredRow, IsArtifactRow, StoredBytes, stored, HoldsTables, at_key, same_file, last_artifact_query, told_columns, told_names, artifacts_query, shown_names, artifact_terms, at_piece, piece_terms, find_artifact_is, last_artifact_is, get_artifact_is, list_artifacts_is, get_piece_is, put_artifact_is, put_piece_is, AreReadAs, IsReadAs}
+use Rattle.desk_store.proofs.Common.{list_any, Global, is_some, Int, Text, Blob, Row, column, Insert, Values, col, Database, State, Fault, RunsText, AsksText, TakesFirst, Finds, Makes, KnowsWrite, ShowsFirst, simple, first_finds, run_makes, item_numbered, Bytes, ArtifactRecord, Records, Artifact, FIND_ARTIFACT, LAST_ARTIFACT, GET_ARTIFACT, LIST_ARTIFACTS, GET_PIECE, PUT_ARTIFACT, PUT_PIECE, StoredArtifact, Artifacts, Pieces, HoldsLedger, HoldsRecords, ledger_of, IsLastRow, told_of, piece_row, is_same_artifact, file_of, piece_numbered, artifact_filed, with_artifact, AddsPiece, IsStoredRow, IsArtifactRow, StoredBytes, stored, at_key, same_file, last_artifact_query, told_columns, told_names, artifacts_query, shown_names, artifact_terms, at_piece, piece_terms, find_artifact_is, last_artifact_is, get_artifact_is, list_artifacts_is, get_piece_is, put_artifact_is, put_piece_is, AreReadAs, IsReadAs}
 use Rattle.rollout_machine.specs.Objects.{artifacts_shown}
 use Rattle.desk_records.proofs.ArtifactRecords.{finds_artifact, lasts_artifact, gets_artifact, lists_artifacts, gets_piece, adds_artifact, adds_piece}
-use Rattle.desk_store.proofs.ReadLemmas.{asks_all, takes_one}
-use Rattle.desk_store.proofs.ModuleCalls.{one_last}
+use Rattle.desk_store.proofs.ReadLemmas.{asks_all, takes_last, takes_one}
 use Rattle.desk_store.proofs.Known.{OneTable, in_ledgers, known, ledger_writes}
 
 -- ---- what the texts mean where the records are held
@@ -41,16 +40,8 @@ found m filename old new row h =
 
 -- ---- the last number
 
-abbrev pub IsLast : Records → ℕ → Type 0
-IsLast r last = last ≡ length r.artifacts
-
-lasts : (row : Option Row) (out : Result ℕ Fault) → IfOk out (λ n. IsLastRow n row)
-    → IfOk out (λ n. (db : Database) (now : Records) (holds : HoldsRecords db now) → ShowsFirst (in_ledgers (known ending) db (ledger_of now) holds).command db [] row → n ≡ length now.artifacts)
-lasts row (Ok n) h = λ db now holds shown. one_last row n (length now.artifacts) h (lasts_artifact db now holds (codes "number" ∷ []) row shown)
-lasts row (Err e) h = tt
-
-pub last_read : (old new : State) (row : Option Row) → TakesFirst old new LAST_ARTIFACT.now [] (Ok row) → (out : Result ℕ Fault) → IfOk out (λ n. IsLastRow n row) → Finds HoldsLedger ledger_of old new out IsLast
-last_read old new row h out is = first_finds HoldsLedger ledger_of LAST_ARTIFACT.now [] old new IsLast (in_ledgers (known ending)) (λ db r holds at given. tt) row h out (lasts row out is)
+pub last_read : (old new : State) (row : Option Row) → TakesFirst old new LAST_ARTIFACT.now [] (Ok row) → (out : Result ℕ Fault) → IfOk out (λ n. IsLastRow n row) → Finds HoldsLedger ledger_of old new out (λ r last. last ≡ length r.artifacts)
+last_read old new row = takes_last ledger_of LAST_ARTIFACT.now old new (known ending) (λ r. length r.artifacts) (λ db l holds at given. tt) row (λ db r holds. lasts_artifact db r holds (codes "number" ∷ []) row)
 
 -- ---- an artifact by its number
 

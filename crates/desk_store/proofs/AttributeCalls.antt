@@ -1,6 +1,6 @@
 -- The calls on attributes of targets.
 use Rattle.std.proofs.Common.{◌≡◌, List, [], ◌∷◌, Ok, Result, IfOk, Vec, refl, codes}
-use Rattle.desk_store.proofs.Common.{Global, Text, Row, Select, Insert, Update, Values, State, Fault, RunsText, AsksText, Finds, Makes, Knows, KnowsWrite, run_makes, Bytes, Attribute, Records, target_of, LIST_TARGET_ATTRIBUTES, PUT_TARGET_ATTRIBUTE, SET_TARGET_ATTRIBUTE, TargetAttributes, HoldsLedger, ledger_of, IsAttributeRow, HoldsTables, attribute_row, AreReadAs}
+use Rattle.desk_store.proofs.Common.{Global, Text, Row, Insert, Update, Values, State, Fault, RunsText, AsksText, Finds, Makes, KnowsWrite, run_makes, Bytes, Attribute, Records, target_of, LIST_TARGET_ATTRIBUTES, PUT_TARGET_ATTRIBUTE, SET_TARGET_ATTRIBUTE, TargetAttributes, HoldsLedger, ledger_of, IsAttributeRow, attribute_row, AreReadAs}
 use Rattle.desk_records.specs.Targets.{attributes_of, AddsAttribute, SetsAttribute}
 use Rattle.desk_records.proofs.TargetMeaning.{attributes_query, attribute_terms, set_attribute_query, list_target_attributes_is, put_target_attribute_is, set_target_attribute_is}
 use Rattle.desk_records.proofs.AttributeRecords.{lists_target_attributes, adds_attribute, sets_attribute}

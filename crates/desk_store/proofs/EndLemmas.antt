@@ -16,7 +16,3 @@ module _ (old new : State) where
 pub errors_as_store : (out : Result (Unit {0}) Fault) → errors_in (as_store out) ≡ errors_in out
 errors_as_store (Ok _) = refl
 errors_as_store (Err fault) = refl
-
-pub negated : (b : Bool) → true ≡ not b → b ≡ false
-negated true h = cc
-negated false h = refl

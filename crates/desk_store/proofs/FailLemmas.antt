@@ -1,6 +1,6 @@
 -- Why a call over a ledger that can be read is no failed store by itself.
-use Rattle.std.proofs.Common.{◌≡◌, ◌⊎◌, ◌≤◌, ◌<◌, ◌^◌, min, length, codes, ◌+◌, ◌-◌, ℕ, pos, Bool, true, false, zero, suc, inl, inr, nat_lt, List, [], ◌∷◌, take, drop, filter, map, Option, Some, None, Ok, Err, Result, IfErr, Vec, refl, sym, ap, subst, ◌∙◌, arith}
-use Rattle.desk_store.proofs.Common.{is_some, Global, Select, Schema, Means, count_query, Stands, Place, name_of, table_at, flag_in, Value, Null, Int, Row, column, has_size, small_number, HasNoNumber, Query, Output, page, Database, Term, Ghosts, Has, has_filtered, Fault, Memory, Store, AsksFew, AsksText, TakesFirst, ShowsFirst, first_finds, ask_finds, few_finds, IsOrdered, by, ordered_rows, passes, shown_in, shown_of, simple, HoldsLedger, Ledger, HoldsTables, Tables, IfStore, HasBroken, seen_in, OpenChange}
+use Rattle.std.proofs.Common.{◌≡◌, ◌≤◌, ◌^◌, ◌+◌, ◌-◌, ℕ, Bool, true, false, zero, suc, inl, inr, nat_lt, List, [], ◌∷◌, take, drop, filter, map, Option, Some, None, Ok, Err, Result, IfErr, Vec, refl, sym, ap, subst, ◌∙◌, arith}
+use Rattle.desk_store.proofs.Common.{Global, Null, Row, Query, Output, page, Database, Term, Ghosts, Has, has_filtered, Fault, Memory, Store, AsksFew, AsksText, TakesFirst, ShowsFirst, first_finds, ask_finds, few_finds, IsOrdered, by, ordered_rows, passes, shown_in, shown_of, simple, HoldsLedger, Ledger, HoldsTables, Tables, IfStore, HasBroken, seen_in, OpenChange}
 use Rattle.sqlite.specs.Effect.{Reads as Shows}
 use Rattle.std.proofs.lemmas.Bool.Decides.{nat_tests}
 use Rattle.sql_calls.specs.Calls.{capped, failures_in, failures_of, fails}
@@ -14,15 +14,10 @@ use Rattle.std.specs.Option.{unwrap_or}
 use Rattle.desk_records.proofs.HeldTables.{rows_of}
 use Rattle.desk_records.proofs.Membership.{has_mapped, has_permuted}
 use Rattle.desk_store.specs.Changing.{FindsLedger}
-use Rattle.desk_store.specs.Failing.{CountsIn, FailsGiven, FailsIn, HasCall, Sight}
-use Rattle.desk_records.specs.declared.texts.TheConstants.{GET_DESK}
-use Rattle.desk_records.proofs.DeskRecords.{gets_desk, told_desk}
-use Rattle.desk_records.proofs.NumberColumns.{small_is}
-use Rattle.desk_store.specs.Readable.{BreaksColumn, HasNoKey, IsReadable}
-use Rattle.desk_store.specs.Rows.{HasNoApproval, IsBroken}
+use Rattle.desk_store.specs.Failing.{CountsIn, FailsGiven, FailsIn, HasCall}
+use Rattle.desk_store.specs.Readable.{BreaksColumn, IsReadable}
+use Rattle.desk_store.specs.Rows.{IsBroken}
 use Rattle.desk_store.proofs.Known.{OneTable, in_ledgers, known}
-use Rattle.desk_store.proofs.RawCalls.{count_shown, counted}
-use Rattle.desk_store.proofs.RolloutCalls.{getting_desk}
 
 -- ---- one call
 
@@ -59,12 +54,15 @@ module _ {S A B : Type 0} {g : Ghosts S} {Given : Ledger → Type 0} {old new : 
   fails_never read grows (Err Store) why = record { to = λ sight was given. record { call = λ is clean. absurd (why sight.ledger ((read.finds sight.ledger was.sees).1 clean) sight.readable given) } }
 
 -- where what was found leaves no such fault
-told_never : {B : Type 0} (Why : Type 0) (out : Result B Fault) → IfErr out (λ fault. IfStore fault Why) → IfErr out (λ fault. IfStore fault ((l : Ledger) → (IsReadable l → Why → ⊥) → IsReadable l → Unit {0} → ⊥))
+pub told_never : {B : Type 0} (Why : Type 0) (out : Result B Fault) → IfErr out (λ fault. IfStore fault Why) → IfErr out (λ fault. IfStore fault ((l : Ledger) → (IsReadable l → Why → ⊥) → IsReadable l → Unit {0} → ⊥))
 told_never Why (Ok y) is = tt
 told_never Why (Err Memory) is = tt
 told_never Why (Err Store) is = λ l said readable given. said readable is
 
 -- ---- by the rows of one table
+
+abbrev pub tables_of : (db : Database) (l : Ledger) (holds : HoldsLedger db l) → HoldsTables db (rows_of db l holds)
+tables_of db l holds = record { sound = holds.sound; spot = holds.spot; stands = holds.stands; rows = λ p. refl }
 
 has_dropped : {X : Type 0} (n : ℕ) (xs : List X) (x : X) → Has (drop n xs) x → Has xs x
 has_dropped zero xs x among = among
@@ -111,7 +109,7 @@ module _ {sql : List ℕ} (text : OneTable sql) where
   module _ (is_broken : Row → Type 0) (rule : (params row : Row) → (BreaksColumn text.place row → ⊥) → is_broken (shown_of columns params row) → ⊥) (params : Row) where
     kept : (db : Database) (l : Ledger) (holds : HoldsLedger db l) (shown : List Row) → Shows (in_ledgers (known text) db l holds).command db params shown → IsReadable l → (x : Row) → Has shown x → is_broken x → ⊥
     kept db l holds shown shows readable x among broken =
-        let its = from_table params db (rows_of db l holds) (record { sound = holds.sound; spot = holds.spot; stands = holds.stands; rows = λ p. refl }) shown shows x among in
+        let its = from_table params db (rows_of db l holds) (tables_of db l holds) shown shows x among in
         rule params its.0 (readable.keep text.place (db.trees (holds.spot text.place).tree) (holds.rows text.place) its.0 its.1) (subst is_broken its.2 broken)
 
     module _ {S B : Type 0} {g : Ghosts S} {old new : OpenChange S} (grows : old.store.now.calls.failures ≤ new.store.now.calls.failures) where
@@ -135,65 +133,3 @@ module _ {sql : List ℕ} (text : OneTable sql) where
 
         pub few_fails : (most : ℕ) → AsksFew (seen_in g old) (seen_in g new) sql params most (Ok rows) → FailsIn g old new out
         few_fails most h = found (few_finds HoldsLedger (λ (l : Ledger). l) sql params (seen_in g old) (seen_in g new) _ (in_ledgers (known text)) most rows h (Ok (tt {0})) (λ db l holds shown readable b. kept db l holds rows.items shown readable b.row b.among b.broken))
-
--- ---- numbers
-
--- a value that is no number of 32 bits
-no_size : (v : Value) → ((n : ℕ) → n < 2 ^ 32 → v ≡ Int (pos n) → ⊥) → has_size v ≡ false
-no_size v unread = go (small_number v) refl
-  where
-    go : (o : Option ℕ) → small_number v ≡ o → is_some o ≡ false
-    go None is = refl
-    go (Some n) is = absurd (unread n (few n is (nat_lt n (2 ^ 32)) refl) (small_is v n is))
-      where
-        few : (n : ℕ) → small_number v ≡ Some n → (b : Bool) → nat_lt n (2 ^ 32) ≡ b → n < 2 ^ 32
-        few n is true low = grind (arith, nat_tests, low)
-        few n is false high = let e : small_number (Int (pos n)) ≡ Some n = subst (λ w. small_number w ≡ Some n) (small_is v n is) is in let told : None ≡ Some n = rw high at e in absurd cc
-
-pub no_key : (row : Row) → HasNoNumber (Some (column row 0 ∷ [])) → HasNoKey row
-no_key row unread = no_size (column row 0) (unread (omega arith))
-
--- as the first row of its text
-pub last_fails : {sql : List ℕ} (text : OneTable sql) → ((params row : Row) → (BreaksColumn text.place row → ⊥) → HasNoNumber (Some (shown_of (text.query 0).project params row)) → ⊥) → {params : Row} {S : Type 0} {g : Ghosts S} {old new : OpenChange S}
-    → old.store.now.calls.failures ≤ new.store.now.calls.failures → (row : Option Row) → TakesFirst (seen_in g old) (seen_in g new) sql params (Ok row) → (out : Result ℕ Fault) → IfErr out (λ fault. IfStore fault (HasNoNumber row)) → FailsIn g old new out
-last_fails text rule {params} grows row h out broken = first_fails text (λ r. HasNoNumber (Some r)) rule params grows row h out (as_broken row broken)
-  where
-    as_broken : (row : Option Row) → IfErr out (λ fault. IfStore fault (HasNoNumber row)) → IfErr out (λ fault. IfStore fault (IsBroken (λ r. HasNoNumber (Some r)) row))
-    as_broken None is = is
-    as_broken (Some x) is = is
-
--- as the row of a count
-module _ (p : Place) (sql : List ℕ) (means : (s : Schema) (at tree : ℕ) → Stands s (name_of p) at (table_at p tree) → Means s sql (Select (record { lets = []; body = count_query tree }) (codes "count(*)" ∷ []))) where
-  never_many : (size : ℕ) (row : Option Row) → row ≡ Some (Int (pos (min size 9223372036854775807)) ∷ []) → size < 2 ^ 32 → (row ≡ None) ⊎ HasNoNumber row → ⊥
-  never_many size None is few why = absurd cc
-  never_many size (Some x) is few (inl none) = absurd cc
-  never_many size (Some x) is few (inr unread) =
-      let it : x ≡ Int (pos (min size 9223372036854775807)) ∷ [] = cc in
-      (subst (λ r. HasNoNumber (Some r)) it unread) (omega arith) (min size 9223372036854775807) (omega (arith, few)) refl
-
-  pub count_fails : {S : Type 0} {g : Ghosts S} {old new : OpenChange S} → old.store.now.calls.failures ≤ new.store.now.calls.failures → (row : Option Row) → TakesFirst (seen_in g old) (seen_in g new) sql [] (Ok row)
-      → (out : Result ℕ Fault) → IfErr out (λ fault. IfStore fault ((row ≡ None) ⊎ HasNoNumber row)) → FailsIn g old new out
-  count_fails {g = g} {old = old} {new = new} grows row h out broken =
-      fails_never (first_finds HoldsLedger (λ (l : Ledger). l) sql [] (seen_in g old) (seen_in g new) (λ l u. IsReadable l → (row ≡ None) ⊎ HasNoNumber row → ⊥) (in_ledgers (counted p sql means)) (λ db l holds at given. tt) row h (Ok (tt {0}))
-      (λ db l holds shown readable. never_many (length (db.trees (holds.spot p).tree)) row (count_shown p sql means db (rows_of db l holds) (record { sound = holds.sound; spot = holds.spot; stands = holds.stands; rows = λ q. refl }) row shown) (readable.few p (db.trees (holds.spot p).tree) (holds.rows p))))
-      grows out (told_never _ out broken)
-
--- .. and the desk's
-never_untold : (b : Bool) (row : Option Row) → row ≡ Some (told_desk b) → HasNoApproval row → ⊥
-never_untold b None is why = absurd cc
-never_untold b (Some x) is why = let it : x ≡ told_desk b = cc in go b (subst (λ r. flag_in (column r 2) ≡ None) it why)
-  where
-    go : (b : Bool) → flag_in (column (told_desk b) 2) ≡ None → ⊥
-    go true e = absurd cc
-    go false e = absurd cc
-
-pub approval_fails : {S : Type 0} {g : Ghosts S} {old new : OpenChange S} → old.store.now.calls.failures ≤ new.store.now.calls.failures → (row : Option Row) → TakesFirst (seen_in g old) (seen_in g new) GET_DESK.now [] (Ok row)
-    → (out : Result Bool Fault) → IfErr out (λ fault. (fault ≡ Store) × HasNoApproval row) → FailsIn g old new out
-approval_fails {g = g} {old = old} {new = new} grows row h out broken =
-    fails_never (first_finds HoldsLedger (λ (l : Ledger). l) GET_DESK.now [] (seen_in g old) (seen_in g new) (λ l u. IsReadable l → HasNoApproval row → ⊥) (in_ledgers (known getting_desk)) (λ db l holds at given. tt) row h (Ok (tt {0}))
-    (λ db l holds shown readable. never_untold l.records.approval row (gets_desk db l holds getting_desk.names row shown))) grows out (told_never _ out (as_store out broken))
-  where
-    as_store : (out : Result Bool Fault) → IfErr out (λ fault. (fault ≡ Store) × HasNoApproval row) → IfErr out (λ fault. IfStore fault (HasNoApproval row))
-    as_store (Ok b) is = tt
-    as_store (Err Memory) is = tt
-    as_store (Err Store) is = is.1

@@ -14,7 +14,6 @@ pub mod ActionCalls
 pub mod NumberCalls
 pub mod WriteCalls
 pub mod LedgersOfRecords
-pub mod CountingLemmas
 mod NextOfferCalls
 pub mod GroupOfferCalls
 mod RawCalls
@@ -24,4 +23,5 @@ mod RawPieces
 mod RawActionCalls
 pub mod BlameLemmas
 pub mod FailLemmas
+mod RowFails
 mod RawBlames

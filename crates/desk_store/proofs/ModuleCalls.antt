@@ -1,11 +1,11 @@
 -- The calls on modules.
 use Rattle.std.proofs.Common.{◌≡◌, ◌≤◌, ℕ, ◌+◌, pos, [], ◌∷◌, length, Bool, Option, Some, None, Ok, Err, Result, IfOk, refl, sym, ap, subst, ◌∙◌}
-use Rattle.desk_store.proofs.Common.{list_any, is_some, Int, Text, Row, Select, Insert, Values, col, Database, State, Fault, RunsText, TakesFirst, Finds, Makes, Knows, KnowsWrite, ShowsFirst, simple, first_finds, run_makes, item_numbered, ModuleLabel, Records, FIND_MODULE, LAST_MODULE, GET_MODULE, PUT_MODULE, Modules, HoldsLedger, HoldsRecords, ledger_of, is_same, words_of, with_module, IsLastRow, HoldsTables, at_key, IsReadAs}
+use Rattle.desk_store.proofs.Common.{list_any, is_some, Int, Text, Row, Insert, Values, col, Database, State, Fault, RunsText, TakesFirst, Finds, Makes, KnowsWrite, ShowsFirst, simple, first_finds, run_makes, item_numbered, ModuleLabel, Records, FIND_MODULE, LAST_MODULE, GET_MODULE, PUT_MODULE, Modules, HoldsLedger, HoldsRecords, ledger_of, is_same, words_of, with_module, IsLastRow, at_key, IsReadAs}
 use Rattle.std.specs.Prelude.{codes}
 use Rattle.desk_records.specs.ModuleRow.{IsLabelRow}
 use Rattle.desk_records.proofs.Meaning.{same_label, label_columns, last_module_query, module_terms, find_module_is, last_module_is, get_module_is, put_module_is}
 use Rattle.desk_records.proofs.Modules.{finds_module, lasts_module, gets_module, adds_module}
-use Rattle.desk_store.proofs.ReadLemmas.{takes_one}
+use Rattle.desk_store.proofs.ReadLemmas.{takes_last, takes_one}
 use Rattle.desk_store.proofs.Known.{OneTable, in_ledgers, known, ledger_writes}
 
 -- ---- what the texts mean where the records are held
@@ -32,20 +32,8 @@ found label old new row h = first_finds HoldsLedger ledger_of FIND_MODULE.now (w
 
 -- ---- the last number
 
-abbrev pub IsLast : Records → ℕ → Type 0
-IsLast r last = last ≡ length r.modules
-
-pub one_last : (row : Option Row) (m n : ℕ) → IsLastRow m row → IsLastRow n row → m ≡ n
-one_last None m n h k = h ∙ sym k
-one_last (Some row) m n h k = let both : Int (pos m) ≡ Int (pos n) = sym h ∙ k in cc
-
-lasts : (row : Option Row) (out : Result ℕ Fault) → IfOk out (λ n. IsLastRow n row)
-    → IfOk out (λ n. (db : Database) (now : Records) (holds : HoldsRecords db now) → ShowsFirst (in_ledgers (known ending) db (ledger_of now) holds).command db [] row → n ≡ length now.modules)
-lasts row (Ok n) h = λ db now holds shown. one_last row n (length now.modules) h (lasts_module db now holds (codes "number" ∷ []) row shown)
-lasts row (Err e) h = tt
-
-pub last_read : (old new : State) (row : Option Row) → TakesFirst old new LAST_MODULE.now [] (Ok row) → (out : Result ℕ Fault) → IfOk out (λ n. IsLastRow n row) → Finds HoldsLedger ledger_of old new out IsLast
-last_read old new row h out is = first_finds HoldsLedger ledger_of LAST_MODULE.now [] old new IsLast (in_ledgers (known ending)) (λ db r holds at given. tt) row h out (lasts row out is)
+pub last_read : (old new : State) (row : Option Row) → TakesFirst old new LAST_MODULE.now [] (Ok row) → (out : Result ℕ Fault) → IfOk out (λ n. IsLastRow n row) → Finds HoldsLedger ledger_of old new out (λ r last. last ≡ length r.modules)
+last_read old new row = takes_last ledger_of LAST_MODULE.now old new (known ending) (λ r. length r.modules) (λ db l holds at given. tt) row (λ db r holds. lasts_module db r holds (codes "number" ∷ []) row)
 
 -- ---- a module by its number
 

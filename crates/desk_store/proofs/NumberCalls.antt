@@ -1,6 +1,6 @@
 -- The calls on the numbers that devices give entries of histories.
 use Rattle.std.proofs.Common.{◌≡◌, ◌≤◌, ℕ, pos, [], ◌∷◌, Option, Some, Ok, Result, IfOk, Vec, vec_items, refl, ap}
-use Rattle.desk_store.proofs.Common.{Global, Int, Row, Insert, Select, Values, State, Fault, AsksText, RunsText, TakesFirst, Knows, KnowsWrite, Finds, Makes, run_makes, LAST_NUMBER, LIST_NUMBERS, PUT_NUMBER, LastNumber, PlacedNumber, last_number, number_row, numbers_numbered, told_number, HoldsLedger, Ledger, IsLastNumberRow, IsNumberRow, Numbers, HoldsTables, last_number_is, last_number_names, last_number_query, list_numbers_is, list_numbers_query, number_names, number_terms, put_number_is, lasts_number, lists_numbers, told_last, adds_number, AreReadAs, IsReadAs}
+use Rattle.desk_store.proofs.Common.{Global, Int, Row, Insert, Values, State, Fault, AsksText, RunsText, TakesFirst, KnowsWrite, Finds, Makes, run_makes, LAST_NUMBER, LIST_NUMBERS, PUT_NUMBER, LastNumber, PlacedNumber, last_number, number_row, numbers_numbered, told_number, HoldsLedger, Ledger, IsLastNumberRow, IsNumberRow, Numbers, last_number_is, last_number_names, last_number_query, list_numbers_is, list_numbers_query, number_names, number_terms, put_number_is, lasts_number, lists_numbers, told_last, adds_number, AreReadAs, IsReadAs}
 use Rattle.desk_records.specs.LedgerSteps.{AddsNumber}
 use Rattle.desk_store.proofs.Known.{OneTable, known, ledger_writes}
 use Rattle.desk_store.proofs.LedgerReads.{one_last_placed, one_placed}

@@ -1,8 +1,8 @@
 -- Rows that are read, whatever they are read as.
-use Rattle.std.proofs.Common.{◌≡◌, ◌<◌, ◌++◌, ◌+◌, ℕ, get_or, take, List, [], ◌∷◌, length, map, Option, Some, None, option_map, Ok, Err, Result, IfErr, IfOk, Vec, refl, sym, ap₂, subst, filter_map, ap, ◌∙◌, arith}
+use Rattle.std.proofs.Common.{◌≡◌, ◌<◌, ◌++◌, ◌+◌, ℕ, get_or, take, List, [], ◌∷◌, length, map, Option, Some, None, option_map, Ok, Err, Result, IfErr, IfOk, Vec, refl, sym, ap₂, subst, filter_map, ap, ◌∙◌, pos, arith}
 use Rattle.std.proofs.lemmas.List.{take_more}
 use Rattle.std.proofs.lemmas.Slice.Zip.{all_zipped_more}
-use Rattle.desk_store.proofs.Common.{cons_option, Global, Row, Database, HasCleanDisk, IsUnchanged, State, Fault, AsksFew, AsksText, TakesFirst, Finds, Sees, Wears, Known, Knows, ShowsFirst, ask_finds, few_finds, first_finds, HoldsLedger, Ledger, HoldsTables, Has, Memory, Store, KeepsTo, AreReadAs, HasBroken, IfStore, IsReadAs}
+use Rattle.desk_store.proofs.Common.{cons_option, Global, Int, Row, IsLastRow, Database, HasCleanDisk, IsUnchanged, State, Fault, AsksFew, AsksText, TakesFirst, Finds, Sees, Wears, Known, Knows, ShowsFirst, ask_finds, few_finds, first_finds, HoldsLedger, Ledger, HoldsTables, Has, Memory, Store, KeepsTo, AreReadAs, HasBroken, IfStore, IsReadAs}
 use Rattle.sqlite.specs.Effect.{Reads as Shows}
 use Rattle.sqlite.proofs.Callers.{EndsIn}
 use Rattle.sql_calls.proofs.Framing.{took}
@@ -97,6 +97,22 @@ told_broken {A = A} broken rows row among fault told out is = subst (λ (o : Res
     go : (fault : Fault) → IfStore fault (broken row) → IfStore fault (HasBroken broken rows)
     go Memory _ = tt
     go Store is = record { row = row; among = among; broken = is }
+
+-- ---- the last number
+
+one_last : (row : Option Row) (m n : ℕ) → IsLastRow m row → IsLastRow n row → m ≡ n
+one_last None m n h k = h ∙ sym k
+one_last (Some row) m n h k = let both : Int (pos m) ≡ Int (pos n) = sym h ∙ k in cc
+
+-- a query whose first row has the last number
+pub takes_last : {Q : Type 0} (of : Q → Ledger) (sql : List ℕ) (old new : State) (knows : Knows HoldsTables sql) (count : Q → ℕ) → ((db : Database) (l : Ledger) (holds : HoldsLedger db l) (at : Database) (given : Row) → EndsIn (in_ledgers knows db l holds).command at given)
+    → (row : Option Row) → ((db : Database) (now : Q) (holds : HoldsLedger db (of now)) → ShowsFirst (in_ledgers knows db (of now) holds).command db [] row → IsLastRow (count now) row)
+    → TakesFirst old new sql [] (Ok row) → (out : Result ℕ Fault) → IfOk out (λ n. IsLastRow n row) → Finds HoldsLedger of old new out (λ q last. last ≡ count q)
+takes_last of sql old new knows count ends row shows h out is = first_finds HoldsLedger of sql [] old new (λ q last. last ≡ count q) (in_ledgers knows) ends row h out (answers out is)
+  where
+    answers : (out : Result ℕ Fault) → IfOk out (λ n. IsLastRow n row) → IfOk out (λ n. (db : Database) (now : _) (holds : HoldsLedger db (of now)) → ShowsFirst (in_ledgers knows db (of now) holds).command db [] row → n ≡ count now)
+    answers (Ok n) is = λ db now holds shown. one_last row n (count now) is (shows db now holds shown)
+    answers (Err e) is = tt
 
 -- ---- what a read leaves
 

@@ -1,6 +1,6 @@
 -- The calls on rollouts and groups.
 use Rattle.std.proofs.Common.{◌≡◌, ◌<◌, ◌≤◌, ℕ, Bool, pos, take, drop, slice_get, arith, [], ◌∷◌, length, map, Option, Some, None, Ok, Err, Result, IfOk, option_map, Vec, vec_items, refl, sym, ap, subst, ◌∙◌, codes}
-use Rattle.desk_store.proofs.Common.{list_any, is_some, Global, Int, Text, Row, column, Select, col, Database, State, slice_get-map, Fault, AsksFew, AsksText, TakesFirst, Finds, Knows, ShowsFirst, simple, few_finds, first_finds, item_numbered, Bytes, group_numbered, group_holding, GroupRecord, Word, GET_DESK, FIND_ROLLOUT, LAST_ROLLOUT, GET_ROLLOUT, LIST_ROLLOUTS, LIST_MEMBERS, LIST_GROUPS, GET_GROUP, HOLDING_GROUP, GROUP_AND_NEXT, GET_RULE, LIST_RULES, StoredRollout, HoldsLedger, Ledger, IsLastRow, IsRolloutRow, IsGroupRow, stored_rollout, is_called, groups_of, members_of, rule_numbered, rules_numbered, that_reach, told_rule, IsRuleRow, Desk, Rollouts, Groups, Members, Rules, GroupRule, flag_in, HoldsTables, at_key, same_name, last_rollout_query, rollout_columns, rollout_names, list_rollouts_query, group_names, list_groups_query, get_group_query, holding_group_query, group_and_next_query, find_rollout_is, last_rollout_is, get_rollout_is, list_rollouts_is, list_members_query, list_members_is, list_groups_is, get_group_is, holding_group_is, group_and_next_is, of_group, rule_columns, rule_names, get_rule_is, list_rules_query, list_rules_is, finds_rollout, lasts_rollout, gets_rollout, lists_rollouts, lists_members, shown_group, lists_groups, gets_group, gets_group_and_next, holds_group, gets_rule, lists_rules, group_and_next, GroupAndNext, AreReadAs, IsApproval, IsReadAs}
+use Rattle.desk_store.proofs.Common.{list_any, is_some, Global, Int, Text, Row, column, col, Database, State, slice_get-map, Fault, AsksFew, AsksText, TakesFirst, Finds, ShowsFirst, simple, few_finds, first_finds, item_numbered, Bytes, group_numbered, group_holding, GroupRecord, Word, GET_DESK, FIND_ROLLOUT, LAST_ROLLOUT, GET_ROLLOUT, LIST_ROLLOUTS, LIST_MEMBERS, LIST_GROUPS, GET_GROUP, HOLDING_GROUP, GROUP_AND_NEXT, GET_RULE, LIST_RULES, StoredRollout, HoldsLedger, Ledger, IsLastRow, IsRolloutRow, IsGroupRow, stored_rollout, is_called, groups_of, members_of, rule_numbered, rules_numbered, that_reach, told_rule, IsRuleRow, Desk, Rollouts, Groups, Members, Rules, GroupRule, flag_in, at_key, same_name, last_rollout_query, rollout_columns, rollout_names, list_rollouts_query, group_names, list_groups_query, get_group_query, holding_group_query, group_and_next_query, find_rollout_is, last_rollout_is, get_rollout_is, list_rollouts_is, list_members_query, list_members_is, list_groups_is, get_group_is, holding_group_is, group_and_next_is, of_group, rule_columns, rule_names, get_rule_is, list_rules_query, list_rules_is, finds_rollout, lasts_rollout, gets_rollout, lists_rollouts, lists_members, shown_group, lists_groups, gets_group, gets_group_and_next, holds_group, gets_rule, lists_rules, group_and_next, GroupAndNext, AreReadAs, IsApproval, IsReadAs}
 use Rattle.sqlite.specs.Effect.{Reads as Shows}
 use Rattle.sqlite.proofs.MarkLemmas.{slice_get-take}
 use Rattle.sqlite_keyed.proofs.ListLemmas.{map-map}
@@ -9,8 +9,7 @@ use Rattle.desk_records.proofs.DeskRecords.{gets_desk, told_desk}
 use Rattle.desk_records.proofs.Meaning.{desk_query, get_desk_is}
 use Rattle.desk_store.proofs.Known.{OneTable, in_ledgers, known}
 use Rattle.desk_store.proofs.LedgerReads.{both_mapped, kept_flag, shown_rollout, one_rollout, one_group, one_rule}
-use Rattle.desk_store.proofs.ModuleCalls.{one_last}
-use Rattle.desk_store.proofs.ReadLemmas.{asks_all, one_read, takes_one}
+use Rattle.desk_store.proofs.ReadLemmas.{asks_all, one_read, takes_last, takes_one}
 
 -- ---- what the texts mean where a ledger is held
 
@@ -65,13 +64,8 @@ found name old new row h =
     first_finds HoldsLedger (λ (l : Ledger). l) FIND_ROLLOUT.now (Text name ∷ []) old new (λ l there. there ≡ list_any (is_called name) l.records.rollouts) (in_ledgers (known finding)) (λ db l holds at given. tt) row h (Ok (is_some row))
     (λ db l holds shown. finds_rollout db l holds (codes "number" ∷ []) name row shown)
 
-lasts : (row : Option Row) (out : Result ℕ Fault) → IfOk out (λ n. IsLastRow n row)
-    → IfOk out (λ n. (db : Database) (l : Ledger) (holds : HoldsLedger db l) → ShowsFirst (in_ledgers (known ending) db l holds).command db [] row → n ≡ length l.records.rollouts)
-lasts row (Ok n) h = λ db l holds shown. one_last row n (length l.records.rollouts) h (lasts_rollout db l holds (codes "number" ∷ []) row shown)
-lasts row (Err e) h = tt
-
 pub last_read : (old new : State) (row : Option Row) → TakesFirst old new LAST_ROLLOUT.now [] (Ok row) → (out : Result ℕ Fault) → IfOk out (λ n. IsLastRow n row) → Finds HoldsLedger (λ (l : Ledger). l) old new out (λ l last. last ≡ length l.records.rollouts)
-last_read old new row h out is = first_finds HoldsLedger (λ (l : Ledger). l) LAST_ROLLOUT.now [] old new (λ l last. last ≡ length l.records.rollouts) (in_ledgers (known ending)) (λ db l holds at given. tt) row h out (lasts row out is)
+last_read old new row = takes_last (λ (l : Ledger). l) LAST_ROLLOUT.now old new (known ending) (λ l. length l.records.rollouts) (λ db r holds at given. tt) row (λ db l holds. lasts_rollout db l holds (codes "number" ∷ []) row)
 
 pub rollout_read : (number : ℕ) → 1 ≤ number → (old new : State) (row : Option Row) → TakesFirst old new GET_ROLLOUT.now (Int (pos number) ∷ []) (Ok row) → (out : Result (Option StoredRollout) Fault) → IfOk out (λ found. IsReadAs IsRolloutRow found row)
     → Finds HoldsLedger (λ (l : Ledger). l) old new out (λ l found. found ≡ option_map stored_rollout (item_numbered l.records.rollouts number))

@@ -1,6 +1,6 @@
 -- The calls on distribution sets.
 use Rattle.std.proofs.Common.{◌≡◌, ◌≤◌, ℕ, ◌+◌, pos, [], ◌∷◌, length, Bool, Option, Some, Ok, Err, Result, IfOk, option_map, Vec, vec_items, refl, sym, ap, subst, codes}
-use Rattle.desk_store.proofs.Common.{list_any, Global, is_some, Int, Text, Row, column, Select, Insert, Values, col, Database, State, Fault, RunsText, AsksText, TakesFirst, Finds, Makes, Knows, KnowsWrite, ShowsFirst, simple, first_finds, run_makes, item_numbered, Bytes, SetLabel, Records, is_named_by_set, FIND_SET, LAST_SET, GET_SET, LIST_SET_MODULES, MODULE_LOCKED, PUT_SET, PUT_SET_MODULE, Sets, SetModules, HoldsLedger, HoldsRecords, ledger_of, IsLastRow, place_row, is_same_set, names_of, with_set, AddsSetModule, HoldsTables, at_key, AreReadAs, IsReadAs}
+use Rattle.desk_store.proofs.Common.{list_any, Global, is_some, Int, Text, Row, column, Insert, Values, col, Database, State, Fault, RunsText, AsksText, TakesFirst, Finds, Makes, KnowsWrite, ShowsFirst, simple, first_finds, run_makes, item_numbered, Bytes, SetLabel, Records, is_named_by_set, FIND_SET, LAST_SET, GET_SET, LIST_SET_MODULES, MODULE_LOCKED, PUT_SET, PUT_SET_MODULE, Sets, SetModules, HoldsLedger, HoldsRecords, ledger_of, IsLastRow, place_row, is_same_set, names_of, with_set, AddsSetModule, at_key, AreReadAs, IsReadAs}
 use Rattle.rollout_machine.specs.Objects.{modules_of_set}
 use Rattle.rollout_model.specs.declared.number.ModuleKind.{ModuleKind}
 use Rattle.rollout_model.specs.declared.number.Number.{Number}
@@ -8,8 +8,7 @@ use Rattle.desk_records.specs.declared.set_row.SetName.{SetName}
 use Rattle.desk_records.specs.SetRow.{IsSetNameRow, StoredNumber, called}
 use Rattle.desk_records.proofs.SetMeaning.{same_names, last_set_query, name_columns, set_terms, set_modules_query, locked_query, set_module_terms, find_set_is, last_set_is, get_set_is, list_set_modules_is, module_locked_is, put_set_is, put_set_module_is}
 use Rattle.desk_records.proofs.SetRecords.{finds_set, lasts_set, gets_set, lists_set_modules, finds_lock, adds_set, adds_set_module}
-use Rattle.desk_store.proofs.ReadLemmas.{asks_all, takes_one}
-use Rattle.desk_store.proofs.ModuleCalls.{one_last}
+use Rattle.desk_store.proofs.ReadLemmas.{asks_all, takes_last, takes_one}
 use Rattle.desk_store.proofs.Known.{OneTable, in_ledgers, known, ledger_writes}
 
 -- ---- what the texts mean where the records are held
@@ -46,16 +45,8 @@ found name version old new row h =
 
 -- ---- the last number
 
-abbrev pub IsLast : Records → ℕ → Type 0
-IsLast r last = last ≡ length r.sets
-
-lasts : (row : Option Row) (out : Result ℕ Fault) → IfOk out (λ n. IsLastRow n row)
-    → IfOk out (λ n. (db : Database) (now : Records) (holds : HoldsRecords db now) → ShowsFirst (in_ledgers (known ending) db (ledger_of now) holds).command db [] row → n ≡ length now.sets)
-lasts row (Ok n) h = λ db now holds shown. one_last row n (length now.sets) h (lasts_set db now holds (codes "number" ∷ []) row shown)
-lasts row (Err e) h = tt
-
-pub last_read : (old new : State) (row : Option Row) → TakesFirst old new LAST_SET.now [] (Ok row) → (out : Result ℕ Fault) → IfOk out (λ n. IsLastRow n row) → Finds HoldsLedger ledger_of old new out IsLast
-last_read old new row h out is = first_finds HoldsLedger ledger_of LAST_SET.now [] old new IsLast (in_ledgers (known ending)) (λ db r holds at given. tt) row h out (lasts row out is)
+pub last_read : (old new : State) (row : Option Row) → TakesFirst old new LAST_SET.now [] (Ok row) → (out : Result ℕ Fault) → IfOk out (λ n. IsLastRow n row) → Finds HoldsLedger ledger_of old new out (λ r last. last ≡ length r.sets)
+last_read old new row = takes_last ledger_of LAST_SET.now old new (known ending) (λ r. length r.sets) (λ db l holds at given. tt) row (λ db r holds. lasts_set db r holds (codes "number" ∷ []) row)
 
 -- ---- a set's name by its number
 

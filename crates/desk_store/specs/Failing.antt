@@ -1,10 +1,11 @@
 -- When a call of a change is a failed store: where the ledger that is seen can be read, only where a call of the database failed, which is counted.
-use Rattle.std.specs.Prelude.{◌≡◌, ◌≤◌, ℕ, Result, Ok, Err}
+use Rattle.std.specs.Prelude.{◌≡◌, ◌≤◌, ℕ, length, Result, Ok, Err}
 use Rattle.sqlite.specs.Store.{Ghosts}
 use Rattle.sqlite.specs.State.{HasCleanDisk}
 use Rattle.sql_calls.specs.Standing.{Sees}
 use Rattle.sql_calls.specs.declared.fault.Fault.{Fault}
 use Rattle.sql_calls.specs.declared.fault.Fault.TheVariants.{Store}
+use Rattle.rollout_model.specs.Limits.{number_limit}
 use Rattle.desk_records.specs.Holds.{HoldsLedger, Ledger}
 use Rattle.desk_store.specs.Blaming.{FailedBefore, HasFailed}
 use Rattle.desk_store.specs.Changing.{seen_in}
@@ -47,3 +48,18 @@ module _ {S : Type 0} (g : Ghosts S) where
   -- what writes: a failed store is a call that failed, whatever is seen
   pub record CountsIn {A : Type 0} (old new : OpenChange S) (result : Result A Fault) : Type 0 where
     pub to : CountsTo old new result
+
+  module _ (Given : Ledger → Type 0) where
+    abbrev pub FailsSeeingTo : {A : Type 0} → OpenChange S → OpenChange S → Result A Fault → Type 0
+    FailsSeeingTo old new (Ok a) = Unit {0}
+    FailsSeeingTo old new (Err fault) =
+        (l : Ledger) → Sees HoldsLedger (seen_in g old) l → Given l → (failed : ℕ) → FailedBefore g old failed → HasCall new failed fault
+
+    -- what reads: where a ledger is as given, a failed store is a call that failed, whether or not all of it can be read
+    pub record FailsSeeing {A : Type 0} (old new : OpenChange S) (result : Result A Fault) : Type 0 where
+      pub to : FailsSeeingTo old new result
+
+-- each action has its tally, and a number within the limit
+pub record NumbersActions (l : Ledger) : Type 0 where
+  pub tallied : length l.tallies ≡ length l.records.actions
+  pub few : length l.records.actions ≤ number_limit

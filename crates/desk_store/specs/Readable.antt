@@ -1,4 +1,4 @@
--- Ledgers that can be read: no row of their tables breaks the rule of a column, and their rows can be counted.
+-- Ledgers that can be read: no row of their tables breaks the rule of a column, and their targets can be counted.
 use Rattle.std.specs.Prelude.{◌≡◌, ◌<◌, ◌^◌, ◌⊎◌, false, List, [], ◌∷◌, length, None}
 use Rattle.sqlite_value.specs.Order.{Row, column}
 use Rattle.sqlite_rules.specs.Lists.{Has}
@@ -53,7 +53,8 @@ BreaksColumn Desk row = flag_in (column row 4) ≡ None
 BreaksColumn Modules row = HasNoKey row ⊎ BreaksRule (broken_column (label_shown row))
 BreaksColumn Sets row = HasNoKey row ⊎ BreaksRule (broken_set_column (third_shown row))
 BreaksColumn SetModules row = has_number (column row 3) ≡ false
-BreaksColumn Artifacts row = HasNoKey row ⊎ (BreaksRule (broken_stored_column (artifact_shown row)) ⊎ BreaksRule (broken_artifact_column (listed_shown row)))
+BreaksColumn Artifacts row = HasNoKey row
+    ⊎ (BreaksRule (broken_stored_column (artifact_shown row)) ⊎ BreaksRule (broken_artifact_column (listed_shown row)))
 BreaksColumn Pieces row = has_bytes (column row 3) ≡ false
 BreaksColumn Targets row = BreaksRule (broken_target_column (third_shown row)) ⊎ BreaksRule (broken_listed_column (second_shown row))
 BreaksColumn TargetTags row = has_word (column row 2) ≡ false
@@ -61,13 +62,14 @@ BreaksColumn TargetAttributes row = BreaksRule (broken_attribute_column (third_s
 BreaksColumn Rollouts row = HasNoKey row ⊎ BreaksRule (broken_rollout_column (rollout_shown row))
 BreaksColumn Members row = has_word (column row 3) ≡ false
 BreaksColumn Groups row = BreaksRule (broken_group_column (group_shown row))
-BreaksColumn Actions row = HasNoKey row ⊎ (BreaksRule (broken_action_column (action_shown row)) ⊎ BreaksRule (broken_listed_action_column (action_shown row)))
+BreaksColumn Actions row = HasNoKey row
+    ⊎ (BreaksRule (broken_action_column (action_shown row)) ⊎ BreaksRule (broken_listed_action_column (action_shown row)))
 BreaksColumn Feedbacks row = (c : Column) × BreaksEntry (entry_shown row) c
 BreaksColumn Offers row = BreaksRule (broken_offer_column (offer_shown row))
 BreaksColumn Rules row = BreaksRule (broken_rule_column (rule_shown row))
 BreaksColumn Numbers row = BreaksRule (broken_number_column (number_shown row)) ⊎ BreaksRule (broken_last_number_column (placed_shown row))
 
--- none does, and no table has more rows than 32 bits count
+-- none does, and there are no more targets than 32 bits count
 pub record IsReadable (l : Ledger) : Type 0 where
   pub keep : (p : Place) (rows : List Row) → IsHeld l p rows → (row : Row) → Has rows row → BreaksColumn p row → ⊥
-  pub few : (p : Place) (rows : List Row) → IsHeld l p rows → length rows < 2 ^ 32
+  pub few : (rows : List Row) → IsHeld l Targets rows → length rows < 2 ^ 32

@@ -13,7 +13,7 @@ ghost use Rattle.desk_records.specs.RolloutRow.{broken_action_column, broken_lis
 ghost use Rattle.desk_store.specs.Counting.{AddsIn};
 ghost use Rattle.desk_store.specs.Changing.{FindsLedger, KeepsTables, MakesLedger, StaysIn};
 ghost use Rattle.desk_store.specs.Rows.{BreaksRule};
-ghost use Rattle.desk_store.specs.Failing.{CountsIn, FailsIn};
+ghost use Rattle.desk_store.specs.Failing.{CountsIn, FailsIn, FailsSeeing, NumbersActions};
 
 use crate::change::OpenChange;
 use crate::codes::{code_of_outcome, flag_code};
@@ -203,6 +203,7 @@ impl<'a, S: Alter> OpenChange<'a, S> {
         ensures stays { StaysIn S.Store self.old self.new result }
         ensures reads { FindsLedger S.Store self.old self.new result
             (λ l found. length l.tallies ≡ length l.records.actions → found ≡ next_offer l.records id.now) }
+        ensures fails { FailsSeeing S.Store NumbersActions self.old self.new result }
         ensures work { AddsIn 1 1 self.old self.new }
     {
         let alloc = self.store.alloc;

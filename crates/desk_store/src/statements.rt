@@ -23,6 +23,7 @@ impl<'a, S: Alter> OpenChange<'a, S> {
         ensures stays { StaysIn S.Store self.old self.new result }
         ensures keeps { KeepsTables S.Store self.old self.new result }
         ensures blames { IfErr result (λ fault. (watch : _) → Watches S.Store self.old watch → HasCause S.Store self.new watch fault) }
+        ensures counts { CountsIn S.Store self.old self.new result }
         ensures fails { FailsIn S.Store self.old self.new result }
         ensures takes { TakesFirst (seen_in S.Store self.old) (seen_in S.Store self.new) sql.now (bound params.now) result }
         ensures work { self.new.store.now.calls.work ≡ counts self.old.store.now.calls.work (row_in result) }

@@ -1,44 +1,14 @@
 -- The table of actions agrees where records of accepted commands are held.
 use Rattle.std.proofs.Common.{◌≡◌, ◌≤◌, ◌<◌, ◌^◌, ℕ, zero, suc, pos, true, false, List, [], ◌∷◌, map, slice_get, zip, unwrap_or, Option, Some, None, refl, sym, ap, subst, ◌∙◌, arith}
-use Rattle.desk_verify.proofs.Common.{is_some, option_or, Int, Null, Row, column, has_rowid, Database, Has, has_got, is_number, is_word, outcome_said, item_numbered, CommandList, Bytes, CancelWord, DeploymentWord, Proceeding, Scheduled, Resumed, Succeeded, Failed, Rejected, Noted, ClosedCancel, CanceledCancel, RejectedCancel, NotedCancel, FollowMembers, IsOfMember, records, IsValid, AreWithinLimits, Outcome, Good, Bad, Gone, ActionRecord, RolloutRecord, actions_follow_members, limits_hold, Tally, action_row, actor_of, entries_of, entry_row, kind_code, outcome_code, tally_of, word_code, flag_in, outcome_in, HoldsRecords, ledger_of, stored_action, member_row, members_from, rollout_row, told_rollout, Actions, Feedbacks, Members, Rollouts, IsAction, HoldsTables, Tables, StoredAction, item_row, part_among, place_within, held_rows, numbered, of_part, row_of, wanted_of, has_own_number, is_at, is_in_range, is_number_in, is_small, number_in_is, number_is, one_number, small_is, AgreesActions, AreInOrder, FitsEntries, GivesOutcome, HasActions, HasMember, IsRightAction, IsStarted}
+use Rattle.desk_verify.proofs.Common.{is_some, option_or, Int, Null, Row, column, has_rowid, Database, Has, has_got, is_number, is_word, outcome_said, item_numbered, CommandList, Bytes, CancelWord, DeploymentWord, Proceeding, Scheduled, Resumed, Succeeded, Failed, Rejected, Noted, ClosedCancel, CanceledCancel, RejectedCancel, NotedCancel, FollowMembers, IsOfMember, records, IsValid, AreWithinLimits, Outcome, Good, Bad, Gone, ActionRecord, RolloutRecord, actions_follow_members, limits_hold, Tally, action_row, actor_of, entries_of, entry_row, kind_code, outcome_code, tally_of, word_code, flag_in, outcome_in, HoldsRecords, ledger_of, stored_action, member_row, members_from, rollout_row, told_rollout, Actions, Feedbacks, Members, Rollouts, IsAction, HoldsTables, Tables, StoredAction, item_row, part_among, place_within, held_rows, numbered, of_part, row_of, wanted_of, has_own_number, is_at, is_in_range, is_number_in, is_small, number_in_is, number_is, one_number, small_is, AgreesActions, AreInOrder, FitsEntries, GivesOutcome, HasActions, HasMember, IsRightAction, IsStarted, HistoryEntry, Said, OfDeployment, OfCancel, member_at, said_by, parts_from, member_ids}
 use Rattle.rollout_machine.specs.Histories.{first_outcome}
-use Rattle.rollout_machine.specs.Reports.{HistoryEntry, Said, OfDeployment, OfCancel}
-use Rattle.rollout_machine.specs.StateWords.{member_at}
 use Rattle.rollout_machine.proofs.Histories.{outcomes_fit_histories}
-use Rattle.desk_records.specs.EntryRow.{said_by}
-use Rattle.desk_records.specs.Parts.{parts_from}
-use Rattle.desk_verify.proofs.GroupLaw.{few_places, flag_is, one_rowid}
-use Rattle.desk_verify.proofs.ListMembers.{member_ids}
+use Rattle.desk_verify.proofs.GroupLaw.{few_places, one_rowid}
+use Rattle.desk_verify.proofs.CodeLemmas.{flag_is}
 use Rattle.desk_verify.proofs.MemberLaw.{members_in, said}
+use Rattle.desk_verify.proofs.CodeLemmas.{outcome_is, said_is}
 
 -- ---- rows
-
-outcome_is : (o : Option Outcome) → outcome_in (Int (pos (outcome_code o))) ≡ Some o
-outcome_is None = refl
-outcome_is (Some Good) = refl
-outcome_is (Some Bad) = refl
-outcome_is (Some Gone) = refl
-
-deployment_is : (w : DeploymentWord) → said_by (Some false) (Int (pos (word_code (OfDeployment w)))) ≡ Some (OfDeployment w)
-deployment_is Succeeded = refl
-deployment_is Failed = refl
-deployment_is Rejected = refl
-deployment_is (Noted Proceeding) = refl
-deployment_is (Noted Scheduled) = refl
-deployment_is (Noted Resumed) = refl
-
-cancel_is : (w : CancelWord) → said_by (Some true) (Int (pos (word_code (OfCancel w)))) ≡ Some (OfCancel w)
-cancel_is ClosedCancel = refl
-cancel_is CanceledCancel = refl
-cancel_is RejectedCancel = refl
-cancel_is (NotedCancel Proceeding) = refl
-cancel_is (NotedCancel Scheduled) = refl
-cancel_is (NotedCancel Resumed) = refl
-
--- the row of an entry says what was said
-said_is : (s : Said) → said_by (flag_in (Int (pos (kind_code s)))) (Int (pos (word_code s))) ≡ Some s
-said_is (OfDeployment w) = deployment_is w
-said_is (OfCancel w) = cancel_is w
 
 -- the row of an action says it
 is_action : (rollouts : List RolloutRecord) (n : ℕ) (a : ActionRecord) → is_number n ≡ true → is_number a.rollout ≡ true → a.position < 2 ^ 32 → is_word (actor_of rollouts a) ≡ true
@@ -65,7 +35,7 @@ one_action rollouts row j n a b tally is says = record {
 
 -- ---- places in lists
 
-item_at : {X : Type 0} (xs : List X) (n : ℕ) (x : X) → item_numbered xs n ≡ Some x → (d : ℕ) × (n ≡ suc d) × (slice_get xs d ≡ Some x)
+pub item_at : {X : Type 0} (xs : List X) (n : ℕ) (x : X) → item_numbered xs n ≡ Some x → (d : ℕ) × (n ≡ suc d) × (slice_get xs d ≡ Some x)
 item_at xs zero x e = absurd cc
 item_at xs (suc d) x e = (d, refl, e)
 
@@ -74,7 +44,7 @@ with_tally [] d a e = absurd cc
 with_tally (b ∷ actions) zero a e = let same : b ≡ a = cc in ap (λ (c : ActionRecord). Some (c, tally_of c)) same
 with_tally (b ∷ actions) (suc d) a e = with_tally actions d a e
 
-its_tally : (actions : List ActionRecord) (d : ℕ) (it : ActionRecord × Tally) → slice_get (zip actions (map tally_of actions)) d ≡ Some it → (a : ActionRecord) × (slice_get actions d ≡ Some a) × (it ≡ (a, tally_of a))
+pub its_tally : (actions : List ActionRecord) (d : ℕ) (it : ActionRecord × Tally) → slice_get (zip actions (map tally_of actions)) d ≡ Some it → (a : ActionRecord) × (slice_get actions d ≡ Some a) × (it ≡ (a, tally_of a))
 its_tally [] d it e = absurd cc
 its_tally (b ∷ actions) zero it e = let same : (b, tally_of b) ≡ it = cc in (b, refl, sym same)
 its_tally (b ∷ actions) (suc d) it e = its_tally actions d it e

@@ -1,6 +1,7 @@
 -- What the reads of the tables of artifacts and pieces come to.
 use Rattle.std.proofs.Common.{◌≡◌, ℕ, suc, ◌+◌, Bool, true, false, not, true≢false, List, [], ◌∷◌, map, length, nat_eq, Vec, vec_items, Some, None, refl, sym, ap, subst, ◌∙◌, arith}
-use Rattle.desk_verify.proofs.Common.{AllByRecursion, pointwise, Global, Decides-eqb, nat_tests, slice_eq-Decides, Blob, Row, column, all_from, all_has, digest_of, piece_count, Bytes, ArePieces, pieces_in, Artifacts, Pieces, Tables, number_in_is, one_number, count_pieces, ListsRows, SaysArtifact, any_row, Decides, HashesPieces, AgreesArtifacts, IsWhole}
+use Rattle.desk_verify.proofs.Common.{AllByRecursion, pointwise, Global, Decides-eqb, nat_tests, slice_eq-Decides, Blob, Row, column, all_from, all_has, digest_of, piece_count, Bytes, ArePieces, pieces_in, Artifacts, Pieces, Tables, number_in_is, one_number, count_pieces, ListsRows, SaysArtifact, any_row, Decides, HashesPieces, AgreesArtifacts}
+use Rattle.desk_verify.specs.Artifacts.{IsWhole}
 use Rattle.desk_records.specs.declared.checked_rows.CheckedArtifact.{CheckedArtifact}
 use Rattle.desk_verify.proofs.PieceChecks.{none_found, one_whole}
 

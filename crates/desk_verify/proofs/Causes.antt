@@ -1,10 +1,9 @@
 -- What a failed store is blamed on in the checks.
 use Rattle.std.proofs.Common.{◌≡◌, ◌≤◌, ◌<◌, ◌^◌, ◌⊎◌, ◌&&◌, inl, inr, ◌≢◌, ℕ, nat_eq, nat_le, nat_lt, pos, ◌+◌, slice_index_or, zero, suc, take, Bool, not, true, false, cond, List, [], ◌∷◌, length, filter, map, Option, Some, None, refl, Ok, Err, Result, sym, ap, subst, ◌∙◌, arith}
 use Rattle.std.proofs.lemmas.List.Filters.{length-filter_both}
-use Rattle.desk_verify.proofs.Common.{and_parts, nat_tests, AllByRecursion, Int, Row, column, value_cmp, State, Finds, Wears, Fault, is_number, number_of, number_in, AreSaid, HasNumber, IsLast, AreMembers, OwnedOffer, PlacedMember, Members, Offers, Place, Rollouts, number_in_good, number_in_is, HoldsTables, Tables, BlamesGiven, Watches, FindsTables, seen_in, AreActions, AreOffers, SaysOffer, any_row, IsUnreadable, large_number, many_rows, rise, twin_members, count_on, AgreesActions, AgreeBefore, Passes, checked, Artifact, follow, AgreesMembers, IsUpTo}
+use Rattle.desk_verify.proofs.Common.{and_parts, nat_tests, AllByRecursion, Int, Row, column, value_cmp, State, Finds, Wears, Fault, is_number, number_of, number_in, AreSaid, HasNumber, IsLast, AreMembers, OwnedOffer, PlacedMember, Members, Offers, Place, Rollouts, number_in_good, number_in_is, HoldsTables, Tables, BlamesGiven, Watches, FindsTables, seen_in, AreActions, AreOffers, SaysOffer, any_row, IsUnreadable, large_number, many_rows, rise, twin_members, count_on, AgreesActions, AgreeBefore, Passes, checked, Artifact, follow, AgreesMembers, IsUpTo, number_limit}
 use Rattle.std.specs.Ordering.{is_eq}
 use Rattle.sqlite.specs.Store.{Ghosts}
-use Rattle.rollout_model.specs.Limits.{number_limit}
 use Rattle.desk_store.specs.declared.change.OpenChange.{OpenChange}
 use Rattle.desk_verify.proofs.Follow.{differs}
 use Rattle.desk_verify.proofs.GroupLaw.{one_rowid}

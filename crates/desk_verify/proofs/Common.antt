@@ -1,10 +1,13 @@
 -- The names of other modules that the proofs here cite, passed on from one place. Declares nothing.
 pub use Rattle.std.proofs.lemmas.Bool.{and_from, and_parts, eqb-true, leb-true}
 pub use Rattle.std.proofs.lemmas.Bool.Decides.{Decides-eqb, nat_tests}
+pub use Rattle.std.proofs.lemmas.List.{length-append, length-drop, length-map, length-take}
+pub use Rattle.std.proofs.lemmas.List.Elements.{All-contains}
+pub use Rattle.std.proofs.lemmas.List.Sums.{count_by-le-length, length-filter}
 pub use Rattle.std.proofs.lemmas.Result.{err_from_is_err_and}
 pub use Rattle.std.proofs.lemmas.Slice.Eq.{slice_eq-Decides}
 pub use Rattle.std.specs.Cmp.Lexicographic.{pointwise}
-pub use Rattle.std.specs.List.{AllByRecursion, list_all}
+pub use Rattle.std.specs.List.{AllByRecursion, flat_map, list_all}
 pub use Rattle.std.specs.Option.{is_some, option_map, option_or, option_to_list}
 pub use Rattle.std.specs.declared.alloc.Global.{Global}
 pub use Rattle.sqlite.specs.Effect.{Database}
@@ -15,25 +18,34 @@ pub use Rattle.sqlite_trees.specs.Tree.{has_rowid}
 pub use Rattle.sqlite_value.specs.Order.{Row, column, value_cmp}
 pub use Rattle.sqlite_value.specs.declared.value.Value.TheVariants.{Blob, Int, Null, Text}
 pub use Rattle.rollout_model.specs.Groupings.{Grouping, define_each, is_grouping}
-pub use Rattle.rollout_model.specs.Rules.{is_digest, is_group_count, is_number, is_percentage, is_word, number_of}
+pub use Rattle.rollout_model.specs.Limits.{group_limit, number_limit, percentage_limit, piece_length, target_limit}
+pub use Rattle.rollout_model.specs.Rules.{are_details, are_distinct_numbers, is_digest, is_feedback_number, is_group_count, is_module_list, is_number, is_percentage, is_text, is_value, is_word, number_of}
 pub use Rattle.rollout_model.specs.declared.rollout.Offer.{Offer}
 pub use Rattle.artifact_pieces.specs.Digests.{digest_of}
 pub use Rattle.artifact_pieces.specs.Pieces.{piece_count}
+pub use Rattle.rollout_machine.proofs.GroupCounts.{groups_are_counted}
+pub use Rattle.rollout_machine.proofs.Groupings.{each_rule, grouping_is_cut}
 pub use Rattle.rollout_machine.proofs.Lists.{each_there, length_each, numbered_each}
 pub use Rattle.rollout_machine.proofs.MemberActions.{actions_follow_members}
+pub use Rattle.rollout_machine.proofs.Offers.{offered_one}
 pub use Rattle.rollout_machine.proofs.TargetTies.{same_refl, same_true}
 pub use Rattle.rollout_machine.proofs.WithinLimits.{each_created, limits_hold, made}
-pub use Rattle.rollout_machine.specs.Actions.{outcome_said}
-pub use Rattle.rollout_machine.specs.ByteStrings.{bytes_below, item_numbered, same_bytes, with_word, with_words}
+pub use Rattle.rollout_machine.specs.Actions.{history, outcome_said}
+pub use Rattle.rollout_machine.specs.ByteStrings.{item_numbered}
 pub use Rattle.rollout_machine.specs.CommandList.{CommandList, Make, ◌▸◌}
-pub use Rattle.rollout_machine.specs.Commands.{Bytes, CancelWord, CanceledCancel, ClosedCancel, Command, CreateRollout, DeploymentWord, Failed, Noted, NotedCancel, Proceeding, PutTargets, Rejected, RejectedCancel, Resumed, RolloutPlan, Scheduled, Succeeded, TargetRow}
+pub use Rattle.rollout_machine.specs.CommandRules.{IsWellFormed, is_credential, is_device_feedback, is_feedback_number_or_none, is_plan}
+pub use Rattle.rollout_machine.specs.Commands.{Attribute, Bytes, CancelFeedback, CancelWord, CanceledCancel, ClosedCancel, Command, CreateRollout, DeploymentWord, DeviceFeedback, Failed, Feedback, ModuleLabel, Noted, NotedCancel, Proceeding, Rejected, RejectedCancel, Resumed, RolloutPlan, Scheduled, SetLabel, Succeeded}
 pub use Rattle.rollout_machine.specs.Counts.{is_outcome}
+pub use Rattle.rollout_machine.specs.GroupCounts.{HasCountedGroups, IsCountedGroup}
 pub use Rattle.rollout_machine.specs.GroupRules.{GroupRule, rule_at, rules_of}
 pub use Rattle.rollout_machine.specs.Groupings.{GroupDefinition, bounds_by, cut_by, last_by, leaves_empty}
 pub use Rattle.rollout_machine.specs.Groups.{IsCut, holds_position}
+pub use Rattle.rollout_machine.specs.Kinds.{TargetOffer, count_actions, offer_to}
 pub use Rattle.rollout_machine.specs.MemberActions.{FollowMembers, IsOfMember}
-pub use Rattle.rollout_machine.specs.Records.{ArtifactRecord, Records, records, rollouts_in}
-pub use Rattle.rollout_machine.specs.Rollouts.{Rollout, chosen, created, members_of, rollouts, size_of}
+pub use Rattle.rollout_machine.specs.Offers.{offer}
+pub use Rattle.rollout_machine.specs.Records.{ArtifactRecord, Records, records}
+pub use Rattle.rollout_machine.specs.Reports.{HistoryEntry, OfCancel, OfDeployment, Reported, Said, entries_in, reported_by}
+pub use Rattle.rollout_machine.specs.StateWords.{has_started, member_at}
 pub use Rattle.rollout_machine.specs.Validity.{IsValid}
 pub use Rattle.rollout_machine.specs.WithinLimits.{AreWithinLimits, IsWithinLimits}
 pub use Rattle.rollout_machine.specs.declared.bounds.Bounds.{Bounds}
@@ -43,6 +55,7 @@ pub use Rattle.rollout_machine.specs.declared.records.ActionRecord.{ActionRecord
 pub use Rattle.rollout_machine.specs.declared.records.GroupRecord.{GroupRecord}
 pub use Rattle.rollout_machine.specs.declared.records.RolloutRecord.{RolloutRecord}
 pub use Rattle.sql_calls.proofs.Composing.{both_found, finds_as, found_then, known}
+pub use Rattle.sql_calls.specs.Keyed.{IsHeldBy, rows_from}
 pub use Rattle.sql_calls.specs.Standing.{Finds, Wears}
 pub use Rattle.sql_calls.specs.declared.fault.Fault.{Fault}
 pub use Rattle.sql_calls.specs.declared.fault.Fault.TheVariants.{Store}
@@ -51,35 +64,46 @@ pub use Rattle.desk_records.proofs.HeldTables.{IsNumbered, IsPart, are_tables, h
 pub use Rattle.desk_records.proofs.Membership.{all_pass, each_passes, has_mapped, map_has}
 pub use Rattle.desk_records.proofs.NumberColumns.{has_own_number, is_at, is_in_range, is_number_in, is_small, number_in_good, number_in_is, number_in_least, number_is, one_number, small_is}
 pub use Rattle.desk_records.proofs.PieceLists.{count_pieces, count_whole, nth_piece, one_more, same_contents}
-pub use Rattle.desk_records.specs.Actions.{Tally, action_row, actor_of, entries_of, entry_row, kind_code, outcome_code, tally_of, told_action, word_code}
-pub use Rattle.desk_records.specs.Artifacts.{artifact_row, piece_numbered, pieces_in, pieces_of_artifact}
-pub use Rattle.desk_records.specs.Codes.{flag_in, group_count_in, number_in, outcome_in, percentage_in, percentage_or_none_in}
+pub use Rattle.desk_records.proofs.WholeArtifacts.{IsWhole, KeepsRules, all_keep, all_whole, digest_is_one}
+pub use Rattle.desk_records.specs.Actions.{Tally, action_row, actor_of, entries_of, entry_row, history_of, kind_code, outcome_code, tally_of, told_action, told_entry, word_code}
+pub use Rattle.desk_records.specs.ArtifactRow.{broken_artifact_column, broken_stored_column, has_size, stored}
+pub use Rattle.desk_records.specs.Artifacts.{artifact_row, piece_numbered, piece_row, pieces_in, pieces_of_artifact}
+pub use Rattle.desk_records.specs.Codes.{approval_in, feedback_number_in, first_broken, flag_in, group_count_in, number_in, outcome_in, percentage_in, percentage_or_none_in, place_in}
+pub use Rattle.desk_records.specs.EntryRow.{BreaksEntry, broken_word, keeps_details, said_by}
 pub use Rattle.desk_records.specs.FoundPieces.{ArePieces}
-pub use Rattle.desk_records.specs.Holds.{HoldsLedger, HoldsRecords, Ledger, ledger_of}
+pub use Rattle.desk_records.specs.Holds.{HoldsLedger, HoldsRecords, IsHeld, Ledger, desk_row, ledger_of, module_row}
 pub use Rattle.desk_records.specs.Listings.{AreBroken, AreSaid, FindsOne, HasNumber, IsLast, IsOnly, has_at, has_text_at}
+pub use Rattle.desk_records.specs.Offers.{HoldsOffers, is_to, offer_row}
+pub use Rattle.desk_records.specs.Parts.{parts_from}
 pub use Rattle.desk_records.specs.PlaceLists.{AreMembers, ListsPlaces, SaysMember, is_of}
-pub use Rattle.desk_records.specs.RolloutRow.{IsActionRow, broken_group_column, stored_action}
-pub use Rattle.desk_records.specs.Rollouts.{flag, group_row, groups_from, member_row, members_from, rollout_row, rule_row, rules_from, told_rollout, told_rule}
-pub use Rattle.desk_records.specs.Schema.{Actions, Artifacts, Feedbacks, Groups, Members, Numbers, Offers, Pieces, Place, Rollouts, Rules}
-pub use Rattle.desk_records.specs.TableRows.{IsAction, IsEntry, IsGroup, IsMember, IsOffer, IsRollout, action_shown}
+pub use Rattle.desk_records.specs.RolloutRow.{IsActionRow, IsRolloutRow, broken_action_column, broken_group_column, broken_listed_action_column, broken_offer_column, broken_rollout_column, stored_action, stored_rollout}
+pub use Rattle.desk_records.specs.Rollouts.{approval_code, flag, group_row, groups_from, member_row, members_from, rollout_row, rule_row, rules_from, told_rollout, told_rule}
+pub use Rattle.desk_records.specs.RuleRow.{IsRuleRow, broken_rule_column}
+pub use Rattle.desk_records.specs.Schema.{Actions, Artifacts, Desk, Feedbacks, Groups, Members, Modules, Numbers, Offers, Pieces, Place, Rollouts, Rules, SetModules, Sets, TargetAttributes, TargetTags, Targets}
+pub use Rattle.desk_records.specs.TableRows.{IsAction, IsEntry, IsGroup, IsMember, IsOffer, IsRollout, action_shown, artifact_shown, group_shown, number_shown, offer_shown, rollout_shown, rule_shown}
 pub use Rattle.desk_records.specs.Tables.{HoldsTables, Tables}
 pub use Rattle.desk_records.specs.declared.checked_rows.OwnedOffer.{OwnedOffer}
 pub use Rattle.desk_records.specs.declared.entry_row.SequencedEntry.{SequencedEntry}
 pub use Rattle.desk_records.specs.declared.member_row.PlacedMember.{PlacedMember}
+pub use Rattle.desk_records.specs.declared.module_row.Column.{Column}
+pub use Rattle.desk_records.specs.declared.number_row.PlacedNumber.{PlacedNumber}
 pub use Rattle.desk_records.specs.declared.rollout_row.ListedAction.{ListedAction}
 pub use Rattle.desk_records.specs.declared.rollout_row.StoredAction.{StoredAction}
 pub use Rattle.desk_records.specs.declared.rollout_row.StoredRollout.{StoredRollout}
 pub use Rattle.desk_store.proofs.BlameLemmas.{blamed}
 pub use Rattle.desk_store.specs.Blaming.{Blames, BlamesGiven, Watches}
 pub use Rattle.desk_store.specs.Changing.{FindsTables, StaysIn, seen_in}
-pub use Rattle.desk_store.specs.RawLists.{AreActions, AreOffers, ListsRows, SaysAction, SaysArtifact, SaysGroup, SaysNumber, SaysNumbered, SaysOffer, SaysOfferOf, SaysRule, any_row}
+pub use Rattle.desk_store.specs.RawLists.{AreActions, AreOffers, ListsRows, SaysAction, SaysArtifact, SaysGroup, SaysNumber, SaysNumbered, SaysOffer, SaysOfferOf, SaysRule, any_row, listed_shown}
+pub use Rattle.desk_store.specs.Readable.{BreaksColumn, IsReadable, label_shown, placed_shown, second_shown, third_shown}
 pub use Rattle.desk_store.specs.RuleTables.{HasGroupCount, HasRule, HaveRules, definition_by, definitions_in, grouping_of, grouping_with}
 pub use Rattle.desk_store.specs.Unreadable.{IsUnreadable, large_number, many_rows, missing_rollout, missing_rule, no_grouping, rise, twin_actions, twin_entries, twin_members}
+pub use Rattle.desk_reads.proofs.ListMembers.{AreIds, member_ids}
+pub use Rattle.desk_reads.specs.Counted.{AreCounted}
 pub use Rattle.desk_verify.specs.ActionChecks.{AreActionsInTurn, AreMembersInTurn, AreWhole, FitsHistory, IsGiven, IsGivenFirst, ListsActions, PassesHistory, are_for, count_none, count_on, first_said, is_each_for, is_fit, is_for, numbers_rise, sequences_rise}
 pub use Rattle.desk_verify.specs.Actions.{AgreesActions, AreInOrder, FitsEntries, GivesOutcome, HasActions, HasMember, IsRightAction, IsStarted, KeepsNumbers, PassesActions}
 pub use Rattle.desk_verify.specs.Agreement.{AgreeBefore, Agrees, Decides, IsDamage, NamesFirst, Passes, Settles, checked}
 pub use Rattle.desk_verify.specs.ArtifactChecks.{HashesPieces, IsHashed}
-pub use Rattle.desk_verify.specs.Artifacts.{AgreesArtifacts, HasPieces, IsWhole}
+pub use Rattle.desk_verify.specs.Artifacts.{AgreesArtifacts, HasPieces}
 pub use Rattle.desk_verify.specs.Cuts.{are_bounds, are_right, counts_them, has_each, has_number, is_cut, is_right, same_bounds}
 pub use Rattle.desk_verify.specs.Following.{follow}
 pub use Rattle.desk_verify.specs.GroupChecks.{HasEach, HasOnlyRule, HaveOnlyRules, IsCutOnlyBy, IsGroupCount}

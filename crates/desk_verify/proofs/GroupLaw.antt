@@ -1,38 +1,15 @@
 -- The table of groups agrees where records of accepted commands are held.
 use Rattle.std.proofs.Common.{◌≡◌, inl, inr, ◌≤◌, ◌<◌, ◌^◌, ◌&&◌, ℕ, zero, suc, ◌+◌, ◌-◌, pos, Bool, true, false, cond, List, [], ◌∷◌, filter, length, map, slice_get, zip, nat_eq, nat_lt, Option, Some, None, refl, sym, ap, subst, ◌∙◌, arith, is_eq}
-use Rattle.desk_verify.proofs.Common.{and_parts, nat_tests, option_map, Int, Null, Row, column, has_rowid, Database, Has, is_group_count, is_number, item_numbered, CommandList, Bytes, is_outcome, GroupRule, rule_at, rules_of, bounds_by, last_by, leaves_empty, IsCut, holds_position, Records, records, IsValid, AreWithinLimits, IsWithinLimits, Bounds, Outcome, Good, Bad, Gone, ActionRecord, GroupRecord, RolloutRecord, each_there, actions_follow_members, limits_hold, action_row, outcome_code, tally_of, flag_in, group_count_in, HoldsRecords, ledger_of, has_at, is_of, broken_group_column, flag, group_row, groups_from, members_from, rollout_row, rule_row, rules_from, told_rollout, Actions, Groups, Members, Rollouts, Rules, IsGroup, HoldsTables, Tables, at_place, has_place, held_passing, item_row, own_parts, part_among, place_within, held_rows, numbered, of_part, row_of, wanted_of, has_own_number, is_number_in, HasGroupCount, HasRule, AgreesGroups, HasGroup, IsCutBy, IsInRollout, IsRightGroup, ended_in, has_ended, members_in}
+use Rattle.desk_verify.proofs.Common.{and_parts, nat_tests, option_map, Int, Null, Row, column, has_rowid, Database, Has, is_group_count, is_number, item_numbered, CommandList, Bytes, is_outcome, GroupRule, rule_at, rules_of, bounds_by, last_by, leaves_empty, IsCut, holds_position, Records, records, IsValid, AreWithinLimits, IsWithinLimits, Bounds, Outcome, Good, Bad, Gone, ActionRecord, GroupRecord, RolloutRecord, each_there, actions_follow_members, limits_hold, action_row, outcome_code, tally_of, flag_in, group_count_in, HoldsRecords, ledger_of, has_at, is_of, broken_group_column, flag, group_row, groups_from, members_from, rollout_row, rule_row, rules_from, told_rollout, Actions, Groups, Members, Rollouts, Rules, IsGroup, HoldsTables, Tables, at_place, has_place, held_passing, item_row, own_parts, part_among, place_within, held_rows, numbered, of_part, row_of, wanted_of, has_own_number, is_number_in, HasGroupCount, HasRule, AgreesGroups, HasGroup, IsCutBy, IsInRollout, IsRightGroup, ended_in, has_ended, members_in, rows_from, group_limit, HasCountedGroups, IsCountedGroup, count_actions, groups_are_counted, grouping_is_cut}
 use Rattle.std.proofs.lemmas.Option.{slice_get-map}
 use Rattle.std.proofs.lemmas.Int.{ints}
 use Rattle.sqlite_value.proofs.OrderLemmas.{value_cmp-Int}
-use Rattle.sql_calls.specs.Keyed.{rows_from}
-use Rattle.rollout_model.specs.Limits.{group_limit}
-use Rattle.rollout_machine.specs.GroupCounts.{HasCountedGroups, IsCountedGroup}
-use Rattle.rollout_machine.specs.Kinds.{count_actions}
-use Rattle.rollout_machine.proofs.GroupCounts.{groups_are_counted}
-use Rattle.rollout_machine.proofs.Groupings.{grouping_is_cut}
 use Rattle.desk_records.specs.CheckedRows.{counted_in}
 use Rattle.desk_records.specs.CountedActions.{is_counted, passes_if_there}
 use Rattle.desk_verify.proofs.PlanLaw.{IsPlanned, each_has, plans_are, rule_told, rules_make}
+use Rattle.desk_verify.proofs.CodeLemmas.{flag_is, few_is, kept_group, group_count_is}
 
 -- ---- rows
-
-pub flag_is : (b : Bool) → flag_in (Int (pos (flag b))) ≡ Some b
-flag_is true = refl
-flag_is false = refl
-
-few_is : (n : ℕ) → n < 2 ^ 32 → nat_lt n (2 ^ 32) ≡ true
-few_is n few = grind (arith, nat_tests, few)
-
-kept_group : (i first last ok bad gone : ℕ) (b : Bool) → i < 2 ^ 32 → first < 2 ^ 32 → last < 2 ^ 32 → ok < 2 ^ 32 → bad < 2 ^ 32 → gone < 2 ^ 32
-    → broken_group_column (Int (pos i) ∷ Int (pos first) ∷ Int (pos last) ∷ Int (pos (flag b)) ∷ Int (pos ok) ∷ Int (pos bad) ∷ Int (pos gone) ∷ []) ≡ None
-kept_group i first last ok bad gone true a b c d e f = rw (few_is i a, few_is first b, few_is last c, few_is ok d, few_is bad e, few_is gone f) refl
-kept_group i first last ok bad gone false a b c d e f = rw (few_is i a, few_is first b, few_is last c, few_is ok d, few_is bad e, few_is gone f) refl
-
-group_count_is : (n : ℕ) → 1 ≤ n → n ≤ group_limit → group_count_in (Int (pos n)) ≡ Some n
-group_count_is n low high =
-    let good : is_group_count n ≡ true = grind (arith, nat_tests, low, high) in
-    let few : nat_lt n (2 ^ 32) ≡ true = grind (arith, nat_tests, high) in
-    rw (few, good) refl
 
 counted_is : (place : ℕ) (ended : Option Outcome) → place < 2 ^ 32 → counted_in (Int (pos place)) (Int (pos (outcome_code ended))) ≡ Some (record { place = place; outcome = ended })
 counted_is place None few = rw (few_is place few) refl

@@ -1,7 +1,6 @@
 -- What the reads of the tables of groups, members and actions come to.
 use Rattle.std.proofs.Common.{◌≡◌, ◌≤◌, ◌<◌, ◌&&◌, ℕ, zero, suc, ◌+◌, Bool, true, false, not, List, count_by, length, Option, Some, None, true≢false, refl, sym, ap, subst, ◌∙◌, arith, nat_eq}
-use Rattle.desk_verify.proofs.Common.{list_all, and_from, and_parts, nat_tests, Row, column, Has, some_from, some_has, test_from, test_has, item_numbered, bounds_by, cut_by, leaves_empty, each_there, numbered_each, Bounds, Outcome, Good, Bad, Gone, GroupRecord, HasNumber, has_at, Actions, Groups, Rollouts, IsGroup, Tables, is_at, number_in_is, number_in_least, number_is, one_number, ListsRows, SaysGroup, HasGroupCount, Decides, are_bounds, are_right, counts_them, has_each, has_number, is_cut, is_right, same_bounds, HasEach, IsCutOnlyBy, IsGroupCount, AgreesGroups, HasGroup, IsCutBy, IsInRollout, IsRightGroup, ended_in, has_ended, members_in, AreAllChecked, IsChecked}
-use Rattle.std.proofs.lemmas.List.Sums.{length-filter}
+use Rattle.desk_verify.proofs.Common.{list_all, and_from, and_parts, nat_tests, Row, column, Has, some_from, some_has, test_from, test_has, item_numbered, bounds_by, cut_by, leaves_empty, each_there, numbered_each, Bounds, Outcome, Good, Bad, Gone, GroupRecord, HasNumber, has_at, Actions, Groups, Rollouts, IsGroup, Tables, is_at, number_in_is, number_in_least, number_is, one_number, ListsRows, SaysGroup, HasGroupCount, Decides, are_bounds, are_right, counts_them, has_each, has_number, is_cut, is_right, same_bounds, HasEach, IsCutOnlyBy, IsGroupCount, AgreesGroups, HasGroup, IsCutBy, IsInRollout, IsRightGroup, ended_in, has_ended, members_in, AreAllChecked, IsChecked, length-filter}
 use Rattle.rollout_machine.specs.Groupings.{Grouping}
 use Rattle.desk_records.specs.CountedActions.{AreCounted}
 use Rattle.desk_records.specs.declared.checked_rows.CountedAction.{CountedAction}

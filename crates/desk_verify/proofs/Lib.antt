@@ -8,10 +8,10 @@ mod Follow
 mod MemberLemmas
 mod RuleLemmas
 mod GroupLemmas
+mod CodeLemmas
 mod PlanLaw
 mod GroupLaw
 mod Naming
-mod ListMembers
 mod MemberLaw
 mod ActionLaw
 mod Rising
@@ -23,3 +23,10 @@ mod OfferLaw
 mod ArtifactLaw
 pub mod NeverNamed
 mod Causes
+mod ReadableRows
+mod ReadableArtifacts
+mod ReadableTargets
+mod ReadableRollouts
+mod HistoryRules
+mod ReadableActions
+pub mod ReadableRecords

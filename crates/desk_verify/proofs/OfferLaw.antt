@@ -1,17 +1,13 @@
 -- The table of offers agrees where records of accepted commands are held.
 use Rattle.std.proofs.Common.{◌≡◌, inl, inr, ◌≤◌, ℕ, zero, suc, pos, Bool, true, false, ◌∷◌, map, slice_get, nat_lt, is_none, Option, Some, None, true≢false, refl, sym, ap, subst, ◌∙◌, arith}
-use Rattle.desk_verify.proofs.Common.{and_from, and_parts, nat_tests, Int, Null, Row, Database, Has, has_filtered, has_got, has_kept, some_from, some_has, is_word, Offer, item_numbered, CommandList, Bytes, holds_position, IsOfMember, records, IsValid, ActionRecord, RolloutRecord, actions_follow_members, same_refl, same_true, action_row, actor_of, tally_of, told_action, number_in, HoldsRecords, ledger_of, stored_action, Offers, IsAction, IsGroup, IsOffer, HoldsTables, Tables, StoredAction, held_rows, row_of, wanted_of, has_mapped, map_has, has_own_number, holds_started, is_started_at, AgreesOffers, HasNumberedAction, IsDue, IsInStartedGroup, IsOffered, IsRightOffer}
-use Rattle.rollout_machine.specs.Kinds.{TargetOffer, offer_to}
-use Rattle.rollout_machine.specs.Offers.{offer}
-use Rattle.rollout_machine.specs.StateWords.{has_started}
+use Rattle.desk_verify.proofs.Common.{and_from, and_parts, nat_tests, Int, Null, Row, Database, Has, has_filtered, has_got, has_kept, some_from, some_has, is_word, Offer, item_numbered, CommandList, Bytes, holds_position, IsOfMember, records, IsValid, ActionRecord, RolloutRecord, actions_follow_members, same_refl, same_true, action_row, actor_of, tally_of, told_action, number_in, HoldsRecords, ledger_of, stored_action, Offers, IsAction, IsGroup, IsOffer, HoldsTables, Tables, StoredAction, held_rows, row_of, wanted_of, has_mapped, map_has, has_own_number, holds_started, is_started_at, AgreesOffers, HasNumberedAction, IsDue, IsInStartedGroup, IsOffered, IsRightOffer, TargetOffer, offer_to, offer, has_started, offered_one, HoldsOffers, is_to, offer_row}
 use Rattle.rollout_machine.proofs.AtNumbers.{has_place}
 use Rattle.rollout_machine.proofs.Meanings.{is_candidate, least_offer, none_from}
-use Rattle.rollout_machine.proofs.Offers.{offered_one}
 use Rattle.offer_laws.proofs.AnyGroup.{started_by_any}
-use Rattle.desk_records.specs.Offers.{HoldsOffers, is_to, offer_row}
 use Rattle.desk_records.proofs.HeldCounts.{has_place as place_of}
 use Rattle.desk_verify.proofs.ActionLaw.{among, is_word_of, its_action, says}
-use Rattle.desk_verify.proofs.GroupLaw.{flag_is, group_lies, is_group, one_of}
+use Rattle.desk_verify.proofs.GroupLaw.{group_lies, is_group, one_of}
+use Rattle.desk_verify.proofs.CodeLemmas.{flag_is}
 use Rattle.desk_verify.proofs.GroupLemmas.{one_group, one_rollout}
 use Rattle.desk_verify.proofs.OfferLemmas.{none_ended}
 use Rattle.desk_verify.proofs.OneRow.{one_action, one_in}

@@ -1,15 +1,13 @@
 -- The plans of accepted commands: each is well formed, and leaves no group of its members empty.
 use Rattle.std.proofs.Common.{◌≡◌, ◌≤◌, ◌<◌, ℕ, zero, suc, ◌+◌, ◌^◌, pos, true, false, List, [], ◌∷◌, length, nat_lt, slice_get, Some, None, refl, sym, ap, subst, ◌∙◌, arith}
-use Rattle.desk_verify.proofs.Common.{option_map, and_parts, eqb-true, leb-true, nat_tests, Int, define_each, is_grouping, is_percentage, item_numbered, CommandList, CreateRollout, RolloutPlan, GroupRule, rule_at, rules_of, GroupDefinition, leaves_empty, Rollout, members_of, size_of, IsValid, RolloutRecord, length_each, each_created, made, percentage_in, told_rule, HaveRules, definitions_in, grouping_of}
-use Rattle.rollout_model.specs.Limits.{percentage_limit}
-use Rattle.rollout_machine.specs.CommandRules.{is_plan}
+use Rattle.desk_verify.proofs.Common.{option_map, and_parts, eqb-true, leb-true, nat_tests, Int, define_each, is_grouping, is_percentage, item_numbered, CommandList, CreateRollout, RolloutPlan, GroupRule, rule_at, rules_of, GroupDefinition, leaves_empty, IsValid, RolloutRecord, length_each, each_created, made, percentage_in, told_rule, HaveRules, definitions_in, grouping_of, percentage_limit, is_plan, each_rule, IsRuleRow}
+use Rattle.rollout_machine.specs.Rollouts.{Rollout, members_of, size_of}
 use Rattle.rollout_machine.specs.Ranges.{each_from}
 use Rattle.rollout_machine.specs.Records.{records}
 use Rattle.rollout_machine.specs.Verdicts.{verdict, verdict_row}
 use Rattle.rollout_machine.proofs.AtNumbers.{of_rollout}
-use Rattle.rollout_machine.proofs.Groupings.{each_rule}
 use Rattle.rollout_machine.proofs.Valid.{NoneHolds, none_holds}
-use Rattle.desk_records.specs.RuleRow.{IsRuleRow}
+use Rattle.desk_verify.proofs.CodeLemmas.{percentage_is}
 
 -- ---- plans
 
@@ -28,12 +26,6 @@ pub plans_are : (h : CommandList) → IsValid h → (r : ℕ) (y : RolloutRecord
 plans_are h valid r y e = let of = of_rollout h r y e in subst (λ (z : RolloutRecord). IsPlanned z.plan (length z.members)) (sym of.is) (each_created IsPlannedRollout new_is_planned h valid r of.rollout of.there)
 
 -- ---- the rules of a plan, as rows say them
-
-percentage_is : (p : ℕ) → is_percentage p ≡ true → percentage_in (Int (pos p)) ≡ Some p
-percentage_is p good =
-    let high : p ≤ percentage_limit = leb-true _ _ (and_parts _ _ good).1 in
-    let few : nat_lt p (2 ^ 32) ≡ true = grind (arith, nat_tests, high) in
-    rw (few, good) refl
 
 pub rule_told : (plan : RolloutPlan) (i : ℕ) → is_plan plan ≡ true → IsRuleRow (told_rule (rule_at plan i)) (rule_at plan i)
 rule_told plan i formed =

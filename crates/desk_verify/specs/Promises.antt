@@ -9,6 +9,8 @@ use Rattle.rollout_machine.specs.Records.{records}
 use Rattle.rollout_machine.specs.Validity.{IsValid}
 use Rattle.desk_records.specs.Holds.{HoldsLedger, HoldsRecords, ledger_of}
 use Rattle.desk_records.specs.Tables.{HoldsTables, Tables}
+use Rattle.desk_reads.specs.Counted.{AreCounted}
+use Rattle.desk_store.specs.Readable.{IsReadable}
 use Rattle.desk_verify.specs.Agreement.{Agrees, checked}
 use Rattle.desk_verify.specs.declared.damage.CheckedTable.{CheckedTable}
 
@@ -16,6 +18,10 @@ use Rattle.desk_verify.specs.declared.damage.CheckedTable.{CheckedTable}
 abbrev pub RecordsAgree : Type 0
 RecordsAgree = (h : CommandList) → IsValid h → (db : Database) (t : Tables) → HoldsRecords db (records h) → HoldsTables db t
     → AllByRecursion (Agrees t) checked
+
+-- its ledger can be read, where its histories can be counted
+abbrev pub RecordsAreReadable : Type 0
+RecordsAreReadable = (h : CommandList) → IsValid h → AreCounted (records h) → IsReadable (ledger_of (records h))
 
 -- where a change sees such records, no table is named
 abbrev pub NamesNone : {E : Type 0} → State → State → Result (Option CheckedTable) E → Type 0

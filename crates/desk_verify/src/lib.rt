@@ -19,4 +19,4 @@ mod turns;
 
 pub use crate::damage::{CheckedTable, Damage};
 pub use crate::finding::find_damage;
-pub use crate::laws::records_agree;
+pub use crate::laws::{records_agree, records_are_readable};

@@ -1,31 +1,42 @@
 -- The names of other modules that the proofs here cite, passed on from one place. Declares nothing.
 pub use Rattle.std.proofs.Math.Seq.{take-add, take-nil}
-pub use Rattle.std.proofs.lemmas.Bool.{and_parts, cases_lt, false≢true, leb-false, leb-true, or_parts}
+pub use Rattle.std.proofs.lemmas.Bool.{and_parts, cases_lt, cases_order, false≢true, leb-false, leb-true, or_parts}
 pub use Rattle.std.proofs.lemmas.Bool.Decides.{nat_tests}
+pub use Rattle.std.proofs.lemmas.Grind.{div_ceil_times, flat_map-append}
 pub use Rattle.std.proofs.lemmas.List.{drop-append-le, drop-drop, drop-map, drop-take, drop_all, length-append, length-drop, length-map, length-take, length-take-le, map-append, take-append-le, take-map, take-take, take_all, take_more}
+pub use Rattle.std.proofs.lemmas.Result.{err_from_is_err_and}
 pub use Rattle.std.specs.List.{flat_map, list_all, list_any, zip}
-pub use Rattle.std.specs.Option.{IsSomeAnd, is_some, option_map, unwrap_or}
-pub use Rattle.std.specs.Result.{is_ok}
+pub use Rattle.std.specs.Option.{IsSome, IsSomeAnd, is_some, option_map, unwrap_or}
+pub use Rattle.std.specs.Result.{IsErrAnd, is_ok}
 pub use Rattle.std.specs.declared.alloc.Global.{Global}
+pub use Rattle.sqlite_rules.specs.Lists.{Has}
+pub use Rattle.rollout_model.specs.Limits.{artifact_size_limit, number_limit, piece_length}
+pub use Rattle.rollout_model.specs.Rules.{is_byte, is_contents, is_filename, is_module_list, is_number, is_text, number_of}
 pub use Rattle.rollout_model.specs.declared.refusal.Refusal.TheVariants.{NotFound, Unauthorized}
 pub use Rattle.rollout_model.specs.declared.request.Reply.{Reply}
 pub use Rattle.rollout_model.specs.declared.shown_target.ShownTarget.{ShownTarget}
 pub use Rattle.target_filter.specs.Grammar.{Tree}
 pub use Rattle.target_filter.specs.Profile.{filter_of}
+pub use Rattle.artifact_pieces.specs.Pieces.{piece_at, piece_bytes, piece_count, pieces_of}
 pub use Rattle.rollout_machine.proofs.TargetTies.{same_pointwise, same_refl, same_sym, same_true}
+pub use Rattle.rollout_machine.proofs.WithinLimits.{limits_hold}
 pub use Rattle.rollout_machine.specs.Answers.{action_if, action_of_target, artifact_if, artifact_named, artifact_of_module, for_device, group_reply, if_found, is_offer_of, modules_offered, query_reply, target_if, targets_matching, targets_of}
-pub use Rattle.rollout_machine.specs.ByteStrings.{contains_word, item_numbered, same_bytes, with_words}
-pub use Rattle.rollout_machine.specs.Commands.{Bytes, Command, CreateRollout, Credential, ModuleLabel, SetLabel, TargetRow}
+pub use Rattle.rollout_machine.specs.ByteStrings.{bytes_below, contains_word, item_numbered, same_bytes, with_words}
+pub use Rattle.rollout_machine.specs.CommandList.{CommandList, Make, ◌▸◌}
+pub use Rattle.rollout_machine.specs.Commands.{AddArtifact, AddModule, AddSet, Bytes, Command, CreateRollout, Credential, ModuleLabel, SetLabel, TargetRow}
 pub use Rattle.rollout_machine.specs.Filters.{matches, seen}
 pub use Rattle.rollout_machine.specs.GroupRules.{GroupRule, rule_at, rules_of}
 pub use Rattle.rollout_machine.specs.Objects.{action_shown, actions_of_rollout, actions_of_target, actions_where, artifact_shown, artifacts_shown, chunks_of, chunks_of_module, entry_shown, group_of_action, group_shown, groups_shown, members_in, module_shown, modules_of_action, modules_of_rollout, modules_of_set, modules_shown, numbered, page_of, report_of, rollout_shown, rollouts_shown, set_shown, target_shown, targets_shown}
 pub use Rattle.rollout_machine.specs.Offers.{Offer, first_offer, offer}
-pub use Rattle.rollout_machine.specs.Records.{ArtifactRecord, Records}
+pub use Rattle.rollout_machine.specs.Records.{ArtifactRecord, Records, added_artifacts, added_modules, added_sets, artifacts, group_in, modules, records, sets}
 pub use Rattle.rollout_machine.specs.Replies.{ActionShown, ActionsShown, ActionsTableShown, Artifact, ArtifactShown, ArtifactsShown, Chunk, ContentsShown, DeploymentShown, DistributionSet, GroupShown, GroupsShown, HistoryShown, Module, ModuleShown, ModulesShown, PageOf, PollShown, Refused, ReportShown, RolloutShown, RolloutsShown, SetsShown, ShownAction, ShownEntry, ShownGroup, ShownRollout, TargetShown, TargetsShown}
+pub use Rattle.rollout_machine.specs.Reports.{HistoryEntry, Reported, entries_in}
 pub use Rattle.rollout_machine.specs.Requests.{Download, Page, ShowArtifact, ShowModule, ShowModules, ShowRollouts, ShowSet, ShowSets, ShowTarget, ShowTargets}
+pub use Rattle.rollout_machine.specs.Rollouts.{Rollout, chosen, created, rollouts, size_in, size_of}
 pub use Rattle.rollout_machine.specs.StateWords.{GroupWord, InError, InSync, Pending, TargetWord, Unknown, group_holding, group_is_started, group_numbered, has_started, is_for, is_started_in, member_at, number_of_group, size_of_group, started_actions_of, target_word, word_by_last}
 pub use Rattle.rollout_machine.specs.Targets.{Target, import_rows_of, target_ids, target_in}
-pub use Rattle.rollout_machine.specs.Verdicts.{is_known, is_named_by_set, tags_of, target_of}
+pub use Rattle.rollout_machine.specs.Validity.{IsValid}
+pub use Rattle.rollout_machine.specs.Verdicts.{is_known, is_named_by_set, tags_of, target_of, verdict, verdict_row}
 pub use Rattle.rollout_machine.specs.Views.{chunk, listed, listed_targets, reply_of, shown_target}
 pub use Rattle.rollout_machine.specs.declared.records.ActionRecord.{ActionRecord}
 pub use Rattle.rollout_machine.specs.declared.records.GroupRecord.{GroupRecord}
@@ -33,25 +44,37 @@ pub use Rattle.rollout_machine.specs.declared.records.RolloutRecord.{RolloutReco
 pub use Rattle.campaign_core.specs.RolloutChecks.{BothOrNone}
 pub use Rattle.sql_calls.proofs.Composing.{both_found, finds_as, found_held, found_if, found_then, known}
 pub use Rattle.sql_calls.specs.declared.fault.Fault.{Fault}
-pub use Rattle.desk_records.specs.Actions.{Tally, history_of, tally_of}
-pub use Rattle.desk_records.specs.Artifacts.{pieces_of_artifact}
+pub use Rattle.sql_calls.specs.declared.fault.Fault.TheVariants.{Memory, Store}
+pub use Rattle.desk_records.specs.Actions.{Tally, action_row, actor_of, history_of, tally_of}
+pub use Rattle.desk_records.specs.ArtifactRow.{has_size, stored}
+pub use Rattle.desk_records.specs.Artifacts.{piece_numbered, pieces_of_artifact}
+pub use Rattle.desk_records.specs.Holds.{HoldsLedger, Ledger, ledger_of}
 pub use Rattle.desk_records.specs.Parts.{parts_of}
-pub use Rattle.desk_records.specs.RolloutRow.{actions_for, actions_of, listed_where, stored_action, stored_rollout}
-pub use Rattle.desk_records.specs.TargetRow.{listed_target, stored_target}
+pub use Rattle.desk_records.specs.RolloutRow.{actions_for, actions_of, broken_action_column, listed_where, stored_action, stored_rollout}
+pub use Rattle.desk_records.specs.Rollouts.{groups_of, members_of, numbered_from, rule_numbered, rules_numbered}
+pub use Rattle.desk_records.specs.SetRow.{called}
+pub use Rattle.desk_records.specs.TargetRow.{has_word, listed_target, stored_target}
+pub use Rattle.desk_records.specs.declared.artifact_row.StoredArtifact.{StoredArtifact}
 pub use Rattle.desk_records.specs.declared.rollout_row.ListedAction.{ListedAction}
 pub use Rattle.desk_records.specs.declared.rollout_row.StoredAction.{StoredAction}
+pub use Rattle.desk_records.specs.declared.set_row.SetName.{SetName}
+pub use Rattle.desk_records.specs.declared.target_row.ListedTarget.{ListedTarget}
 pub use Rattle.desk_store.proofs.LedgersOfRecords.{ledger_found}
-pub use Rattle.desk_store.specs.Changing.{FindsIn, StaysIn}
+pub use Rattle.desk_store.specs.Changing.{FindsIn, StaysIn, seen_in}
+pub use Rattle.desk_store.specs.Readable.{IsReadable}
+pub use Rattle.desk_store.specs.Rows.{IfStore}
 pub use Rattle.desk_reads.proofs.ListLemmas.{group_within, groups_are, made}
 pub use Rattle.desk_reads.proofs.ListedTargets.{all_given, part_seen}
-pub use Rattle.desk_reads.proofs.RuleLemmas.{rule_is, rules_there, said_of}
-pub use Rattle.desk_reads.specs.AtLists.{AreOfList, FindsAtListsIn}
+pub use Rattle.desk_reads.proofs.RuleLemmas.{rule_is, rule_there, rules_there, said_of}
+pub use Rattle.desk_reads.specs.AtLists.{AreOfList, FailsAtListsIn, FindsAtListsIn, IsOfList}
 pub use Rattle.desk_reads.specs.Rollouts.{IsSeenOf}
 pub use Rattle.desk_reads.specs.Targets.{target_listed}
 pub use Rattle.desk_reads.specs.declared.rollouts.SeenRollout.{SeenRollout}
 pub use Rattle.desk_views.specs.Actions.{entry_by, listed_shown, number_at, reports_of, shown_among, shown_in, stored_in}
 pub use Rattle.desk_views.specs.Contents.{contents_found}
 pub use Rattle.desk_views.specs.Downloads.{downloadable, named, or_not_found}
+pub use Rattle.desk_views.specs.Failing.{FailsWith, IsOfListWith}
+pub use Rattle.desk_views.specs.Groups.{HasUnshown, IsGroupOf}
 pub use Rattle.desk_views.specs.Sizes.{IsOfName}
 pub use Rattle.desk_views.specs.TargetWords.{is_begun, last_ending}
 pub use Rattle.desk_views.specs.Targets.{matching_shown, worded}

@@ -1,9 +1,7 @@
 -- From entries of histories that were read to what is shown of them.
 use Rattle.std.proofs.Common.{◌≡◌, ◌<◌, ℕ, zero, suc, ◌+◌, nat_eq, Bool, true, false, cond, List, [], ◌∷◌, ◌++◌, length, slice_get, take, drop, Option, Some, None, refl, sym, ap, ◌∙◌, arith}
-use Rattle.desk_views.proofs.Common.{option_map, nat_tests, action_if, if_found, item_numbered, Bytes, entry_shown, numbered, page_of, Records, HistoryShown, ShownEntry, Page, is_for, ActionRecord, history_of, parts_of, StoredAction, entry_by, number_at, reports_of, stored_in}
-use Rattle.rollout_machine.specs.Reports.{HistoryEntry, Reported, entries_in}
+use Rattle.desk_views.proofs.Common.{option_map, nat_tests, action_if, if_found, item_numbered, Bytes, entry_shown, numbered, page_of, Records, HistoryShown, ShownEntry, Page, is_for, ActionRecord, history_of, parts_of, StoredAction, entry_by, number_at, reports_of, stored_in, HistoryEntry, Reported, entries_in, ledger_of}
 use Rattle.desk_records.specs.FeedbackNumbers.{borne_at, numbers_from, numbers_numbered, numbers_of}
-use Rattle.desk_records.specs.Holds.{ledger_of}
 use Rattle.desk_records.specs.declared.number_row.PlacedNumber.{PlacedNumber}
 use Rattle.rollout_machine.proofs.Actions.{numbered_map}
 use Rattle.desk_views.proofs.PageLemmas.{numbered_length}

@@ -1,4 +1,11 @@
 pub mod Common
+pub mod FailingViews
+pub mod ListRules
+pub mod FewActions
+pub mod FailingReads
+pub mod FailingGroups
+pub mod FailingRollouts
+pub mod FailingActions
 pub mod HistoryViews
 pub mod ActionViews
 pub mod MemberViews

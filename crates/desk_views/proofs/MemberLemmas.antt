@@ -1,12 +1,10 @@
 -- The members of a rollout of a list of accepted commands are targets.
 use Rattle.std.proofs.Common.{◌≡◌, ℕ, zero, suc, Bool, true, false, ◌||◌, cond, List, [], ◌∷◌, ◌++◌, map, filter, find, take, drop, Option, Some, None, refl, sym, ap, ◌∙◌}
 use Rattle.std.specs.Prelude.{slice_get}
-use Rattle.desk_views.proofs.Common.{list_all, is_some, unwrap_or, and_parts, false≢true, filter_of, Tree, target_if, targets_of, contains_word, item_numbered, same_bytes, with_words, Bytes, Command, CreateRollout, TargetRow, matches, target_shown, targets_shown, Records, Target, import_rows_of, target_ids, target_in, target_of, RolloutRecord, same_refl, same_sym, AreOfList, made}
-use Rattle.std.proofs.lemmas.List.Folds.{list_all-append}
-use Rattle.rollout_machine.specs.CommandList.{CommandList, Make, ◌▸◌}
+use Rattle.desk_views.proofs.Common.{list_all, is_some, unwrap_or, and_parts, false≢true, filter_of, Tree, target_if, targets_of, contains_word, item_numbered, same_bytes, with_words, Bytes, Command, CreateRollout, TargetRow, matches, target_shown, targets_shown, Records, Target, import_rows_of, target_ids, target_in, target_of, RolloutRecord, same_refl, same_sym, AreOfList, made, CommandList, Make, ◌▸◌, Rollout, chosen, created, rollouts}
 use Rattle.rollout_machine.specs.Records.{records}
+use Rattle.std.proofs.lemmas.List.Folds.{list_all-append}
 use Rattle.rollout_machine.specs.Replies.{ShownTarget}
-use Rattle.rollout_machine.specs.Rollouts.{Rollout, chosen, created, rollouts}
 use Rattle.rollout_machine.proofs.Imports.{never_with}
 
 -- ---- tests of lists

@@ -1,8 +1,7 @@
 -- Entries of a list by their numbers, and the part of it that is on a page.
 use Rattle.std.proofs.Common.{◌≡◌, ℕ, zero, suc, ◌+◌, ◌-◌, min, Bool, true, false, List, [], ◌∷◌, ◌++◌, length, take, drop, Some, None, refl, sym, ap, ◌∙◌, arith, add-one, length-drop}
-use Rattle.desk_views.proofs.Common.{take-nil, option_map, item_numbered, numbered}
+use Rattle.desk_views.proofs.Common.{take-nil, option_map, item_numbered, numbered, is_number, number_of}
 use Rattle.std.specs.Prelude.{slice_get}
-use Rattle.rollout_model.specs.Rules.{is_number, number_of}
 
 pub numbered_length : {X Y : Type 0} (f : ℕ → X → Y) (n : ℕ) (xs : List X) → length (numbered f n xs) ≡ length xs
 numbered_length f n [] = refl

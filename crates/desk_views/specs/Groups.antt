@@ -1,9 +1,11 @@
--- Groups that can't be shown.
-use Rattle.std.specs.Prelude.{◌≡◌, ◌≤◌, ◌^◌, ◌⊎◌, List, None}
+-- Groups that can be shown, and those that can't.
+use Rattle.std.specs.Prelude.{◌≡◌, ◌≤◌, ◌^◌, ◌⊎◌, ℕ, List, None, Some}
 use Rattle.sqlite_rules.specs.Lists.{Has}
 use Rattle.rollout_machine.specs.ByteStrings.{item_numbered}
+use Rattle.rollout_machine.specs.Records.{Records}
 use Rattle.rollout_machine.specs.StateWords.{size_of_group}
 use Rattle.rollout_machine.specs.declared.records.GroupRecord.{GroupRecord}
+use Rattle.rollout_machine.specs.declared.records.RolloutRecord.{RolloutRecord}
 use Rattle.rollout_model.specs.declared.group_rule.GroupRule.{GroupRule}
 
 -- nothing is said of one of the groups, or it has more members than are counted
@@ -11,3 +13,9 @@ pub record HasUnshown (rules : List GroupRule) (groups : List GroupRecord) : Typ
   pub group : GroupRecord
   pub among : Has groups group
   pub unshown : (item_numbered rules group.number ≡ None) ⊎ (2 ^ 32 ≤ size_of_group group)
+
+-- the group is one of those of the rollout of a number
+pub record IsGroupOf (number : ℕ) (group : GroupRecord) (r : Records) : Type 0 where
+  pub rollout : RolloutRecord
+  pub there : item_numbered r.rollouts number ≡ Some rollout
+  pub among : Has rollout.groups group

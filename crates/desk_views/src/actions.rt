@@ -10,9 +10,9 @@ ghost use Rattle.rollout_machine.specs.StateWords.{group_holding};
 ghost use Rattle.rollout_machine.specs.Requests.{ShowAction, ShowActionsTable, ShowHistory, ShowTargetActions};
 ghost use Rattle.desk_records.specs.Actions.{history_of};
 ghost use Rattle.desk_views.specs.Actions.{entry_by, listed_shown, number_at, reports_of, shown_among, shown_in, stored_in};
-ghost use Rattle.desk_reads.specs.AtLists.{FindsAtListsIn};
+ghost use Rattle.desk_reads.specs.AtLists.{FailsAtListsIn, FindsAtListsIn};
 ghost use Rattle.desk_views.specs.Showing.{ShowsIn};
-ghost use Rattle.sql_calls.specs.declared.fault.Fault.TheVariants.{Store};
+ghost use Rattle.sql_calls.specs.declared.fault.Fault.TheVariants.{Memory, Store};
 ghost use Rattle.desk_store.specs.Rows.{IfStore};
 ghost use Rattle.desk_store.specs.Changing.{FindsIn, StaysIn};
 
@@ -42,6 +42,7 @@ pub fn show_target_actions<S: Alter>(
 ) -> Result<Reply, Fault>
     ensures stays { StaysIn S.Store change.old change.new result }
     ensures shows { ShowsIn S.Store change.old change.new (ShowTargetActions id page) result }
+    ensures fails { FailsAtListsIn S.Store change.old change.new result }
 {
     if change.read_target(&id)?.is_none() {
         return Ok(Reply::Refused(Refusal::NotFound));
@@ -60,6 +61,7 @@ pub fn show_actions_table<S: Alter>(
 ) -> Result<Reply, Fault>
     ensures stays { StaysIn S.Store change.old change.new result }
     ensures shows { ShowsIn S.Store change.old change.new (ShowActionsTable number) result }
+    ensures fails { FailsAtListsIn S.Store change.old change.new result }
     ensures work { change.new.store.now.calls.work.statements ≤ change.old.store.now.calls.work.statements + 3 }
 {
     if change.read_rollout(number)?.is_none() {
@@ -80,6 +82,7 @@ pub fn show_action<S: Alter>(
 ) -> Result<Reply, Fault>
     ensures stays { StaysIn S.Store change.old change.new result }
     ensures shows { ShowsIn S.Store change.old change.new (ShowAction id number) result }
+    ensures fails { FailsAtListsIn S.Store change.old change.new result }
 {
     let action = match read_of_target(change, id, number)? {
         Some(action) => action,
@@ -99,6 +102,7 @@ pub fn show_history<S: Alter>(
 ) -> Result<Reply, Fault>
     ensures stays { StaysIn S.Store change.old change.new result }
     ensures shows { ShowsIn S.Store change.old change.new (ShowHistory id number page) result }
+    ensures fails { FailsAtListsIn S.Store change.old change.new result }
 {
     let action = match read_of_target(change, id, number)? {
         Some(action) => action,
@@ -119,6 +123,7 @@ fn read_numbered<S: Alter>(
     ensures stays { StaysIn S.Store change.old change.new result }
     ensures reads { FindsAtListsIn S.Store change.old change.new result
         (λ now found. found.items ≡ take page.limit (drop page.offset (numbered entry_shown 1 (reports_of (item_numbered now.actions number))))) }
+    ensures fails { FailsAtListsIn S.Store change.old change.new result }
 {
     let entries = read_entries(change, number, page)?;
     if entries.is_empty() {
@@ -138,6 +143,7 @@ fn read_entries<S: Alter>(
     ensures stays { StaysIn S.Store change.old change.new result }
     ensures reads { FindsAtListsIn S.Store change.old change.new result
         (λ now found. found.items ≡ take page.limit (drop page.offset (history_of (item_numbered now.actions number)))) }
+    ensures fails { FailsAtListsIn S.Store change.old change.new result }
 {
     let entries = change.read_entries(number, page)?;
     Ok(entries)
@@ -202,6 +208,7 @@ pub(crate) fn read_of_target<S: Alter>(
 ) -> Result<Option<StoredAction>, Fault>
     ensures stays { StaysIn S.Store change.old change.new result }
     ensures reads { FindsIn S.Store change.old change.new result (λ now found. found ≡ option_map (stored_in now) (action_of_target now id number)) }
+    ensures fails { FailsAtListsIn S.Store change.old change.new result }
 {
     let found = match change.read_action(number)? {
         Some(found) => found,
@@ -221,6 +228,7 @@ fn read_all_shown<S: Alter>(
 ) -> Result<Vec<Action>, Fault>
     ensures stays { StaysIn S.Store change.old change.new result }
     ensures reads { FindsAtListsIn S.Store change.old change.new result (λ now all. all.items ≡ map (listed_shown now) listed.now) }
+    ensures fails { FailsAtListsIn S.Store change.old change.new result }
 {
     let mut all = Vec::new(alloc);
     for one in listed {
@@ -239,7 +247,8 @@ fn all_shown_among(
     groups: &[GroupRecord],
     listed: &[ListedAction],
 ) -> Result<Vec<Action>, Fault>
-    ensures { IfOk result (λ all. all.items ≡ map (shown_among groups.now) listed.now) }
+    ensures ok { IfOk result (λ all. all.items ≡ map (shown_among groups.now) listed.now) }
+    ensures err { IfErr result (λ fault. fault ≡ Memory) }
 {
     let mut all = Vec::new(alloc);
     for one in listed {
@@ -272,6 +281,7 @@ fn read_shown<S: Alter>(
 ) -> Result<Action, Fault>
     ensures stays { StaysIn S.Store change.old change.new result }
     ensures reads { FindsAtListsIn S.Store change.old change.new result (λ now shown. shown ≡ listed_shown now listed.now) }
+    ensures fails { FailsAtListsIn S.Store change.old change.new result }
 {
     let group = change.read_holding_group(listed.action.rollout, listed.action.position)?;
     Ok(shown_in(*listed, group))

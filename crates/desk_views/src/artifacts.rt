@@ -7,10 +7,12 @@ ghost use Rattle.rollout_machine.specs.Answers.{artifact_of_module, query_reply}
 ghost use Rattle.rollout_machine.specs.ByteStrings.{item_numbered};
 ghost use Rattle.rollout_machine.specs.Requests.{ShowArtifacts, ShowArtifact, ShowContents};
 ghost use Rattle.rollout_machine.specs.Views.{reply_of};
+ghost use Rattle.desk_reads.specs.AtLists.{FailsAtListsIn};
 ghost use Rattle.desk_views.specs.Contents.{contents_found};
+ghost use Rattle.desk_views.specs.Failing.{FailsWith};
 ghost use Rattle.rollout_model.specs.Limits.{artifact_size_limit, piece_length};
 ghost use Rattle.rollout_model.specs.Rules.{is_contents};
-ghost use Rattle.sql_calls.specs.declared.fault.Fault.TheVariants.{Store};
+ghost use Rattle.sql_calls.specs.declared.fault.Fault.TheVariants.{Memory, Store};
 ghost use Rattle.desk_store.specs.Rows.{IfStore};
 ghost use Rattle.desk_views.specs.Sizes.{AgreesIn, IsOfNumber, KeepsSize};
 ghost use Rattle.desk_store.specs.Changing.{FindsIn, StaysIn};
@@ -33,6 +35,7 @@ pub fn show_artifacts<S: Alter>(
 ) -> Result<Reply, Fault>
     ensures stays { StaysIn S.Store change.old change.new result }
     ensures reads { FindsIn S.Store change.old change.new result (λ now reply. reply_of reply ≡ query_reply now (ShowArtifacts module_number page)) }
+    ensures fails { FailsAtListsIn S.Store change.old change.new result }
 {
     if change.read_module(module_number)?.is_none() {
         return Ok(Reply::Refused(Refusal::NotFound));
@@ -50,6 +53,7 @@ pub fn show_artifact<S: Alter>(
 ) -> Result<Reply, Fault>
     ensures stays { StaysIn S.Store change.old change.new result }
     ensures reads { FindsIn S.Store change.old change.new result (λ now reply. reply_of reply ≡ query_reply now (ShowArtifact module_number number)) }
+    ensures fails { FailsAtListsIn S.Store change.old change.new result }
 {
     match read_of_module(change, module_number, number)? {
         Some(found) => Ok(Reply::Artifact(shown_as(number, found))),
@@ -67,6 +71,7 @@ pub fn show_contents<S: Alter>(
 ) -> Result<Reply, Fault>
     ensures stays { StaysIn S.Store change.old change.new result }
     ensures reads { FindsIn S.Store change.old change.new result (λ now reply. reply_of reply ≡ query_reply now (ShowContents module_number number)) }
+    ensures fails { FailsAtListsIn S.Store change.old change.new result }
     ensures sized { AgreesIn S.Store change.old change.new result (λ t reply. KeepsSize t (ShowContents module_number number) (reply_of reply)) }
 {
     let found = match read_of_module(change, module_number, number)? {
@@ -86,6 +91,7 @@ pub(crate) fn read_contents<S: Alter>(
 ) -> Result<Contents, Fault>
     ensures stays { StaysIn S.Store change.old change.new result }
     ensures reads { FindsIn S.Store change.old change.new result (λ now contents. contents ≡ contents_found (item_numbered now.artifacts number)) }
+    ensures fails { FailsWith S.Store (λ now. size ≡ length (contents_found (item_numbered now.artifacts number))) change.old change.new result }
     ensures sized { IfOk result (λ contents. length contents ≡ size) }
 {
     let bytes = read_pieces(alloc, change, number)?;
@@ -118,6 +124,7 @@ fn read_of_module<S: Alter>(
     ensures stays { StaysIn S.Store change.old change.new result }
     ensures reads { FindsIn S.Store change.old change.new result
         (λ now found. found ≡ option_map stored (artifact_of_module now module_number number)) }
+    ensures fails { FailsAtListsIn S.Store change.old change.new result }
     ensures agrees { AgreesIn S.Store change.old change.new result (λ t found. IfSome found (IsOfNumber t module_number number)) }
 {
     let found = match change.read_artifact(number)? {
@@ -150,6 +157,7 @@ fn read_pieces<S: Alter>(
 ) -> Result<Vec<u8>, Fault>
     ensures stays { StaysIn S.Store change.old change.new result }
     ensures reads { FindsIn S.Store change.old change.new result (λ now bytes. bytes.items ≡ contents_found (item_numbered now.artifacts number)) }
+    ensures fails { FailsAtListsIn S.Store change.old change.new result }
 {
     let mut bytes = Vec::new(alloc);
     let mut pieces = 0;
@@ -177,7 +185,8 @@ fn within_limit(before: u32, found: Option<Vec<u8>>) -> Result<Option<Vec<u8>>, 
 }
 
 fn append(bytes: &mut Vec<u8>, piece: &[u8]) -> Result<(), Fault>
-    ensures { IfOk result (λ _. bytes.new.items ≡ bytes.old.items ++ piece.now) }
+    ensures ok { IfOk result (λ _. bytes.new.items ≡ bytes.old.items ++ piece.now) }
+    ensures err { IfErr result (λ fault. fault ≡ Memory) }
 {
     match bytes.extend_from_slice(piece) {
         Ok(()) => Ok(()),

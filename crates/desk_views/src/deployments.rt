@@ -1,6 +1,6 @@
 //! What devices are to install: deployments, and the contents of their artifacts.
 
-ghost use Rattle.std.specs.Prelude.{◌≡◌, ◌++◌, ◌∷◌, [], IfOk, Some, map, nat_eq};
+ghost use Rattle.std.specs.Prelude.{◌≡◌, ◌++◌, ◌∷◌, [], IfErr, IfOk, Some, map, nat_eq};
 ghost use Rattle.std.specs.List.{find, list_any};
 ghost use Rattle.std.specs.Option.{option_copied, option_map};
 ghost use Rattle.rollout_machine.specs.Answers.{modules_offered, query_reply};
@@ -11,6 +11,8 @@ ghost use Rattle.rollout_machine.specs.Requests.{Download, ShowDeployment};
 ghost use Rattle.rollout_machine.specs.Views.{chunk, reply_of};
 ghost use Rattle.desk_records.specs.declared.rollout_row.StoredRollout.{StoredRollout};
 ghost use Rattle.rollout_model.specs.declared.artifact.Artifact.{Artifact};
+ghost use Rattle.sql_calls.specs.declared.fault.Fault.TheVariants.{Memory};
+ghost use Rattle.desk_reads.specs.AtLists.{FailsAtListsIn};
 ghost use Rattle.desk_views.specs.Downloads.{downloadable, named};
 ghost use Rattle.desk_views.specs.Sizes.{AgreesIn, IsOfName, KeepsSize};
 ghost use Rattle.desk_store.specs.Changing.{FindsIn, KeepsTables, StaysIn};
@@ -35,6 +37,7 @@ pub fn show_deployment<S: Alter>(
 ) -> Result<Reply, Fault>
     ensures stays { StaysIn S.Store change.old change.new result }
     ensures reads { FindsIn S.Store change.old change.new result (λ now reply. reply_of reply ≡ query_reply now (ShowDeployment device.now number)) }
+    ensures fails { FailsAtListsIn S.Store change.old change.new result }
 {
     if !knows_device(change, device)? {
         return Ok(Reply::Refused(Refusal::Unauthorized));
@@ -60,6 +63,7 @@ fn read_chunks<S: Alter>(
     ensures stays { StaysIn S.Store change.old change.new result }
     ensures reads { FindsIn S.Store change.old change.new result
         (λ now chunks. map chunk chunks.items ≡ chunks_of now (modules_of_action now (item_numbered now.actions number))) }
+    ensures fails { FailsAtListsIn S.Store change.old change.new result }
 {
     let modules = read_action_modules(alloc, change, number)?;
     read_module_chunks(alloc, change, modules)
@@ -73,6 +77,7 @@ fn read_module_chunks<S: Alter>(
 ) -> Result<Vec<Chunk>, Fault>
     ensures stays { StaysIn S.Store change.old change.new result }
     ensures reads { FindsIn S.Store change.old change.new result (λ now chunks. map chunk chunks.items ≡ chunks_of now modules.items) }
+    ensures fails { FailsAtListsIn S.Store change.old change.new result }
 {
     let mut chunks = Vec::new(alloc);
     for module_number in modules {
@@ -90,6 +95,7 @@ fn add_chunk<S: Alter>(
     ensures stays { StaysIn S.Store change.old change.new result }
     ensures reads { FindsIn S.Store change.old change.new result
         (λ now _. map chunk chunks.new.items ≡ map chunk chunks.old.items ++ chunks_of_module now module_number (item_numbered now.modules module_number)) }
+    ensures fails { FailsAtListsIn S.Store change.old change.new result }
 {
     let label = match change.read_module(module_number)? {
         Some(label) => label,
@@ -105,7 +111,8 @@ fn add_chunk<S: Alter>(
 }
 
 fn push(chunks: &mut Vec<Chunk>, chunk: Chunk) -> Result<(), Fault>
-    ensures { IfOk result (λ _. chunks.new.items ≡ chunks.old.items ++ chunk ∷ []) }
+    ensures ok { IfOk result (λ _. chunks.new.items ≡ chunks.old.items ++ chunk ∷ []) }
+    ensures err { IfErr result (λ fault. fault ≡ Memory) }
 {
     match chunks.push(chunk) {
         Ok(()) => Ok(()),
@@ -122,6 +129,7 @@ fn read_action_modules<S: Alter>(
     ensures stays { StaysIn S.Store change.old change.new result }
     ensures keeps { KeepsTables S.Store change.old change.new result }
     ensures reads { FindsIn S.Store change.old change.new result (λ now modules. modules.items ≡ modules_of_action now (item_numbered now.actions number)) }
+    ensures fails { FailsAtListsIn S.Store change.old change.new result }
 {
     match change.read_action(number)? {
         Some(action) => read_rollout_modules(alloc, change, action.rollout),
@@ -138,6 +146,7 @@ fn read_rollout_modules<S: Alter>(
     ensures stays { StaysIn S.Store change.old change.new result }
     ensures keeps { KeepsTables S.Store change.old change.new result }
     ensures reads { FindsIn S.Store change.old change.new result (λ now modules. modules.items ≡ modules_of_rollout now (item_numbered now.rollouts number)) }
+    ensures fails { FailsAtListsIn S.Store change.old change.new result }
 {
     let found = change.read_rollout(number)?;
     match set_of(&found) {
@@ -167,6 +176,7 @@ pub fn show_download<S: Alter>(
     ensures stays { StaysIn S.Store change.old change.new result }
     ensures reads { FindsIn S.Store change.old change.new result
         (λ now reply. reply_of reply ≡ query_reply now (Download device.now module_number filename.now)) }
+    ensures fails { FailsAtListsIn S.Store change.old change.new result }
     ensures sized { AgreesIn S.Store change.old change.new result (λ t reply. KeepsSize t (Download device.now module_number filename.now) (reply_of reply)) }
 {
     match find_download(alloc, change, device, module_number, filename)? {
@@ -188,6 +198,7 @@ pub fn find_download<S: Alter>(
 ) -> Result<Result<Artifact, Refusal>, Fault>
     ensures stays { StaysIn S.Store change.old change.new result }
     ensures reads { FindsIn S.Store change.old change.new result (λ now found. found ≡ downloadable now device.now module_number filename.now) }
+    ensures fails { FailsAtListsIn S.Store change.old change.new result }
     ensures agrees { AgreesIn S.Store change.old change.new result (λ t found. IfOk found (IsOfName t module_number filename.now)) }
 {
     if !knows_device(change, device)? {
@@ -210,6 +221,7 @@ fn read_offered_modules<S: Alter>(
     ensures stays { StaysIn S.Store change.old change.new result }
     ensures keeps { KeepsTables S.Store change.old change.new result }
     ensures reads { FindsIn S.Store change.old change.new result (λ now modules. modules.items ≡ modules_offered now (offer now id.now)) }
+    ensures fails { FailsAtListsIn S.Store change.old change.new result }
 {
     match change.read_offer(id)? {
         Some(offer) => read_installed(alloc, change, offer),
@@ -226,6 +238,7 @@ fn read_installed<S: Alter>(
     ensures stays { StaysIn S.Store change.old change.new result }
     ensures keeps { KeepsTables S.Store change.old change.new result }
     ensures reads { FindsIn S.Store change.old change.new result (λ now modules. modules.items ≡ modules_offered now (Some offer)) }
+    ensures fails { FailsAtListsIn S.Store change.old change.new result }
 {
     if offer.canceling {
         return Ok(Vec::new(alloc));

@@ -4,6 +4,7 @@ ghost use Rattle.std.specs.Prelude.{◌≡◌, true, false};
 ghost use Rattle.rollout_machine.specs.Answers.{is_offer_of, query_reply};
 ghost use Rattle.rollout_machine.specs.Requests.{Poll, ShowCancel};
 ghost use Rattle.rollout_machine.specs.Views.{reply_of};
+ghost use Rattle.desk_reads.specs.AtLists.{FailsAtListsIn};
 ghost use Rattle.desk_store.specs.Changing.{FindsIn, StaysIn};
 
 use desk_reads::knows_device;
@@ -18,6 +19,7 @@ pub fn show_poll<S: Alter>(
 ) -> Result<Reply, Fault>
     ensures stays { StaysIn S.Store change.old change.new result }
     ensures reads { FindsIn S.Store change.old change.new result (λ now reply. reply_of reply ≡ query_reply now (Poll device.now)) }
+    ensures fails { FailsAtListsIn S.Store change.old change.new result }
 {
     if !knows_device(change, device)? {
         return Ok(Reply::Refused(Refusal::Unauthorized));
@@ -34,6 +36,7 @@ pub fn show_cancel<S: Alter>(
 ) -> Result<Reply, Fault>
     ensures stays { StaysIn S.Store change.old change.new result }
     ensures reads { FindsIn S.Store change.old change.new result (λ now reply. reply_of reply ≡ query_reply now (ShowCancel device.now number)) }
+    ensures fails { FailsAtListsIn S.Store change.old change.new result }
 {
     if !knows_device(change, device)? {
         return Ok(Reply::Refused(Refusal::Unauthorized));

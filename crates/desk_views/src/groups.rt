@@ -11,10 +11,12 @@ ghost use Rattle.rollout_machine.specs.StateWords.{size_of_group};
 ghost use Rattle.rollout_machine.specs.Verdicts.{target_of};
 ghost use Rattle.rollout_machine.specs.Views.{listed, shown_target};
 ghost use Rattle.rollout_machine.specs.declared.records.RolloutRecord.{RolloutRecord};
+ghost use Rattle.desk_reads.specs.AtLists.{FailsAtListsIn};
 ghost use Rattle.desk_reads.specs.Rollouts.{IsSeenOf};
-ghost use Rattle.sql_calls.specs.declared.fault.Fault.TheVariants.{Store};
+ghost use Rattle.sql_calls.specs.declared.fault.Fault.TheVariants.{Memory, Store};
 ghost use Rattle.desk_store.specs.Rows.{IfStore};
-ghost use Rattle.desk_views.specs.Groups.{HasUnshown};
+ghost use Rattle.desk_views.specs.Failing.{FailsWith};
+ghost use Rattle.desk_views.specs.Groups.{HasUnshown, IsGroupOf};
 ghost use Rattle.desk_views.specs.Showing.{ShowsIn};
 ghost use Rattle.desk_store.specs.Changing.{FindsIn, StaysIn};
 
@@ -39,6 +41,7 @@ pub fn show_groups<S: Alter>(
 ) -> Result<Reply, Fault>
     ensures stays { StaysIn S.Store change.old change.new result }
     ensures shows { ShowsIn S.Store change.old change.new (ShowGroups number page) result }
+    ensures fails { FailsAtListsIn S.Store change.old change.new result }
 {
     let seen = match read_seen_rollout(change, number)? {
         Some(seen) => seen,
@@ -57,6 +60,7 @@ pub fn show_group<S: Alter>(
 ) -> Result<Reply, Fault>
     ensures stays { StaysIn S.Store change.old change.new result }
     ensures shows { ShowsIn S.Store change.old change.new (ShowGroup number group) result }
+    ensures fails { FailsAtListsIn S.Store change.old change.new result }
 {
     let seen = match read_seen_rollout(change, number)? {
         Some(seen) => seen,
@@ -80,6 +84,7 @@ fn read_shown_group<S: Alter>(
     ensures stays { StaysIn S.Store change.old change.new result }
     ensures reads { FindsIn S.Store change.old change.new result
         (λ now shown. (x : RolloutRecord) → item_numbered now.rollouts number ≡ Some x → IsSeenOf seen.now x → shown ≡ group_shown x group.now) }
+    ensures fails { FailsWith S.Store (IsGroupOf number group.now) change.old change.new result }
 {
     match change.read_rule(number, group.number)? {
         Some(rule) => shown_in(seen, rule, group),
@@ -97,6 +102,7 @@ pub fn show_group_targets<S: Alter>(
 ) -> Result<Reply, Fault>
     ensures stays { StaysIn S.Store change.old change.new result }
     ensures shows { ShowsIn S.Store change.old change.new (ShowGroupTargets number group page) result }
+    ensures fails { FailsAtListsIn S.Store change.old change.new result }
 {
     let found = match change.read_group(number, group)? {
         Some(found) => found,
@@ -130,6 +136,7 @@ fn read_targets<S: Alter>(
     ensures stays { StaysIn S.Store change.old change.new result }
     ensures reads { FindsIn S.Store change.old change.new result
         (λ now content. map shown_target content.items ≡ targets_shown now (targets_of now ids.items)) }
+    ensures fails { FailsAtListsIn S.Store change.old change.new result }
 {
     let mut content = Vec::new(alloc);
     for id in ids {
@@ -147,6 +154,7 @@ fn add_target<S: Alter>(
     ensures stays { StaysIn S.Store change.old change.new result }
     ensures reads { FindsIn S.Store change.old change.new result
         (λ now _. map shown_target content.new.items ≡ map shown_target content.old.items ++ targets_shown now (target_if (target_of now id))) }
+    ensures fails { FailsAtListsIn S.Store change.old change.new result }
 {
     let shown = match read_shown(change, id)? {
         Some(shown) => shown,
@@ -157,7 +165,8 @@ fn add_target<S: Alter>(
 }
 
 fn push(content: &mut Vec<ShownTarget>, shown: ShownTarget) -> Result<(), Fault>
-    ensures { IfOk result (λ _. content.new.items ≡ content.old.items ++ shown ∷ []) }
+    ensures ok { IfOk result (λ _. content.new.items ≡ content.old.items ++ shown ∷ []) }
+    ensures err { IfErr result (λ fault. fault ≡ Memory) }
 {
     match content.push(shown) {
         Ok(()) => Ok(()),

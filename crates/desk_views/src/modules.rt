@@ -1,12 +1,14 @@
 //! Software modules.
 
-ghost use Rattle.std.specs.Prelude.{◌≡◌, length, take, drop, Some};
+ghost use Rattle.std.specs.Prelude.{◌≡◌, ◌≤◌, length, take, drop, Some};
 ghost use Rattle.std.specs.Option.{option_map};
 ghost use Rattle.rollout_machine.specs.Answers.{query_reply};
 ghost use Rattle.rollout_machine.specs.ByteStrings.{item_numbered};
 ghost use Rattle.rollout_machine.specs.Objects.{module_shown, modules_shown};
 ghost use Rattle.rollout_machine.specs.Requests.{ShowModule, ShowModules};
 ghost use Rattle.rollout_machine.specs.Views.{reply_of};
+ghost use Rattle.desk_reads.specs.AtLists.{FailsAtListsIn};
+ghost use Rattle.desk_views.specs.Failing.{FailsWith};
 ghost use Rattle.desk_store.specs.Changing.{FindsIn, StaysIn};
 
 use crate::pages::count_on;
@@ -22,6 +24,7 @@ pub fn show_module<S: Alter>(
 ) -> Result<Reply, Fault>
     ensures stays { StaysIn S.Store change.old change.new result }
     ensures reads { FindsIn S.Store change.old change.new result (λ now reply. reply_of reply ≡ query_reply now (ShowModule number)) }
+    ensures fails { FailsAtListsIn S.Store change.old change.new result }
 {
     match read_shown(change, number)? {
         Some(shown) => Ok(Reply::Module(shown)),
@@ -37,6 +40,7 @@ pub fn show_modules<S: Alter>(
 ) -> Result<Reply, Fault>
     ensures stays { StaysIn S.Store change.old change.new result }
     ensures reads { FindsIn S.Store change.old change.new result (λ now reply. reply_of reply ≡ query_reply now (ShowModules page)) }
+    ensures fails { FailsAtListsIn S.Store change.old change.new result }
 {
     let total = change.read_last_module()?;
     let content = read_page(alloc, change, page, total)?;
@@ -53,6 +57,7 @@ fn read_page<S: Alter>(
     ensures stays { StaysIn S.Store change.old change.new result }
     ensures reads { FindsIn S.Store change.old change.new result
         (λ now content. total ≡ length now.modules → content.items ≡ take page.limit (drop page.offset (modules_shown now))) }
+    ensures fails { FailsWith S.Store (λ now. total ≡ length now.modules) change.old change.new result }
 {
     let mut content = Vec::new(alloc);
     for place in 0..count_on(page, total) {
@@ -69,6 +74,7 @@ fn read_page<S: Alter>(
 fn read_entry<S: Alter>(change: &mut OpenChange<'_, S>, number: u32) -> Result<Module, Fault>
     ensures stays { StaysIn S.Store change.old change.new result }
     ensures reads { FindsIn S.Store change.old change.new result (λ now shown. item_numbered (modules_shown now) number ≡ Some shown) }
+    ensures fails { FailsWith S.Store (λ now. (1 ≤ number) × (number ≤ length now.modules)) change.old change.new result }
 {
     let Some(number) = ModuleNo::new(number) else {
         return Err(Fault::Store);
@@ -87,6 +93,7 @@ fn read_shown<S: Alter>(
     ensures stays { StaysIn S.Store change.old change.new result }
     ensures reads { FindsIn S.Store change.old change.new result
         (λ now found. found ≡ option_map (module_shown now number) (item_numbered now.modules number)) }
+    ensures fails { FailsAtListsIn S.Store change.old change.new result }
 {
     let label = match change.read_module(number)? {
         Some(label) => label,

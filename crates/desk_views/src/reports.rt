@@ -6,6 +6,7 @@ ghost use Rattle.rollout_machine.specs.Objects.{report_of};
 ghost use Rattle.rollout_machine.specs.Requests.{ShowReport};
 ghost use Rattle.rollout_machine.specs.Views.{report};
 ghost use Rattle.rollout_machine.specs.declared.records.RolloutRecord.{RolloutRecord};
+ghost use Rattle.desk_reads.specs.AtLists.{FailsAtListsIn};
 ghost use Rattle.desk_reads.specs.Rollouts.{IsSeenOf};
 ghost use Rattle.desk_store.specs.Rows.{IfStore};
 ghost use Rattle.desk_views.specs.Groups.{HasUnshown};
@@ -28,6 +29,7 @@ pub fn show_report<S: Alter>(
 ) -> Result<Reply, Fault>
     ensures stays { StaysIn S.Store change.old change.new result }
     ensures shows { ShowsIn S.Store change.old change.new (ShowReport number) result }
+    ensures fails { FailsAtListsIn S.Store change.old change.new result }
 {
     let seen = match read_seen_rollout(change, number)? {
         Some(seen) => seen,

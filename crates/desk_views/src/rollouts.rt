@@ -1,12 +1,13 @@
 //! Rollouts with their groups.
 
-ghost use Rattle.std.specs.Prelude.{◌≡◌, Some, drop, length, take};
+ghost use Rattle.std.specs.Prelude.{◌≡◌, ◌≤◌, Some, drop, length, take};
 ghost use Rattle.rollout_machine.specs.ByteStrings.{item_numbered};
 ghost use Rattle.rollout_machine.specs.Objects.{rollout_shown, rollouts_shown};
 ghost use Rattle.rollout_machine.specs.Requests.{ShowRollout, ShowRollouts};
 ghost use Rattle.rollout_machine.specs.declared.records.RolloutRecord.{RolloutRecord};
 ghost use Rattle.desk_reads.specs.Rollouts.{IsSeenOf};
-ghost use Rattle.desk_reads.specs.AtLists.{FindsAtListsIn};
+ghost use Rattle.desk_reads.specs.AtLists.{FailsAtListsIn, FindsAtListsIn};
+ghost use Rattle.desk_views.specs.Failing.{FailsWith};
 ghost use Rattle.desk_views.specs.Showing.{ShowsIn};
 ghost use Rattle.desk_store.specs.Changing.{StaysIn};
 
@@ -42,6 +43,7 @@ pub fn show_rollout<S: Alter>(
 ) -> Result<Reply, Fault>
     ensures stays { StaysIn S.Store change.old change.new result }
     ensures shows { ShowsIn S.Store change.old change.new (ShowRollout number) result }
+    ensures fails { FailsAtListsIn S.Store change.old change.new result }
 {
     match read_seen_rollout(change, number)? {
         Some(seen) => Ok(Reply::Rollout(shown(seen))),
@@ -57,6 +59,7 @@ pub fn show_rollouts<S: Alter>(
 ) -> Result<Reply, Fault>
     ensures stays { StaysIn S.Store change.old change.new result }
     ensures shows { ShowsIn S.Store change.old change.new (ShowRollouts page) result }
+    ensures fails { FailsAtListsIn S.Store change.old change.new result }
 {
     let total = change.read_last_rollout()?;
     let content = read_page(alloc, change, page, total)?;
@@ -73,6 +76,7 @@ fn read_page<S: Alter>(
     ensures stays { StaysIn S.Store change.old change.new result }
     ensures reads { FindsAtListsIn S.Store change.old change.new result
         (λ now content. total ≡ length now.rollouts → content.items ≡ take page.limit (drop page.offset (rollouts_shown now.rollouts))) }
+    ensures fails { FailsWith S.Store (λ now. total ≡ length now.rollouts) change.old change.new result }
 {
     let mut content = Vec::new(alloc);
     for place in 0..count_on(page, total) {
@@ -89,6 +93,7 @@ fn read_page<S: Alter>(
 fn read_entry<S: Alter>(change: &mut OpenChange<'_, S>, number: u32) -> Result<Rollout, Fault>
     ensures stays { StaysIn S.Store change.old change.new result }
     ensures reads { FindsAtListsIn S.Store change.old change.new result (λ now entry. item_numbered (rollouts_shown now.rollouts) number ≡ Some entry) }
+    ensures fails { FailsWith S.Store (λ now. (1 ≤ number) × (number ≤ length now.rollouts)) change.old change.new result }
 {
     let Some(number) = RolloutNo::new(number) else {
         return Err(Fault::Store);

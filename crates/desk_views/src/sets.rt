@@ -1,6 +1,6 @@
 //! Distribution sets.
 
-ghost use Rattle.std.specs.Prelude.{◌≡◌, length, take, drop, false, Some, MatchResult};
+ghost use Rattle.std.specs.Prelude.{◌≡◌, ◌≤◌, length, take, drop, false, Some, MatchResult};
 ghost use Rattle.rollout_machine.specs.Answers.{query_reply};
 ghost use Rattle.rollout_machine.specs.ByteStrings.{item_numbered};
 ghost use Rattle.rollout_machine.specs.Objects.{numbered, set_shown};
@@ -8,6 +8,8 @@ ghost use Rattle.rollout_machine.specs.Requests.{ShowSet, ShowSets};
 ghost use Rattle.rollout_machine.specs.Views.{reply_of};
 ghost use Rattle.rollout_model.specs.Rules.{is_module_list};
 ghost use Rattle.sql_calls.specs.declared.fault.Fault.TheVariants.{Store};
+ghost use Rattle.desk_reads.specs.AtLists.{FailsAtListsIn};
+ghost use Rattle.desk_views.specs.Failing.{FailsWith};
 ghost use Rattle.desk_store.specs.Changing.{FindsIn, StaysIn};
 
 use crate::pages::count_on;
@@ -22,6 +24,7 @@ use std::alloc::Global;
 pub fn show_set<S: Alter>(change: &mut OpenChange<'_, S>, number: SetNo) -> Result<Reply, Fault>
     ensures stays { StaysIn S.Store change.old change.new result }
     ensures reads { FindsIn S.Store change.old change.new result (λ now reply. reply_of reply ≡ query_reply now (ShowSet number)) }
+    ensures fails { FailsAtListsIn S.Store change.old change.new result }
 {
     match read_label(change, number)? {
         Some(label) => Ok(Reply::Set(DistributionSet { number, label })),
@@ -37,6 +40,7 @@ pub fn show_sets<S: Alter>(
 ) -> Result<Reply, Fault>
     ensures stays { StaysIn S.Store change.old change.new result }
     ensures reads { FindsIn S.Store change.old change.new result (λ now reply. reply_of reply ≡ query_reply now (ShowSets page)) }
+    ensures fails { FailsAtListsIn S.Store change.old change.new result }
 {
     let total = change.read_last_set()?;
     let content = read_page(alloc, change, page, total)?;
@@ -53,6 +57,7 @@ fn read_page<S: Alter>(
     ensures stays { StaysIn S.Store change.old change.new result }
     ensures reads { FindsIn S.Store change.old change.new result
         (λ now content. total ≡ length now.sets → content.items ≡ take page.limit (drop page.offset (numbered set_shown 1 now.sets))) }
+    ensures fails { FailsWith S.Store (λ now. total ≡ length now.sets) change.old change.new result }
 {
     let mut content = Vec::new(alloc);
     for place in 0..count_on(page, total) {
@@ -72,6 +77,7 @@ fn read_entry<S: Alter>(
 ) -> Result<DistributionSet, Fault>
     ensures stays { StaysIn S.Store change.old change.new result }
     ensures reads { FindsIn S.Store change.old change.new result (λ now shown. item_numbered (numbered set_shown 1 now.sets) number ≡ Some shown) }
+    ensures fails { FailsWith S.Store (λ now. (1 ≤ number) × (number ≤ length now.sets)) change.old change.new result }
 {
     let Some(number) = SetNo::new(number) else {
         return Err(Fault::Store);
@@ -89,6 +95,7 @@ fn read_label<S: Alter>(
 ) -> Result<Option<SetLabel>, Fault>
     ensures stays { StaysIn S.Store change.old change.new result }
     ensures reads { FindsIn S.Store change.old change.new result (λ now found. found ≡ item_numbered now.sets number) }
+    ensures fails { FailsAtListsIn S.Store change.old change.new result }
 {
     let called = match change.read_set(number)? {
         Some(called) => called,

@@ -1,6 +1,6 @@
 //! Pages of targets: of all, or of those that match a filter.
 
-ghost use Rattle.std.specs.Prelude.{◌≡◌, ◌+◌, ◌++◌, [], ◌∷◌, List, map, take, IfOk, Some, None};
+ghost use Rattle.std.specs.Prelude.{◌≡◌, ◌≤◌, ◌<◌, ◌^◌, ◌+◌, ◌++◌, [], ◌∷◌, List, length, map, take, IfErr, IfOk, Some, None};
 ghost use Rattle.rollout_machine.specs.Answers.{query_reply};
 ghost use Rattle.rollout_machine.specs.Filters.{seen};
 ghost use Rattle.rollout_machine.specs.Objects.{page_of};
@@ -9,6 +9,9 @@ ghost use Rattle.rollout_machine.specs.Views.{listed, reply_of};
 ghost use Rattle.rollout_model.specs.declared.shown_target.ShownTarget.{ShownTarget};
 ghost use Rattle.target_filter.specs.Grammar.{Tree};
 ghost use Rattle.target_filter.specs.Profile.{filter_of};
+ghost use Rattle.sql_calls.specs.declared.fault.Fault.TheVariants.{Memory};
+ghost use Rattle.desk_reads.specs.AtLists.{FailsAtListsIn};
+ghost use Rattle.desk_views.specs.Failing.{FailsWith};
 ghost use Rattle.desk_views.specs.Targets.{matching_shown, worded};
 ghost use Rattle.desk_reads.specs.Targets.{target_listed};
 ghost use Rattle.desk_store.specs.Changing.{FindsIn, StaysIn};
@@ -36,6 +39,7 @@ pub fn show_targets<S: Alter>(
 ) -> Result<Reply, Fault>
     ensures stays { StaysIn S.Store change.old change.new result }
     ensures reads { FindsIn S.Store change.old change.new result (λ now reply. reply_of reply ≡ query_reply now (ShowTargets filter.now page)) }
+    ensures fails { FailsAtListsIn S.Store change.old change.new result }
 {
     match filter {
         Some(text) => show_matching(alloc, change, text, page),
@@ -51,6 +55,7 @@ fn show_all<S: Alter>(
 ) -> Result<Reply, Fault>
     ensures stays { StaysIn S.Store change.old change.new result }
     ensures reads { FindsIn S.Store change.old change.new result (λ now reply. reply_of reply ≡ query_reply now (ShowTargets None page)) }
+    ensures fails { FailsAtListsIn S.Store change.old change.new result }
 {
     let total = change.read_target_count()?;
     let entries = change.read_targets(page)?;
@@ -67,6 +72,7 @@ fn read_entries<S: Alter>(
     ensures stays { StaysIn S.Store change.old change.new result }
     ensures reads { FindsIn S.Store change.old change.new result
         (λ now content. content.items ≡ map (worded now) (map (target_listed now) entries.items)) }
+    ensures fails { FailsAtListsIn S.Store change.old change.new result }
 {
     let mut content = Vec::new(alloc);
     for entry in entries {
@@ -89,6 +95,7 @@ fn show_matching<S: Alter>(
 ) -> Result<Reply, Fault>
     ensures stays { StaysIn S.Store change.old change.new result }
     ensures reads { FindsIn S.Store change.old change.new result (λ now reply. reply_of reply ≡ query_reply now (ShowTargets (Some text.now) page)) }
+    ensures fails { FailsAtListsIn S.Store change.old change.new result }
 {
     let words = text.as_str();
     let filter = match Filter::read(alloc, words) {
@@ -111,6 +118,7 @@ fn read_matching<S: Alter>(
     ensures stays { StaysIn S.Store change.old change.new result }
     ensures reads { FindsIn S.Store change.old change.new result
         (λ now shown. (f : Tree) → filter_of filter.now ≡ Some f → listed shown ≡ page_of page (matching_shown now f (map seen now.targets))) }
+    ensures fails { FailsAtListsIn S.Store change.old change.new result }
 {
     let count = change.read_target_count()?;
     let mut shown = PageOf {
@@ -138,6 +146,7 @@ fn add_chunk<S: Alter>(
     ensures reads { FindsIn S.Store change.old change.new result
         (λ now _. (f : Tree) → filter_of filter.now ≡ Some f → listed shown.old ≡ page_of page (matching_shown now f (map seen (take offset now.targets)))
         → listed shown.new ≡ page_of page (matching_shown now f (map seen (take (offset + 10000) now.targets)))) }
+    ensures fails { FailsWith S.Store (λ now. shown.old.total + 10000 < 2 ^ 32) change.old change.new result }
 {
     let entries = change.read_targets(Page {
         offset,
@@ -159,6 +168,7 @@ fn add_matching<S: Alter>(
     ensures reads { FindsIn S.Store change.old change.new result
         (λ now _. (f : Tree) → filter_of filter.now ≡ Some f → (all : List ShownTarget) → listed shown.old ≡ page_of page all
         → listed shown.new ≡ page_of page (all ++ matching_shown now f (map (target_listed now) entries.items))) }
+    ensures fails { FailsWith S.Store (λ now. shown.old.total + length entries.items < 2 ^ 32) change.old change.new result }
 {
     for entry in entries {
         add_if_match(change, filter, page, entry, shown)?;
@@ -178,6 +188,8 @@ fn add_if_match<S: Alter>(
     ensures reads { FindsIn S.Store change.old change.new result
         (λ now _. (f : Tree) → filter_of filter.now ≡ Some f → (all : List ShownTarget) → listed shown.old ≡ page_of page all
         → listed shown.new ≡ page_of page (all ++ matching_shown now f (target_listed now entry ∷ []))) }
+    ensures fails { FailsWith S.Store (λ now. shown.old.total + 1 < 2 ^ 32) change.old change.new result }
+    ensures counts { IfOk result (λ _. shown.new.total ≤ shown.old.total + 1) }
 {
     let target = read_listed(change, entry)?;
     let matches = filter.matches(&target);
@@ -198,6 +210,8 @@ fn add<S: Alter>(
     ensures stays { StaysIn S.Store change.old change.new result }
     ensures reads { FindsIn S.Store change.old change.new result
         (λ now _. (all : List ShownTarget) → listed shown.old ≡ page_of page all → listed shown.new ≡ page_of page (all ++ worded now target ∷ [])) }
+    ensures fails { FailsWith S.Store (λ now. shown.old.total + 1 < 2 ^ 32) change.old change.new result }
+    ensures counts { IfOk result (λ _. shown.new.total ≤ shown.old.total + 1) }
 {
     let place = shown.total;
     let Some(total) = place.checked_add(1) else {
@@ -212,7 +226,8 @@ fn add<S: Alter>(
 }
 
 fn push(content: &mut Vec<ShownTarget>, entry: ShownTarget) -> Result<(), Fault>
-    ensures { IfOk result (λ _. content.new.items ≡ content.old.items ++ entry ∷ []) }
+    ensures ok { IfOk result (λ _. content.new.items ≡ content.old.items ++ entry ∷ []) }
+    ensures err { IfErr result (λ fault. fault ≡ Memory) }
 {
     match content.push(entry) {
         Ok(()) => Ok(()),

@@ -6,6 +6,7 @@ ghost use Rattle.rollout_machine.specs.StateWords.{target_word};
 ghost use Rattle.campaign_core.specs.StatusWords.{target_word_from};
 ghost use Rattle.desk_records.specs.Actions.{tally_of};
 ghost use Rattle.desk_records.specs.RolloutRow.{actions_for};
+ghost use Rattle.desk_reads.specs.AtLists.{FailsAtListsIn};
 ghost use Rattle.desk_views.specs.TargetWords.{is_begun, last_ending};
 ghost use Rattle.desk_store.specs.Changing.{FindsIn, StaysIn};
 
@@ -24,6 +25,7 @@ pub(crate) fn read_target_word<S: Alter>(
 ) -> Result<TargetWord, Fault>
     ensures stays { StaysIn S.Store change.old change.new result }
     ensures reads { FindsIn S.Store change.old change.new result (λ now word. word ≡ target_word now id.now) }
+    ensures fails { FailsAtListsIn S.Store change.old change.new result }
 {
     let status = read_status(change, id)?;
     Ok(target_word(&status))
@@ -36,6 +38,7 @@ fn read_status<S: Alter>(
 ) -> Result<TargetStatus, Fault>
     ensures stays { StaysIn S.Store change.old change.new result }
     ensures reads { FindsIn S.Store change.old change.new result (λ now status. target_word_from status ≡ target_word now id.now) }
+    ensures fails { FailsAtListsIn S.Store change.old change.new result }
 {
     if change.read_offer(id)?.is_some() {
         return Ok(TargetStatus {
@@ -60,6 +63,7 @@ fn read_actions<S: Alter>(
     ensures stays { StaysIn S.Store change.old change.new result }
     ensures reads { FindsIn S.Store change.old change.new result
         (λ now actions. actions.items ≡ actions_for now.rollouts id.now 1 (zip now.actions (map tally_of now.actions))) }
+    ensures fails { FailsAtListsIn S.Store change.old change.new result }
 {
     let limit = ROLLOUT_LIMIT + 1;
     let actions = change.read_target_actions(id, Page { offset: 0, limit })?;
@@ -76,6 +80,7 @@ fn read_last_ending<S: Alter>(
 ) -> Result<Option<Outcome>, Fault>
     ensures stays { StaysIn S.Store change.old change.new result }
     ensures reads { FindsIn S.Store change.old change.new result (λ now last. last ≡ last_ending now None actions.items) }
+    ensures fails { FailsAtListsIn S.Store change.old change.new result }
 {
     let mut left = actions;
     while let Some(listed) = left.pop() {
@@ -93,6 +98,7 @@ fn read_is_begun<S: Alter>(
 ) -> Result<bool, Fault>
     ensures stays { StaysIn S.Store change.old change.new result }
     ensures reads { FindsIn S.Store change.old change.new result (λ now begun. begun ≡ is_begun now action.now) }
+    ensures fails { FailsAtListsIn S.Store change.old change.new result }
 {
     match change.read_holding_group(action.rollout, action.position)? {
         Some(group) => Ok(group.started),

@@ -7,6 +7,7 @@ ghost use Rattle.rollout_machine.specs.Objects.{target_shown};
 ghost use Rattle.rollout_machine.specs.Requests.{ShowTarget};
 ghost use Rattle.rollout_machine.specs.Verdicts.{target_of};
 ghost use Rattle.rollout_machine.specs.Views.{reply_of, shown_target};
+ghost use Rattle.desk_reads.specs.AtLists.{FailsAtListsIn};
 ghost use Rattle.desk_views.specs.Targets.{worded};
 ghost use Rattle.desk_store.specs.Changing.{FindsIn, StaysIn};
 
@@ -23,6 +24,7 @@ pub fn show_target<S: Alter>(
 ) -> Result<Reply, Fault>
     ensures stays { StaysIn S.Store change.old change.new result }
     ensures reads { FindsIn S.Store change.old change.new result (λ now reply. reply_of reply ≡ query_reply now (ShowTarget id)) }
+    ensures fails { FailsAtListsIn S.Store change.old change.new result }
 {
     match read_shown(change, id)? {
         Some(shown) => Ok(Reply::Target(shown)),
@@ -38,6 +40,7 @@ pub(crate) fn read_shown<S: Alter>(
     ensures stays { StaysIn S.Store change.old change.new result }
     ensures reads { FindsIn S.Store change.old change.new result
         (λ now found. option_map shown_target found ≡ option_map (target_shown now) (target_of now id)) }
+    ensures fails { FailsAtListsIn S.Store change.old change.new result }
 {
     let stored = match change.read_target(&id)? {
         Some(stored) => stored,
@@ -64,6 +67,7 @@ pub(crate) fn with_word<S: Alter>(
 ) -> Result<ShownTarget, Fault>
     ensures stays { StaysIn S.Store change.old change.new result }
     ensures reads { FindsIn S.Store change.old change.new result (λ now shown. shown ≡ worded now target) }
+    ensures fails { FailsAtListsIn S.Store change.old change.new result }
 {
     let word = read_target_word(change, &target.id)?;
     Ok(shown_as(target, word))

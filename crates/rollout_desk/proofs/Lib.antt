@@ -10,4 +10,5 @@ pub mod PieceLemmas
 pub mod PromiseLemmas
 pub mod DownloadLemmas
 mod VerifyLemmas
+mod CauseLemmas
 mod SizeLemmas

@@ -31,11 +31,11 @@ none_found a c d refusal result ends = elim ends.ends [
 -- ---- why a store failed
 
 -- more calls failed after an earlier count, and before a later one
-failed_within : {a b c d : ℕ} → a ≤ b → HasFailed b c → c ≤ d → HasFailed a d
+pub failed_within : {a b c d : ℕ} → a ≤ b → HasFailed b c → c ≤ d → HasFailed a d
 failed_within le (inl fails) grows = inl (omega (arith, le, fails, grows))
 failed_within le (inr full) grows = inr (omega (arith, full, grows))
 
-stored : (fault : Fault) → refusal_of_fault fault ≡ StoreFailed → fault ≡ Store
+pub stored : (fault : Fault) → refusal_of_fault fault ≡ StoreFailed → fault ≡ Store
 stored Memory never = absurd cc
 stored Store is = refl
 

@@ -10,3 +10,4 @@ pub mod Downloads
 pub mod Working
 pub mod Verifying
 pub mod Sizes
+pub mod Causes

@@ -1,15 +1,20 @@
 //! One request as one change of the store.
 
-ghost use Rattle.std.specs.Prelude.{◌≡◌, true};
+ghost use Rattle.std.specs.Prelude.{◌≡◌, ◌≤◌, ◌⊎◌, true};
 ghost use Rattle.sqlite.specs.Held.{state};
 ghost use Rattle.desk_records.specs.Holds.{HoldsRecords};
+ghost use Rattle.rollout_machine.specs.Replies.{Refused};
 ghost use Rattle.rollout_machine.specs.Requests.{Do, Ask};
 ghost use Rattle.rollout_machine.specs.StoreFailures.{is_failed_store};
 ghost use Rattle.rollout_machine.specs.Views.{command_of, query_of, reply_of};
+ghost use Rattle.rollout_model.specs.declared.refusal.Refusal.TheVariants.{StoreFailed};
+ghost use Rattle.rollout_desk.specs.Causes.{FailsByCalls};
 ghost use Rattle.rollout_desk.specs.Sizes.{AnswersIn, KeepsSizes};
 ghost use Rattle.rollout_desk.specs.Working.{TellsFailures};
 ghost use Rattle.rollout_machine.specs.Bounds.{is_feedback};
 ghost use Rattle.rollout_desk.specs.Changes.{Handles, EndsByCommit, EndsByRollback};
+ghost use Rattle.desk_reads.specs.AtLists.{FailsAtListsIn};
+ghost use Rattle.desk_store.specs.Blaming.{HasFailed};
 ghost use Rattle.desk_store.specs.Counting.{Adds};
 ghost use Rattle.desk_store.specs.Changing.{StaysIn};
 
@@ -35,6 +40,7 @@ fn answer<S: Alter>(
 ) -> Result<Reply, Fault>
     ensures stays { StaysIn S.Store change.old change.new result }
     ensures answers { AnswersIn S.Store change.old change.new (query_of query.now) result }
+    ensures fails { FailsAtListsIn S.Store change.old change.new result }
 {
     match query {
         Query::Modules(page) => show_modules(alloc, change, *page),
@@ -77,6 +83,8 @@ fn commit<S: Alter>(change: OpenChange<'_, S>, reply: Reply) -> Reply
         (reply_of result) }
     ensures work { change.exit.0.now.calls.work ≡ change.entry.store.now.calls.work }
     ensures tells { TellsFailures (is_failed_store (reply_of result)) change.entry.store.now.calls change.exit.0.now.calls }
+    ensures counts { change.entry.store.now.calls.failures ≤ change.exit.0.now.calls.failures }
+    ensures fails { (reply_of result ≡ reply_of reply) ⊎ HasFailed change.entry.store.now.calls.failures change.exit.0.now.calls.failures }
 {
     match change.commit() {
         Ok(()) => reply,
@@ -90,6 +98,8 @@ fn give_up<S: Alter>(change: OpenChange<'_, S>, reply: Reply) -> Reply
         (reply_of result) }
     ensures work { change.exit.0.now.calls.work ≡ change.entry.store.now.calls.work }
     ensures tells { TellsFailures (is_failed_store (reply_of result)) change.entry.store.now.calls change.exit.0.now.calls }
+    ensures counts { change.entry.store.now.calls.failures ≤ change.exit.0.now.calls.failures }
+    ensures fails { (reply_of result ≡ reply_of reply) ⊎ HasFailed change.entry.store.now.calls.failures change.exit.0.now.calls.failures }
 {
     match change.give_up() {
         Ok(()) => reply,
@@ -107,6 +117,7 @@ pub(crate) fn run_command<S: Alter>(
         (reply_of result) }
     ensures work { is_feedback (command_of command.now) ≡ true → Adds 14 24 store.old.calls.work store.new.calls.work }
     ensures tells { TellsFailures (is_failed_store (reply_of result)) store.old.calls store.new.calls }
+    ensures fails { reply_of result ≡ Refused StoreFailed → FailsByCalls S.Store store.old.calls store.new.calls }
 {
     command_is_well_formed(command);
     let mut change = match store.begin() {
@@ -126,6 +137,7 @@ pub(crate) fn run_query<S: Alter>(alloc: Global, store: &mut DeskStore<S>, query
         (reply_of result) }
     ensures sized { KeepsSizes (state S.Store store.old.calls.conn) (state S.Store store.new.calls.conn) (query_of query.now) (reply_of result) }
     ensures tells { TellsFailures (is_failed_store (reply_of result)) store.old.calls store.new.calls }
+    ensures fails { reply_of result ≡ Refused StoreFailed → FailsByCalls S.Store store.old.calls store.new.calls }
 {
     let mut change = match store.begin() {
         Ok(change) => change,

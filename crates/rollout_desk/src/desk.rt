@@ -9,6 +9,7 @@ ghost use Rattle.rollout_machine.specs.Requests.{Asks, Do, Ask};
 ghost use Rattle.rollout_machine.specs.Standing.{Applies, StaysStopped};
 ghost use Rattle.rollout_machine.specs.StoreFailures.{is_failed_store};
 ghost use Rattle.rollout_machine.specs.Views.{command_of, query_of, request_of, reply_of};
+ghost use Rattle.rollout_desk.specs.Causes.{FailsByCall};
 ghost use Rattle.rollout_desk.specs.DeskStates.{desk_state};
 ghost use Rattle.rollout_desk.specs.Promises.{IsPromised, KeepsToOffers, ShowsWhole};
 ghost use Rattle.rollout_desk.specs.Sizes.{KeepsSizes};
@@ -64,6 +65,7 @@ impl<S: Alter> Desk<S> {
         ensures bound { KeepsBound (command_of command.now) self.new.work.statements self.new.work.rows }
         ensures counted { self.new.work ≡ since self.new.store.calls.work self.old.store.calls.work }
         ensures tells { TellsFailures (is_failed_store (reply_of result)) self.old.store.calls self.new.store.calls }
+        ensures fails { reply_of result ≡ Refused StoreFailed → FailsByCall S.Store self.old self.new }
     {
         self.work = NO_WORK;
         if self.stopped {
@@ -88,6 +90,7 @@ impl<S: Alter> Desk<S> {
             × StaysStopped (desk_state S.Store self.old) (desk_state S.Store self.new) }
         ensures untouched { (desk_state S.Store self.old).is_stopped ≡ true → self.new.store ≡ self.old.store }
         ensures tells { TellsFailures (is_failed_store (reply_of result)) self.old.store.calls self.new.store.calls }
+        ensures fails { reply_of result ≡ Refused StoreFailed → FailsByCall S.Store self.old self.new }
         ensures work { self.new.work ≡ self.old.work }
     {
         if self.stopped {
@@ -110,6 +113,7 @@ impl<S: Alter> Desk<S> {
         ensures untouched { (desk_state S.Store self.old).is_stopped ≡ true → self.new.store ≡ self.old.store }
         ensures bound { (c : _) → request_of request.now ≡ Do c → KeepsBound c self.new.work.statements self.new.work.rows }
         ensures tells { TellsFailures (is_failed_store (reply_of result)) self.old.store.calls self.new.store.calls }
+        ensures fails { reply_of result ≡ Refused StoreFailed → FailsByCall S.Store self.old self.new }
     {
         match request {
             Request::Do(command) => self.apply(command),

@@ -1,30 +1,21 @@
 -- What the usual statements do to a table that has a text or composite key, in contents: rows less their rowids, in any order.
-use Rattle.std.proofs.Common.{get_or, ◌≡◌, ◌⊎◌, inl, inr, ◌≤◌, ℕ, pos, Bool, true, false, not, cond, List, [], ◌∷◌, ◌++◌, map, filter, drop, length, slice_get, Option, Some, None, refl, sym, ap, ap₂, ◌∙◌, subst, arith, IsPermutation}
-use Rattle.sql_calls.proofs.Common.{is_eq, length-map, IsPermutation-sym, IsPermutation-trans, IsPermutation-map, length_permutation, Value, Null, Int, value_cmp, Trees, rowid, put_row, without_rowid, Table, Schema, Enforced, agree, clashes, are_present, conflicts, AreConflicts, Has, cast, cast_all, cast_row, next_rowid, with_rowid, ids_of, agree_back, agree_chain, Chosen, Given, Term, col, IsAnswer, output_cmp, page, Output, overlay, output_cmp_total, Database, shown, one_permutation, sort_by, all-slice_get, map-map, plain, IsSound, all_from, has_got, IsHeldBy, HaveKeysApart, AreWhole, Key, Program, Integer, id_in}
+use Rattle.std.proofs.Common.{get_or, ◌≡◌, ◌⊎◌, inl, inr, ◌≤◌, ℕ, pos, Bool, true, false, not, cond, List, [], ◌∷◌, map, filter, length, slice_get, Some, refl, sym, ap, ◌∙◌, subst, arith, IsPermutation}
+use Rattle.sql_calls.proofs.Common.{is_eq, length-map, IsPermutation-trans, IsPermutation-map, length_permutation, Null, Int, Trees, rowid, put_row, without_rowid, Table, Schema, agree, clashes, are_present, Has, cast_all, next_rowid, ids_of, agree_back, agree_chain, Chosen, Given, Term, col, IsAnswer, output_cmp, page, Output, overlay, output_cmp_total, Database, one_permutation, sort_by, all-slice_get, map-map, plain, IsSound, all_from, has_got, IsHeldBy, HaveKeysApart, AreWhole, Key, id_in}
 use Rattle.sqlite_value.specs.Order.{Row}
 use Rattle.sqlite_schema.specs.declared.schema.Constraint.TheVariants.{NotNull}
-use Rattle.sqlite_rules.specs.Edit.{edit_of, edited, Applies}
+use Rattle.sqlite_rules.specs.Edit.{edit_of, edited}
 use Rattle.sqlite_catalog.proofs.AlterLemmas.{keys_are_unique}
-use Rattle.sql_calls.proofs.KeyedRows.{IsBlind, on_content, IsKey, changed, held_added, held_seen, held_dropped, held_unchanged, held_changed, one_at_most, no_ties, sorted_of, next_is, found_id}
+use Rattle.sql_calls.proofs.KeyedRows.{IsBlind, on_content, IsKey, changed, held_added, held_seen, held_dropped, held_unchanged, held_changed, one_at_most, no_ties, sorted_of}
 use Rattle.sql_calls.proofs.NumberedRows.{cast_int, cast_null}
 use Rattle.sql_calls.proofs.Selects.{simple, passes, shown_of, simple_rows, by, shown_in, ordered_rows}
 use Rattle.sql_calls.proofs.Inserts.{Inserted, given_rows}
 use Rattle.sql_calls.proofs.Updates.{Updated, Deleted}
-use Rattle.sql_calls.proofs.Upserts.{Upserted, Puts, Resolved}
 
 short : {X : Type 0} (xs ys : List X) → IsPermutation xs ys → length xs ≤ 1 → ys ≡ xs
 short [] [] same low = refl
 short [] (y ∷ ys) same low = absurd (omega (arith, length_permutation _ _ same))
 short (x ∷ []) ys same low = one_permutation x ys same
 short (x ∷ y ∷ xs) ys same low = absurd (omega (arith, low))
-
-kept_all : {X : Type 0} (q : X → Bool) (xs : List X) → map (λ x. cond (q x) x x) xs ≡ xs
-kept_all q [] = refl
-kept_all q (x ∷ xs) = ap₂ ◌∷◌ (elim (q x) as (λ b. cond b x x ≡ x) [ true ↦ refl | false ↦ refl ]) (kept_all q xs)
-
-map_id : {X : Type 0} (xs : List X) → map (λ x. x) xs ≡ xs
-map_id [] = refl
-map_id (x ∷ xs) = ap (λ l. x ∷ l) (map_id xs)
 
 pub none_passes : (p : Row → Bool) (rows : List Row) → ((r : Row) → Has rows r → p r ≡ true → ⊥) → filter p rows ≡ []
 none_passes p [] h = refl
@@ -48,9 +39,6 @@ only_one found r (inr none) = absurd none
 module _ (table : Table) (rows : List Row) (f : Row → Row) where
   abbrev pub written : List Row → List Row
   written given = edited (λ t. rows) (edit_of (λ t. rows) table (ids_of given) Given 1 given)
-
-  none_written : written [] ≡ rows
-  none_written = refl
 
   pub one_written : (n : ℕ) (x : Row) → written ((Int (pos n) ∷ Int (pos n) ∷ x) ∷ []) ≡ put_row (Int (pos n) ∷ cast_all table.columns x) (without_rowid (pos n) rows)
   one_written n x = rw (cast_int n) refl
@@ -111,101 +99,6 @@ module _ (schema : Schema) (table : Table) (key : List ℕ) where
               let all : new.trees table.tree ≡ put_row (Int (pos made.0) ∷ values_of made.1) (without_rowid (pos made.0) rows) =
               u.applies.rows ∙ ap (written table rows values_of) (given ∙ ap (λ l. l ∷ []) found) ∙ one_written table rows values_of made.0 (on_content (shown_of values params) made.1) in
               subst (λ l. IsHeldBy l next) (sym all) made.3
-        ]
-
-    -- INSERT .. ON CONFLICT (key) DO ..: the row goes in where no row has the key; else the row that has it changes, or stays
-    module _ (target : Option (List ℕ)) (update : Option Program) (source : Row) (old new : Database) (wanted : List Row) (unique : HaveKeysApart key (old.trees table.tree)) (held : IsHeldBy (old.trees table.tree) wanted) where
-      abbrev fresh : Row
-      fresh = cast_all table.columns source
-
-      abbrev offered : Row
-      offered = Int (next_rowid (old.trees table.tree)) ∷ cast_all table.columns source
-
-      module _ (settled : cast_all table.columns (cast_all table.columns source) ≡ cast_all table.columns source) (meets : (r : Row) → conflicts target schema.indexes table offered r ≡ p r) where
-        offered_is : with_rowid Chosen (old.trees table.tree) (cast_row table (Null ∷ source)) ≡ offered
-        offered_is = rw cast_null refl
-
-        none_met : AreConflicts target schema.indexes table (old.trees table.tree) offered [] → filter p (old.trees table.tree) ≡ []
-        none_met met = none_passes p (old.trees table.tree) (λ r there e. met.complete r there (meets r ∙ e))
-
-        added_here : (next : Trees) → Applies schema Enforced old.trees (edit_of old.trees table [] Given 0 (offered ∷ [])) next → IsHeldBy (next table.tree) (fresh ∷ wanted)
-        added_here next applies =
-            let id = next_is (old.trees table.tree) wanted held in
-            let whole : cast Integer (Int (next_rowid (old.trees table.tree))) ≡ Int (next_rowid (old.trees table.tree)) = ap (λ z. cast Integer (Int z)) id.1 ∙ cast_int id.0 ∙ ap Int (sym id.1) in
-            let put : next table.tree ≡ put_row offered (old.trees table.tree) = applies.rows ∙ ap₂ (λ a b. put_row (a ∷ b) (old.trees table.tree)) whole settled in
-            subst (λ l. IsHeldBy l (fresh ∷ wanted)) (sym put) (held_added (old.trees table.tree) wanted held fresh)
-
-        -- the row that has the key
-        the_one : (there : Row) (more : List Row) → AreConflicts target schema.indexes table (old.trees table.tree) offered (there ∷ more) → (found : Row) × (filter p (old.trees table.tree) ≡ found ∷ []) × (there ≡ rowid found ∷ [])
-        the_one there more met =
-            let it = met.sound there (inl refl) in
-            let here = is_among p (old.trees table.tree) it.0 it.1 (sym (meets it.0) ∙ it.2) in
-            elim (found_once old.trees wanted unique held) [
-              | inl none ↦ absurd (subst (λ l. Has l it.0) none here)
-              | inr one ↦ (one.0, one.1, it.3 ∙ ap (λ r. rowid r ∷ []) (only_one one.0 it.0 (subst (λ l. Has l it.0) one.1 here)))
-            ]
-
-        content_found : (found : Row) → filter p (old.trees table.tree) ≡ found ∷ [] → (x : Row) × (filter (on_content p) wanted ≡ x ∷ [])
-        content_found found one =
-            let f = λ (r : Row). drop 1 r in
-            let first = held_seen p blind f (λ id x. refl) (old.trees table.tree) wanted held in
-            let back = IsPermutation-sym _ _ (subst (IsPermutation (map (on_content f) (filter (on_content p) wanted))) (ap (map f) one) first) in
-            (f found, sym (map_id (filter (on_content p) wanted)) ∙ short (f found ∷ []) _ back (omega arith))
-
-        -- what became of the table: the content is new, or the row with its key became another
-        abbrev pub IsPut : Trees → (Row → Row) → Type 0
-        IsPut next f = ((filter (on_content p) wanted ≡ []) × IsHeldBy (next table.tree) (fresh ∷ wanted))
-            ⊎ ((x : Row) × (filter (on_content p) wanted ≡ x ∷ []) × IsHeldBy (next table.tree) (changed (on_content p) f wanted))
-
-        absent : (next : Trees) (f : Row → Row) → AreConflicts target schema.indexes table (old.trees table.tree) offered [] → Applies schema Enforced old.trees (edit_of old.trees table [] Given 0 (offered ∷ [])) next → IsPut next f
-        absent next f met applies =
-            let none = none_met met in
-            let seen = held_seen p blind (λ (r : Row). drop 1 r) (λ id x. refl) (old.trees table.tree) wanted held in
-            let gone : map (λ x. x) (filter (on_content p) wanted) ≡ [] = short [] _ (IsPermutation-sym _ _ (subst (IsPermutation (map (λ x. x) (filter (on_content p) wanted))) (ap (map (λ (r : Row). drop 1 r)) none) seen)) (omega arith) in
-            inl (sym (map_id (filter (on_content p) wanted)) ∙ gone, added_here next applies)
-
-        module _ (named : List Term) (values : List Term) (values_for : Row → Row)
-            (names : (m i : ℕ) (x : Row) → passes named (params ++ Int (pos m) ∷ shown table offered) (Int (pos i) ∷ x) ≡ is_eq (value_cmp (Int (pos i)) (Int (pos m))))
-            (gives : (m : ℕ) (id : Value) (x : Row) → shown_of values (params ++ Int (pos m) ∷ shown table offered) (id ∷ x) ≡ values_for x) where
-          abbrev setter : Program
-          setter = record { lets = []; body = simple table.tree named (col 1 0 ∷ col 1 0 ∷ values) }
-
-          became : (next : Trees) (there : Row) (more : List Row) → AreConflicts target schema.indexes table (old.trees table.tree) offered (there ∷ more) → Resolved schema table params (Some setter) there offered old.trees next
-              → IsPut next (λ x. cast_all table.columns (values_for x))
-          became next there more met res =
-              let rows = old.trees table.tree in
-              let f = λ (x : Row). cast_all table.columns (values_for x) in
-              let one = the_one there more met in
-              let id = found_id p 1 rows held.order held.rising one.0 one.1 in
-              let is = subst (λ (t : Row). Resolved schema table params (Some setter) t offered old.trees next) (one.2 ∙ ap (λ r. rowid r ∷ []) id.3) res in
-              let given = params ++ Int (pos id.0) ∷ shown table offered in
-              let shows = shown_of (col 1 0 ∷ col 1 0 ∷ values) given in
-              let alone : filter (passes named given) rows ≡ one.0 ∷ [] = id.4 (passes named given) (λ i x. names id.0 i x) in
-              let answer = simple_rows table.tree named (col 1 0 ∷ col 1 0 ∷ values) given old.trees is.0 (is.1.answer Null) in
-              let rows_are : is.0 ≡ shows one.0 ∷ [] = short (shows one.0 ∷ []) is.0 (subst (λ l. IsPermutation (map shows l) is.0) alone answer) (omega arith) in
-              let made = held_changed p blind f rows wanted held one.0 one.1 in
-              let found : shows one.0 ≡ Int (pos made.0) ∷ Int (pos made.0) ∷ values_for made.1 = ap shows made.2 ∙ ap (λ l. Int (pos made.0) ∷ Int (pos made.0) ∷ l) (gives id.0 (Int (pos made.0)) made.1) in
-              let all : next table.tree ≡ put_row (Int (pos made.0) ∷ f made.1) (without_rowid (pos made.0) rows) =
-              is.2.rows ∙ ap (written table rows f) (rows_are ∙ ap (λ l. l ∷ []) found) ∙ one_written table rows f made.0 (values_for made.1) in
-              let content = content_found one.0 one.1 in
-              inr (content.0, content.1, subst (λ l. IsHeldBy l (changed (on_content p) f wanted)) (sym all) made.3)
-
-          -- ON CONFLICT (key) DO UPDATE
-          pub puts_key : update ≡ Some setter → Upserted schema table params target update (Null ∷ source) old new → IsPut new.trees (λ x. cast_all table.columns (values_for x))
-          puts_key is u = elim (subst (λ row. Puts schema table params target (Some setter) row old.trees new.trees) offered_is (subst (λ o. Puts schema table params target o (with_rowid Chosen (old.trees table.tree) (cast_row table (Null ∷ source))) old.trees new.trees) is u.puts)) [
-            | inl it ↦ absent new.trees _ it.0 it.1
-            | inr it ↦ became new.trees it.0 it.1 it.2 it.3
-          ]
-
-        -- ON CONFLICT (key) DO NOTHING
-        pub keeps_key : update ≡ None → Upserted schema table params target update (Null ∷ source) old new → IsPut new.trees (λ x. x)
-        keeps_key is u = elim (subst (λ row. Puts schema table params target None row old.trees new.trees) offered_is (subst (λ o. Puts schema table params target o (with_rowid Chosen (old.trees table.tree) (cast_row table (Null ∷ source))) old.trees new.trees) is u.puts)) [
-          | inl it ↦ absent new.trees _ it.0 it.1
-          | inr it ↦
-              let one = the_one it.0 it.1 it.2 in
-              let content = content_found one.0 one.1 in
-              let same : changed (on_content p) (λ x. x) wanted ≡ wanted = kept_all (on_content p) wanted in
-              inr (content.0, content.1, subst (IsHeldBy (new.trees table.tree)) (sym same) (subst (λ (db : Trees). IsHeldBy (db table.tree) wanted) (sym it.3) held))
         ]
 
   module _ (test : List Term) (params : Row) (blind : IsBlind (passes test params)) where

@@ -15,7 +15,6 @@ pub mod KeyedRows
 pub mod NumberedRows
 pub mod KeyedTables
 pub mod KeyedOrder
-pub mod KeyedExamples
 pub mod NumberedTables
 pub mod NumberedWithin
 pub mod Counts

@@ -1,9 +1,8 @@
 -- A table whose k-th row has number k, with any UNIQUE and any index.
-use Rattle.std.proofs.Common.{◌≡◌, ◌<◌, ℕ, zero, suc, ◌+◌, pos, List, [], ◌∷◌, ◌++◌, length, map, filter, take, set, slice_get, Bool, true, false, cond, Option, Some, option_map, refl, sym, ap, ap₂, append-nil, append_assoc, length-append, subst, ◌∙◌, arith, Ordering, Less, Equal, Greater, IsPermutation}
-use Rattle.sql_calls.proofs.Common.{AllByRecursion, is_eq, is_gt, ints, nat_tests, Value, Null, Int, value_cmp, value_cmp-Int, rowid, has_rowid, put_row, without_rowid, IsAscending, Trees, Binary, Schema, Table, cast_all, Term, col, lit, Query, Output, output_cmp, page, IsAnswer, overlay, Database, one_permutation, output_cmp_total, sort_by, insert_sorted, all-append, all_of, filter_all, map-map, sorted_is-sort_by, sorted_unique, rows_from, put_all}
+use Rattle.std.proofs.Common.{◌≡◌, ◌<◌, ℕ, zero, suc, ◌+◌, pos, List, [], ◌∷◌, ◌++◌, length, map, filter, take, set, slice_get, Bool, true, false, cond, Option, Some, option_map, refl, sym, ap, ap₂, subst, ◌∙◌, arith, Ordering, Less, Equal, Greater, IsPermutation}
+use Rattle.sql_calls.proofs.Common.{AllByRecursion, is_eq, is_gt, ints, nat_tests, Value, Null, Int, value_cmp, value_cmp-Int, rowid, has_rowid, put_row, without_rowid, IsAscending, Trees, Binary, Schema, Table, cast_all, Term, col, lit, Query, Output, output_cmp, page, IsAnswer, overlay, Database, one_permutation, output_cmp_total, sort_by, insert_sorted, all-append, all_of, filter_all, map-map, sorted_is-sort_by, sorted_unique, rows_from}
 use Rattle.std.specs.Option.{option_to_list}
 use Rattle.sqlite_value.specs.Order.{Row}
-use Rattle.sql_calls.proofs.NumberedRows.{put_next}
 use Rattle.sql_calls.proofs.Selects.{simple, by, passes, shown_of, shown_in, simple_rows, ordered_rows}
 use Rattle.sql_calls.proofs.Updates.{Updated}
 use Rattle.sql_calls.proofs.KeyedTables.{written, one_written}
@@ -182,12 +181,6 @@ module _ {X : Type 0} (f : ℕ → X → Row) (cmp : Output → Output → Order
 
 module _ {X : Type 0} (f : ℕ → X → Row) (ids : (n : ℕ) (x : X) → rowid (f n x) ≡ Int (pos n)) where
   -- INSERT .. SELECT .. ORDER BY, where the rows come in the order of their numbers
-  pub put_more : (n : ℕ) (xs ys : List X) → put_all (rows_from f n xs) (rows_from f (n + length xs) ys) ≡ rows_from f n (xs ++ ys)
-  put_more n xs [] = ap (rows_from f n) (sym (append-nil xs))
-  put_more n xs (y ∷ ys) =
-      let long : (n + length xs) + 1 ≡ n + length (xs ++ y ∷ []) = omega (arith, length-append xs (y ∷ [])) in
-      ap₂ put_all (put_next f ids n xs y) (ap (λ m. rows_from f m ys) long) ∙ put_more n (xs ++ y ∷ []) ys ∙ ap (rows_from f n) (append_assoc xs (y ∷ []) ys)
-
   abbrev pub number_query : ℕ → List Term → List Term → Term → Term → Query
   number_query tree test shows limit offset = by (simple tree test shows) ((col 1 0, record { descending = false; collation = Binary }) ∷ []) limit offset
 

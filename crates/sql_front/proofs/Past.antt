@@ -23,10 +23,6 @@ find_past test (x ∷ front) ours none = rw (none x (inl refl)) (find_past test 
 
 -- ---- names
 
-is_none : {X : Type 0} (o : Option X) → is_some o ≡ false → o ≡ None
-is_none None h = refl
-is_none (Some x) h = absurd cc
-
 none_of : {X Y Z : Type 0} (a : Option X) (b : Option Y) (c : Option Z) → (is_some a || is_some b || is_some c) ≡ false → (a ≡ None) × (b ≡ None) × (c ≡ None)
 none_of None None None h = (refl, refl, refl)
 none_of (Some x) b c h = absurd cc

@@ -1,6 +1,8 @@
-use Rattle.std.proofs.Common.{◌∙◌}
-use Rattle.desk_reads.proofs.Common.{both_found, finds_as}
+use Rattle.std.proofs.Common.{true≢false, sym, ap, ◌∙◌}
+use Rattle.desk_reads.proofs.Common.{both_found, finds_as, is_tag_list}
 use Rattle.desk_reads.proofs.ListedTargets.{listed_is}
+use Rattle.desk_reads.proofs.ListFailLemmas.{fails_never_at}
+use Rattle.desk_reads.proofs.TargetRules.{tags_keep}
 use Rattle.desk_reads.proofs.targets.read_listed.Goals as goal
 
 pub returns-clause-reads : goal.returns-clause-reads
@@ -8,3 +10,9 @@ returns-clause-reads g c =
     rw c.whole.ensures
     (finds_as (both_found c.in_ok-words.ensures.reads c.in_ok-attributes.ensures.reads)
     (λ r is. listed_is r c.args.listed c.in_ok-tags.tags c.in_ok-attributes.attributes (c.in_ok-tags.ensures ∙ is.0) is.1))
+
+-- its tags are a list of tags
+pub returns-in_err-tags-clause-fails : goal.returns-in_err-tags-clause-fails
+returns-in_err-tags-clause-fails g c =
+    fails_never_at (both_found c.in_ok-words.ensures.reads c.in_ok-attributes.ensures.reads) _ c.from_residual-in_err-tags.ensures.0
+    (λ h valid is. true≢false (sym (tags_keep h valid c.args.listed.id) ∙ sym (ap is_tag_list is.0) ∙ c.in_err-tags.ensures.1))

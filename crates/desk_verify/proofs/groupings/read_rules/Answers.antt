@@ -1,6 +1,5 @@
 use Rattle.std.proofs.Common.{◌≡◌, ◌+◌, ◌∷◌, [], length, Err, sym, ap, subst, arith, rules}
-use Rattle.std.proofs.lemmas.List.{length-append}
-use Rattle.desk_verify.proofs.Common.{both_found, finds_as, Store, blamed, missing_rule, HasOnlyRule, HaveOnlyRules}
+use Rattle.desk_verify.proofs.Common.{length-append, both_found, finds_as, Store, blamed, missing_rule, HasOnlyRule, HaveOnlyRules}
 use Rattle.desk_verify.proofs.Causes.{grown}
 use Rattle.desk_verify.proofs.RuleLemmas.{found_count, one_rule_more}
 use Rattle.desk_verify.proofs.groupings.read_rules.Goals as goal

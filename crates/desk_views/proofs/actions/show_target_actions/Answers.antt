@@ -1,6 +1,8 @@
-use Rattle.std.proofs.Common.{sym, ap, ◌∙◌, not, map, take, drop, length}
-use Rattle.desk_views.proofs.Common.{is_some, both_found, finds_as, stored_target, actions_of_target, page_of, ActionsShown, target_of, ledger_found, listed_shown}
+use Rattle.std.proofs.Common.{Err, arith, sym, ap, ◌∙◌, not, map, take, drop, length}
+use Rattle.desk_views.proofs.Common.{err_from_is_err_and, same_bytes, actor_of, is_some, both_found, finds_as, stored_target, actions_of_target, page_of, ActionsShown, target_of, ledger_found, listed_shown}
 use Rattle.desk_views.proofs.ActionViews.{all_listed, none_there, of_target_is, one_there, page_is}
+use Rattle.desk_views.proofs.FailingActions.{listed_few}
+use Rattle.desk_views.proofs.FailingViews.{never_fails, told}
 use Rattle.desk_views.proofs.TargetViews.{id_found}
 use Rattle.desk_views.proofs.actions.show_target_actions.Goals as goal
 
@@ -19,3 +21,10 @@ returns-clause-shows g c =
     let all = ap (map (listed_shown r)) listed ∙ of_target_is r c.args.id ∙ ap (actions_of_target r) (sym (id_found c.args.id x r.targets there)) in
     ap ActionsShown (page_is r c.args.page (actions_of_target r x.id) c.in_ok-all.all.items c.part_on.result.now c.in_ok-content.content.items c.in_ok-total.total all
     (c.part_on.ensures ∙ ap (λ l. take c.args.page.limit (drop c.args.page.offset l)) c.deref-2.ensures.value) (is.1 of) (c.in_ok-total.ensures.0 ∙ ap length c.deref.ensures.value))))
+
+pub returns-in_err-total-clause-fails : goal.returns-in_err-total-clause-fails
+returns-in_err-total-clause-fails g c =
+    let out = err_from_is_err_and c.from_residual-in_err-total.result c.from_residual-in_err-total.ensures.1 in
+    never_fails (both_found c.in_ok-read_target.ensures.reads (ledger_found _ c.in_ok-all.ensures.reads)) c.in_err-total.field-0.0 (told c.in_err-total.field-0.0 c.in_err-total.ensures.1)
+    (λ r is of readable many. listed_few r of (λ it. same_bytes (actor_of r.rollouts it.0) c.args.id) 4294967295 0 c.in_ok-all.all.items is.1 (omega (arith, many, ap length c.deref.ensures.value)))
+    c.from_residual-in_err-total.result (out.1 ∙ ap Err out.2)

@@ -1,6 +1,13 @@
 use Rattle.desk_views.proofs.Common.{found_if}
 use Rattle.std.proofs.Common.{◌∙◌}
+use Rattle.desk_views.proofs.FailingReads.{contents_read}
+use Rattle.desk_views.proofs.FailingViews.{never_answers, never_with, told}
 use Rattle.desk_views.proofs.artifacts.read_contents.Goals as goal
 
 pub returns-clause-reads : goal.returns-clause-reads
 returns-clause-reads g c = found_if c.in_ok-bytes.ensures.reads _ c.whole_contents.ensures.bytes (λ r y is got. got ∙ is)
+
+pub returns-clause-fails : goal.returns-clause-fails
+returns-clause-fails g c =
+    never_answers c.in_ok-bytes.ensures.fails _ c.whole_contents.ensures.err
+    (λ fault why is. never_with c.in_ok-bytes.ensures.reads fault (told fault why.1) (λ r found of sized readable broken. contents_read r of c.args.number c.args.size _ found sized broken) c.whole_contents.result is)

@@ -1,6 +1,9 @@
-use Rattle.std.proofs.Common.{◌++◌, sym, ap, ◌∙◌, arith, rules}
-use Rattle.desk_views.proofs.Common.{both_found, finds_as, pieces_of_artifact, item_numbered}
+use Rattle.std.proofs.Common.{◌≤◌, ◌*◌, ◌++◌, sym, ap, ◌∙◌, arith, rules}
+use Rattle.desk_views.proofs.Common.{IsSome, artifact_size_limit, piece_length, both_found, finds_as, pieces_of_artifact, item_numbered}
+use Rattle.std.specs.Vec.{vec_items}
 use Rattle.desk_views.proofs.ArtifactViews.{pieces_end, pieces_grow}
+use Rattle.desk_views.proofs.FailingReads.{none_behind, passed}
+use Rattle.desk_views.proofs.FailingViews.{never_fails, told}
 use Rattle.desk_views.proofs.artifacts.read_pieces.Goals as goal
 
 pub returns-in-None-clause-reads : goal.returns-in-None-clause-reads
@@ -12,7 +15,14 @@ pub loop-bytes-preserved : goal.loop-bytes-preserved
 loop-bytes-preserved g c = record {
   few = omega (arith, rw c.in-Some.is at c.in_ok-piece.ensures.few);
   stays = search rules;
+  fails = search rules;
   reads = finds_as (both_found c.loop-bytes.invariant.reads (rw (sym c.in_ok-piece.ensures.same ∙ c.in-Some.is) at c.in_ok-found.ensures.reads))
       (λ r is. pieces_grow (pieces_of_artifact (item_numbered r.artifacts c.args.number)) _ _ c.loop-bytes.pieces _ _ is.0 is.1 (omega arith)
-      (c.in_ok-append-in-Some.ensures ∙ ap (λ l. c.loop-bytes.bytes.items ++ l) c.deref.ensures.value));
+      (c.in_ok-append-in-Some.ensures.ok ∙ ap (λ l. c.loop-bytes.bytes.items ++ l) c.deref.ensures.value));
 }
+
+pub returns-in_err-piece-clause-fails : goal.returns-in_err-piece-clause-fails
+returns-in_err-piece-clause-fails g c =
+    let full : IsSome c.in_ok-found.found × (artifact_size_limit ≤ c.loop-bytes.pieces * piece_length) = (c.in_err-piece.ensures.err.1, c.in_err-piece.ensures.err.2) in
+    never_fails (both_found c.loop-bytes.invariant.reads c.in_ok-found.ensures.reads) _ (told _ full)
+    (λ r is of readable full. none_behind vec_items r of c.args.number c.loop-bytes.pieces c.in_ok-found.found is.1 full.0 full.1) _ (passed _ _ c.from_residual-in_err-piece.ensures.1)

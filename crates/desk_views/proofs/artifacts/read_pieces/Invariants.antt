@@ -1,5 +1,5 @@
 use Rattle.std.proofs.Common.{◌≡◌, ◌≤◌, ◌-◌, Ok, take}
-use Rattle.desk_views.proofs.Common.{Fault, pieces_of_artifact, item_numbered, FindsIn, StaysIn}
+use Rattle.desk_views.proofs.Common.{Fault, pieces_of_artifact, item_numbered, FindsIn, StaysIn, FailsAtListsIn}
 use Rattle.desk_views.proofs.ArtifactViews.{together}
 use Rattle.desk_views.proofs.artifacts.read_pieces.Given as goal
 
@@ -8,6 +8,7 @@ abbrev pub invariant-loop-bytes : goal.invariant-loop-bytes
 invariant-loop-bytes g l = record {
   few : l.pieces ≤ 64;
   stays : StaysIn g.S.Store l.fn.change l.change (Ok (tt {0}));
+  fails : FailsAtListsIn g.S.Store l.fn.change l.change (Ok (tt {0}));
   reads : FindsIn g.S.Store {E = Fault} l.fn.change l.change (Ok l.bytes.items)
       (λ r items. items ≡ together (take l.pieces (pieces_of_artifact (item_numbered r.artifacts l.number))));
 }

@@ -1,6 +1,8 @@
 use Rattle.std.proofs.Common.{sym, arith}
 use Rattle.desk_views.proofs.Common.{both_found, finds_as, artifact_of_module, item_numbered}
 use Rattle.desk_views.proofs.ArtifactViews.{contents_replied, no_contents}
+use Rattle.desk_views.proofs.FailingReads.{passed, size_of_found}
+use Rattle.desk_views.proofs.FailingViews.{fails_when, listed}
 use Rattle.desk_views.proofs.artifacts.show_contents.Goals as goal
 
 pub returns-in-None-clause-reads : goal.returns-in-None-clause-reads
@@ -15,3 +17,8 @@ returns-clause-sized g c = record {
       let row = (rw c.in-Some.is at c.in_ok-found.ensures.agrees).agrees t was (omega (arith, clean, c.in_ok-contents.ensures.reads.wears)) in
       (c.in-Some.found, row, sym c.in_ok-contents.ensures.sized);
 }
+
+pub returns-in_err-contents-clause-fails : goal.returns-in_err-contents-clause-fails
+returns-in_err-contents-clause-fails g c =
+    fails_when (rw c.in-Some.is at c.in_ok-found.ensures.reads) c.in_ok-found.ensures.stays.grows.failures c.in_err-contents.ensures.reads.wears _ c.in_err-contents.ensures.fails
+    (λ r is of. record { of_list = listed of; wanted = size_of_found r of c.args.module_number c.args.number c.in-Some.found is }) _ (passed _ _ c.from_residual-in_err-contents.ensures.1)

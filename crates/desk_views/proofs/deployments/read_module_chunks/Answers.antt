@@ -6,6 +6,7 @@ use Rattle.desk_views.proofs.deployments.read_module_chunks.Goals as goal
 pub loop-module_number-preserved : goal.loop-module_number-preserved
 loop-module_number-preserved g c = record {
   stays = search rules;
+  fails = search rules;
   reads = finds_as (both_found c.loop-module_number.invariant.reads c.in_ok-add_chunk.ensures.reads) (λ r is. chunks_grow r _ _ c.loop-module_number.yielded c.in-Some.module_number is.0 is.1);
 }
 

@@ -1,6 +1,8 @@
-use Rattle.std.proofs.Common.{sym, arith}
+use Rattle.std.proofs.Common.{Ok, sym, arith}
 use Rattle.desk_views.proofs.Common.{both_found, finds_as}
 use Rattle.desk_views.proofs.DeviceViews.{answered_by, downloaded}
+use Rattle.desk_views.proofs.FailingReads.{passed, size_of_numbered}
+use Rattle.desk_views.proofs.FailingViews.{fails_when, listed}
 use Rattle.desk_views.proofs.deployments.show_download.Goals as goal
 
 pub returns-in_ok-contents-in-Ok-clause-reads : goal.returns-in_ok-contents-in-Ok-clause-reads
@@ -15,3 +17,10 @@ returns-in_ok-contents-in-Ok-clause-sized g c = record {
       let row = (rw c.in-Ok.is at c.in_ok-artifact.ensures.agrees).agrees t was (omega (arith, clean, c.in_ok-contents-in-Ok.ensures.reads.wears)) in
       (c.in-Ok.artifact, row, sym c.in_ok-contents-in-Ok.ensures.sized);
 }
+
+pub returns-in_err-contents-in-Ok-clause-fails : goal.returns-in_err-contents-in-Ok-clause-fails
+returns-in_err-contents-in-Ok-clause-fails g c =
+    fails_when (rw c.in-Ok.is at c.in_ok-artifact.ensures.reads) c.in_ok-artifact.ensures.stays.grows.failures c.in_err-contents-in-Ok.ensures.reads.wears _ c.in_err-contents-in-Ok.ensures.fails
+    (λ r is of.
+    let it = answered_by c.args.module_number c.args.filename.now r c.args.device.now (Ok c.in-Ok.artifact) is in
+    record { of_list = listed of; wanted = size_of_numbered r of c.in-Ok.artifact.number c.in-Ok.artifact.size it.0 it.2 it.3 }) _ (passed _ _ c.from_residual-in_err-contents-in-Ok.ensures.1)

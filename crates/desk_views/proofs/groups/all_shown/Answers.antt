@@ -1,5 +1,5 @@
 use Rattle.std.proofs.Common.{Err, ap, inl, inr, ◌∙◌}
-use Rattle.std.proofs.lemmas.Result.{err_from_is_err_and}
+use Rattle.desk_views.proofs.Common.{err_from_is_err_and}
 use Rattle.desk_views.proofs.GroupViews.{unshown_at}
 use Rattle.desk_views.proofs.groups.all_shown.Goals as goal
 

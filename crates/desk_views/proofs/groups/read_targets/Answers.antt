@@ -6,6 +6,7 @@ use Rattle.desk_views.proofs.groups.read_targets.Goals as goal
 pub loop-id-preserved : goal.loop-id-preserved
 loop-id-preserved g c = record {
   stays = search rules;
+  fails = search rules;
   reads = finds_as (both_found c.loop-id.invariant.reads c.in_ok-add_target.ensures.reads) (λ r is. targets_grow r c.loop-id.yielded c.in-Some.id _ _ is.0 is.1);
 }
 

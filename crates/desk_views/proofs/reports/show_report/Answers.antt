@@ -1,5 +1,7 @@
-use Rattle.std.proofs.Common.{ap, ◌∙◌}
-use Rattle.desk_views.proofs.Common.{both_found, finds_as, item_numbered, report_of, ReportShown, ledger_found, rules_there}
+use Rattle.std.proofs.Common.{Err, ap, ◌∙◌}
+use Rattle.desk_views.proofs.Common.{err_from_is_err_and, both_found, finds_as, item_numbered, report_of, ReportShown, ledger_found, rules_there}
+use Rattle.desk_views.proofs.FailingGroups.{groups_showable}
+use Rattle.desk_views.proofs.FailingViews.{never_fails}
 use Rattle.desk_views.proofs.RolloutViews.{none_replied, one_replied}
 use Rattle.desk_views.proofs.reports.show_report.Goals as goal
 
@@ -11,3 +13,10 @@ returns-clause-shows g c =
     finds_as (both_found (rw c.in-Some.is at c.in_ok-seen.ensures.reads) (ledger_found _ c.in_ok-rules.ensures.reads))
     (λ r is of. one_replied (λ x. ReportShown (report_of x)) (item_numbered r.rollouts c.args.number) c.in-Some.seen _ (is.0 of)
     (λ x there it. ap ReportShown (c.in_ok-whole.ensures.ok x it (c.deref.ensures.value ∙ is.1 ∙ rules_there r c.args.number x there))))
+
+pub returns-in_err-whole-clause-fails : goal.returns-in_err-whole-clause-fails
+returns-in_err-whole-clause-fails g c =
+    let out = err_from_is_err_and c.from_residual-in_err-whole.result c.from_residual-in_err-whole.ensures.1 in
+    never_fails (both_found (rw c.in-Some.is at c.in_ok-seen.ensures.reads) (ledger_found _ c.in_ok-rules.ensures.reads)) c.in_err-whole.field-0.0 c.in_err-whole.ensures.err
+    (λ r is of readable bad. groups_showable r of c.args.number c.in-Some.seen c.deref.result.now (c.deref.ensures.value ∙ is.1) (is.0 of) bad)
+    c.from_residual-in_err-whole.result (out.1 ∙ ap Err out.2)

@@ -1,5 +1,7 @@
-use Rattle.std.proofs.Common.{sym}
-use Rattle.desk_views.proofs.Common.{finds_as}
+use Rattle.std.proofs.Common.{Err, refl, sym}
+use Rattle.desk_views.proofs.Common.{Store, finds_as, known}
+use Rattle.desk_views.proofs.FailingRollouts.{entry_seen, few_numbered}
+use Rattle.desk_views.proofs.FailingViews.{never_with}
 use Rattle.desk_views.proofs.PageLemmas.{same_number}
 use Rattle.desk_views.proofs.RolloutViews.{entry_is}
 use Rattle.desk_views.proofs.rollouts.read_entry.Goals as goal
@@ -8,3 +10,11 @@ pub returns-in-Some-2-clause-reads : goal.returns-in-Some-2-clause-reads
 returns-in-Some-2-clause-reads g c =
     finds_as (rw c.in-Some-2.is at c.in_ok-seen.ensures.reads)
     (λ r is of. entry_is r.rollouts c.in-Some.number c.args.number c.in-Some-2.seen _ (same_number _ _ (sym c.in-Some.ensures)) (is of) c.shown.ensures)
+
+pub returns-in_default-clause-fails : goal.returns-in_default-clause-fails
+returns-in_default-clause-fails g c =
+    never_with (known {x = tt {0}} {P = λ r u. Unit {0}} (λ r. tt)) Store (tt {0}) (λ r is of within readable _. few_numbered r of c.args.number c.in_default.ensures within.0 within.1) (Err Store) refl
+
+pub returns-in-None-clause-fails : goal.returns-in-None-clause-fails
+returns-in-None-clause-fails g c =
+    never_with (rw c.in-None.is at c.in_ok-seen.ensures.reads) Store (tt {0}) (λ r is of within readable _. entry_seen r c.args.number c.in-Some.number (same_number _ _ (sym c.in-Some.ensures)) within.0 within.1 (is of)) (Err Store) refl

@@ -1,6 +1,8 @@
 use Rattle.std.proofs.Common.{◌∙◌}
 use Rattle.desk_views.proofs.Common.{both_found, finds_as, item_numbered}
 use Rattle.desk_views.proofs.SetViews.{no_set, one_set}
+use Rattle.desk_views.proofs.FailingViews.{never_fails, told}
+use Rattle.desk_views.proofs.FailingReads.{passed, set_listed}
 use Rattle.desk_views.proofs.sets.read_label.Goals as goal
 
 pub returns-in-None-clause-reads : goal.returns-in-None-clause-reads
@@ -11,3 +13,8 @@ returns-clause-reads g c =
     rw c.labelled.ensures
     (finds_as (both_found (rw c.in-Some.is at c.in_ok-called.ensures.reads) c.in_ok-numbers.ensures.reads)
     (λ r is. one_set (item_numbered r.sets c.args.number) c.in-Some.called c.in_ok-modules.modules is.0 (c.in_ok-modules.ensures ∙ is.1)))
+
+pub returns-in_err-modules-clause-fails : goal.returns-in_err-modules-clause-fails
+returns-in_err-modules-clause-fails g c =
+    never_fails (both_found (rw c.in-Some.is at c.in_ok-called.ensures.reads) c.in_ok-numbers.ensures.reads) _ (told _ c.in_err-modules.ensures.1)
+    (λ r is of readable broken. set_listed r of c.args.number _ _ is.0 is.1 broken) _ (passed _ _ c.from_residual-in_err-modules.ensures.1)

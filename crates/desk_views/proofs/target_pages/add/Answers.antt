@@ -9,5 +9,5 @@ returns-then-not-is_on-clause-reads g c =
 
 pub returns-clause-reads : goal.returns-clause-reads
 returns-clause-reads g c =
-    found_if c.in_ok-entry.ensures.reads _ c.push.ensures
+    found_if c.in_ok-entry.ensures.reads _ c.push.ensures.ok
     (λ r y said got all was. page_with c.args.page c.args.shown.now c.push.new.content all (worded r c.args.target) was true (sym c.if-not-is_on.false ∙ c.is_on.ensures) c.in-Some.total (search rules) (got ∙ ap (λ s. c.args.shown.now.content.items ++ s ∷ []) said))

@@ -1,9 +1,16 @@
-use Rattle.std.proofs.Common.{ap, ◌∙◌}
+use Rattle.std.proofs.Common.{ap, ◌∙◌, arith}
 use Rattle.desk_views.proofs.Common.{both_found, finds_as, found_held, page_of}
 use Rattle.desk_views.proofs.TargetPages.{chunk_matched}
+use Rattle.desk_views.proofs.FailingReads.{chunk_few, passed}
+use Rattle.desk_views.proofs.FailingViews.{listed, with_when}
 use Rattle.desk_views.proofs.target_pages.add_chunk.Goals as goal
 
 pub returns-clause-reads : goal.returns-clause-reads
 returns-clause-reads g c =
     finds_as (found_held (λ db r holds. holds.sorted) (both_found c.in_ok-entries.ensures.reads c.in_ok-add_matching.ensures.reads))
     (λ r is f tree was. is.1.1 f tree _ was ∙ ap (page_of c.args.page) (chunk_matched r f is.0 c.args.offset 10000 _ is.1.0))
+
+pub returns-in_err-add_matching-clause-fails : goal.returns-in_err-add_matching-clause-fails
+returns-in_err-add_matching-clause-fails g c =
+    with_when c.in_ok-entries.ensures.reads c.in_ok-entries.ensures.stays.grows.failures c.in_err-add_matching.ensures.reads.wears _ c.in_err-add_matching.ensures.fails
+    (λ r is of room. record { of_list = listed of; wanted = (let few = chunk_few c.args.offset r.targets _ is in omega (arith, few, room)) }) _ (passed _ _ c.from_residual-in_err-add_matching.ensures.1)

@@ -6,6 +6,7 @@ use Rattle.desk_views.proofs.target_pages.read_entries.Goals as goal
 pub loop-entry-preserved : goal.loop-entry-preserved
 loop-entry-preserved g c = record {
   stays = search rules;
+  fails = search rules;
   reads = finds_as
       (both_found (both_found c.loop-entry.invariant.reads c.in_ok-target.ensures.reads) c.in_ok-shown.ensures.reads)
       (λ r is. entries_grow r _ _ c.loop-entry.yielded c.in-Some.entry c.in_ok-target.target c.in_ok-shown.shown is.0.0 is.0.1 is.1 (rw (ap is_ok c.in-Ok.is) at c.push.ensures.items));

@@ -1,11 +1,12 @@
 use Rattle.std.proofs.Common.{◌≡◌, Ok, map}
-use Rattle.desk_views.proofs.Common.{Fault, target_listed, worded, FindsIn, StaysIn}
+use Rattle.desk_views.proofs.Common.{Fault, target_listed, worded, FindsIn, StaysIn, FailsAtListsIn}
 use Rattle.desk_views.proofs.target_pages.read_entries.Given as goal
 
 -- the content so far are those that were gone through
 abbrev pub invariant-loop-entry : goal.invariant-loop-entry
 invariant-loop-entry g l = record {
   stays : StaysIn g.S.Store l.fn.change l.change (Ok (tt {0}));
+  fails : FailsAtListsIn g.S.Store l.fn.change l.change (Ok (tt {0}));
   reads : FindsIn g.S.Store {E = Fault} l.fn.change l.change (Ok l.content.items)
       (λ r items. items ≡ map (worded r) (map (target_listed r) l.yielded));
 }

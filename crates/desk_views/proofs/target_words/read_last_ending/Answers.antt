@@ -11,6 +11,7 @@ returns-then-branch-clause-reads g c =
 pub loop-listed-preserved : goal.loop-listed-preserved
 loop-listed-preserved g c = record {
   stays = search rules;
+  fails = search rules;
   reads = finds_as (both_found c.loop-listed.invariant.reads (rw c.if-branch.false at c.in_ok-read_is_begun.ensures.reads))
       (λ r is. it_is_not r c.args.actions.items c.pop.new.self.items c.in-Some.listed (is.0 ∙ ap (last_ending r None) (rw c.in-Some.is at c.pop.ensures.items)) is.1);
 }

@@ -1,12 +1,8 @@
-use Rattle.desk_store.proofs.Common.{state, RunsText, SET_ACTION, acted_params}
 use Rattle.desk_store.proofs.WriteCalls.{action_changed, knows_set_action}
 use Rattle.desk_store.proofs.change.OpenChange.change_action.Goals as goal
 
 pub returns-clause-writes : goal.returns-clause-writes
-returns-clause-writes g c =
-    let ran : RunsText (state g.S.Store c.args.self.now.store.now.calls.conn) (state g.S.Store c.run.new.self.store.now.calls.conn) SET_ACTION.now (acted_params c.args.number c.args.canceling c.args.outcome (record { notes = c.args.notes; entries = c.args.entries })) c.run.result =
-    rw (c.params-to_sql.ensures, c.params-to_sql-2.ensures, c.params-to_sql-3.ensures, c.params-to_sql-4.ensures, c.params-to_sql-5.ensures, c.get.ensures.value, c.flag_code-canceling_code.ensures, c.code_of_outcome-outcome_code.ensures) at c.run.ensures.runs in
-    action_changed c.args.number c.args.canceling c.args.outcome (record { notes = c.args.notes; entries = c.args.entries }) _ _ c.run.result ran
+returns-clause-writes g c = action_changed c.args.number c.args.canceling c.args.outcome (record { notes = c.args.notes; entries = c.args.entries }) _ _ c.run.result (rw (c.params-to_sql.ensures, c.params-to_sql-2.ensures, c.params-to_sql-3.ensures, c.params-to_sql-4.ensures, c.params-to_sql-5.ensures, c.get.ensures.value, c.flag_code-canceling_code.ensures, c.code_of_outcome-outcome_code.ensures) at c.run.ensures.runs)
 
 pub run-requires : goal.run-requires
 run-requires g c = knows_set_action

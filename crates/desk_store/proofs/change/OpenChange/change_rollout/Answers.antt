@@ -1,12 +1,8 @@
-use Rattle.desk_store.proofs.Common.{state, RunsText, SET_ROLLOUT, turned_params}
 use Rattle.desk_store.proofs.WriteCalls.{knows_set_rollout, rollout_changed}
 use Rattle.desk_store.proofs.change.OpenChange.change_rollout.Goals as goal
 
 pub returns-clause-writes : goal.returns-clause-writes
-returns-clause-writes g c =
-    let ran : RunsText (state g.S.Store c.args.self.now.store.now.calls.conn) (state g.S.Store c.run.new.self.store.now.calls.conn) SET_ROLLOUT.now (turned_params c.args.number c.args.approval c.args.started c.args.paused) c.run.result =
-    rw (c.params-to_sql.ensures, c.params-to_sql-2.ensures, c.params-to_sql-3.ensures, c.params-to_sql-4.ensures, c.get.ensures.value, c.code_of_approval-approval_code.ensures, c.flag_code-started_code.ensures, c.flag_code-paused_code.ensures) at c.run.ensures.runs in
-    rollout_changed c.args.number c.args.approval c.args.started c.args.paused _ _ c.run.result ran
+returns-clause-writes g c = rollout_changed c.args.number c.args.approval c.args.started c.args.paused _ _ c.run.result (rw (c.params-to_sql.ensures, c.params-to_sql-2.ensures, c.params-to_sql-3.ensures, c.params-to_sql-4.ensures, c.get.ensures.value, c.code_of_approval-approval_code.ensures, c.flag_code-started_code.ensures, c.flag_code-paused_code.ensures) at c.run.ensures.runs)
 
 pub run-requires : goal.run-requires
 run-requires g c = knows_set_rollout

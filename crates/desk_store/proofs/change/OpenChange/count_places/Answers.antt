@@ -1,20 +1,14 @@
-use Rattle.std.proofs.Common.{◌≡◌, [], ◌∷◌, pos, Ok, subst, true}
-use Rattle.desk_store.proofs.Common.{Int, is_number, state, AsksText, LIST_PLACES}
+use Rattle.std.proofs.Common.{◌≡◌, subst, true}
+use Rattle.desk_store.proofs.Common.{is_number}
 use Rattle.desk_store.proofs.RawCalls.{listing, place_count_read}
 use Rattle.desk_store.proofs.RawBlames.{place_count_blamed}
 use Rattle.desk_store.proofs.change.OpenChange.count_places.Goals as goal
 
 pub returns-clause-reads : goal.returns-clause-reads
-returns-clause-reads g c =
-    let it : AsksText (state g.S.Store c.args.self.now.store.now.calls.conn) (state g.S.Store c.ask.new.self.store.now.calls.conn) LIST_PLACES.now (Int (pos c.args.number) ∷ []) (Ok c.in_ok-rows.rows) =
-    rw (c.params-to_sql.ensures, c.get.ensures.value) at c.in_ok-rows.ensures.asks in
-    place_count_read c.args.number (subst (λ n. is_number n ≡ true) c.get.ensures.value c.get.ensures.number) _ _ c.in_ok-rows.rows it c.row_count.result (rw c.deref.ensures.value at c.row_count.ensures.ok)
+returns-clause-reads g c = place_count_read c.args.number (subst (λ n. is_number n ≡ true) c.get.ensures.value c.get.ensures.number) _ _ c.in_ok-rows.rows (rw (c.params-to_sql.ensures, c.get.ensures.value) at c.in_ok-rows.ensures.asks) c.row_count.result (rw c.deref.ensures.value at c.row_count.ensures.ok)
 
 pub returns-clause-blames : goal.returns-clause-blames
-returns-clause-blames g c =
-    let it : AsksText (state g.S.Store c.args.self.now.store.now.calls.conn) (state g.S.Store c.ask.new.self.store.now.calls.conn) LIST_PLACES.now (Int (pos c.args.number) ∷ []) (Ok c.in_ok-rows.rows) =
-    rw (c.params-to_sql.ensures, c.get.ensures.value) at c.in_ok-rows.ensures.asks in
-    place_count_blamed g.S.Store _ _ c.in_ok-rows.ensures.stays.grows.failures c.row_count.result c.args.number c.in_ok-rows.rows (rw c.deref.ensures.value at c.row_count.ensures.err) it
+returns-clause-blames g c = place_count_blamed g.S.Store _ _ c.in_ok-rows.ensures.stays.grows.failures c.row_count.result c.args.number c.in_ok-rows.rows (rw c.deref.ensures.value at c.row_count.ensures.err) (rw (c.params-to_sql.ensures, c.get.ensures.value) at c.in_ok-rows.ensures.asks)
 
 pub ask-requires : goal.ask-requires
 ask-requires g c = listing

@@ -1,5 +1,3 @@
-use Rattle.std.proofs.Common.{[], ◌∷◌, pos, Ok}
-use Rattle.desk_store.proofs.Common.{Int, state, AsksText, GET_PIECE}
 use Rattle.desk_store.proofs.ArtifactCalls.{taking}
 use Rattle.desk_store.proofs.RawPieces.{pieces_read}
 use Rattle.desk_store.proofs.RawBlames.{pieces_blamed}
@@ -7,16 +5,10 @@ use Rattle.desk_store.proofs.Known.{known}
 use Rattle.desk_store.proofs.change.OpenChange.find_pieces.Goals as goal
 
 pub returns-clause-reads : goal.returns-clause-reads
-returns-clause-reads g c =
-    let it : AsksText (state g.S.Store c.args.self.now.store.now.calls.conn) (state g.S.Store c.ask.new.self.store.now.calls.conn) GET_PIECE.now (Int (pos c.args.number) ∷ Int (pos c.args.place) ∷ []) (Ok c.in_ok-rows.rows) =
-    rw (c.params-to_sql.ensures, c.params-to_sql-2.ensures, c.get.ensures.value) at c.in_ok-rows.ensures.asks in
-    pieces_read c.args.number c.args.place _ _ c.in_ok-rows.rows it c.read_all.result (rw c.deref.ensures.value at c.read_all.ensures.ok)
+returns-clause-reads g c = pieces_read c.args.number c.args.place _ _ c.in_ok-rows.rows (rw (c.params-to_sql.ensures, c.params-to_sql-2.ensures, c.get.ensures.value) at c.in_ok-rows.ensures.asks) c.read_all.result (rw c.deref.ensures.value at c.read_all.ensures.ok)
 
 pub returns-clause-blames : goal.returns-clause-blames
-returns-clause-blames g c =
-    let it : AsksText (state g.S.Store c.args.self.now.store.now.calls.conn) (state g.S.Store c.ask.new.self.store.now.calls.conn) GET_PIECE.now (Int (pos c.args.number) ∷ Int (pos c.args.place) ∷ []) (Ok c.in_ok-rows.rows) =
-    rw (c.params-to_sql.ensures, c.params-to_sql-2.ensures, c.get.ensures.value) at c.in_ok-rows.ensures.asks in
-    pieces_blamed g.S.Store _ _ c.in_ok-rows.rows c.in_ok-rows.ensures.stays.grows.failures c.read_all.result c.args.number c.args.place (rw c.deref.ensures.value at c.read_all.ensures.err) it
+returns-clause-blames g c = pieces_blamed g.S.Store _ _ c.in_ok-rows.rows c.in_ok-rows.ensures.stays.grows.failures c.read_all.result c.args.number c.args.place (rw c.deref.ensures.value at c.read_all.ensures.err) (rw (c.params-to_sql.ensures, c.params-to_sql-2.ensures, c.get.ensures.value) at c.in_ok-rows.ensures.asks)
 
 pub ask-requires : goal.ask-requires
 ask-requires g c = known taking

@@ -1,5 +1,3 @@
-use Rattle.std.proofs.Common.{[], ◌∷◌, pos, Ok}
-use Rattle.desk_store.proofs.Common.{Int, state, AsksFew, GET_RULE}
 use Rattle.desk_store.proofs.RawBlames.{rule_blamed}
 use Rattle.desk_store.proofs.RawFinds.{rule_read}
 use Rattle.desk_store.proofs.RolloutCalls.{getting_rule}
@@ -7,16 +5,10 @@ use Rattle.desk_store.proofs.Known.{known}
 use Rattle.desk_store.proofs.change.OpenChange.find_rule.Goals as goal
 
 pub returns-clause-reads : goal.returns-clause-reads
-returns-clause-reads g c =
-    let it : AsksFew (state g.S.Store c.args.self.now.store.now.calls.conn) (state g.S.Store c.few.new.self.store.now.calls.conn) GET_RULE.now (Int (pos c.args.number) ∷ Int (pos c.args.group) ∷ []) 1 (Ok c.in_ok-rows.rows) =
-    rw (c.params-to_sql.ensures, c.params-to_sql-2.ensures, c.get.ensures.value) at c.in_ok-rows.ensures.asks in
-    rule_read c.args.number c.args.group _ _ c.in_ok-rows.rows it c.read_at.result (rw c.deref.ensures.value at c.read_at.ensures.ok)
+returns-clause-reads g c = rule_read c.args.number c.args.group _ _ c.in_ok-rows.rows (rw (c.params-to_sql.ensures, c.params-to_sql-2.ensures, c.get.ensures.value) at c.in_ok-rows.ensures.asks) c.read_at.result (rw c.deref.ensures.value at c.read_at.ensures.ok)
 
 pub returns-clause-blames : goal.returns-clause-blames
-returns-clause-blames g c =
-    let it : AsksFew (state g.S.Store c.args.self.now.store.now.calls.conn) (state g.S.Store c.few.new.self.store.now.calls.conn) GET_RULE.now (Int (pos c.args.number) ∷ Int (pos c.args.group) ∷ []) 1 (Ok c.in_ok-rows.rows) =
-    rw (c.params-to_sql.ensures, c.params-to_sql-2.ensures, c.get.ensures.value) at c.in_ok-rows.ensures.asks in
-    rule_blamed g.S.Store _ _ c.in_ok-rows.rows c.in_ok-rows.ensures.stays.grows.failures c.read_at.result c.args.number c.args.group (rw c.deref.ensures.value at c.read_at.ensures.err) it
+returns-clause-blames g c = rule_blamed g.S.Store _ _ c.in_ok-rows.rows c.in_ok-rows.ensures.stays.grows.failures c.read_at.result c.args.number c.args.group (rw c.deref.ensures.value at c.read_at.ensures.err) (rw (c.params-to_sql.ensures, c.params-to_sql-2.ensures, c.get.ensures.value) at c.in_ok-rows.ensures.asks)
 
 pub few-requires : goal.few-requires
 few-requires g c = known getting_rule

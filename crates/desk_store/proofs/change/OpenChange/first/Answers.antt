@@ -3,7 +3,7 @@ use Rattle.sql_calls.proofs.Framing.{first_frames}
 use Rattle.desk_store.proofs.Common.{TakesFirst, HoldsLedger}
 use Rattle.desk_store.proofs.Known.{in_ledgers}
 use Rattle.desk_store.proofs.ReadLemmas.{first_keeps, first_sees}
-use Rattle.desk_store.proofs.FailLemmas.{call_fails}
+use Rattle.desk_store.proofs.FailLemmas.{call_counts, call_fails}
 use Rattle.desk_store.proofs.change.OpenChange.first.Goals as goal
 
 pub returns-clause-stays : goal.returns-clause-stays
@@ -14,3 +14,6 @@ returns-clause-keeps g c = record { to = first_keeps _ _ _ c.requires c.first.re
 
 pub returns-clause-fails : goal.returns-clause-fails
 returns-clause-fails g c = call_fails c.first.result c.first.ensures.failures (λ x is. first_sees HoldsLedger _ _ _ (in_ledgers c.requires) x (subst (TakesFirst _ _ _ _) is c.first.ensures.takes))
+
+pub returns-clause-counts : goal.returns-clause-counts
+returns-clause-counts g c = call_counts c.first.result c.first.ensures.failures

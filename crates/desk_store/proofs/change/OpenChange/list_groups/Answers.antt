@@ -1,5 +1,5 @@
-use Rattle.std.proofs.Common.{◌≡◌, [], ◌∷◌, pos, Ok, subst, true}
-use Rattle.desk_store.proofs.Common.{Int, is_number, state, AsksText, LIST_GROUPS}
+use Rattle.std.proofs.Common.{◌≡◌, subst, true}
+use Rattle.desk_store.proofs.Common.{is_number}
 use Rattle.desk_store.proofs.RawLists.{groups_read}
 use Rattle.desk_store.proofs.RolloutCalls.{listing}
 use Rattle.desk_store.proofs.RawBlames.{groups_blamed}
@@ -7,16 +7,10 @@ use Rattle.desk_store.proofs.Known.{known}
 use Rattle.desk_store.proofs.change.OpenChange.list_groups.Goals as goal
 
 pub returns-clause-reads : goal.returns-clause-reads
-returns-clause-reads g c =
-    let it : AsksText (state g.S.Store c.args.self.now.store.now.calls.conn) (state g.S.Store c.ask.new.self.store.now.calls.conn) LIST_GROUPS.now (Int (pos c.args.number) ∷ []) (Ok c.in_ok-rows.rows) =
-    rw (c.params-to_sql.ensures, c.get.ensures.value) at c.in_ok-rows.ensures.asks in
-    groups_read c.args.number (subst (λ n. is_number n ≡ true) c.get.ensures.value c.get.ensures.number) _ _ c.in_ok-rows.rows it c.read_checked.result (rw c.deref.ensures.value at c.read_checked.ensures.ok)
+returns-clause-reads g c = groups_read c.args.number (subst (λ n. is_number n ≡ true) c.get.ensures.value c.get.ensures.number) _ _ c.in_ok-rows.rows (rw (c.params-to_sql.ensures, c.get.ensures.value) at c.in_ok-rows.ensures.asks) c.read_checked.result (rw c.deref.ensures.value at c.read_checked.ensures.ok)
 
 pub returns-clause-blames : goal.returns-clause-blames
-returns-clause-blames g c =
-    let it : AsksText (state g.S.Store c.args.self.now.store.now.calls.conn) (state g.S.Store c.ask.new.self.store.now.calls.conn) LIST_GROUPS.now (Int (pos c.args.number) ∷ []) (Ok c.in_ok-rows.rows) =
-    rw (c.params-to_sql.ensures, c.get.ensures.value) at c.in_ok-rows.ensures.asks in
-    groups_blamed g.S.Store _ _ c.in_ok-rows.rows c.in_ok-rows.ensures.stays.grows.failures c.read_checked.result c.args.number (rw c.deref.ensures.value at c.read_checked.ensures.err) it
+returns-clause-blames g c = groups_blamed g.S.Store _ _ c.in_ok-rows.rows c.in_ok-rows.ensures.stays.grows.failures c.read_checked.result c.args.number (rw c.deref.ensures.value at c.read_checked.ensures.err) (rw (c.params-to_sql.ensures, c.get.ensures.value) at c.in_ok-rows.ensures.asks)
 
 pub ask-requires : goal.ask-requires
 ask-requires g c = known listing

@@ -1,28 +1,17 @@
-use Rattle.std.proofs.Common.{Ok}
-use Rattle.desk_store.proofs.Common.{state, AsksText, LIST_ENTRIES}
 use Rattle.desk_store.proofs.ActionCalls.{listing_entries}
-use Rattle.desk_store.proofs.RawLists.{all_of, history_in_order, history_read}
+use Rattle.desk_store.proofs.RawLists.{history_in_order, history_read}
 use Rattle.desk_store.proofs.RawBlames.{history_blamed}
 use Rattle.desk_store.proofs.Known.{known}
 use Rattle.desk_store.proofs.change.OpenChange.list_history.Goals as goal
 
 pub returns-clause-reads : goal.returns-clause-reads
-returns-clause-reads g c =
-    let it : AsksText (state g.S.Store c.args.self.now.store.now.calls.conn) (state g.S.Store c.ask.new.self.store.now.calls.conn) LIST_ENTRIES.now (all_of c.args.number) (Ok c.in_ok-rows.rows) =
-    rw (c.params-to_sql.ensures, c.params-to_sql-2.ensures, c.params-to_sql-3.ensures, c.get.ensures.value) at c.in_ok-rows.ensures.asks in
-    history_read c.args.number _ _ c.in_ok-rows.rows it c.read_all.result (rw c.deref.ensures.value at c.read_all.ensures.ok)
+returns-clause-reads g c = history_read c.args.number _ _ c.in_ok-rows.rows (rw (c.params-to_sql.ensures, c.params-to_sql-2.ensures, c.params-to_sql-3.ensures, c.get.ensures.value) at c.in_ok-rows.ensures.asks) c.read_all.result (rw c.deref.ensures.value at c.read_all.ensures.ok)
 
 pub returns-clause-order : goal.returns-clause-order
-returns-clause-order g c =
-    let it : AsksText (state g.S.Store c.args.self.now.store.now.calls.conn) (state g.S.Store c.ask.new.self.store.now.calls.conn) LIST_ENTRIES.now (all_of c.args.number) (Ok c.in_ok-rows.rows) =
-    rw (c.params-to_sql.ensures, c.params-to_sql-2.ensures, c.params-to_sql-3.ensures, c.get.ensures.value) at c.in_ok-rows.ensures.asks in
-    history_in_order c.args.number _ _ c.in_ok-rows.rows it c.read_all.result (rw c.deref.ensures.value at c.read_all.ensures.ok)
+returns-clause-order g c = history_in_order c.args.number _ _ c.in_ok-rows.rows (rw (c.params-to_sql.ensures, c.params-to_sql-2.ensures, c.params-to_sql-3.ensures, c.get.ensures.value) at c.in_ok-rows.ensures.asks) c.read_all.result (rw c.deref.ensures.value at c.read_all.ensures.ok)
 
 pub returns-clause-blames : goal.returns-clause-blames
-returns-clause-blames g c =
-    let it : AsksText (state g.S.Store c.args.self.now.store.now.calls.conn) (state g.S.Store c.ask.new.self.store.now.calls.conn) LIST_ENTRIES.now (all_of c.args.number) (Ok c.in_ok-rows.rows) =
-    rw (c.params-to_sql.ensures, c.params-to_sql-2.ensures, c.params-to_sql-3.ensures, c.get.ensures.value) at c.in_ok-rows.ensures.asks in
-    history_blamed g.S.Store _ _ c.in_ok-rows.rows c.in_ok-rows.ensures.stays.grows.failures c.read_all.result c.args.number (rw c.deref.ensures.value at c.read_all.ensures.err) it
+returns-clause-blames g c = history_blamed g.S.Store _ _ c.in_ok-rows.rows c.in_ok-rows.ensures.stays.grows.failures c.read_all.result c.args.number (rw c.deref.ensures.value at c.read_all.ensures.err) (rw (c.params-to_sql.ensures, c.params-to_sql-2.ensures, c.params-to_sql-3.ensures, c.get.ensures.value) at c.in_ok-rows.ensures.asks)
 
 pub ask-requires : goal.ask-requires
 ask-requires g c = known listing_entries

@@ -1,6 +1,6 @@
 use Rattle.desk_store.proofs.RolloutCalls.{approval_read, getting_desk}
 use Rattle.desk_store.proofs.Known.{known}
-use Rattle.desk_store.proofs.FailLemmas.{approval_fails}
+use Rattle.desk_store.proofs.RowFails.{approval_fails}
 use Rattle.desk_store.proofs.change.OpenChange.read_approval.Goals as goal
 
 pub returns-clause-reads : goal.returns-clause-reads

@@ -1,5 +1,4 @@
-use Rattle.std.proofs.Common.{inl, inr, [], ◌∷◌, Ok, pos, subst, ◌≤◌}
-use Rattle.desk_store.proofs.Common.{Int, state, TakesFirst, GET_ARTIFACT}
+use Rattle.std.proofs.Common.{inl, inr, subst, ◌≤◌}
 use Rattle.desk_store.proofs.ArtifactCalls.{artifact_read, getting}
 use Rattle.desk_store.proofs.RawFinds.{artifact_told}
 use Rattle.desk_store.proofs.Known.{known}
@@ -7,16 +6,10 @@ use Rattle.desk_store.proofs.FailLemmas.{first_fails}
 use Rattle.desk_store.proofs.change.OpenChange.read_artifact.Goals as goal
 
 pub returns-clause-reads : goal.returns-clause-reads
-returns-clause-reads g c =
-    let taken : TakesFirst (state g.S.Store c.args.self.now.store.now.calls.conn) (state g.S.Store c.first.new.self.store.now.calls.conn) GET_ARTIFACT.now (Int (pos c.args.number) ∷ []) (Ok c.in_ok-row.row) =
-    rw (c.params-to_sql.ensures, c.get.ensures.value) at c.in_ok-row.ensures.takes in
-    artifact_read c.args.number (subst (λ n. 1 ≤ n) c.get.ensures.value c.get.ensures.least) _ _ c.in_ok-row.row taken c.read_optional.result c.read_optional.ensures.ok
+returns-clause-reads g c = artifact_read c.args.number (subst (λ n. 1 ≤ n) c.get.ensures.value c.get.ensures.least) _ _ c.in_ok-row.row (rw (c.params-to_sql.ensures, c.get.ensures.value) at c.in_ok-row.ensures.takes) c.read_optional.result c.read_optional.ensures.ok
 
 pub returns-clause-tells : goal.returns-clause-tells
-returns-clause-tells g c =
-    let taken : TakesFirst (state g.S.Store c.args.self.now.store.now.calls.conn) (state g.S.Store c.first.new.self.store.now.calls.conn) GET_ARTIFACT.now (Int (pos c.args.number) ∷ []) (Ok c.in_ok-row.row) =
-    rw (c.params-to_sql.ensures, c.get.ensures.value) at c.in_ok-row.ensures.takes in
-    artifact_told c.args.number _ _ c.in_ok-row.row taken c.read_optional.result c.read_optional.ensures.ok
+returns-clause-tells g c = artifact_told c.args.number _ _ c.in_ok-row.row (rw (c.params-to_sql.ensures, c.get.ensures.value) at c.in_ok-row.ensures.takes) c.read_optional.result c.read_optional.ensures.ok
 
 pub returns-clause-fails : goal.returns-clause-fails
 returns-clause-fails g c = first_fails getting _ (λ params row kept is. kept (inr (inl is))) _ c.in_ok-row.ensures.stays.grows.failures c.in_ok-row.row c.in_ok-row.ensures.takes c.read_optional.result c.read_optional.ensures.err

@@ -1,7 +1,7 @@
 use Rattle.std.proofs.Common.{inl}
 use Rattle.desk_store.proofs.ArtifactCalls.{ending, last_read}
 use Rattle.desk_store.proofs.Known.{known}
-use Rattle.desk_store.proofs.FailLemmas.{last_fails, no_key}
+use Rattle.desk_store.proofs.RowFails.{last_fails, no_key}
 use Rattle.desk_store.proofs.change.OpenChange.read_last_artifact.Goals as goal
 
 pub returns-clause-reads : goal.returns-clause-reads

@@ -1,5 +1,4 @@
-use Rattle.std.proofs.Common.{inr, [], ◌∷◌, Ok, pos}
-use Rattle.desk_store.proofs.Common.{Int, state, AsksText, LIST_ARTIFACTS}
+use Rattle.std.proofs.Common.{inr}
 use Rattle.desk_store.proofs.ArtifactCalls.{artifacts_read, listing}
 use Rattle.desk_store.proofs.RawLists.{module_artifacts_read}
 use Rattle.desk_store.proofs.Known.{known}
@@ -7,16 +6,10 @@ use Rattle.desk_store.proofs.FailLemmas.{all_fails}
 use Rattle.desk_store.proofs.change.OpenChange.read_module_artifacts.Goals as goal
 
 pub returns-clause-reads : goal.returns-clause-reads
-returns-clause-reads g c =
-    let asked : AsksText (state g.S.Store c.args.self.now.store.now.calls.conn) (state g.S.Store c.ask.new.self.store.now.calls.conn) LIST_ARTIFACTS.now (Int (pos c.args.module_number) ∷ []) (Ok c.in_ok-rows.rows) =
-    rw (c.params-to_sql.ensures, c.get.ensures.value) at c.in_ok-rows.ensures.asks in
-    artifacts_read c.args.module_number _ _ c.in_ok-rows.rows asked c.read_all.result (rw c.deref.ensures.value at c.read_all.ensures.ok)
+returns-clause-reads g c = artifacts_read c.args.module_number _ _ c.in_ok-rows.rows (rw (c.params-to_sql.ensures, c.get.ensures.value) at c.in_ok-rows.ensures.asks) c.read_all.result (rw c.deref.ensures.value at c.read_all.ensures.ok)
 
 pub returns-clause-tells : goal.returns-clause-tells
-returns-clause-tells g c =
-    let asked : AsksText (state g.S.Store c.args.self.now.store.now.calls.conn) (state g.S.Store c.ask.new.self.store.now.calls.conn) LIST_ARTIFACTS.now (Int (pos c.args.module_number) ∷ []) (Ok c.in_ok-rows.rows) =
-    rw (c.params-to_sql.ensures, c.get.ensures.value) at c.in_ok-rows.ensures.asks in
-    module_artifacts_read c.args.module_number _ _ c.in_ok-rows.rows asked c.read_all.result (rw c.deref.ensures.value at c.read_all.ensures.ok)
+returns-clause-tells g c = module_artifacts_read c.args.module_number _ _ c.in_ok-rows.rows (rw (c.params-to_sql.ensures, c.get.ensures.value) at c.in_ok-rows.ensures.asks) c.read_all.result (rw c.deref.ensures.value at c.read_all.ensures.ok)
 
 pub returns-clause-fails : goal.returns-clause-fails
 returns-clause-fails g c = all_fails listing _ (λ params row kept is. kept (inr (inr is))) _ c.in_ok-rows.ensures.stays.grows.failures c.in_ok-rows.rows c.read_all.result (rw c.deref.ensures.value at c.read_all.ensures.err) c.in_ok-rows.ensures.asks

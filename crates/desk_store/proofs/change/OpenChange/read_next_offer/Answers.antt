@@ -1,13 +1,12 @@
-use Rattle.std.proofs.Common.{[], ◌∷◌, Ok}
-use Rattle.desk_store.proofs.Common.{Text, state, TakesFirst, NEXT_OFFER}
 use Rattle.desk_store.proofs.NextOfferCalls.{next, next_offer_read}
+use Rattle.desk_store.proofs.RowFails.{next_fails}
 use Rattle.desk_store.proofs.change.OpenChange.read_next_offer.Goals as goal
 
 pub returns-clause-reads : goal.returns-clause-reads
-returns-clause-reads g c =
-    let it : TakesFirst (state g.S.Store c.args.self.now.store.now.calls.conn) (state g.S.Store c.first.new.self.store.now.calls.conn) NEXT_OFFER.now (Text c.args.id.now ∷ []) (Ok c.in_ok-row.row) =
-    rw (c.params-to_sql.ensures, c.as_str.ensures.value) at c.in_ok-row.ensures.takes in
-    next_offer_read c.args.id.now _ _ c.in_ok-row.row it c.read_optional.result c.read_optional.ensures.ok
+returns-clause-reads g c = next_offer_read c.args.id.now _ _ c.in_ok-row.row (rw (c.params-to_sql.ensures, c.as_str.ensures.value) at c.in_ok-row.ensures.takes) c.read_optional.result c.read_optional.ensures.ok
+
+pub returns-clause-fails : goal.returns-clause-fails
+returns-clause-fails g c = next_fails c.in_ok-row.ensures.stays.grows.failures c.in_ok-row.row c.args.id.now (rw (c.params-to_sql.ensures, c.as_str.ensures.value) at c.in_ok-row.ensures.takes) c.read_optional.result c.read_optional.ensures.err
 
 pub first-requires : goal.first-requires
 first-requires g c = next

@@ -1,15 +1,11 @@
-use Rattle.std.proofs.Common.{inl, [], ◌∷◌, pos, subst, ◌≤◌, Ok}
-use Rattle.desk_store.proofs.Common.{Int, state, AsksText, LIST_NUMBERS}
+use Rattle.std.proofs.Common.{inl, subst, ◌≤◌}
 use Rattle.desk_store.proofs.NumberCalls.{listing_numbers, numbers_read}
 use Rattle.desk_store.proofs.Known.{known}
 use Rattle.desk_store.proofs.FailLemmas.{all_fails}
 use Rattle.desk_store.proofs.change.OpenChange.read_numbers.Goals as goal
 
 pub returns-clause-reads : goal.returns-clause-reads
-returns-clause-reads g c =
-    let it : AsksText (state g.S.Store c.args.self.now.store.now.calls.conn) (state g.S.Store c.ask.new.self.store.now.calls.conn) LIST_NUMBERS.now (Int (pos c.args.action) ∷ []) (Ok c.in_ok-rows.rows) =
-    rw (c.params-to_sql.ensures, c.get.ensures.value) at c.in_ok-rows.ensures.asks in
-    numbers_read c.args.action (subst (λ n. 1 ≤ n) c.get.ensures.value c.get.ensures.least) _ _ c.in_ok-rows.rows it c.read_all.result (rw c.deref.ensures.value at c.read_all.ensures.ok)
+returns-clause-reads g c = numbers_read c.args.action (subst (λ n. 1 ≤ n) c.get.ensures.value c.get.ensures.least) _ _ c.in_ok-rows.rows (rw (c.params-to_sql.ensures, c.get.ensures.value) at c.in_ok-rows.ensures.asks) c.read_all.result (rw c.deref.ensures.value at c.read_all.ensures.ok)
 
 pub returns-clause-fails : goal.returns-clause-fails
 returns-clause-fails g c = all_fails listing_numbers _ (λ params row kept is. kept (inl is)) _ c.in_ok-rows.ensures.stays.grows.failures c.in_ok-rows.rows c.read_all.result (rw c.deref.ensures.value at c.read_all.ensures.err) c.in_ok-rows.ensures.asks

@@ -1,15 +1,11 @@
-use Rattle.std.proofs.Common.{[], ◌∷◌, pos, subst, ◌≤◌, Ok}
-use Rattle.desk_store.proofs.Common.{Int, state, TakesFirst, GET_RULE}
+use Rattle.std.proofs.Common.{subst, ◌≤◌}
 use Rattle.desk_store.proofs.RolloutCalls.{getting_rule, rule_read}
 use Rattle.desk_store.proofs.Known.{known}
 use Rattle.desk_store.proofs.FailLemmas.{first_fails}
 use Rattle.desk_store.proofs.change.OpenChange.read_rule.Goals as goal
 
 pub returns-clause-reads : goal.returns-clause-reads
-returns-clause-reads g c =
-    let it : TakesFirst (state g.S.Store c.args.self.now.store.now.calls.conn) (state g.S.Store c.first.new.self.store.now.calls.conn) GET_RULE.now (Int (pos c.args.number) ∷ Int (pos c.args.group) ∷ []) (Ok c.in_ok-row.row) =
-    rw (c.params-to_sql.ensures, c.params-to_sql-2.ensures, c.get.ensures.value) at c.in_ok-row.ensures.takes in
-    rule_read c.args.number c.args.group (subst (λ n. 1 ≤ n) c.get.ensures.value c.get.ensures.least) _ _ c.in_ok-row.row it c.read_optional.result c.read_optional.ensures.ok
+returns-clause-reads g c = rule_read c.args.number c.args.group (subst (λ n. 1 ≤ n) c.get.ensures.value c.get.ensures.least) _ _ c.in_ok-row.row (rw (c.params-to_sql.ensures, c.params-to_sql-2.ensures, c.get.ensures.value) at c.in_ok-row.ensures.takes) c.read_optional.result c.read_optional.ensures.ok
 
 pub returns-clause-fails : goal.returns-clause-fails
 returns-clause-fails g c = first_fails getting_rule _ (λ params row kept is. kept is) _ c.in_ok-row.ensures.stays.grows.failures c.in_ok-row.row c.in_ok-row.ensures.takes c.read_optional.result c.read_optional.ensures.err

@@ -1,14 +1,9 @@
-use Rattle.std.proofs.Common.{Ok}
-use Rattle.desk_store.proofs.Common.{state, TakesFirst, FIND_ARTIFACT, file_of}
 use Rattle.desk_store.proofs.ArtifactCalls.{finding, found}
 use Rattle.desk_store.proofs.Known.{known}
 use Rattle.desk_store.proofs.change.OpenChange.read_same_artifact.Goals as goal
 
 pub returns-clause-reads : goal.returns-clause-reads
-returns-clause-reads g c =
-    let taken : TakesFirst (state g.S.Store c.args.self.now.store.now.calls.conn) (state g.S.Store c.first.new.self.store.now.calls.conn) FIND_ARTIFACT.now (file_of c.args.module_number c.args.filename.now) (Ok c.in_ok-row.row) =
-    rw (c.params-to_sql.ensures, c.params-to_sql-2.ensures, c.get.ensures.value, c.as_str.ensures.value) at c.in_ok-row.ensures.takes in
-    rw c.is_some.ensures (found c.args.module_number c.args.filename.now _ _ c.in_ok-row.row taken)
+returns-clause-reads g c = rw c.is_some.ensures (found c.args.module_number c.args.filename.now _ _ c.in_ok-row.row (rw (c.params-to_sql.ensures, c.params-to_sql-2.ensures, c.get.ensures.value, c.as_str.ensures.value) at c.in_ok-row.ensures.takes))
 
 pub first-requires : goal.first-requires
 first-requires g c = known finding

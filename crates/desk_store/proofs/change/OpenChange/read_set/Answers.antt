@@ -1,15 +1,11 @@
-use Rattle.std.proofs.Common.{inr, [], ◌∷◌, Ok, pos, subst, ◌≤◌}
-use Rattle.desk_store.proofs.Common.{Int, state, TakesFirst, GET_SET}
+use Rattle.std.proofs.Common.{inr, subst, ◌≤◌}
 use Rattle.desk_store.proofs.SetCalls.{getting, set_read}
 use Rattle.desk_store.proofs.Known.{known}
 use Rattle.desk_store.proofs.FailLemmas.{first_fails}
 use Rattle.desk_store.proofs.change.OpenChange.read_set.Goals as goal
 
 pub returns-clause-reads : goal.returns-clause-reads
-returns-clause-reads g c =
-    let taken : TakesFirst (state g.S.Store c.args.self.now.store.now.calls.conn) (state g.S.Store c.first.new.self.store.now.calls.conn) GET_SET.now (Int (pos c.args.number) ∷ []) (Ok c.in_ok-row.row) =
-    rw (c.params-to_sql.ensures, c.get.ensures.value) at c.in_ok-row.ensures.takes in
-    set_read c.args.number (subst (λ n. 1 ≤ n) c.get.ensures.value c.get.ensures.least) _ _ c.in_ok-row.row taken c.read_optional.result c.read_optional.ensures.ok
+returns-clause-reads g c = set_read c.args.number (subst (λ n. 1 ≤ n) c.get.ensures.value c.get.ensures.least) _ _ c.in_ok-row.row (rw (c.params-to_sql.ensures, c.get.ensures.value) at c.in_ok-row.ensures.takes) c.read_optional.result c.read_optional.ensures.ok
 
 pub returns-clause-fails : goal.returns-clause-fails
 returns-clause-fails g c = first_fails getting _ (λ params row kept is. kept (inr is)) _ c.in_ok-row.ensures.stays.grows.failures c.in_ok-row.row c.in_ok-row.ensures.takes c.read_optional.result c.read_optional.ensures.err

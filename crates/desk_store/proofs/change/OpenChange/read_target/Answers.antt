@@ -1,15 +1,11 @@
-use Rattle.std.proofs.Common.{inl, [], ◌∷◌, Ok}
-use Rattle.desk_store.proofs.Common.{Text, state, TakesFirst, GET_TARGET}
+use Rattle.std.proofs.Common.{inl}
 use Rattle.desk_store.proofs.TargetCalls.{getting, target_read}
 use Rattle.desk_store.proofs.Known.{known}
 use Rattle.desk_store.proofs.FailLemmas.{first_fails}
 use Rattle.desk_store.proofs.change.OpenChange.read_target.Goals as goal
 
 pub returns-clause-reads : goal.returns-clause-reads
-returns-clause-reads g c =
-    let taken : TakesFirst (state g.S.Store c.args.self.now.store.now.calls.conn) (state g.S.Store c.first.new.self.store.now.calls.conn) GET_TARGET.now (Text c.args.id.now ∷ []) (Ok c.in_ok-row.row) =
-    rw (c.params-to_sql.ensures, c.as_str.ensures.value) at c.in_ok-row.ensures.takes in
-    target_read c.args.id.now _ _ c.in_ok-row.row taken c.read_optional.result c.read_optional.ensures.ok
+returns-clause-reads g c = target_read c.args.id.now _ _ c.in_ok-row.row (rw (c.params-to_sql.ensures, c.as_str.ensures.value) at c.in_ok-row.ensures.takes) c.read_optional.result c.read_optional.ensures.ok
 
 pub returns-clause-fails : goal.returns-clause-fails
 returns-clause-fails g c = first_fails getting _ (λ params row kept is. kept (inl is)) _ c.in_ok-row.ensures.stays.grows.failures c.in_ok-row.row c.in_ok-row.ensures.takes c.read_optional.result c.read_optional.ensures.err

@@ -1,15 +1,11 @@
-use Rattle.std.proofs.Common.{inr, [], ◌∷◌, pos, Ok}
-use Rattle.desk_store.proofs.Common.{Int, Text, state, AsksText, LIST_TARGET_ACTIONS}
+use Rattle.std.proofs.Common.{inr}
 use Rattle.desk_store.proofs.ActionCalls.{listing_targets, target_actions_read}
 use Rattle.desk_store.proofs.Known.{known}
 use Rattle.desk_store.proofs.FailLemmas.{all_fails}
 use Rattle.desk_store.proofs.change.OpenChange.read_target_actions.Goals as goal
 
 pub returns-clause-reads : goal.returns-clause-reads
-returns-clause-reads g c =
-    let it : AsksText (state g.S.Store c.args.self.now.store.now.calls.conn) (state g.S.Store c.ask.new.self.store.now.calls.conn) LIST_TARGET_ACTIONS.now (Text c.args.id.now ∷ Int (pos c.args.page.limit) ∷ Int (pos c.args.page.offset) ∷ []) (Ok c.in_ok-rows.rows) =
-    rw (c.params-to_sql.ensures, c.params-to_sql-2.ensures, c.params-to_sql-3.ensures, c.as_str.ensures.value) at c.in_ok-rows.ensures.asks in
-    target_actions_read c.args.id.now c.args.page.limit c.args.page.offset _ _ c.in_ok-rows.rows it c.read_all.result (rw c.deref.ensures.value at c.read_all.ensures.ok)
+returns-clause-reads g c = target_actions_read c.args.id.now c.args.page.limit c.args.page.offset _ _ c.in_ok-rows.rows (rw (c.params-to_sql.ensures, c.params-to_sql-2.ensures, c.params-to_sql-3.ensures, c.as_str.ensures.value) at c.in_ok-rows.ensures.asks) c.read_all.result (rw c.deref.ensures.value at c.read_all.ensures.ok)
 
 pub returns-clause-fails : goal.returns-clause-fails
 returns-clause-fails g c = all_fails listing_targets _ (λ params row kept is. kept (inr (inr is))) _ c.in_ok-rows.ensures.stays.grows.failures c.in_ok-rows.rows c.read_all.result (rw c.deref.ensures.value at c.read_all.ensures.err) c.in_ok-rows.ensures.asks

@@ -1,15 +1,10 @@
-use Rattle.std.proofs.Common.{[], ◌∷◌, Ok}
-use Rattle.desk_store.proofs.Common.{Text, state, AsksText, LIST_TARGET_ATTRIBUTES}
 use Rattle.desk_store.proofs.AttributeCalls.{attributes_read, listing}
 use Rattle.desk_store.proofs.Known.{known}
 use Rattle.desk_store.proofs.FailLemmas.{all_fails}
 use Rattle.desk_store.proofs.change.OpenChange.read_target_attributes.Goals as goal
 
 pub returns-clause-reads : goal.returns-clause-reads
-returns-clause-reads g c =
-    let asked : AsksText (state g.S.Store c.args.self.now.store.now.calls.conn) (state g.S.Store c.ask.new.self.store.now.calls.conn) LIST_TARGET_ATTRIBUTES.now (Text c.args.id.now ∷ []) (Ok c.in_ok-rows.rows) =
-    rw (c.params-to_sql.ensures, c.as_str.ensures.value) at c.in_ok-rows.ensures.asks in
-    attributes_read c.args.id.now _ _ c.in_ok-rows.rows asked c.read_attributes.result (rw c.deref.ensures.value at c.read_attributes.ensures.ok)
+returns-clause-reads g c = attributes_read c.args.id.now _ _ c.in_ok-rows.rows (rw (c.params-to_sql.ensures, c.as_str.ensures.value) at c.in_ok-rows.ensures.asks) c.read_attributes.result (rw c.deref.ensures.value at c.read_attributes.ensures.ok)
 
 pub returns-clause-fails : goal.returns-clause-fails
 returns-clause-fails g c = all_fails listing _ (λ params row kept is. kept is) _ c.in_ok-rows.ensures.stays.grows.failures c.in_ok-rows.rows c.read_attributes.result (rw c.deref.ensures.value at c.read_attributes.ensures.err) c.in_ok-rows.ensures.asks

@@ -1,14 +1,12 @@
 use Rattle.desk_store.proofs.TargetCalls.{count_read, counting}
-use Rattle.desk_store.proofs.Common.{COUNT_TARGETS, Targets}
-use Rattle.desk_records.proofs.TargetMeaning.{count_targets_is}
-use Rattle.desk_store.proofs.FailLemmas.{count_fails}
+use Rattle.desk_store.proofs.RowFails.{count_fails}
 use Rattle.desk_store.proofs.change.OpenChange.read_target_count.Goals as goal
 
 pub returns-clause-reads : goal.returns-clause-reads
 returns-clause-reads g c = count_read _ _ c.in_ok-row.row c.in_ok-row.ensures.takes c.counted_in.result c.counted_in.ensures.count c.counted_in.ensures.small
 
 pub returns-clause-fails : goal.returns-clause-fails
-returns-clause-fails g c = count_fails Targets COUNT_TARGETS.now count_targets_is c.in_ok-row.ensures.stays.grows.failures c.in_ok-row.row c.in_ok-row.ensures.takes c.counted_in.result c.counted_in.ensures.err
+returns-clause-fails g c = count_fails c.in_ok-row.ensures.stays.grows.failures c.in_ok-row.row c.in_ok-row.ensures.takes c.counted_in.result c.counted_in.ensures.err
 
 pub first-requires : goal.first-requires
 first-requires g c = counting

@@ -1,15 +1,11 @@
-use Rattle.std.proofs.Common.{inr, [], ◌∷◌, Ok, pos}
-use Rattle.desk_store.proofs.Common.{Int, state, AsksText, LIST_TARGETS}
+use Rattle.std.proofs.Common.{inr}
 use Rattle.desk_store.proofs.TargetCalls.{paging, targets_read}
 use Rattle.desk_store.proofs.Known.{known}
 use Rattle.desk_store.proofs.FailLemmas.{all_fails}
 use Rattle.desk_store.proofs.change.OpenChange.read_targets.Goals as goal
 
 pub returns-clause-reads : goal.returns-clause-reads
-returns-clause-reads g c =
-    let asked : AsksText (state g.S.Store c.args.self.now.store.now.calls.conn) (state g.S.Store c.ask.new.self.store.now.calls.conn) LIST_TARGETS.now (Int (pos c.args.page.limit) ∷ Int (pos c.args.page.offset) ∷ []) (Ok c.in_ok-rows.rows) =
-    rw (c.params-to_sql.ensures, c.params-to_sql-2.ensures) at c.in_ok-rows.ensures.asks in
-    targets_read c.args.page.limit c.args.page.offset _ _ c.in_ok-rows.rows asked c.read_all.result (rw c.deref.ensures.value at c.read_all.ensures.ok)
+returns-clause-reads g c = targets_read c.args.page.limit c.args.page.offset _ _ c.in_ok-rows.rows (rw (c.params-to_sql.ensures, c.params-to_sql-2.ensures) at c.in_ok-rows.ensures.asks) c.read_all.result (rw c.deref.ensures.value at c.read_all.ensures.ok)
 
 pub returns-clause-fails : goal.returns-clause-fails
 returns-clause-fails g c = all_fails paging _ (λ params row kept is. kept (inr is)) _ c.in_ok-rows.ensures.stays.grows.failures c.in_ok-rows.rows c.read_all.result (rw c.deref.ensures.value at c.read_all.ensures.err) c.in_ok-rows.ensures.asks

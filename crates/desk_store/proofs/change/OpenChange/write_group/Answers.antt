@@ -1,12 +1,8 @@
-use Rattle.desk_store.proofs.Common.{state, RunsText, PUT_GROUP, cut_params}
 use Rattle.desk_store.proofs.WriteCalls.{group_written, knows_put_group}
 use Rattle.desk_store.proofs.change.OpenChange.write_group.Goals as goal
 
 pub returns-clause-writes : goal.returns-clause-writes
-returns-clause-writes g c =
-    let ran : RunsText (state g.S.Store c.args.self.now.store.now.calls.conn) (state g.S.Store c.run.new.self.store.now.calls.conn) PUT_GROUP.now (cut_params c.args.number c.args.group c.args.bounds) c.run.result =
-    rw (c.params-to_sql.ensures, c.params-to_sql-2.ensures, c.params-to_sql-3.ensures, c.params-to_sql-4.ensures, c.get.ensures.value) at c.run.ensures.runs in
-    group_written c.args.number c.args.group c.args.bounds _ _ c.run.result ran
+returns-clause-writes g c = group_written c.args.number c.args.group c.args.bounds _ _ c.run.result (rw (c.params-to_sql.ensures, c.params-to_sql-2.ensures, c.params-to_sql-3.ensures, c.params-to_sql-4.ensures, c.get.ensures.value) at c.run.ensures.runs)
 
 pub run-requires : goal.run-requires
 run-requires g c = knows_put_group

@@ -1,12 +1,8 @@
-use Rattle.desk_store.proofs.Common.{state, RunsText, PUT_PIECE, piece_row}
 use Rattle.desk_store.proofs.ArtifactCalls.{piece_written, placing}
 use Rattle.desk_store.proofs.change.OpenChange.write_piece.Goals as goal
 
 pub returns-clause-writes : goal.returns-clause-writes
-returns-clause-writes g c =
-    let ran : RunsText (state g.S.Store c.args.self.now.store.now.calls.conn) (state g.S.Store c.run.new.self.store.now.calls.conn) PUT_PIECE.now (piece_row c.args.number c.args.sequence c.args.bytes.now) c.run.result =
-    rw (c.params-to_sql.ensures, c.params-to_sql-2.ensures, c.params-to_sql-3.ensures, c.get.ensures.value) at c.run.ensures.runs in
-    piece_written c.args.number c.args.sequence c.args.bytes.now _ _ c.run.result ran
+returns-clause-writes g c = piece_written c.args.number c.args.sequence c.args.bytes.now _ _ c.run.result (rw (c.params-to_sql.ensures, c.params-to_sql-2.ensures, c.params-to_sql-3.ensures, c.get.ensures.value) at c.run.ensures.runs)
 
 pub run-requires : goal.run-requires
 run-requires g c = placing

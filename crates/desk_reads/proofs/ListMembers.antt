@@ -1,11 +1,8 @@
 -- The members of the rollouts of a list of accepted commands are ids.
 use Rattle.std.proofs.Common.{◌≡◌, ◌⊎◌, inl, inr, ℕ, suc, Bool, true, false, cond, List, [], ◌∷◌, map, filter, Option, Some, None, refl, sym, ap, subst, ◌∙◌}
-use Rattle.desk_verify.proofs.Common.{and_parts, Has, has_either, has_filtered, test_has, is_word, bytes_below, same_bytes, with_word, with_words, CommandList, Make, ◌▸◌, Bytes, Command, CreateRollout, PutTargets, TargetRow, rollouts_in, Rollout, chosen, created, rollouts, IsValid, RolloutRecord, has_mapped}
-use Rattle.rollout_model.specs.Rows.{is_target_row}
-use Rattle.rollout_machine.specs.CommandRules.{IsWellFormed}
-use Rattle.rollout_machine.specs.Filters.{matches}
+use Rattle.desk_reads.proofs.Common.{and_parts, same_bytes, bytes_below, with_word, with_words, CommandList, Make, ◌▸◌, rollouts_in, IsValid, RolloutRecord, Target, import_rows_of, target_ids, target_in, targets, has_either, has_filtered, test_has, Has, is_target_row, is_word, IsWellFormed, Bytes, Command, CreateRollout, PutTargets, TargetRow, Rollout, chosen, created, rollouts, has_mapped}
 use Rattle.rollout_machine.specs.Records.{records}
-use Rattle.rollout_machine.specs.Targets.{Target, import_rows_of, target_ids, target_in, targets}
+use Rattle.rollout_machine.specs.Filters.{matches}
 use Rattle.target_filter.specs.Grammar.{Tree}
 use Rattle.target_filter.specs.Profile.{filter_of}
 
@@ -36,7 +33,7 @@ new_words (PutTargets rows) good id among =
     ap is_word row.2 ∙ (and_parts _ _ (test_has is_target_row rows row.0 good row.1)).0
 new_words c good id among = absurd among
 
-target_words : (h : CommandList) → IsValid h → (id : Bytes) → Has (target_ids h) id → is_word id ≡ true
+pub target_words : (h : CommandList) → IsValid h → (id : Bytes) → Has (target_ids h) id → is_word id ≡ true
 target_words (Make approval) valid id among = absurd among
 target_words (h ▸ c) valid id among = elim (with_words_has (map (λ (row : TargetRow). row.id) (import_rows_of c)) (target_ids h) id among) [
   | inl it ↦ new_words c valid.1 id it

@@ -1,0 +1,241 @@
+-- The targets of accepted commands keep their rules: of their tags, that they are few words and none stands twice.
+use Rattle.std.proofs.Common.{◌≡◌, ◌⊎◌, inl, inr, ◌≤◌, ◌<◌, suc, Bool, true, false, cond, ◌&&◌, ◌||◌, not, nat_eq, nat_le, List, [], ◌∷◌, length, map, find, is_none, Option, Some, None, refl, sym, ap, subst, ◌∙◌, arith, true≢false}
+use Rattle.desk_reads.proofs.Common.{and_parts, and_from, le-leb, leb-false, leb-true, contains_word, same_bytes, bytes_below, sorted_words, with_word, without_word, CommandList, Make, ◌▸◌, Target, attributes_in, import_rows_of, last_row_for, last_row_of, tags_by_row, tags_in, target_ids, target_in, with_attribute, with_attributes, IsSorted, AllAbove, below_apart, sorted_with, with_there, IsValid, tags_of, target_of, verdict, verdict_row, pointwise, list_all, list_any, is_some, option_or, unwrap_or, Has, same_by, same_pointwise, same_sym, same_true, NoneHolds, none_holds, IsWellFormed, is_credential, Attribute, Bytes, Command, PutAttributes, PutTargets, Tag, TargetRow, Untag, is_target_row, are_distinct_words, is_digest, is_tag_list, is_text, is_word, has_mapped}
+use Rattle.rollout_machine.proofs.Orders.{sorted_all, sorted_without}
+use Rattle.rollout_machine.proofs.TargetMeanings.{targets_are_named}
+use Rattle.rollout_machine.specs.Records.{records}
+use Rattle.rollout_model.specs.Limits.{attribute_limit, tag_limit}
+use Rattle.rollout_model.specs.Pairs.{is_attribute}
+use Rattle.desk_reads.proofs.ListMembers.{target_words}
+
+-- ---- words in byte order
+
+none_again : (w : Bytes) (vs : List Bytes) → AllAbove w vs → list_any (λ v. pointwise nat_eq v w) vs ≡ false
+none_again w [] above = refl
+none_again w (v ∷ vs) above = rw (same_pointwise v w ∙ same_sym v w ∙ below_apart w v above.0) (none_again w vs above.1)
+
+distinct : (ws : List Bytes) → IsSorted ws → are_distinct_words ws ≡ true
+distinct [] sorted = refl
+distinct (w ∷ ws) sorted = rw (none_again w ws sorted.0) (distinct ws sorted.1)
+
+words_with : (w : Bytes) (vs : List Bytes) → is_word w ≡ true → list_all is_word vs ≡ true → list_all is_word (with_word w vs) ≡ true
+words_with w [] one all = and_from (is_word w) true one refl
+words_with w (v ∷ vs) one all = let parts = and_parts (is_word v) (list_all is_word vs) all in go (same_bytes w v) (bytes_below w v) parts.0 parts.1 (words_with w vs one parts.1)
+  where
+    go : (same below : Bool) → is_word v ≡ true → list_all is_word vs ≡ true → list_all is_word (with_word w vs) ≡ true → list_all is_word (cond same (v ∷ vs) (cond below (w ∷ v ∷ vs) (v ∷ with_word w vs))) ≡ true
+    go true below first rest later = and_from (is_word v) (list_all is_word vs) first rest
+    go false true first rest later = and_from (is_word w) _ one (and_from (is_word v) (list_all is_word vs) first rest)
+    go false false first rest later = and_from (is_word v) (list_all is_word (with_word w vs)) first later
+
+words_without : (w : Bytes) (vs : List Bytes) → list_all is_word vs ≡ true → list_all is_word (without_word w vs) ≡ true
+words_without w [] all = refl
+words_without w (v ∷ vs) all = let parts = and_parts (is_word v) (list_all is_word vs) all in go (same_bytes w v) parts.0 (words_without w vs parts.1)
+  where
+    go : (same : Bool) → is_word v ≡ true → list_all is_word (without_word w vs) ≡ true → list_all is_word (cond same (without_word w vs) (v ∷ without_word w vs)) ≡ true
+    go true first later = later
+    go false first later = and_from (is_word v) (list_all is_word (without_word w vs)) first later
+
+words_sorted : (ws : List Bytes) → list_all is_word ws ≡ true → list_all is_word (sorted_words ws) ≡ true
+words_sorted [] all = refl
+words_sorted (w ∷ ws) all = let parts = and_parts (is_word w) (list_all is_word ws) all in words_with w (sorted_words ws) parts.0 (words_sorted ws parts.1)
+
+length_with : (w : Bytes) (vs : List Bytes) → length (with_word w vs) ≤ suc (length vs)
+length_with w [] = omega arith
+length_with w (v ∷ vs) = go (same_bytes w v) (bytes_below w v) (length_with w vs)
+  where
+    go : (same below : Bool) → length (with_word w vs) ≤ suc (length vs) → length (cond same (v ∷ vs) (cond below (w ∷ v ∷ vs) (v ∷ with_word w vs))) ≤ suc (suc (length vs))
+    go true below more = omega arith
+    go false true more = omega arith
+    go false false more = omega (arith, more)
+
+length_without : (w : Bytes) (vs : List Bytes) → length (without_word w vs) ≤ length vs
+length_without w [] = omega arith
+length_without w (v ∷ vs) = go (same_bytes w v) (length_without w vs)
+  where
+    go : (same : Bool) → length (without_word w vs) ≤ length vs → length (cond same (without_word w vs) (v ∷ without_word w vs)) ≤ suc (length vs)
+    go true more = omega (arith, more)
+    go false more = omega (arith, more)
+
+length_sorted : (ws : List Bytes) → length (sorted_words ws) ≤ length ws
+length_sorted [] = omega arith
+length_sorted (w ∷ ws) = omega (arith, length_with w (sorted_words ws), length_sorted ws)
+
+-- ---- tags
+
+pub record KeepsTags (ws : List Bytes) : Type 0 where
+  pub few : length ws ≤ tag_limit
+  pub words : list_all is_word ws ≡ true
+  pub sorted : IsSorted ws
+
+pub tags_are_list : (ws : List Bytes) → KeepsTags ws → is_tag_list ws ≡ true
+tags_are_list ws keeps = and_from _ _ (le-leb (length ws) tag_limit keeps.few) (and_from (list_all is_word ws) (are_distinct_words ws) keeps.words (distinct ws keeps.sorted))
+
+-- the tags of a row that keeps its rule
+row_tags : (row : TargetRow) → is_target_row row ≡ true → KeepsTags (sorted_words row.tags)
+row_tags row good =
+    let tags = (and_parts (is_digest row.digest) _ (and_parts (is_text row.name) _ (and_parts (is_word row.id) _ good).1).1).1 in
+    let parts = and_parts (nat_le (length row.tags) tag_limit) _ tags in
+    let few : length row.tags ≤ tag_limit = leb-true _ _ parts.0 in
+    let fewer = length_sorted row.tags in
+    record { few = omega (arith, few, fewer); words = words_sorted row.tags (and_parts (list_all is_word row.tags) _ parts.1).0; sorted = sorted_all row.tags }
+
+-- the last row that names a target is one of them
+pub row_for : (t : Bytes) (rows : List TargetRow) → list_all is_target_row rows ≡ true → (row : TargetRow) → last_row_for t rows ≡ Some row → is_target_row row ≡ true
+row_for t [] good row is = absurd cc
+row_for t (r ∷ rows) good row is = let parts = and_parts (is_target_row r) (list_all is_target_row rows) good in go (last_row_for t rows) (same_bytes r.id t) parts.0 is (row_for t rows parts.1 row)
+  where
+    go : (later : Option TargetRow) (same : Bool) → is_target_row r ≡ true → option_or later (cond same (Some r) None) ≡ Some row → (later ≡ Some row → is_target_row row ≡ true) → is_target_row row ≡ true
+    go (Some x) same own is rest = rest is
+    go None true own is rest = let here : r ≡ row = cc in ap is_target_row (sym here) ∙ own
+    go None false own is rest = absurd cc
+
+with_tag : (x : Bytes) (ws : List Bytes) → KeepsTags ws → is_word x ≡ true → (contains_word x ws ≡ false → length ws < tag_limit) → KeepsTags (with_word x ws)
+with_tag x ws keeps word room = go (contains_word x ws) refl
+  where
+    go : (there : Bool) → contains_word x ws ≡ there → KeepsTags (with_word x ws)
+    go true is = subst KeepsTags (sym (with_there x ws keeps.sorted is)) keeps
+    go false is =
+        let less = room is in
+        let more = length_with x ws in
+        record { few = omega (arith, less, more); words = words_with x ws word keeps.words; sorted = sorted_with x ws keeps.sorted }
+
+-- ---- what is found of a target
+
+pub found_target : (h : CommandList) (t : Bytes) (ids : List Bytes) → (find (λ (x : Target). same_bytes x.id t) (map (target_in h) ids) ≡ None) ⊎ (find (λ (x : Target). same_bytes x.id t) (map (target_in h) ids) ≡ Some (target_in h t))
+found_target h t [] = inl refl
+found_target h t (u ∷ ids) = go (same_bytes u t) refl (found_target h t ids)
+  where
+    rest : Option Target
+    rest = find (λ (x : Target). same_bytes x.id t) (map (target_in h) ids)
+
+    go : (same : Bool) → same_bytes u t ≡ same → (rest ≡ None) ⊎ (rest ≡ Some (target_in h t)) → (cond same (Some (target_in h u)) rest ≡ None) ⊎ (cond same (Some (target_in h u)) rest ≡ Some (target_in h t))
+    go true is later = inr (ap (λ (w : Bytes). Some (target_in h w)) (same_true u t is))
+    go false is later = later
+
+-- an accepted tag has room
+room : (h : CommandList) (u x : Bytes) → verdict h (Tag u x) ≡ None → contains_word x (tags_in u h) ≡ false → length (tags_in u h) < tag_limit
+unfolding records
+room h u x accepted new =
+    let row : NoneHolds (verdict_row (records h) (Tag u x)) = none_holds (verdict_row (records h) (Tag u x)) accepted in
+    elim (found_target h u (target_ids h)) [
+      | inl none ↦ absurd (true≢false (sym (ap is_none none) ∙ row.0))
+      | inr some ↦ (
+          let there : (not (contains_word x (tags_in u h)) && nat_le tag_limit (length (tags_in u h))) ≡ false = sym (ap (λ o. not (contains_word x (tags_of o)) && nat_le tag_limit (length (tags_of o))) some) ∙ row.1.0 in
+          let full : nat_le tag_limit (length (tags_in u h)) ≡ false = ap (λ b. not b && nat_le tag_limit (length (tags_in u h))) (sym new) ∙ there in
+          leb-false tag_limit (length (tags_in u h)) full
+          )
+    ]
+
+-- ---- the law
+
+by_row : (found : Option TargetRow) (ws : List Bytes) → ((row : TargetRow) → found ≡ Some row → is_target_row row ≡ true) → KeepsTags ws → KeepsTags (tags_by_row found ws)
+by_row None ws good keeps = keeps
+by_row (Some row) ws good keeps = row_tags row (good row refl)
+
+pub keeps_tags : (h : CommandList) → IsValid h → (t : Bytes) → KeepsTags (tags_in t h)
+keeps_tags (Make approval) valid t = record { few = omega arith; words = refl; sorted = tt }
+keeps_tags (h ▸ PutTargets rows) valid t = by_row (last_row_for t rows) (tags_in t h) (row_for t rows valid.1) (keeps_tags h valid.0 t)
+keeps_tags (h ▸ Tag u x) valid t = go (same_bytes t u) refl (keeps_tags h valid.0 t)
+  where
+    word : is_word x ≡ true
+    word = (and_parts (is_word u) (is_word x) valid.1).1
+
+    go : (same : Bool) → same_bytes t u ≡ same → KeepsTags (tags_in t h) → KeepsTags (cond same (with_word x (tags_in t h)) (tags_in t h))
+    go false is keeps = keeps
+    go true is keeps = with_tag x (tags_in t h) keeps word (subst (λ w. contains_word x (tags_in w h) ≡ false → length (tags_in w h) < tag_limit) (sym (same_true t u is)) (room h u x valid.2))
+keeps_tags (h ▸ Untag u x) valid t = go (same_bytes t u) (keeps_tags h valid.0 t)
+  where
+    go : (same : Bool) → KeepsTags (tags_in t h) → KeepsTags (cond same (without_word x (tags_in t h)) (tags_in t h))
+    go false keeps = keeps
+    go true keeps =
+        let fewer = length_without x (tags_in t h) in
+        let few = keeps.few in
+        record { few = omega (arith, fewer, few); words = words_without x (tags_in t h) keeps.words; sorted = sorted_without x (tags_in t h) keeps.sorted }
+keeps_tags (h ▸ _) valid t = keeps_tags h valid.0 t
+
+pub tags_keep : (h : CommandList) → IsValid h → (t : Bytes) → is_tag_list (tags_of (target_of (records h) t)) ≡ true
+unfolding records
+tags_keep h valid t = elim (found_target h t (target_ids h)) [
+  | inl none ↦ ap (λ o. is_tag_list (tags_of o)) none
+  | inr some ↦ ap (λ o. is_tag_list (tags_of o)) some ∙ tags_are_list (tags_in t h) (keeps_tags h valid t)
+]
+
+-- ---- the row and the attributes of a target
+
+row_in : (c : Command) → IsWellFormed c → (t : Bytes) (row : TargetRow) → last_row_for t (import_rows_of c) ≡ Some row → is_target_row row ≡ true
+row_in (PutTargets rows) good t row is = row_for t rows good row is
+row_in c good t row is = absurd cc
+
+last_keeps : (h : CommandList) → IsValid h → (t : Bytes) (row : TargetRow) → last_row_of t h ≡ Some row → is_target_row row ≡ true
+last_keeps (Make approval) valid t row is = absurd cc
+last_keeps (h ▸ c) valid t row is = go (last_row_for t (import_rows_of c)) is (row_in c valid.1 t row) (last_keeps h valid.0 t row)
+  where
+    go : (now : Option TargetRow) → option_or now (last_row_of t h) ≡ Some row → (now ≡ Some row → is_target_row row ≡ true) → (last_row_of t h ≡ Some row → is_target_row row ≡ true) → is_target_row row ≡ true
+    go None is new old = old is
+    go (Some x) is new old = new is
+
+contains_it : (t : Bytes) (ws : List Bytes) → Has ws t → contains_word t ws ≡ true
+contains_it t [] among = absurd among
+contains_it t (w ∷ ws) (inl same) = rw (same_by t w same) refl
+contains_it t (w ∷ ws) (inr among) = go (same_bytes t w) (contains_it t ws among)
+  where
+    go : (same : Bool) → contains_word t ws ≡ true → (same || contains_word t ws) ≡ true
+    go true it = refl
+    go false it = it
+
+-- a target that is there has one
+has_last : (h : CommandList) (t : Bytes) → Has (target_ids h) t → (row : TargetRow) × (last_row_of t h ≡ Some row)
+has_last h t among = go (last_row_of t h) refl (sym (targets_are_named t h) ∙ contains_it t (target_ids h) among)
+  where
+    go : (found : Option TargetRow) → last_row_of t h ≡ found → is_some found ≡ true → (row : TargetRow) × (last_row_of t h ≡ Some row)
+    go None is there = absurd (true≢false (sym there))
+    go (Some row) is there = (row, is)
+
+attributes_with : (a : Attribute) (bs : List Attribute) → is_attribute a ≡ true → list_all is_attribute bs ≡ true → list_all is_attribute (with_attribute a bs) ≡ true
+attributes_with a [] one all = and_from (is_attribute a) true one refl
+attributes_with a (b ∷ bs) one all = let parts = and_parts (is_attribute b) (list_all is_attribute bs) all in go (same_bytes a.key b.key) (bytes_below a.key b.key) parts.0 parts.1 (attributes_with a bs one parts.1)
+  where
+    go : (same below : Bool) → is_attribute b ≡ true → list_all is_attribute bs ≡ true → list_all is_attribute (with_attribute a bs) ≡ true → list_all is_attribute (cond same (a ∷ bs) (cond below (a ∷ b ∷ bs) (b ∷ with_attribute a bs))) ≡ true
+    go true below first rest later = and_from (is_attribute a) (list_all is_attribute bs) one rest
+    go false true first rest later = and_from (is_attribute a) _ one (and_from (is_attribute b) (list_all is_attribute bs) first rest)
+    go false false first rest later = and_from (is_attribute b) (list_all is_attribute (with_attribute a bs)) first later
+
+all_attributes_with : (new bs : List Attribute) → list_all is_attribute new ≡ true → list_all is_attribute bs ≡ true → list_all is_attribute (with_attributes new bs) ≡ true
+all_attributes_with [] bs good all = all
+all_attributes_with (a ∷ more) bs good all = let parts = and_parts (is_attribute a) (list_all is_attribute more) good in all_attributes_with more (with_attribute a bs) parts.1 (attributes_with a bs parts.0 all)
+
+attributes_keep : (h : CommandList) → IsValid h → (t : Bytes) → list_all is_attribute (attributes_in t h) ≡ true
+attributes_keep (Make approval) valid t = refl
+attributes_keep (h ▸ PutAttributes device new) valid t = go (same_bytes t device.id) (attributes_keep h valid.0 t)
+  where
+    good : list_all is_attribute new ≡ true
+    good = (and_parts (nat_le (length new) attribute_limit) (list_all is_attribute new) (and_parts (is_credential device) _ valid.1).1).1
+
+    go : (same : Bool) → list_all is_attribute (attributes_in t h) ≡ true → list_all is_attribute (cond same (with_attributes new (attributes_in t h)) (attributes_in t h)) ≡ true
+    go true all = all_attributes_with new (attributes_in t h) good all
+    go false all = all
+attributes_keep (h ▸ _) valid t = attributes_keep h valid.0 t
+
+pub record KeepsTarget (x : Target) : Type 0 where
+  pub id : is_word x.id ≡ true
+  pub name : is_text x.name ≡ true
+  pub digest : is_digest x.digest ≡ true
+  pub tags : list_all is_word x.tags ≡ true
+  pub attributes : list_all is_attribute x.attributes ≡ true
+
+target_keeps : (h : CommandList) → IsValid h → (t : Bytes) → Has (target_ids h) t → KeepsTarget (target_in h t)
+target_keeps h valid t among =
+    let last = has_last h t among in
+    let parts = and_parts (is_word last.0.id) (is_text last.0.name && (is_digest last.0.digest && is_tag_list last.0.tags)) (last_keeps h valid t last.0 last.1) in
+    let rest = and_parts (is_text last.0.name) (is_digest last.0.digest && is_tag_list last.0.tags) parts.1 in
+    record {
+      id = target_words h valid t among;
+      name = ap (λ (o : Option TargetRow). is_text (unwrap_or (elim o [ None ↦ None | Some row ↦ Some row.name ]) [])) last.1 ∙ rest.0;
+      digest = ap (λ (o : Option TargetRow). is_digest (unwrap_or (elim o [ None ↦ None | Some row ↦ Some row.digest ]) [])) last.1 ∙ (and_parts (is_digest last.0.digest) (is_tag_list last.0.tags) rest.1).0;
+      tags = (keeps_tags h valid t).words;
+      attributes = attributes_keep h valid t;
+    }
+
+pub targets_keep : (h : CommandList) → IsValid h → (x : Target) → Has (records h).targets x → KeepsTarget x
+unfolding records
+targets_keep h valid x among = let source = has_mapped (target_in h) (target_ids h) x among in subst KeepsTarget (sym source.2) (target_keeps h valid source.0 source.1)

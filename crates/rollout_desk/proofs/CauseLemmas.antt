@@ -1,0 +1,58 @@
+-- Why a request's failed store is a call that failed: what was blamed inside its change, and how the change ended.
+use Rattle.std.proofs.Common.{◌≡◌, ◌≢◌, ◌≤◌, ◌⊎◌, inl, inr, Bool, false, Option, Some, None, Ok, refl, sym, subst, ap, ◌∙◌, arith}
+use Rattle.rollout_desk.proofs.Common.{state, Ghosts, State, HasCleanDisk, Begins, Finds, Sees, Wears, Fault, rest_shows, HoldsLedger, HoldsRecords, Ledger, ledger_of, OpenChange, Answer, answer, CommandList, Command, records, Reply, Refused, Refusal, Request, Do, Ask, Query, Asks, query_reply, reply_of, query_answer, refused_answer, accepted_step, IsValid, StandsFor, StoreFailed, answer_never_stores, refusal_of_fault, desk_state_at}
+use Rattle.rollout_model.specs.declared.request.Reply as model
+use Rattle.sql_calls.specs.declared.calls.Calls.{Calls}
+use Rattle.desk_commands.specs.Steps.{Steps}
+use Rattle.desk_commands.specs.declared.step.Step.TheVariants as step
+use Rattle.desk_reads.specs.AtLists.{AreOfList}
+use Rattle.desk_reads.specs.Counted.{AreCounted}
+use Rattle.desk_verify.proofs.ReadableRecords.{readable}
+use Rattle.desk_store.specs.Blaming.{HasFailed}
+use Rattle.desk_store.specs.Changing.{seen_in}
+use Rattle.desk_store.specs.Failing.{HasCall, HasSight, Sight}
+use Rattle.rollout_desk.specs.Causes.{FailsByCalls}
+use Rattle.rollout_desk.proofs.ApplyLemmas.{stood}
+use Rattle.rollout_desk.proofs.VerifyLemmas.{failed_within, stored}
+
+-- the machine never answers so
+pub never_answered : (h : CommandList) (request : Request) (made : Reply) (accepted : Option Command) → record { reply = made; accepted = accepted } ≡ answer h (Asks request) → made ≢ Refused StoreFailed
+never_answered h request made accepted is failed = answer_never_stores h request (ap (λ (a : Answer). a.reply) (sym is) ∙ failed)
+
+module _ {S : Type 0} (g : Ghosts S) (old : Calls S) (begun read : OpenChange S) (end : Calls S) (begins : Begins HoldsLedger (state g old.conn) (seen_in g begun))
+    (wears : Wears (seen_in g read) (state g end.conn)) (grew : old.failures ≤ begun.store.now.calls.failures) (rose : begun.store.now.calls.failures ≤ read.store.now.calls.failures) (ended : read.store.now.calls.failures ≤ end.failures) where
+  shown : (h : CommandList) → StandsFor (desk_state_at HoldsRecords false (state g old.conn)) h → Sees HoldsLedger (seen_in g begun) (ledger_of (records h))
+  shown h stands = begins.sees (ledger_of (records h)) (rest_shows HoldsLedger (state g old.conn) _ (stood (state g old.conn) h stands))
+
+  -- a fault inside
+  pub failed_inside : {Given : Ledger → Type 0} (fault : Fault) (made reply : Reply) → made ≡ Refused (refusal_of_fault fault) → ((sight : Sight) → HasSight g begun sight → Given sight.ledger → HasCall g read sight.failed fault)
+      → ((h : CommandList) → IsValid h → AreCounted (records h) → Given (ledger_of (records h))) → (reply ≡ made) ⊎ HasFailed read.store.now.calls.failures end.failures → reply ≡ Refused StoreFailed → FailsByCalls g old end
+  failed_inside fault made reply named fails given (inr failed) is h clean counted stands = failed_within (omega (arith, grew, rose)) failed (omega arith)
+  failed_inside fault made reply named fails given (inl same) is h clean counted stands =
+      let sight : Sight = record { ledger = ledger_of (records h); readable = readable h stands.valid counted; failed = old.failures } in
+      let call = fails sight (record { sees = shown h stands; before = record { failures = grew } }) (given h stands.valid counted) in
+      failed_within (omega arith) (call.call (stored fault (let told : Refused (refusal_of_fault fault) ≡ Refused StoreFailed = sym named ∙ sym same ∙ is in cc)) (omega (arith, clean, wears))) ended
+
+  -- a reply that the machine gives
+  pub well_inside : (made reply : Reply) → ((h : CommandList) → IsValid h → Sees HoldsLedger (seen_in g begun) (ledger_of (records h)) → HasCleanDisk (seen_in g read) → made ≢ Refused StoreFailed)
+      → (reply ≡ made) ⊎ HasFailed read.store.now.calls.failures end.failures → reply ≡ Refused StoreFailed → FailsByCalls g old end
+  well_inside made reply never (inr failed) is h clean counted stands = failed_within (omega (arith, grew, rose)) failed (omega arith)
+  well_inside made reply never (inl same) is h clean counted stands = absurd (never h stands.valid (shown h stands) (omega (arith, clean, wears)) (sym same ∙ is))
+
+-- ---- replies that the machine gives
+
+module _ {E : Type 0} {b c : State} (h : CommandList) (valid : IsValid h) (seen : Sees HoldsLedger b (ledger_of (records h))) (clean : HasCleanDisk c) where
+  pub query_never : (query : Query) (rust : model.Reply) → Finds HoldsLedger ledger_of {E = E} b c (Ok rust) (λ r reply. AreOfList r → reply_of reply ≡ query_reply r query) → reply_of rust ≢ Refused StoreFailed
+  query_never query rust shows = never_answered h (Ask query) (reply_of rust) None (ap (λ (x : Reply). record { reply = x; accepted = None }) ((shows.finds (records h) seen).1 clean (record { list = h; valid = valid; are = refl })) ∙ sym (query_answer h query))
+
+  pub refused_never : (command : Command) (refusal : Refusal) → Steps {E = E} b c command (Ok (step.Refused refusal)) → Refused refusal ≢ Refused StoreFailed
+  refused_never command refusal steps = never_answered h (Do command) (Refused refusal) None (sym (refused_answer h command refusal (steps.steps h valid seen clean)))
+
+  pub accepted_never : (command : Command) (rust : model.Reply) → Steps {E = E} b c command (Ok (step.Accepted rust)) → reply_of rust ≢ Refused StoreFailed
+  accepted_never command rust steps =
+      let facts = (steps.steps h valid seen).1 clean in
+      never_answered h (Do command) (reply_of rust) (Some command) (ap (λ (x : Reply). record { reply = x; accepted = Some command }) facts.1 ∙ sym (accepted_step h command valid facts.0))
+
+-- a desk that isn't stopped stands by its connection
+pub stands_running : (s : State) (was : Bool) (h : CommandList) → was ≡ false → StandsFor (desk_state_at HoldsRecords was s) h → StandsFor (desk_state_at HoldsRecords false s) h
+stands_running s was h runs stands = subst (λ (b : Bool). StandsFor (desk_state_at HoldsRecords b s) h) runs stands
