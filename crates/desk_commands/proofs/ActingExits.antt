@@ -14,7 +14,7 @@ use Rattle.campaign_core.specs.declared.rollout_checks.actions.Ending.{Ending}
 use Rattle.desk_commands.proofs.ItemSteps.{zip_map}
 use Rattle.desk_commands.specs.Endings.{outcomes_in}
 use Rattle.desk_commands.specs.Failures.{CanCount, CanEnd, CanEndBy, CanFollow, CanNumber, CanTell, HasNext, Leads, MayNumber, TakesSteps}
-use Rattle.desk_commands.specs.StandIn.{NumbersActions}
+use Rattle.desk_store.specs.Failing.{NumbersActions}
 
 -- ---- lists
 

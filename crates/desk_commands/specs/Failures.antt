@@ -25,7 +25,7 @@ use Rattle.desk_store.specs.declared.change.OpenChange.{OpenChange}
 use Rattle.desk_reads.specs.AtLists.{IsOfList}
 use Rattle.desk_reads.specs.Rollouts.{IsSeenOf}
 use Rattle.desk_reads.specs.declared.rollouts.SeenRollout.{SeenRollout}
-use Rattle.desk_commands.specs.Counted.{AreCounted}
+use Rattle.desk_reads.specs.Counted.{AreCounted}
 use Rattle.desk_commands.specs.Endings.{outcomes_in}
 use Rattle.desk_commands.specs.Telling.{entries_by, notes_by}
 use Rattle.desk_commands.specs.declared.seen_actions.SeenAction.{SeenAction}

@@ -12,7 +12,7 @@ ghost use Rattle.desk_commands.specs.Failures.{CanEndBy, CanTell, CountsIf, Fail
 ghost use Rattle.desk_store.specs.Counting.{AddsIn};
 ghost use Rattle.desk_store.specs.Changing.{MakesLedger, StaysIn};
 ghost use Rattle.desk_commands.specs.Changing.{StepsIn};
-ghost use Rattle.desk_commands.specs.StandIn.{FailsSeeing, NumbersActions};
+ghost use Rattle.desk_store.specs.Failing.{FailsSeeing, NumbersActions};
 
 use crate::endings::follow_ending;
 use crate::offering::offer_anew;

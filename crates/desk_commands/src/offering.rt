@@ -3,7 +3,7 @@
 ghost use Rattle.desk_commands.specs.Offering.{Reoffers};
 ghost use Rattle.desk_store.specs.Counting.{AddsIn};
 ghost use Rattle.desk_store.specs.Changing.{MakesLedger, StaysIn};
-ghost use Rattle.desk_commands.specs.StandIn.{FailsSeeing, NumbersActions};
+ghost use Rattle.desk_store.specs.Failing.{FailsSeeing, NumbersActions};
 
 use desk_store::{Fault, OpenChange};
 use rollout_model::ControllerId;
