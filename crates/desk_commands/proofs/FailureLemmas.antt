@@ -6,6 +6,7 @@ use Rattle.sqlite.specs.Store.{Ghosts}
 use Rattle.desk_store.specs.Blaming.{FailedBefore}
 use Rattle.desk_store.specs.Changing.{FindsLedger}
 use Rattle.desk_store.specs.Failing.{FailsGiven, HasCall, HasSight, Sight}
+use Rattle.desk_store.specs.Readable.{IsReadable}
 use Rattle.desk_store.specs.declared.change.OpenChange.{OpenChange}
 use Rattle.desk_reads.specs.AtLists.{IsOfList}
 use Rattle.desk_commands.specs.Failures.{CountsIf, FailsWriting, TakesSteps}
@@ -39,6 +40,18 @@ module _ {S B : Type 0} {g : Ghosts S} {Given : Ledger → Type 0} {old new : Op
   pub writes_as : {Asked : Ledger → Type 0} → ((l : Ledger) → Given l → Asked l) → (out : Result B Fault) → FailsWriting g Asked old new out → FailsWriting g Given old new out
   writes_as means (Ok y) w = record { to = w.to }
   writes_as means (Err fault) w = record { to = λ sight was given. w.to sight was (means sight.ledger given) }
+
+-- ---- behind a write
+
+-- what reads and then writes behind it, where the ledger between can be read
+pub writes_behind : {S B : Type 0} {g : Ghosts S} {Given : Ledger → Type 0} {old mid new : OpenChange S} → old.store.now.calls.failures ≤ mid.store.now.calls.failures → mid.store.now.calls.failures ≤ new.store.now.calls.failures
+    → ((sight : Sight) → HasSight g old sight → Given sight.ledger → (next : Ledger) × IsReadable next × Sees HoldsLedger (seen_in g mid) next) → (out : Result B Fault) → FailsWriting g (λ l. Unit {0}) mid new out → FailsWriting g Given old new out
+writes_behind low high means (Ok y) w = record { to = λ sight was. record { failures = grown was.before.failures (grown low high) } }
+writes_behind low high means (Err fault) w = record {
+  to = λ sight was given.
+      let it = means sight was given in
+      w.to (record { ledger = it.0; readable = it.1; failed = sight.failed }) (record { sees = it.2; before = record { failures = grown was.before.failures low } }) tt;
+}
 
 -- ---- by what is given
 

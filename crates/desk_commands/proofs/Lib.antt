@@ -29,3 +29,4 @@ pub mod FailureLemmas
 pub mod ActionGroups
 pub mod RolloutExits
 pub mod ActingExits
+pub mod PutExits

@@ -1,9 +1,9 @@
 -- The ledger behind a row of a put, and between its name and its tags, can be read.
-use Rattle.std.proofs.Common.{◌≡◌, ◌≤◌, ◌<◌, ◌^◌, ◌+◌, ◌&&◌, ℕ, zero, suc, pos, Bool, true, false, cond, inl, inr, List, [], ◌∷◌, map, take, length, Option, Some, None, refl, sym, ap, ◌∙◌, subst, arith}
+use Rattle.std.proofs.Common.{◌≡◌, ◌≤◌, ◌<◌, ◌^◌, ◌+◌, ◌&&◌, ℕ, zero, suc, pos, Bool, true, false, cond, inl, inr, List, [], ◌∷◌, map, take, get_or, length, Option, Some, None, Result, Err, refl, sym, ap, ◌∙◌, subst, arith}
 use Rattle.std.proofs.Common.{true≢false}
 use Rattle.std.proofs.lemmas.List.{length-map}
 use Rattle.std.specs.List.{flat_map}
-use Rattle.desk_commands.proofs.Common.{list_all, and_parts, CommandList, ◌▸◌, IsValid, Records, records, records_step, step_records, Bytes, Attribute, TargetRow, PutTargets, put_targets, Target, check, same_bytes, change_target, Ledger, ledger_of, renamed, with_changed}
+use Rattle.desk_commands.proofs.Common.{list_all, and_parts, HasCleanDisk, HoldsLedger, Sees, Wears, Fault, Refusal, CommandList, ◌▸◌, IsValid, Records, records, records_step, step_records, Bytes, Attribute, TargetRow, PutTargets, put_targets, Target, check, same_bytes, change_target, Ledger, ledger_of, renamed, with_changed}
 use Rattle.sqlite_value.specs.Order.{Row}
 use Rattle.sqlite_value.specs.declared.value.Value.TheVariants.{Int, Text}
 use Rattle.sqlite_rules.specs.Lists.{Has}
@@ -23,7 +23,12 @@ use Rattle.desk_records.proofs.HeldTables.{wanted_of}
 use Rattle.desk_records.proofs.Membership.{has_mapped}
 use Rattle.desk_store.specs.Readable.{BreaksColumn, IsReadable, second_shown, third_shown}
 use Rattle.desk_reads.proofs.TargetRules.{KeepsTarget, targets_keep}
-use Rattle.desk_commands.proofs.PutLemmas.{within_quota}
+use Rattle.desk_store.specs.Changing.{seen_in}
+use Rattle.desk_store.specs.declared.change.OpenChange.{OpenChange}
+use Rattle.sqlite.specs.Store.{Ghosts}
+use Rattle.desk_commands.proofs.FailureLemmas.{Exits, grown}
+use Rattle.desk_commands.proofs.PutLemmas.{PutsSoFar, few_left, within_quota}
+use Rattle.desk_commands.specs.Failures.{FailsWriting, TakesRow, TakesRows}
 
 -- ---- other targets
 
@@ -126,3 +131,31 @@ renamed_readable h valid row good w =
     each x among =
         let source = has_mapped (λ (t : Target). cond (same_bytes t.id row.id) (renamed row.name row.digest t) t) (records h).targets x among in
         subst KeepsTarget (sym source.2) (either (same_bytes source.0.id row.id) source.0 (targets_keep h valid source.0 source.1))
+
+-- ---- the exit of a row
+
+good_at : {X : Type 0} (p : X → Bool) (xs : List X) (k : ℕ) (x : X) → k < length xs → x ≡ get_or xs k x → list_all p xs ≡ true → p x ≡ true
+good_at p [] k x below is all = absurd (omega (arith, below))
+good_at p (y ∷ ys) zero x below is all = ap p is ∙ (and_parts (p y) (list_all p ys) all).0
+good_at p (y ∷ ys) (suc k) x below is all = good_at p ys k x (omega (arith, below)) is (and_parts (p y) (list_all p ys) all).1
+
+-- behind those that are put before it
+pub rows_end : {S : Type 0} {g : Ghosts S} {old mid new : OpenChange S} {fault : Fault} (rows : List TargetRow) (row : TargetRow) (k : ℕ) → k < length rows → row ≡ get_or rows k row → (left : Option ℕ) → PutsSoFar (seen_in g old) (seen_in g mid) (take k rows) left
+    → old.store.now.calls.failures ≤ mid.store.now.calls.failures → Wears (seen_in g mid) (seen_in g new) → FailsWriting g (TakesRow row) {A = Result (Option ℕ) Refusal} mid new (Err fault) → Exits g (TakesRows rows) old new fault
+rows_end {g = g} {old = old} {mid = mid} rows row k below at left so_far grows wears w = λ sight was given.
+    let of = given.of_list in
+    let h = of.list in
+    let so = so_far.puts h of.valid (subst (Sees HoldsLedger (seen_in g old)) of.is was.sees) in
+    let good = all_taken is_target_row k rows given.rows_keep in
+    record {
+      call = λ store clean.
+          let quiet : HasCleanDisk (seen_in g mid) = omega (arith, clean, wears) in
+          let few = few_left left (step_records (records h) (PutTargets (take k rows))) (so.1 quiet) in
+          (w.to
+          (record { ledger = ledger_of (step_records (records h) (PutTargets (take k rows))); readable = put_readable h of.valid (take k rows) good few (subst IsReadable of.is sight.readable); failed = sight.failed })
+          (record { sees = so.0; before = record { failures = grown was.before.failures grows } })
+          (record {
+            of_list = record { list = h ▸ PutTargets (take k rows); valid = put_valid h of.valid (take k rows) good few; is = ap ledger_of (put_is h of.valid (take k rows) good few) };
+            row_keeps = good_at is_target_row rows k row below at given.rows_keep;
+          })).call store clean;
+    }

@@ -1,11 +1,14 @@
 -- When a step of a command is a failed store: where the ledger that is seen can be read, only where a call of the database failed, which is
 -- counted.
-use Rattle.std.specs.Prelude.{◌≡◌, ◌<◌, ◌^◌, ℕ, ◌+◌, List, length, Option, Some, option_map, Result, Ok, Err}
-use Rattle.std.specs.List.{zip}
+use Rattle.std.specs.Prelude.{◌≡◌, ◌<◌, ◌^◌, ℕ, ◌+◌, true, List, length, Option, Some, option_map, Result, Ok, Err}
+use Rattle.std.specs.List.{list_all, zip}
 use Rattle.sqlite.specs.Store.{Ghosts}
 use Rattle.sql_calls.specs.declared.fault.Fault.{Fault}
 use Rattle.rollout_machine.specs.ByteStrings.{item_numbered}
+use Rattle.rollout_model.specs.Rows.{is_target_row}
+use Rattle.rollout_machine.specs.Commands.{TargetRow}
 use Rattle.rollout_machine.specs.RecordSteps.{last_started}
+use Rattle.rollout_machine.specs.Verdicts.{target_of}
 use Rattle.rollout_machine.specs.declared.outcome.Outcome.{Outcome}
 use Rattle.rollout_machine.specs.declared.records.GroupRecord.{GroupRecord}
 use Rattle.rollout_machine.specs.declared.records.RolloutRecord.{RolloutRecord}
@@ -19,6 +22,8 @@ use Rattle.desk_records.specs.Holds.{Ledger}
 use Rattle.desk_records.specs.RolloutRow.{stored_action}
 use Rattle.desk_records.specs.declared.rollout_row.StoredAction.{StoredAction}
 use Rattle.desk_records.specs.declared.number_row.PlacedNumber.{PlacedNumber}
+use Rattle.desk_records.specs.TargetRow.{stored_target}
+use Rattle.desk_records.specs.declared.target_row.StoredTarget.{StoredTarget}
 use Rattle.desk_store.specs.Blaming.{FailedBefore}
 use Rattle.desk_store.specs.Failing.{HasCall, HasSight, Sight}
 use Rattle.desk_store.specs.declared.change.OpenChange.{OpenChange}
@@ -40,6 +45,10 @@ module _ {S : Type 0} (g : Ghosts S) where
     -- What reads and then writes: where the ledger before can be read, and is as given, a failed store is a call that failed.
     pub record FailsWriting {A : Type 0} (old new : OpenChange S) (result : Result A Fault) : Type 0 where
       pub to : WritingTo old new result
+
+  -- .. whatever it is
+  abbrev pub FailsWritingIn : {A : Type 0} → OpenChange S → OpenChange S → Result A Fault → Type 0
+  FailsWritingIn = FailsWriting (λ l. Unit {0})
 
   module _ (If : Type 0) where
     abbrev pub CountsIfTo : {A : Type 0} → OpenChange S → OpenChange S → Result A Fault → Type 0
@@ -137,3 +146,19 @@ pub record CanTell (seen : SeenAction) (told : Option Told) : Type 0 where
   pub notes : notes_by told seen.action.notes < 2 ^ 32
   pub entries : entries_by told seen.action.entries < 2 ^ 32
   pub numbers : MayNumber told
+
+-- ---- rows of targets
+
+-- the ledger is that of a list of accepted commands, and the row keeps its rules
+pub record TakesRow (row : TargetRow) (l : Ledger) : Type 0 where
+  pub of_list : IsOfList l
+  pub row_keeps : is_target_row row ≡ true
+
+-- .. and this is kept of its target
+pub record ChangesRow (row : TargetRow) (stored : StoredTarget) (l : Ledger) : Type 0 where
+  pub takes : TakesRow row l
+  pub stored_is : Some stored ≡ option_map stored_target (target_of l.records row.id)
+
+pub record TakesRows (rows : List TargetRow) (l : Ledger) : Type 0 where
+  pub of_list : IsOfList l
+  pub rows_keep : list_all is_target_row rows ≡ true

@@ -1,5 +1,3 @@
-use Rattle.std.proofs.Common.{sym}
-use Rattle.desk_commands.proofs.Common.{false≢true}
 use Rattle.desk_commands.proofs.WorkLemmas.{number_within}
 use Rattle.desk_commands.proofs.commands.take_step.Goals as goal
 
@@ -59,6 +57,3 @@ returns-in-Feedback-clause-work g c is = number_within c.in-Feedback.feedback.nu
 
 pub returns-in-CancelFeedback-clause-work : goal.returns-in-CancelFeedback-clause-work
 returns-in-CancelFeedback-clause-work g c is = number_within c.in-CancelFeedback.feedback.number c.take_cancel_feedback.ensures.work
-
-pub returns-in-PutTargets-clause-fails : goal.returns-in-PutTargets-clause-fails
-returns-in-PutTargets-clause-fails g c is = absurd (false≢true (sym (rw c.in-PutTargets.is at is)))
