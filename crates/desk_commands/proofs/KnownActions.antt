@@ -40,7 +40,7 @@ own_held gs numbered j own = go (group_holding j gs) refl
     go (Some g) is at = sym (held_stands gs numbered j g is) ∙ at
 
 -- of an action's place the group that holds it is read, and the group of the next number
-both_read : (h : CommandList) → IsValid h → (k : ℕ) (a : ActionRecord) (x : RolloutRecord) → item_numbered (records h).actions k ≡ Some a → item_numbered (records h).rollouts a.rollout ≡ Some x
+pub both_read : (h : CommandList) → IsValid h → (k : ℕ) (a : ActionRecord) (x : RolloutRecord) → item_numbered (records h).actions k ≡ Some a → item_numbered (records h).rollouts a.rollout ≡ Some x
     → group_and_next a.position x.groups ≡ record { group = item_numbered x.groups (group_number_of x a); next = item_numbered x.groups (group_number_of x a + 1) }
 both_read h valid k a x at there =
     let it = is_members h valid k a x at there in

@@ -25,3 +25,8 @@ pub mod ActingEnds
 pub mod ActingSteps
 pub mod CreationLemmas
 pub mod StartLemmas
+pub mod FailureLemmas
+pub mod ActionGroups
+pub mod RolloutExits
+pub mod ActingExits
+pub mod PutExits

@@ -112,7 +112,7 @@ starts_one a i (suc j) (g0 ∷ gs) g so at is =
 
 -- ---- what is seen from the last one
 
-groups_count : (h : CommandList) (r : ℕ) (x : RolloutRecord) → item_numbered (records h).rollouts r ≡ Some x → length x.groups ≡ x.plan.groups.count
+pub groups_count : (h : CommandList) (r : ℕ) (x : RolloutRecord) → item_numbered (records h).rollouts r ≡ Some x → length x.groups ≡ x.plan.groups.count
 groups_count h r x there = let it = rollout_of h r x there in subst (λ (z : RolloutRecord). length z.groups ≡ z.plan.groups.count) it.same (length_each (group_in it.rollout r h) 1 it.rollout.plan.groups.count)
 
 next_is : (b : Bool) (l i : ℕ) → next_if b l ≡ Some i → (b ≡ true) × (i ≡ l + 1)

@@ -87,7 +87,7 @@ room_counted count room r size is few = omega (arith, size, is, few)
 
 -- ---- the quota
 
-within_quota : (r : Records) (rows : List TargetRow) → length (put_targets rows r.targets) ≤ 10000 → check r (PutTargets rows) ≡ None
+pub within_quota : (r : Records) (rows : List TargetRow) → length (put_targets rows r.targets) ≤ 10000 → check r (PutTargets rows) ≡ None
 within_quota r rows few =
     let same : length (ids_after rows r) ≡ length (put_targets rows r.targets) = ap length (sym (all_ids rows r.targets)) ∙ id_count (put_targets rows r.targets) in
     let at_most : length (ids_after rows r) ≤ 10000 = omega (arith, same, few) in
@@ -179,7 +179,7 @@ module _ (a b c : State) (rows : List TargetRow) (row : TargetRow) (k : ℕ) (be
         );
   }
 
-few_left : (left : Option ℕ) (r : Records) → HasRoom left r → length r.targets ≤ 10000
+pub few_left : (left : Option ℕ) (r : Records) → HasRoom left r → length r.targets ≤ 10000
 few_left None r few = few
 few_left (Some left) r room = omega (arith, room)
 

@@ -1,9 +1,12 @@
 -- How a report stands among what its action has heard, by the last number.
-use Rattle.std.proofs.Common.{◌≡◌, ℕ, suc, Bool, true, false, cond, List, [], ◌∷◌, length, Option, Some, None, option_map, refl, sym, ap, ◌∙◌, nat_eq, nat_lt, ◌&&◌, ◌≤◌, arith}
-use Rattle.desk_commands.proofs.Common.{is_none, last_or, false≢true, nat_tests, item_numbered, Records, HistoryEntry, Reported, against, entries_in, same_entry, Standing, ActionRecord, numbered_map, history_of, last_number, numbers_numbered, numbers_of, ledger_of, parts_of, PlacedNumber, StandsAgainst, StandsAmong, StandsAt, number_asked, SeenAction}
+use Rattle.std.proofs.Common.{◌≡◌, ℕ, suc, Bool, true, false, cond, List, [], ◌∷◌, length, Option, Some, None, option_map, refl, sym, ap, ◌∙◌, subst, nat_eq, nat_lt, ◌&&◌, ◌≤◌, arith}
+use Rattle.desk_commands.proofs.Common.{is_none, last_or, list_all, false≢true, nat_tests, item_numbered, Records, records, HistoryEntry, Reported, against, entries_in, same_entry, Standing, ActionRecord, numbered_map, history_of, last_number, numbers_numbered, numbers_of, Ledger, ledger_of, parts_of, PlacedNumber, StandsAgainst, StandsAmong, StandsAt, number_asked, SeenAction}
 use Rattle.rollout_machine.specs.declared.standing.Standing.TheVariants.{Fresh, Again, Old}
 use Rattle.desk_records.specs.declared.number_row.LastNumber.{LastNumber}
 use Rattle.desk_records.proofs.NumberLists.{BearsLast, bears_last}
+use Rattle.desk_records.specs.EntryRow.{keeps_details}
+use Rattle.desk_reads.proofs.HistoryKept.{details_kept}
+use Rattle.desk_commands.specs.Failures.{IsLastOf}
 
 -- ---- the last number
 
@@ -67,6 +70,38 @@ number_given (Some s) number n is = go s.action.outcome is
     go : {X : Type 0} (o : Option X) → cond (is_none o) number None ≡ Some n → number ≡ Some n
     go None is = is
     go (Some x) is = cc
+
+-- ---- the entry that bears it
+
+-- .. is there
+pub bearer_there : (r : Records) (k : ℕ) (last : LastNumber) → Some last ≡ last_number (numbers_numbered (ledger_of r).numbers k) → (e : HistoryEntry) × (item_numbered (history_of (item_numbered r.actions k)) last.it.sequence ≡ Some e)
+bearer_there r k last is = go (item_numbered r.actions k) (is ∙ ap (λ o. last_number (parts_of (λ (its : List PlacedNumber). its) o)) (numbered_map numbers_of r.actions k))
+  where
+    of : (a : ActionRecord) → (o : Option PlacedNumber) → BearsLast 1 a.history o → Some last ≡ option_map {U = LastNumber} (λ it. record { place = length (numbers_of a); it = it }) o
+        → (e : HistoryEntry) × (item_numbered (entries_in a.history) last.it.sequence ≡ Some e)
+    of a None b is = cc
+    of a (Some it) b is =
+        let same : last ≡ record { place = length (numbers_of a); it = it } = cc in
+        let at : it.sequence ≡ suc b.index = omega (arith, b.sequence_is) in (
+          b.reported.entry,
+          ap (λ (l : LastNumber). item_numbered (entries_in a.history) l.it.sequence) same ∙ ap (item_numbered (entries_in a.history)) at
+              ∙ numbered_map (λ (r : Reported). r.entry) a.history (suc b.index) ∙ ap (option_map (λ (r : Reported). r.entry)) b.got,
+        )
+
+    go : (o : Option ActionRecord) → Some last ≡ last_number (parts_of (λ (its : List PlacedNumber). its) (option_map numbers_of o)) → (e : HistoryEntry) × (item_numbered (history_of o) last.it.sequence ≡ Some e)
+    go None is = cc
+    go (Some a) is = of a (last_or None (numbers_of a)) (bears_last 1 a.history) is
+
+pub record IsKept (k sequence : ℕ) (l : Ledger) : Type 0 where
+  pub entry : HistoryEntry
+  pub keeps : list_all keeps_details (history_of (item_numbered l.records.actions k)) ≡ true
+  pub is_there : item_numbered (history_of (item_numbered l.records.actions k)) sequence ≡ Some entry
+
+pub entry_kept : (k : ℕ) (last : PlacedNumber) (l : Ledger) → IsLastOf k last l → IsKept k last.sequence l
+entry_kept k last l w =
+    let r = records w.of_list.list in
+    let it = bearer_there r k (record { place = w.place; it = last }) (w.is_last ∙ ap (λ (m : Ledger). last_number (numbers_numbered m.numbers k)) w.of_list.is) in
+    subst (IsKept k last.sequence) (sym w.of_list.is) (record { entry = it.0; keeps = details_kept r (record { list = w.of_list.list; valid = w.of_list.valid; are = refl }) k; is_there = it.1 })
 
 -- ---- against the last one
 

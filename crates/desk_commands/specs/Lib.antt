@@ -16,3 +16,4 @@ pub mod LedgerEnds
 pub mod Standings
 pub mod Creations
 pub mod Starts
+pub mod Failures

@@ -8,9 +8,11 @@ ghost use Rattle.desk_commands.specs.ActionSteps.{Acts, ActsBy, Follows, MayAct,
 ghost use Rattle.desk_commands.specs.ActionSteps.{action_change_of, canceling_by, does_act, outcome_by, stays_offered};
 ghost use Rattle.desk_commands.specs.Offering.{MayReoffer};
 ghost use Rattle.desk_commands.specs.Telling.{if_numbered, number_in};
+ghost use Rattle.desk_commands.specs.Failures.{CanEndBy, CanTell, CountsIf, FailsStepIn, FailsWriting, Leads};
 ghost use Rattle.desk_store.specs.Counting.{AddsIn};
 ghost use Rattle.desk_store.specs.Changing.{MakesLedger, StaysIn};
 ghost use Rattle.desk_commands.specs.Changing.{StepsIn};
+ghost use Rattle.desk_store.specs.Failing.{FailsSeeing, NumbersActions};
 
 use crate::endings::follow_ending;
 use crate::offering::offer_anew;
@@ -55,6 +57,7 @@ fn tell_action<S: Alter>(
 ) -> Result<(), Fault>
     ensures stays { StaysIn S.Store change.old change.new result }
     ensures writes { MakesLedger S.Store change.old change.new result (TellsAction seen.now after.now told.now) }
+    ensures counts { CountsIf S.Store (CanTell seen.now told.now) change.old change.new result }
     ensures work { AddsIn (2 + if_numbered (number_in told.now) 1) 0 change.old change.new }
 {
     let notes = notes_with(seen.action.notes, told)?;
@@ -88,6 +91,7 @@ fn offer_next<S: Alter>(
 ) -> Result<(), Fault>
     ensures stays { StaysIn S.Store change.old change.new result }
     ensures writes { MakesLedger S.Store change.old change.new result (MayReoffer (stays_offered seen.now.action.canceling after.now) seen.now.action.target) }
+    ensures fails { FailsSeeing S.Store NumbersActions change.old change.new result }
     ensures work { AddsIn 2 1 change.old change.new }
 {
     if stays_offered(seen, after) {
@@ -104,6 +108,7 @@ fn follow<S: Alter>(
 ) -> Result<(), Fault>
     ensures stays { StaysIn S.Store change.old change.new result }
     ensures writes { MakesLedger S.Store change.old change.new result (Follows seen.now after.now) }
+    ensures counts { CountsIf S.Store (CanEndBy seen.now after.now) change.old change.new result }
     ensures work { AddsIn 3 0 change.old change.new }
 {
     match after {
@@ -122,6 +127,7 @@ fn act<S: Alter>(
 ) -> Result<(), Fault>
     ensures stays { StaysIn S.Store change.old change.new result }
     ensures writes { MakesLedger S.Store change.old change.new result (Acts seen.now after.now told.now) }
+    ensures fails { FailsWriting S.Store (Leads (Acts seen.now after.now told.now)) change.old change.new result }
     ensures work { AddsIn (7 + if_numbered (number_in told.now) 1) 1 change.old change.new }
 {
     tell_action(change, seen, after, told)?;
@@ -138,6 +144,7 @@ fn may_act<S: Alter>(
 ) -> Result<(), Fault>
     ensures stays { StaysIn S.Store change.old change.new result }
     ensures writes { MakesLedger S.Store change.old change.new result (MayAct seen.now after.now told.now) }
+    ensures fails { FailsWriting S.Store (Leads (MayAct seen.now after.now told.now)) change.old change.new result }
     ensures work { AddsIn (cond (is_some after.now) (7 + if_numbered (number_in told.now) 1) 0) (cond (is_some after.now) 1 0) change.old change.new }
 {
     let Some(after) = after else {
@@ -168,6 +175,7 @@ fn act_by<S: Alter>(
 ) -> Result<(), Fault>
     ensures stays { StaysIn S.Store change.old change.new result }
     ensures writes { MakesLedger S.Store change.old change.new result (ActsBy seen.now accepted.now told.now) }
+    ensures fails { FailsWriting S.Store (Leads (ActsBy seen.now accepted.now told.now)) change.old change.new result }
     ensures work { AddsIn (cond (does_act accepted.now) (7 + if_numbered (number_in told.now) 1) 0) (cond (does_act accepted.now) 1 0) change.old change.new }
 {
     let after = action_change(accepted)?;
@@ -186,6 +194,7 @@ fn write_feedback<S: Alter, W: Copy>(
     ensures stays { StaysIn S.Store change.old change.new result }
     ensures writes { MakesLedger S.Store change.old change.new result
         (WritesFeedback seen.now accepted.now (reported (λ word. said) given.now)) }
+    ensures fails { FailsWriting S.Store (Leads (WritesFeedback seen.now accepted.now (reported (λ word. said) given.now))) change.old change.new result }
     ensures work { AddsIn (cond (does_act accepted.now) (7 + if_numbered given.now.number 1) 0) (cond (does_act accepted.now) 1 0) change.old change.new }
 {
     let entry = tell_entry(alloc, said, &given.details, given.number)?;
@@ -204,6 +213,7 @@ pub(crate) fn take_feedback<S: Alter>(
 ) -> Result<Step, Fault>
     ensures stays { StaysIn S.Store change.old change.new result }
     ensures steps { StepsIn S.Store change.old change.new (Feedback given.now) result }
+    ensures fails { FailsStepIn S.Store change.old change.new result }
     ensures work { AddsIn (12 + if_numbered given.now.number 2) (7 + if_numbered given.now.number 1) change.old change.new }
 {
     feedback_is_well_formed(given);
@@ -225,6 +235,7 @@ pub(crate) fn take_cancel_feedback<S: Alter>(
 ) -> Result<Step, Fault>
     ensures stays { StaysIn S.Store change.old change.new result }
     ensures steps { StepsIn S.Store change.old change.new (CancelFeedback given.now) result }
+    ensures fails { FailsStepIn S.Store change.old change.new result }
     ensures work { AddsIn (12 + if_numbered given.now.number 2) (7 + if_numbered given.now.number 1) change.old change.new }
 {
     feedback_is_well_formed(given);
@@ -245,6 +256,7 @@ pub(crate) fn cancel_action<S: Alter>(
 ) -> Result<Step, Fault>
     ensures stays { StaysIn S.Store change.old change.new result }
     ensures steps { StepsIn S.Store change.old change.new (CancelCommand asked.now.target asked.now.action asked.now.force) result }
+    ensures fails { FailsStepIn S.Store change.old change.new result }
 {
     cancel_is_well_formed(asked);
     let seen = see_target(change, &asked.target, asked.action)?;

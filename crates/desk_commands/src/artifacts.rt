@@ -10,6 +10,9 @@ ghost use Rattle.rollout_model.specs.Limits.{artifact_size_limit, piece_length};
 ghost use Rattle.desk_commands.specs.Additions.{AddsArtifact, AddsContents, ShowsNextArtifact, is_full};
 ghost use Rattle.desk_store.specs.Changing.{FindsIn, MakesIn, StaysIn};
 ghost use Rattle.desk_commands.specs.Changing.{StepsIn};
+ghost use Rattle.desk_reads.specs.AtLists.{FailsAtListsIn};
+ghost use Rattle.desk_store.specs.Failing.{CountsIn};
+ghost use Rattle.desk_commands.specs.Failures.{FailsStepIn};
 
 use crate::step::Step;
 use artifact_pieces::describe;
@@ -26,6 +29,7 @@ fn module_refusal<S: Alter>(
     ensures stays { StaysIn S.Store change.old change.new result }
     ensures reads { FindsIn S.Store change.old change.new result
         (λ r refusal. refusal ≡ first_refusal (take 3 (verdict_row r (AddArtifact upload.now)))) }
+    ensures fails { FailsAtListsIn S.Store change.old change.new result }
 {
     let last = change.read_last_module()?;
     if upload.module_number.get() > last {
@@ -48,6 +52,7 @@ fn next_number<S: Alter>(
     ensures stays { StaysIn S.Store change.old change.new result }
     ensures reads { FindsIn S.Store change.old change.new result
         (λ r number. number ≡ cond (is_full module_number r) None (Some (length r.artifacts + 1))) }
+    ensures fails { FailsAtListsIn S.Store change.old change.new result }
 {
     let of_module = change.read_module_artifacts(module_number)?;
     if of_module.len() >= MODULE_ARTIFACT_LIMIT {
@@ -90,6 +95,7 @@ fn next_artifact<S: Alter>(
 ) -> Result<Result<Artifact, Refusal>, Fault>
     ensures stays { StaysIn S.Store change.old change.new result }
     ensures reads { FindsIn S.Store change.old change.new result (ShowsNextArtifact upload.now) }
+    ensures fails { FailsAtListsIn S.Store change.old change.new result }
 {
     match module_refusal(change, upload)? {
         Some(refusal) => return Ok(Err(refusal)),
@@ -116,6 +122,7 @@ fn write_pieces<S: Alter>(
     requires { before * piece_length + length bytes.now ≤ artifact_size_limit }
     ensures stays { StaysIn S.Store change.old change.new result }
     ensures writes { MakesIn S.Store change.old change.new result (AddsContents number before bytes.now) }
+    ensures counts { CountsIn S.Store change.old change.new result }
 {
     if bytes.is_empty() {
         return Ok(());
@@ -134,6 +141,7 @@ fn write_whole<S: Alter>(
 ) -> Result<(), Fault>
     ensures stays { StaysIn S.Store change.old change.new result }
     ensures writes { MakesIn S.Store change.old change.new result (AddsArtifact module_number artifact.now contents.now) }
+    ensures counts { CountsIn S.Store change.old change.new result }
 {
     change.write_artifact(
         artifact.number,
@@ -152,6 +160,7 @@ pub(crate) fn add_artifact<S: Alter>(
 ) -> Result<Step, Fault>
     ensures stays { StaysIn S.Store change.old change.new result }
     ensures steps { StepsIn S.Store change.old change.new (AddArtifact upload.now) result }
+    ensures fails { FailsStepIn S.Store change.old change.new result }
 {
     let artifact = match next_artifact(change, upload)? {
         Ok(artifact) => artifact,

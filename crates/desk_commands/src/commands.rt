@@ -6,6 +6,7 @@ ghost use Rattle.rollout_machine.specs.Bounds.{is_feedback};
 ghost use Rattle.desk_store.specs.Counting.{AddsIn};
 ghost use Rattle.desk_store.specs.Changing.{StaysIn};
 ghost use Rattle.desk_commands.specs.Changing.{StepsIn};
+ghost use Rattle.desk_commands.specs.Failures.{FailsStepIn};
 
 use crate::actions::{cancel_action, take_cancel_feedback, take_feedback};
 use crate::artifacts::add_artifact;
@@ -32,6 +33,7 @@ pub fn take_step<S: Alter>(
 ) -> Result<Step, Fault>
     ensures stays { StaysIn S.Store change.old change.new result }
     ensures steps { StepsIn S.Store change.old change.new (command_of command.now) result }
+    ensures fails { FailsStepIn S.Store change.old change.new result }
     ensures work { is_feedback (command_of command.now) ≡ true → AddsIn 14 24 change.old change.new }
 {
     match command {

@@ -12,6 +12,9 @@ ghost use Rattle.desk_reads.specs.Targets.{target_listed};
 ghost use Rattle.desk_commands.specs.Creations.{CreatesRollout, IsChosen, IsWordOf, ids_matching, in_part, shown_new};
 ghost use Rattle.desk_store.specs.Changing.{FindsIn, MakesLedger, StaysIn};
 ghost use Rattle.desk_commands.specs.Changing.{StepsIn};
+ghost use Rattle.desk_reads.specs.AtLists.{FailsAtListsIn};
+ghost use Rattle.desk_store.specs.Failing.{CountsIn};
+ghost use Rattle.desk_commands.specs.Failures.{FailsStepIn};
 
 use crate::step::Step;
 use campaign_core::{NewRollout, PlanView, cut_grouping, new_rollout};
@@ -44,6 +47,7 @@ fn add_if_match<S: Alter>(
     ensures stays { StaysIn S.Store change.old change.new result }
     ensures reads { FindsIn S.Store change.old change.new result
         (λ r _. (f : Tree) → filter_of filter.now ≡ Some f → members.new.items ≡ members.old.items ++ ids_matching f (target_listed r entry ∷ [])) }
+    ensures fails { FailsAtListsIn S.Store change.old change.new result }
 {
     let id = entry.id;
     let target = read_listed(change, entry)?;
@@ -67,6 +71,7 @@ fn matching<S: Alter>(
     ensures stays { StaysIn S.Store change.old change.new result }
     ensures reads { FindsIn S.Store change.old change.new result
         (λ r members. (f : Tree) → filter_of filter.now ≡ Some f → members.items ≡ ids_matching f (map (target_listed r) entries.items)) }
+    ensures fails { FailsAtListsIn S.Store change.old change.new result }
 {
     let mut members = Vec::new(alloc);
     for entry in entries {
@@ -84,6 +89,7 @@ fn all_matching<S: Alter>(
     ensures stays { StaysIn S.Store change.old change.new result }
     ensures reads { FindsIn S.Store change.old change.new result
         (λ r members. (f : Tree) → filter_of filter.now ≡ Some f → members.items ≡ chosen (Some f) r.targets) }
+    ensures fails { FailsAtListsIn S.Store change.old change.new result }
 {
     let limit = change.read_target_count()?;
     let entries = change.read_targets(Page { offset: 0, limit })?;
@@ -99,6 +105,7 @@ fn choose<S: Alter>(
 ) -> Result<Chosen, Fault>
     ensures stays { StaysIn S.Store change.old change.new result }
     ensures reads { FindsIn S.Store change.old change.new result (IsChosen text.now) }
+    ensures fails { FailsAtListsIn S.Store change.old change.new result }
 {
     let words = text.as_str();
     let filter = match Filter::read(alloc, words) {
@@ -130,6 +137,7 @@ fn read_view<S: Alter>(
     ensures stays { StaysIn S.Store change.old change.new result }
     ensures members { IfOk result (λ view. view.members ≡ members) }
     ensures reads { FindsIn S.Store change.old change.new result (λ r view. IsChosen plan.now.filter_text r chosen.now → IsPlanView view plan.now r) }
+    ensures fails { FailsAtListsIn S.Store change.old change.new result }
 {
     let last_set = change.read_last_set()?;
     let same_name = change.read_same_rollout(&plan.name)?;
@@ -191,6 +199,7 @@ fn write_whole<S: Alter>(
     ensures stays { StaysIn S.Store change.old change.new result }
     ensures writes { MakesLedger S.Store change.old change.new result
         (CreatesRollout (in_part created.now plan.now (length members.now) plan.now.groups.count members.now) (rules_of plan.now)) }
+    ensures counts { CountsIn S.Store change.old change.new result }
 {
     let number = created.number;
     let groups = plan.groups.count().get();
@@ -223,6 +232,7 @@ pub(crate) fn create_rollout<S: Alter>(
 ) -> Result<Step, Fault>
     ensures stays { StaysIn S.Store change.old change.new result }
     ensures steps { StepsIn S.Store change.old change.new (CreateRollout plan.now) result }
+    ensures fails { FailsStepIn S.Store change.old change.new result }
 {
     let chosen = choose(alloc, change, &plan.filter_text)?;
     let Some(count) = count_of(&chosen.members) else {

@@ -4,6 +4,7 @@ ghost use Rattle.std.specs.Prelude.{◌≡◌, ◌≤◌, ◌+◌, ◌^◌, Matc
 ghost use Rattle.sql_calls.specs.declared.fault.Fault.TheVariants.{Store};
 ghost use Rattle.rollout_machine.specs.RecordSteps.{counted};
 ghost use Rattle.desk_commands.specs.Endings.{CountsOutcome, FollowsOutcome, FollowsSo, StartsGroupOf, outcomes_in};
+ghost use Rattle.desk_commands.specs.Failures.{CanCount, CanEnd, CanFollow, CountsIf, HasNext};
 ghost use Rattle.desk_store.specs.Counting.{AddsIn};
 ghost use Rattle.desk_store.specs.Changing.{MakesLedger, StaysIn};
 
@@ -45,6 +46,7 @@ fn count_outcome<S: Alter>(
 ) -> Result<(), Fault>
     ensures stays { StaysIn S.Store change.old change.new result }
     ensures writes { MakesLedger S.Store change.old change.new result (CountsOutcome seen.now outcome) }
+    ensures counts { CountsIf S.Store (CanCount seen.now outcome) change.old change.new result }
     ensures work { AddsIn 1 0 change.old change.new }
 {
     let group = counted(seen.own, outcome)?;
@@ -62,6 +64,7 @@ fn count_outcome<S: Alter>(
 fn start_next<S: Alter>(change: &mut OpenChange<'_, S>, seen: &SeenAction) -> Result<(), Fault>
     ensures stays { StaysIn S.Store change.old change.new result }
     ensures writes { MakesLedger S.Store change.old change.new result (StartsGroupOf seen.now.action.rollout seen.now.next) }
+    ensures counts { CountsIf S.Store (HasNext seen.now) change.old change.new result }
     ensures work { AddsIn 2 0 change.old change.new }
 {
     let group = seen.next.ok_or(Fault::Store)?;
@@ -76,6 +79,7 @@ fn write_following<S: Alter>(
 ) -> Result<(), Fault>
     ensures stays { StaysIn S.Store change.old change.new result }
     ensures writes { MakesLedger S.Store change.old change.new result (FollowsSo seen.now following) }
+    ensures counts { CountsIf S.Store (CanFollow seen.now following) change.old change.new result }
     ensures work { AddsIn 2 0 change.old change.new }
 {
     match following {
@@ -95,6 +99,7 @@ pub(crate) fn follow_ending<S: Alter>(
 ) -> Result<(), Fault>
     ensures stays { StaysIn S.Store change.old change.new result }
     ensures writes { MakesLedger S.Store change.old change.new result (FollowsOutcome seen.now ending.now) }
+    ensures counts { CountsIf S.Store (CanEnd seen.now ending.now) change.old change.new result }
     ensures work { AddsIn 3 0 change.old change.new }
 {
     count_outcome(change, seen, ending.outcome)?;

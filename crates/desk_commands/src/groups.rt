@@ -3,6 +3,7 @@
 ghost use Rattle.desk_store.specs.Counting.{AddsIn};
 ghost use Rattle.desk_commands.specs.GroupStarts.{StartsGroup};
 ghost use Rattle.desk_store.specs.Changing.{MakesLedger, StaysIn};
+ghost use Rattle.desk_store.specs.Failing.{CountsIn};
 
 use desk_store::{Fault, OpenChange};
 use rollout_machine::GroupRecord;
@@ -17,6 +18,7 @@ pub(crate) fn start_group<S: Alter>(
 ) -> Result<(), Fault>
     ensures stays { StaysIn S.Store change.old change.new result }
     ensures writes { MakesLedger S.Store change.old change.new result (StartsGroup number group.now) }
+    ensures counts { CountsIn S.Store change.old change.new result }
     ensures work { AddsIn 2 0 change.old change.new }
 {
     change.change_group(number, group.number, true, group.ok, group.bad, group.gone)?;

@@ -4,6 +4,8 @@ ghost use Rattle.rollout_machine.specs.Commands.{AddModule};
 ghost use Rattle.desk_commands.specs.Additions.{GetsModuleNumber};
 ghost use Rattle.desk_store.specs.Changing.{FindsIn, StaysIn};
 ghost use Rattle.desk_commands.specs.Changing.{StepsIn};
+ghost use Rattle.desk_reads.specs.AtLists.{FailsAtListsIn};
+ghost use Rattle.desk_commands.specs.Failures.{FailsStepIn};
 
 use crate::step::Step;
 use desk_store::{Fault, OpenChange};
@@ -19,6 +21,7 @@ fn next_module<S: Alter>(
 ) -> Result<Result<ModuleNo, Refusal>, Fault>
     ensures stays { StaysIn S.Store change.old change.new result }
     ensures reads { FindsIn S.Store change.old change.new result (GetsModuleNumber label.now) }
+    ensures fails { FailsAtListsIn S.Store change.old change.new result }
 {
     if change.read_same_module(label)? {
         return Ok(Err(Refusal::Exists));
@@ -38,6 +41,7 @@ pub(crate) fn add_module<S: Alter>(
 ) -> Result<Step, Fault>
     ensures stays { StaysIn S.Store change.old change.new result }
     ensures steps { StepsIn S.Store change.old change.new (AddModule label.now) result }
+    ensures fails { FailsStepIn S.Store change.old change.new result }
 {
     let number = match next_module(change, label)? {
         Ok(number) => number,

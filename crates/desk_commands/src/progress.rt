@@ -12,6 +12,8 @@ ghost use Rattle.desk_reads.specs.Rollouts.{IsSeenOf};
 ghost use Rattle.desk_commands.specs.Standings.{GoesOn, JudgesGoing, StartsIf, gone_by, pause_left, starts_by};
 ghost use Rattle.desk_store.specs.Changing.{FindsIn, MakesLedger, StaysIn};
 ghost use Rattle.desk_commands.specs.Changing.{StepsIn};
+ghost use Rattle.desk_store.specs.Failing.{FailsGiven};
+ghost use Rattle.desk_commands.specs.Failures.{CanStart, CountsIf, FailsStepIn, IsSeenFrom, IsSeenIn};
 
 use crate::group_views::group_view;
 use crate::groups::start_group;
@@ -84,6 +86,7 @@ fn read_last_rule<S: Alter>(
     ensures stays { StaysIn S.Store change.old change.new result }
     ensures reads { FindsIn S.Store change.old change.new result
         (λ r rule. (x : RolloutRecord) → item_numbered r.rollouts number ≡ Some x → IsSeenOf seen.now x → rule ≡ rule_at x.plan last) }
+    ensures fails { FailsGiven S.Store (IsSeenFrom number seen.now last) change.old change.new result }
 {
     if last == 0 {
         return Ok(own_rule(&seen.plan));
@@ -101,6 +104,7 @@ fn read_view<S: Alter>(
     ensures stays { StaysIn S.Store change.old change.new result }
     ensures reads { FindsAtListsIn S.Store change.old change.new result
         (λ now view. (x : RolloutRecord) → item_numbered now.rollouts number ≡ Some x → IsSeenOf seen.now x → view ≡ view_of x (last_started x.groups)) }
+    ensures fails { FailsGiven S.Store (IsSeenIn number seen.now) change.old change.new result }
 {
     let started = last_started(&seen.groups);
     let rule = read_last_rule(change, number, seen, started)?;
@@ -167,6 +171,7 @@ fn start_next<S: Alter>(
 ) -> Result<(), Fault>
     ensures stays { StaysIn S.Store change.old change.new result }
     ensures writes { MakesLedger S.Store change.old change.new result (StartsIf number groups.now starts) }
+    ensures counts { CountsIf S.Store (CanStart groups.now starts) change.old change.new result }
 {
     let Some(next) = starts else {
         return Ok(());
@@ -185,6 +190,7 @@ fn write_going<S: Alter>(
 ) -> Result<(), Fault>
     ensures stays { StaysIn S.Store change.old change.new result }
     ensures writes { MakesLedger S.Store change.old change.new result (GoesOn number seen.now paused starts) }
+    ensures counts { CountsIf S.Store (CanStart seen.now.groups.items starts) change.old change.new result }
 {
     change.change_rollout(number, seen.approval, seen.started, paused)?;
     start_next(change, number, &seen.groups, starts)
@@ -198,6 +204,7 @@ fn go_on<S: Alter>(
 ) -> Result<Step, Fault>
     ensures stays { StaysIn S.Store change.old change.new result }
     ensures steps { StepsIn S.Store change.old change.new (gone_by going number) result }
+    ensures fails { FailsStepIn S.Store change.old change.new result }
 {
     let found = read_seen_rollout(change, number)?;
     let Some(seen) = found else {
@@ -221,6 +228,7 @@ pub(crate) fn resume_rollout<S: Alter>(
 ) -> Result<Step, Fault>
     ensures stays { StaysIn S.Store change.old change.new result }
     ensures steps { StepsIn S.Store change.old change.new (Resume number) result }
+    ensures fails { FailsStepIn S.Store change.old change.new result }
 {
     go_on(change, number, Going::Resumed)
 }
@@ -232,6 +240,7 @@ pub(crate) fn trigger_next<S: Alter>(
 ) -> Result<Step, Fault>
     ensures stays { StaysIn S.Store change.old change.new result }
     ensures steps { StepsIn S.Store change.old change.new (TriggerNext number) result }
+    ensures fails { FailsStepIn S.Store change.old change.new result }
 {
     go_on(change, number, Going::Triggered)
 }

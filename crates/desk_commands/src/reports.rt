@@ -3,7 +3,9 @@
 ghost use Rattle.std.specs.Prelude.{◌≡◌, ◌+◌, Some};
 ghost use Rattle.rollout_machine.specs.Reports.{reported, same_cancel, same_deployment, same_entry, same_note, same_said};
 ghost use Rattle.desk_commands.specs.SeenReports.{StandsAgainst, StandsAt, asked, more_reads, number_asked, reads_for, standing_in, with_number};
-ghost use Rattle.desk_reads.specs.AtLists.{FindsAtListsIn};
+ghost use Rattle.desk_reads.specs.AtLists.{FailsAtListsIn, FindsAtListsIn};
+ghost use Rattle.desk_store.specs.Failing.{FailsGiven};
+ghost use Rattle.desk_commands.specs.Failures.{IsLastOf};
 ghost use Rattle.desk_store.specs.Counting.{AddsIn};
 ghost use Rattle.desk_store.specs.Changing.{StaysIn};
 
@@ -88,6 +90,7 @@ fn stand_against<S: Alter, W: Copy>(
     ensures stays { StaysIn S.Store change.old change.new result }
     ensures reads { FindsAtListsIn S.Store change.old change.new result
         (StandsAgainst given.now.action last.now number (reported (λ word. said) given.now).entry) }
+    ensures fails { FailsGiven S.Store (IsLastOf given.now.action last.now) change.old change.new result }
     ensures work { AddsIn (more_reads (standing_in (λ it. it) result)) (more_reads (standing_in (λ it. it) result)) change.old change.new }
 {
     if last.number.get() < number.get() {
@@ -116,6 +119,7 @@ fn see_numbered<S: Alter, W: Copy>(
     ensures stays { StaysIn S.Store change.old change.new result }
     ensures reads { FindsAtListsIn S.Store change.old change.new result
         (StandsAt given.now.action (with_number (reported (λ word. said) given.now) (Some number))) }
+    ensures fails { FailsAtListsIn S.Store change.old change.new result }
     ensures work { AddsIn (1 + more_reads (standing_in (λ seen. seen.standing) result))
         (1 + more_reads (standing_in (λ seen. seen.standing) result)) change.old change.new }
 {
@@ -164,6 +168,7 @@ pub(crate) fn see_report<S: Alter, W: Copy>(
     ensures stays { StaysIn S.Store change.old change.new result }
     ensures reads { FindsAtListsIn S.Store change.old change.new result
         (StandsAt given.now.action (asked action.now (reported (λ word. said) given.now))) }
+    ensures fails { FailsAtListsIn S.Store change.old change.new result }
     ensures work { AddsIn (reads_for given.now.number (standing_in (λ seen. seen.standing) result))
         (reads_for given.now.number (standing_in (λ seen. seen.standing) result)) change.old change.new }
 {

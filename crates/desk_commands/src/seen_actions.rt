@@ -10,6 +10,9 @@ ghost use Rattle.desk_commands.specs.SeenReports.{reads_for, standing_in};
 ghost use Rattle.desk_commands.specs.SeenActions.{MaySee, SeesIn, SeesFeedback, SeesTarget, action_view_seen};
 ghost use Rattle.desk_commands.specs.SeenActions.{cancel_view_seen, only_of, only_started, own_seen, feedback_view_seen};
 ghost use Rattle.desk_store.specs.Changing.{FindsIn, FindsLedger, StaysIn};
+ghost use Rattle.desk_store.specs.Failing.{FailsGiven};
+ghost use Rattle.desk_reads.specs.AtLists.{FailsAtListsIn};
+ghost use Rattle.desk_commands.specs.Failures.{IsActionOf};
 
 use crate::group_views::group_view;
 use crate::reports::{SeenReport, see_report};
@@ -86,6 +89,7 @@ fn see_in<S: Alter>(
 ) -> Result<SeenAction, Fault>
     ensures stays { StaysIn S.Store change.old change.new result }
     ensures reads { FindsLedger S.Store change.old change.new result (λ l seen. SeesIn l number action.now seen) }
+    ensures fails { FailsGiven S.Store (IsActionOf number action.now) change.old change.new result }
     ensures work { AddsIn 3 4 change.old change.new }
 {
     let rollout = change.read_rollout(action.rollout)?.ok_or(Fault::Store)?;
@@ -113,6 +117,7 @@ fn see_action<S: Alter>(
 ) -> Result<Option<SeenAction>, Fault>
     ensures stays { StaysIn S.Store change.old change.new result }
     ensures reads { FindsLedger S.Store change.old change.new result (MaySee number) }
+    ensures fails { FailsAtListsIn S.Store change.old change.new result }
     ensures work { AddsIn 4 5 change.old change.new }
 {
     let found = change.read_action(number)?;
@@ -160,6 +165,7 @@ pub(crate) fn see_feedback<S: Alter, W: Copy>(
     ensures stays { StaysIn S.Store change.old change.new result }
     ensures reads { FindsIn S.Store change.old change.new result
         (SeesFeedback given.now.credential given.now.action (reported (λ word. said) given.now)) }
+    ensures fails { FailsAtListsIn S.Store change.old change.new result }
     ensures work { AddsIn (5 + reads_for given.now.number (standing_in (λ seen. seen.report.standing) result))
         (6 + reads_for given.now.number (standing_in (λ seen. seen.report.standing) result)) change.old change.new }
 {
@@ -183,6 +189,7 @@ pub(crate) fn see_target<S: Alter>(
 ) -> Result<Option<SeenAction>, Fault>
     ensures stays { StaysIn S.Store change.old change.new result }
     ensures reads { FindsIn S.Store change.old change.new result (SeesTarget id.now number) }
+    ensures fails { FailsAtListsIn S.Store change.old change.new result }
     ensures work { AddsIn 5 6 change.old change.new }
 {
     let lacks = lacks_target(change, id)?;

@@ -7,6 +7,9 @@ ghost use Rattle.rollout_machine.specs.Commands.{AddSet};
 ghost use Rattle.desk_commands.specs.Additions.{AddsModules, AddsWhole, GetsSetNumber, LacksModule};
 ghost use Rattle.desk_store.specs.Changing.{FindsIn, MakesIn, StaysIn};
 ghost use Rattle.desk_commands.specs.Changing.{StepsIn};
+ghost use Rattle.desk_reads.specs.AtLists.{FailsAtListsIn};
+ghost use Rattle.desk_store.specs.Failing.{CountsIn};
+ghost use Rattle.desk_commands.specs.Failures.{FailsStepIn};
 
 use crate::step::Step;
 use desk_store::{Fault, OpenChange};
@@ -30,6 +33,7 @@ fn lacks_a_module<S: Alter>(
 ) -> Result<bool, Fault>
     ensures stays { StaysIn S.Store change.old change.new result }
     ensures reads { FindsIn S.Store change.old change.new result (LacksModule modules.now) }
+    ensures fails { FailsAtListsIn S.Store change.old change.new result }
 {
     let last = change.read_last_module()?;
     Ok(any_past(modules, last))
@@ -42,6 +46,7 @@ fn next_set<S: Alter>(
 ) -> Result<Result<SetNo, Refusal>, Fault>
     ensures stays { StaysIn S.Store change.old change.new result }
     ensures reads { FindsIn S.Store change.old change.new result (GetsSetNumber label.now) }
+    ensures fails { FailsAtListsIn S.Store change.old change.new result }
 {
     if lacks_a_module(change, &label.modules)? {
         return Ok(Err(Refusal::NotFound));
@@ -66,6 +71,7 @@ fn write_modules<S: Alter>(
     requires { before + length modules.now ≤ 8 }
     ensures stays { StaysIn S.Store change.old change.new result }
     ensures writes { MakesIn S.Store change.old change.new result (AddsModules number before modules.now) }
+    ensures counts { CountsIn S.Store change.old change.new result }
 {
     match modules {
         [] => Ok(()),
@@ -84,6 +90,7 @@ fn write_whole<S: Alter>(
 ) -> Result<(), Fault>
     ensures stays { StaysIn S.Store change.old change.new result }
     ensures writes { MakesIn S.Store change.old change.new result (AddsWhole number label.now) }
+    ensures counts { CountsIn S.Store change.old change.new result }
 {
     change.write_set(number, &label.name, &label.version)?;
     write_modules(change, number, 0, label.modules.as_slice())
@@ -97,6 +104,7 @@ pub(crate) fn add_set<S: Alter>(
 ) -> Result<Step, Fault>
     ensures stays { StaysIn S.Store change.old change.new result }
     ensures steps { StepsIn S.Store change.old change.new (AddSet label.now) result }
+    ensures fails { FailsStepIn S.Store change.old change.new result }
 {
     let number = match next_set(change, label)? {
         Ok(number) => number,

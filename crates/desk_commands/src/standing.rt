@@ -5,6 +5,8 @@ ghost use Rattle.rollout_machine.specs.Commands.{Approve, Deny, Pause};
 ghost use Rattle.desk_commands.specs.Standings.{Judges, WritesSaid, said_by};
 ghost use Rattle.desk_store.specs.Changing.{MakesLedger, StaysIn};
 ghost use Rattle.desk_commands.specs.Changing.{StepsIn};
+ghost use Rattle.desk_store.specs.Failing.{CountsIn};
+ghost use Rattle.desk_commands.specs.Failures.{FailsStepIn};
 
 use crate::step::Step;
 use campaign_core::{RolloutChange, StandingView, approve, deny, pause};
@@ -55,6 +57,7 @@ fn write_said<S: Alter>(
 ) -> Result<(), Fault>
     ensures stays { StaysIn S.Store change.old change.new result }
     ensures writes { MakesLedger S.Store change.old change.new result (WritesSaid said number seen.now) }
+    ensures counts { CountsIn S.Store change.old change.new result }
 {
     match said {
         Said::Approved => {
@@ -75,6 +78,7 @@ fn say<S: Alter>(
 ) -> Result<Step, Fault>
     ensures stays { StaysIn S.Store change.old change.new result }
     ensures steps { StepsIn S.Store change.old change.new (said_by said number) result }
+    ensures fails { FailsStepIn S.Store change.old change.new result }
 {
     let found = read_seen_rollout(change, number)?;
     let Some(seen) = found else {
@@ -95,6 +99,7 @@ pub(crate) fn approve_rollout<S: Alter>(
 ) -> Result<Step, Fault>
     ensures stays { StaysIn S.Store change.old change.new result }
     ensures steps { StepsIn S.Store change.old change.new (Approve number) result }
+    ensures fails { FailsStepIn S.Store change.old change.new result }
 {
     say(change, number, Said::Approved)
 }
@@ -106,6 +111,7 @@ pub(crate) fn deny_rollout<S: Alter>(
 ) -> Result<Step, Fault>
     ensures stays { StaysIn S.Store change.old change.new result }
     ensures steps { StepsIn S.Store change.old change.new (Deny number) result }
+    ensures fails { FailsStepIn S.Store change.old change.new result }
 {
     say(change, number, Said::Denied)
 }
@@ -117,6 +123,7 @@ pub(crate) fn pause_rollout<S: Alter>(
 ) -> Result<Step, Fault>
     ensures stays { StaysIn S.Store change.old change.new result }
     ensures steps { StepsIn S.Store change.old change.new (Pause number) result }
+    ensures fails { FailsStepIn S.Store change.old change.new result }
 {
     say(change, number, Said::Paused)
 }

@@ -8,6 +8,9 @@ ghost use Rattle.desk_commands.specs.Standings.{Judges};
 ghost use Rattle.desk_commands.specs.Starts.{AddsActions, ReadsMembers, StartsWhole};
 ghost use Rattle.desk_store.specs.Changing.{FindsLedger, MakesLedger, StaysIn};
 ghost use Rattle.desk_commands.specs.Changing.{StepsIn};
+ghost use Rattle.desk_reads.specs.AtLists.{FailsAtListsIn};
+ghost use Rattle.desk_store.specs.Failing.{CountsIn};
+ghost use Rattle.desk_commands.specs.Failures.{FailsStepIn};
 
 use crate::groups::start_group;
 use crate::standing::refusal_in;
@@ -38,6 +41,7 @@ fn read_all_members<S: Alter>(
 ) -> Result<Vec<ControllerId>, Fault>
     ensures stays { StaysIn S.Store change.old change.new result }
     ensures reads { FindsLedger S.Store change.old change.new result (λ l members. ReadsMembers number count l members.items) }
+    ensures fails { FailsAtListsIn S.Store change.old change.new result }
 {
     let page = Page {
         offset: 0,
@@ -57,6 +61,7 @@ fn write_actions<S: Alter>(
     requires { last + length members.now ≤ 2147483647 }
     ensures stays { StaysIn S.Store change.old change.new result }
     ensures writes { MakesLedger S.Store change.old change.new result (AddsActions number last members.now (length members.now)) }
+    ensures counts { CountsIn S.Store change.old change.new result }
 {
     for (i, id) in members.iter().enumerate() {
         let place = i as u32 + 1;
@@ -78,6 +83,7 @@ fn write_start<S: Alter>(
     requires { last + length members.now ≤ 2147483647 }
     ensures stays { StaysIn S.Store change.old change.new result }
     ensures writes { MakesLedger S.Store change.old change.new result (StartsWhole number seen.now first.now last members.now) }
+    ensures counts { CountsIn S.Store change.old change.new result }
 {
     change.change_rollout(number, seen.approval, true, seen.paused)?;
     write_actions(change, number, last, members)?;
@@ -111,6 +117,7 @@ pub(crate) fn start_rollout<S: Alter>(
 ) -> Result<Step, Fault>
     ensures stays { StaysIn S.Store change.old change.new result }
     ensures steps { StepsIn S.Store change.old change.new (Start number) result }
+    ensures fails { FailsStepIn S.Store change.old change.new result }
 {
     let found = read_seen_rollout(change, number)?;
     let Some(seen) = found else {

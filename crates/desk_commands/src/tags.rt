@@ -5,7 +5,9 @@ ghost use Rattle.rollout_machine.specs.Commands.{Tag, Untag};
 ghost use Rattle.rollout_machine.specs.Verdicts.{target_of};
 ghost use Rattle.desk_store.specs.Counting.{AddsIn};
 ghost use Rattle.desk_store.specs.Changing.{FindsIn, StaysIn};
+ghost use Rattle.desk_reads.specs.AtLists.{FailsAtListsIn};
 ghost use Rattle.desk_commands.specs.Changing.{StepsIn};
+ghost use Rattle.desk_commands.specs.Failures.{FailsStepIn};
 
 use crate::step::Step;
 use desk_store::{Fault, OpenChange};
@@ -20,6 +22,7 @@ pub(crate) fn lacks_target<S: Alter>(
 ) -> Result<bool, Fault>
     ensures stays { StaysIn S.Store change.old change.new result }
     ensures reads { FindsIn S.Store change.old change.new result (λ r lacks. lacks ≡ is_none (target_of r id.now)) }
+    ensures fails { FailsAtListsIn S.Store change.old change.new result }
     ensures work { AddsIn 1 1 change.old change.new }
 {
     let found = change.read_target(id)?;
@@ -34,6 +37,7 @@ pub(crate) fn tag_target<S: Alter>(
 ) -> Result<Step, Fault>
     ensures stays { StaysIn S.Store change.old change.new result }
     ensures steps { StepsIn S.Store change.old change.new (Tag id.now tag.now) result }
+    ensures fails { FailsStepIn S.Store change.old change.new result }
 {
     if lacks_target(change, id)? {
         return Ok(Step::Refused(Refusal::NotFound));
@@ -57,6 +61,7 @@ pub(crate) fn untag_target<S: Alter>(
 ) -> Result<Step, Fault>
     ensures stays { StaysIn S.Store change.old change.new result }
     ensures steps { StepsIn S.Store change.old change.new (Untag id.now tag.now) result }
+    ensures fails { FailsStepIn S.Store change.old change.new result }
 {
     if lacks_target(change, id)? {
         return Ok(Step::Refused(Refusal::NotFound));

@@ -5,6 +5,9 @@ ghost use Rattle.rollout_machine.specs.Commands.{PutTargets};
 ghost use Rattle.desk_commands.specs.Imports.{AddsTags, DropsTags, LeavesRoom, PutsAll, PutsOver, PutsRow, Renames, Retags};
 ghost use Rattle.desk_store.specs.Changing.{FindsIn, MakesIn, StaysIn, seen_in};
 ghost use Rattle.desk_commands.specs.Changing.{StepsIn};
+ghost use Rattle.desk_store.specs.Failing.{CountsIn};
+ghost use Rattle.desk_commands.specs.Failures.{ChangesRow, FailsStepIn, FailsWriting, FailsWritingIn, TakesRow, TakesRows};
+ghost use Rattle.desk_reads.specs.AtLists.{FailsAtListsIn};
 
 use crate::step::Step;
 use desk_store::{Fault, OpenChange, StoredTarget};
@@ -21,6 +24,7 @@ fn drop_tags<S: Alter>(
 ) -> Result<(), Fault>
     ensures stays { StaysIn S.Store change.old change.new result }
     ensures writes { MakesIn S.Store change.old change.new result (DropsTags id.now had.now wanted.now) }
+    ensures counts { CountsIn S.Store change.old change.new result }
 {
     match had {
         [] => Ok(()),
@@ -43,6 +47,7 @@ fn add_tags<S: Alter>(
 ) -> Result<(), Fault>
     ensures stays { StaysIn S.Store change.old change.new result }
     ensures writes { MakesIn S.Store change.old change.new result (AddsTags id.now tags.now had.now) }
+    ensures counts { CountsIn S.Store change.old change.new result }
 {
     match tags {
         [] => Ok(()),
@@ -64,6 +69,7 @@ fn retag<S: Alter>(
 ) -> Result<(), Fault>
     ensures stays { StaysIn S.Store change.old change.new result }
     ensures writes { MakesIn S.Store change.old change.new result (Retags id.now tags.now) }
+    ensures fails { FailsWritingIn S.Store change.old change.new result }
 {
     let had = change.read_target_tags(id)?;
     drop_tags(change, id, &had, tags.as_slice())?;
@@ -78,6 +84,7 @@ fn rename<S: Alter>(
 ) -> Result<(), Fault>
     ensures stays { StaysIn S.Store change.old change.new result }
     ensures writes { MakesIn S.Store change.old change.new result (Renames row.now stored.now) }
+    ensures counts { CountsIn S.Store change.old change.new result }
 {
     if stored.name == row.name && stored.digest == row.digest {
         return Ok(());
@@ -89,6 +96,7 @@ fn rename<S: Alter>(
 fn add_row<S: Alter>(change: &mut OpenChange<'_, S>, row: &TargetRow) -> Result<(), Fault>
     ensures stays { StaysIn S.Store change.old change.new result }
     ensures writes { MakesIn S.Store change.old change.new result (PutsOver None row.now) }
+    ensures counts { CountsIn S.Store change.old change.new result }
 {
     change.write_target(&row.id, &row.name, &row.digest)?;
     add_tags(change, &row.id, row.tags.as_slice(), &[])
@@ -102,6 +110,7 @@ fn change_row<S: Alter>(
 ) -> Result<(), Fault>
     ensures stays { StaysIn S.Store change.old change.new result }
     ensures writes { MakesIn S.Store change.old change.new result (PutsOver (Some stored.now) row.now) }
+    ensures fails { FailsWriting S.Store (ChangesRow row.now stored.now) change.old change.new result }
 {
     rename(change, row, stored)?;
     retag(change, &row.id, &row.tags)
@@ -111,6 +120,7 @@ fn change_row<S: Alter>(
 fn room_left<S: Alter>(change: &mut OpenChange<'_, S>, left: Option<u32>) -> Result<u32, Fault>
     ensures stays { StaysIn S.Store change.old change.new result }
     ensures reads { FindsIn S.Store change.old change.new result (LeavesRoom left) }
+    ensures fails { FailsAtListsIn S.Store change.old change.new result }
 {
     match left {
         Some(known) => return Ok(known),
@@ -130,6 +140,7 @@ fn put_row<S: Alter>(
 ) -> Result<Result<Option<u32>, Refusal>, Fault>
     ensures stays { StaysIn S.Store change.old change.new result }
     ensures puts { PutsRow (seen_in S.Store change.old) (seen_in S.Store change.new) row.now left result }
+    ensures fails { FailsWriting S.Store (TakesRow row.now) change.old change.new result }
 {
     let found = change.read_target(&row.id)?;
     match &found {
@@ -157,6 +168,7 @@ fn put_rows<S: Alter>(
 ) -> Result<Option<Refusal>, Fault>
     ensures stays { StaysIn S.Store change.old change.new result }
     ensures puts { PutsAll (seen_in S.Store change.old) (seen_in S.Store change.new) rows.now result }
+    ensures fails { FailsWriting S.Store (TakesRows rows.now) change.old change.new result }
 {
     let mut left = None;
     for row in rows {
@@ -186,6 +198,7 @@ pub(crate) fn put_targets<S: Alter>(
 ) -> Result<Step, Fault>
     ensures stays { StaysIn S.Store change.old change.new result }
     ensures steps { StepsIn S.Store change.old change.new (PutTargets rows.now) result }
+    ensures fails { FailsStepIn S.Store change.old change.new result }
 {
     let rows = rows.as_slice();
     let Some(count) = count_of(rows) else {

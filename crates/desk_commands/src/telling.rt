@@ -3,6 +3,7 @@
 ghost use Rattle.std.specs.Prelude.{◌+◌};
 ghost use Rattle.desk_commands.specs.Counts.{CountsTo};
 ghost use Rattle.desk_commands.specs.Telling.{WritesNumber, WritesTold, entries_by, if_numbered, notes_by, number_in};
+ghost use Rattle.desk_commands.specs.Failures.{CanNumber, CountsIf, MayNumber};
 ghost use Rattle.desk_store.specs.Counting.{AddsIn};
 ghost use Rattle.desk_store.specs.Changing.{MakesLedger, StaysIn};
 
@@ -48,6 +49,7 @@ fn write_number<S: Alter>(
 ) -> Result<(), Fault>
     ensures stays { StaysIn S.Store change.old change.new result }
     ensures writes { MakesLedger S.Store change.old change.new result (WritesNumber action place told.now) }
+    ensures counts { CountsIf S.Store (CanNumber told.now) change.old change.new result }
     ensures work { AddsIn (if_numbered told.now.entry.number 1) 0 change.old change.new }
 {
     match told.entry.number {
@@ -72,6 +74,7 @@ fn write_report<S: Alter>(
 ) -> Result<(), Fault>
     ensures stays { StaysIn S.Store change.old change.new result }
     ensures writes { MakesLedger S.Store change.old change.new result (WritesTold action place (Some told.now)) }
+    ensures counts { CountsIf S.Store (CanNumber told.now) change.old change.new result }
     ensures work { AddsIn (1 + if_numbered told.now.entry.number 1) 0 change.old change.new }
 {
     change.write_entry(action, place, &told.entry)?;
@@ -87,6 +90,7 @@ pub(crate) fn write_told<S: Alter>(
 ) -> Result<(), Fault>
     ensures stays { StaysIn S.Store change.old change.new result }
     ensures writes { MakesLedger S.Store change.old change.new result (WritesTold action place told.now) }
+    ensures counts { CountsIf S.Store (MayNumber told.now) change.old change.new result }
     ensures work { AddsIn (1 + if_numbered (number_in told.now) 1) 0 change.old change.new }
 {
     match told {

@@ -1,8 +1,10 @@
-use Rattle.desk_commands.proofs.Common.{ledger_made, records_are_sound, records}
+use Rattle.desk_commands.proofs.Common.{ledger_made, ledger_of, records_are_sound, records, step_records, ActsBy, Cancel}
 use Rattle.desk_commands.proofs.ComposeLemmas.{accepted_at, refused_at}
-use Rattle.std.proofs.Common.{refl}
+use Rattle.std.proofs.Common.{refl, None}
 use Rattle.desk_commands.proofs.ActingSteps.{cancel_accepted, cancel_acts}
+use Rattle.desk_commands.proofs.FailureLemmas.{asked_at, writes_end}
 use Rattle.desk_commands.proofs.KnownActions.{cancel_viewed}
+use Rattle.desk_commands.specs.Failures.{Leads}
 use Rattle.desk_commands.proofs.actions.cancel_action.Goals as goal
 
 pub returns-in-Err-clause-steps : goal.returns-in-Err-clause-steps
@@ -19,3 +21,12 @@ returns-clause-steps g c =
     accepted_at c.in_ok-seen.ensures.reads _
     (cancel_acts a.target a.action a.force c.in_ok-seen.seen c.in-Ok.accepted c.cancel_is_well_formed.ensures decides makes) (ledger_made _ c.in_ok-act_by.ensures.writes) _
     (λ h valid w. (cancel_accepted a.target a.action a.force c.in_ok-seen.seen c.in-Ok.accepted c.cancel_is_well_formed.ensures decides makes h valid w, refl))
+
+pub returns-in_err-act_by-clause-fails : goal.returns-in_err-act_by-clause-fails
+returns-in_err-act_by-clause-fails g c =
+    let a = c.args.asked.now in
+    let decides = rw c.cancel_view.ensures at c.in-Ok.ensures.decides in
+    let makes = rw c.cancel_view.ensures at c.in-Ok.ensures.makes in
+    writes_end (asked_at (λ l given. given.of_list) c.in_ok-seen.ensures.reads (Leads (ActsBy c.in_ok-seen.seen c.in-Ok.accepted None)) c.in_ok-seen.ensures.stays.grows.failures c.in_err-act_by.ensures.writes.wears
+    (λ h valid w steps. record { takes = steps; next = ledger_of (step_records (records h) (Cancel a.target a.action a.force)); changes = cancel_acts a.target a.action a.force c.in_ok-seen.seen c.in-Ok.accepted c.cancel_is_well_formed.ensures decides makes h valid w })
+    c.in_err-act_by.ensures.fails.to) _ c.from_residual-in_err-act_by.ensures.1

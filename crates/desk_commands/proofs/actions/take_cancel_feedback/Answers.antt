@@ -1,12 +1,14 @@
-use Rattle.desk_commands.proofs.Common.{ledger_made, records_are_sound, CancelFeedback, records, OfCancel, reported, canceling_after, does_act, feedback_view_seen}
+use Rattle.desk_commands.proofs.Common.{ledger_made, ledger_of, records_are_sound, step_records, WritesFeedback, CancelFeedback, records, OfCancel, reported, canceling_after, does_act, feedback_view_seen}
 use Rattle.desk_commands.proofs.ComposeLemmas.{accepted_at, refused_at}
 use Rattle.std.proofs.Common.{refl}
 use Rattle.rollout_machine.specs.Actions.{outcome_of_cancel}
 use Rattle.campaign_core.specs.declared.rollout_checks.RolloutChange.TheVariants as change
 use Rattle.campaign_core.specs.declared.rollout_checks.RolloutCommandView.TheVariants as view
 use Rattle.desk_commands.proofs.ActingSteps.{acts_on_fresh, feedback_taken}
+use Rattle.desk_commands.proofs.FailureLemmas.{asked_at, writes_end}
 use Rattle.desk_commands.proofs.KnownActions.{feedback_viewed}
 use Rattle.desk_commands.proofs.WorkLemmas.{taken_within}
+use Rattle.desk_commands.specs.Failures.{Leads}
 use Rattle.desk_commands.proofs.actions.take_cancel_feedback.Goals as goal
 
 pub returns-in-Err-clause-steps : goal.returns-in-Err-clause-steps
@@ -32,3 +34,14 @@ returns-clause-work g c =
     let makes = rw c.feedback_view.ensures at c.in-Ok.ensures.makes in
     let fresh = acts_on_fresh seen c.in-Ok.accepted given.credential given.action (reported OfCancel given) (CancelFeedback given) (view.CancelFeedback (feedback_view_seen seen)) change.CancelFeedback (outcome_of_cancel given.word) (canceling_after given.word) makes (λ o. refl) in
     taken_within given.number seen.report.standing (does_act c.in-Ok.accepted) fresh c.in_ok-seen.ensures.work c.in_ok-write_feedback.ensures.work
+
+pub returns-in_err-write_feedback-clause-fails : goal.returns-in_err-write_feedback-clause-fails
+returns-in_err-write_feedback-clause-fails g c =
+    let given = c.args.given.now in
+    let seen = c.in_ok-seen.seen in
+    let decides = rw c.feedback_view.ensures at c.in-Ok.ensures.decides in
+    let makes = rw c.feedback_view.ensures at c.in-Ok.ensures.makes in
+    let taken = feedback_taken seen c.in-Ok.accepted given.credential given.action (reported OfCancel given) (CancelFeedback given) (view.CancelFeedback (feedback_view_seen seen)) change.CancelFeedback (outcome_of_cancel given.word) (canceling_after given.word) makes
+    (λ o. refl) (λ rs w. w) (λ o old new leads. leads) refl c.feedback_is_well_formed.ensures decides in
+    writes_end (asked_at (λ l given. given.of_list) c.in_ok-seen.ensures.reads (Leads (WritesFeedback seen c.in-Ok.accepted (reported OfCancel given))) c.in_ok-seen.ensures.stays.grows.failures c.in_err-write_feedback.ensures.writes.wears
+    (λ h valid w steps. record { takes = steps; next = ledger_of (step_records (records h) (CancelFeedback given)); changes = (taken h valid w).1 }) c.in_err-write_feedback.ensures.fails.to) _ c.from_residual-in_err-write_feedback.ensures.1

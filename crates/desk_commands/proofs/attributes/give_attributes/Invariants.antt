@@ -1,10 +1,12 @@
 use Rattle.std.proofs.Common.{Ok, take}
 use Rattle.desk_commands.proofs.Common.{Fault, MakesIn, StaysIn, GivesAttributes}
+use Rattle.desk_store.specs.Failing.{CountsIn}
 use Rattle.desk_commands.proofs.attributes.give_attributes.Given as goal
 
 -- the attributes before this index are given
 abbrev pub invariant-loop-i : goal.invariant-loop-i
 invariant-loop-i g l = record {
   stays : StaysIn g.S.Store l.fn.change l.change (Ok (tt {0}));
+  counts : CountsIn g.S.Store l.fn.change l.change (Ok (tt {0}));
   writes : MakesIn g.S.Store {A = Unit {0}} {E = Fault} l.fn.change l.change (Ok tt) (GivesAttributes l.id l.had (take l.i l.given));
 }

@@ -7,6 +7,7 @@ use Rattle.desk_commands.proofs.creation.matching.Goals as goal
 pub loop-entry-preserved : goal.loop-entry-preserved
 loop-entry-preserved g c = record {
   stays = search rules;
+  fails = search rules;
   reads = finds_as (both_found c.loop-entry.invariant.reads c.in_ok-add_if_match.ensures.reads)
       (λ r is f tree. one_more_matched r f c.loop-entry.yielded c.in-Some.entry _ _ (is.0 f tree) (is.1 f tree));
 }

@@ -1,8 +1,11 @@
 use Rattle.desk_commands.proofs.Common.{both_found, ledger_made, ledger_of, records, GoesOn}
 use Rattle.desk_commands.proofs.ComposeLemmas.{accepted_at, refused_at}
 use Rattle.std.proofs.Common.{Ok, ◌∙◌}
+use Rattle.desk_commands.proofs.FailureLemmas.{asked_at, counted, grown, writes_end}
+use Rattle.desk_commands.proofs.RolloutExits.{can_start, found_in}
 use Rattle.desk_commands.proofs.ProgressLemmas.{cant_go, gone_on, gone_reply}
 use Rattle.desk_commands.proofs.StandingLemmas.{none_there, of_list, seen_there}
+use Rattle.desk_commands.specs.Failures.{CanStart, IsSeenIn}
 use Rattle.desk_commands.proofs.progress.go_on.Goals as goal
 
 pub returns-in_default-clause-steps : goal.returns-in_default-clause-steps
@@ -31,3 +34,25 @@ returns-clause-steps g c =
     _ (λ h valid sees.
     let it = seen_there h valid number seen sees.0 in
     (c.refusal_of.ensures h number it.rollout it.at (sees.1 (of_list h valid) it.rollout it.at.is_there it.at.is_seen) ∙ c.in_default-refusal_of.is, gone_reply going _ number))
+
+pub returns-in_err-rollout-clause-fails : goal.returns-in_err-rollout-clause-fails
+returns-in_err-rollout-clause-fails g c =
+    let number = c.args.number in
+    let seen = c.in-Some.seen in
+    writes_end (asked_at (λ l given. given.of_list) (rw c.in-Some.is at c.in_ok-found.ensures.reads) (IsSeenIn number seen) c.in_ok-found.ensures.stays.grows.failures c.in_err-rollout.ensures.reads.wears
+    (λ h valid sees given. found_in h number seen (seen_there h valid number seen sees)) c.in_err-rollout.ensures.fails.to) _ c.from_residual-in_err-rollout.ensures.1
+
+pub returns-in_err-write_going-clause-fails : goal.returns-in_err-write_going-clause-fails
+returns-in_err-write_going-clause-fails g c =
+    let going = c.args.going in
+    let number = c.args.number in
+    let seen = c.in-Some.seen in
+    let starts = c.start_of-starts.result in
+    writes_end (asked_at (λ l given. given.of_list) (both_found (rw c.in-Some.is at c.in_ok-found.ensures.reads) c.in_ok-rollout.ensures.reads) (λ l. CanStart seen.groups.items starts)
+    (grown c.in_ok-found.ensures.stays.grows.failures c.in_ok-rollout.ensures.stays.grows.failures) c.in_err-write_going.ensures.writes.wears
+    (λ h valid sees given.
+    let it = seen_there h valid number seen sees.0 in
+    let view = sees.1 (of_list h valid) it.rollout it.at.is_there it.at.is_seen in
+    can_start number seen c.pause_of-paused.result starts _ _
+    (gone_on going h number seen it c.number_is_well_formed.ensures c.in_ok-rollout.rollout view _ c.pause_of-paused.ensures _ c.start_of-starts.ensures (c.refusal_of.ensures h number it.rollout it.at view ∙ c.in_default-refusal_of.is)))
+    (counted c.in_err-write_going.ensures.counts)) _ c.from_residual-in_err-write_going.ensures.1

@@ -1,5 +1,7 @@
 use Rattle.desk_commands.proofs.Common.{finds_as, item_numbered, last_started, Records}
 use Rattle.std.proofs.Common.{sym, ap, ◌∙◌}
+use Rattle.desk_commands.proofs.FailureLemmas.{never_given, reads_end}
+use Rattle.desk_commands.proofs.RolloutExits.{ends_in}
 use Rattle.desk_commands.proofs.ProgressLemmas.{seen_view}
 use Rattle.desk_commands.proofs.progress.read_view.Goals as goal
 
@@ -10,3 +12,11 @@ returns-clause-reads g c =
     seen_view of.list c.args.number c.args.seen.now x (record { valid = of.valid; is_there = ap (λ (rs : Records). item_numbered rs.rollouts c.args.number) (sym of.are) ∙ there; is_seen = seen })
     c.last_started-started.result c.get.result c.in_ok-rule.rule c.group_at.result c.in_ok-last.last (c.last_started-started.ensures ∙ ap last_started c.deref.ensures.value) (is x there seen)
     (c.group_at.ensures ∙ ap (λ gs. item_numbered gs c.last_started-started.result) c.deref-2.ensures.value) c.in_ok-last.ensures c.get.ensures.value)
+
+pub returns-in_err-rule-clause-fails : goal.returns-in_err-rule-clause-fails
+returns-in_err-rule-clause-fails g c =
+    reads_end (λ sight was given. c.in_err-rule.ensures.fails.to sight was (record { sees = given; last_is = c.last_started-started.ensures ∙ ap last_started c.deref.ensures.value })) _ c.from_residual.ensures.1
+
+pub returns-in_err-last-clause-fails : goal.returns-in_err-last-clause-fails
+returns-in_err-last-clause-fails g c =
+    reads_end (never_given (λ l given. ends_in c.args.number c.args.seen.now l given c.last_started-started.result _ (c.group_at.ensures ∙ ap (λ gs. item_numbered gs c.last_started-started.result) c.deref-2.ensures.value) c.in_err-last.ensures.1)) _ c.from_residual-in_err-last.ensures.1

@@ -1,5 +1,6 @@
 use Rattle.desk_commands.proofs.Common.{both_found, finds_as, ledger_found}
 use Rattle.desk_commands.proofs.ReportLemmas.{none_at, stands_at}
+use Rattle.desk_commands.proofs.FailureLemmas.{asked, reads_end}
 use Rattle.desk_commands.proofs.reports.see_numbered.Goals as goal
 
 pub returns-in_ok-standing-in-Some-clause-reads : goal.returns-in_ok-standing-in-Some-clause-reads
@@ -10,3 +11,8 @@ returns-in_ok-standing-in-Some-clause-reads g c =
 pub returns-in-None-clause-reads : goal.returns-in-None-clause-reads
 returns-in-None-clause-reads g c =
     finds_as (ledger_found _ (rw c.in-None.is at c.in_ok-found.ensures.reads)) (λ r is of. none_at r c.args.given.now.action c.args.number _ is)
+
+pub returns-in_err-standing-in-Some-clause-fails : goal.returns-in_err-standing-in-Some-clause-fails
+returns-in_err-standing-in-Some-clause-fails g c =
+    reads_end (asked (rw c.in-Some.is at c.in_ok-found.ensures.reads) c.in_ok-found.ensures.stays.grows.failures c.in_err-standing-in-Some.ensures.reads.wears
+    (λ l is of. record { of_list = of; place = c.in-Some.last.place; is_last = is }) c.in_err-standing-in-Some.ensures.fails.to) _ c.from_residual-in_err-standing-in-Some.ensures.1

@@ -1,8 +1,9 @@
 use Rattle.desk_commands.proofs.Common.{finds_as, ledger_found}
 use Rattle.std.proofs.Common.{true, false, sym, ◌∙◌}
 use Rattle.desk_reads.proofs.HistoryKept.{details_kept}
-use Rattle.desk_commands.proofs.ReportLemmas.{stands_equal}
+use Rattle.desk_commands.proofs.ReportLemmas.{entry_kept, stands_equal}
 use Rattle.desk_commands.proofs.SeenLemmas.{ok_or_some}
+use Rattle.desk_commands.proofs.FailureLemmas.{never, never_missing, reads_end}
 use Rattle.desk_commands.proofs.reports.stand_against.Goals as goal
 
 pub returns-then-same_entry-clause-reads : goal.returns-then-same_entry-clause-reads
@@ -16,3 +17,8 @@ returns-clause-reads g c =
     finds_as (ledger_found _ c.in_ok-read_entry.ensures.reads)
     (λ r is of. stands_equal c.args.last.now c.args.number _ r c.args.given.now.action c.in_ok-entry.entry false (rw (c.get.ensures.value, c.get-2.ensures.value) at c.if-get.false) (rw (c.get-3.ensures.value, c.get-4.ensures.value) at c.if-get-2.false)
     (sym c.if-same_entry.false ∙ c.same_entry.ensures) (sym (is (details_kept r of c.args.given.now.action)) ∙ ok_or_some _ _ _ c.in_ok-entry.ensures.value))
+
+pub returns-in_err-entry-clause-fails : goal.returns-in_err-entry-clause-fails
+returns-in_err-entry-clause-fails g c =
+    reads_end (never c.in_ok-read_entry.ensures.reads
+    (λ l is given. let it = entry_kept c.args.given.now.action c.args.last.now l given in never_missing _ _ _ it.entry c.in_err-entry.ensures.value (is it.keeps ∙ it.is_there))) _ c.from_residual-in_err-entry.ensures.1

@@ -1,5 +1,6 @@
 use Rattle.desk_commands.proofs.Common.{both_found, finds_as}
 use Rattle.desk_commands.proofs.SeenLemmas.{not_there, seen_there}
+use Rattle.desk_commands.proofs.FailureLemmas.{asked, reads_end}
 use Rattle.desk_commands.proofs.seen_actions.see_action.Goals as goal
 
 pub returns-in_ok-seen-in-Some-clause-reads : goal.returns-in_ok-seen-in-Some-clause-reads
@@ -9,3 +10,8 @@ returns-in_ok-seen-in-Some-clause-reads g c =
 
 pub returns-in-None-clause-reads : goal.returns-in-None-clause-reads
 returns-in-None-clause-reads g c = finds_as (rw c.in-None.is at c.in_ok-found.ensures.reads) (λ l is. not_there l c.args.number is)
+
+pub returns-in_err-seen-in-Some-clause-fails : goal.returns-in_err-seen-in-Some-clause-fails
+returns-in_err-seen-in-Some-clause-fails g c =
+    reads_end (asked (rw c.in-Some.is at c.in_ok-found.ensures.reads) c.in_ok-found.ensures.stays.grows.failures c.in_err-seen-in-Some.ensures.reads.wears
+    (λ l is of. record { of_list = of; is_there = is }) c.in_err-seen-in-Some.ensures.fails.to) _ c.from_residual-in_err-seen-in-Some.ensures.1

@@ -1,7 +1,9 @@
 use Rattle.desk_commands.proofs.Common.{both_found, ledger_found, ledger_made, records, ledger_of, StartsWhole}
 use Rattle.desk_commands.proofs.ComposeLemmas.{accepted_at, refused_at}
-use Rattle.std.proofs.Common.{Ok, refl, sym, ◌∙◌}
+use Rattle.std.proofs.Common.{Ok, refl, sym, ◌∙◌, arith, rules}
 use Rattle.desk_commands.proofs.StandingLemmas.{none_there, seen_there}
+use Rattle.desk_commands.proofs.FailureLemmas.{never_at, never_missing, writes_end}
+use Rattle.desk_commands.proofs.RolloutExits.{first_there, found_in, numbers_left}
 use Rattle.desk_commands.proofs.StartLemmas.{not_there, starts_whole}
 use Rattle.desk_commands.proofs.SeenLemmas.{ok_or_some}
 use Rattle.desk_commands.proofs.starting.start_rollout.Goals as goal
@@ -31,3 +33,29 @@ returns-clause-steps g c =
     (ok_or_some _ _ _ c.in_ok-first.ensures) is.0.1 (c.members.ensures it.rollout it.at.is_seen) is.1)
     (ledger_made (Ok tt) (rw c.deref-2.ensures.value at c.in_ok-write_start.ensures.writes)) _
     (λ h valid is. let it = seen_there h valid number seen is.0.0 in (c.start_refusal.ensures h number it.rollout it.at ∙ c.in_default-start_refusal.is, refl))
+
+pub returns-in_err-first-clause-fails : goal.returns-in_err-first-clause-fails
+returns-in_err-first-clause-fails g c =
+    let number = c.args.number in
+    let seen = c.in-Some.seen in
+    writes_end (never_at (λ l given. given.of_list)
+    (both_found (both_found (rw c.in-Some.is at c.in_ok-found.ensures.reads) (ledger_found _ c.in_ok-last.ensures.reads)) (ledger_found _ c.in_ok-members.ensures.reads))
+    (λ h valid is given.
+    let it = first_there number seen (ledger_of (records h)) (found_in h number seen (seen_there h valid number seen is.0.0)) in
+    never_missing _ _ _ it.0 c.in_err-first.ensures it.1)) _ c.from_residual-in_err-first.ensures.1
+
+pub returns-in_err-check_numbers-clause-fails : goal.returns-in_err-check_numbers-clause-fails
+returns-in_err-check_numbers-clause-fails g c =
+    let number = c.args.number in
+    let seen = c.in-Some.seen in
+    writes_end (never_at (λ l given. given.of_list)
+    (both_found (both_found (rw c.in-Some.is at c.in_ok-found.ensures.reads) (ledger_found _ c.in_ok-last.ensures.reads)) (ledger_found _ c.in_ok-members.ensures.reads))
+    (λ h valid is given.
+    let it = seen_there h valid number seen is.0.0 in
+    let many = rw c.deref.ensures.value at c.in_err-check_numbers.ensures.1 in
+    omega (arith, many, numbers_left h valid number seen it c.in_ok-last.last c.members.result c.in_ok-members.members.items is.0.1 (c.members.ensures it.rollout it.at.is_seen) is.1)))
+    _ c.from_residual-in_err-check_numbers.ensures.1
+
+pub returns-in_err-write_start-clause-stays : goal.returns-in_err-write_start-clause-stays
+returns-in_err-write_start-clause-stays g c =
+    search (c.in_ok-found.ensures.stays, c.in_ok-last.ensures.stays, c.in_ok-members.ensures.stays, c.in_err-write_start.ensures.stays, c.from_residual-in_err-write_start.ensures, rules)

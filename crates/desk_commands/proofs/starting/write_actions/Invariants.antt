@@ -1,10 +1,12 @@
 use Rattle.std.proofs.Common.{Ok}
 use Rattle.desk_commands.proofs.Common.{Fault, MakesLedger, StaysIn, AddsActions}
+use Rattle.desk_store.specs.Failing.{CountsIn}
 use Rattle.desk_commands.proofs.starting.write_actions.Given as goal
 
 -- the members before this index have their actions
 abbrev pub invariant-loop-i : goal.invariant-loop-i
 invariant-loop-i g l = record {
   stays : StaysIn g.S.Store l.fn.change l.change (Ok (tt {0}));
+  counts : CountsIn g.S.Store l.fn.change l.change (Ok (tt {0}));
   writes : MakesLedger g.S.Store {A = Unit {0}} {E = Fault} l.fn.change l.change (Ok tt) (AddsActions l.number l.last l.members l.i);
 }

@@ -1,6 +1,9 @@
-use Rattle.desk_commands.proofs.Common.{makes_then, PutsOver}
+use Rattle.desk_commands.proofs.Common.{makes_then, records, ledger_of, renamed, seen_in, stored_target, target_of, with_changed, HoldsLedger, Ledger, PutsOver, Sees}
 use Rattle.desk_commands.proofs.ComposeLemmas.{in_order}
-use Rattle.std.proofs.Common.{Some}
+use Rattle.std.proofs.Common.{◌≡◌, Some, option_map, refl, subst}
+use Rattle.desk_store.specs.Readable.{IsReadable}
+use Rattle.desk_commands.proofs.FailureLemmas.{writes_behind}
+use Rattle.desk_commands.proofs.PutExits.{renamed_readable}
 use Rattle.desk_commands.proofs.ImportLemmas.{changes_row_parts}
 use Rattle.desk_commands.proofs.targets.change_row.Goals as goal
 
@@ -8,3 +11,18 @@ pub returns-clause-writes : goal.returns-clause-writes
 returns-clause-writes g c =
     let row = c.args.row.now in
     in_order (PutsOver (Some c.args.stored.now) row) _ (makes_then c.in_ok-rename.ensures.writes (λ r next h. changes_row_parts row c.args.stored.now r next h.0 h.1.0 h.1.1) _ c.retag.ensures.writes)
+
+pub returns-clause-fails : goal.returns-clause-fails
+returns-clause-fails g c =
+    let row = c.args.row.now in
+    let stored = c.args.stored.now in
+    writes_behind c.in_ok-rename.ensures.stays.grows.failures c.retag.ensures.stays.grows.failures
+    (λ sight was given.
+    let of = given.takes.of_list in
+    let r = records of.list in
+    let next = with_changed r row.id (renamed row.name row.digest) in (
+      ledger_of next,
+      renamed_readable of.list of.valid row given.takes.row_keeps (subst IsReadable of.is sight.readable),
+      c.in_ok-rename.ensures.writes.makes r next (subst (Sees HoldsLedger (seen_in g.S.Store c.args.change.now)) of.is was.sees)
+          (λ clean. (subst (λ (m : Ledger). Some stored ≡ option_map stored_target (target_of m.records row.id)) of.is given.stored_is, refl)),
+    )) _ c.retag.ensures.fails

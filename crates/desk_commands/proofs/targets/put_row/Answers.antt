@@ -1,5 +1,7 @@
 use Rattle.desk_commands.proofs.Common.{both_found, found_held, PutsOver}
 use Rattle.std.proofs.Common.{◌≡◌, ◌≤◌, None, Some, refl, arith}
+use Rattle.desk_commands.proofs.FailureLemmas.{asked_at, writes_end}
+use Rattle.desk_commands.specs.Failures.{ChangesRow}
 use Rattle.desk_commands.proofs.PutLemmas.{room_kept, room_taken, row_put, row_refused, too_many}
 use Rattle.desk_commands.proofs.targets.put_row.Goals as goal
 
@@ -22,3 +24,8 @@ returns-clause-puts g c =
     let some : 1 ≤ c.in_ok-room-in-None.room = omega (arith, c.if-room-eq0.false) in
     row_put (both_found (rw c.in-None.is at c.in_ok-found.ensures.reads) c.in_ok-room-in-None.ensures.reads)
     (PutsOver None row) (λ r is. (is.0, refl)) _ c.in_ok-add_row-in-None.ensures.writes (λ r is room. room_taken row r c.in_ok-room-in-None.room some is.0 (is.1 room))
+
+pub returns-in_err-change_row-in-Some-clause-fails : goal.returns-in_err-change_row-in-Some-clause-fails
+returns-in_err-change_row-in-Some-clause-fails g c =
+    writes_end (asked_at (λ l given. given.of_list) (rw c.in-Some.is at c.in_ok-found.ensures.reads) (ChangesRow c.args.row.now c.in-Some.stored) c.in_ok-found.ensures.stays.grows.failures c.in_err-change_row-in-Some.ensures.writes.wears
+    (λ h valid is given. record { takes = given; stored_is = is }) c.in_err-change_row-in-Some.ensures.fails.to) _ c.from_residual-in_err-change_row-in-Some.ensures.1

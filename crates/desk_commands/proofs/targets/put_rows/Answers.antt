@@ -1,4 +1,6 @@
 use Rattle.std.proofs.Common.{rules}
+use Rattle.desk_commands.proofs.FailureLemmas.{writes_end}
+use Rattle.desk_commands.proofs.PutExits.{rows_end}
 use Rattle.desk_commands.proofs.PutLemmas.{all_put, none_put, row_more, row_refuses}
 use Rattle.desk_commands.proofs.targets.put_rows.Goals as goal
 
@@ -17,3 +19,8 @@ loop-row-preserved g c = record {
 
 pub returns-clause-puts : goal.returns-clause-puts
 returns-clause-puts g c = all_put _ _ c.args.rows.now c.loop-row.row-index c.loop-row.left c.loop-row-test.false c.loop-row.invariant.puts
+
+pub returns-in_err-then-clause-fails : goal.returns-in_err-then-clause-fails
+returns-in_err-then-clause-fails g c =
+    writes_end (rows_end c.args.rows.now c.row-item.result c.loop-row.row-index c.loop-row-test.true c.row-item.is c.loop-row.left c.loop-row.invariant.puts c.loop-row.invariant.stays.grows.failures c.in_err-then.ensures.puts.wears c.in_err-then.ensures.fails)
+    _ c.from_residual.ensures.1

@@ -1,5 +1,6 @@
 use Rattle.std.proofs.Common.{ap}
 use Rattle.desk_commands.proofs.Common.{TargetsPut}
+use Rattle.desk_commands.proofs.FailureLemmas.{writes_end}
 use Rattle.desk_commands.proofs.targets.put_targets.Goals as goal
 
 pub returns-in-Some-2-clause-steps : goal.returns-in-Some-2-clause-steps
@@ -13,3 +14,7 @@ returns-in-None-clause-steps g c =
       wears = put.wears;
       steps = λ h valid was. let it = put.puts h valid was in (it.0, λ clean. (it.1 clean, ap TargetsPut (rw c.as_slice-rows.ensures.value at c.in-Some.ensures.some)));
     }
+
+pub returns-in_err-refusal-clause-fails : goal.returns-in_err-refusal-clause-fails
+returns-in_err-refusal-clause-fails g c =
+    writes_end (λ sight was given. c.in_err-refusal.ensures.fails.to sight was (record { of_list = given.of_list; rows_keep = c.as_slice-rows.ensures.rules })) _ c.from_residual.ensures.1

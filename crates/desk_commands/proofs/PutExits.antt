@@ -1,0 +1,161 @@
+-- The ledger behind a row of a put, and between its name and its tags, can be read.
+use Rattle.std.proofs.Common.{◌≡◌, ◌≤◌, ◌<◌, ◌^◌, ◌+◌, ◌&&◌, ℕ, zero, suc, pos, Bool, true, false, cond, inl, inr, List, [], ◌∷◌, map, take, get_or, length, Option, Some, None, Result, Err, refl, sym, ap, ◌∙◌, subst, arith}
+use Rattle.std.proofs.Common.{true≢false}
+use Rattle.std.proofs.lemmas.List.{length-map}
+use Rattle.std.specs.List.{flat_map}
+use Rattle.desk_commands.proofs.Common.{list_all, and_parts, HasCleanDisk, HoldsLedger, Sees, Wears, Fault, Refusal, CommandList, ◌▸◌, IsValid, Records, records, records_step, step_records, Bytes, Attribute, TargetRow, PutTargets, put_targets, Target, check, same_bytes, change_target, Ledger, ledger_of, renamed, with_changed}
+use Rattle.sqlite_value.specs.Order.{Row}
+use Rattle.sqlite_value.specs.declared.value.Value.TheVariants.{Int, Text}
+use Rattle.sqlite_rules.specs.Lists.{Has}
+use Rattle.sqlite_rules.proofs.ListLemmas.{has_either, test_has}
+use Rattle.sql_calls.proofs.Counts.{length_held}
+use Rattle.rollout_model.specs.Pairs.{is_attribute}
+use Rattle.rollout_model.specs.Rows.{is_target_row}
+use Rattle.rollout_model.specs.Rules.{is_digest, is_tag_list, is_text, is_value, is_word}
+use Rattle.rollout_machine.proofs.WithinLimits.{limits_hold}
+use Rattle.desk_records.specs.Holds.{IsHeld}
+use Rattle.desk_records.specs.RowFaults.{BreaksRule}
+use Rattle.desk_records.specs.Schema.{Actions, Artifacts, Desk, Feedbacks, Groups, Members, Modules, Numbers, Offers, Pieces, Place, Rollouts, Rules, SetModules, Sets, TargetAttributes, TargetTags, Targets}
+use Rattle.desk_records.specs.TargetRow.{broken_attribute_column, broken_listed_column, broken_target_column}
+use Rattle.desk_records.specs.Targets.{attribute_rows, tag_rows, target_row}
+use Rattle.desk_records.specs.declared.module_row.Column.{Column}
+use Rattle.desk_records.proofs.HeldTables.{wanted_of}
+use Rattle.desk_records.proofs.Membership.{has_mapped}
+use Rattle.desk_store.specs.Readable.{BreaksColumn, IsReadable, second_shown, third_shown}
+use Rattle.desk_reads.proofs.TargetRules.{KeepsTarget, targets_keep}
+use Rattle.desk_store.specs.Changing.{seen_in}
+use Rattle.desk_store.specs.declared.change.OpenChange.{OpenChange}
+use Rattle.sqlite.specs.Store.{Ghosts}
+use Rattle.desk_commands.proofs.FailureLemmas.{Exits, grown}
+use Rattle.desk_commands.proofs.PutLemmas.{PutsSoFar, few_left, within_quota}
+use Rattle.desk_commands.specs.Failures.{FailsWriting, TakesRow, TakesRows}
+
+-- ---- other targets
+
+has_flat : {X Y : Type 0} (f : X → List Y) (xs : List X) (y : Y) → Has (flat_map f xs) y → (x : X) × Has xs x × Has (f x) y
+has_flat f [] y among = absurd among
+has_flat f (x ∷ xs) y among = elim (has_either (f x) (flat_map f xs) y among) [
+  | inl here ↦ (x, inl refl, here)
+  | inr later ↦ (let it = has_flat f xs y later in (it.0, inr it.1, it.2))
+]
+
+unbroken : (column : Option Column) → column ≡ None → BreaksRule column → ⊥
+unbroken column none broken = let told : None ≡ Some broken.first = sym none ∙ broken.is in absurd cc
+
+module _ (r : Records) (w : IsReadable (ledger_of r)) (ts : List Target) (keep : (x : Target) → Has ts x → KeepsTarget x) (few : length ts < 2 ^ 32) where
+  of_target : (n : ℕ) (x : Target) → KeepsTarget x → BreaksColumn Targets (Int (pos n) ∷ target_row x) → ⊥
+  of_target n x keeps (inl broken) = unbroken _ (let is : broken_target_column (third_shown (Int (pos n) ∷ target_row x)) ≡ None = rw (keeps.name, keeps.digest) refl in is) broken
+  of_target n x keeps (inr broken) = unbroken _ (let is : broken_listed_column (second_shown (Int (pos n) ∷ target_row x)) ≡ None = rw (keeps.id, keeps.name) refl in is) broken
+
+  of_tag : (n : ℕ) (x : Target) (tag : Bytes) → KeepsTarget x → Has x.tags tag → BreaksColumn TargetTags (Int (pos n) ∷ Text x.id ∷ Text tag ∷ []) → ⊥
+  of_tag n x tag keeps its broken = true≢false (sym (test_has is_word x.tags tag keeps.tags its) ∙ broken)
+
+  of_attribute : (n : ℕ) (x : Target) (a : Attribute) → KeepsTarget x → Has x.attributes a → BreaksColumn TargetAttributes (Int (pos n) ∷ Text x.id ∷ Text a.key ∷ Text a.value ∷ []) → ⊥
+  of_attribute n x a keeps its broken =
+      let parts = and_parts (is_word a.key) (is_value a.value) (test_has is_attribute x.attributes a keeps.attributes its) in
+      unbroken _ (let is : broken_attribute_column (third_shown (Int (pos n) ∷ Text x.id ∷ Text a.key ∷ Text a.value ∷ [])) ≡ None = rw (parts.0, parts.1) refl in is) broken
+
+  keeps : (p : Place) (rows : List Row) → IsHeld (ledger_of (record r { targets = ts })) p rows → (row : Row) → Has rows row → BreaksColumn p row → ⊥
+  keeps Targets rows held row among broken =
+      let content = wanted_of rows _ row held among in
+      let source = has_mapped target_row ts content.1 content.2 in
+      of_target content.0 source.0 (keep source.0 source.1) (subst (BreaksColumn Targets) (content.3 ∙ ap (λ (z : Row). Int (pos content.0) ∷ z) source.2) broken)
+  keeps TargetTags rows held row among broken =
+      let content = wanted_of rows _ row held among in
+      let its = has_flat tag_rows ts content.1 content.2 in
+      let source = has_mapped (λ (tag : Bytes). Text its.0.id ∷ Text tag ∷ []) its.0.tags content.1 its.2 in
+      of_tag content.0 its.0 source.0 (keep its.0 its.1) source.1 (subst (BreaksColumn TargetTags) (content.3 ∙ ap (λ (z : Row). Int (pos content.0) ∷ z) source.2) broken)
+  keeps TargetAttributes rows held row among broken =
+      let content = wanted_of rows _ row held among in
+      let its = has_flat attribute_rows ts content.1 content.2 in
+      let source = has_mapped (λ (a : Attribute). Text its.0.id ∷ Text a.key ∷ Text a.value ∷ []) its.0.attributes content.1 its.2 in
+      of_attribute content.0 its.0 source.0 (keep its.0 its.1) source.1 (subst (BreaksColumn TargetAttributes) (content.3 ∙ ap (λ (z : Row). Int (pos content.0) ∷ z) source.2) broken)
+  keeps Desk rows held row among broken = w.keep Desk rows held row among broken
+  keeps Modules rows held row among broken = w.keep Modules rows held row among broken
+  keeps Sets rows held row among broken = w.keep Sets rows held row among broken
+  keeps SetModules rows held row among broken = w.keep SetModules rows held row among broken
+  keeps Artifacts rows held row among broken = w.keep Artifacts rows held row among broken
+  keeps Pieces rows held row among broken = w.keep Pieces rows held row among broken
+  keeps Rollouts rows held row among broken = w.keep Rollouts rows held row among broken
+  keeps Members rows held row among broken = w.keep Members rows held row among broken
+  keeps Groups rows held row among broken = w.keep Groups rows held row among broken
+  keeps Actions rows held row among broken = w.keep Actions rows held row among broken
+  keeps Feedbacks rows held row among broken = w.keep Feedbacks rows held row among broken
+  keeps Offers rows held row among broken = w.keep Offers rows held row among broken
+  keeps Rules rows held row among broken = w.keep Rules rows held row among broken
+  keeps Numbers rows held row among broken = w.keep Numbers rows held row among broken
+
+  pub readable_with : IsReadable (ledger_of (record r { targets = ts }))
+  readable_with = record { keep = keeps; few = λ rows held. (let size = length_held rows _ held in let mapped = length-map ts target_row in omega (arith, size, mapped, few)) }
+
+-- ---- between two rows
+
+all_taken : {X : Type 0} (p : X → Bool) (n : ℕ) (xs : List X) → list_all p xs ≡ true → list_all p (take n xs) ≡ true
+all_taken p zero xs all = refl
+all_taken p (suc n) [] all = refl
+all_taken p (suc n) (x ∷ xs) all = let parts = and_parts (p x) (list_all p xs) all in rw (parts.0, all_taken p n xs parts.1) refl
+
+module _ (h : CommandList) (valid : IsValid h) (rows : List TargetRow) (good : list_all is_target_row rows ≡ true) (few : length (step_records (records h) (PutTargets rows)).targets ≤ 10000) where
+  accepted : check (records h) (PutTargets rows) ≡ None
+  accepted = within_quota (records h) rows few
+
+  -- it is that of the list with them
+  pub put_valid : IsValid (h ▸ PutTargets rows)
+  put_valid = (valid, good, accepted)
+
+  pub put_is : step_records (records h) (PutTargets rows) ≡ records (h ▸ PutTargets rows)
+  put_is = sym (records_step h (PutTargets rows) valid accepted)
+
+  pub put_readable : IsReadable (ledger_of (records h)) → IsReadable (ledger_of (step_records (records h) (PutTargets rows)))
+  put_readable w =
+      readable_with (records h) w (put_targets rows (records h).targets)
+      (λ x among. targets_keep (h ▸ PutTargets rows) put_valid x (subst (λ (r : Records). Has r.targets x) put_is among)) (omega (arith, few))
+
+-- ---- within a row
+
+pub renamed_readable : (h : CommandList) → IsValid h → (row : TargetRow) → is_target_row row ≡ true → IsReadable (ledger_of (records h)) → IsReadable (ledger_of (with_changed (records h) row.id (renamed row.name row.digest)))
+renamed_readable h valid row good w =
+    readable_with (records h) w (change_target row.id (renamed row.name row.digest) (records h).targets) each
+    (let size = length-map (records h).targets (λ (t : Target). cond (same_bytes t.id row.id) (renamed row.name row.digest t) t) in omega (arith, size, (limits_hold h valid).targets))
+  where
+    parts : (is_text row.name ≡ true) × (is_digest row.digest ≡ true)
+    parts =
+        let rest = and_parts (is_text row.name) (is_digest row.digest && is_tag_list row.tags) (and_parts (is_word row.id) _ good).1 in
+        (rest.0, (and_parts (is_digest row.digest) (is_tag_list row.tags) rest.1).0)
+
+    either : (b : Bool) (t : Target) → KeepsTarget t → KeepsTarget (cond b (renamed row.name row.digest t) t)
+    either true t keeps = record { id = keeps.id; name = parts.0; digest = parts.1; tags = keeps.tags; attributes = keeps.attributes }
+    either false t keeps = keeps
+
+    each : (x : Target) → Has (change_target row.id (renamed row.name row.digest) (records h).targets) x → KeepsTarget x
+    each x among =
+        let source = has_mapped (λ (t : Target). cond (same_bytes t.id row.id) (renamed row.name row.digest t) t) (records h).targets x among in
+        subst KeepsTarget (sym source.2) (either (same_bytes source.0.id row.id) source.0 (targets_keep h valid source.0 source.1))
+
+-- ---- the exit of a row
+
+good_at : {X : Type 0} (p : X → Bool) (xs : List X) (k : ℕ) (x : X) → k < length xs → x ≡ get_or xs k x → list_all p xs ≡ true → p x ≡ true
+good_at p [] k x below is all = absurd (omega (arith, below))
+good_at p (y ∷ ys) zero x below is all = ap p is ∙ (and_parts (p y) (list_all p ys) all).0
+good_at p (y ∷ ys) (suc k) x below is all = good_at p ys k x (omega (arith, below)) is (and_parts (p y) (list_all p ys) all).1
+
+-- behind those that are put before it
+pub rows_end : {S : Type 0} {g : Ghosts S} {old mid new : OpenChange S} {fault : Fault} (rows : List TargetRow) (row : TargetRow) (k : ℕ) → k < length rows → row ≡ get_or rows k row → (left : Option ℕ) → PutsSoFar (seen_in g old) (seen_in g mid) (take k rows) left
+    → old.store.now.calls.failures ≤ mid.store.now.calls.failures → Wears (seen_in g mid) (seen_in g new) → FailsWriting g (TakesRow row) {A = Result (Option ℕ) Refusal} mid new (Err fault) → Exits g (TakesRows rows) old new fault
+rows_end {g = g} {old = old} {mid = mid} rows row k below at left so_far grows wears w = λ sight was given.
+    let of = given.of_list in
+    let h = of.list in
+    let so = so_far.puts h of.valid (subst (Sees HoldsLedger (seen_in g old)) of.is was.sees) in
+    let good = all_taken is_target_row k rows given.rows_keep in
+    record {
+      call = λ store clean.
+          let quiet : HasCleanDisk (seen_in g mid) = omega (arith, clean, wears) in
+          let few = few_left left (step_records (records h) (PutTargets (take k rows))) (so.1 quiet) in
+          (w.to
+          (record { ledger = ledger_of (step_records (records h) (PutTargets (take k rows))); readable = put_readable h of.valid (take k rows) good few (subst IsReadable of.is sight.readable); failed = sight.failed })
+          (record { sees = so.0; before = record { failures = grown was.before.failures grows } })
+          (record {
+            of_list = record { list = h ▸ PutTargets (take k rows); valid = put_valid h of.valid (take k rows) good few; is = ap ledger_of (put_is h of.valid (take k rows) good few) };
+            row_keeps = good_at is_target_row rows k row below at given.rows_keep;
+          })).call store clean;
+    }

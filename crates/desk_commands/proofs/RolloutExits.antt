@@ -1,0 +1,75 @@
+-- What a step on a rollout that is seen rests on is there.
+use Rattle.std.proofs.Common.{◌≡◌, ◌≤◌, ◌<◌, ◌≢◌, ℕ, ◌+◌, Bool, List, Option, Some, None, length, slice_get, refl, sym, ap, ◌∙◌, subst, arith}
+use Rattle.desk_commands.proofs.Common.{zip, ok_or, length-map, item_numbered, CommandList, IsValid, GroupRule, Records, records, Bytes, last_started, rule_at, rules_of, GroupRecord, RolloutRecord, Ledger, ledger_of, tally_of, IsSeenOf, SeenRollout, GoesOn, ReadsMembers, StartsIf}
+use Rattle.rollout_machine.proofs.AtNumbers.{of_rollout}
+use Rattle.rollout_machine.proofs.Induction.{invariant_of}
+use Rattle.rollout_machine.proofs.Ties.{last_is}
+use Rattle.rollout_machine.proofs.WithinLimits.{limits_hold}
+use Rattle.desk_records.proofs.HeldCounts.{at_place}
+use Rattle.desk_records.specs.Rollouts.{members_of, rule_numbered}
+use Rattle.desk_reads.proofs.RuleLemmas.{rule_there, rules_there}
+use Rattle.desk_commands.proofs.ActionGroups.{group_ends}
+use Rattle.desk_commands.proofs.ProgressLemmas.{groups_count}
+use Rattle.desk_commands.proofs.StandingLemmas.{Found}
+use Rattle.desk_commands.proofs.StartLemmas.{zipped}
+use Rattle.desk_commands.specs.Failures.{CanStart, HasItem, IsSeenFrom, IsSeenIn}
+use Rattle.desk_commands.specs.GroupViews.{EndsBeyond}
+
+pub found_in : (h : CommandList) (r : ℕ) (seen : SeenRollout) → Found h r seen → IsSeenIn r seen (ledger_of (records h))
+found_in h r seen w = record { of_list = record { list = h; valid = w.at.valid; is = refl }; rollout = w.rollout; is_there = w.at.is_there; is_seen = w.at.is_seen }
+
+-- where it was seen, at the list
+there_in : (r : ℕ) (seen : SeenRollout) (l : Ledger) → (w : IsSeenIn r seen l) → item_numbered (records w.of_list.list).rollouts r ≡ Some w.rollout
+there_in r seen l w = ap (λ (m : Ledger). item_numbered m.records.rollouts r) (sym w.of_list.is) ∙ w.is_there
+
+-- ---- going on
+
+-- something is said of the last started group
+last_ruled : (h : CommandList) → IsValid h → (r : ℕ) (y : RolloutRecord) → item_numbered (records h).rollouts r ≡ Some y → last_started y.groups ≢ 0 → rule_numbered (ledger_of (records h)).rules r (last_started y.groups) ≡ Some (rule_at y.plan (last_started y.groups))
+last_ruled h valid r y at some =
+    let of = of_rollout h r y at in
+    let inv = invariant_of h valid in
+    let its = (inv.follows r of.rollout of.there).is_last in
+    let last : last_started y.groups ≡ inv.last r = ap (λ (z : RolloutRecord). last_started z.groups) of.is ∙ last_is of.rollout r (inv.last r) h its in
+    let count : y.plan.groups.count ≡ of.rollout.plan.groups.count = ap (λ (z : RolloutRecord). z.plan.groups.count) of.is in
+    ap (λ rules. item_numbered rules (last_started y.groups)) (rules_there (records h) r y at) ∙ rule_there y.plan (last_started y.groups) (omega (arith, some)) (omega (arith, last, count, its.within))
+
+pub last_said : (r : ℕ) (seen : SeenRollout) (last : ℕ) (l : Ledger) → IsSeenFrom r seen last l → last ≢ 0 → (rule : GroupRule) × (rule_numbered l.rules r last ≡ Some rule)
+last_said r seen last l w some =
+    let y = w.sees.rollout in
+    let number : last ≡ last_started y.groups = w.last_is ∙ ap last_started w.sees.is_seen.groups in
+    let said = last_ruled w.sees.of_list.list w.sees.of_list.valid r y (there_in r seen l w.sees) (subst (λ n. n ≢ 0) number some) in
+    (rule_at y.plan (last_started y.groups), ap (λ n. rule_numbered l.rules r n) number ∙ ap (λ (m : Ledger). rule_numbered m.rules r (last_started y.groups)) w.sees.of_list.is ∙ said)
+
+-- no group that is seen ends beyond 32 bits
+pub ends_in : (r : ℕ) (seen : SeenRollout) (l : Ledger) → IsSeenIn r seen l → (i : ℕ) (o : Option GroupRecord) → o ≡ item_numbered seen.groups.items i → EndsBeyond o → ⊥
+ends_in r seen l w i None is beyond = beyond
+ends_in r seen l w i (Some g) is beyond =
+    let its : item_numbered w.rollout.groups i ≡ Some g = ap (λ gs. item_numbered gs i) (sym w.is_seen.groups) ∙ sym is in
+    omega (arith, beyond, group_ends w.of_list.list w.of_list.valid r w.rollout (there_in r seen l w) i g its)
+
+-- the group that starts is there
+pub can_start : (r : ℕ) (seen : SeenRollout) (paused : Bool) (starts : Option ℕ) (l next : Ledger) → GoesOn r seen paused starts l next → CanStart seen.groups.items starts
+can_start r seen paused starts l next w = record { group = λ i is. it i (subst (λ o. StartsIf r seen.groups.items o w.between next) is w.starts_if) }
+  where
+    it : (i : ℕ) → StartsIf r seen.groups.items (Some i) w.between next → HasItem seen.groups.items i
+    it i h = record { group = h.0; is_there = h.1 }
+
+-- ---- a start
+
+pub first_there : (r : ℕ) (seen : SeenRollout) (l : Ledger) → IsSeenIn r seen l → (g : GroupRecord) × (slice_get seen.groups.items 0 ≡ Some g)
+first_there r seen l w =
+    let h = w.of_list.list in
+    let there = there_in r seen l w in
+    let it = at_place w.rollout.groups 0 (omega (arith, groups_count h r w.rollout there, ((limits_hold h w.of_list.valid).each r w.rollout there).some_groups)) in
+    (it.0, ap (λ gs. slice_get gs 0) w.is_seen.groups ∙ it.1)
+
+-- there are numbers for an action of each member
+pub numbers_left : (h : CommandList) → IsValid h → (r : ℕ) (seen : SeenRollout) (w : Found h r seen) (last count : ℕ) (members : List Bytes) → last ≡ length (zip (records h).actions (ledger_of (records h)).tallies) → count ≡ length w.rollout.members
+    → ReadsMembers r count (ledger_of (records h)) members → last + length members ≤ 2147483647
+numbers_left h valid r seen w last count members size many read =
+    let limits = limits_hold h valid in
+    let all : members ≡ w.rollout.members = read (ap (λ o. length (members_of o)) w.at.is_there ∙ sym many) ∙ ap members_of w.at.is_there in
+    let of : length members ≡ length w.rollout.members = ap length all in
+    let actions : length (zip (records h).actions (ledger_of (records h)).tallies) ≡ length (records h).actions = zipped (records h).actions in
+    omega (arith, size, of, actions, limits.actions, (limits.each r w.rollout w.at.is_there).members)
