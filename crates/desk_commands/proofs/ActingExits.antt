@@ -1,20 +1,11 @@
 -- What a command on an action counts has room, and what it rests on is there.
 use Rattle.std.proofs.Common.{◌≡◌, ◌≤◌, ◌<◌, ◌^◌, ℕ, zero, suc, ◌+◌, Bool, true, false, cond, List, [], ◌∷◌, ◌++◌, length, set, map, filter, slice_get, Option, Some, None, option_map, Err, refl, sym, ap, ◌∙◌, subst, arith}
 use Rattle.std.specs.Prelude.{is_some}
-use Rattle.std.proofs.lemmas.List.{length-map, length-set}
+use Rattle.desk_commands.proofs.Common.{length-map, length-set, ok_or, zip, item_numbered, CommandList, Bytes, HistoryEntry, Reported, entries_in, is_note, notes_of, IsValid, Records, records, Outcome, Good, Bad, Gone, ActionRecord, GroupRecord, RolloutRecord, numbered_map, ActionChange, Ends, Tally, tally_of, borne_at, numbers_from, numbers_of, Ledger, ledger_of, set_numbered, stored_action, StoredAction, PlacedNumber, Acts, MayAct, TellsAction, stays_offered, FollowsSo, StartsGroupOf, outcomes_in, MayReoffer, CountsNumbers, entries_by, notes_by, SeenAction, Told, Has, limits_hold, Following, Ending, CanCount, CanEnd, CanEndBy, CanFollow, CanNumber, CanTell, HasNext, Leads, MayNumber, TakesSteps, NumbersActions}
 use Rattle.std.proofs.lemmas.List.Sums.{count_by-le-length, length-filter}
-use Rattle.desk_commands.proofs.Common.{ok_or, zip, item_numbered, CommandList, Bytes, HistoryEntry, Reported, entries_in, is_note, IsValid, Records, records, Outcome, Good, Bad, Gone, ActionRecord, GroupRecord, RolloutRecord, numbered_map, ActionChange, Ends, Tally, tally_of, borne_at, numbers_from, numbers_of, Ledger, ledger_of, set_numbered, stored_action, StoredAction, PlacedNumber, Acts, MayAct, TellsAction, stays_offered, FollowsSo, StartsGroupOf, MayReoffer, CountsNumbers, entries_by, notes_by, SeenAction, Told}
-use Rattle.sqlite_rules.specs.Lists.{Has}
 use Rattle.sqlite_rules.proofs.ListLemmas.{has_got}
-use Rattle.rollout_machine.specs.Verdicts.{notes_of}
-use Rattle.rollout_machine.proofs.WithinLimits.{limits_hold}
-use Rattle.campaign_core.specs.declared.own_group.Following.{Following}
 use Rattle.campaign_core.specs.declared.own_group.Following.TheVariants.{StartsNext}
-use Rattle.campaign_core.specs.declared.rollout_checks.actions.Ending.{Ending}
 use Rattle.desk_commands.proofs.ItemSteps.{zip_map}
-use Rattle.desk_commands.specs.Endings.{outcomes_in}
-use Rattle.desk_commands.specs.Failures.{CanCount, CanEnd, CanEndBy, CanFollow, CanNumber, CanTell, HasNext, Leads, MayNumber, TakesSteps}
-use Rattle.desk_store.specs.Failing.{NumbersActions}
 
 -- ---- lists
 

@@ -2,22 +2,27 @@
 pub use Rattle.std.proofs.Math.Bool.{or-false, or-true}
 pub use Rattle.std.proofs.lemmas.Bool.{and_parts, cases_Bool, eq-eqb, eqb-true, false≢true, ltb-true, not-true, or_parts}
 pub use Rattle.std.proofs.lemmas.Bool.Decides.{nat_tests}
-pub use Rattle.std.proofs.lemmas.List.{length-append, length-drop, length-map, length-take, length-take-le, map-append, take-append-drop, take_all, take_more}
+pub use Rattle.std.proofs.lemmas.List.{length-append, length-drop, length-map, length-set, length-take, length-take-le, map-append, take-append-drop, take_all, take_more}
 pub use Rattle.std.specs.Cmp.Lexicographic.{pointwise}
-pub use Rattle.std.specs.List.{find, last_or, list_all, list_any, zip}
+pub use Rattle.std.specs.List.{find, flat_map, last_or, list_all, list_any, zip}
 pub use Rattle.std.specs.Option.{IsSomeAnd, is_none, ok_or, option_map, unwrap_or}
 pub use Rattle.sqlite.specs.State.{HasCleanDisk, State}
-pub use Rattle.rollout_model.specs.Rules.{are_distinct_words, is_between, is_module_list, is_number, is_tag_list, number_of}
+pub use Rattle.sqlite.specs.Store.{Ghosts}
+pub use Rattle.sqlite_rules.specs.Lists.{Has}
+pub use Rattle.rollout_model.specs.Rules.{are_distinct_words, is_between, is_digest, is_module_list, is_number, is_tag_list, is_text, is_value, is_word, number_of}
 pub use Rattle.rollout_model.specs.declared.artifact.Artifact.{Artifact}
 pub use Rattle.rollout_model.specs.declared.refusal.Refusal.{Refusal}
 pub use Rattle.rollout_model.specs.declared.refusal.Refusal.TheVariants.{ClosedAction, Exists, Locked, NotFound, Quota, Unauthorized, WrongDigest, WrongState}
 pub use Rattle.target_filter.specs.Grammar.{Tree}
 pub use Rattle.target_filter.specs.Profile.{filter_of}
 pub use Rattle.rollout_machine.proofs.Actions.{numbered_map}
+pub use Rattle.rollout_machine.proofs.AtNumbers.{has_place, of_group, of_rollout, recorded}
 pub use Rattle.rollout_machine.proofs.Imports.{AllAbove, IsSorted, above_more, below_apart, below_other, not_above, sorted_with_all, with_there}
+pub use Rattle.rollout_machine.proofs.Induction.{invariant_of, never_started, no_record}
 pub use Rattle.rollout_machine.proofs.Lists.{each_from_more, length_each, numbered_each}
 pub use Rattle.rollout_machine.proofs.Main.{records_step}
 pub use Rattle.rollout_machine.proofs.TargetTies.{has_sorted, has_with, has_without, same_pointwise, same_refl, same_sym, same_true}
+pub use Rattle.rollout_machine.proofs.WithinLimits.{limits_hold}
 pub use Rattle.rollout_machine.specs.Answers.{added_artifact, added_rollout, command_reply}
 pub use Rattle.rollout_machine.specs.ByteStrings.{bytes_below, contains_word, item_numbered, same_bytes, sorted_words, with_word, with_words, without_word}
 pub use Rattle.rollout_machine.specs.CommandList.{CommandList, ◌▸◌}
@@ -31,11 +36,11 @@ pub use Rattle.rollout_machine.specs.RecordSteps.{begin_rollout, change_rollout,
 pub use Rattle.rollout_machine.specs.Records.{Approval, ArtifactRecord, Denied, Given, Records, Waiting, action_in, artifact_from, group_in, records, rollout_in, rollouts_in}
 pub use Rattle.rollout_machine.specs.Replies.{ArtifactAdded, Done, RolloutAdded, TargetsPut}
 pub use Rattle.rollout_machine.specs.Reports.{HistoryEntry, OfCancel, OfDeployment, Reported, against, entries_in, reported, same_entry, standing_of}
-pub use Rattle.rollout_machine.specs.Rollouts.{Rollout, bounds_at, chosen, rollout_at, rollouts}
+pub use Rattle.rollout_machine.specs.Rollouts.{Rollout, bounds_at, chosen, last_of, rollout_at, rollouts, size_of}
 pub use Rattle.rollout_machine.specs.StateWords.{RolloutWord, group_holding, group_is_started, group_number_of, group_numbered, has_started, is_finished, is_for, is_started_in, number_of_group, rollout_word, word_from}
 pub use Rattle.rollout_machine.specs.Targets.{Target, with_attribute, with_attributes}
 pub use Rattle.rollout_machine.specs.Validity.{IsValid}
-pub use Rattle.rollout_machine.specs.Verdicts.{check, first_refusal, is_known, is_named_by_set, is_note, is_ready, tags_of, target_of, verdict_row, wrong_digest}
+pub use Rattle.rollout_machine.specs.Verdicts.{check, first_refusal, is_known, is_named_by_set, is_note, is_ready, notes_of, tags_of, target_of, verdict_row, wrong_digest}
 pub use Rattle.rollout_machine.specs.Views.{reply_of}
 pub use Rattle.rollout_machine.specs.declared.bounds.Bounds.{Bounds}
 pub use Rattle.rollout_machine.specs.declared.outcome.Outcome.{Outcome}
@@ -48,32 +53,42 @@ pub use Rattle.offer_laws.specs.GroupOffers.{GroupStarts, acted, actor, group_of
 pub use Rattle.campaign_core.proofs.SoundLemmas.{records_are_sound}
 pub use Rattle.campaign_core.specs.OwnGroups.{effects_by, following, own_view_of, waits}
 pub use Rattle.campaign_core.specs.RolloutChecks.{AreSound, BothOrNone, ChangesAction, Decides, IsActionView, IsCancelView, IsDeviceAction, IsFeedbackView, IsPlanView, IsResumeView, IsStandingView, IsTriggerView, IsViewOf, LeadsTo, MakesCancel, MakesFeedback, MayChangeAction, action_for, action_with, approval_at, cancel_refusal, canceling_after, change_by, change_if_fresh, change_numbered, device_action, ended_by, is_fresh, moved_by, only_if, outcome_forced, plan_refusal, rollout_with, says_fresh}
+pub use Rattle.campaign_core.specs.declared.own_group.Following.{Following}
 pub use Rattle.campaign_core.specs.declared.own_group.OwnView.{OwnView}
 pub use Rattle.campaign_core.specs.declared.rollout_checks.RolloutChange.{RolloutChange}
 pub use Rattle.campaign_core.specs.declared.rollout_checks.RolloutCommandView.{RolloutCommandView}
 pub use Rattle.campaign_core.specs.declared.rollout_checks.actions.ActionChange.{ActionChange}
 pub use Rattle.campaign_core.specs.declared.rollout_checks.actions.ActionChange.TheVariants.{Ends, StaysOpen}
+pub use Rattle.campaign_core.specs.declared.rollout_checks.actions.Ending.{Ending}
 pub use Rattle.sql_calls.proofs.Composing.{Then, both_found, finds_as, found_held, found_then_makes, known, makes_as, makes_nothing, makes_then, makes_three}
 pub use Rattle.sql_calls.specs.Standing.{Finds, Makes, Sees, Wears}
 pub use Rattle.sql_calls.specs.declared.fault.Fault.{Fault}
 pub use Rattle.desk_records.proofs.ByteOrder.{sorted_from}
+pub use Rattle.desk_records.proofs.HeldCounts.{at_place}
 pub use Rattle.desk_records.specs.Actions.{Tally, actor_of, history_of, tally_of}
 pub use Rattle.desk_records.specs.FeedbackNumbers.{borne_at, last_number, numbers_from, numbers_numbered, numbers_of}
-pub use Rattle.desk_records.specs.Holds.{HoldsLedger, Ledger, ledger_of}
+pub use Rattle.desk_records.specs.Holds.{HoldsLedger, IsHeld, Ledger, ledger_of}
 pub use Rattle.desk_records.specs.LedgerSteps.{AddsAction, AddsEntry, AddsGroup, AddsMember, AddsNumber, AddsRollout, AddsRule, SetsAction, SetsGroup, SetsOffer, SetsRollout, and_entry, cut_group, scheduled, set_numbered, turned, with_actions, with_groups, with_numbers, with_offer, with_rollouts, with_rules}
 pub use Rattle.desk_records.specs.NextOffers.{any_starts, next_offer, next_offer_from, starts_at}
 pub use Rattle.desk_records.specs.Parts.{parts_of}
 pub use Rattle.desk_records.specs.RolloutRow.{stored_action, stored_rollout, told_plan}
-pub use Rattle.desk_records.specs.TargetRow.{listed_target, stored_target}
-pub use Rattle.desk_records.specs.Targets.{AddsAttribute, AddsTag, AddsTarget, SetsAttribute, are_sorted, attributed, attributes_of, ids_of, in_byte_order, is_sorted, keys_of, renamed, tagged, untagged, with_changed, with_target}
+pub use Rattle.desk_records.specs.Rollouts.{groups_of, members_of, numbered_from, rule_numbered}
+pub use Rattle.desk_records.specs.TargetRow.{broken_attribute_column, broken_listed_column, broken_target_column, listed_target, stored_target}
+pub use Rattle.desk_records.specs.Targets.{AddsAttribute, AddsTag, AddsTarget, SetsAttribute, are_sorted, attribute_rows, attributed, attributes_of, ids_of, in_byte_order, is_sorted, keys_of, renamed, tag_rows, tagged, target_row, untagged, with_changed, with_target}
 pub use Rattle.desk_records.specs.declared.number_row.PlacedNumber.{PlacedNumber}
 pub use Rattle.desk_records.specs.declared.rollout_row.StoredAction.{StoredAction}
+pub use Rattle.desk_records.specs.declared.rollout_row.StoredRollout.{StoredRollout}
 pub use Rattle.desk_records.specs.declared.target_row.StoredTarget.{StoredTarget}
 pub use Rattle.desk_store.proofs.LedgersOfRecords.{ledger_found, ledger_made, same_ledger}
-pub use Rattle.desk_store.specs.Changing.{FindsIn, MakesIn, MakesLedger, StaysIn, seen_in}
+pub use Rattle.desk_store.specs.Changing.{FindsIn, FindsLedger, MakesIn, MakesLedger, StaysIn, seen_in}
+pub use Rattle.desk_store.specs.Failing.{CountsIn, FailsGiven, HasCall, HasSight, NumbersActions, Sight}
 pub use Rattle.desk_store.specs.GroupPairs.{group_and_next}
+pub use Rattle.desk_store.specs.Readable.{BreaksColumn, IsReadable, second_shown, third_shown}
+pub use Rattle.desk_store.specs.declared.change.OpenChange.{OpenChange}
 pub use Rattle.desk_store.specs.declared.rollouts.GroupAndNext.{GroupAndNext}
-pub use Rattle.desk_reads.proofs.RuleLemmas.{said_of}
+pub use Rattle.desk_reads.proofs.HistoryKept.{details_kept}
+pub use Rattle.desk_reads.proofs.RuleLemmas.{rule_there, rules_there, said_of}
+pub use Rattle.desk_reads.specs.AtLists.{AreOfList, FailsAtListsIn, IsOfList}
 pub use Rattle.desk_reads.specs.Rollouts.{IsSeenOf}
 pub use Rattle.desk_reads.specs.Targets.{target_listed}
 pub use Rattle.desk_reads.specs.declared.rollouts.SeenRollout.{SeenRollout}
@@ -81,8 +96,10 @@ pub use Rattle.desk_commands.specs.ActionSteps.{Acts, ActsBy, Follows, MayAct, T
 pub use Rattle.desk_commands.specs.Additions.{AddsArtifact, AddsContents, AddsModules, AddsWhole, LacksModule, and_modules, is_full}
 pub use Rattle.desk_commands.specs.Attributes.{GivesAttribute, GivesAttributes, attributed_with, has_attribute, keys_after}
 pub use Rattle.desk_commands.specs.Creations.{CreatesRollout, IsChosen, IsWordOf, and_rollout, first_rules, ids_matching, in_part, shown_new}
-pub use Rattle.desk_commands.specs.Endings.{CountsOutcome, FollowsOutcome, FollowsSo, Pauses, StartsGroupOf, with_outcome, with_rollout}
+pub use Rattle.desk_commands.specs.Endings.{CountsOutcome, FollowsOutcome, FollowsSo, Pauses, StartsGroupOf, outcomes_in, with_outcome, with_rollout}
+pub use Rattle.desk_commands.specs.Failures.{CanCount, CanEnd, CanEndBy, CanFollow, CanNumber, CanStart, CanTell, ChangesRow, CountsIf, FailsWriting, HasItem, HasNext, IsActionOf, IsLastOf, IsSeenFrom, IsSeenIn, Leads, MayNumber, TakesRow, TakesRows, TakesSteps}
 pub use Rattle.desk_commands.specs.GroupStarts.{StartsGroup, started, with_group}
+pub use Rattle.desk_commands.specs.GroupViews.{EndsBeyond, view_by}
 pub use Rattle.desk_commands.specs.Imports.{AddsTags, DropsTags, HasRoom, IsTooMany, LeavesRoom, PutsAll, PutsOver, PutsRow, PutsRows, Renames, Retags, ids_after, lacking, retagged, row_ids, tagged_with, untagged_from, with_row, without_words}
 pub use Rattle.desk_commands.specs.LedgerEnds.{StartsNoGroup, Waits, starts_of}
 pub use Rattle.desk_commands.specs.Offering.{MayReoffer, Reoffers}

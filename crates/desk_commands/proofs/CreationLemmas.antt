@@ -1,14 +1,13 @@
 -- The creation of a rollout, from what is read to what is written.
 use Rattle.std.proofs.Common.{◌≡◌, ◌≤◌, ◌<◌, ℕ, zero, suc, ◌+◌, Bool, true, false, not, cond, nat_eq, nat_lt, List, [], ◌∷◌, ◌++◌, map, filter, get_or, take, drop, length, set, slice_get, Some, None, is_none, refl, sym, ap, subst, ◌∙◌, arith}
-use Rattle.desk_commands.proofs.Common.{list_all, IsSomeAnd, and_parts, nat_tests, length-append, length-map, length-take-le, map-append, take_all, added_rollout, command_reply, item_numbered, CommandList, Bytes, CreateRollout, RolloutPlan, GroupRule, rule_at, rules_of, first_offer, RolloutAdded, Records, action_in, rollouts_in, new_group, new_rollout, step_records, bounds_at, chosen, rollouts, RolloutWord, is_finished, rollout_word, Target, IsValid, check, reply_of, Bounds, ActionRecord, RolloutRecord, each_from_more, length_each, numbered_each, Tree, filter_of, IsPlanView, approval_at, plan_refusal, Ledger, ledger_of, AddsGroup, AddsMember, AddsRollout, AddsRule, cut_group, set_numbered, with_rollouts, with_rules, listed_target, are_sorted, same_ledger, target_listed, CreatesRollout, IsChosen, IsWordOf, and_rollout, first_rules, ids_matching, in_part, shown_new}
+use Rattle.desk_commands.proofs.Common.{list_all, IsSomeAnd, and_parts, nat_tests, length-append, length-map, length-take-le, map-append, take_all, added_rollout, command_reply, item_numbered, CommandList, Bytes, CreateRollout, RolloutPlan, GroupRule, rule_at, rules_of, first_offer, RolloutAdded, Records, action_in, rollouts_in, new_group, new_rollout, step_records, bounds_at, chosen, rollouts, RolloutWord, is_finished, rollout_word, Target, IsValid, check, reply_of, Bounds, ActionRecord, RolloutRecord, each_from_more, length_each, numbered_each, Tree, filter_of, IsPlanView, approval_at, plan_refusal, Ledger, ledger_of, AddsGroup, AddsMember, AddsRollout, AddsRule, cut_group, set_numbered, with_rollouts, with_rules, listed_target, are_sorted, same_ledger, target_listed, CreatesRollout, IsChosen, IsWordOf, and_rollout, first_rules, ids_matching, in_part, shown_new, invariant_of}
+use Rattle.rollout_machine.specs.Records.{records}
 use Rattle.std.proofs.lemmas.Option.{slice_get-get_or, slice_get_within}
 use Rattle.rollout_machine.specs.Actions.{ActionPlace, action_places}
 use Rattle.rollout_machine.specs.Filters.{matches, seen}
 use Rattle.rollout_machine.specs.Groupings.{bounds_by, cut_by}
 use Rattle.rollout_machine.specs.Objects.{rollout_shown}
-use Rattle.rollout_machine.specs.Records.{records}
 use Rattle.rollout_machine.specs.Rollouts.{Rollout as MadeRollout}
-use Rattle.rollout_machine.proofs.Induction.{invariant_of}
 use Rattle.rollout_model.specs.declared.request.Reply.TheVariants as reply
 use Rattle.rollout_model.specs.declared.rollout.Rollout.{Rollout}
 use Rattle.rollout_model.specs.declared.target.Target.{Target as SeenTarget}

@@ -1,15 +1,8 @@
 -- When a command is a failed store, by what was read before.
 use Rattle.std.proofs.Common.{◌≡◌, ◌≤◌, ℕ, Option, Some, Ok, Err, Result, sym, ap, ◌∙◌, subst, arith}
 use Rattle.std.specs.Prelude.{IsErrAnd}
-use Rattle.desk_commands.proofs.Common.{ok_or, HasCleanDisk, Sees, CommandList, IsValid, Records, records, HoldsLedger, Ledger, ledger_of, Wears, FindsIn, seen_in, Fault}
-use Rattle.sqlite.specs.Store.{Ghosts}
+use Rattle.desk_commands.proofs.Common.{ok_or, HasCleanDisk, Sees, Wears, CommandList, IsValid, Records, records, HoldsLedger, Ledger, ledger_of, FindsIn, seen_in, FindsLedger, Fault, Ghosts, FailsGiven, HasCall, HasSight, Sight, IsReadable, OpenChange, IsOfList, CountsIf, FailsWriting, TakesSteps}
 use Rattle.desk_store.specs.Blaming.{FailedBefore}
-use Rattle.desk_store.specs.Changing.{FindsLedger}
-use Rattle.desk_store.specs.Failing.{FailsGiven, HasCall, HasSight, Sight}
-use Rattle.desk_store.specs.Readable.{IsReadable}
-use Rattle.desk_store.specs.declared.change.OpenChange.{OpenChange}
-use Rattle.desk_reads.specs.AtLists.{IsOfList}
-use Rattle.desk_commands.specs.Failures.{CountsIf, FailsWriting, TakesSteps}
 
 -- what is there isn't missing
 pub never_missing : {A E : Type 0} (o : Option A) (e f : E) (x : A) → Err f ≡ ok_or o e → o ≡ Some x → ⊥

@@ -1,16 +1,14 @@
 -- How a rollout goes on.
 use Rattle.std.proofs.Common.{◌≡◌, ◌≤◌, ◌<◌, ◌⊎◌, inl, inr, ℕ, zero, suc, ◌+◌, Bool, true, false, cond, ◌&&◌, ◌||◌, List, [], ◌∷◌, ◌++◌, map, length, get_or, set, Option, Some, None, refl, sym, ap, ◌∙◌, subst, arith}
-use Rattle.desk_commands.proofs.Common.{or-false, or-true, list_any, eq-eqb, eqb-true, false≢true, ltb-true, nat_tests, take_more, command_reply, item_numbered, CommandList, IsWellFormed, Bytes, RolloutPlan, GroupRule, rule_at, offer, each_from, Records, group_in, records, change_rollout, group_view, last_started, resumed, start_group, step_records, triggered, view_from_group, view_of, Done, Rollout, RolloutWord, group_numbered, rollout_word, check, GroupRecord, RolloutRecord, is_number, NotFound, length_each, BothOrNone, IsResumeView, IsTriggerView, offers_before_start, Ledger, ledger_of, set_numbered, turned, with_groups, with_rollouts, told_plan, IsSeenOf, SeenRollout, StartsGroup, started, GoesOn, IsSeenAt, StartsIf, gone_by, pause_left, starts_by}
+use Rattle.desk_commands.proofs.Common.{or-false, or-true, list_any, eq-eqb, eqb-true, false≢true, ltb-true, nat_tests, take_more, command_reply, item_numbered, CommandList, IsWellFormed, Bytes, RolloutPlan, GroupRule, rule_at, offer, each_from, Records, group_in, records, change_rollout, group_view, last_started, resumed, start_group, step_records, triggered, view_from_group, view_of, Done, Rollout, RolloutWord, group_numbered, rollout_word, check, GroupRecord, RolloutRecord, is_number, NotFound, length_each, BothOrNone, IsResumeView, IsTriggerView, offers_before_start, Ledger, ledger_of, set_numbered, turned, with_groups, with_rollouts, told_plan, IsSeenOf, SeenRollout, StartsGroup, started, GoesOn, IsSeenAt, StartsIf, gone_by, pause_left, starts_by, view_by, at_place}
 use Rattle.std.specs.Prelude.{nat_eq, nat_lt, not, slice_get, take}
 use Rattle.rollout_machine.specs.Effects.{next_if}
 use Rattle.rollout_machine.specs.declared.view.GroupView.{GroupView}
 use Rattle.rollout_machine.specs.declared.view.RolloutView.{RolloutView}
 use Rattle.campaign_core.proofs.RolloutLemmas.{number_is}
 use Rattle.desk_records.specs.declared.rollout_row.ToldPlan.{ToldPlan}
-use Rattle.desk_commands.specs.GroupViews.{view_by}
 use Rattle.desk_commands.specs.declared.progress.Going.{Going}
 use Rattle.desk_commands.specs.declared.progress.Going.TheVariants.{Resumed, Triggered}
-use Rattle.desk_records.proofs.HeldCounts.{at_place}
 use Rattle.desk_commands.proofs.LedgerEnds.{changed_at, groups_stand, rollout_of, sets_alone, starts_last, then_started}
 use Rattle.desk_commands.proofs.StandingLemmas.{Found}
 

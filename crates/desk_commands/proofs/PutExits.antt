@@ -1,34 +1,20 @@
 -- The ledger behind a row of a put, and between its name and its tags, can be read.
-use Rattle.std.proofs.Common.{◌≡◌, ◌≤◌, ◌<◌, ◌^◌, ◌+◌, ◌&&◌, ℕ, zero, suc, pos, Bool, true, false, cond, inl, inr, List, [], ◌∷◌, map, take, get_or, length, Option, Some, None, Result, Err, refl, sym, ap, ◌∙◌, subst, arith}
-use Rattle.std.proofs.Common.{true≢false}
-use Rattle.std.proofs.lemmas.List.{length-map}
-use Rattle.std.specs.List.{flat_map}
-use Rattle.desk_commands.proofs.Common.{list_all, and_parts, HasCleanDisk, HoldsLedger, Sees, Wears, Fault, Refusal, CommandList, ◌▸◌, IsValid, Records, records, records_step, step_records, Bytes, Attribute, TargetRow, PutTargets, put_targets, Target, check, same_bytes, change_target, Ledger, ledger_of, renamed, with_changed}
+use Rattle.std.proofs.Common.{◌≡◌, ◌≤◌, ◌<◌, ◌^◌, ◌+◌, ◌&&◌, ℕ, zero, suc, pos, Bool, true, false, cond, inl, inr, List, [], ◌∷◌, map, take, get_or, length, Option, Some, None, Result, Err, refl, sym, ap, ◌∙◌, subst, arith, true≢false}
+use Rattle.desk_commands.proofs.Common.{length-map, flat_map, list_all, and_parts, HasCleanDisk, HoldsLedger, Ledger, ledger_of, IsHeld, Sees, Wears, Fault, Refusal, CommandList, ◌▸◌, IsValid, Records, records, records_step, step_records, put_targets, change_target, Bytes, Attribute, TargetRow, PutTargets, Target, check, same_bytes, renamed, with_changed, attribute_rows, tag_rows, target_row, Has, is_digest, is_tag_list, is_text, is_value, is_word, limits_hold, broken_attribute_column, broken_listed_column, broken_target_column, BreaksColumn, IsReadable, second_shown, third_shown, seen_in, OpenChange, Ghosts, FailsWriting, TakesRow, TakesRows}
 use Rattle.sqlite_value.specs.Order.{Row}
 use Rattle.sqlite_value.specs.declared.value.Value.TheVariants.{Int, Text}
-use Rattle.sqlite_rules.specs.Lists.{Has}
 use Rattle.sqlite_rules.proofs.ListLemmas.{has_either, test_has}
 use Rattle.sql_calls.proofs.Counts.{length_held}
 use Rattle.rollout_model.specs.Pairs.{is_attribute}
 use Rattle.rollout_model.specs.Rows.{is_target_row}
-use Rattle.rollout_model.specs.Rules.{is_digest, is_tag_list, is_text, is_value, is_word}
-use Rattle.rollout_machine.proofs.WithinLimits.{limits_hold}
-use Rattle.desk_records.specs.Holds.{IsHeld}
 use Rattle.desk_records.specs.RowFaults.{BreaksRule}
 use Rattle.desk_records.specs.Schema.{Actions, Artifacts, Desk, Feedbacks, Groups, Members, Modules, Numbers, Offers, Pieces, Place, Rollouts, Rules, SetModules, Sets, TargetAttributes, TargetTags, Targets}
-use Rattle.desk_records.specs.TargetRow.{broken_attribute_column, broken_listed_column, broken_target_column}
-use Rattle.desk_records.specs.Targets.{attribute_rows, tag_rows, target_row}
 use Rattle.desk_records.specs.declared.module_row.Column.{Column}
 use Rattle.desk_records.proofs.HeldTables.{wanted_of}
 use Rattle.desk_records.proofs.Membership.{has_mapped}
-use Rattle.desk_store.specs.Readable.{BreaksColumn, IsReadable, second_shown, third_shown}
 use Rattle.desk_reads.proofs.TargetRules.{KeepsTarget, targets_keep}
-use Rattle.desk_store.specs.Changing.{seen_in}
-use Rattle.desk_store.specs.declared.change.OpenChange.{OpenChange}
-use Rattle.sqlite.specs.Store.{Ghosts}
 use Rattle.desk_commands.proofs.FailureLemmas.{Exits, grown}
 use Rattle.desk_commands.proofs.PutLemmas.{PutsSoFar, few_left, within_quota}
-use Rattle.desk_commands.specs.Failures.{FailsWriting, TakesRow, TakesRows}
 
 -- ---- other targets
 

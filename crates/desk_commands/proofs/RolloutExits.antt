@@ -1,19 +1,11 @@
 -- What a step on a rollout that is seen rests on is there.
 use Rattle.std.proofs.Common.{◌≡◌, ◌≤◌, ◌<◌, ◌≢◌, ℕ, ◌+◌, Bool, List, Option, Some, None, length, slice_get, refl, sym, ap, ◌∙◌, subst, arith}
-use Rattle.desk_commands.proofs.Common.{zip, ok_or, length-map, item_numbered, CommandList, IsValid, GroupRule, Records, records, Bytes, last_started, rule_at, rules_of, GroupRecord, RolloutRecord, Ledger, ledger_of, tally_of, IsSeenOf, SeenRollout, GoesOn, ReadsMembers, StartsIf}
-use Rattle.rollout_machine.proofs.AtNumbers.{of_rollout}
-use Rattle.rollout_machine.proofs.Induction.{invariant_of}
+use Rattle.desk_commands.proofs.Common.{zip, ok_or, length-map, item_numbered, CommandList, IsValid, GroupRule, rule_at, rules_of, Records, records, Bytes, last_started, GroupRecord, RolloutRecord, Ledger, ledger_of, tally_of, IsSeenOf, SeenRollout, GoesOn, StartsIf, ReadsMembers, of_rollout, invariant_of, limits_hold, at_place, members_of, rule_numbered, rule_there, rules_there, CanStart, HasItem, IsSeenFrom, IsSeenIn, EndsBeyond}
 use Rattle.rollout_machine.proofs.Ties.{last_is}
-use Rattle.rollout_machine.proofs.WithinLimits.{limits_hold}
-use Rattle.desk_records.proofs.HeldCounts.{at_place}
-use Rattle.desk_records.specs.Rollouts.{members_of, rule_numbered}
-use Rattle.desk_reads.proofs.RuleLemmas.{rule_there, rules_there}
 use Rattle.desk_commands.proofs.ActionGroups.{group_ends}
 use Rattle.desk_commands.proofs.ProgressLemmas.{groups_count}
 use Rattle.desk_commands.proofs.StandingLemmas.{Found}
 use Rattle.desk_commands.proofs.StartLemmas.{zipped}
-use Rattle.desk_commands.specs.Failures.{CanStart, HasItem, IsSeenFrom, IsSeenIn}
-use Rattle.desk_commands.specs.GroupViews.{EndsBeyond}
 
 pub found_in : (h : CommandList) (r : ℕ) (seen : SeenRollout) → Found h r seen → IsSeenIn r seen (ledger_of (records h))
 found_in h r seen w = record { of_list = record { list = h; valid = w.at.valid; is = refl }; rollout = w.rollout; is_there = w.at.is_there; is_seen = w.at.is_seen }

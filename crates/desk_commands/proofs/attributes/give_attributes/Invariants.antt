@@ -1,6 +1,5 @@
 use Rattle.std.proofs.Common.{Ok, take}
-use Rattle.desk_commands.proofs.Common.{Fault, MakesIn, StaysIn, GivesAttributes}
-use Rattle.desk_store.specs.Failing.{CountsIn}
+use Rattle.desk_commands.proofs.Common.{Fault, MakesIn, StaysIn, GivesAttributes, CountsIn}
 use Rattle.desk_commands.proofs.attributes.give_attributes.Given as goal
 
 -- the attributes before this index are given

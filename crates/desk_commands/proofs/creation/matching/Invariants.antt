@@ -1,6 +1,5 @@
 use Rattle.std.proofs.Common.{◌≡◌, Some, Ok, map}
-use Rattle.desk_commands.proofs.Common.{Fault, Tree, filter_of, FindsIn, StaysIn, target_listed, ids_matching}
-use Rattle.desk_reads.specs.AtLists.{FailsAtListsIn}
+use Rattle.desk_commands.proofs.Common.{Fault, Tree, filter_of, FindsIn, StaysIn, target_listed, ids_matching, FailsAtListsIn}
 use Rattle.desk_commands.proofs.creation.matching.Given as goal
 
 -- the members so far are those that match of the ones that were gone through

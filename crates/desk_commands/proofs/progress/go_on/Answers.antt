@@ -1,11 +1,10 @@
-use Rattle.desk_commands.proofs.Common.{both_found, ledger_made, ledger_of, records, GoesOn}
+use Rattle.desk_commands.proofs.Common.{both_found, ledger_made, ledger_of, records, GoesOn, CanStart, IsSeenIn}
 use Rattle.desk_commands.proofs.ComposeLemmas.{accepted_at, refused_at}
 use Rattle.std.proofs.Common.{Ok, ◌∙◌}
 use Rattle.desk_commands.proofs.FailureLemmas.{asked_at, counted, grown, writes_end}
 use Rattle.desk_commands.proofs.RolloutExits.{can_start, found_in}
 use Rattle.desk_commands.proofs.ProgressLemmas.{cant_go, gone_on, gone_reply}
 use Rattle.desk_commands.proofs.StandingLemmas.{none_there, of_list, seen_there}
-use Rattle.desk_commands.specs.Failures.{CanStart, IsSeenIn}
 use Rattle.desk_commands.proofs.progress.go_on.Goals as goal
 
 pub returns-in_default-clause-steps : goal.returns-in_default-clause-steps

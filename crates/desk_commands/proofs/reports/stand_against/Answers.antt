@@ -1,6 +1,5 @@
-use Rattle.desk_commands.proofs.Common.{finds_as, ledger_found}
+use Rattle.desk_commands.proofs.Common.{finds_as, ledger_found, details_kept}
 use Rattle.std.proofs.Common.{true, false, sym, ◌∙◌}
-use Rattle.desk_reads.proofs.HistoryKept.{details_kept}
 use Rattle.desk_commands.proofs.ReportLemmas.{entry_kept, stands_equal}
 use Rattle.desk_commands.proofs.SeenLemmas.{ok_or_some}
 use Rattle.desk_commands.proofs.FailureLemmas.{never, never_missing, reads_end}

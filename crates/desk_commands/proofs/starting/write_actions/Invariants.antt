@@ -1,6 +1,5 @@
 use Rattle.std.proofs.Common.{Ok}
-use Rattle.desk_commands.proofs.Common.{Fault, MakesLedger, StaysIn, AddsActions}
-use Rattle.desk_store.specs.Failing.{CountsIn}
+use Rattle.desk_commands.proofs.Common.{Fault, MakesLedger, StaysIn, AddsActions, CountsIn}
 use Rattle.desk_commands.proofs.starting.write_actions.Given as goal
 
 -- the members before this index have their actions

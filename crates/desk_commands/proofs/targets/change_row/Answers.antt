@@ -1,7 +1,6 @@
-use Rattle.desk_commands.proofs.Common.{makes_then, records, ledger_of, renamed, seen_in, stored_target, target_of, with_changed, HoldsLedger, Ledger, PutsOver, Sees}
+use Rattle.desk_commands.proofs.Common.{makes_then, records, ledger_of, HoldsLedger, Ledger, renamed, with_changed, seen_in, stored_target, target_of, PutsOver, Sees, IsReadable}
 use Rattle.desk_commands.proofs.ComposeLemmas.{in_order}
 use Rattle.std.proofs.Common.{◌≡◌, Some, option_map, refl, subst}
-use Rattle.desk_store.specs.Readable.{IsReadable}
 use Rattle.desk_commands.proofs.FailureLemmas.{writes_behind}
 use Rattle.desk_commands.proofs.PutExits.{renamed_readable}
 use Rattle.desk_commands.proofs.ImportLemmas.{changes_row_parts}
