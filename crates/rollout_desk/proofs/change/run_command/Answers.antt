@@ -49,4 +49,4 @@ returns-in-Err-take_step-clause-fails g c =
     let same : c.give_up-in-Err-take_step.new.change.0 ≡ c.store-in-Err-take_step-1.given.0 = search rules in
     subst (λ h. reply_of c.give_up-in-Err-take_step.result ≡ Refused StoreFailed → FailsByCalls g.S.Store c.args.store.now.calls h.calls) same
     (failed_inside g.S.Store c.args.store.now.calls _ _ c.give_up-in-Err-take_step.new.change.0.calls c.in-Ok.ensures.begun c.give_up-in-Err-take_step.ensures.ends.wears c.in-Ok.ensures.grows.failures c.in-Err-take_step.ensures.stays.grows.failures c.give_up-in-Err-take_step.ensures.counts
-    c.in-Err-take_step.fault _ (reply_of c.give_up-in-Err-take_step.result) c.reply_of_fault-in-Err-take_step.ensures c.in-Err-take_step.ensures.fails.to (λ h valid counted. record { list = record { list = h; valid = valid; is = refl }; room = counted }) c.give_up-in-Err-take_step.ensures.fails)
+    c.in-Err-take_step.fault _ (reply_of c.give_up-in-Err-take_step.result) c.reply_of_fault-in-Err-take_step.ensures c.in-Err-take_step.ensures.fails.to (λ h valid counted. record { of_list = record { list = h; valid = valid; is = refl }; counted = counted }) c.give_up-in-Err-take_step.ensures.fails)
