@@ -28,6 +28,10 @@ looked_at v a z h (Err e) = record { wears = h.wears; migrates = λ r was clean 
 
 -- ---- the whole
 
+-- what was said of the row
+abbrev Told : State → State → Result Version OpenFault → Type 0
+Told old new out = HasCleanDisk new → StandsSomewhere old.now.schema (desk_table 0) → Tells (λ v. HasRow old.now (IsDeskRow v)) (HasRow old.now) (HasNoRow old.now) out
+
 module _ (old mid : State) (table : StandsSomewhere old.now.schema (desk_table 0)) where
   module _ (v : Version) (k : Keeps {E = OpenFault} old mid (Ok v)) (tells : Told old mid (Ok v)) where
     -- the tables of the version that the row names are not there

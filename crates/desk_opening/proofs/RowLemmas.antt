@@ -118,6 +118,14 @@ tells_read db found row out is reads stands told = tells_row db row out (subst (
 pub tells_none : (db : Database) (found : Option Row) → found ≡ None → ReadsRow db found → StandsSomewhere db.schema (desk_table 0) → HasRow db IsOtherRow ⊎ HasNoRow db
 tells_none db found is reads stands = inr (subst (ReadsRow db) is reads stands)
 
+-- the same of another call, which may lack more
+pub tells_on : (A B : Type 0) (Found : A → Type 0) (Other : B → Type 0) (Says : (Row → Type 0) → Type 0) (Lacks More : Type 0) → (Lacks → More) → (e : OpenFault) → Tells Found Says Lacks (Err e) → Tells Other Says More (Err e)
+tells_on A B Found Other Says Lacks More more NotDesk (inl told) = inl told
+tells_on A B Found Other Says Lacks More more NotDesk (inr lacks) = inr (more lacks)
+tells_on A B Found Other Says Lacks More more NewerVersion told = told
+tells_on A B Found Other Says Lacks More more Memory told = tt
+tells_on A B Found Other Says Lacks More more Store told = tt
+
 -- ---- what a row says
 
 -- a value that isn't NULL is within the row
