@@ -95,6 +95,7 @@ impl<'a, S: Alter> OpenChange<'a, S> {
         ensures commits { Commits HoldsLedger (state S.Store self.entry.store.now.calls.conn) (state S.Store self.exit.0.now.calls.conn) result }
         ensures work { self.exit.0.now.calls.work ≡ self.entry.store.now.calls.work }
         ensures grows { Grows (failures_in result) self.entry.store.now.calls self.exit.0.now.calls }
+        ensures failures { self.exit.0.now.calls.failures ≡ fails (errors_in result) self.entry.store.now.calls.failures }
         ensures store { IfErr result (λ e. e ≡ Fault.Store) }
     {
         let OpenChange { store } = self;
