@@ -25,10 +25,10 @@ module _ {S : Type 0} (g : Ghosts S) (old : Calls S) (begun read : OpenChange S)
   shown h stands = begins.sees (ledger_of (records h)) (rest_shows HoldsLedger (state g old.conn) _ (stood (state g old.conn) h stands))
 
   -- a fault inside
-  pub failed_inside : {Given : Ledger → Type 0} (fault : Fault) (made reply : Reply) → made ≡ Refused (refusal_of_fault fault) → ((sight : Sight) → HasSight g begun sight → Given sight.ledger → HasCall g read sight.failed fault)
+  pub failed_inside : (Given : Ledger → Type 0) (fault : Fault) (made reply : Reply) → made ≡ Refused (refusal_of_fault fault) → ((sight : Sight) → HasSight g begun sight → Given sight.ledger → HasCall g read sight.failed fault)
       → ((h : CommandList) → IsValid h → AreCounted (records h) → Given (ledger_of (records h))) → (reply ≡ made) ⊎ HasFailed read.store.now.calls.failures end.failures → reply ≡ Refused StoreFailed → FailsByCalls g old end
-  failed_inside fault made reply named fails given (inr failed) is h clean counted stands = failed_within (omega (arith, grew, rose)) failed (omega arith)
-  failed_inside fault made reply named fails given (inl same) is h clean counted stands =
+  failed_inside Given fault made reply named fails given (inr failed) is h clean counted stands = failed_within (omega (arith, grew, rose)) failed (omega arith)
+  failed_inside Given fault made reply named fails given (inl same) is h clean counted stands =
       let sight : Sight = record { ledger = ledger_of (records h); readable = readable h stands.valid counted; failed = old.failures } in
       let call = fails sight (record { sees = shown h stands; before = record { failures = grew } }) (given h stands.valid counted) in
       failed_within (omega arith) (call.call (stored fault (let told : Refused (refusal_of_fault fault) ≡ Refused StoreFailed = sym named ∙ sym same ∙ is in cc)) (omega (arith, clean, wears))) ended

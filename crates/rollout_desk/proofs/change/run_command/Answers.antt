@@ -3,6 +3,7 @@ use Rattle.rollout_desk.proofs.Common.{state, Keeps, HoldsLedger, HoldsRecords, 
 use Rattle.rollout_desk.proofs.ApplyLemmas.{fault_fails, unbegun, accepted, refused, broken}
 use Rattle.rollout_machine.specs.Replies.{Refused}
 use Rattle.rollout_model.specs.declared.refusal.Refusal.TheVariants.{StoreFailed}
+use Rattle.desk_commands.specs.Failures.{TakesSteps}
 use Rattle.rollout_desk.specs.Causes.{FailsByCalls}
 use Rattle.rollout_desk.proofs.CauseLemmas.{accepted_never, failed_inside, refused_never, well_inside}
 use Rattle.rollout_desk.proofs.change.run_command.Goals as goal
@@ -34,19 +35,19 @@ pub returns-in-Ok-Accepted-clause-fails : goal.returns-in-Ok-Accepted-clause-fai
 returns-in-Ok-Accepted-clause-fails g c =
     let same : c.commit.new.change.0 ≡ c.store-in-Ok-Accepted-1.given.0 = search rules in
     subst (λ h. reply_of c.commit.result ≡ Refused StoreFailed → FailsByCalls g.S.Store c.args.store.now.calls h.calls) same
-    (well_inside g.S.Store c.args.store.now.calls _ _ c.commit.new.change.0.calls c.in-Ok.ensures.begun c.commit.ensures.ends.wears c.in-Ok.ensures.grows.failures c.in-Ok-Accepted.ensures.stays.grows.failures c.commit.ensures.counts (reply_of c.in-Ok-Accepted.reply) (reply_of c.commit.result)
+    (well_inside g.S.Store c.args.store.now.calls c.in-Ok.change c.take_step.new.change c.commit.new.change.0.calls c.in-Ok.ensures.begun c.commit.ensures.ends.wears c.in-Ok.ensures.grows.failures c.in-Ok-Accepted.ensures.stays.grows.failures c.commit.ensures.counts (reply_of c.in-Ok-Accepted.reply) (reply_of c.commit.result)
     (λ h valid seen clean. accepted_never h valid seen clean (command_of c.args.command.now) c.in-Ok-Accepted.reply (rw c.in-Ok-Accepted.field-0-is at c.in-Ok-Accepted.ensures.steps)) c.commit.ensures.fails)
 
 pub returns-in-Ok-Refused-clause-fails : goal.returns-in-Ok-Refused-clause-fails
 returns-in-Ok-Refused-clause-fails g c =
     let same : c.give_up.new.change.0 ≡ c.store-in-Ok-Refused-1.given.0 = search rules in
     subst (λ h. reply_of c.give_up.result ≡ Refused StoreFailed → FailsByCalls g.S.Store c.args.store.now.calls h.calls) same
-    (well_inside g.S.Store c.args.store.now.calls _ _ c.give_up.new.change.0.calls c.in-Ok.ensures.begun c.give_up.ensures.ends.wears c.in-Ok.ensures.grows.failures c.in-Ok-Refused.ensures.stays.grows.failures c.give_up.ensures.counts (Refused c.in-Ok-Refused.refusal) (reply_of c.give_up.result)
+    (well_inside g.S.Store c.args.store.now.calls c.in-Ok.change c.take_step.new.change c.give_up.new.change.0.calls c.in-Ok.ensures.begun c.give_up.ensures.ends.wears c.in-Ok.ensures.grows.failures c.in-Ok-Refused.ensures.stays.grows.failures c.give_up.ensures.counts (Refused c.in-Ok-Refused.refusal) (reply_of c.give_up.result)
     (λ h valid seen clean. refused_never h valid seen clean (command_of c.args.command.now) c.in-Ok-Refused.refusal (rw c.in-Ok-Refused.field-0-is at c.in-Ok-Refused.ensures.steps)) c.give_up.ensures.fails)
 
 pub returns-in-Err-take_step-clause-fails : goal.returns-in-Err-take_step-clause-fails
 returns-in-Err-take_step-clause-fails g c =
     let same : c.give_up-in-Err-take_step.new.change.0 ≡ c.store-in-Err-take_step-1.given.0 = search rules in
     subst (λ h. reply_of c.give_up-in-Err-take_step.result ≡ Refused StoreFailed → FailsByCalls g.S.Store c.args.store.now.calls h.calls) same
-    (failed_inside g.S.Store c.args.store.now.calls _ _ c.give_up-in-Err-take_step.new.change.0.calls c.in-Ok.ensures.begun c.give_up-in-Err-take_step.ensures.ends.wears c.in-Ok.ensures.grows.failures c.in-Err-take_step.ensures.stays.grows.failures c.give_up-in-Err-take_step.ensures.counts
-    c.in-Err-take_step.fault _ (reply_of c.give_up-in-Err-take_step.result) c.reply_of_fault-in-Err-take_step.ensures c.in-Err-take_step.ensures.fails.to (λ h valid counted. record { of_list = record { list = h; valid = valid; is = refl }; counted = counted }) c.give_up-in-Err-take_step.ensures.fails)
+    (failed_inside g.S.Store c.args.store.now.calls c.in-Ok.change c.take_step.new.change c.give_up-in-Err-take_step.new.change.0.calls c.in-Ok.ensures.begun c.give_up-in-Err-take_step.ensures.ends.wears c.in-Ok.ensures.grows.failures c.in-Err-take_step.ensures.stays.grows.failures c.give_up-in-Err-take_step.ensures.counts
+    TakesSteps c.in-Err-take_step.fault _ (reply_of c.give_up-in-Err-take_step.result) c.reply_of_fault-in-Err-take_step.ensures c.in-Err-take_step.ensures.fails.to (λ h valid counted. record { of_list = record { list = h; valid = valid; is = refl }; counted = counted }) c.give_up-in-Err-take_step.ensures.fails)

@@ -4,6 +4,7 @@ use Rattle.rollout_desk.proofs.ApplyLemmas.{fault_fails, unbegun, shown, unshown
 use Rattle.rollout_desk.proofs.SizeLemmas.{refused_sized, shown_sized}
 use Rattle.rollout_machine.specs.Replies.{Refused}
 use Rattle.rollout_model.specs.declared.refusal.Refusal.TheVariants.{StoreFailed}
+use Rattle.desk_reads.specs.AtLists.{IsOfList}
 use Rattle.rollout_desk.specs.Causes.{FailsByCalls}
 use Rattle.rollout_desk.proofs.CauseLemmas.{failed_inside, query_never, well_inside}
 use Rattle.rollout_desk.proofs.change.run_query.Goals as goal
@@ -44,12 +45,12 @@ pub returns-in-Ok-answer-clause-fails : goal.returns-in-Ok-answer-clause-fails
 returns-in-Ok-answer-clause-fails g c =
     let same : c.give_up.new.change.0 ≡ c.store-in-Ok-answer-1.given.0 = search rules in
     subst (λ h. reply_of c.give_up.result ≡ Refused StoreFailed → FailsByCalls g.S.Store c.args.store.now.calls h.calls) same
-    (well_inside g.S.Store c.args.store.now.calls _ _ c.give_up.new.change.0.calls c.in-Ok.ensures.begun c.give_up.ensures.ends.wears c.in-Ok.ensures.grows.failures c.in-Ok-answer.ensures.stays.grows.failures c.give_up.ensures.counts (reply_of c.in-Ok-answer.reply) (reply_of c.give_up.result)
+    (well_inside g.S.Store c.args.store.now.calls c.in-Ok.change c.answer.new.change c.give_up.new.change.0.calls c.in-Ok.ensures.begun c.give_up.ensures.ends.wears c.in-Ok.ensures.grows.failures c.in-Ok-answer.ensures.stays.grows.failures c.give_up.ensures.counts (reply_of c.in-Ok-answer.reply) (reply_of c.give_up.result)
     (λ h valid seen clean. query_never h valid seen clean (query_of c.args.query.now) c.in-Ok-answer.reply c.in-Ok-answer.ensures.answers.shows) c.give_up.ensures.fails)
 
 pub returns-in-Err-answer-clause-fails : goal.returns-in-Err-answer-clause-fails
 returns-in-Err-answer-clause-fails g c =
     let same : c.give_up-in-Err-answer.new.change.0 ≡ c.store-in-Err-answer-1.given.0 = search rules in
     subst (λ h. reply_of c.give_up-in-Err-answer.result ≡ Refused StoreFailed → FailsByCalls g.S.Store c.args.store.now.calls h.calls) same
-    (failed_inside g.S.Store c.args.store.now.calls _ _ c.give_up-in-Err-answer.new.change.0.calls c.in-Ok.ensures.begun c.give_up-in-Err-answer.ensures.ends.wears c.in-Ok.ensures.grows.failures c.in-Err-answer.ensures.stays.grows.failures c.give_up-in-Err-answer.ensures.counts
-    c.in-Err-answer.fault _ (reply_of c.give_up-in-Err-answer.result) c.reply_of_fault-in-Err-answer.ensures c.in-Err-answer.ensures.fails.to (λ h valid counted. record { list = h; valid = valid; is = refl }) c.give_up-in-Err-answer.ensures.fails)
+    (failed_inside g.S.Store c.args.store.now.calls c.in-Ok.change c.answer.new.change c.give_up-in-Err-answer.new.change.0.calls c.in-Ok.ensures.begun c.give_up-in-Err-answer.ensures.ends.wears c.in-Ok.ensures.grows.failures c.in-Err-answer.ensures.stays.grows.failures c.give_up-in-Err-answer.ensures.counts
+    IsOfList c.in-Err-answer.fault _ (reply_of c.give_up-in-Err-answer.result) c.reply_of_fault-in-Err-answer.ensures c.in-Err-answer.ensures.fails.to (λ h valid counted. record { list = h; valid = valid; is = refl }) c.give_up-in-Err-answer.ensures.fails)
